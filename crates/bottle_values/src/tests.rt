@@ -1,0 +1,63 @@
+ghost use Rattle.std.specs.Prelude.{◌≡◌};
+
+use super::*;
+use std::test::Fail;
+
+fn value(number: i64) -> Value {
+    Value { number }
+}
+
+// A caller shows both round trips from the clauses of the two functions.
+fn read_again(value: Value) -> Value
+    ensures { result ≡ value }
+{
+    Value::of_bytes(value.to_bytes())
+}
+
+fn written_again(bytes: [u8; 8]) -> [u8; 8]
+    ensures { result ≡ bytes }
+{
+    Value::of_bytes(bytes).to_bytes()
+}
+
+#[test]
+fn results_are_exact_or_an_overflow(rt: HostRuntime) {
+    assert_eq!(rt; value(2).add(value(-5)), Ok(value(-3)));
+    assert_eq!(rt; value(i64::MAX).add(value(1)), Err(Overflow));
+    assert_eq!(rt; value(i64::MIN).sub(value(1)), Err(Overflow));
+    assert_eq!(rt; value(-1).sub(value(i64::MIN)), Ok(value(i64::MAX)));
+    assert_eq!(rt; value(i64::MIN).mul(value(1)), Ok(value(i64::MIN)));
+    assert_eq!(rt; value(i64::MIN).mul(value(-1)), Err(Overflow));
+    assert_eq!(rt; value(4294967296).mul(value(2147483648)), Err(Overflow));
+    assert_eq!(rt; value(7).neg(), Ok(value(-7)));
+    assert_eq!(rt; value(i64::MIN).neg(), Err(Overflow));
+}
+
+#[test]
+fn bytes_are_in_twos_complement(rt: HostRuntime) {
+    for (number, bytes) in [
+        (0, [0, 0, 0, 0, 0, 0, 0, 0]),
+        (8, [0, 0, 0, 0, 0, 0, 0, 8]),
+        (258, [0, 0, 0, 0, 0, 0, 1, 2]),
+        (-1, [255, 255, 255, 255, 255, 255, 255, 255]),
+        (-2, [255, 255, 255, 255, 255, 255, 255, 254]),
+        (i64::MAX, [127, 255, 255, 255, 255, 255, 255, 255]),
+        (i64::MIN, [128, 0, 0, 0, 0, 0, 0, 0]),
+    ] {
+        assert_eq!(rt; value(number).to_bytes(), bytes);
+        assert_eq!(rt; Value::of_bytes(bytes), value(number));
+        assert_eq!(rt; read_again(value(number)), value(number));
+        assert_eq!(rt; written_again(bytes), bytes);
+    }
+}
+
+#[test]
+fn values_and_overflows_are_printed(rt: HostRuntime) -> Result<(), Fail> {
+    let least = format!(in rt.alloc(); "{}", Value::from(i64::MIN))?;
+    assert_eq!(rt; least.as_str(), "-9223372036854775808");
+    let seven = format!(in rt.alloc(); "{}", Value::from(7))?;
+    assert_eq!(rt; seven.as_str(), "7");
+    let overflow = format!(in rt.alloc(); "{Overflow}")?;
+    assert_eq!(rt; overflow.as_str(), "V1 Overflow");
+    Ok(())
+}

@@ -1,0 +1,6 @@
+pub mod Input
+pub mod Fault
+pub mod Cut
+pub mod Report
+pub mod Texts
+pub mod Serial

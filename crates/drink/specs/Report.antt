@@ -1,0 +1,59 @@
+-- What a command prints of sessions and of records.
+use Rattle.std.specs.Prelude.{ℕ, List, [], ◌∷◌, ◌++◌, length, codes, unwrap_or, pos}
+use Rattle.std.specs.List.{flat_map, range_with_len, slice_index_or}
+use Rattle.std.specs.Fmt.{decimal, signed_decimal}
+use Rattle.bottle_values.specs.declared.Value.{Value}
+use Rattle.office_map.specs.PlanValue.{PlanValue, office_name_of, record_name_of}
+use Rattle.session_language.specs.declared.ending.End.{End}
+use Rattle.session_language.specs.declared.ending.End.TheVariants.{Done, Refused, Overflow}
+use Rattle.session_language.specs.declared.ending.Outcome.{Outcome}
+
+-- the plan's names; nothing for a number that the plan doesn't have
+abbrev pub office_name : PlanValue → ℕ → List ℕ
+office_name p o = unwrap_or (office_name_of p o) []
+
+abbrev pub record_name : PlanValue → ℕ → List ℕ
+record_name p r = unwrap_or (record_name_of p r) []
+
+abbrev pub end_text : End → List ℕ
+end_text Done = codes "done"
+end_text (Refused code) = codes "refused " ++ decimal code
+end_text Overflow = codes "overflow"
+
+-- each after a space; of an empty list a -
+abbrev pub listed : {A : Type 0} → (A → List ℕ) → List A → List ℕ
+listed text [] = codes " -"
+listed text (x ∷ xs) = flat_map (λ y. 32 ∷ text y) (x ∷ xs)
+
+-- NAME=VALUE
+abbrev pub record_text : PlanValue → ℕ × Value → List ℕ
+record_text p w = record_name p w.0 ++ (61 ∷ signed_decimal w.1.number)
+
+abbrev pub value_text : Value → List ℕ
+value_text v = signed_decimal v.number
+
+-- OFFICE.TICKET END
+abbrev pub title : PlanValue → Outcome → List ℕ
+title p o = office_name p o.office ++ (46 ∷ (decimal o.ticket ++ (32 ∷ end_text o.ending.end)))
+
+-- OFFICE.TICKET END reads LIST writes LIST gives LIST
+abbrev pub outcome_line : PlanValue → Outcome → List ℕ
+outcome_line p o =
+    title p o ++ ((codes " reads" ++ listed (record_text p) o.ending.reads) ++ ((codes " writes" ++ listed (record_text p) o.ending.writes)
+    ++ ((codes " gives" ++ listed value_text o.ending.gives) ++ 10 ∷ [])))
+
+-- value NAME VALUE
+abbrev pub value_line : PlanValue → ℕ → Value → List ℕ
+value_line p r v = codes "value " ++ (record_name p r ++ (32 ∷ (signed_decimal v.number ++ 10 ∷ [])))
+
+-- the records in order, with the values that the map has
+abbrev pub value_lines : PlanValue → (ℕ → Value) → List ℕ
+value_lines p m = flat_map (λ r. value_line p r (m r)) (range_with_len 0 (length p.records))
+
+-- the sessions in this order, and then the records
+abbrev pub report_of : PlanValue → List Outcome → (ℕ → Value) → List ℕ
+report_of p outcomes m = flat_map (outcome_line p) outcomes ++ value_lines p m
+
+-- a list of values as a map; 0 past its end
+abbrev pub value_at : List Value → ℕ → Value
+value_at values r = slice_index_or values r (record { number = pos 0 })

@@ -1,0 +1,116 @@
+//! The program `drink`.
+#![tactic(auto)]
+
+pub mod command_line;
+pub mod commands;
+pub mod cut;
+pub mod fault;
+pub mod input;
+pub mod reading;
+pub mod report;
+pub mod source;
+pub mod texts;
+
+use crate::command_line::{Request, command_line};
+use crate::cut::cut;
+use crate::fault::Fault;
+use crate::input::Input;
+use crate::reading::read_at_most;
+use crate::source::Source;
+use std::io;
+use std::process::ExitCode;
+use std::rt::{Env, Files};
+
+/// The exit status of a command that fails.
+const FAILED: u8 = 1;
+
+/// The exit status where the command line is at fault.
+const MISUSED: u8 = 2;
+
+/// The longest line of a cut, with its end.
+const CUT_LINE: usize = b"---\r\n".len();
+
+fn main(rt: HostRuntime) -> ExitCode {
+    ExitCode::from(run(&rt))
+}
+
+/// Does what the command line asks for, and answers the exit status.
+fn run<R>(rt: &R) -> u8
+where
+    R: AllocGlobal + Env + Files + std::io::Input + Print + Eprint,
+{
+    let args = match std::env::args(rt) {
+        Ok(args) => args,
+        Err(e) if e.kind() == io::ErrorKind::OutOfMemory => return tell(rt, None, Fault::Memory),
+        Err(_) => {
+            let _ = eprintln!(rt; "drink: the command line is not UTF-8");
+            return MISUSED;
+        }
+    };
+    let Ok(words) = args.collect::<Vec<String>>(rt.alloc()) else {
+        return tell(rt, None, Fault::Memory);
+    };
+    match command_line(rt.alloc(), words.as_slice()) {
+        Ok(Request::Serial { plan, sessions }) => serial(rt, plan, sessions),
+        Err(error) if error.kind() == clap::error::ErrorKind::OutOfMemory => {
+            tell(rt, None, Fault::Memory)
+        }
+        Err(error) => {
+            let _ = error.print(rt);
+            if error.use_stderr() { MISUSED } else { 0 }
+        }
+    }
+}
+
+/// The command `serial` on the inputs that these words name.
+fn serial<R>(rt: &R, plan: &str, sessions: &str) -> u8
+where
+    R: AllocGlobal + Files + std::io::Input + Print + Eprint,
+{
+    let result = if plan == "-" && sessions == "-" {
+        serial_of_one(rt)
+    } else {
+        serial_of_two(rt, plan, sessions)
+    };
+    match result {
+        Ok(status) => status,
+        Err(fault) => match fault.input() {
+            Some(Input::Plan) => tell(rt, Some(plan), fault),
+            Some(Input::Sessions) => tell(rt, Some(sessions), fault),
+            None => tell(rt, None, fault),
+        },
+    }
+}
+
+fn serial_of_two<R>(rt: &R, plan: &str, sessions: &str) -> Result<u8, Fault>
+where
+    R: AllocGlobal + Files + std::io::Input + Print,
+{
+    let mut plan = Source::new(rt, plan);
+    let mut sessions = Source::new(rt, sessions);
+    commands::serial(rt.alloc(), &mut plan, &mut sessions, &mut io::writer(rt))
+}
+
+/// The standard input stands for both texts. What is longer than both may be together is too long
+/// in one of its parts, so the rest of it need not be read.
+fn serial_of_one<R>(rt: &R) -> Result<u8, Fault>
+where
+    R: AllocGlobal + std::io::Input + Print,
+{
+    let most = Input::Plan.limit() + CUT_LINE + Input::Sessions.limit() + 1;
+    let text = read_at_most(rt.alloc(), &mut rt.reader(), most, Input::Plan)?;
+    let (mut plan, mut sessions) = cut(&text);
+    commands::serial(rt.alloc(), &mut plan, &mut sessions, &mut io::writer(rt))
+}
+
+/// Prints a fault, after the name of the input that is at fault, and answers the exit status.
+fn tell<R: Eprint>(rt: &R, name: Option<&str>, fault: Fault) -> u8 {
+    let _ = match name {
+        Some(name) => eprintln!(rt; "drink: {name}: {fault}"),
+        None => eprintln!(rt; "drink: {fault}"),
+    };
+    FAILED
+}
+
+#[cfg(test)]
+mod tests;

@@ -1,0 +1,70 @@
+use crate::command_line::{Request, command_line};
+use crate::cut::cut;
+use std::alloc::{AllocError, Global};
+use std::test::Fail;
+
+fn strings(alloc: Global, words: &[&str]) -> Result<Vec<String>, AllocError> {
+    let mut strings = Vec::new(alloc);
+    for word in words {
+        strings.push(String::from_str(alloc, *word)?)?;
+    }
+    Ok(strings)
+}
+
+#[test]
+fn reads_the_words_of_serial(rt: HostRuntime) -> Result<(), Fail> {
+    let rows: [(&[&str], &str, &str); 4] = [
+        (&["drink", "serial", "p", "s"], "p", "s"),
+        (&["drink", "serial", "-", "s"], "-", "s"),
+        (&["drink", "serial", "-", "-"], "-", "-"),
+        (&["drink", "serial", "--", "-p", "-s"], "-p", "-s"),
+    ];
+    for (words, plan, sessions) in rows {
+        let words = strings(rt.alloc(), words)?;
+        let request = command_line(rt.alloc(), words.as_slice())?;
+        assert_eq!(rt; request, Request::Serial { plan, sessions });
+    }
+    Ok(())
+}
+
+#[test]
+fn other_words_are_a_fault(rt: HostRuntime) -> Result<(), Fail> {
+    let rows: [(&[&str], i32); 9] = [
+        (&["drink"], 2),
+        (&["drink", "sim", "p", "s", "c"], 2),
+        (&["drink", "serial"], 2),
+        (&["drink", "serial", "p"], 2),
+        (&["drink", "serial", "p", "s", "t"], 2),
+        (&["drink", "serial", "p", "s", "--seed", "1"], 2),
+        (&["drink", "p", "s"], 2),
+        (&["drink", "--help"], 0),
+        (&["drink", "serial", "--help"], 0),
+    ];
+    for (words, status) in rows {
+        let words = strings(rt.alloc(), words)?;
+        let Err(error) = command_line(rt.alloc(), words.as_slice()) else {
+            return Err(Fail::from("accepted"));
+        };
+        assert_eq!(rt; error.exit_code(), status);
+    }
+    Ok(())
+}
+
+#[test]
+fn cuts_at_the_first_line_of_three_dashes(rt: HostRuntime) {
+    let rows = [
+        ("a\n---\nb\n", "a\n", "b\n"),
+        ("a\r\n---\r\nb", "a\r\n", "b"),
+        ("---\n---\nb", "", "---\nb"),
+        ("a\n---", "a\n", ""),
+        ("a\n---\r", "a\n---\r", ""),
+        ("a\n----\n --- \n---x\nb", "a\n----\n --- \n---x\nb", ""),
+        ("a---\n\n---\n\n", "a---\n\n", "\n"),
+        ("", "", ""),
+    ];
+    for (text, front, back) in rows {
+        let (before, after) = cut(text.as_bytes());
+        assert_eq!(rt; before, front.as_bytes());
+        assert_eq!(rt; after, back.as_bytes());
+    }
+}

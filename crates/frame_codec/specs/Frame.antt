@@ -1,0 +1,35 @@
+-- What a frame says, and the range of each of its fields.
+use Rattle.std.specs.Prelude.{◌≡◌, ℕ, ◌<◌, ◌^◌, Option, Some, None, IsTrue, IfSome}
+use Rattle.bottle_values.specs.Arithmetic.{is_i64}
+use Rattle.frame_codec.specs.declared.message.Msg.{Msg}
+use Rattle.frame_codec.specs.declared.message.Msg.TheVariants.{AskFork, Fork, AskBottle, Bottle}
+
+-- a frame, field by field; one without a message is an acknowledgement
+pub record Fields : Type 0 where
+  pub run : ℕ
+  pub from : ℕ
+  pub to : ℕ
+  pub number : ℕ
+  pub count : ℕ
+  pub msg : Option Msg
+
+-- a message has a number from 1 to 2 ^ 48 - 1, an acknowledgement has 0
+abbrev pub IsNumbered : Option Msg → ℕ → Type 0
+IsNumbered None number = number ≡ 0
+IsNumbered (Some msg) number = (0 < number) × (number < 2 ^ 48)
+
+-- a record's number has 16 bits, its value is an i64
+abbrev pub IsMsg : Msg → Type 0
+IsMsg AskFork = Unit {0}
+IsMsg Fork = Unit {0}
+IsMsg (AskBottle bottle) = bottle < 2 ^ 16
+IsMsg (Bottle bottle value) = (bottle < 2 ^ 16) × IsTrue (is_i64 value.number)
+
+-- each field is in its range
+pub record IsFrame (f : Fields) : Type 0 where
+  pub run : f.run < 2 ^ 32
+  pub from : f.from < 2 ^ 8
+  pub to : f.to < 2 ^ 8
+  pub number : IsNumbered f.msg f.number
+  pub count : f.count < 2 ^ 48
+  pub msg : IfSome f.msg IsMsg

@@ -1,0 +1,41 @@
+-- What the code holds between reading a header and making the frame.
+use Rattle.std.specs.Prelude.{◌≡◌, ℕ, ◌<◌, ◌≤◌, ◌^◌, Bool, IsTrue, ◌+◌, not, ◌&&◌, ◌==◌, nat_lt, nat_le, if◌then◌else◌, List, [], ◌∷◌, length, take, Option, Some, None}
+use Rattle.frame_codec.specs.declared.header.Kind.{Kind}
+use Rattle.frame_codec.specs.declared.header.Kind.TheVariants.{Data, Ack}
+use Rattle.frame_codec.specs.declared.header.Header.{Header}
+use Rattle.frame_codec.specs.declared.fault.FrameFault.{FrameFault}
+use Rattle.frame_codec.specs.declared.fault.FrameFault.TheVariants.{Tag, Length}
+use Rattle.frame_codec.specs.Frame.{Fields}
+use Rattle.frame_codec.specs.Header.{data_kind, ack_kind, header}
+use Rattle.frame_codec.specs.Version01.{length_by_tag}
+
+abbrev pub code_of : Kind → ℕ
+code_of Data = data_kind
+code_of Ack = ack_kind
+
+-- what the header says, as a frame whose message is still to come
+abbrev pub fields_of : Header → Fields
+fields_of h =
+    record { run = h.run; from = h.from; to = h.to; number = h.number; count = h.count; msg = None }
+
+-- whether a frame of that kind may have the number
+abbrev pub is_numbered_by : Kind → ℕ → Bool
+is_numbered_by Data number = nat_lt 0 number && nat_lt number (2 ^ 48)
+is_numbered_by Ack number = number == 0
+
+-- the bytes begin with this header of that version, and its fields are in range
+pub record BeginsWith (version : ℕ) (bytes : List ℕ) (h : Header) : Type 0 where
+  pub whole : 26 ≤ length bytes
+  pub spelled : take 26 bytes ≡ header version (code_of h.kind) (fields_of h)
+  pub run : h.run < 2 ^ 32
+  pub from : h.from < 2 ^ 8
+  pub to : h.to < 2 ^ 8
+  pub number : IsTrue (is_numbered_by h.kind h.number)
+  pub count : h.count < 2 ^ 48
+
+-- the first fault of what follows a data frame's header
+abbrev pub message_fault : List ℕ → Option FrameFault
+message_fault [] = Some Length
+message_fault (tag ∷ rest) =
+    if not (nat_le 1 tag && nat_le tag 4) then Some Tag
+    else if not (26 + length (tag ∷ rest) == length_by_tag tag) then Some Length else None

@@ -1,0 +1,113 @@
+//! A frame as a value: what one office tells its neighbour in one datagram.
+
+ghost use Rattle.std.specs.Prelude.{◌≡◌, ◌<◌, ◌^◌, Some, None};
+ghost use Rattle.frame_codec.specs.Frame.{IsNumbered};
+
+use crate::message::Msg;
+use std::marker::Model;
+
+/// The greatest number of a message, and the greatest count.
+pub const MAX_NUMBER: u64 = (1 << 48) - 1;
+
+/// A frame whose fields are in the format's ranges. It is data, with a message and its number, or an
+/// acknowledgement, with no message and the number 0.
+#[derive(Clone, Copy, Debug, PartialEq, Eq)]
+pub struct Frame {
+    run: u32,
+    from: u8,
+    to: u8,
+    number: u64,
+    count: u64,
+    msg: Option<Msg>,
+}
+
+impl Model for Frame {
+    ghost use Rattle.std.specs.Prelude.{◌<◌, ◌^◌};
+    ghost use Rattle.frame_codec.specs.Frame.{Fields, IsNumbered};
+
+    ghost Value = { Fields };
+
+    ghost view = { λ f. record { run = f.run; from = f.from; to = f.to; number = f.number; count = f.count; msg = f.msg } };
+
+    ghost invariant = { λ f. IsNumbered f.msg f.number × (f.count < 2 ^ 48) };
+
+    ghost inverse = { λ f. record { run = f.run; from = f.from; to = f.to; number = f.number; count = f.count; msg = f.msg } };
+}
+
+impl Frame {
+    /// A message with its number, from 1 to `MAX_NUMBER`, and the count of messages taken in order.
+    pub fn data(run: u32, from: u8, to: u8, number: u64, count: u64, msg: Msg) -> Frame
+        requires positive { 0 < number }
+        requires number { number < 2 ^ 48 }
+        requires count { count < 2 ^ 48 }
+        ensures { result ≡ record { run = run; from = from; to = to; number = number; count = count; msg = Some msg } }
+    {
+        Frame {
+            run,
+            from,
+            to,
+            number,
+            count,
+            msg: Some(msg),
+        }
+    }
+
+    /// The count of messages taken in order, with no message.
+    pub fn ack(run: u32, from: u8, to: u8, count: u64) -> Frame
+        requires { count < 2 ^ 48 }
+        ensures { result ≡ record { run = run; from = from; to = to; number = 0; count = count; msg = None } }
+    {
+        Frame {
+            run,
+            from,
+            to,
+            number: 0,
+            count,
+            msg: None,
+        }
+    }
+
+    /// The number of the run that the plan names.
+    pub fn run(&self) -> u32
+        ensures { result ≡ self.now.run }
+    {
+        self.run
+    }
+
+    /// The office that sends.
+    pub fn from(&self) -> u8
+        ensures { result ≡ self.now.from }
+    {
+        self.from
+    }
+
+    /// The office that is to take the frame.
+    pub fn to(&self) -> u8
+        ensures { result ≡ self.now.to }
+    {
+        self.to
+    }
+
+    /// The message's number, or 0 of an acknowledgement.
+    pub fn number(&self) -> u64
+        ensures value { result ≡ self.now.number }
+        ensures range { IsNumbered self.now.msg result }
+    {
+        self.number
+    }
+
+    /// How many messages the sender has taken in order.
+    pub fn count(&self) -> u64
+        ensures value { result ≡ self.now.count }
+        ensures range { result < 2 ^ 48 }
+    {
+        self.count
+    }
+
+    /// The message, or None of an acknowledgement.
+    pub fn msg(&self) -> Option<Msg>
+        ensures { result ≡ self.now.msg }
+    {
+        self.msg
+    }
+}

@@ -1,0 +1,25 @@
+//! What a frame can carry.
+
+use bottle_values::Value;
+
+// The tags, the first byte of each message.
+pub const ASK_FORK: u8 = 1;
+
+pub const FORK: u8 = 2;
+
+pub const ASK_BOTTLE: u8 = 3;
+
+pub const BOTTLE: u8 = 4;
+
+/// A message about the fork or one bottle of a pair. A bottle is named by its record's number.
+#[derive(Clone, Copy, Debug, PartialEq, Eq)]
+pub enum Msg {
+    /// The fork's request token.
+    AskFork,
+    /// The fork.
+    Fork,
+    /// A bottle's request token.
+    AskBottle(u16),
+    /// A bottle with the record's value.
+    Bottle(u16, Value),
+}

@@ -1,0 +1,11 @@
+pub mod Digits
+pub mod Lines
+pub mod Names
+pub mod Words
+pub mod FirstFault
+pub mod Addresses
+pub mod Bounds
+pub mod Ranges
+pub mod Positions
+pub mod Accepted
+pub mod Consistent

@@ -1,0 +1,8 @@
+use Rattle.std.proofs.Common.{◌<◌, length}
+use Rattle.office_map.proofs.Consistent.{record_ends}
+use Rattle.office_map.proofs.plan.Plan.record.Goals as goal
+
+pub returns-clause-ends : goal.returns-clause-ends
+returns-clause-ends c =
+    let id : c.args.r < length c.self.inside.tables.records = rw c.self.view_is c.requires in
+    rw (← c.self.view_is) (record_ends c.self.inside.tables c.args.r c.index-records-index.result c.records.ensures.consistent id (rw (c.records.ensures.all, c.index.ensures) at c.index-records-index.is))

@@ -1,0 +1,36 @@
+-- What holds of every accepted plan.
+use Rattle.std.specs.Prelude.{◌≡◌, ◌≢◌, ℕ, ◌<◌, ◌≤◌, length, All, AllPairs, IsTrue, true, false}
+use Rattle.std.specs.Result.{MatchResult}
+use Rattle.office_map.specs.declared.entries.OfficeEntry.{OfficeEntry}
+use Rattle.office_map.specs.declared.entries.PairEntry.{PairEntry}
+use Rattle.office_map.specs.declared.entries.RecordEntry.{RecordEntry}
+use Rattle.office_map.specs.declared.fault.Refusal.{Refusal}
+use Rattle.office_map.specs.PlanValue.{PlanValue, no_address, joins, are_neighbours, records_between}
+use Rattle.office_map.specs.PlanText.{plan_of, IsLineOf}
+use Rattle.std.specs.Prelude.{List}
+
+-- The tables agree with one another, and no limit is passed.
+pub record IsConsistent (p : PlanValue) : Type 0 where
+  pub offices_fit : length p.offices ≤ 16
+  pub office_names : AllPairs (λ (a b : OfficeEntry). a.name ≢ b.name) p.offices
+  pub addresses : AllPairs (λ (a b : OfficeEntry). a.address ≡ b.address → a.address ≡ no_address) p.offices
+  pub ends_are_offices : All (λ (pair : PairEntry). (pair.first < length p.offices) × (pair.second < length p.offices)) p.pairs
+  pub ends_differ : All (λ (pair : PairEntry). pair.first ≢ pair.second) p.pairs
+  pub pairs_once : AllPairs (λ (a b : PairEntry). joins b.first b.second a ≡ false) p.pairs
+  pub record_names : AllPairs (λ (a b : RecordEntry). a.name ≢ b.name) p.records
+  pub records_have_pairs : All (λ (r : RecordEntry). IsTrue (are_neighbours p r.first r.second)) p.records
+  pub records_fit : (a b : ℕ) → records_between p a b ≤ 8
+
+-- two different offices of the plan that are neighbours
+pub record HasEnds (p : PlanValue) (a b : ℕ) : Type 0 where
+  pub joined : are_neighbours p a b ≡ true
+  pub first : a < length p.offices
+  pub second : b < length p.offices
+  pub different : a ≢ b
+
+-- Every accepted plan is consistent and has two offices; a refusal names a line of the text, or 0.
+abbrev pub IsAccepted : PlanValue → Type 0
+IsAccepted p = IsConsistent p × (2 ≤ length p.offices)
+
+abbrev pub ReadsAcceptablePlans : Type 0
+ReadsAcceptablePlans = (text : List ℕ) → MatchResult (plan_of text) IsAccepted (λ (f : Refusal). IsLineOf text f.line)

@@ -1,0 +1,5 @@
+pub mod Text
+pub mod Address
+pub mod PlanValue
+pub mod PlanText
+pub mod Consistency

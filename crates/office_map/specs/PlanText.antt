@@ -1,0 +1,211 @@
+-- Which plan a text means, and which is its first fault.
+use Rattle.std.specs.Prelude.{◌≡◌, ℕ, ◌^◌, ◌≤◌, ◌⊎◌, List, [], ◌∷◌, ◌++◌, length, Bool, not, ◌&&◌, ◌||◌, ◌==◌, nat_lt, nat_le, Option, Some, None, Result, Ok, Err, if◌then◌else◌, codes, is_some, option_map, ℤ, pos, neg_ℤ}
+use Rattle.std.specs.List.{list_any, list_all}
+use Rattle.std.specs.Str.{bytes_eq}
+use Rattle.std.specs.Option.{ok_or}
+use Rattle.std.specs.Result.{MatchResult}
+use Rattle.office_map.specs.declared.entries.OfficeEntry.{OfficeEntry}
+use Rattle.office_map.specs.declared.fault.Rule.{Rule}
+use Rattle.office_map.specs.declared.fault.Rule.TheVariants.{Header, Line, NameTwice, UnknownName, SelfPair, PairTwice, Limit}
+use Rattle.office_map.specs.declared.fault.Refusal.{Refusal}
+use Rattle.office_map.specs.declared.fault.PlanFault.{PlanFault}
+use Rattle.office_map.specs.declared.fault.PlanFault.TheVariants.{Memory, Refused}
+use Rattle.office_map.specs.declared.line.Declaration as code
+use Rattle.office_map.specs.declared.line.Declaration.TheVariants as variants
+use Rattle.office_map.specs.PlanValue.{PlanValue, office_named, record_named, are_neighbours, records_between, with_office, with_pair, with_record, no_address}
+use Rattle.office_map.specs.Text.{name_of, is_plain, number_of, words_of, lines, statements}
+use Rattle.office_map.specs.Address.{address_of_word}
+
+-- one after the other, up to the first refusal
+infixl 10 ◌>>=◌
+abbrev pub ◌>>=◌ : {A B E : Type 0} → Result A E → (A → Result B E) → Result B E
+(Ok x) >>= f = f x
+(Err e) >>= f = Err e
+
+infixl 10 ◌>>◌
+abbrev pub ◌>>◌ : {A B E : Type 0} → Result A E → Result B E → Result B E
+(Ok x) >> r = r
+(Err e) >> r = Err e
+
+abbrev pub refuse_if : {E : Type 0} → Bool → E → Result (Unit {0}) E
+refuse_if b e = if b then Err e else Ok tt
+
+abbrev pub and_then : {A B : Type 0} → Option A → (A → Option B) → Option B
+and_then None f = None
+and_then (Some x) f = f x
+
+-- What a line declares. Names are still text.
+pub data Declaration : Type 0 where
+  AnOffice : (name address : List ℕ) → Declaration
+  APair : (a b : List ℕ) (at_first : Bool) → Declaration
+  ARecord : (name a b : List ℕ) (value : ℤ) (at_first : Bool) → Declaration
+
+-- the same without where the names lie in memory
+abbrev pub seen : code.Declaration → Declaration
+seen (variants.Office o) = AnOffice o.name.now o.address.now
+seen (variants.Pair p) = APair p.a.now p.b.now p.fork_at_first
+seen (variants.Record r) = ARecord r.name.now r.a.now r.b.now r.value r.starts_at_first
+
+-- each declaration, where all its words are good
+abbrev pub office_of : Option (List ℕ) → Option (List ℕ) → Option Declaration
+office_of (Some name) (Some address) = Some (AnOffice name address)
+office_of (Some name) None = None
+office_of None address = None
+
+abbrev pub pair_of : Option (List ℕ) → Option (List ℕ) → Bool → Option Declaration
+pair_of (Some a) (Some b) at_first = Some (APair a b at_first)
+pair_of (Some a) None at_first = None
+pair_of None b at_first = None
+
+abbrev pub record_of : Option (List ℕ) → Option (List ℕ) → Option (List ℕ) → Option ℤ → Bool → Option Declaration
+record_of (Some name) (Some a) (Some b) (Some value) at_first = Some (ARecord name a b value at_first)
+record_of (Some name) (Some a) (Some b) None at_first = None
+record_of (Some name) (Some a) None value at_first = None
+record_of (Some name) None b value at_first = None
+record_of None a b value at_first = None
+
+-- office NAME ADDR
+abbrev pub office_line : List ℕ → List ℕ → List ℕ → Option Declaration
+office_line keyword name address =
+    if bytes_eq keyword (codes "office") then office_of (name_of name) (address_of_word address) else None
+
+-- pair A B fork E, where E is A or B
+abbrev pub pair_line : List ℕ → List ℕ → List ℕ → List ℕ → List ℕ → Option Declaration
+pair_line keyword a b fork end =
+    if (bytes_eq keyword (codes "pair") && bytes_eq fork (codes "fork")) && (bytes_eq end a || bytes_eq end b) then pair_of (name_of a) (name_of b) (bytes_eq end a) else None
+
+-- a NUMBER below 0, or the least i64, which is one more than a NUMBER can be
+abbrev pub negative_of : List ℕ → Option ℤ
+negative_of digits =
+    if bytes_eq digits (codes "9223372036854775808") then Some (neg_ℤ (pos (2 ^ 63))) else option_map (λ n. neg_ℤ (pos n)) (number_of digits)
+
+-- a NUMBER, or - with a NUMBER or 2 ^ 63 right after it
+abbrev pub value_of : List ℕ → Option ℤ
+value_of [] = None
+value_of (first ∷ digits) =
+    if first == 45 then negative_of digits else option_map pos (number_of (first ∷ digits))
+
+-- record NAME A B VALUE at E, where E is A or B
+abbrev pub record_line : List ℕ → List ℕ → List ℕ → List ℕ → List ℕ → List ℕ → List ℕ → Option Declaration
+record_line keyword name a b value at end =
+    if (bytes_eq keyword (codes "record") && bytes_eq at (codes "at")) && (bytes_eq end a || bytes_eq end b) then record_of (name_of name) (name_of a) (name_of b) (value_of value) (bytes_eq end a) else None
+
+abbrev pub declaration_of : List (List ℕ) → Option Declaration
+declaration_of (keyword ∷ name ∷ address ∷ []) = office_line keyword name address
+declaration_of (keyword ∷ a ∷ b ∷ fork ∷ end ∷ []) = pair_line keyword a b fork end
+declaration_of (keyword ∷ name ∷ a ∷ b ∷ value ∷ at ∷ end ∷ []) = record_line keyword name a b value at end
+declaration_of words = None
+
+-- a number below 2 ^ 32
+abbrev pub small_number : Option ℕ → Option ℕ
+small_number None = None
+small_number (Some n) = if nat_lt n (2 ^ 32) then Some n else None
+
+-- plan 1 run N
+abbrev pub run_of : List (List ℕ) → Option ℕ
+run_of (plan ∷ one ∷ run ∷ number ∷ []) =
+    if (bytes_eq plan (codes "plan") && bytes_eq one (codes "1")) && bytes_eq run (codes "run") then small_number (number_of number) else None
+run_of words = None
+
+-- another office has this address; `-` is none
+abbrev pub is_address_taken : PlanValue → List ℕ → Bool
+is_address_taken p address =
+    not (bytes_eq address no_address) && list_any (λ (o : OfficeEntry). bytes_eq o.address address) p.offices
+
+-- the plan with one more declaration, or the first rule that refuses it
+abbrev pub declare : PlanValue → Declaration → Result PlanValue Rule
+declare p (AnOffice name address) = do
+  refuse_if (is_some (office_named p name)) NameTwice
+  refuse_if (is_address_taken p address) NameTwice
+  refuse_if (nat_le 16 (length p.offices)) Limit
+  Ok (with_office p (record { name = name; address = address }))
+declare p (APair a b at_first) = do
+  first ← ok_or (office_named p a) UnknownName
+  second ← ok_or (office_named p b) UnknownName
+  refuse_if (first == second) SelfPair
+  refuse_if (are_neighbours p first second) PairTwice
+  Ok (with_pair p (record { first = first; second = second; fork_at_first = at_first }))
+declare p (ARecord name a b value at_first) = do
+  first ← ok_or (office_named p a) UnknownName
+  second ← ok_or (office_named p b) UnknownName
+  refuse_if (not (are_neighbours p first second)) UnknownName
+  refuse_if (is_some (record_named p name)) NameTwice
+  refuse_if (nat_le 8 (records_between p first second)) Limit
+  Ok (with_record p (record { name = name; first = first; second = second; value = value; starts_at_first = at_first }))
+
+abbrev pub at_line : {A : Type 0} → ℕ → Result A Rule → Result A Refusal
+at_line n (Ok x) = Ok x
+at_line n (Err rule) = Err (record { rule = rule; line = n })
+
+-- the words of a line of plain bytes
+abbrev pub plain_words : List ℕ → Option (List (List ℕ))
+plain_words line = if list_all is_plain line then Some (words_of line) else None
+
+unfoldable pub read_header : ℕ × List ℕ → Result PlanValue Refusal
+read_header l = at_line l.0 (do
+  run ← ok_or (and_then (plain_words l.1) run_of) Header
+  Ok (record { run = run; offices = []; pairs = []; records = [] }))
+
+unfoldable pub read_line : PlanValue → ℕ × List ℕ → Result PlanValue Refusal
+read_line p l = at_line l.0 (do
+  d ← ok_or (and_then (plain_words l.1) declaration_of) Line
+  declare p d)
+
+-- each line in order, on what those before it declare
+abbrev pub read_lines : PlanValue → List (ℕ × List ℕ) → Result PlanValue Refusal
+read_lines p [] = Ok p
+read_lines p (l ∷ ls) = read_line p l >>= λ q. read_lines q ls
+
+abbrev pub read_statements : List (ℕ × List ℕ) → Result PlanValue Refusal
+read_statements [] = Err (record { rule = Header; line = 0 })
+read_statements (l ∷ ls) = read_header l >>= λ p. read_lines p ls
+
+-- The plan that a text means, or its first fault.
+unfoldable pub plan_of : List ℕ → Result PlanValue Refusal
+plan_of text = do
+  refuse_if (nat_lt 262144 (length text)) (record { rule = Limit; line = 0 })
+  p ← read_statements (statements text)
+  refuse_if (nat_lt (length p.offices) 2) (record { rule = Limit; line = 0 })
+  Ok p
+
+-- what a function returned, seen by view, is what reading gives, unless memory ran out
+abbrev pub Fails : {A : Type 0} → PlanFault → Result A Refusal → Type 0
+Fails Memory read = Unit {0}
+Fails (Refused r) read = read ≡ Err r
+
+abbrev pub Gives : {X A : Type 0} → (X → A) → Result X PlanFault → Result A Refusal → Type 0
+Gives view (Ok x) read = read ≡ Ok (view x)
+Gives view (Err e) read = Fails e read
+
+-- the same of a function that changes a plan
+abbrev pub Leaves : {X : Type 0} → Result X PlanFault → PlanValue → Result PlanValue Refusal → Type 0
+Leaves (Ok x) after read = read ≡ Ok after
+Leaves (Err e) after read = Fails e read
+
+-- a fact of a refusal
+abbrev pub IfRefused : (Refusal → Type 0) → PlanFault → Type 0
+IfRefused P Memory = Unit {0}
+IfRefused P (Refused r) = P r
+
+-- The lines are accepted one after the other, and lead from one plan to another.
+abbrev pub Lead : PlanValue → List (ℕ × List ℕ) → PlanValue → Type 0
+Lead p [] q = p ≡ q
+Lead p (l ∷ ls) q = (next : PlanValue) × (read_line p l ≡ Ok next) × Lead next ls q
+
+-- a line is refused, and all before it are accepted
+pub record IsFirstFault (p : PlanValue) (lines : List (ℕ × List ℕ)) (f : Refusal) : Type 0 where
+  pub before : List (ℕ × List ℕ)
+  pub line : ℕ × List ℕ
+  pub after : List (ℕ × List ℕ)
+  pub split : lines ≡ before ++ line ∷ after
+  pub reached : PlanValue
+  pub accepted : Lead p before reached
+  pub refused : read_line reached line ≡ Err f
+
+-- reading the lines is this, and nothing else
+abbrev pub ReadsInOrder : Type 0
+ReadsInOrder = (p : PlanValue) (lines : List (ℕ × List ℕ)) → MatchResult (read_lines p lines) (Lead p lines) (IsFirstFault p lines)
+
+-- no line, or a line of the text
+abbrev pub IsLineOf : List ℕ → ℕ → Type 0
+IsLineOf text n = (n ≡ 0) ⊎ ((1 ≤ n) × (n ≤ length (lines text)))

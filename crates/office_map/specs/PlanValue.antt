@@ -1,0 +1,102 @@
+-- A plan as contracts see it: its tables, and what can be asked of them.
+-- Offices and records go by number: the count of the lines of their kind before theirs.
+use Rattle.std.specs.Prelude.{ℕ, ℤ, List, ◌++◌, [], ◌∷◌, length, map, filter, find, position, count_by, slice_get, Bool, false, ◌&&◌, ◌||◌, ◌==◌, Option, if◌then◌else◌, option_map, codes}
+use Rattle.std.specs.List.{list_any, range_with_len}
+use Rattle.std.specs.Option.{option_map_or}
+use Rattle.std.specs.Str.{bytes_eq}
+use Rattle.office_map.specs.declared.entries.OfficeEntry.{OfficeEntry}
+use Rattle.office_map.specs.declared.entries.PairEntry.{PairEntry}
+use Rattle.office_map.specs.declared.entries.RecordEntry.{RecordEntry}
+
+pub record PlanValue : Type 0 where
+  pub run : ℕ
+  pub offices : List OfficeEntry
+  pub pairs : List PairEntry
+  pub records : List RecordEntry
+
+-- the office with this name
+abbrev pub office_named : PlanValue → List ℕ → Option ℕ
+office_named p name = position (λ (o : OfficeEntry). bytes_eq o.name name) p.offices
+
+-- the record with this name
+abbrev pub record_named : PlanValue → List ℕ → Option ℕ
+record_named p name = position (λ (r : RecordEntry). bytes_eq r.name name) p.records
+
+abbrev pub office_name_of : PlanValue → ℕ → Option (List ℕ)
+office_name_of p o = option_map (λ (e : OfficeEntry). e.name) (slice_get p.offices o)
+
+abbrev pub address_of : PlanValue → ℕ → Option (List ℕ)
+address_of p o = option_map (λ (e : OfficeEntry). e.address) (slice_get p.offices o)
+
+abbrev pub record_name_of : PlanValue → ℕ → Option (List ℕ)
+record_name_of p r = option_map (λ (e : RecordEntry). e.name) (slice_get p.records r)
+
+-- the pair joins these two, in either order
+abbrev pub joins : ℕ → ℕ → PairEntry → Bool
+joins a b pair = (pair.first == a && pair.second == b) || (pair.first == b && pair.second == a)
+
+abbrev pub are_neighbours : PlanValue → ℕ → ℕ → Bool
+are_neighbours p a b = list_any (joins a b) p.pairs
+
+-- the neighbours of an office, the least number first
+abbrev pub neighbours_of : PlanValue → ℕ → List ℕ
+neighbours_of p a = filter (are_neighbours p a) (range_with_len 0 (length p.offices))
+
+-- where a pair's fork starts
+abbrev pub fork_end : PairEntry → ℕ
+fork_end pair = if pair.fork_at_first then pair.first else pair.second
+
+abbrev pub fork_end_of : PlanValue → ℕ → ℕ → Option ℕ
+fork_end_of p a b = option_map fork_end (find (joins a b) p.pairs)
+
+-- these two are the record's ends, in either order
+abbrev pub lies_between : ℕ → ℕ → RecordEntry → Bool
+lies_between a b r = (r.first == a && r.second == b) || (r.first == b && r.second == a)
+
+-- how many records these two share
+abbrev pub records_between : PlanValue → ℕ → ℕ → ℕ
+records_between p a b = count_by (lies_between a b) p.records
+
+abbrev pub has_end : RecordEntry → ℕ → Bool
+has_end r office = r.first == office || r.second == office
+
+-- the plan has this record, and the office is one of its ends
+abbrev pub is_end : PlanValue → ℕ → ℕ → Bool
+is_end p r office = option_map_or (λ e. has_end e office) (slice_get p.records r) false
+
+-- the records of an office, the least number first
+abbrev pub records_of : PlanValue → ℕ → List ℕ
+records_of p office = filter (λ r. is_end p r office) (range_with_len 0 (length p.records))
+
+-- each office's neighbours and records
+abbrev pub index_of : PlanValue → List (List ℕ × List ℕ)
+index_of p = map (λ office. (neighbours_of p office, records_of p office)) (range_with_len 0 (length p.offices))
+
+-- the ends of a record, in the order of its line
+abbrev pub ends_of : PlanValue → ℕ → Option (ℕ × ℕ)
+ends_of p r = option_map (λ (e : RecordEntry). (e.first, e.second)) (slice_get p.records r)
+
+-- where a record's bottle starts
+abbrev pub start_end : RecordEntry → ℕ
+start_end r = if r.starts_at_first then r.first else r.second
+
+abbrev pub start_end_of : PlanValue → ℕ → Option ℕ
+start_end_of p r = option_map start_end (slice_get p.records r)
+
+-- the records' values at the start, in order
+abbrev pub start_values : PlanValue → List ℤ
+start_values p = map (λ (e : RecordEntry). e.value) p.records
+
+-- the plan with one more office, pair or record
+abbrev pub with_office : PlanValue → OfficeEntry → PlanValue
+with_office p o = record p { offices = p.offices ++ o ∷ [] }
+
+abbrev pub with_pair : PlanValue → PairEntry → PlanValue
+with_pair p pair = record p { pairs = p.pairs ++ pair ∷ [] }
+
+abbrev pub with_record : PlanValue → RecordEntry → PlanValue
+with_record p r = record p { records = p.records ++ r ∷ [] }
+
+-- the word of an office that has no address
+abbrev pub no_address : List ℕ
+no_address = codes "-"

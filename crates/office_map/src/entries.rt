@@ -1,0 +1,104 @@
+//! What a plan says of one office, one pair and one record.
+
+ghost use Rattle.std.specs.Prelude.{◌≡◌, IfOk};
+
+use crate::ids::OfficeId;
+use crate::word::Word;
+use std::alloc::{AllocError, Global};
+
+/// An office's name, and its address or `-`.
+#[derive(Drop)]
+pub struct OfficeEntry {
+    pub name: Word,
+    pub address: Word,
+}
+
+impl OfficeEntry {
+    pub fn copy(&self, alloc: Global) -> Result<OfficeEntry, AllocError>
+        ensures { IfOk result (λ o. o ≡ self.now) }
+    {
+        let name = self.name.copy(alloc)?;
+        let address = self.address.copy(alloc)?;
+        Ok(OfficeEntry { name, address })
+    }
+}
+
+/// Two neighbours in the order of their line, and which of them has the fork at the start.
+#[derive(Clone, Copy, Debug, PartialEq, Eq)]
+pub struct PairEntry {
+    pub first: OfficeId,
+    pub second: OfficeId,
+    pub fork_at_first: bool,
+}
+
+impl PairEntry {
+    ghost use Rattle.office_map.specs.PlanValue.{joins, fork_end};
+
+    /// Whether these two are its neighbours, in either order.
+    pub fn joins(&self, a: OfficeId, b: OfficeId) -> bool
+        ensures { result ≡ joins a b self.now }
+    {
+        (self.first == a && self.second == b) || (self.first == b && self.second == a)
+    }
+
+    pub fn fork_end(&self) -> OfficeId
+        ensures { result ≡ fork_end self.now }
+    {
+        if self.fork_at_first {
+            self.first
+        } else {
+            self.second
+        }
+    }
+}
+
+/// A record's name, its ends in the order of its line, and where and with which value its
+/// bottle starts.
+#[derive(Drop)]
+pub struct RecordEntry {
+    pub name: Word,
+    pub first: OfficeId,
+    pub second: OfficeId,
+    pub value: i64,
+    pub starts_at_first: bool,
+}
+
+impl RecordEntry {
+    ghost use Rattle.office_map.specs.PlanValue.{lies_between, has_end, start_end};
+
+    /// Whether these two are its ends, in either order.
+    pub fn lies_between(&self, a: OfficeId, b: OfficeId) -> bool
+        ensures { result ≡ lies_between a b self.now }
+    {
+        (self.first == a && self.second == b) || (self.first == b && self.second == a)
+    }
+
+    pub fn has_end(&self, office: OfficeId) -> bool
+        ensures { result ≡ has_end self.now office }
+    {
+        self.first == office || self.second == office
+    }
+
+    pub fn start_end(&self) -> OfficeId
+        ensures { result ≡ start_end self.now }
+    {
+        if self.starts_at_first {
+            self.first
+        } else {
+            self.second
+        }
+    }
+
+    pub fn copy(&self, alloc: Global) -> Result<RecordEntry, AllocError>
+        ensures { IfOk result (λ r. r ≡ self.now) }
+    {
+        let name = self.name.copy(alloc)?;
+        Ok(RecordEntry {
+            name,
+            first: self.first,
+            second: self.second,
+            value: self.value,
+            starts_at_first: self.starts_at_first,
+        })
+    }
+}

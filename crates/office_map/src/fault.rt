@@ -1,0 +1,99 @@
+//! Why a text is no plan.
+
+ghost use Rattle.std.specs.Prelude.{◌≡◌};
+ghost use Rattle.office_map.specs.declared.fault.PlanFault.TheVariants.{Memory};
+
+use std::alloc::{AllocError, AllocFailed};
+use std::error::Error;
+use std::fmt;
+use thiserror::Error;
+
+/// The rule that a plan's text breaks.
+#[derive(Clone, Copy, Debug, PartialEq, Eq, Error)]
+pub enum Rule {
+    #[error("P1 Header")]
+    Header,
+    #[error("P2 Line")]
+    Line,
+    #[error("P3 NameTwice")]
+    NameTwice,
+    #[error("P4 UnknownName")]
+    UnknownName,
+    #[error("P5 SelfPair")]
+    SelfPair,
+    #[error("P6 PairTwice")]
+    PairTwice,
+    #[error("P7 Limit")]
+    Limit,
+}
+
+impl Rule {
+    /// What the rule asks for, in words for people.
+    pub fn explanation(self) -> &'static str {
+        match self {
+            Rule::Header => "the first line has to be `plan 1 run N`, with N below 4294967296",
+            Rule::Line => {
+                "expected `office NAME ADDR`, `pair A B fork E` or `record NAME A B VALUE at E`"
+            }
+            Rule::NameTwice => "this name or address was declared before",
+            Rule::UnknownName => "an office or pair has to be declared before it is named",
+            Rule::SelfPair => "a pair joins two different offices",
+            Rule::PairTwice => "this pair was declared before",
+            Rule::Limit => {
+                "a plan has 2 to 16 offices, at most 8 records a pair and at most 262144 bytes"
+            }
+        }
+    }
+}
+
+/// The first rule that is broken, and the number of the line that breaks it: from 1, or 0
+/// where no line does.
+#[derive(Clone, Copy, Debug, PartialEq, Eq)]
+pub struct Refusal {
+    pub rule: Rule,
+    pub line: u64,
+}
+
+impl fmt::Display for Refusal {
+    fn fmt<W: fmt::Write>(&self, f: &mut fmt::Formatter<W>) -> fmt::Result {
+        let Refusal { rule, line } = *self;
+        let explanation = rule.explanation();
+        if line > 0 {
+            write!(f, "line {line}: ")?;
+        }
+        write!(f, "{rule}: {explanation}")
+    }
+}
+
+impl Error for Refusal {}
+
+/// Why there is no plan.
+#[derive(Debug, Drop, Error)]
+pub enum PlanFault {
+    #[error("out of memory")]
+    Memory,
+    #[error("{0}")]
+    Refused(Refusal),
+}
+
+impl From<AllocError> for PlanFault {
+    ghost from_gives = { λ _ e. e ≡ Memory };
+
+    fn from(_e: AllocError) -> PlanFault {
+        PlanFault::Memory
+    }
+}
+
+impl<T: Drop> From<AllocFailed<T>> for PlanFault {
+    ghost from_gives = { λ _ e. e ≡ Memory };
+
+    fn from(_e: AllocFailed<T>) -> PlanFault {
+        PlanFault::Memory
+    }
+}
+
+pub(crate) fn refused(rule: Rule, line: u64) -> PlanFault
+    ensures { result ≡ PlanFault.Refused (record { rule = rule; line = line }) }
+{
+    PlanFault::Refused(Refusal { rule, line })
+}

@@ -1,0 +1,41 @@
+//! Plans: the offices of a broker, which of them are neighbours, and the records that a
+//! pair of neighbours shares.
+//!
+//! [`Plan::read`] answers the plan that a text means, or the first rule that the text
+//! breaks with the line that breaks it (clause `meaning`). Every plan in hand is
+//! consistent (clause `consistent` of [`Plan::offices`]): a pair and a record join two
+//! different offices that are declared, nothing is declared twice, and no limit is passed.
+//! Contracts see a plan as its tables alone, one
+//! `Rattle.office_map.specs.PlanValue.PlanValue`. A record is found by its name in
+//! constant time, and an office's neighbours and records are stored lists.
+//!
+//! It stands on `thiserror`, for the messages of its faults. Definitions:
+//!
+//! - `specs/PlanText.antt`: which plan a text means, and what is its first fault.
+//! - `specs/PlanValue.antt`: the tables, and what contracts ask of them.
+//! - `specs/Consistency.antt`: what holds of every accepted plan.
+//! - `specs/Address.antt`: which words are addresses.
+//! - `specs/Text.antt`: lines, words, names and numbers, which other texts share; their
+//!   code is [`text`] and [`statements`].
+#![tactic(auto)]
+
+mod address;
+mod entries;
+pub mod fault;
+pub mod ids;
+mod index;
+pub mod laws;
+mod line;
+pub mod plan;
+mod read;
+mod records;
+pub mod statements;
+mod tables;
+#[cfg(test)]
+mod tests;
+pub mod text;
+mod word;
+
+pub use fault::{PlanFault, Refusal, Rule};
+pub use ids::{OfficeId, RecordId};
+pub use plan::Plan;

@@ -1,0 +1,161 @@
+//! One line of a plan.
+
+ghost use Rattle.std.specs.Prelude.{◌≡◌, map, option_map};
+ghost use Rattle.office_map.specs.PlanText.{declaration_of, office_line, pair_line, record_line, run_of, small_number, value_of, negative_of, seen};
+ghost use Rattle.office_map.specs.Text.{number_of};
+ghost use Rattle.std.specs.Str.{bytes_eq};
+
+use crate::address::address;
+use crate::text::{name, number};
+
+/// What a line declares, with names as they stand in the text.
+#[derive(Clone, Copy)]
+pub(crate) enum Declaration<'a> {
+    Office(NewOffice<'a>),
+    Pair(NewPair<'a>),
+    Record(NewRecord<'a>),
+}
+
+#[derive(Clone, Copy)]
+pub(crate) struct NewOffice<'a> {
+    pub name: &'a str,
+    pub address: &'a str,
+}
+
+#[derive(Clone, Copy)]
+pub(crate) struct NewPair<'a> {
+    pub a: &'a str,
+    pub b: &'a str,
+    pub fork_at_first: bool,
+}
+
+#[derive(Clone, Copy)]
+pub(crate) struct NewRecord<'a> {
+    pub name: &'a str,
+    pub a: &'a str,
+    pub b: &'a str,
+    pub value: i64,
+    pub starts_at_first: bool,
+}
+
+pub(crate) fn declaration_in<'a>(words: &[&'a [u8]]) -> Option<Declaration<'a>>
+    ensures { option_map seen result ≡ declaration_of (map (λ w. w.now) words.now) }
+{
+    match words.len() {
+        3 => office(words[0], words[1], words[2]),
+        5 => pair(words[0], words[1], words[2], words[3], words[4]),
+        7 => record(
+            words[0], words[1], words[2], words[3], words[4], words[5], words[6],
+        ),
+        _ => None,
+    }
+}
+
+fn office<'a>(keyword: &[u8], word: &'a [u8], place: &'a [u8]) -> Option<Declaration<'a>>
+    ensures { option_map seen result ≡ office_line keyword.now word.now place.now }
+{
+    if !is(keyword, "office") {
+        return None;
+    }
+    let name = name(word)?;
+    let address = address(place)?;
+    Some(Declaration::Office(NewOffice { name, address }))
+}
+
+fn pair<'a>(
+    keyword: &[u8],
+    a: &'a [u8],
+    b: &'a [u8],
+    fork: &[u8],
+    at: &[u8],
+) -> Option<Declaration<'a>>
+    ensures { option_map seen result ≡ pair_line keyword.now a.now b.now fork.now at.now }
+{
+    let fork_at_first = at == a;
+    if !is(keyword, "pair") || !is(fork, "fork") || !(fork_at_first || at == b) {
+        return None;
+    }
+    let a = name(a)?;
+    let b = name(b)?;
+    Some(Declaration::Pair(NewPair {
+        a,
+        b,
+        fork_at_first,
+    }))
+}
+
+fn record<'a>(
+    keyword: &[u8],
+    word: &'a [u8],
+    a: &'a [u8],
+    b: &'a [u8],
+    start: &[u8],
+    at: &[u8],
+    end: &[u8],
+) -> Option<Declaration<'a>>
+    ensures { option_map seen result
+        ≡ record_line keyword.now word.now a.now b.now start.now at.now end.now }
+{
+    let starts_at_first = end == a;
+    if !is(keyword, "record") || !is(at, "at") || !(starts_at_first || end == b) {
+        return None;
+    }
+    let record_name = name(word)?;
+    let a = name(a)?;
+    let b = name(b)?;
+    let value = value(start)?;
+    Some(Declaration::Record(NewRecord {
+        name: record_name,
+        a,
+        b,
+        value,
+        starts_at_first,
+    }))
+}
+
+/// The run number of a header.
+pub(crate) fn run_in(words: &[&[u8]]) -> Option<u32>
+    ensures { result ≡ run_of (map (λ w. w.now) words.now) }
+{
+    match words {
+        [plan, one, run, word] if is(plan, "plan") && is(one, "1") && is(run, "run") => {
+            small_number(word)
+        }
+        _ => None,
+    }
+}
+
+fn small_number(word: &[u8]) -> Option<u32>
+    ensures { result ≡ small_number (number_of word.now) }
+{
+    let n = number(word)?;
+    if n < 4_294_967_296 {
+        Some(n as u32)
+    } else {
+        None
+    }
+}
+
+fn value(word: &[u8]) -> Option<i64>
+    ensures { result ≡ value_of word.now }
+{
+    match word {
+        [b'-', digits @ ..] => negative(digits),
+        _ => Some(number(word)? as i64),
+    }
+}
+
+fn negative(digits: &[u8]) -> Option<i64>
+    ensures { result ≡ negative_of digits.now }
+{
+    if is(digits, "9223372036854775808") {
+        return Some(i64::MIN);
+    }
+    Some(-(number(digits)? as i64))
+}
+
+fn is(word: &[u8], text: &str) -> bool
+    ensures { result ≡ bytes_eq word.now text.now }
+{
+    word == text.as_bytes()
+}

@@ -1,0 +1,211 @@
+//! Plans.
+
+ghost use Rattle.std.specs.Prelude.{◌≡◌, ◌≢◌, ◌<◌, ◌≤◌, ◌^◌, ◌⊎◌, length, slice_get, Some, IfOk, IfErr, IsTrue, All};
+
+use crate::entries::{OfficeEntry, RecordEntry};
+use crate::fault::PlanFault;
+use crate::ids::{OfficeId, RecordId};
+use crate::index::{OfficeIndex, index};
+use crate::read::read_tables;
+use crate::tables::Tables;
+use std::alloc::{AllocError, Global};
+use std::marker::Model;
+
+/// An accepted plan, seen as its tables. Offices and records are numbered from 0 in the
+/// order of their lines.
+#[derive(Drop)]
+pub struct Plan {
+    tables: Tables,
+    index: Vec<OfficeIndex>,
+}
+
+impl Model for Plan {
+    ghost use Rattle.std.specs.Prelude.{◌≡◌};
+    ghost use Rattle.office_map.specs.PlanValue.{PlanValue, index_of};
+
+    ghost Value = { PlanValue };
+
+    ghost view = { λ p. p.tables };
+
+    ghost invariant = { λ p. p.index.items ≡ index_of p.tables };
+}
+
+impl Plan {
+    ghost use Rattle.office_map.specs.PlanValue.{office_named, record_named, office_name_of, address_of, record_name_of, are_neighbours, neighbours_of, fork_end_of, is_end, records_of, ends_of, start_end_of, start_values};
+    ghost use Rattle.office_map.specs.PlanText.{plan_of, Gives, IfRefused, IsLineOf};
+    ghost use Rattle.office_map.specs.Consistency.{IsConsistent, IsAccepted, HasEnds};
+
+    /// The plan that a text means, or the first rule that it breaks. `Memory` may stand in
+    /// place of any other answer, and comes only where a growth was refused.
+    pub fn read(alloc: Global, text: &[u8]) -> Result<Plan, PlanFault>
+        ensures meaning { Gives (λ p. p) result (plan_of text.now) }
+        ensures accepted { IfOk result IsAccepted }
+        ensures line { IfErr result (IfRefused (λ f. IsLineOf text.now f.line)) }
+    {
+        let tables = read_tables(alloc, text)?;
+        Ok(Plan::of(alloc, tables)?)
+    }
+
+    fn of(alloc: Global, tables: Tables) -> Result<Plan, AllocError>
+        ensures { IfOk result (λ p. p ≡ tables) }
+    {
+        let index = index(alloc, &tables)?;
+        Ok(Plan { tables, index })
+    }
+
+    /// A plan equal to this one.
+    pub fn copy(&self, alloc: Global) -> Result<Plan, AllocError>
+        ensures { IfOk result (λ p. p ≡ self.now) }
+    {
+        let tables = self.tables.copy(alloc)?;
+        Plan::of(alloc, tables)
+    }
+
+    /// The run's number, which stands in every frame.
+    pub fn run(&self) -> u32
+        ensures { result ≡ self.now.run }
+    {
+        self.tables.run()
+    }
+
+    /// How many offices there are.
+    pub fn offices(&self) -> usize
+        ensures count { result ≡ length self.now.offices }
+        ensures few { result ≤ 16 }
+        ensures consistent { IsConsistent self.now }
+    {
+        self.tables.offices().len()
+    }
+
+    /// How many records there are.
+    pub fn records(&self) -> usize
+        ensures count { result ≡ length self.now.records }
+        ensures numbered { result < 2 ^ 16 }
+    {
+        self.tables.records().len()
+    }
+
+    /// The neighbours of an office, the least number first.
+    pub fn neighbours(&self, id: OfficeId) -> &[OfficeId]
+        requires { id < length self.now.offices }
+        ensures all { result.now ≡ neighbours_of self.now id }
+        ensures each { All (λ other. IsTrue (are_neighbours self.now id other)) result.now }
+        ensures offices { All (λ other. other < length self.now.offices) result.now }
+    {
+        self.index[id.index()].neighbours()
+    }
+
+    /// The records of an office, the least number first.
+    pub fn records_of(&self, id: OfficeId) -> &[RecordId]
+        requires { id < length self.now.offices }
+        ensures all { result.now ≡ records_of self.now id }
+        ensures each { All (λ r. IsTrue (is_end self.now r id)) result.now }
+        ensures records { All (λ r. r < length self.now.records) result.now }
+    {
+        self.index[id.index()].records()
+    }
+
+    /// Whether these two are neighbours.
+    pub fn are_neighbours(&self, a: OfficeId, b: OfficeId) -> bool
+        ensures { result ≡ are_neighbours self.now a b }
+    {
+        self.tables.are_neighbours(a, b)
+    }
+
+    /// The end of two neighbours at which their fork starts.
+    pub fn fork_end(&self, a: OfficeId, b: OfficeId) -> OfficeId
+        requires { IsTrue (are_neighbours self.now a b) }
+        ensures end { fork_end_of self.now a b ≡ Some result }
+        ensures either { (result ≡ a) ⊎ (result ≡ b) }
+    {
+        self.tables.fork_end(a, b)
+    }
+
+    /// Whether this office is an end of this record; false where the plan has no such record.
+    pub fn has_end(&self, id: RecordId, office: OfficeId) -> bool
+        ensures { result ≡ is_end self.now id office }
+    {
+        self.tables.has_end(id, office)
+    }
+
+    /// The ends of a record, in the order of its line.
+    pub fn ends(&self, r: RecordId) -> (OfficeId, OfficeId)
+        requires { r < length self.now.records }
+        ensures ends { ends_of self.now r ≡ Some result }
+        ensures joined { IsTrue (are_neighbours self.now result.0 result.1) }
+        ensures offices { (result.0 < length self.now.offices) × (result.1 < length self.now.offices) }
+        ensures different { result.0 ≢ result.1 }
+    {
+        let entry = self.record(r);
+        (entry.first, entry.second)
+    }
+
+    /// The end at which a record's bottle starts.
+    pub fn start_end(&self, r: RecordId) -> OfficeId
+        requires { r < length self.now.records }
+        ensures start { start_end_of self.now r ≡ Some result }
+        ensures end { IsTrue (is_end self.now r result) }
+        ensures office { result < length self.now.offices }
+    {
+        self.record(r).start_end()
+    }
+
+    /// The value with which a record's bottle starts.
+    pub fn start_value(&self, r: RecordId) -> i64
+        requires { r < length self.now.records }
+        ensures { slice_get (start_values self.now) r ≡ Some result }
+    {
+        self.record(r).value
+    }
+
+    pub fn office_name(&self, id: OfficeId) -> &str
+        requires { id < length self.now.offices }
+        ensures { office_name_of self.now id ≡ Some result.now }
+    {
+        self.office(id).name.as_str()
+    }
+
+    /// An office's address, as `127.0.0.1:47001`, or `-` for none.
+    pub fn address(&self, id: OfficeId) -> &str
+        requires { id < length self.now.offices }
+        ensures { address_of self.now id ≡ Some result.now }
+    {
+        self.office(id).address.as_str()
+    }
+
+    pub fn record_name(&self, r: RecordId) -> &str
+        requires { r < length self.now.records }
+        ensures { record_name_of self.now r ≡ Some result.now }
+    {
+        self.record(r).name.as_str()
+    }
+
+    /// The office with this name.
+    pub fn office_named(&self, name: &str) -> Option<OfficeId>
+        ensures { result ≡ office_named self.now name.now }
+    {
+        self.tables.office_named(name)
+    }
+
+    /// The record with this name.
+    pub fn record_named(&self, name: &str) -> Option<RecordId>
+        ensures { result ≡ record_named self.now name.now }
+    {
+        self.tables.record_named(name)
+    }
+
+    fn office(&self, id: OfficeId) -> &OfficeEntry
+        requires { id < length self.now.offices }
+        ensures { slice_get self.now.offices id ≡ Some result.now }
+    {
+        &self.tables.offices()[id.index()]
+    }
+
+    fn record(&self, r: RecordId) -> &RecordEntry
+        requires { r < length self.now.records }
+        ensures entry { slice_get self.now.records r ≡ Some result.now }
+        ensures ends { HasEnds self.now result.now.first result.now.second }
+    {
+        &self.tables.records()[r.index()]
+    }
+}

@@ -1,0 +1,91 @@
+//! Tables from texts.
+
+ghost use Rattle.std.specs.Prelude.{◌≡◌, ◌<◌, ◌+◌, ◌^◌, length, map, option_map, IfOk};
+ghost use Rattle.office_map.specs.Text.{lines, statements_from};
+ghost use Rattle.office_map.specs.PlanText.{plan_of, plain_words, read_line, read_lines, read_header, Gives, Leaves};
+
+use crate::fault::{PlanFault, Rule, refused};
+use crate::line::{declaration_in, run_in};
+use crate::statements::Statements;
+use crate::tables::Tables;
+use crate::text::{is_plain, words};
+use std::alloc::{AllocError, Global};
+
+/// The longest text of a plan, in bytes.
+const TEXT_LIMIT: usize = 262_144;
+
+/// The tables that a text means. The first faulty line is refused.
+#[tactic(auto, unfolding(crate::specs::PlanText::plan_of))]
+pub(crate) fn read_tables(alloc: Global, text: &[u8]) -> Result<Tables, PlanFault>
+    ensures { Gives (λ t. t) result (plan_of text.now) }
+{
+    if text.len() > TEXT_LIMIT {
+        return Err(refused(Rule::Limit, 0));
+    }
+    let mut statements = Statements {
+        rest: text,
+        number: 1,
+    };
+    let Some((number, line)) = statements.next() else {
+        return Err(refused(Rule::Header, 0));
+    };
+    let tables = read_header(alloc, number, line)?;
+    let tables = read_lines(alloc, tables, statements)?;
+    if tables.offices().len() < 2 {
+        return Err(refused(Rule::Limit, 0));
+    }
+    Ok(tables)
+}
+
+#[tactic(auto, unfolding(crate::specs::PlanText::read_header))]
+fn read_header(alloc: Global, number: u64, line: &[u8]) -> Result<Tables, PlanFault>
+    ensures { Gives (λ t. t) result (read_header (number, line.now)) }
+{
+    let Some(words) = plain_words(alloc, line)? else {
+        return Err(refused(Rule::Header, number));
+    };
+    match run_in(&words) {
+        Some(run) => Ok(Tables::new(alloc, run)),
+        None => Err(refused(Rule::Header, number)),
+    }
+}
+
+fn read_lines(
+    alloc: Global,
+    tables: Tables,
+    statements: Statements<'_>,
+) -> Result<Tables, PlanFault>
+    requires { statements.number + length statements.rest.now < 2 ^ 64 }
+    ensures { Gives (λ t. t) result (read_lines tables (statements_from statements.entry.number (lines statements.entry.rest.now))) }
+{
+    let mut tables = tables;
+    let mut left = statements;
+    while let Some((number, line)) = left.next() {
+        read_line(alloc, &mut tables, number, line)?;
+    }
+    Ok(tables)
+}
+
+#[tactic(auto, unfolding(crate::specs::PlanText::read_line))]
+fn read_line(alloc: Global, tables: &mut Tables, number: u64, line: &[u8]) -> Result<(), PlanFault>
+    ensures { Leaves result tables.new (read_line tables.old (number, line.now)) }
+{
+    let Some(words) = plain_words(alloc, line)? else {
+        return Err(refused(Rule::Line, number));
+    };
+    match declaration_in(&words) {
+        Some(declaration) => tables.declare(alloc, number, declaration),
+        None => Err(refused(Rule::Line, number)),
+    }
+}
+
+/// The words of a line, where no byte of it is out of place.
+fn plain_words(alloc: Global, line: &[u8]) -> Result<Option<Vec<&[u8]>>, AllocError>
+    ensures { IfOk result (λ o. option_map (λ v. map (λ w. w.now) v.items) o ≡ plain_words line.now) }
+{
+    if is_plain(line) {
+        Ok(Some(words(alloc, line)?))
+    } else {
+        Ok(None)
+    }
+}

@@ -1,0 +1,4 @@
+pub mod Turns
+pub mod Stack
+pub mod Slots
+pub mod Tables

@@ -1,0 +1,29 @@
+use Rattle.std.proofs.Common.{rules}
+use Rattle.std.proofs.lemmas.Result.{err_from_is_err_and}
+use Rattle.session_language.specs.Shape.{block_of}
+use Rattle.session_language.specs.Meaning.{block}
+use Rattle.session_language.specs.declared.tree.Statement.TheViews.{the_lemmas}
+use Rattle.session_language.proofs.Rows.{row_block_is}
+use Rattle.serial_replay.specs.Walk.{desk_of}
+use Rattle.serial_replay.proofs.Turns.{times_more, times_stops}
+use Rattle.serial_replay.proofs.walk.+walk.Goals as goal
+
+pub walk-loop-init : goal.walk-loop-init
+walk-loop-init t c = search (rules, the_lemmas, row_block_is)
+
+pub walk-returns-in-Some-true-2 : goal.walk-returns-in-Some-true-2
+walk-returns-in-Some-true-2 t c = search (rules, the_lemmas, row_block_is)
+
+pub walk-returns-in-Some-true-3 : goal.walk-returns-in-Some-true-3
+walk-returns-in-Some-true-3 t c = search (rules, the_lemmas, row_block_is)
+
+pub walk-returns-in-Some-false-3 : goal.walk-returns-in-Some-false-3
+walk-returns-in-Some-false-3 t c = search (rules, the_lemmas, row_block_is)
+
+pub walk-returns-in_err-walk_all-in-Repeat : goal.walk-returns-in_err-walk_all-in-Repeat
+walk-returns-in_err-walk_all-in-Repeat t c =
+    let p = err_from_is_err_and c.from_residual-in_err-walk_all-in-Repeat.result c.from_residual-in_err-walk_all-in-Repeat.ensures.1 in
+    rw (p.1, p.2) (times_stops c.in_err-walk_all-in-Repeat.field-0.0 c.in-Repeat.turns c.loop.counter (block (block_of c.in-Repeat.body.items)) (desk_of c.loop.desk) c.walk_all-in-loop.new.desk _ c.loop-test.true (rw c.deref-in-loop.ensures.value at c.in_err-walk_all-in-Repeat.ensures) c.loop.invariant)
+
+pub walk-loop-preserved : goal.walk-loop-preserved
+walk-loop-preserved t c = times_more c.in-Repeat.turns c.loop.counter (block (block_of c.in-Repeat.body.items)) (desk_of c.loop.desk) (desk_of c.walk_all-in-loop.new.desk) _ c.loop-test.true (rw c.deref-in-loop.ensures.value at c.in_ok-walk_all-in-Repeat.ensures) c.loop.invariant

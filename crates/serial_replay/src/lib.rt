@@ -1,0 +1,17 @@
+//! Sessions one after another, each by a walk over its syntax tree.
+//!
+//! [`serial`] is the serial run: its outcomes are `outcomes_of`, and the values that it leaves are those of `map_of`
+//! (`specs/Serial.antt`). What one session does alone is `alone`, in `session_language`'s `specs/Meaning.antt`.
+//! Evaluation keeps its operands on a stack of its own (`specs/Machine.antt`), so no expression deepens the call stack.
+#![tactic(auto)]
+
+mod alone;
+mod desk;
+mod evaluate;
+pub mod replay;
+mod stop;
+#[cfg(test)]
+mod tests;
+mod walk;
+
+pub use crate::replay::{Replay, serial};

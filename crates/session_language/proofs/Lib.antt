@@ -1,0 +1,17 @@
+pub mod Pieces
+pub mod Complete
+pub mod Sound
+pub mod Places
+pub mod Built
+pub mod Phrases
+pub mod Rooms
+pub mod Rows
+pub mod Speech
+pub mod Capped
+pub mod Back
+pub mod Texts
+pub mod Needed
+pub mod Added
+pub mod Speaking
+pub mod Fitting
+pub mod Lawful

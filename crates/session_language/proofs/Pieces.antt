@@ -1,0 +1,61 @@
+-- A line, one piece after another.
+use Rattle.std.proofs.Common.{◌≡◌, ℕ, zero, suc, ◌+◌, ◌≤◌, List, [], ◌∷◌, length, Option, Some, None, Bool, true, false, refl, sym, ap, ◌∙◌, arith, length-drop, if◌then◌else◌}
+use Rattle.std.specs.List.{prefix_len}
+use Rattle.office_map.specs.Text.{is_blank, is_name_byte}
+use Rattle.session_language.specs.declared.lexer.Symbol.{Symbol}
+use Rattle.session_language.specs.Lexer.{Piece, symbol_at, long_symbol, piece_at, pieces_in, pieces_of}
+
+symbol_shorter : (o : Option Symbol) (b : ℕ) (bs : List ℕ) → length (symbol_at o b bs).1 ≤ length bs
+symbol_shorter (Some s) b bs = omega (arith, length-drop 1 bs)
+symbol_shorter None b bs = omega arith
+
+word_or_symbol : (v : Bool) (b : ℕ) (bs : List ℕ) → is_name_byte b ≡ v → length (piece_at b bs).1 ≤ length bs
+word_or_symbol true b bs h = rw h (omega (arith, length-drop (1 + prefix_len is_name_byte bs) (b ∷ bs)))
+word_or_symbol false b bs h = rw h (symbol_shorter (long_symbol b bs) b bs)
+
+pub piece_shorter : (b : ℕ) (bs : List ℕ) → length (piece_at b bs).1 ≤ length bs
+piece_shorter b bs = word_or_symbol (is_name_byte b) b bs refl
+
+-- any fuel that is enough gives the same
+pub enough : (m n : ℕ) (bs : List ℕ) → length bs ≤ m → length bs ≤ n → pieces_in m bs ≡ pieces_in n bs
+enough zero zero bs h k = refl
+enough zero (suc n) [] h k = refl
+enough zero (suc n) (b ∷ bs) h k = absurd (omega arith)
+enough (suc m) zero [] h k = refl
+enough (suc m) zero (b ∷ bs) h k = absurd (omega arith)
+enough (suc m) (suc n) [] h k = refl
+enough (suc m) (suc n) (b ∷ bs) h k =
+    let shorter = piece_shorter b bs in
+    by_blank (is_blank b) (enough m n bs (omega arith) (omega arith)) (enough m n (piece_at b bs).1 (omega arith) (omega arith))
+  where
+    by_blank : (v : Bool) → pieces_in m bs ≡ pieces_in n bs → pieces_in m (piece_at b bs).1 ≡ pieces_in n (piece_at b bs).1
+        → (if v then pieces_in m bs else (piece_at b bs).0 ∷ pieces_in m (piece_at b bs).1) ≡ (if v then pieces_in n bs else (piece_at b bs).0 ∷ pieces_in n (piece_at b bs).1)
+    by_blank true e f = e
+    by_blank false e f = ap (λ ps. (piece_at b bs).0 ∷ ps) f
+
+pub pieces_of-nil : pieces_of [] ≡ []
+unfolding pieces_of
+pieces_of-nil = refl
+
+pub pieces_of-blank : (b : ℕ) (bs : List ℕ) → is_blank b ≡ true → pieces_of (b ∷ bs) ≡ pieces_of bs
+unfolding pieces_of
+pieces_of-blank b bs h = rw h refl
+
+pub pieces_of-piece : (b : ℕ) (bs : List ℕ) → is_blank b ≡ false → pieces_of (b ∷ bs) ≡ (piece_at b bs).0 ∷ pieces_of (piece_at b bs).1
+unfolding pieces_of
+pieces_of-piece b bs h =
+    let e = enough (length bs) (length (piece_at b bs).1) (piece_at b bs).1 (piece_shorter b bs) (omega arith) in
+    rw h (ap (λ ps. (piece_at b bs).0 ∷ ps) e)
+
+-- what is left of a line, past a blank and at a piece
+pub past_blank : (rest : List ℕ) (b : ℕ) (bs : List ℕ) (all : List Piece) → rest ≡ b ∷ bs → is_blank b ≡ true → pieces_of rest ≡ all → pieces_of bs ≡ all
+past_blank rest b bs all is blank so_far = sym (ap pieces_of is ∙ pieces_of-blank b bs blank) ∙ so_far
+
+pub at_piece : (rest : List ℕ) (b : ℕ) (bs : List ℕ) (all : List Piece) (p : Piece) (left : List ℕ) → rest ≡ b ∷ bs → is_blank b ≡ false → (p, left) ≡ piece_at b bs → pieces_of rest ≡ all → all ≡ p ∷ pieces_of left
+at_piece rest b bs all p left is blank found so_far =
+    let one : pieces_of rest ≡ p ∷ pieces_of left = ap pieces_of is ∙ pieces_of-piece b bs blank ∙ ap (λ (x : Piece × List ℕ). x.0 ∷ pieces_of x.1) (sym found) in
+    sym so_far ∙ one
+
+pub at_end : (rest : List ℕ) (all : List Piece) → length rest ≡ 0 → pieces_of rest ≡ all → all ≡ []
+at_end [] all h so_far = sym so_far ∙ pieces_of-nil
+at_end (b ∷ bs) all h so_far = absurd (omega arith)

@@ -1,0 +1,6 @@
+use Rattle.std.proofs.Common.{◌≡◌, ◌++◌, replicate}
+use Rattle.session_language.specs.declared.node.Node.TheVariants.{Negate}
+use Rattle.session_language.proofs.builder.push_negations.Given as goal
+
+abbrev pub invariant-loop : goal.invariant-loop
+invariant-loop l = l.nodes.items ≡ l.fn.nodes.items ++ replicate l.counter Negate

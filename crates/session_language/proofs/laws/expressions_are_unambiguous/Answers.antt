@@ -1,0 +1,5 @@
+use Rattle.session_language.proofs.Lawful.{unambiguous}
+use Rattle.session_language.proofs.laws.expressions_are_unambiguous.Goals as goal
+
+pub returns : goal.returns
+returns c = unambiguous

@@ -1,0 +1,5 @@
+use Rattle.session_language.proofs.Lawful.{a_line}
+use Rattle.session_language.proofs.laws.refuses_a_line.Goals as goal
+
+pub returns : goal.returns
+returns c = a_line

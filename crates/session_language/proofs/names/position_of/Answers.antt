@@ -1,0 +1,12 @@
+use Rattle.std.proofs.Common.{rules, tests, sym, ◌∙◌}
+use Rattle.std.specs.Str.{bytes_eq}
+use Rattle.std.specs.String.{string_bytes}
+use Rattle.std.proofs.lemmas.Iterator.{YieldsList-from_slice}
+use Rattle.std.proofs.lemmas.Iterator.Search.{position_from_yields_List}
+use Rattle.session_language.proofs.Places.{position-map}
+use Rattle.session_language.proofs.names.position_of.Goals as goal
+
+pub returns : goal.returns
+returns c =
+    let found = position_from_yields_List (λ v. bytes_eq (string_bytes v) c.args.name.now) _ _ c.position.result c.position.ensures.ran (YieldsList-from_slice c.args.names.now (cc)) (λ x b q k. search (rules, tests)) in
+    found ∙ sym (position-map (λ v. bytes_eq v c.args.name.now) string_bytes c.args.names.now)

@@ -1,0 +1,127 @@
+-- The forms of a line of sessions.
+use Rattle.std.specs.Prelude.{ℕ, List, [], ◌∷◌, Option, Some, None, if◌then◌else◌, nat_lt, option_map, option_and_then, codes}
+use Rattle.std.specs.Str.{bytes_eq}
+use Rattle.office_map.specs.Text.{name_of, number_of}
+use Rattle.session_language.specs.declared.node.Comparison.{Comparison}
+use Rattle.session_language.specs.declared.node.Comparison.TheVariants.{Equal, NotEqual, Less, AtMost, Greater, AtLeast}
+use Rattle.session_language.specs.declared.lexer.Symbol.{Symbol}
+use Rattle.session_language.specs.declared.lexer.Symbol.TheVariants as symbol
+use Rattle.session_language.specs.declared.keyword.Keyword.{Keyword}
+use Rattle.session_language.specs.declared.keyword.Keyword.TheVariants.{Session, Let, Set, Give, Require, End, Other}
+use Rattle.session_language.specs.Lexer.{Piece, AWord, ASymbol}
+use Rattle.session_language.specs.Phrase.{Phrase, phrase_at}
+
+-- a statement, its names still text
+pub data Said : Type 0 where
+  Lets : (name : List ℕ) (e : Phrase) → Said
+  Sets : (name : List ℕ) (e : Phrase) → Said
+  Gives : (e : Phrase) → Said
+  Demands : (left : Phrase) (comparison : Comparison) (right : Phrase) (code : ℕ) → Said
+
+pub data Form : Type 0 where
+  Opens : (office : List ℕ) → Form
+  Says : (s : Said) → Form
+  Closes : Form
+
+abbrev pub keyword_of : List ℕ → Keyword
+keyword_of w =
+    if bytes_eq w (codes "session") then Session else if bytes_eq w (codes "let") then Let else if bytes_eq w (codes "set") then Set
+    else if bytes_eq w (codes "give") then Give else if bytes_eq w (codes "require") then Require else if bytes_eq w (codes "end") then End else Other
+
+abbrev pub comparison_of : Symbol → Option Comparison
+comparison_of symbol.Equal = Some Equal
+comparison_of symbol.NotEqual = Some NotEqual
+comparison_of symbol.Less = Some Less
+comparison_of symbol.AtMost = Some AtMost
+comparison_of symbol.Greater = Some Greater
+comparison_of symbol.AtLeast = Some AtLeast
+comparison_of symbol.Assign = None
+comparison_of symbol.Plus = None
+comparison_of symbol.Minus = None
+comparison_of symbol.Times = None
+comparison_of symbol.Open = None
+comparison_of symbol.Close = None
+
+-- a name, and nothing after it
+abbrev pub name_alone : List Piece → Option (List ℕ)
+name_alone (AWord w ∷ []) = name_of w
+name_alone ps = None
+
+-- an expression, and nothing after it
+abbrev pub ends_there : Phrase × List Piece → Option Phrase
+ends_there (e, []) = Some e
+ends_there (e, p ∷ ps) = None
+
+abbrev pub phrase_alone : List Piece → Option Phrase
+phrase_alone ps = option_and_then ends_there (phrase_at ps)
+
+abbrev pub if_named : Option (List ℕ) → Option Phrase → Option (List ℕ × Phrase)
+if_named (Some name) e = option_map (λ x. (name, x)) e
+if_named None e = None
+
+-- NAME = expression
+abbrev pub assigned : List Piece → Option (List ℕ × Phrase)
+assigned (AWord w ∷ ASymbol symbol.Assign ∷ ps) = if_named (name_of w) (phrase_alone ps)
+assigned ps = None
+
+abbrev pub small_code : Option ℕ → Option ℕ
+small_code None = None
+small_code (Some n) = if nat_lt n 65536 then Some n else None
+
+-- else CODE, and nothing after it
+abbrev pub else_code : List Piece → Option ℕ
+else_code (AWord w ∷ AWord code ∷ []) = if bytes_eq w (codes "else") then small_code (number_of code) else None
+else_code ps = None
+
+abbrev pub demand : Phrase → Comparison → Phrase × List Piece → Option Said
+demand left c x = option_map (Demands left c x.0) (else_code x.1)
+
+abbrev pub compared : Phrase → Option Comparison → List Piece → Option Said
+compared left None ps = None
+compared left (Some c) ps = option_and_then (demand left c) (phrase_at ps)
+
+abbrev pub after_left : Phrase × List Piece → Option Said
+after_left (left, ASymbol s ∷ ps) = compared left (comparison_of s) ps
+after_left (left, ps) = None
+
+-- expression comparison expression else CODE
+abbrev pub requirement : List Piece → Option Said
+requirement ps = option_and_then after_left (phrase_at ps)
+
+abbrev pub if_empty : Form → List Piece → Option Form
+if_empty f [] = Some f
+if_empty f (p ∷ ps) = None
+
+-- what stands after the first word
+abbrev pub said_after : Keyword → List Piece → Option Said
+said_after Let ps = option_map (λ x. Lets x.0 x.1) (assigned ps)
+said_after Set ps = option_map (λ x. Sets x.0 x.1) (assigned ps)
+said_after Give ps = option_map Gives (phrase_alone ps)
+said_after Require ps = requirement ps
+said_after Session ps = None
+said_after End ps = None
+said_after Other ps = None
+
+abbrev pub form_after : Keyword → List Piece → Option Form
+form_after Session ps = option_map Opens (name_alone ps)
+form_after End ps = if_empty Closes ps
+form_after Let ps = option_map Says (said_after Let ps)
+form_after Set ps = option_map Says (said_after Set ps)
+form_after Give ps = option_map Says (said_after Give ps)
+form_after Require ps = option_map Says (said_after Require ps)
+form_after Other ps = None
+
+-- the form of a line, if it has one
+abbrev pub form_of : List Piece → Option Form
+form_of (AWord w ∷ ps) = form_after (keyword_of w) ps
+form_of ps = None
+
+-- a keyword that begins neither the first line of a session nor the last
+abbrev pub IsStatement : Keyword → Type 0
+IsStatement Session = ⊥
+IsStatement End = ⊥
+IsStatement Let = Unit {0}
+IsStatement Set = Unit {0}
+IsStatement Give = Unit {0}
+IsStatement Require = Unit {0}
+IsStatement Other = Unit {0}

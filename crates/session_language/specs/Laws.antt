@@ -1,0 +1,56 @@
+-- Laws of the definitions that contracts cite.
+use Rattle.std.specs.Prelude.{◌≡◌, ◌≤◌, ◌+◌, ℕ, List, [], ◌∷◌, ◌++◌, length, map, All, Contains, Some, Ok, Err}
+use Rattle.std.specs.Result.{MatchResult}
+use Rattle.bottle_values.specs.declared.Value.{Value}
+use Rattle.office_map.specs.PlanValue.{PlanValue}
+use Rattle.office_map.specs.Text.{lines}
+use Rattle.session_language.specs.declared.fault.Refusal.{Refusal}
+use Rattle.session_language.specs.ProgramValue.{ProgramValue}
+use Rattle.session_language.specs.Spelling.{Spelled, Token}
+use Rattle.session_language.specs.Parse.{read_part}
+use Rattle.session_language.specs.Grammar.{IsExpr}
+use Rattle.session_language.specs.Reading.{Reading, take_line, at_line, read_lines, sessions_of}
+use Rattle.session_language.specs.Meaning.{alone}
+
+-- these lines are accepted one after the other, from x on, and leave y
+abbrev pub Lead : PlanValue → Reading → List (ℕ × List ℕ) → Reading → Type 0
+Lead p x [] y = x ≡ y
+Lead p x (l ∷ ls) y = (next : Reading) × (at_line l.0 (take_line p x l.1) ≡ Ok next) × Lead p next ls y
+
+-- a line is refused, and all before it are accepted
+pub record IsFirstFault (p : PlanValue) (x : Reading) (lines : List (ℕ × List ℕ)) (f : Refusal) : Type 0 where
+  pub before : List (ℕ × List ℕ)
+  pub line : ℕ × List ℕ
+  pub after : List (ℕ × List ℕ)
+  pub split : lines ≡ before ++ line ∷ after
+  pub reached : Reading
+  pub accepted : Lead p x before reached
+  pub refused : at_line line.0 (take_line p reached line.1) ≡ Err f
+
+-- reading the lines is this, and nothing else
+abbrev pub ReadsInOrder : Type 0
+ReadsInOrder = (p : PlanValue) (x : Reading) (lines : List (ℕ × List ℕ)) → MatchResult (read_lines p x lines) (Lead p x lines) (IsFirstFault p x lines)
+
+-- a refusal is of the whole text (0), of one of its lines, or of the end after them
+abbrev pub RefusesALine : Type 0
+RefusesALine = (p : PlanValue) (text : List ℕ) → MatchResult (sessions_of p text) (λ (ps : List ProgramValue). Unit {0}) (λ (f : Refusal). f.line ≤ length (lines text) + 1)
+
+-- an expression is read exactly where the grammar has it, as that tree and as deep
+pub record IsReadBy (ts : List Token) (e : Spelled) (d : ℕ) : Type 0 where
+  pub read : IsExpr ts e d → read_part ts ≡ Some (record { tree = e; depth = d })
+  pub spelled : read_part ts ≡ Some (record { tree = e; depth = d }) → IsExpr ts e d
+
+abbrev pub ReadsTheGrammar : Type 0
+ReadsTheGrammar = (ts : List Token) (e : Spelled) (d : ℕ) → IsReadBy ts e d
+
+-- no tokens spell two trees
+abbrev pub IsUnambiguous : Type 0
+IsUnambiguous = (ts : List Token) (e f : Spelled) (c d : ℕ) → IsExpr ts e c → IsExpr ts f d → (e ≡ f) × (c ≡ d)
+
+-- a session writes records whose values it was given, and no others
+abbrev pub WritesWhatItHas : Type 0
+WritesWhatItHas = (p : ProgramValue) (reads : List (ℕ × Value)) → All (λ w. Contains (map (λ x. x.0) reads) w.0) (alone p reads).writes
+
+-- however it ends, it tells the values that it was given
+abbrev pub TellsWhatItRead : Type 0
+TellsWhatItRead = (p : ProgramValue) (reads : List (ℕ × Value)) → (alone p reads).reads ≡ reads

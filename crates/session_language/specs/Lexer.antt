@@ -1,0 +1,64 @@
+-- A line cut into words and symbols, the longest each time.
+use Rattle.std.specs.Prelude.{ℕ, zero, suc, List, [], ◌∷◌, length, take, drop, Bool, false, ◌==◌, Option, Some, None, if◌then◌else◌}
+use Rattle.std.specs.List.{prefix_len}
+use Rattle.office_map.specs.Text.{is_blank, is_name_byte}
+use Rattle.session_language.specs.declared.lexer.Symbol.{Symbol}
+use Rattle.session_language.specs.declared.lexer.Symbol.TheVariants.{Assign, Equal, NotEqual, Less, AtMost, Greater, AtLeast, Plus, Minus, Times, Open, Close}
+use Rattle.session_language.specs.declared.lexer.Piece as code
+use Rattle.session_language.specs.declared.lexer.Piece.TheVariants as pieces
+
+pub data Piece : Type 0 where
+  AWord : (bytes : List ℕ) → Piece
+  ASymbol : (s : Symbol) → Piece
+  -- a byte that begins neither
+  AStray : Piece
+
+abbrev pub seen : code.Piece → Piece
+seen (pieces.Word bytes) = AWord bytes.now
+seen (pieces.Symbol s) = ASymbol s
+seen pieces.Stray = AStray
+
+abbrev pub begins_equals : List ℕ → Bool
+begins_equals [] = false
+begins_equals (b ∷ bs) = b == 61
+
+-- the symbol of one byte, and that of a byte and =
+abbrev pub one_byte : ℕ → Option Symbol
+one_byte b =
+    if b == 61 then Some Assign else if b == 60 then Some Less else if b == 62 then Some Greater
+    else if b == 43 then Some Plus else if b == 45 then Some Minus else if b == 42 then Some Times
+    else if b == 40 then Some Open else if b == 41 then Some Close else None
+
+abbrev pub two_bytes : ℕ → Option Symbol
+two_bytes b = if b == 61 then Some Equal else if b == 33 then Some NotEqual else if b == 60 then Some AtMost else if b == 62 then Some AtLeast else None
+
+abbrev pub symbol_or_stray : Option Symbol → Piece
+symbol_or_stray (Some s) = ASymbol s
+symbol_or_stray None = AStray
+
+-- a symbol of two bytes where there is one, and else of one
+abbrev pub symbol_at : Option Symbol → ℕ → List ℕ → Piece × List ℕ
+symbol_at (Some s) b bs = (ASymbol s, drop 1 bs)
+symbol_at None b bs = (symbol_or_stray (one_byte b), bs)
+
+abbrev pub long_symbol : ℕ → List ℕ → Option Symbol
+long_symbol b bs = if begins_equals bs then two_bytes b else None
+
+-- how many bytes the word at the front has
+abbrev pub word_len : List ℕ → ℕ
+word_len = prefix_len is_name_byte
+
+-- the piece that begins with the byte b, and what follows it
+abbrev pub piece_at : ℕ → List ℕ → Piece × List ℕ
+piece_at b bs =
+    if is_name_byte b then (AWord (take (word_len (b ∷ bs)) (b ∷ bs)), drop (word_len (b ∷ bs)) (b ∷ bs))
+    else symbol_at (long_symbol b bs) b bs
+
+-- each step takes a byte at least, so n is enough where it is the length
+abbrev pub pieces_in : ℕ → List ℕ → List Piece
+pieces_in zero bs = []
+pieces_in (suc n) [] = []
+pieces_in (suc n) (b ∷ bs) = if is_blank b then pieces_in n bs else (piece_at b bs).0 ∷ pieces_in n (piece_at b bs).1
+
+unfoldable pub pieces_of : List ℕ → List Piece
+pieces_of line = pieces_in (length line) line

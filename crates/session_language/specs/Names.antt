@@ -1,0 +1,95 @@
+-- What the names of an expression stand for where its line stands.
+use Rattle.std.specs.Prelude.{ℕ, pos, List, Option, Some, None, Bool, true, is_some, position, unwrap_or, if◌then◌else◌, map}
+use Rattle.std.specs.List.{list_all}
+use Rattle.std.specs.Str.{bytes_eq}
+use Rattle.std.specs.String.{string_bytes}
+use Rattle.office_map.specs.PlanValue.{PlanValue, record_named, is_end}
+use Rattle.session_language.specs.declared.node.Node.{Node}
+use Rattle.session_language.specs.declared.node.Node.TheVariants.{Literal, Variable, Read}
+use Rattle.session_language.specs.declared.builder.Element.{Element}
+use Rattle.session_language.specs.declared.builder.Element.TheVariants as element
+use Rattle.session_language.specs.declared.scope.Scope as code
+use Rattle.session_language.specs.declared.names.Placed.{Placed}
+use Rattle.session_language.specs.Tree.{Term, Constant, Var, ReadOf, Neg, Bin}
+use Rattle.session_language.specs.Spelling.{Operand, ANumber, AVariable, ARecord, Spelled, Plain, Negative, Binary, Token, Leaf, Plus, Minus, Times, Open, Close}
+
+-- the plan, the session's office, and the variables that earlier lines name
+pub record Scope : Type 0 where
+  pub plan : PlanValue
+  pub office : ℕ
+  pub variables : List (List ℕ)
+
+abbrev pub scope_of : code.Scope → Scope
+scope_of s = record { plan = s.plan.now; office = s.office; variables = map string_bytes s.variables.now }
+
+abbrev pub variable_named : Scope → List ℕ → Option ℕ
+variable_named s name = position (λ v. bytes_eq v name) s.variables
+
+abbrev pub if_of_office : Scope → Option ℕ → Option ℕ
+if_of_office s None = None
+if_of_office s (Some r) = if is_end s.plan r s.office then Some r else None
+
+-- the record of this name, if it is of the session's office
+abbrev pub record_of : Scope → List ℕ → Option ℕ
+record_of s name = if_of_office s (record_named s.plan name)
+
+abbrev pub knows_variable : Scope → Operand → Bool
+knows_variable s (ANumber n) = true
+knows_variable s (AVariable name) = is_some (variable_named s name)
+knows_variable s (ARecord name) = true
+
+abbrev pub knows_record : Scope → Operand → Bool
+knows_record s (ANumber n) = true
+knows_record s (AVariable name) = true
+knows_record s (ARecord name) = is_some (record_of s name)
+
+-- an unknown name is at place 0
+abbrev pub node_of : Scope → Operand → Node
+node_of s (ANumber n) = Literal (record { number = pos n })
+node_of s (AVariable name) = Variable (unwrap_or (variable_named s name) 0)
+node_of s (ARecord name) = Read (unwrap_or (record_of s name) 0)
+
+abbrev pub operand_of : Scope → Operand → Term
+operand_of s (ANumber n) = Constant (record { number = pos n })
+operand_of s (AVariable name) = Var (unwrap_or (variable_named s name) 0)
+operand_of s (ARecord name) = ReadOf (unwrap_or (record_of s name) 0)
+
+-- the expression, each name in its place
+abbrev pub placed : Scope → Spelled → Term
+placed s (Plain x) = operand_of s x
+placed s (Negative e) = Neg (placed s e)
+placed s (Binary o a b) = Bin o (placed s a) (placed s b)
+
+abbrev pub element_of : Scope → Token → Element
+element_of s (Leaf x) = element.Operand (node_of s x)
+element_of s Plus = element.Plus
+element_of s Minus = element.Minus
+element_of s Times = element.Times
+element_of s Open = element.Open
+element_of s Close = element.Close
+
+abbrev pub token_variable : Scope → Token → Bool
+token_variable s (Leaf x) = knows_variable s x
+token_variable s Plus = true
+token_variable s Minus = true
+token_variable s Times = true
+token_variable s Open = true
+token_variable s Close = true
+
+abbrev pub token_record : Scope → Token → Bool
+token_record s (Leaf x) = knows_record s x
+token_record s Plus = true
+token_record s Minus = true
+token_record s Times = true
+token_record s Open = true
+token_record s Close = true
+
+abbrev pub knows_variables : Scope → List Token → Bool
+knows_variables s = list_all (token_variable s)
+
+abbrev pub knows_records : Scope → List Token → Bool
+knows_records s = list_all (token_record s)
+
+-- all that the code keeps of a token
+abbrev pub placed_of : Scope → Token → Placed
+placed_of s t = record { element = element_of s t; knows_variable = token_variable s t; knows_record = token_record s t }

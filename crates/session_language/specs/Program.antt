@@ -1,0 +1,18 @@
+-- What is asked of a whole program: whether it fits a plan, and its canonical text under that plan.
+use Rattle.std.specs.Prelude.{ℕ, List, [], length, Bool, ◌&&◌, nat_lt, unwrap_or}
+use Rattle.std.specs.List.{list_all}
+use Rattle.office_map.specs.PlanValue.{PlanValue, is_end, office_name_of, record_name_of}
+use Rattle.session_language.specs.ProgramValue.{ProgramValue}
+use Rattle.session_language.specs.Needs.{needs_of}
+use Rattle.session_language.specs.Text.{Words, session_text}
+
+-- its office is the plan's, and each record that it needs is of that office
+abbrev pub fits : PlanValue → ProgramValue → Bool
+fits p x = nat_lt x.office (length p.offices) && list_all (λ r. is_end p r x.office) (needs_of x.body)
+
+-- the plan's names, and the program's own
+abbrev pub words_under : PlanValue → ProgramValue → Words
+words_under p x = record { office = unwrap_or (office_name_of p x.office) []; variables = x.variables; record_name = λ r. unwrap_or (record_name_of p r) [] }
+
+abbrev pub text_under : PlanValue → ProgramValue → List ℕ
+text_under p x = session_text (words_under p x) x.body

@@ -1,0 +1,191 @@
+-- What a text of sessions means under a plan, line by line, and which is its first fault.
+use Rattle.std.specs.Prelude.{ℕ, ◌+◌, List, [], ◌∷◌, ◌++◌, length, Bool, not, ◌&&◌, ◌||◌, nat_lt, nat_le, is_some, Option, Some, None, Result, Ok, Err, if◌then◌else◌, position, unwrap_or}
+use Rattle.std.specs.Option.{ok_or}
+use Rattle.std.specs.Str.{bytes_eq}
+use Rattle.office_map.specs.PlanValue.{PlanValue, office_named}
+use Rattle.office_map.specs.PlanText.{◌>>=◌, ◌>>◌, refuse_if}
+use Rattle.office_map.specs.Text.{lines, statements}
+use Rattle.session_language.specs.declared.fault.Rule.{Rule}
+use Rattle.session_language.specs.declared.fault.Rule.TheVariants.{Syntax, UnknownName, UnknownRecord, TooDeep, TooLong, TooManyRecords, TooManyGives, TooManyVariables}
+use Rattle.session_language.specs.declared.fault.Refusal.{Refusal}
+use Rattle.session_language.specs.Tree.{Term, Test, Command, LetVar, SetTo, GiveOf, Requires}
+use Rattle.session_language.specs.Shape.{block_from}
+use Rattle.session_language.specs.ProgramValue.{ProgramValue}
+use Rattle.session_language.specs.Names.{Scope, placed, record_of, knows_variables, knows_records}
+use Rattle.session_language.specs.Needs.{needs_of}
+use Rattle.session_language.specs.Measures.{block_statements, block_cost, block_gives}
+use Rattle.session_language.specs.Text.{session_text, wide_words}
+use Rattle.session_language.specs.declared.keyword.Keyword.{Keyword}
+use Rattle.session_language.specs.Lexer.{Piece, pieces_of}
+use Rattle.session_language.specs.Form.{Said, Lets, Sets, Gives, Demands, Form, Opens, Says, Closes, form_of, form_after}
+
+-- a session that is open: its office, its variables, and the statements so far
+pub record Draft : Type 0 where
+  pub office : ℕ
+  pub variables : List (List ℕ)
+  pub body : List Command
+
+-- the sessions that are closed, and the one that is open
+pub record Reading : Type 0 where
+  pub done : List ProgramValue
+  pub open_session : Option Draft
+
+abbrev pub scope_in : PlanValue → Draft → Scope
+scope_in p d = record { plan = p; office = d.office; variables = d.variables }
+
+-- a statement with its names in their places; a variable that is let is still text
+pub data Spoken : Type 0 where
+  SpeaksLet : (name : List ℕ) (e : Term) → Spoken
+  SpeaksSet : (r : ℕ) (e : Term) → Spoken
+  SpeaksGive : (e : Term) → Spoken
+  SpeaksDemand : (t : Test) (code : ℕ) → Spoken
+
+abbrev pub spoken_of : Scope → Said → Spoken
+spoken_of s (Lets name e) = SpeaksLet name (placed s e.tree)
+spoken_of s (Sets name e) = SpeaksSet (unwrap_or (record_of s name) 0) (placed s e.tree)
+spoken_of s (Gives e) = SpeaksGive (placed s e.tree)
+spoken_of s (Demands l c r code) = SpeaksDemand (record { left = placed s l.tree; comparison = c; right = placed s r.tree }) code
+
+abbrev pub are_variables_known : Scope → Said → Bool
+are_variables_known s (Lets name e) = knows_variables s e.tokens
+are_variables_known s (Sets name e) = knows_variables s e.tokens
+are_variables_known s (Gives e) = knows_variables s e.tokens
+are_variables_known s (Demands l c r code) = knows_variables s l.tokens && knows_variables s r.tokens
+
+abbrev pub are_records_known : Scope → Said → Bool
+are_records_known s (Lets name e) = knows_records s e.tokens
+are_records_known s (Sets name e) = is_some (record_of s name) && knows_records s e.tokens
+are_records_known s (Gives e) = knows_records s e.tokens
+are_records_known s (Demands l c r code) = knows_records s l.tokens && knows_records s r.tokens
+
+abbrev pub is_too_deep : Said → Bool
+is_too_deep (Lets name e) = nat_lt 32 e.depth
+is_too_deep (Sets name e) = nat_lt 32 e.depth
+is_too_deep (Gives e) = nat_lt 32 e.depth
+is_too_deep (Demands l c r code) = nat_lt 32 l.depth || nat_lt 32 r.depth
+
+-- the statement, or the first refusal of its names and depth
+abbrev pub speak : Scope → Said → Result Spoken Rule
+speak s said = do
+  refuse_if (not (are_variables_known s said)) UnknownName
+  refuse_if (not (are_records_known s said)) UnknownRecord
+  refuse_if (is_too_deep said) TooDeep
+  Ok (spoken_of s said)
+
+-- the variables, with one more unless it is there
+abbrev pub with_variable : List ℕ → List (List ℕ) → List (List ℕ)
+with_variable name variables = if is_some (position (λ v. bytes_eq v name) variables) then variables else variables ++ name ∷ []
+
+abbrev pub place_of : List ℕ → List (List ℕ) → ℕ
+place_of name variables = unwrap_or (position (λ v. bytes_eq v name) variables) 0
+
+abbrev pub variables_after : List (List ℕ) → Spoken → List (List ℕ)
+variables_after variables (SpeaksLet name e) = with_variable name variables
+variables_after variables (SpeaksSet r e) = variables
+variables_after variables (SpeaksGive e) = variables
+variables_after variables (SpeaksDemand t code) = variables
+
+-- the statement, where these are the variables
+abbrev pub command_in : List (List ℕ) → Spoken → Command
+command_in variables (SpeaksLet name e) = LetVar (place_of name variables) e
+command_in variables (SpeaksSet r e) = SetTo r e
+command_in variables (SpeaksGive e) = GiveOf e
+command_in variables (SpeaksDemand t code) = Requires t code
+
+abbrev pub with_command : Draft → List (List ℕ) → Command → Draft
+with_command d variables c = record { office = d.office; variables = variables; body = d.body ++ c ∷ [] }
+
+abbrev pub within_limits : Draft → Result Draft Rule
+within_limits d = do
+  refuse_if (nat_lt 16 (length (needs_of (block_from d.body)))) TooManyRecords
+  refuse_if (nat_lt 32 (length d.variables)) TooManyVariables
+  Ok d
+
+abbrev pub add : Draft → Spoken → Result Draft Rule
+add d x = within_limits (with_command d (variables_after d.variables x) (command_in (variables_after d.variables x) x))
+
+abbrev pub program_of : Draft → ProgramValue
+program_of d = record { office = d.office; variables = d.variables; body = block_from d.body }
+
+-- past one of the limits of a session's length
+abbrev pub is_too_long : ProgramValue → Bool
+is_too_long p = (nat_lt 256 (block_statements p.body) || nat_lt 10000 (block_cost p.body)) || nat_lt 16384 (length (session_text (wide_words p.variables) p.body))
+
+-- a session that is closed
+abbrev pub closed : Draft → Result ProgramValue Rule
+closed d = do
+  refuse_if (is_too_long (program_of d)) TooLong
+  refuse_if (nat_lt 64 (block_gives (block_from d.body))) TooManyGives
+  Ok (program_of d)
+
+abbrev pub begun : ℕ → Draft
+begun office = record { office = office; variables = []; body = [] }
+
+abbrev pub with_open : Reading → Draft → Reading
+with_open x d = record { done = x.done; open_session = Some d }
+
+abbrev pub with_closed : Reading → ProgramValue → Reading
+with_closed x p = record { done = x.done ++ p ∷ []; open_session = None }
+
+-- a line of each form; one that can't stand where it stands is a fault of syntax
+abbrev pub take_opening : PlanValue → Reading → Option Draft → List ℕ → Result Reading Rule
+take_opening p x (Some d) name = Err Syntax
+take_opening p x None name = do
+  office ← ok_or (office_named p name) UnknownName
+  refuse_if (nat_le 1024 (length x.done)) TooLong
+  Ok (with_open x (begun office))
+
+abbrev pub take_statement : PlanValue → Reading → Option Draft → Said → Result Reading Rule
+take_statement p x None said = Err Syntax
+take_statement p x (Some d) said = do
+  spoken ← speak (scope_in p d) said
+  next ← add d spoken
+  Ok (with_open x next)
+
+abbrev pub take_closing : Reading → Option Draft → Result Reading Rule
+take_closing x None = Err Syntax
+take_closing x (Some d) = do
+  program ← closed d
+  Ok (with_closed x program)
+
+abbrev pub take_form : PlanValue → Reading → Form → Result Reading Rule
+take_form p x (Opens name) = take_opening p x x.open_session name
+take_form p x (Says said) = take_statement p x x.open_session said
+take_form p x Closes = take_closing x x.open_session
+
+abbrev pub take_formed : PlanValue → Reading → Option Form → Result Reading Rule
+take_formed p x form = ok_or form Syntax >>= take_form p x
+
+abbrev pub take_line : PlanValue → Reading → List ℕ → Result Reading Rule
+take_line p x line = take_formed p x (form_of (pieces_of line))
+
+-- what stands after the first word of a line
+abbrev pub take_after : PlanValue → Reading → Keyword → List Piece → Result Reading Rule
+take_after p x k ps = take_formed p x (form_after k ps)
+
+abbrev pub at_line : {A : Type 0} → ℕ → Result A Rule → Result A Refusal
+at_line n (Ok x) = Ok x
+at_line n (Err rule) = Err (record { rule = rule; line = n })
+
+-- each line in order, on what those before it leave
+abbrev pub read_lines : PlanValue → Reading → List (ℕ × List ℕ) → Result Reading Refusal
+read_lines p x [] = Ok x
+read_lines p x (l ∷ ls) = at_line l.0 (take_line p x l.1) >>= λ y. read_lines p y ls
+
+abbrev pub nothing_read : Reading
+nothing_read = record { done = []; open_session = None }
+
+-- all sessions are closed; else the fault is past the last line
+abbrev pub unless_open : ℕ → List ProgramValue → Option Draft → Result (List ProgramValue) Refusal
+unless_open count ps None = Ok ps
+unless_open count ps (Some d) = Err (record { rule = Syntax; line = count + 1 })
+
+abbrev pub all_closed : ℕ → Reading → Result (List ProgramValue) Refusal
+all_closed count x = unless_open count x.done x.open_session
+
+-- The programs that a text means under a plan, or its first fault.
+unfoldable pub sessions_of : PlanValue → List ℕ → Result (List ProgramValue) Refusal
+sessions_of p text = do
+  refuse_if (nat_lt 1048576 (length text)) (record { rule = TooLong; line = 0 })
+  x ← read_lines p nothing_read (statements text)
+  all_closed (length (lines text)) x

@@ -1,0 +1,212 @@
+//! An expression in postfix order, built from its tokens in one pass.
+
+ghost use Rattle.std.specs.Prelude.{◌≡◌, ◌+◌, ◌<◌, ◌≤◌, ◌^◌, ◌++◌, ◌∷◌, [], IfOk, OnOk, min, max, suc, replicate, if◌then◌else◌, Some};
+ghost use Rattle.session_language.specs.Emit.{build_of, emit, emit_wanting, emit_having, after_sign, joined_depth, sum_depth, sum_end, completed, HasRoom};
+
+use crate::node::{Node, Operator};
+use std::alloc::{AllocError, Global};
+
+/// A token whose names are known.
+#[derive(Clone, Copy, Debug)]
+pub enum Element {
+    Operand(Node),
+    Plus,
+    Minus,
+    Times,
+    Open,
+    Close,
+}
+
+/// The left operand of a sign that waits for the right one, by its depth.
+#[derive(Clone, Copy, Debug)]
+pub enum Sum {
+    Nothing,
+    Added(u8),
+    Taken(u8),
+}
+
+/// What stands before an operand since the last open parenthesis: a sum and its sign, a product
+/// and its star by its depth, and how many leading minuses.
+#[derive(Clone, Copy, Debug)]
+pub struct Level {
+    pub sum: Sum,
+    pub product: Option<u8>,
+    pub minuses: usize,
+}
+
+/// What may come next: an operand, or what follows one of this depth.
+#[derive(Clone, Copy, Debug)]
+pub enum Stage {
+    Wants(Level),
+    Has(Sum, u8),
+}
+
+/// An expression so far: the open parentheses, and the nodes whose operators have come. Depths are
+/// exact up to 32, and 33 past it.
+#[derive(Drop)]
+pub struct Builder {
+    pub outer: Vec<Level>,
+    pub stage: Stage,
+    pub nodes: Vec<Node>,
+}
+
+impl Builder {
+    /// Takes one token. False where the grammar has no such token there.
+    pub fn take(&mut self, element: Element) -> Result<bool, AllocError>
+        requires { HasRoom self.old.stage }
+        ensures { IfOk result (λ ok. emit (build_of self.old) element ≡ (if ok then Some (build_of self.new) else None)) }
+    {
+        match self.stage {
+            Stage::Wants(level) => self.take_wanting(level, element),
+            Stage::Has(sum, depth) => self.take_having(sum, depth, element),
+        }
+    }
+}
+
+impl Builder {
+    fn take_wanting(&mut self, level: Level, element: Element) -> Result<bool, AllocError>
+        requires { level.minuses + 1 < 2 ^ 64 }
+        ensures { IfOk result (λ ok. emit_wanting (build_of self.old).outer level (build_of self.old).nodes element ≡ (if ok then Some (build_of self.new) else None)) }
+    {
+        match element {
+            Element::Operand(node) => {
+                self.nodes.push(node)?;
+                self.complete(level, 1)?;
+                Ok(true)
+            }
+            Element::Minus => {
+                self.stage = Stage::Wants(one_more_minus(level));
+                Ok(true)
+            }
+            Element::Open => {
+                self.outer.push(level)?;
+                self.stage = Stage::Wants(after_sign(Sum::Nothing));
+                Ok(true)
+            }
+            Element::Plus | Element::Times | Element::Close => Ok(false),
+        }
+    }
+
+    fn take_having(&mut self, sum: Sum, depth: u8, element: Element) -> Result<bool, AllocError>
+        ensures { IfOk result (λ ok. emit_having (build_of self.old).outer sum depth (build_of self.old).nodes element ≡ (if ok then Some (build_of self.new) else None)) }
+    {
+        match element {
+            Element::Plus => {
+                push_sum(&mut self.nodes, sum)?;
+                self.stage = Stage::Wants(after_sign(Sum::Added(sum_depth(sum, depth))));
+                Ok(true)
+            }
+            Element::Minus => {
+                push_sum(&mut self.nodes, sum)?;
+                self.stage = Stage::Wants(after_sign(Sum::Taken(sum_depth(sum, depth))));
+                Ok(true)
+            }
+            Element::Times => {
+                self.stage = Stage::Wants(Level {
+                    sum,
+                    product: Some(depth),
+                    minuses: 0,
+                });
+                Ok(true)
+            }
+            Element::Close => {
+                let Some(level) = self.outer.pop() else {
+                    return Ok(false);
+                };
+                push_sum(&mut self.nodes, sum)?;
+                self.complete(level, one_deeper(sum_depth(sum, depth)))?;
+                Ok(true)
+            }
+            Element::Operand(_) | Element::Open => Ok(false),
+        }
+    }
+
+    /// An operand of this depth is complete, whose nodes have been written.
+    fn complete(&mut self, level: Level, depth: u8) -> Result<(), AllocError>
+        ensures { OnOk result (build_of self.new ≡ completed (build_of self.old).outer level (build_of self.old).nodes depth) }
+    {
+        push_negations(&mut self.nodes, level.minuses)?;
+        let negated = negated_depth(level.minuses, depth);
+        match level.product {
+            None => self.stage = Stage::Has(level.sum, negated),
+            Some(left) => {
+                self.nodes.push(Node::Apply(Operator::Times))?;
+                self.stage = Stage::Has(level.sum, joined_depth(left, negated));
+            }
+        }
+        Ok(())
+    }
+}
+
+fn one_more_minus(level: Level) -> Level
+    requires { level.minuses + 1 < 2 ^ 64 }
+    ensures { result ≡ record level { minuses = suc level.minuses } }
+{
+    Level {
+        sum: level.sum,
+        product: level.product,
+        minuses: level.minuses + 1,
+    }
+}
+
+fn after_sign(sum: Sum) -> Level
+    ensures { result ≡ after_sign sum }
+{
+    Level {
+        sum,
+        product: None,
+        minuses: 0,
+    }
+}
+
+fn one_deeper(depth: u8) -> u8
+    ensures { result ≡ min 33 (suc depth) }
+{
+    if depth < 33 { depth + 1 } else { 33 }
+}
+
+fn joined_depth(a: u8, b: u8) -> u8
+    ensures { result ≡ joined_depth a b }
+{
+    one_deeper(a.max(b))
+}
+
+fn negated_depth(minuses: usize, depth: u8) -> u8
+    ensures { result ≡ min 33 (minuses + depth) }
+{
+    if minuses < 33 {
+        (minuses as u8 + depth.min(33)).min(33)
+    } else {
+        33
+    }
+}
+
+pub(crate) fn sum_depth(sum: Sum, depth: u8) -> u8
+    ensures { result ≡ sum_depth sum depth }
+{
+    match sum {
+        Sum::Nothing => depth,
+        Sum::Added(left) | Sum::Taken(left) => joined_depth(left, depth),
+    }
+}
+
+fn push_negations(nodes: &mut Vec<Node>, count: usize) -> Result<(), AllocError>
+    ensures { OnOk result (nodes.new.items ≡ nodes.old.items ++ replicate count Node.Negate) }
+{
+    for _ in 0..count {
+        nodes.push(Node::Negate)?;
+    }
+    Ok(())
+}
+
+/// Writes the operator of a sum whose right operand is complete.
+pub(crate) fn push_sum(nodes: &mut Vec<Node>, sum: Sum) -> Result<(), AllocError>
+    ensures { OnOk result (nodes.new.items ≡ nodes.old.items ++ sum_end sum) }
+{
+    match sum {
+        Sum::Nothing => {}
+        Sum::Added(_) => nodes.push(Node::Apply(Operator::Plus))?,
+        Sum::Taken(_) => nodes.push(Node::Apply(Operator::Minus))?,
+    }
+    Ok(())
+}

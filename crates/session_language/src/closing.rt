@@ -1,0 +1,71 @@
+//! Sessions that are closed.
+
+ghost use Rattle.std.specs.Prelude.{◌≡◌, IfOk, length, map};
+ghost use Rattle.std.specs.String.{string_bytes};
+ghost use Rattle.session_language.specs.Shape.{block_of};
+ghost use Rattle.session_language.specs.Text.{session_text, wide_words};
+ghost use Rattle.session_language.specs.Spoken.{Tells};
+ghost use Rattle.session_language.specs.Drafts.{draft_of};
+ghost use Rattle.session_language.specs.Reading.{closed, program_of, is_too_long};
+
+use crate::draft::Draft;
+use crate::fault::{Rule, Stop};
+use crate::listing::session_text;
+use crate::measures::{block_cost, block_gives, block_statements};
+use crate::program::Program;
+use crate::tree::Statement;
+use crate::words::{RecordNames, Words};
+use std::alloc::{AllocError, Global};
+
+/// The most statements of a session, blocks included.
+const MOST_STATEMENTS: u32 = 256;
+/// The most that a session may cost.
+const MOST_COST: u32 = 10_000;
+/// The most bytes of a session's text, where each office and record counts as 16.
+const MOST_BYTES: usize = 16_384;
+/// The most values that a session may give.
+const MOST_GIVES: u32 = 64;
+
+impl Draft {
+    /// The program of a session that is closed, if it is within its limits.
+    pub fn close(self, alloc: Global) -> Result<Program, Stop>
+        ensures { Tells (λ p. p) result (closed (draft_of self)) }
+    {
+        if self.is_too_long(alloc)? {
+            return Err(Stop::Refused(Rule::TooLong));
+        }
+        if block_gives(&self.statements) > MOST_GIVES {
+            return Err(Stop::Refused(Rule::TooManyGives));
+        }
+        Ok(Program::of(self))
+    }
+
+    fn is_too_long(&self, alloc: Global) -> Result<bool, AllocError>
+        ensures { IfOk result (λ b. b ≡ is_too_long (program_of (draft_of self.now))) }
+    {
+        if block_statements(&self.statements) > MOST_STATEMENTS {
+            return Ok(true);
+        }
+        if block_cost(&self.statements) > MOST_COST {
+            return Ok(true);
+        }
+        Ok(size_of(alloc, &self.variables, &self.statements)? > MOST_BYTES)
+    }
+}
+
+/// The bytes of a session's text, where each office and record has a name of 16.
+fn size_of(
+    alloc: Global,
+    variables: &[String],
+    statements: &[Statement],
+) -> Result<usize, AllocError>
+    ensures { IfOk result (λ n. n ≡ length (session_text (wide_words (map string_bytes variables.now)) (block_of statements.now))) }
+{
+    let words = Words {
+        office: "0123456789abcdef",
+        variables,
+        records: RecordNames::Wide,
+    };
+    let text = session_text(alloc, &words, statements)?;
+    Ok(text.as_bytes().len())
+}

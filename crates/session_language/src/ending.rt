@@ -1,0 +1,156 @@
+//! How sessions end.
+
+ghost use Rattle.std.specs.Prelude.{◌≡◌, [], ◌∷◌, ◌++◌, OnOk, IfOk};
+
+use bottle_values::Value;
+use office_map::ids::{OfficeId, RecordId};
+use std::alloc::{AllocError, Global};
+use std::marker::Model;
+
+/// How a session ended.
+#[derive(Clone, Copy, Debug, PartialEq, Eq)]
+pub enum End {
+    Done,
+    /// A `require` was false, with this code.
+    Refused(u16),
+    /// A result was no i64.
+    Overflow,
+}
+
+/// Values of records, in order of number. Contracts see the list.
+#[derive(Debug, Drop)]
+pub struct RecordValues {
+    items: Vec<(RecordId, Value)>,
+}
+
+impl Model for RecordValues {
+    ghost use Rattle.std.specs.Prelude.{ℕ, List};
+    ghost use Rattle.bottle_values.specs.declared.Value as bottle;
+
+    ghost Value = { List (ℕ × bottle.Value) };
+
+    ghost view = { λ v. v.items.items };
+}
+
+impl RecordValues {
+    pub fn new(alloc: Global) -> RecordValues
+        ensures { result ≡ [] }
+    {
+        RecordValues {
+            items: Vec::new(alloc),
+        }
+    }
+
+    pub fn push(&mut self, id: RecordId, value: Value) -> Result<(), AllocError>
+        ensures { OnOk result (self.new ≡ self.old ++ (id, value) ∷ []) }
+    {
+        self.items.push((id, value))?;
+        Ok(())
+    }
+
+    pub fn as_slice(&self) -> &[(RecordId, Value)]
+        ensures { result.now ≡ self.now }
+    {
+        &self.items
+    }
+
+    /// The same list, in memory of its own.
+    pub fn copy(&self, alloc: Global) -> Result<RecordValues, AllocError>
+        ensures { IfOk result (λ v. v ≡ self.now) }
+    {
+        Ok(RecordValues {
+            items: Vec::from_slice(alloc, &self.items)?,
+        })
+    }
+}
+
+/// The values that a session gave, in order. Contracts see the list.
+#[derive(Debug, Drop)]
+pub struct Gives {
+    items: Vec<Value>,
+}
+
+impl Model for Gives {
+    ghost use Rattle.std.specs.Prelude.{List};
+    ghost use Rattle.bottle_values.specs.declared.Value as bottle;
+
+    ghost Value = { List bottle.Value };
+
+    ghost view = { λ g. g.items.items };
+}
+
+impl Gives {
+    pub fn new(alloc: Global) -> Gives
+        ensures { result ≡ [] }
+    {
+        Gives {
+            items: Vec::new(alloc),
+        }
+    }
+
+    pub fn push(&mut self, value: Value) -> Result<(), AllocError>
+        ensures { OnOk result (self.new ≡ self.old ++ value ∷ []) }
+    {
+        self.items.push(value)?;
+        Ok(())
+    }
+
+    pub fn as_slice(&self) -> &[Value]
+        ensures { result.now ≡ self.now }
+    {
+        &self.items
+    }
+
+    /// The same list, in memory of its own.
+    pub fn copy(&self, alloc: Global) -> Result<Gives, AllocError>
+        ensures { IfOk result (λ g. g ≡ self.now) }
+    {
+        Ok(Gives {
+            items: Vec::from_slice(alloc, &self.items)?,
+        })
+    }
+}
+
+/// How a session ended, what it read, what it wrote, and what it gave.
+#[derive(Debug, Drop)]
+pub struct Ending {
+    pub end: End,
+    pub reads: RecordValues,
+    pub writes: RecordValues,
+    pub gives: Gives,
+}
+
+impl Ending {
+    /// The same ending, in memory of its own.
+    pub fn copy(&self, alloc: Global) -> Result<Ending, AllocError>
+        ensures { IfOk result (λ e. e ≡ self.now) }
+    {
+        Ok(Ending {
+            end: self.end,
+            reads: self.reads.copy(alloc)?,
+            writes: self.writes.copy(alloc)?,
+            gives: self.gives.copy(alloc)?,
+        })
+    }
+}
+
+/// A finished session: its office, its ticket there, and how it ended.
+#[derive(Debug, Drop)]
+pub struct Outcome {
+    pub office: OfficeId,
+    pub ticket: u32,
+    pub ending: Ending,
+}
+
+impl Outcome {
+    /// The same outcome, in memory of its own.
+    pub fn copy(&self, alloc: Global) -> Result<Outcome, AllocError>
+        ensures { IfOk result (λ o. o ≡ self.now) }
+    {
+        Ok(Outcome {
+            office: self.office,
+            ticket: self.ticket,
+            ending: self.ending.copy(alloc)?,
+        })
+    }
+}

@@ -1,0 +1,30 @@
+//! The words that lines begin with.
+
+ghost use Rattle.std.specs.Prelude.{◌≡◌};
+ghost use Rattle.session_language.specs.Form.{keyword_of};
+
+/// The first word of a line.
+#[derive(Clone, Copy, Debug, PartialEq, Eq)]
+pub enum Keyword {
+    Session,
+    Let,
+    Set,
+    Give,
+    Require,
+    End,
+    Other,
+}
+
+pub fn keyword_of(word: &[u8]) -> Keyword
+    ensures { result ≡ keyword_of word.now }
+{
+    match word {
+        b"session" => Keyword::Session,
+        b"let" => Keyword::Let,
+        b"set" => Keyword::Set,
+        b"give" => Keyword::Give,
+        b"require" => Keyword::Require,
+        b"end" => Keyword::End,
+        _ => Keyword::Other,
+    }
+}

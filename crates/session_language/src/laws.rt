@@ -1,0 +1,40 @@
+//! Laws of the definitions that the contracts cite.
+
+ghost use Rattle.session_language.specs.Laws.{
+  ReadsInOrder,
+  RefusesALine,
+  ReadsTheGrammar,
+  IsUnambiguous,
+  WritesWhatItHas,
+  TellsWhatItRead,
+};
+
+/// Reading accepts all lines, one after the other, or stops at the first that is refused.
+pub fn reads_in_order()
+    ensures { ReadsInOrder }
+{}
+
+/// A refusal names a line of the text, the one after the last, or 0.
+pub fn refuses_a_line()
+    ensures { RefusesALine }
+{}
+
+/// Expressions are read by the grammar.
+pub fn reads_the_grammar()
+    ensures { ReadsTheGrammar }
+{}
+
+/// An expression is one tree.
+pub fn expressions_are_unambiguous()
+    ensures { IsUnambiguous }
+{}
+
+/// A session writes only records that it needs.
+pub fn writes_what_it_has()
+    ensures { WritesWhatItHas }
+{}
+
+/// However a session ends, it tells what it read.
+pub fn tells_what_it_read()
+    ensures { TellsWhatItRead }
+{}

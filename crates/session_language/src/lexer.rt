@@ -1,0 +1,138 @@
+//! Words and symbols of a line.
+
+ghost use Rattle.std.specs.Prelude.{◌≡◌, ◌∷◌, [], ◌≤◌, ◌<◌, length, MatchOption, OnSome};
+ghost use Rattle.office_map.specs.Text.{is_blank, is_name_byte};
+ghost use Rattle.session_language.specs.Lexer.{seen, one_byte, two_bytes, long_symbol, piece_at, pieces_of, word_len, begins_equals};
+
+#[derive(Clone, Copy, Debug, PartialEq, Eq)]
+pub enum Symbol {
+    Assign,
+    Equal,
+    NotEqual,
+    Less,
+    AtMost,
+    Greater,
+    AtLeast,
+    Plus,
+    Minus,
+    Times,
+    Open,
+    Close,
+}
+
+/// A run of letters, digits and `_`, a symbol, or a byte that begins neither.
+#[derive(Clone, Copy, Debug)]
+pub enum Piece<'a> {
+    Word(&'a [u8]),
+    Symbol(Symbol),
+    Stray,
+}
+
+/// What is left of a line.
+#[derive(Clone, Copy)]
+pub struct Pieces<'a> {
+    pub rest: &'a [u8],
+}
+
+impl<'a> Pieces<'a> {
+    /// The next piece. None at the end of the line.
+    pub fn next(&mut self) -> Option<Piece<'a>>
+        ensures gives { MatchOption result
+            (pieces_of self.old.rest.now ≡ [])
+            (λ p. pieces_of self.old.rest.now ≡ seen p ∷ pieces_of self.new.rest.now) }
+        ensures shorter { OnSome result (length self.new.rest.now < length self.old.rest.now) }
+        ensures within { length self.new.rest.now ≤ length self.old.rest.now }
+    {
+        while let Some((first, after)) = self.rest.split_first() {
+            if is_blank(*first) {
+                self.rest = after;
+                continue;
+            }
+            let (piece, after) = piece_at(*first, after, self.rest);
+            self.rest = after;
+            return Some(piece);
+        }
+        None
+    }
+}
+
+// `whole` is `first` and `after`.
+fn piece_at<'a>(first: u8, after: &'a [u8], whole: &'a [u8]) -> (Piece<'a>, &'a [u8])
+    requires { whole.now ≡ first ∷ after.now }
+    ensures gives { (seen result.0, result.1.now) ≡ piece_at first after.now }
+    ensures shorter { length result.1.now < length whole.now }
+{
+    if is_name_byte(first) {
+        let (word, rest) = whole.split_at(word_len(whole));
+        return (Piece::Word(word), rest);
+    }
+    if let Some(symbol) = long_symbol(first, after) {
+        return (Piece::Symbol(symbol), after.split_at(1).1);
+    }
+    match one_byte(first) {
+        Some(symbol) => (Piece::Symbol(symbol), after),
+        None => (Piece::Stray, after),
+    }
+}
+
+fn is_blank(b: u8) -> bool
+    ensures { result ≡ is_blank b }
+{
+    b == b' ' || b == b'\t'
+}
+
+fn is_name_byte(b: u8) -> bool
+    ensures { result ≡ is_name_byte b }
+{
+    b.is_ascii_alphanumeric() || b == b'_'
+}
+
+fn word_len(bytes: &[u8]) -> usize
+    ensures value { result ≡ word_len bytes.now }
+    ensures within { result ≤ length bytes.now }
+{
+    for (i, b) in bytes.iter().enumerate() {
+        if !is_name_byte(*b) {
+            return i;
+        }
+    }
+    bytes.len()
+}
+
+fn long_symbol(first: u8, after: &[u8]) -> Option<Symbol>
+    ensures value { result ≡ long_symbol first after.now }
+    ensures within { OnSome result (0 < length after.now) }
+{
+    match after {
+        [b'=', ..] => two_bytes(first),
+        _ => None,
+    }
+}
+
+fn one_byte(b: u8) -> Option<Symbol>
+    ensures { result ≡ one_byte b }
+{
+    match b {
+        b'=' => Some(Symbol::Assign),
+        b'<' => Some(Symbol::Less),
+        b'>' => Some(Symbol::Greater),
+        b'+' => Some(Symbol::Plus),
+        b'-' => Some(Symbol::Minus),
+        b'*' => Some(Symbol::Times),
+        b'(' => Some(Symbol::Open),
+        b')' => Some(Symbol::Close),
+        _ => None,
+    }
+}
+
+fn two_bytes(b: u8) -> Option<Symbol>
+    ensures { result ≡ two_bytes b }
+{
+    match b {
+        b'=' => Some(Symbol::Equal),
+        b'!' => Some(Symbol::NotEqual),
+        b'<' => Some(Symbol::AtMost),
+        b'>' => Some(Symbol::AtLeast),
+        _ => None,
+    }
+}

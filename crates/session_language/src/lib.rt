@@ -1,0 +1,49 @@
+//! The language of sessions: what a text of sessions means under a plan, and what a session does alone.
+//!
+//! - [`read_sessions`] gives the programs that a text means (`sessions_of`, in `specs/Reading.antt`), or the first
+//!   refusal with its line. Each program fits the plan.
+//! - A [`Program`] is a session's office, the names of its variables, and its statements as a tree. `needs` are the
+//!   records that it reads or sets anywhere (`needs_of`, in `specs/Needs.antt`), `text` is its canonical text
+//!   (`text_under`, in `specs/Program.antt`), `fits` says whether a plan has its office and its records.
+//! - What a session does alone is `alone`, in `specs/Meaning.antt`; how it ended is an [`Ending`](ending::Ending).
+//! - Expressions are kept in postfix order (`specs/Postfix.antt`), and reading them takes one pass and no recursion; the
+//!   grammar is in `specs/Grammar.antt`, the words of a line in `specs/Lexer.antt`, the limits in
+//!   `specs/Measures.antt`.
+#![tactic(auto)]
+
+mod adding;
+mod builder;
+mod closing;
+mod copying;
+mod draft;
+pub mod ending;
+pub mod expression;
+pub mod fault;
+mod keyword;
+pub mod laws;
+mod lexer;
+mod listing;
+pub mod measures;
+mod names;
+mod needs;
+pub mod node;
+mod number;
+mod operands;
+mod phrase;
+pub mod program;
+mod rank;
+pub mod read;
+mod reader;
+mod scope;
+mod spoken;
+mod steps;
+#[cfg(test)]
+mod tests;
+mod text;
+mod token;
+pub mod tree;
+mod words;
+
+pub use crate::fault::{LangFault, Refusal, Rule};
+pub use crate::program::Program;
+pub use crate::read::read_sessions;

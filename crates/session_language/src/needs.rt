@@ -1,0 +1,77 @@
+//! The records that a session needs.
+
+ghost use Rattle.std.specs.Prelude.{◌≡◌, ◌≤◌, OnOk, IfSome, MatchOption, insert, length};
+ghost use Rattle.session_language.specs.Needs.{with_record, term_needs, nodes_needs};
+ghost use Rattle.session_language.specs.Spoken.{seen_spoken};
+ghost use Rattle.session_language.specs.Drafts.{spoken_needs};
+
+use crate::expression::Expression;
+use crate::node::Node;
+use crate::spoken::Spoken;
+use office_map::ids::RecordId;
+use std::alloc::AllocError;
+
+/// Adds the records of a statement.
+pub(crate) fn add_needs(needs: &mut Vec<RecordId>, spoken: &Spoken<'_>) -> Result<(), AllocError>
+    ensures { OnOk result (needs.new.items ≡ spoken_needs (seen_spoken spoken.now) needs.old.items) }
+{
+    match spoken {
+        Spoken::Let(_, e) => add_reads(needs, e),
+        Spoken::Set(id, e) => {
+            add_record(needs, *id)?;
+            add_reads(needs, e)
+        }
+        Spoken::Give(e) => add_reads(needs, e),
+        Spoken::Require(c, _) => {
+            add_reads(needs, &c.left)?;
+            add_reads(needs, &c.right)
+        }
+    }
+}
+
+#[tactic(auto, using(crate::proofs::Needed::nodes_needs_are))]
+fn add_reads(needs: &mut Vec<RecordId>, e: &Expression) -> Result<(), AllocError>
+    ensures { OnOk result (needs.new.items ≡ term_needs e.now needs.old.items) }
+{
+    add_nodes(needs, e.nodes())
+}
+
+fn add_nodes(needs: &mut Vec<RecordId>, nodes: &[Node]) -> Result<(), AllocError>
+    ensures { OnOk result (needs.new.items ≡ nodes_needs nodes.now needs.old.items) }
+{
+    for node in nodes {
+        if let Node::Read(id) = node {
+            add_record(needs, *id)?;
+        }
+    }
+    Ok(())
+}
+
+/// Adds a record to a list in order, unless it is there.
+fn add_record(needs: &mut Vec<RecordId>, id: RecordId) -> Result<(), AllocError>
+    ensures { OnOk result (needs.new.items ≡ with_record id needs.old.items) }
+{
+    if let Some(place) = place_for(needs, id) {
+        needs.insert(place, id)?;
+    }
+    Ok(())
+}
+
+/// Where a record belongs in a list in order. None where it is there.
+fn place_for(needs: &[RecordId], id: RecordId) -> Option<usize>
+    ensures gives { MatchOption result
+        (with_record id needs.now ≡ needs.now)
+        (λ i. with_record id needs.now ≡ insert needs.now i id) }
+    ensures within { IfSome result (λ i. i ≤ length needs.now) }
+{
+    for i in 0..needs.len() {
+        let here = needs[i];
+        if id < here {
+            return Some(i);
+        }
+        if id == here {
+            return None;
+        }
+    }
+    Some(needs.len())
+}

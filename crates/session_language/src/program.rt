@@ -1,0 +1,144 @@
+//! Programs: what the text of a session means.
+
+ghost use Rattle.std.specs.Prelude.{◌≡◌, IfOk, IsTrue, map};
+ghost use Rattle.std.specs.List.{list_all};
+ghost use Rattle.std.specs.String.{string_bytes};
+ghost use Rattle.office_map.specs.PlanValue.{is_end};
+ghost use Rattle.session_language.specs.Shape.{block_of};
+ghost use Rattle.session_language.specs.Needs.{needs_of};
+
+use crate::copying::{copy_block, copy_texts};
+use crate::draft::Draft;
+use crate::listing::session_text;
+use crate::tree::Statement;
+use crate::words::{RecordNames, Words};
+use office_map::ids::{OfficeId, RecordId};
+use office_map::plan::Plan;
+use std::alloc::{AllocError, Global};
+use std::marker::Model;
+
+/// The program of a session.
+#[derive(Debug, Drop)]
+pub struct Program {
+    office: OfficeId,
+    variables: Vec<String>,
+    needs: Vec<RecordId>,
+    statements: Vec<Statement>,
+}
+
+impl Model for Program {
+    ghost use Rattle.std.specs.Prelude.{◌≡◌, map};
+    ghost use Rattle.std.specs.String.{string_bytes};
+    ghost use Rattle.std.specs.Coded.{Coded, codes};
+    ghost use Rattle.session_language.specs.ProgramValue.{ProgramValue};
+    ghost use Rattle.session_language.specs.declared.node.Node.{Node};
+    ghost use Rattle.session_language.specs.TreeCode.{Mark, term_code, block_code};
+    ghost use Rattle.session_language.specs.Shape.{block_of};
+    ghost use Rattle.session_language.specs.Needs.{needs_of};
+
+    ghost Value = { ProgramValue };
+
+    ghost coded = { let nodes : Coded Node = Prim.hlevel codes in let marks : Coded Mark = Prim.hlevel (codes, term_code nodes) in Prim.hlevel (codes, block_code marks) };
+
+    ghost view = { λ p. record { office = p.office; variables = map string_bytes p.variables.items; body = block_of p.statements.items } };
+
+    ghost invariant = { λ p. p.needs.items ≡ needs_of (block_of p.statements.items) };
+}
+
+impl Program {
+    ghost use Rattle.session_language.specs.Drafts.{draft_of};
+    ghost use Rattle.session_language.specs.Program.{fits, text_under};
+    ghost use Rattle.session_language.specs.Reading.{program_of};
+
+    /// The program of a session that is closed.
+    pub(crate) fn of(draft: Draft) -> Program
+        ensures { result ≡ program_of (draft_of draft) }
+    {
+        let Draft {
+            office,
+            variables,
+            needs,
+            statements,
+        } = draft;
+        Program {
+            office,
+            variables,
+            needs,
+            statements,
+        }
+    }
+
+    /// The office that the session is of.
+    pub fn office(&self) -> OfficeId
+        ensures { result ≡ self.now.office }
+    {
+        self.office
+    }
+
+    /// The records that it reads or sets anywhere, each once, in order of number.
+    pub fn needs(&self) -> &[RecordId]
+        ensures { result.now ≡ needs_of self.now.body }
+    {
+        &self.needs
+    }
+
+    /// The names of its variables, in the order in which lines first let them.
+    pub fn variables(&self) -> &[String]
+        ensures { map string_bytes result.now ≡ self.now.variables }
+    {
+        &self.variables
+    }
+
+    /// The statements, in order.
+    pub fn tree(&self) -> &[Statement]
+        ensures { block_of result.now ≡ self.now.body }
+    {
+        &self.statements
+    }
+
+    /// Whether its office is the plan's, and each record that it needs is of that office.
+    pub fn fits(&self, plan: &Plan) -> bool
+        ensures { result ≡ fits plan.now self.now }
+    {
+        if self.office.index() >= plan.offices() {
+            return false;
+        }
+        are_of_office(plan, &self.needs, self.office)
+    }
+
+    /// The canonical text of the session under a plan that it fits.
+    pub fn text(&self, alloc: Global, plan: &Plan) -> Result<String, AllocError>
+        requires { IsTrue (fits plan.now self.now) }
+        ensures { IfOk result (λ t. string_bytes t ≡ text_under plan.now self.now) }
+    {
+        let words = Words {
+            office: plan.office_name(self.office),
+            variables: &self.variables,
+            records: RecordNames::Of(plan),
+        };
+        session_text(alloc, &words, &self.statements)
+    }
+
+    /// The same program, in memory of its own.
+    pub fn copy(&self, alloc: Global) -> Result<Program, AllocError>
+        ensures { IfOk result (λ p. p ≡ self.now) }
+    {
+        Ok(Program {
+            office: self.office,
+            variables: copy_texts(alloc, &self.variables)?,
+            needs: Vec::from_slice(alloc, &self.needs)?,
+            statements: copy_block(alloc, &self.statements)?,
+        })
+    }
+}
+
+fn are_of_office(plan: &Plan, records: &[RecordId], office: OfficeId) -> bool
+    ensures { result ≡ list_all (λ r. is_end plan.now r office) records.now }
+{
+    for id in records {
+        if !plan.has_end(*id, office) {
+            return false;
+        }
+    }
+    true
+}

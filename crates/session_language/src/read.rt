@@ -1,0 +1,131 @@
+//! Sessions from texts.
+
+ghost use Rattle.std.specs.Prelude.{◌≡◌, ◌<◌, ◌≤◌, ◌+◌, ◌^◌, length, IfOk, IsTrue, All};
+ghost use Rattle.session_language.specs.Program.{fits};
+ghost use Rattle.office_map.specs.Text.{lines, statements_from};
+ghost use Rattle.session_language.specs.Reading.{sessions_of, read_lines, at_line, take_line, all_closed};
+ghost use Rattle.session_language.specs.Drafts.{reading_of, Gives, LeavesLine};
+
+use crate::builder::{Builder, Level, Stage, Sum};
+use crate::fault::{LangFault, Refusal, Rule, Stop};
+use crate::program::Program;
+use crate::reader::Reader;
+use office_map::plan::Plan;
+use office_map::statements::Statements;
+use office_map::text::first_line;
+use std::alloc::Global;
+
+/// The longest text of sessions, in bytes.
+const TEXT_LIMIT: usize = 1_048_576;
+
+/// The programs of the sessions in a text, in order. The first faulty line is refused.
+#[tactic(auto, unfolding(crate::specs::Reading::sessions_of), using(crate::proofs::Fitting::sessions_fit, crate::proofs::Fitting::sessions_few))]
+pub fn read_sessions(alloc: Global, text: &[u8], plan: &Plan) -> Result<Vec<Program>, LangFault>
+    ensures meaning { Gives (λ v. v.items) result (sessions_of plan.now text.now) }
+    ensures fit { IfOk result (λ v. All (λ p. IsTrue (fits plan.now p)) v.items) }
+    ensures few { IfOk result (λ v. length v.items ≤ 1024) }
+{
+    if text.len() > TEXT_LIMIT {
+        return Err(refused(Rule::TooLong, 0));
+    }
+    let reader = read_lines(
+        alloc,
+        plan,
+        Reader::new(alloc),
+        Statements {
+            rest: text,
+            number: 1,
+        },
+    )?;
+    if reader.open_session.is_some() {
+        return Err(refused(Rule::Syntax, count_of_lines(text) + 1));
+    }
+    Ok(reader.into_done())
+}
+
+fn read_lines(
+    alloc: Global,
+    plan: &Plan,
+    reader: Reader,
+    statements: Statements<'_>,
+) -> Result<Reader, LangFault>
+    requires { statements.number + length statements.rest.now < 2 ^ 64 }
+    ensures { Gives reading_of result (read_lines plan.now (reading_of reader) (statements_from statements.entry.number (lines statements.entry.rest.now))) }
+{
+    let mut reader = reader;
+    let mut left = statements;
+    while let Some((number, line)) = left.next() {
+        read_line(alloc, plan, &mut reader, number, line)?;
+    }
+    Ok(reader)
+}
+
+fn read_line(
+    alloc: Global,
+    plan: &Plan,
+    reader: &mut Reader,
+    number: u64,
+    line: &[u8],
+) -> Result<(), LangFault>
+    ensures { LeavesLine result (reading_of reader.new) (at_line number (take_line plan.now (reading_of reader.old) line.now)) }
+{
+    match reader.take_line(alloc, plan, line) {
+        Ok(()) => Ok(()),
+        Err(Stop::Refused(rule)) => Err(refused(rule, number)),
+        Err(Stop::Memory) => Err(LangFault::Memory),
+    }
+}
+
+fn refused(rule: Rule, line: u64) -> LangFault
+    ensures { result ≡ LangFault.Refused (record { rule = rule; line = line }) }
+{
+    LangFault::Refused(Refusal { rule, line })
+}
+
+/// How many lines a text has.
+fn count_of_lines(text: &[u8]) -> u64
+    requires { length text.now ≤ 1048576 }
+    ensures value { result ≡ length (lines text.now) }
+    ensures few { result ≤ 1048576 }
+{
+    let mut rest = text;
+    let mut count = 0;
+    while !rest.is_empty() {
+        rest = first_line(rest).1;
+        count += 1;
+    }
+    count
+}
+
+impl Reader {
+    ghost use Rattle.session_language.specs.Reading.{nothing_read};
+
+    fn new(alloc: Global) -> Reader
+        ensures { reading_of result ≡ nothing_read }
+    {
+        Reader {
+            builder: Builder {
+                outer: Vec::new(alloc),
+                stage: Stage::Wants(Level {
+                    sum: Sum::Nothing,
+                    product: None,
+                    minuses: 0,
+                }),
+                nodes: Vec::new(alloc),
+            },
+            done: Vec::new(alloc),
+            open_session: None,
+        }
+    }
+
+    fn into_done(self) -> Vec<Program>
+        ensures { result.items ≡ (reading_of self).done }
+    {
+        let Reader {
+            builder: _,
+            done,
+            open_session: _,
+        } = self;
+        done
+    }
+}

@@ -1,0 +1,126 @@
+//! One line of sessions after another.
+
+ghost use Rattle.std.specs.Prelude.{◌≡◌};
+ghost use Rattle.std.specs.Option.{option_copied};
+ghost use Rattle.office_map.specs.PlanValue.{PlanValue};
+ghost use Rattle.session_language.specs.Lexer.{pieces_of};
+ghost use Rattle.session_language.specs.Form.{name_alone, IsStatement};
+ghost use Rattle.session_language.specs.Drafts.{reading_of, Leaves};
+ghost use Rattle.session_language.specs.Reading.{take_line, take_after};
+
+use crate::draft::Draft;
+use crate::fault::{Rule, Stop};
+use crate::keyword::{Keyword, keyword_of};
+use crate::lexer::{Piece, Pieces};
+use crate::reader::Reader;
+use crate::scope::Scope;
+use office_map::plan::Plan;
+use office_map::text::name;
+use std::alloc::Global;
+use std::mem;
+
+/// The most sessions of a text.
+const MOST_SESSIONS: usize = 1_024;
+
+impl Reader {
+    /// Takes one line that says something.
+    pub fn take_line(&mut self, alloc: Global, plan: &Plan, line: &[u8]) -> Result<(), Stop>
+        ensures { Leaves result (reading_of self.new) (take_line plan.now (reading_of self.old) line.now) }
+    {
+        let mut pieces = Pieces { rest: line };
+        let Some(Piece::Word(word)) = pieces.next() else {
+            return Err(Stop::Refused(Rule::Syntax));
+        };
+        self.take_after(alloc, plan, keyword_of(word), pieces)
+    }
+
+    /// Takes what stands after the first word of a line.
+    fn take_after(
+        &mut self,
+        alloc: Global,
+        plan: &Plan,
+        keyword: Keyword,
+        pieces: Pieces<'_>,
+    ) -> Result<(), Stop>
+        ensures { Leaves result (reading_of self.new) (take_after plan.now (reading_of self.old) keyword (pieces_of pieces.entry.rest.now)) }
+    {
+        match keyword {
+            Keyword::Session => self.take_opening(alloc, plan, pieces),
+            Keyword::End => self.take_closing(alloc, pieces),
+            Keyword::Let | Keyword::Set | Keyword::Give | Keyword::Require | Keyword::Other => {
+                self.take_statement(alloc, plan, keyword, pieces)
+            }
+        }
+    }
+
+    fn take_opening(&mut self, alloc: Global, plan: &Plan, pieces: Pieces<'_>) -> Result<(), Stop>
+        ensures { Leaves result (reading_of self.new) (take_after plan.now (reading_of self.old) Keyword.Session (pieces_of pieces.entry.rest.now)) }
+    {
+        let Some(name) = name_alone(pieces) else {
+            return Err(Stop::Refused(Rule::Syntax));
+        };
+        if self.open_session.is_some() {
+            return Err(Stop::Refused(Rule::Syntax));
+        }
+        let Some(office) = plan.office_named(name) else {
+            return Err(Stop::Refused(Rule::UnknownName));
+        };
+        if self.done.len() >= MOST_SESSIONS {
+            return Err(Stop::Refused(Rule::TooLong));
+        }
+        self.open_session = Some(Draft::begun(alloc, office));
+        Ok(())
+    }
+
+    fn take_statement(
+        &mut self,
+        alloc: Global,
+        plan: &Plan,
+        keyword: Keyword,
+        pieces: Pieces<'_>,
+    ) -> Result<(), Stop>
+        requires { IsStatement keyword }
+        ensures { Leaves result (reading_of self.new) (take_after plan.now (reading_of self.old) keyword (pieces_of pieces.entry.rest.now)) }
+    {
+        let Some(draft) = mem::replace(&mut self.open_session, None) else {
+            return Err(Stop::Refused(Rule::Syntax));
+        };
+        let scope = Scope {
+            plan,
+            office: draft.office,
+            variables: &draft.variables,
+        };
+        let spoken = self.builder.speak(alloc, &scope, keyword, pieces)?;
+        self.open_session = Some(draft.add(alloc, spoken)?);
+        Ok(())
+    }
+
+    fn take_closing(&mut self, alloc: Global, pieces: Pieces<'_>) -> Result<(), Stop>
+        ensures { (p : PlanValue) → Leaves result (reading_of self.new) (take_after p (reading_of self.old) Keyword.End (pieces_of pieces.entry.rest.now)) }
+    {
+        let mut rest = pieces;
+        if rest.next().is_some() {
+            return Err(Stop::Refused(Rule::Syntax));
+        }
+        let Some(draft) = mem::replace(&mut self.open_session, None) else {
+            return Err(Stop::Refused(Rule::Syntax));
+        };
+        let program = draft.close(alloc)?;
+        self.done.push(program)?;
+        Ok(())
+    }
+}
+
+/// A name, and nothing after it.
+fn name_alone(pieces: Pieces<'_>) -> Option<&str>
+    ensures { option_copied result ≡ name_alone (pieces_of pieces.entry.rest.now) }
+{
+    let mut rest = pieces;
+    let Some(Piece::Word(word)) = rest.next() else {
+        return None;
+    };
+    if rest.next().is_some() {
+        return None;
+    }
+    name(word)
+}
