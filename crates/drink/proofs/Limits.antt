@@ -1,14 +1,11 @@
 -- A text that is cut one byte past its limit means what the whole text means.
-use Rattle.std.proofs.Common.{◌≡◌, ◌+◌, ◌≤◌, ◌<◌, ℕ, min, List, [], ◌∷◌, length, take, take_all, Option, Some, None, IfSome, Bool, true, false, nat_lt, Result, Ok, Err, refl, sym, ap, ◌∙◌, arith}
+use Rattle.std.proofs.Common.{◌≡◌, ◌+◌, ◌≤◌, ◌<◌, ℕ, min, List, length, take, take_all, Option, Some, None, IfSome, true, false, nat_lt, Err, refl, sym, ap, ◌∙◌, arith}
 use Rattle.std.proofs.lemmas.Bool.Decides.{nat_tests}
 use Rattle.std.proofs.lemmas.List.{length-take}
 use Rattle.office_map.specs.PlanValue.{PlanValue}
-use Rattle.office_map.specs.PlanText.{plan_of, read_statements, ◌>>=◌, ◌>>◌, refuse_if}
-use Rattle.office_map.specs.declared.fault.Refusal as plan_refusal
+use Rattle.office_map.specs.PlanText.{plan_of}
 use Rattle.office_map.specs.declared.fault.Rule.TheVariants as plan_rules
-use Rattle.session_language.specs.declared.fault.Refusal as refusal
 use Rattle.session_language.specs.declared.fault.Rule.TheVariants as rules_of
-use Rattle.session_language.specs.ProgramValue.{ProgramValue}
 use Rattle.session_language.specs.Reading.{sessions_of}
 
 -- past the limit nothing but the length counts

@@ -4,3 +4,4 @@ pub mod Cut
 pub mod Report
 pub mod Texts
 pub mod Serial
+pub mod CommandLine

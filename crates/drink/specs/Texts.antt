@@ -1,10 +1,9 @@
 -- What the texts of the inputs mean, and what a fault says of them.
-use Rattle.std.specs.Prelude.{◌≡◌, List, ℕ, Result, Ok, Err}
+use Rattle.std.specs.Prelude.{◌≡◌, List, ℕ, Ok, Err}
 use Rattle.office_map.specs.PlanValue.{PlanValue}
 use Rattle.office_map.specs.PlanText.{plan_of}
 use Rattle.session_language.specs.ProgramValue.{ProgramValue}
 use Rattle.session_language.specs.Reading.{sessions_of}
-use Rattle.drink.specs.declared.input.Input.{Input}
 use Rattle.drink.specs.declared.input.Input.TheVariants as inputs
 use Rattle.drink.specs.declared.fault.Fault.{Fault}
 use Rattle.drink.specs.declared.fault.Fault.TheVariants.{Memory, Plan, Sessions, ReadFailed, WriteFailed}

@@ -1,4 +1,16 @@
-//! The program `drink`.
+//! The program `drink`: sessions over the records that neighbouring offices share.
+//!
+//! - [`commands::serial`] is `drink serial`. It writes the report of the serial run of the sessions
+//!   (clause `reports`), and it writes nothing where an input is refused (clause `unwritten`). Its
+//!   faults say what the texts are (clauses `plan_judged` and `sessions_judged`).
+//! - [`command_line::command_line`] reads the words of a command line as `clap` defines them
+//!   (clauses `request` and `faults`).
+//! - [`reading::read_at_most`] reads an input no further than it is told to (clauses `taken` and
+//!   `bounded`), and [`cut::cut`] cuts the standard input where it stands for both texts.
+//!
+//! What is printed is in `specs/Report.antt`, and what a fault says of a text in
+//! `specs/Texts.antt`. Which bytes a file, the standard input or a terminal gives or takes is
+//! outside what is proved: this file and [`source`] hand readers and a writer to the functions above.
 #![tactic(auto)]
 
 pub mod command_line;

@@ -1,5 +1,4 @@
-use Rattle.std.proofs.Common.{◌≡◌, ◌++◌, ◌∷◌, ◌≢◌, List, ℕ, codes, rules, arith}
-use Rattle.drink.specs.Cut.{IsLine, IsCutLine}
+use Rattle.std.proofs.Common.{rules}
 use Rattle.drink.proofs.Cuts.{walked_further, cut_here, cut_at_end, uncut}
 use Rattle.drink.proofs.cut.cut.Goals as goal
 
