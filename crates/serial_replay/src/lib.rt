@@ -5,7 +5,7 @@
 //! Evaluation keeps its operands on a stack of its own (`specs/Machine.antt`), so no expression deepens the call stack.
 #![tactic(auto)]
 
-mod alone;
+pub mod alone;
 mod desk;
 mod evaluate;
 pub mod replay;

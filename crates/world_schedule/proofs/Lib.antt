@@ -1,0 +1,16 @@
+pub mod Basics
+pub mod Ends
+pub mod Pairs
+pub mod Invariant
+pub mod Finishing
+pub mod Events
+pub mod Serial
+pub mod Tabled
+pub mod Guarded
+pub mod Effected
+pub mod Happened
+pub mod Delivered
+pub mod Opened
+pub mod Kept
+pub mod Runs
+pub mod Found

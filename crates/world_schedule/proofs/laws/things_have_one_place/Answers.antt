@@ -1,0 +1,5 @@
+use Rattle.world_schedule.proofs.Serial.{things_have_one_place}
+use Rattle.world_schedule.proofs.laws.things_have_one_place.Goals as goal
+
+pub returns : goal.returns
+returns c = things_have_one_place c.writes_what_it_has.ensures

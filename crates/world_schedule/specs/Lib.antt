@@ -1,0 +1,9 @@
+pub mod Streams
+pub mod Ends
+pub mod Offices
+pub mod Worlds
+pub mod Headline
+pub mod Tables
+pub mod Effects
+pub mod Start
+pub mod Places

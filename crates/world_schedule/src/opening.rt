@@ -1,0 +1,97 @@
+//! The offices as a plan starts them.
+
+ghost use Rattle.std.specs.Prelude.{◌≡◌, ◌<◌, length, map, All, IfOk};
+ghost use Rattle.std.specs.List.{range_with_len};
+ghost use Rattle.office_map.specs.Consistency.{IsConsistent};
+ghost use Rattle.world_schedule.specs.Offices.{opened};
+ghost use Rattle.world_schedule.specs.Tables.{line_table, office_table, office_in, office_at, IsWhole};
+ghost use Rattle.world_schedule.specs.Start.{start_place, start_line};
+
+use crate::tables::{Line, Office, Phase, Place};
+use bottle_values::Value;
+use office_map::ids::{OfficeId, RecordId};
+use office_map::plan::Plan;
+use std::alloc::{AllocError, Global};
+use std::collections::VecDeque;
+
+#[tactic(auto, using(crate::proofs::Opened::opened_more, crate::proofs::Opened::offices_start))]
+/// All offices of a plan, in order of number.
+pub fn offices_of(alloc: Global, plan: &Plan) -> Result<Vec<Office>, AllocError>
+    ensures count { IfOk result (λ os. length os.items ≡ length plan.now.offices) }
+    ensures whole { IfOk result (λ os. All (IsWhole plan.now) os.items) }
+    ensures opened { IfOk result (λ os. office_at plan.now (map office_table os.items) ≡ opened plan.now) }
+{
+    let mut offices = Vec::with_capacity(alloc, plan.offices())?;
+    for a in 0..plan.offices() {
+        offices.push(office_of(alloc, plan, OfficeId::new(a as u8))?)?;
+    }
+    Ok(offices)
+}
+
+/// An office with nothing but what starts there.
+fn office_of(alloc: Global, plan: &Plan, me: OfficeId) -> Result<Office, AllocError>
+    requires consistent { IsConsistent plan.now }
+    ensures whole { IfOk result (IsWhole plan.now) }
+    ensures opened { IfOk result (λ o. office_in plan.now me (office_table o) ≡ opened plan.now me) }
+{
+    let places = places_of(alloc, plan, me)?;
+    let lines = lines_of(alloc, plan, me)?;
+    Ok(Office {
+        places,
+        lines,
+        phase: Phase::Tranquil,
+        queue: VecDeque::new(alloc),
+        tickets: 0,
+    })
+}
+
+#[tactic(auto, using(crate::proofs::Opened::places_more))]
+fn places_of(alloc: Global, plan: &Plan, me: OfficeId) -> Result<Vec<Place>, AllocError>
+    ensures { IfOk result (λ ps. ps.items ≡ map (start_place plan.now me) (range_with_len 0 (length plan.now.records))) }
+{
+    let mut places = Vec::with_capacity(alloc, plan.records())?;
+    for r in 0..plan.records() {
+        places.push(place_of(plan, me, RecordId::new(r as u16)))?;
+    }
+    Ok(places)
+}
+
+/// What starts at an office of a record.
+fn place_of(plan: &Plan, me: OfficeId, r: RecordId) -> Place
+    requires { r < length plan.now.records }
+    ensures { result ≡ start_place plan.now me r }
+{
+    let bottle = plan.start_end(r) == me;
+    Place {
+        bottle,
+        token: plan.has_end(r, me) && !bottle,
+        value: Value {
+            number: plan.start_value(r),
+        },
+    }
+}
+
+#[tactic(auto, using(crate::proofs::Opened::lines_more))]
+fn lines_of(alloc: Global, plan: &Plan, me: OfficeId) -> Result<Vec<Line>, AllocError>
+    ensures { IfOk result (λ ls. map line_table ls.items ≡ map (start_line plan.now me) (range_with_len 0 (length plan.now.offices))) }
+{
+    let mut lines = Vec::with_capacity(alloc, plan.offices())?;
+    for b in 0..plan.offices() {
+        lines.push(line_of(alloc, plan, me, OfficeId::new(b as u8)))?;
+    }
+    Ok(lines)
+}
+
+/// What starts at an office of its pair with another.
+fn line_of(alloc: Global, plan: &Plan, me: OfficeId, other: OfficeId) -> Line
+    ensures { line_table result ≡ start_line plan.now me other }
+{
+    let near = plan.are_neighbours(me, other);
+    let fork = near && plan.fork_end(me, other) == me;
+    Line {
+        fork,
+        token: near && !fork,
+        sent: Vec::new(alloc),
+        taken: Vec::new(alloc),
+    }
+}
