@@ -30,6 +30,8 @@ pub mod rule;
 pub mod session;
 mod steps;
 mod tables;
+#[cfg(test)]
+mod tests;
 mod values;
 pub mod world;
 

@@ -72,6 +72,13 @@ impl World {
         })
     }
 
+    /// The plan that it was opened with.
+    pub fn plan(&self) -> &Plan
+        ensures { result.now ≡ self.now.plan }
+    {
+        &self.plan
+    }
+
     /// One event. A refused one leaves the world as it was.
     pub fn apply(&mut self, event: &WorldEvent) -> Result<Reply, Refusal>
         ensures plan { self.new.plan ≡ self.old.plan }
@@ -129,6 +136,13 @@ impl World {
         Ok(replies)
     }
 
+    /// How many messages were ever sent.
+    pub fn frames(&self) -> usize
+        ensures { result ≡ length (state_of self.now).frames }
+    {
+        self.messages.len()
+    }
+
     /// How many submitted sessions haven't finished.
     pub fn unfinished(&self) -> usize
         ensures { result ≡ unfinished_in self.now.plan (state_of self.now) }
@@ -156,7 +170,7 @@ impl World {
         ensures serial { outcomes result.now ≡ outcomes_of (start_map self.now.plan) (programs result.now) }
     {
         writes_what_it_has();
-        &self.finished
+        self.finished.as_slice()
     }
 }
 
