@@ -29,8 +29,8 @@ BEGIN {
 }
 AWK
 
-# Sessions of one kind, as many as SIZE bytes and 1,024 sessions allow. Each begins with a `require` that holds where
-# TRUTH is 1, and else ends it there. Only the kind `spaced` has spaces round operators.
+# Sessions of one kind, as many as SIZE bytes allow, and one for each 1,024 bytes of SIZE at most. Each begins with a
+# `require` that holds where TRUTH is 1, and else ends it there. Only the kind `spaced` has spaces round operators.
 cat > "$work/sessions.awk" <<'AWK'
 function joined(first, operator, term, count,    all) {
     all = first
@@ -71,6 +71,13 @@ function reads(    all, k) {
     return within("a", times(all, 1) times("let v = " sum("read ac7", 32), 20))
 }
 
+# It sets 16 records and gives 50 times, always the longest value.
+function gives(    all, k) {
+    all = "let v = 9223372036854775807\n"
+    for (k = 0; k < 8; k++) all = all "set ab" k " = v\nset ac" k " = v\n"
+    return within("a", all times("give v", 50))
+}
+
 # Ten times `1 + (`, the one within the other, round a sum of products.
 function nested(    core) {
     core = sum(joined("1", " * ", "1", 5), 7)
@@ -84,6 +91,7 @@ function next_session(i) {
     if (kind == "variables") return variables()
     if (kind == "reads") return reads()
     if (kind == "nested") return nested()
+    if (kind == "gives") return gives()
     if (kind == "statements") return within("a", times("let v = 1", 255))
 }
 function packed(text) {
@@ -110,7 +118,7 @@ BEGIN {
     if (kind == "comments") lines(sprintf("# %1021s", "what stands in a comment says nothing"))
     else if (kind == "blank") lines("")
     else if (kind == "parentheses") parentheses()
-    else for (count = 0; count < 1024; count++) {
+    else for (count = 0; count < size / 1024; count++) {
         text = next_session(count % 16)
         if (kind != "spaced") text = packed(text)
         bytes += length(text)
@@ -185,6 +193,9 @@ instructions() {
 # instructions without it. INPUT.idle has as many bytes and works out nothing, INPUT.half has half of them.
 row() {
     input=$work/$1
+    for it in "$input" "$input.idle" "$input.half"; do
+        check "$2" "$program" serial "$it/plan" "$it/sessions"
+    done
     awk -v name="$1" -v start="$4" -v bytes="$(bytes "$input/$3")" -v half_bytes="$(bytes "$input.half/$3")" \
         -v sessions="$(grep -c '^session' "$input/sessions")" -v nodes="$(awk -f "$work/nodes.awk" "$input/sessions")" \
         -v time="$(milliseconds "$input" "$2")" -v memory="$(memory "$input" "$2")" \
@@ -234,7 +245,7 @@ echo "| Input | Bytes | Nodes worked out | Milliseconds | Memory, KiB | Allowed,
 echo "|---|---|---|---|---|---|---|---|---|---|"
 row plan 0 plan "$least"
 row records 0 plan "$least"
-for kind in spaced mixed numbers variables reads nested statements comments blank; do
+for kind in spaced mixed numbers variables reads nested statements gives comments blank; do
     sessions_input "$kind"
     row "$kind" 0 sessions "$none"
 done
