@@ -8,6 +8,10 @@
 set -eu
 here=$(cd "$(dirname "$0")" && pwd)
 program=${1:-$here/../crates/drink/out/drink}
+if [ ! -x "$program" ]; then
+    echo "bench/serial.sh: $program is not built" >&2
+    exit 1
+fi
 work=$(mktemp -d)
 trap 'rm -rf "$work"' EXIT
 
