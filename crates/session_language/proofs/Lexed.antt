@@ -39,7 +39,7 @@ word_len_is [] [] a f = refl
 word_len_is [] (b ∷ bs) a f = rw f refl
 word_len_is (b ∷ w) rest a f = let h = and_parts (is_name_byte b) (list_all is_name_byte w) a in rw (h.0, word_len_is w rest h.1 f) (omega arith)
 
-took : (w rest : List ℕ) → take (length w) (w ++ rest) ≡ w
+pub took : (w rest : List ℕ) → take (length w) (w ++ rest) ≡ w
 took [] rest = refl
 took (b ∷ w) rest = ap (λ x. b ∷ x) (took w rest)
 
@@ -78,25 +78,25 @@ no_long b rest h = by_test (begins_equals rest)
 abbrev SymbolLexed : ℕ → Symbol → Type 0
 SymbolLexed b s = (rest : List ℕ) → pieces_of (b ∷ rest) ≡ ASymbol s ∷ pieces_of rest
 
-short_symbol : (b : ℕ) (s : Symbol) (rest : List ℕ) → is_blank b ≡ false → two_bytes b ≡ None → ((o : Option Symbol) → o ≡ None → piece_at b rest ≡ symbol_at (long_symbol b rest) b rest) → symbol_at None b rest ≡ (ASymbol s, rest) → pieces_of (b ∷ rest) ≡ ASymbol s ∷ pieces_of rest
+short_symbol : (b : ℕ) (s : Symbol) (rest : List ℕ) → is_blank b ≡ false → two_bytes b ≡ None → piece_at b rest ≡ symbol_at (long_symbol b rest) b rest → symbol_at None b rest ≡ (ASymbol s, rest) → pieces_of (b ∷ rest) ≡ ASymbol s ∷ pieces_of rest
 short_symbol b s rest blank none here is =
     pieces_of-piece b rest blank
-    ∙ ap (λ (x : Piece × List ℕ). x.0 ∷ pieces_of x.1) (here None refl ∙ ap (λ o. symbol_at o b rest) (no_long b rest none) ∙ is)
+    ∙ ap (λ (x : Piece × List ℕ). x.0 ∷ pieces_of x.1) (here ∙ ap (λ o. symbol_at o b rest) (no_long b rest none) ∙ is)
 
 pub open_lexed : SymbolLexed 40 symbol.Open
-open_lexed rest = short_symbol 40 symbol.Open rest refl refl (λ o e. refl) refl
+open_lexed rest = short_symbol 40 symbol.Open rest refl refl refl refl
 
 pub close_lexed : SymbolLexed 41 symbol.Close
-close_lexed rest = short_symbol 41 symbol.Close rest refl refl (λ o e. refl) refl
+close_lexed rest = short_symbol 41 symbol.Close rest refl refl refl refl
 
 pub times_lexed : SymbolLexed 42 symbol.Times
-times_lexed rest = short_symbol 42 symbol.Times rest refl refl (λ o e. refl) refl
+times_lexed rest = short_symbol 42 symbol.Times rest refl refl refl refl
 
 pub plus_lexed : SymbolLexed 43 symbol.Plus
-plus_lexed rest = short_symbol 43 symbol.Plus rest refl refl (λ o e. refl) refl
+plus_lexed rest = short_symbol 43 symbol.Plus rest refl refl refl refl
 
 pub minus_lexed : SymbolLexed 45 symbol.Minus
-minus_lexed rest = short_symbol 45 symbol.Minus rest refl refl (λ o e. refl) refl
+minus_lexed rest = short_symbol 45 symbol.Minus rest refl refl refl refl
 
 -- the tokens that are read from here on
 abbrev pub reading : List ℕ → Option Run

@@ -18,6 +18,7 @@ use Rattle.session_language.specs.Text.{Words, magnitude, variable_name, in_pare
 use Rattle.session_language.specs.WellFormed.{IsLiteral, IsOver, IsStatementOver}
 use Rattle.session_language.proofs.Wording.{number_is_word, name_bytes, word_is_plain}
 use Rattle.session_language.proofs.Fitting.{term_within}
+use Rattle.session_language.proofs.Lexed.{took}
 use Rattle.session_language.proofs.Said.{text_of}
 
 -- none of these bytes ends a line
@@ -42,10 +43,6 @@ no_return (b ∷ t) (suc i) h = no_return t i (plainly t (and_parts (is_plain b)
 
 no_strip : (t : List ℕ) → IsPlain t → strip_carriage_return t ≡ t
 no_strip t h = ap (λ b. if b then take (length t - 1) t else t) (no_return t (length t - 1) h)
-
-took : (t more : List ℕ) → take (length t) (t ++ more) ≡ t
-took [] more = refl
-took (b ∷ t) more = ap (λ x. b ∷ x) (took t more)
 
 dropped : (t : List ℕ) (b : ℕ) (more : List ℕ) → drop (suc (length t)) (t ++ b ∷ more) ≡ more
 dropped [] b more = refl
@@ -149,11 +146,12 @@ module _ (w : Words) (known : ℕ) (ok : ℕ → Bool) (variables : (k : ℕ) �
   command_plain (Choice t a b) h g n = absurd h
   command_plain (Loop m b) h g n = absurd h
 
-  pub command_says : (c : Command) → IsStatementOver known c → says_something (text_of w c) ≡ true
-  command_says (LetVar k e) h = refl
-  command_says (SetTo r e) h = refl
-  command_says (GiveOf e) h = refl
-  command_says (Requires t code) h = refl
-  command_says (When t b) h = absurd h
-  command_says (Choice t a b) h = absurd h
-  command_says (Loop m b) h = absurd h
+-- and say something
+pub command_says : (w : Words) (known : ℕ) (c : Command) → IsStatementOver known c → says_something (text_of w c) ≡ true
+command_says w known (LetVar k e) h = refl
+command_says w known (SetTo r e) h = refl
+command_says w known (GiveOf e) h = refl
+command_says w known (Requires t code) h = refl
+command_says w known (When t b) h = absurd h
+command_says w known (Choice t a b) h = absurd h
+command_says w known (Loop m b) h = absurd h

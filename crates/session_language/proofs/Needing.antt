@@ -1,19 +1,16 @@
 -- What holds of all records that are needed holds of those of each statement; and needs only grow.
-use Rattle.std.proofs.Common.{◌≡◌, ◌≤◌, ◌==◌, ℕ, List, [], ◌∷◌, length, Bool, true, false, ◌&&◌, nat_lt, if◌then◌else◌, refl, ap, ◌∙◌, arith}
+use Rattle.std.proofs.Common.{◌≡◌, ◌≤◌, ◌==◌, ℕ, List, [], ◌∷◌, length, Bool, true, false, nat_lt, if◌then◌else◌, refl, ap, ◌∙◌, arith}
 use Rattle.std.specs.List.{list_all}
 use Rattle.std.proofs.lemmas.Bool.{and_parts}
 use Rattle.std.proofs.lemmas.Bool.Decides.{nat_tests}
 use Rattle.session_language.specs.Tree.{Term, Constant, Var, ReadOf, Neg, Bin, Test, Command, LetVar, SetTo, GiveOf, Requires, When, Choice, Loop, Block, Nothing, Then}
 use Rattle.session_language.specs.Needs.{with_record, term_needs, test_needs, command_needs, block_needs}
-use Rattle.session_language.proofs.Fitting.{term_within}
+use Rattle.session_language.proofs.Fitting.{and_true, term_within}
 use Rattle.session_language.proofs.Listed.{command_within}
 
 module _ (ok : ℕ → Bool) where
   abbrev All : List ℕ → Type 0
   All rs = list_all ok rs ≡ true
-
-  both : (a b : Bool) → a ≡ true → b ≡ true → (a && b) ≡ true
-  both a b h g = ap (λ x. x && b) h ∙ g
 
   with_one : (r : ℕ) (rs : List ℕ) → All (with_record r rs) → (ok r ≡ true) × All rs
   with_one r [] h = ((and_parts (ok r) true h).0, refl)
@@ -24,7 +21,7 @@ module _ (ok : ℕ → Bool) where
       by_order false true e g more = let same : r ≡ s = grind (e, arith, nat_tests) in (ap ok same ∙ (and_parts (ok s) (list_all ok rest) g).0, g)
       by_order false false e g more =
           let parts = and_parts (ok s) (list_all ok (with_record r rest)) g in
-          let m = more parts.1 in (m.0, both (ok s) (list_all ok rest) parts.0 m.1)
+          let m = more parts.1 in (m.0, and_true (ok s) (list_all ok rest) parts.0 m.1)
 
   with_term : (e : Term) (rs : List ℕ) → All (term_needs e rs) → (term_within ok e ≡ true) × All rs
   with_term (Constant v) rs h = (refl, h)
@@ -33,7 +30,7 @@ module _ (ok : ℕ → Bool) where
   with_term (Neg e) rs h = with_term e rs h
   with_term (Bin o a b) rs h =
       let right = with_term b (term_needs a rs) h in
-      let left = with_term a rs right.1 in (both (term_within ok a) (term_within ok b) left.0 right.0, left.1)
+      let left = with_term a rs right.1 in (and_true (term_within ok a) (term_within ok b) left.0 right.0, left.1)
 
   with_test : (t : Test) (rs : List ℕ) → All (test_needs t rs) → (term_within ok t.left ≡ true) × (term_within ok t.right ≡ true) × All rs
   with_test t rs h =

@@ -1,5 +1,5 @@
 -- A canonical line is taken as the statement that it was written for.
-use Rattle.std.proofs.Common.{◌≡◌, ◌<◌, ◌≤◌, ℕ, suc, max, List, [], ◌∷◌, ◌++◌, length, take, Bool, true, false, not, ◌&&◌, ◌||◌, nat_lt, Some, is_some, unwrap_or, Result, Ok, refl, sym, ap, ◌∙◌, subst, arith}
+use Rattle.std.proofs.Common.{◌≡◌, ◌<◌, ◌≤◌, ℕ, suc, max, List, [], ◌∷◌, ◌++◌, length, take, Bool, true, false, not, ◌||◌, nat_lt, Some, is_some, unwrap_or, Result, Ok, refl, sym, ap, ◌∙◌, subst, arith}
 use Rattle.std.proofs.lemmas.Bool.Decides.{nat_tests}
 use Rattle.std.proofs.lemmas.List.{length-take-le}
 use Rattle.office_map.specs.PlanValue.{PlanValue, is_end}
@@ -24,7 +24,7 @@ use Rattle.session_language.proofs.Lexed.{Spells, term_spelled}
 use Rattle.session_language.proofs.Named.{variable_found, let_again, let_next, record_word_is_name, record_word_found, placed_again, variables_known, records_known}
 use Rattle.session_language.proofs.Said.{text_of, let_form, set_form, give_form, require_form}
 use Rattle.session_language.proofs.Listed.{IsPlain, command_within, command_plain}
-use Rattle.session_language.proofs.Fitting.{term_within}
+use Rattle.session_language.proofs.Fitting.{and_true, term_within}
 use Rattle.session_language.proofs.Added.{is_added}
 
 abbrev verdict : {A : Type 0} → Bool → Bool → Bool → A → Result A Rule
@@ -40,9 +40,6 @@ spoken_so s said x v r d e =
     ∙ ap (λ b. verdict true b (is_too_deep said) (spoken_of s said)) r
     ∙ ap (λ b. verdict true true b (spoken_of s said)) d
     ∙ ap (λ y. Ok y) e
-
-both : (a b : Bool) → a ≡ true → b ≡ true → (a && b) ≡ true
-both a b h g = ap (λ x. x && b) h ∙ g
 
 neither : (a b : Bool) → a ≡ false → b ≡ false → (a || b) ≡ false
 neither a b h g = ap (λ x. x || b) h ∙ g
@@ -143,7 +140,7 @@ module _ (p : PlanValue) (ok : IsConsistent p) (x : ProgramValue) (d : IsDeclare
       spoken = SpeaksSet r e;
       form = set_form w e (w.record_name r) (term_text w e) (record_names r g.0) (spells e h g.1);
       speaks = spoken_so (scope n) (Sets (w.record_name r) (phrase w e)) (SpeaksSet r e) (known e h g.1)
-          (both (is_some (record_of (scope n) (w.record_name r))) (knows_records (scope n) (tokens w e)) (ap is_some (records r g.0)) (read e h g.1))
+          (and_true (is_some (record_of (scope n) (w.record_name r))) (knows_records (scope n) (tokens w e)) (ap is_some (records r g.0)) (read e h g.1))
           (shallow (depth e) h.1)
           (ap (λ o. SpeaksSet (unwrap_or o 0) (placed (scope n) (spelled w e))) (records r g.0) ∙ ap (SpeaksSet r) (same_term e h g.1));
       variables = refl;
@@ -162,8 +159,8 @@ module _ (p : PlanValue) (ok : IsConsistent p) (x : ProgramValue) (d : IsDeclare
       spoken = SpeaksDemand t code;
       form = require_form w t.left t.right t.comparison code (term_text w t.left) (term_text w t.right) h.2 (spells t.left h.0 g.0) (spells t.right h.1 g.1);
       speaks = spoken_so (scope n) (Demands (phrase w t.left) t.comparison (phrase w t.right) code) (SpeaksDemand t code)
-          (both (knows_variables (scope n) (tokens w t.left)) (knows_variables (scope n) (tokens w t.right)) (known t.left h.0 g.0) (known t.right h.1 g.1))
-          (both (knows_records (scope n) (tokens w t.left)) (knows_records (scope n) (tokens w t.right)) (read t.left h.0 g.0) (read t.right h.1 g.1))
+          (and_true (knows_variables (scope n) (tokens w t.left)) (knows_variables (scope n) (tokens w t.right)) (known t.left h.0 g.0) (known t.right h.1 g.1))
+          (and_true (knows_records (scope n) (tokens w t.left)) (knows_records (scope n) (tokens w t.right)) (read t.left h.0 g.0) (read t.right h.1 g.1))
           (neither (nat_lt 32 (depth t.left)) (nat_lt 32 (depth t.right)) (shallow (depth t.left) h.0.1) (shallow (depth t.right) h.1.1))
           (ap (λ e. SpeaksDemand (record { left = e; comparison = t.comparison; right = placed (scope n) (spelled w t.right) }) code) (same_term t.left h.0 g.0)
           ∙ ap (λ e. SpeaksDemand (record { left = t.left; comparison = t.comparison; right = e }) code) (same_term t.right h.1 g.1));

@@ -21,7 +21,7 @@ use Rattle.session_language.specs.Shape.{block_from}
 use Rattle.session_language.specs.Needs.{command_needs, block_needs, needs_of}
 use Rattle.session_language.specs.Measures.{block_statements, block_cost, block_gives}
 use Rattle.session_language.specs.Program.{fits, words_under, text_under}
-use Rattle.session_language.specs.Text.{Words, variable_name, line, command_text, block_text, session_text, wide_words}
+use Rattle.session_language.specs.Text.{Words, line, command_text, block_text, session_text, wide_words}
 use Rattle.session_language.specs.Reading.{Reading, program_of, is_too_long, closed, begun, with_open, with_closed, take_line, take_formed, at_line, read_lines, nothing_read, all_closed, sessions_of}
 use Rattle.session_language.specs.WellFormed.{IsStatementOver, known_after, AreStatements, IsWellFormed}
 use Rattle.session_language.proofs.Named.{office_found, office_is_named}
@@ -29,7 +29,7 @@ use Rattle.session_language.proofs.Said.{text_of, one_line, session_form, end_fo
 use Rattle.session_language.proofs.Listed.{IsPlain, both_plain, name_plain, plainly, command_says, command_within, first_statement_is}
 use Rattle.session_language.proofs.Needed.{needs_more}
 use Rattle.session_language.proofs.Needing.{with_command, with_block, block_longer}
-use Rattle.session_language.proofs.Retold.{own, draft, going, plain_line, line_retaken, record_names, variable_names}
+use Rattle.session_language.proofs.Retold.{own, draft, going, plain_line, line_retaken}
 use Rattle.session_language.proofs.Sized.{text_is_short}
 
 -- the statements of a block
@@ -80,11 +80,9 @@ module _ (p : PlanValue) (ok : IsConsistent p) (x : ProgramValue) (good : IsWell
       → read_lines p (so_far n cs) (statements_from k (lines (command_text w c ++ after))) ≡ read_lines p (so_far (known_after n c) (cs ++ c ∷ [])) (statements_from (k + 1) (lines after))
   line_read n k cs c after le h g room needs =
       let t : List ℕ = text_of w c in
-      let names : (i : ℕ) → i < n → is_name (variable_name w i) ≡ true = λ i lt. variable_names p ok x good.declared i (omega arith) in
-      let says = command_says w n ours names (record_names p ok x good.declared) c h in
       ap (λ bs. read_lines p (so_far n cs) (statements_from k (lines (bs ++ after)))) (one_line w n c h)
       ∙ ap (λ bs. read_lines p (so_far n cs) (statements_from k (lines bs))) (append_assoc t (10 ∷ []) after)
-      ∙ ap (read_lines p (so_far n cs)) (first_statement_is k t after (plain_line p ok x good.declared n le c h g room) says)
+      ∙ ap (read_lines p (so_far n cs)) (first_statement_is k t after (plain_line p ok x good.declared n le c h g room) (command_says w n c h))
       ∙ ap (λ r. at_line k r >>= λ y. read_lines p y (statements_from (k + 1) (lines after))) (line_retaken p ok x good.declared [] n cs c le h g room good.few_variables needs)
 
   -- all lines of a block, and what follows them

@@ -119,7 +119,7 @@ no_number w h = by_len (nat_lt 0 (length w) && nat_le (length w) 19)
     by_len false = refl
 
 -- the keywords are no names
-pub not_keyword : (w : List ℕ) → is_keyword w ≡ false → bytes_eq w (codes "read") ≡ false
+not_keyword : (w : List ℕ) → is_keyword w ≡ false → bytes_eq w (codes "read") ≡ false
 not_keyword w h = by_test (bytes_eq w (codes "read")) refl
   where
     by_test : (b : Bool) → bytes_eq w (codes "read") ≡ b → b ≡ false

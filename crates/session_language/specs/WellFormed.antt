@@ -49,7 +49,8 @@ IsOver known (Bin o a b) = IsOver known a × IsOver known b
 abbrev pub IsExpressionOver : ℕ → Term → Type 0
 IsExpressionOver known e = IsOver known e × (depth e ≤ 32)
 
--- A statement of one line. A `let` names a variable that is known, or the next; its expression knows only those before.
+-- A statement of one line, since no text has blocks. A `let` names a variable that is known, or the next; its expression
+-- knows only those before.
 abbrev pub IsStatementOver : ℕ → Command → Type 0
 IsStatementOver known (LetVar k e) = (k ≤ known) × IsExpressionOver known e
 IsStatementOver known (SetTo r e) = IsExpressionOver known e
