@@ -1,5 +1,5 @@
 -- What reading accepts, and where it refuses.
-use Rattle.std.proofs.Common.{◌≡◌, ℕ, ◌+◌, ◌<◌, ◌≤◌, List, [], ◌∷◌, length, Bool, true, false, not, eqb, cond, inl, inr, Option, Some, None, is_some, Result, Ok, Err, refl, arith, subst, nat_lt, nat_le, if◌then◌else◌}
+use Rattle.std.proofs.Common.{◌≡◌, ℕ, ◌+◌, ◌<◌, ◌≤◌, List, [], ◌∷◌, length, Bool, true, false, not, eqb, cond, inl, inr, Option, Some, None, IfSome, is_some, ℤ, codes, Result, Ok, Err, refl, arith, subst, nat_lt, nat_le, if◌then◌else◌}
 use Rattle.std.specs.Option.{ok_or}
 use Rattle.std.specs.Result.{MatchResult}
 use Rattle.std.proofs.lemmas.Bool.{eqb-false, leb-false, ltb-false, not-false}
@@ -13,8 +13,10 @@ use Rattle.office_map.specs.declared.fault.Refusal.{Refusal}
 use Rattle.office_map.specs.declared.fault.PlanFault.{PlanFault}
 use Rattle.office_map.specs.declared.fault.PlanFault.TheVariants.{Memory, Refused}
 use Rattle.office_map.specs.PlanValue.{PlanValue, office_named, record_named, are_neighbours, records_between, with_office, with_pair, with_record}
-use Rattle.office_map.specs.PlanText.{◌>>=◌, ◌>>◌, refuse_if, Declaration, AnOffice, APair, ARecord, is_address_taken, declare, declaration_of, at_line, and_then, plain_words, run_of, read_header, read_line, read_lines, read_statements, plan_of, IsLineOf, Fails, IfRefused}
-use Rattle.office_map.specs.Text.{lines, says_something, statements_from, statements}
+use Rattle.office_map.specs.PlanText.{◌>>=◌, ◌>>◌, refuse_if, Declaration, AnOffice, APair, ARecord, is_address_taken, declare, office_of, pair_of, record_of, value_of, declaration_of, at_line, and_then, plain_words, run_of, read_header, read_line, read_lines, read_statements, plan_of, IsLineOf, Fails, IfRefused}
+use Rattle.std.specs.Str.{bytes_eq}
+use Rattle.office_map.specs.Address.{address_of_word}
+use Rattle.office_map.specs.Text.{is_name, name_of, lines, says_something, statements_from, statements}
 use Rattle.office_map.specs.Consistency.{IsConsistent, IsAccepted, ReadsAcceptablePlans}
 use Rattle.office_map.proofs.Consistent.{none_found, office_consistent, pair_consistent, record_consistent}
 
@@ -57,16 +59,22 @@ within i n x h = grind (arith, nat_tests)
 is_office : (p : PlanValue) (name : List ℕ) (x : ℕ) → office_named p name ≡ Some x → x < length p.offices
 is_office p name x h = within _ (length p.offices) x h
 
-declare_keeps : (p : PlanValue) (d : Declaration) → IsConsistent p → Keeps (declare p d)
-declare_keeps p (AnOffice name address) ok =
+-- what a line declares has a name
+abbrev IsNamed : Declaration → Type 0
+IsNamed (AnOffice name address) = is_name name ≡ true
+IsNamed (APair a b at_first) = Unit {0}
+IsNamed (ARecord name a b value at_first) = is_name name ≡ true
+
+declare_keeps : (p : PlanValue) (d : Declaration) → IsConsistent p → IsNamed d → Keeps (declare p d)
+declare_keeps p (AnOffice name address) ok named =
     let o : OfficeEntry = record { name = name; address = address } in
-    office_kept p (with_office p o) (is_some (office_named p name)) (is_address_taken p address) (nat_le 16 (length p.offices)) (λ fresh free room. office_consistent p o ok (none_found _ fresh) free (leb-false 16 (length p.offices) room))
-declare_keeps p (APair a b at_first) ok =
+    office_kept p (with_office p o) (is_some (office_named p name)) (is_address_taken p address) (nat_le 16 (length p.offices)) (λ fresh free room. office_consistent p o ok named (none_found _ fresh) free (leb-false 16 (length p.offices) room))
+declare_keeps p (APair a b at_first) ok named =
     let pair : ℕ → ℕ → PairEntry = λ x y. record { first = x; second = y; fork_at_first = at_first } in
     pair_kept (office_named p a) (office_named p b) (λ x y. eqb x y) (λ x y. are_neighbours p x y) (λ x y. with_pair p (pair x y)) (λ x y e f apart fresh. pair_consistent p (pair x y) ok (is_office p a x e) (is_office p b y f) (eqb-false x y apart) fresh)
-declare_keeps p (ARecord name a b value at_first) ok =
+declare_keeps p (ARecord name a b value at_first) ok named =
     let entry : ℕ → ℕ → RecordEntry = λ x y. record { name = name; first = x; second = y; value = value; starts_at_first = at_first } in
-    record_kept (office_named p a) (office_named p b) (λ x y. not (are_neighbours p x y)) (is_some (record_named p name)) (λ x y. nat_le 8 (records_between p x y)) (λ x y. with_record p (entry x y)) (λ x y joined fresh room. record_consistent p (entry x y) ok (not-false (are_neighbours p x y) joined) (none_found _ fresh) (leb-false 8 (records_between p x y) room))
+    record_kept (office_named p a) (office_named p b) (λ x y. not (are_neighbours p x y)) (is_some (record_named p name)) (λ x y. nat_le 8 (records_between p x y)) (λ x y. with_record p (entry x y)) (λ x y joined fresh room. record_consistent p (entry x y) ok named (not-false (are_neighbours p x y) joined) (none_found _ fresh) (leb-false 8 (records_between p x y) room))
 
 -- the tables of a plan that is read, and the line of a refusal
 abbrev pub Reads : ℕ → Result PlanValue Refusal → Type 0
@@ -80,11 +88,13 @@ at_its_line n last low high (Err rule) ok = (low, high)
 empty : (run : ℕ) → IsConsistent (record { run = run; offices = []; pairs = []; records = [] })
 empty run = record {
   offices_fit = omega arith;
+  offices_are_named = λ k d lt. absurd (omega arith);
   office_names = λ i j d lt short. absurd (omega arith);
   addresses = λ i j d lt short. absurd (omega arith);
   ends_are_offices = λ k d lt. absurd (omega arith);
   ends_differ = λ k d lt. absurd (omega arith);
   pairs_once = λ i j d lt short. absurd (omega arith);
+  records_are_named = λ k d lt. absurd (omega arith);
   record_names = λ i j d lt short. absurd (omega arith);
   records_have_pairs = λ k d lt. absurd (omega arith);
   records_fit = λ a b. omega arith;
@@ -98,13 +108,57 @@ header_reads : (last : ℕ) (l : ℕ × List ℕ) → 1 ≤ l.0 → l.0 ≤ last
 unfolding read_header
 header_reads last l low high = at_its_line l.0 last low high _ (header_kept (and_then (plain_words l.1) run_of))
 
-line_kept : (p : PlanValue) (d : Option Declaration) → IsConsistent p → Keeps (ok_or d Line >>= declare p)
-line_kept p None ok = tt
-line_kept p (Some d) ok = declare_keeps p d ok
+line_kept : (p : PlanValue) (d : Option Declaration) → IsConsistent p → IfSome d IsNamed → Keeps (ok_or d Line >>= declare p)
+line_kept p None ok named = tt
+line_kept p (Some d) ok named = declare_keeps p d ok named
+
+-- a word that is taken for a name is one
+named_by : (b : Bool) (word : List ℕ) → is_name word ≡ b → IfSome (if b then Some word else None) (λ name. is_name name ≡ true)
+named_by true word h = h
+named_by false word h = tt
+
+named : (word : List ℕ) → IfSome (name_of word) (λ name. is_name name ≡ true)
+named word = named_by (is_name word) word refl
+
+office_named_so : (name address : Option (List ℕ)) → IfSome name (λ n. is_name n ≡ true) → IfSome (office_of name address) IsNamed
+office_named_so (Some name) (Some address) h = h
+office_named_so (Some name) None h = tt
+office_named_so None address h = tt
+
+pair_named_so : (a b : Option (List ℕ)) (at_first : Bool) → IfSome (pair_of a b at_first) IsNamed
+pair_named_so (Some a) (Some b) at_first = tt
+pair_named_so (Some a) None at_first = tt
+pair_named_so None b at_first = tt
+
+record_named_so : (name a b : Option (List ℕ)) (value : Option ℤ) (at_first : Bool) → IfSome name (λ n. is_name n ≡ true) → IfSome (record_of name a b value at_first) IsNamed
+record_named_so (Some name) (Some a) (Some b) (Some value) at_first h = h
+record_named_so (Some name) (Some a) (Some b) None at_first h = tt
+record_named_so (Some name) (Some a) None value at_first h = tt
+record_named_so (Some name) None b value at_first h = tt
+record_named_so None a b value at_first h = tt
+
+if_so : (b : Bool) (o : Option Declaration) → IfSome o IsNamed → IfSome (if b then o else None) IsNamed
+if_so true o h = h
+if_so false o h = tt
+
+declared_named : (words : List (List ℕ)) → IfSome (declaration_of words) IsNamed
+declared_named [] = tt
+declared_named (a ∷ []) = tt
+declared_named (a ∷ b ∷ []) = tt
+declared_named (keyword ∷ name ∷ address ∷ []) = if_so (bytes_eq keyword (codes "office")) _ (office_named_so (name_of name) (address_of_word address) (named name))
+declared_named (a ∷ b ∷ c ∷ d ∷ []) = tt
+declared_named (keyword ∷ a ∷ b ∷ fork ∷ end ∷ []) = if_so _ _ (pair_named_so (name_of a) (name_of b) (bytes_eq end a))
+declared_named (a ∷ b ∷ c ∷ d ∷ e ∷ f ∷ []) = tt
+declared_named (keyword ∷ name ∷ a ∷ b ∷ value ∷ at ∷ end ∷ []) = if_so _ _ (record_named_so (name_of name) (name_of a) (name_of b) (value_of value) (bytes_eq end a) (named name))
+declared_named (a ∷ b ∷ c ∷ d ∷ e ∷ f ∷ g ∷ h ∷ more) = tt
+
+declaration_named : (o : Option (List (List ℕ))) → IfSome (and_then o declaration_of) IsNamed
+declaration_named None = tt
+declaration_named (Some words) = declared_named words
 
 line_reads : (p : PlanValue) (last : ℕ) (l : ℕ × List ℕ) → IsConsistent p → 1 ≤ l.0 → l.0 ≤ last → Reads last (read_line p l)
 unfolding read_line
-line_reads p last l ok low high = at_its_line l.0 last low high _ (line_kept p (and_then (plain_words l.1) declaration_of) ok)
+line_reads p last l ok low high = at_its_line l.0 last low high _ (line_kept p (and_then (plain_words l.1) declaration_of) ok (declaration_named (plain_words l.1)))
 
 -- the numbers of lines
 abbrev pub AreLines : ℕ → List (ℕ × List ℕ) → Type 0

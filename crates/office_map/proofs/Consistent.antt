@@ -1,5 +1,5 @@
 -- A declaration that is accepted keeps the tables consistent.
-use Rattle.std.proofs.Common.{◌≡◌, ◌≢◌, ℕ, ◌+◌, ◌*◌, ◌<◌, ◌≤◌, List, [], ◌∷◌, ◌++◌, length, get_or, Bool, true, false, ◌&&◌, ◌||◌, cond, eqb, ◌⊎◌, inl, inr, Option, Some, None, is_some, refl, sym, subst, ◌∙◌, arith, length-append, nat_lt}
+use Rattle.std.proofs.Common.{◌≡◌, ◌≢◌, ℕ, ◌+◌, ◌*◌, ◌<◌, ◌≤◌, List, [], ◌∷◌, ◌++◌, length, get_or, Bool, true, false, IsTrue, ◌&&◌, ◌||◌, cond, eqb, ◌⊎◌, inl, inr, Option, Some, None, is_some, refl, sym, subst, ◌∙◌, arith, length-append, nat_lt}
 use Rattle.std.specs.List.{All, Any, filter, count_by, list_any, position}
 use Rattle.std.specs.Str.{bytes_eq}
 use Rattle.std.proofs.lemmas.Bool.{and_parts, or_cases, or_left, eqb-true, both_ways, false_from_ne_true}
@@ -14,6 +14,7 @@ use Rattle.office_map.specs.declared.entries.PairEntry.{PairEntry}
 use Rattle.office_map.specs.declared.entries.RecordEntry.{RecordEntry}
 use Rattle.office_map.specs.PlanValue.{PlanValue, office_named, record_named, joins, are_neighbours, lies_between, records_between, with_office, with_pair, with_record, no_address, fork_end}
 use Rattle.office_map.specs.PlanText.{is_address_taken}
+use Rattle.office_map.specs.Text.{is_name}
 use Rattle.office_map.specs.Consistency.{IsConsistent, HasEnds}
 use Rattle.office_map.proofs.Bounds.{count_by-filter, length_by_key}
 
@@ -42,16 +43,18 @@ free_address p address free k d lt e =
         let others : list_any (λ (o : OfficeEntry). bytes_eq o.address address) p.offices ≡ false = rw h at free in
         absurd (differ _ _ (no_element_passes (λ (o : OfficeEntry). bytes_eq o.address address) p.offices others k d lt) e)
 
-pub office_consistent : (p : PlanValue) (o : OfficeEntry) → IsConsistent p → office_named p o.name ≡ None → is_address_taken p o.address ≡ false → length p.offices < 16 → IsConsistent (with_office p o)
-office_consistent p o ok fresh free room =
+pub office_consistent : (p : PlanValue) (o : OfficeEntry) → IsConsistent p → is_name o.name ≡ true → office_named p o.name ≡ None → is_address_taken p o.address ≡ false → length p.offices < 16 → IsConsistent (with_office p o)
+office_consistent p o ok named fresh free room =
     let longer : length (p.offices ++ o ∷ []) ≡ length p.offices + 1 = length-append p.offices (o ∷ []) in
     record {
       offices_fit = omega arith;
+      offices_are_named = All-push (λ (e : OfficeEntry). IsTrue (is_name e.name)) p.offices o ok.offices_are_named named;
       office_names = all_pairs_push (λ (a b : OfficeEntry). a.name ≢ b.name) p.offices o ok.office_names (λ k d lt. differ _ _ (none_passes (λ (e : OfficeEntry). bytes_eq e.name o.name) p.offices fresh k d lt));
       addresses = all_pairs_push (λ (a b : OfficeEntry). a.address ≡ b.address → a.address ≡ no_address) p.offices o ok.addresses (free_address p o.address free);
       ends_are_offices = All-weaker (λ (pair : PairEntry). (pair.first < length p.offices) × (pair.second < length p.offices)) (λ (pair : PairEntry). (pair.first < length (p.offices ++ o ∷ [])) × (pair.second < length (p.offices ++ o ∷ []))) (λ pair h. (omega (arith, h), omega (arith, h))) p.pairs ok.ends_are_offices;
       ends_differ = ok.ends_differ;
       pairs_once = ok.pairs_once;
+      records_are_named = ok.records_are_named;
       record_names = ok.record_names;
       records_have_pairs = ok.records_have_pairs;
       records_fit = ok.records_fit;
@@ -64,11 +67,13 @@ pub pair_consistent : (p : PlanValue) (pair : PairEntry) → IsConsistent p → 
 pair_consistent p pair ok first second apart fresh =
     record {
       offices_fit = ok.offices_fit;
+      offices_are_named = ok.offices_are_named;
       office_names = ok.office_names;
       addresses = ok.addresses;
       ends_are_offices = All-push (λ (e : PairEntry). (e.first < length p.offices) × (e.second < length p.offices)) p.pairs pair ok.ends_are_offices (first, second);
       ends_differ = All-push (λ (e : PairEntry). e.first ≢ e.second) p.pairs pair ok.ends_differ apart;
       pairs_once = all_pairs_push (λ (a b : PairEntry). joins b.first b.second a ≡ false) p.pairs pair ok.pairs_once (no_element_passes (joins pair.first pair.second) p.pairs fresh);
+      records_are_named = ok.records_are_named;
       record_names = ok.record_names;
       records_have_pairs = All-weaker (λ (r : RecordEntry). are_neighbours p r.first r.second ≡ true) (λ (r : RecordEntry). are_neighbours (with_pair p pair) r.first r.second ≡ true) (λ r h. still_neighbours p pair r.first r.second h) p.records ok.records_have_pairs;
       records_fit = ok.records_fit;
@@ -108,15 +113,17 @@ one_record_more : (p : PlanValue) (r : RecordEntry) (a b : ℕ) → records_betw
 one_record_more p r a b fit room false h = omega arith
 one_record_more p r a b fit room true h = let same = records_same p r a b (in_either_order a b r.first r.second h) in omega (arith, same)
 
-pub record_consistent : (p : PlanValue) (r : RecordEntry) → IsConsistent p → are_neighbours p r.first r.second ≡ true → record_named p r.name ≡ None → records_between p r.first r.second < 8 → IsConsistent (with_record p r)
-record_consistent p r ok pair fresh room =
+pub record_consistent : (p : PlanValue) (r : RecordEntry) → IsConsistent p → is_name r.name ≡ true → are_neighbours p r.first r.second ≡ true → record_named p r.name ≡ None → records_between p r.first r.second < 8 → IsConsistent (with_record p r)
+record_consistent p r ok named pair fresh room =
     record {
       offices_fit = ok.offices_fit;
+      offices_are_named = ok.offices_are_named;
       office_names = ok.office_names;
       addresses = ok.addresses;
       ends_are_offices = ok.ends_are_offices;
       ends_differ = ok.ends_differ;
       pairs_once = ok.pairs_once;
+      records_are_named = All-push (λ (e : RecordEntry). IsTrue (is_name e.name)) p.records r ok.records_are_named named;
       record_names = all_pairs_push (λ (a b : RecordEntry). a.name ≢ b.name) p.records r ok.record_names (λ k d lt. differ _ _ (none_passes (λ (e : RecordEntry). bytes_eq e.name r.name) p.records fresh k d lt));
       records_have_pairs = All-push (λ (e : RecordEntry). are_neighbours p e.first e.second ≡ true) p.records r ok.records_have_pairs pair;
       records_fit = λ a b. rw (sum_by_push (λ e. cond (lies_between a b e) 1 0) p.records r) (one_record_more p r a b (ok.records_fit a b) room (lies_between a b r) refl);
@@ -170,15 +177,17 @@ pub none_found : {A : Type 0} (o : Option A) → is_some o ≡ false → o ≡ N
 none_found None h = refl
 none_found (Some x) h = (cc)
 
-pub office_added : (p now : PlanValue) (o : OfficeEntry) (found : Option ℕ) (taken : Bool) (name address : List ℕ) → IsConsistent p → p ≡ now → found ≡ office_named now name → is_some found ≡ false → taken ≡ is_address_taken now address → taken ≡ false → length p.offices < 16 → o.name ≡ name → o.address ≡ address → IsConsistent (with_office p o)
-office_added p now o found taken name address ok same named fresh looked free room n a =
+pub office_added : (p now : PlanValue) (o : OfficeEntry) (found : Option ℕ) (taken : Bool) (name address : List ℕ) → IsConsistent p → is_name name ≡ true → p ≡ now → found ≡ office_named now name → is_some found ≡ false → taken ≡ is_address_taken now address → taken ≡ false → length p.offices < 16 → o.name ≡ name → o.address ≡ address → IsConsistent (with_office p o)
+office_added p now o found taken name address ok is same named fresh looked free room n a =
     let unnamed : office_named p o.name ≡ None = rw (n, same) (sym named ∙ none_found found fresh) in
     let unused : is_address_taken p o.address ≡ false = rw (a, same) (sym looked ∙ free) in
-    office_consistent p o ok unnamed unused room
+    let good : is_name o.name ≡ true = rw n is in
+    office_consistent p o ok good unnamed unused room
 
-pub record_added : (p now : PlanValue) (r : RecordEntry) (found : Option ℕ) (pair : Bool) (count : ℕ) (name : List ℕ) → IsConsistent p → p ≡ now → pair ≡ are_neighbours now r.first r.second → pair ≡ true → found ≡ record_named now name → is_some found ≡ false → count ≡ records_between now r.first r.second → count < 8 → r.name ≡ name → IsConsistent (with_record p r)
-record_added p now r found pair count name ok same looked joined named fresh counted few n =
+pub record_added : (p now : PlanValue) (r : RecordEntry) (found : Option ℕ) (pair : Bool) (count : ℕ) (name : List ℕ) → IsConsistent p → is_name name ≡ true → p ≡ now → pair ≡ are_neighbours now r.first r.second → pair ≡ true → found ≡ record_named now name → is_some found ≡ false → count ≡ records_between now r.first r.second → count < 8 → r.name ≡ name → IsConsistent (with_record p r)
+record_added p now r found pair count name ok is same looked joined named fresh counted few n =
     let neighbours : are_neighbours p r.first r.second ≡ true = rw same (sym looked ∙ joined) in
     let unnamed : record_named p r.name ≡ None = rw (n, same) (sym named ∙ none_found found fresh) in
     let room : records_between p r.first r.second < 8 = rw (same, ← counted) few in
-    record_consistent p r ok neighbours unnamed room
+    let good : is_name r.name ≡ true = rw n is in
+    record_consistent p r ok good neighbours unnamed room

@@ -7,16 +7,19 @@ use Rattle.office_map.specs.declared.entries.RecordEntry.{RecordEntry}
 use Rattle.office_map.specs.declared.fault.Refusal.{Refusal}
 use Rattle.office_map.specs.PlanValue.{PlanValue, no_address, joins, are_neighbours, records_between}
 use Rattle.office_map.specs.PlanText.{plan_of, IsLineOf}
+use Rattle.office_map.specs.Text.{is_name}
 use Rattle.std.specs.Prelude.{List}
 
 -- The tables agree with one another, and no limit is passed.
 pub record IsConsistent (p : PlanValue) : Type 0 where
   pub offices_fit : length p.offices ≤ 16
+  pub offices_are_named : All (λ (o : OfficeEntry). IsTrue (is_name o.name)) p.offices
   pub office_names : AllPairs (λ (a b : OfficeEntry). a.name ≢ b.name) p.offices
   pub addresses : AllPairs (λ (a b : OfficeEntry). a.address ≡ b.address → a.address ≡ no_address) p.offices
   pub ends_are_offices : All (λ (pair : PairEntry). (pair.first < length p.offices) × (pair.second < length p.offices)) p.pairs
   pub ends_differ : All (λ (pair : PairEntry). pair.first ≢ pair.second) p.pairs
   pub pairs_once : AllPairs (λ (a b : PairEntry). joins b.first b.second a ≡ false) p.pairs
+  pub records_are_named : All (λ (r : RecordEntry). IsTrue (is_name r.name)) p.records
   pub record_names : AllPairs (λ (a b : RecordEntry). a.name ≢ b.name) p.records
   pub records_have_pairs : All (λ (r : RecordEntry). IsTrue (are_neighbours p r.first r.second)) p.records
   pub records_fit : (a b : ℕ) → records_between p a b ≤ 8

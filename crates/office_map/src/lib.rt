@@ -26,6 +26,7 @@ pub mod ids;
 mod index;
 pub mod laws;
 mod line;
+mod new_entries;
 pub mod plan;
 mod read;
 mod records;

@@ -6,6 +6,7 @@ ghost use Rattle.office_map.specs.Text.{number_of};
 ghost use Rattle.std.specs.Str.{bytes_eq};
 
 use crate::address::address;
+use crate::new_entries::{NewOffice, NewPair, NewRecord};
 use crate::text::{name, number};
 
 /// What a line declares, with names as they stand in the text.
@@ -14,28 +15,6 @@ pub(crate) enum Declaration<'a> {
     Office(NewOffice<'a>),
     Pair(NewPair<'a>),
     Record(NewRecord<'a>),
-}
-
-#[derive(Clone, Copy)]
-pub(crate) struct NewOffice<'a> {
-    pub name: &'a str,
-    pub address: &'a str,
-}
-
-#[derive(Clone, Copy)]
-pub(crate) struct NewPair<'a> {
-    pub a: &'a str,
-    pub b: &'a str,
-    pub fork_at_first: bool,
-}
-
-#[derive(Clone, Copy)]
-pub(crate) struct NewRecord<'a> {
-    pub name: &'a str,
-    pub a: &'a str,
-    pub b: &'a str,
-    pub value: i64,
-    pub starts_at_first: bool,
 }
 
 pub(crate) fn declaration_in<'a>(words: &[&'a [u8]]) -> Option<Declaration<'a>>
@@ -51,6 +30,7 @@ pub(crate) fn declaration_in<'a>(words: &[&'a [u8]]) -> Option<Declaration<'a>>
     }
 }
 
+#[tactic(auto, using(crate::proofs::Names::is_named))]
 fn office<'a>(keyword: &[u8], word: &'a [u8], place: &'a [u8]) -> Option<Declaration<'a>>
     ensures { option_map seen result ≡ office_line keyword.now word.now place.now }
 {
@@ -84,6 +64,7 @@ fn pair<'a>(
     }))
 }
 
+#[tactic(auto, using(crate::proofs::Names::is_named))]
 fn record<'a>(
     keyword: &[u8],
     word: &'a [u8],

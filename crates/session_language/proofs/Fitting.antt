@@ -8,7 +8,7 @@ use Rattle.std.proofs.lemmas.Bool.Decides.{nat_tests}
 use Rattle.std.specs.List.{list_all, position_or_len}
 use Rattle.std.specs.Option.{ok_or}
 use Rattle.office_map.specs.PlanValue.{PlanValue, is_end, office_named, record_named}
-use Rattle.office_map.specs.Text.{name_of, lines, statements}
+use Rattle.office_map.specs.Text.{is_name, name_of, lines, statements}
 use Rattle.office_map.specs.PlanText.{◌>>=◌, ◌>>◌, refuse_if}
 use Rattle.session_language.specs.Tree.{Term, Constant, Var, ReadOf, Neg, Bin}
 use Rattle.session_language.specs.Spelling.{Operand, ANumber, AVariable, ARecord, Spelled, Plain, Token, Plus, Minus, Times, Close}
@@ -29,19 +29,20 @@ use Rattle.session_language.specs.Reading.{Draft, Reading, Spoken, SpeaksLet, Sp
 use Rattle.session_language.specs.ProgramValue.{ProgramValue}
 use Rattle.session_language.specs.Measures.{block_gives}
 use Rattle.session_language.specs.Program.{fits}
+use Rattle.session_language.proofs.Literals.{tokens_fit, run_fits, name_fits, code_fits}
 use Rattle.session_language.proofs.Needed.{needs_more}
 use Rattle.session_language.proofs.Sound.{read_spells}
 use Rattle.session_language.specs.Needs.{with_record, term_needs, command_needs, needs_of}
 
-both_left : (a b : Bool) → (a && b) ≡ true → a ≡ true
+pub both_left : (a b : Bool) → (a && b) ≡ true → a ≡ true
 both_left true b h = refl
 both_left false b h = h
 
-both_right : (a b : Bool) → (a && b) ≡ true → b ≡ true
+pub both_right : (a b : Bool) → (a && b) ≡ true → b ≡ true
 both_right true b h = h
 both_right false b h = (cc)
 
-and_true : (a b : Bool) → a ≡ true → b ≡ true → (a && b) ≡ true
+pub and_true : (a b : Bool) → a ≡ true → b ≡ true → (a && b) ≡ true
 and_true true b h k = k
 and_true false b h k = h
 
@@ -112,26 +113,26 @@ term_kept ok (Neg e) rs o h = term_kept ok e rs o h
 term_kept ok (Bin op a b) rs o h =
     term_kept ok b (term_needs a rs) (both_right (term_within ok a) (term_within ok b) o) (term_kept ok a rs (both_left (term_within ok a) (term_within ok b) o) h)
 
--- the grammar has the tokens of each expression of a line
-abbrev IsRead : Phrase → Type 0
-IsRead e = IsExpr e.tokens e.tree e.depth
+-- the grammar has the tokens of each expression of a line, and its literals are in their range
+abbrev pub IsRead : Phrase → Type 0
+IsRead e = IsExpr e.tokens e.tree e.depth × tokens_fit e.tokens
 
-read_of : (ts : List Token) (rest : List Piece) (o : Option Part) → IfSome o (λ x. IsExpr ts x.tree x.depth) → IfSome (phrase_of ts rest o) (λ y. IsRead y.0)
-read_of ts rest None h = tt
-read_of ts rest (Some x) h = h
+read_of : (ts : List Token) (rest : List Piece) (o : Option Part) → IfSome o (λ x. IsExpr ts x.tree x.depth) → tokens_fit ts → IfSome (phrase_of ts rest o) (λ y. IsRead y.0)
+read_of ts rest None h f = tt
+read_of ts rest (Some x) h f = (h, f)
 
-in_run : (o : Option Run) → IfSome (phrase_in o) (λ y. IsRead y.0)
-in_run None = tt
-in_run (Some r) = read_of r.tokens r.rest (read_part r.tokens) (read_spells r.tokens)
+in_run : (o : Option Run) → IfSome o (λ r. tokens_fit r.tokens) → IfSome (phrase_in o) (λ y. IsRead y.0)
+in_run None f = tt
+in_run (Some r) f = read_of r.tokens r.rest (read_part r.tokens) (read_spells r.tokens) f
 
 pub phrases : (ps : List Piece) → IfSome (phrase_at ps) (λ y. IsRead y.0)
-phrases ps = unfold phrase_at in in_run (run false ps)
+phrases ps = unfold phrase_at in in_run (run false ps) (run_fits false ps)
 
-abbrev IsSaid : Said → Type 0
-IsSaid (Lets name e) = IsRead e
+abbrev pub IsSaid : Said → Type 0
+IsSaid (Lets name e) = (is_name name ≡ true) × IsRead e
 IsSaid (Sets name e) = IsRead e
 IsSaid (Gives e) = IsRead e
-IsSaid (Demands l c r code) = IsRead l × IsRead r
+IsSaid (Demands l c r code) = IsRead l × IsRead r × (code < 65536)
 
 ends : (y : Phrase × List Piece) → IsRead y.0 → IfSome (ends_there y) IsRead
 ends (e, []) h = h
@@ -141,17 +142,20 @@ alone_of : (o : Option (Phrase × List Piece)) → IfSome o (λ y. IsRead y.0) �
 alone_of None h = tt
 alone_of (Some y) h = ends y h
 
-named : (n : Option (List ℕ)) (o : Option Phrase) → IfSome o IsRead → IfSome (if_named n o) (λ x. IsRead x.1)
-named None o h = tt
-named (Some name) None h = tt
-named (Some name) (Some e) h = h
+abbrev IsAssigned : List ℕ × Phrase → Type 0
+IsAssigned x = (is_name x.0 ≡ true) × IsRead x.1
 
-assigned_is : (ps : List Piece) → IfSome (assigned ps) (λ x. IsRead x.1)
+named : (n : Option (List ℕ)) (o : Option Phrase) → IfSome n (λ name. is_name name ≡ true) → IfSome o IsRead → IfSome (if_named n o) IsAssigned
+named None o g h = tt
+named (Some name) None g h = tt
+named (Some name) (Some e) g h = (g, h)
+
+assigned_is : (ps : List Piece) → IfSome (assigned ps) IsAssigned
 assigned_is [] = tt
 assigned_is (AWord w ∷ []) = tt
 assigned_is (AWord w ∷ AWord v ∷ ps) = tt
 assigned_is (AWord w ∷ AStray ∷ ps) = tt
-assigned_is (AWord w ∷ ASymbol symbol.Assign ∷ ps) = named (name_of w) (phrase_alone ps) (alone_of (phrase_at ps) (phrases ps))
+assigned_is (AWord w ∷ ASymbol symbol.Assign ∷ ps) = named (name_of w) (phrase_alone ps) (name_fits w) (alone_of (phrase_at ps) (phrases ps))
 assigned_is (AWord w ∷ ASymbol symbol.Plus ∷ ps) = tt
 assigned_is (AWord w ∷ ASymbol symbol.Minus ∷ ps) = tt
 assigned_is (AWord w ∷ ASymbol symbol.Times ∷ ps) = tt
@@ -167,11 +171,11 @@ assigned_is (ASymbol s ∷ ps) = tt
 assigned_is (AStray ∷ ps) = tt
 
 demand_is : (left : Phrase) (c : Comparison) (y : Phrase × List Piece) → IsRead left → IsRead y.0 → IfSome (demand left c y) IsSaid
-demand_is left c (e, ps) l h = by_code (else_code ps)
+demand_is left c (e, ps) l h = by_code (else_code ps) (code_fits ps)
   where
-    by_code : (o : Option ℕ) → IfSome (option_map (Demands left c e) o) IsSaid
-    by_code None = tt
-    by_code (Some n) = (l, h)
+    by_code : (o : Option ℕ) → IfSome o (λ n. n < 65536) → IfSome (option_map (Demands left c e) o) IsSaid
+    by_code None f = tt
+    by_code (Some n) f = (l, h, f)
 
 demanded : (left : Phrase) (c : Comparison) (o : Option (Phrase × List Piece)) → IsRead left → IfSome o (λ y. IsRead y.0) → IfSome (option_and_then (demand left c) o) IsSaid
 demanded left c None l h = tt
@@ -208,25 +212,34 @@ closes : (ps : List Piece) → IfSome (if_empty Closes ps) IsFormed
 closes [] = tt
 closes (p ∷ ps) = tt
 
-lets : (o : Option (List ℕ × Phrase)) → IfSome o (λ x. IsRead x.1) → IfSome (option_map (λ x. Lets x.0 x.1) o) IsSaid
+lets : (o : Option (List ℕ × Phrase)) → IfSome o IsAssigned → IfSome (option_map (λ x. Lets x.0 x.1) o) IsSaid
 lets None h = tt
 lets (Some x) h = h
 
-sets : (o : Option (List ℕ × Phrase)) → IfSome o (λ x. IsRead x.1) → IfSome (option_map (λ x. Sets x.0 x.1) o) IsSaid
+sets : (o : Option (List ℕ × Phrase)) → IfSome o IsAssigned → IfSome (option_map (λ x. Sets x.0 x.1) o) IsSaid
 sets None h = tt
-sets (Some x) h = h
+sets (Some x) h = h.1
 
 gives : (o : Option Phrase) → IfSome o IsRead → IfSome (option_map Gives o) IsSaid
 gives None h = tt
 gives (Some e) h = h
 
+pub said_is : (k : Keyword) (ps : List Piece) → IfSome (said_after k ps) IsSaid
+said_is Let ps = lets (assigned ps) (assigned_is ps)
+said_is Set ps = sets (assigned ps) (assigned_is ps)
+said_is Give ps = gives (phrase_alone ps) (alone_of (phrase_at ps) (phrases ps))
+said_is Require ps = left_read (phrase_at ps) (phrases ps)
+said_is Session ps = tt
+said_is End ps = tt
+said_is Other ps = tt
+
 formed : (k : Keyword) (ps : List Piece) → IfSome (form_after k ps) IsFormed
 formed Session ps = opens (name_alone ps)
 formed End ps = closes ps
-formed Let ps = says (said_after Let ps) (lets (assigned ps) (assigned_is ps))
-formed Set ps = says (said_after Set ps) (sets (assigned ps) (assigned_is ps))
-formed Give ps = says (said_after Give ps) (gives (phrase_alone ps) (alone_of (phrase_at ps) (phrases ps)))
-formed Require ps = says (said_after Require ps) (left_read (phrase_at ps) (phrases ps))
+formed Let ps = says (said_after Let ps) (said_is Let ps)
+formed Set ps = says (said_after Set ps) (said_is Set ps)
+formed Give ps = says (said_after Give ps) (said_is Give ps)
+formed Require ps = says (said_after Require ps) (said_is Require ps)
 formed Other ps = tt
 
 forms : (ps : List Piece) → IfSome (form_of ps) IsFormed
@@ -243,27 +256,27 @@ IsWithin ok (SpeaksGive e) = term_within ok e ≡ true
 IsWithin ok (SpeaksDemand t code) = (term_within ok t.left ≡ true) × (term_within ok t.right ≡ true)
 
 spoken_within : (s : Scope) (said : Said) → IsSaid said → are_records_known s said ≡ true → IsWithin (ends_of_office s) (spoken_of s said)
-spoken_within s (Lets name e) r h = expr_within s e.tokens e.tree e.depth r h
+spoken_within s (Lets name e) r h = expr_within s e.tokens e.tree e.depth r.1.0 h
 spoken_within s (Sets name e) r h = (
   known s (record_named s.plan name) (both_left (is_some (record_of s name)) (knows_records s e.tokens) h),
-  expr_within s e.tokens e.tree e.depth r (both_right (is_some (record_of s name)) (knows_records s e.tokens) h),
+  expr_within s e.tokens e.tree e.depth r.0 (both_right (is_some (record_of s name)) (knows_records s e.tokens) h),
 )
-spoken_within s (Gives e) r h = expr_within s e.tokens e.tree e.depth r h
+spoken_within s (Gives e) r h = expr_within s e.tokens e.tree e.depth r.0 h
 spoken_within s (Demands l c m code) r h = (
-  expr_within s l.tokens l.tree l.depth r.0 (both_left (knows_records s l.tokens) (knows_records s m.tokens) h),
-  expr_within s m.tokens m.tree m.depth r.1 (both_right (knows_records s l.tokens) (knows_records s m.tokens) h),
+  expr_within s l.tokens l.tree l.depth r.0.0 (both_left (knows_records s l.tokens) (knows_records s m.tokens) h),
+  expr_within s m.tokens m.tree m.depth r.1.0 (both_right (knows_records s l.tokens) (knows_records s m.tokens) h),
 )
 
 -- what holds behind a refusal that did not come
-past : {A E : Type 0} (b : Bool) (rule : E) (r : Result A E) (P : A → Type 0) → (b ≡ false → IfOk r P) → IfOk (refuse_if b rule >> r) P
+pub past : {A E : Type 0} (b : Bool) (rule : E) (r : Result A E) (P : A → Type 0) → (b ≡ false → IfOk r P) → IfOk (refuse_if b rule >> r) P
 past true rule r P h = tt
 past false rule r P h = h refl
 
-and_so : {A B E : Type 0} (r : Result A E) (f : A → Result B E) (P : A → Type 0) (Q : B → Type 0) → IfOk r P → ((x : A) → P x → IfOk (f x) Q) → IfOk (r >>= f) Q
+pub and_so : {A B E : Type 0} (r : Result A E) (f : A → Result B E) (P : A → Type 0) (Q : B → Type 0) → IfOk r P → ((x : A) → P x → IfOk (f x) Q) → IfOk (r >>= f) Q
 and_so (Ok x) f P Q h g = g x h
 and_so (Err e) f P Q h g = tt
 
-not_not : (b : Bool) → not b ≡ false → b ≡ true
+pub not_not : (b : Bool) → not b ≡ false → b ≡ true
 not_not true h = refl
 not_not false h = sym h
 

@@ -20,4 +20,7 @@ pub mod Text
 pub mod Splits
 pub mod Drafts
 pub mod Program
+pub mod Naming
+pub mod WellFormed
+pub mod OneProof
 pub mod Laws

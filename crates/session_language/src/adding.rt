@@ -6,6 +6,7 @@ ghost use Rattle.session_language.specs.Shape.{command_of};
 ghost use Rattle.session_language.specs.Spoken.{Tells, seen_spoken};
 ghost use Rattle.session_language.specs.Drafts.{draft_of};
 ghost use Rattle.session_language.specs.Reading.{begun, add, place_of, with_variable, variables_after, command_in};
+ghost use Rattle.session_language.specs.WellFormed.{IsSpokenOver};
 
 use crate::draft::Draft;
 use crate::fault::{Rule, Stop};
@@ -23,6 +24,7 @@ const MOST_VARIABLES: usize = 32;
 
 impl Draft {
     /// A session with nothing in it yet.
+    #[tactic(auto, using(crate::proofs::Keeping::nothing_declared))]
     pub fn begun(alloc: Global, office: OfficeId) -> Draft
         ensures { draft_of result ≡ begun office }
     {
@@ -36,6 +38,7 @@ impl Draft {
 
     /// The session with one more statement, if it stays within its limits.
     pub fn add(self, alloc: Global, spoken: Spoken<'_>) -> Result<Draft, Stop>
+        requires { IsSpokenOver (vec_len self.variables) (seen_spoken spoken) }
         ensures { Tells draft_of result (add (draft_of self) (seen_spoken spoken.entry)) }
     {
         let Draft {

@@ -4,7 +4,8 @@
 //!   refusal with its line. Each program fits the plan.
 //! - A [`Program`] is a session's office, the names of its variables, and its statements as a tree. `needs` are the
 //!   records that it reads or sets anywhere (`needs_of`, in `specs/Needs.antt`), `text` is its canonical text
-//!   (`text_under`, in `specs/Program.antt`), `fits` says whether a plan has its office and its records.
+//!   (`text_under`, in `specs/Program.antt`), which means that program and nothing else under the plan, and `fits` says
+//!   whether a plan has its office and its records. What holds of every program is in `specs/WellFormed.antt`.
 //! - What a session does alone is `alone`, in `specs/Meaning.antt`; how it ended is an [`Ending`](ending::Ending).
 //! - Expressions are kept in postfix order (`specs/Postfix.antt`), and reading them takes one pass and no recursion; the
 //!   grammar is in `specs/Grammar.antt`, the words of a line in `specs/Lexer.antt`, the limits in

@@ -1,11 +1,14 @@
 //! Programs: what the text of a session means.
 
-ghost use Rattle.std.specs.Prelude.{◌≡◌, IfOk, IsTrue, map};
+ghost use Rattle.std.specs.Prelude.{◌≡◌, ◌≤◌, ◌↔◌, ℕ, [], ◌∷◌, Ok, false, IfOk, IsTrue, Contains, map};
+ghost use Rattle.std.specs.List.Sorted.{IsStrictlyIncreasing};
 ghost use Rattle.std.specs.List.{list_all};
 ghost use Rattle.std.specs.String.{string_bytes};
 ghost use Rattle.office_map.specs.PlanValue.{is_end};
 ghost use Rattle.session_language.specs.Shape.{block_of};
 ghost use Rattle.session_language.specs.Needs.{needs_of};
+ghost use Rattle.session_language.specs.Naming.{BlockNames};
+ghost use Rattle.session_language.specs.WellFormed.{IsWellFormed};
 
 use crate::copying::{copy_block, copy_texts};
 use crate::draft::Draft;
@@ -35,6 +38,7 @@ impl Model for Program {
     ghost use Rattle.session_language.specs.TreeCode.{Mark, term_code, block_code};
     ghost use Rattle.session_language.specs.Shape.{block_of};
     ghost use Rattle.session_language.specs.Needs.{needs_of};
+    ghost use Rattle.session_language.specs.WellFormed.{IsWellFormed};
 
     ghost Value = { ProgramValue };
 
@@ -42,16 +46,19 @@ impl Model for Program {
 
     ghost view = { λ p. record { office = p.office; variables = map string_bytes p.variables.items; body = block_of p.statements.items } };
 
-    ghost invariant = { λ p. p.needs.items ≡ needs_of (block_of p.statements.items) };
+    ghost invariant = { λ p. (p.needs.items ≡ needs_of (block_of p.statements.items)) × IsWellFormed (record { office = p.office; variables = map string_bytes p.variables.items; body = block_of p.statements.items }) };
 }
 
 impl Program {
     ghost use Rattle.session_language.specs.Drafts.{draft_of};
     ghost use Rattle.session_language.specs.Program.{fits, text_under};
-    ghost use Rattle.session_language.specs.Reading.{program_of};
+    ghost use Rattle.session_language.specs.Measures.{block_gives};
+    ghost use Rattle.session_language.specs.Reading.{program_of, is_too_long, sessions_of};
 
     /// The program of a session that is closed.
     pub(crate) fn of(draft: Draft) -> Program
+        requires short { is_too_long (program_of (draft_of draft)) ≡ false }
+        requires few_gives { block_gives (program_of (draft_of draft)).body ≤ 64 }
         ensures { result ≡ program_of (draft_of draft) }
     {
         let Draft {
@@ -76,8 +83,11 @@ impl Program {
     }
 
     /// The records that it reads or sets anywhere, each once, in order of number.
+    #[tactic(auto, using(crate::proofs::Ordered::needs_increase, crate::proofs::Ordered::needs_are_named))]
     pub fn needs(&self) -> &[RecordId]
-        ensures { result.now ≡ needs_of self.now.body }
+        ensures all { result.now ≡ needs_of self.now.body }
+        ensures in_order { IsStrictlyIncreasing result.now }
+        ensures named { (r : ℕ) → Contains result.now r ↔ BlockNames r self.now.body }
     {
         &self.needs
     }
@@ -89,9 +99,11 @@ impl Program {
         &self.variables
     }
 
-    /// The statements, in order.
+    /// The statements, in order. Every program is well formed: its variables are names that lines
+    /// let before they are read, its literals have no sign, and it is within the limits.
     pub fn tree(&self) -> &[Statement]
-        ensures { block_of result.now ≡ self.now.body }
+        ensures body { block_of result.now ≡ self.now.body }
+        ensures well_formed { IsWellFormed self.now }
     {
         &self.statements
     }
@@ -106,11 +118,14 @@ impl Program {
         are_of_office(plan, &self.needs, self.office)
     }
 
-    /// The canonical text of the session under a plan that it fits.
+    /// The canonical text of the session under a plan that it fits. Under that plan it means this
+    /// program, and nothing else.
     pub fn text(&self, alloc: Global, plan: &Plan) -> Result<String, AllocError>
         requires { IsTrue (fits plan.now self.now) }
-        ensures { IfOk result (λ t. string_bytes t ≡ text_under plan.now self.now) }
+        ensures canonical { IfOk result (λ t. string_bytes t ≡ text_under plan.now self.now) }
+        ensures reads_back { IfOk result (λ t. sessions_of plan.now (string_bytes t) ≡ Ok (self.now ∷ [])) }
     {
+        prove!(self.office.index() < plan.offices());
         let words = Words {
             office: plan.office_name(self.office),
             variables: &self.variables,

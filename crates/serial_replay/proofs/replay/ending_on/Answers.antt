@@ -8,5 +8,5 @@ returns c = λ m t.
     let g = tables.gathered c.args.values.now (length c.args.values.now) m (needs_of c.args.program.now.body) t c.requires in
     let a = rw c.deref.ensures.value at c.alone.ensures in
     let b = rw c.in_ok-needed.ensures at a in
-    let d = rw c.needs.ensures at b in
+    let d = rw c.needs.ensures.all at b in
     rw g at d

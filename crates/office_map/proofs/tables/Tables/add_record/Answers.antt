@@ -7,4 +7,4 @@ push-requires c = omega (arith, few_records _ c.self.invariant)
 
 pub invariant_of-self-2 : goal.invariant_of-self-2
 invariant_of-self-2 c =
-    rw c.in_ok-push.ensures.ok (record_added _ c.args.self.now _ c.record_named.result c.are_neighbours.result c.records_between.result c.args.declared.name.now c.self.invariant c.self.view_is c.are_neighbours.ensures c.if-not-are_neighbours.false c.record_named.ensures (sym c.is_some.ensures ∙ c.if-is_some.false) c.records_between.ensures (omega arith) c.in_ok-of.ensures)
+    rw c.in_ok-push.ensures.ok (record_added _ c.args.self.now _ c.record_named.result c.are_neighbours.result c.records_between.result c.args.declared.name.now c.self.invariant c.args.declared.named c.self.view_is c.are_neighbours.ensures c.if-not-are_neighbours.false c.record_named.ensures (sym c.is_some.ensures ∙ c.if-is_some.false) c.records_between.ensures (omega arith) c.in_ok-of.ensures)

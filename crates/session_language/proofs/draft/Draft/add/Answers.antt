@@ -7,6 +7,7 @@ use Rattle.session_language.specs.Spoken.{seen_spoken}
 use Rattle.session_language.specs.Drafts.{draft_of}
 use Rattle.session_language.specs.Reading.{command_in}
 use Rattle.session_language.proofs.Needed.{needs_added}
+use Rattle.session_language.proofs.Keeping.{declared_added}
 use Rattle.session_language.proofs.Added.{too_many_records, too_many_variables}
 use Rattle.session_language.proofs.draft.Draft.add.Goals as goal
 
@@ -26,3 +27,9 @@ invariant_of-result-clause-needed c =
     let needed = needs_added (map command_of c.args.self.statements.items) (map string_bytes c.place.new.variables.items) (seen_spoken c.args.spoken) c.args.self.needs.items c.add_needs.new.needs.items c.args.self.needed c.in_ok-add_needs.ensures in
     let grown : map command_of c.push.new.self.items ≡ map command_of c.args.self.statements.items ++ command_in (map string_bytes c.place.new.variables.items) (seen_spoken c.args.spoken) ∷ [] = rw (c.in_ok-push.ensures.items, map_push, c.in_ok-statement.ensures.statement) refl in
     needed ∙ ap (λ cs. needs_of (block_from cs)) (sym grown)
+
+pub invariant_of-result-clause-declared : goal.invariant_of-result-clause-declared
+invariant_of-result-clause-declared c =
+    let grown : map command_of c.push.new.self.items ≡ map command_of c.args.self.statements.items ++ command_in (map string_bytes c.place.new.variables.items) (seen_spoken c.args.spoken) ∷ [] = rw (c.in_ok-push.ensures.items, map_push, c.in_ok-statement.ensures.statement) refl in
+    declared_added (map string_bytes c.args.self.variables.items) (map string_bytes c.place.new.variables.items) (map command_of c.args.self.statements.items) (map command_of c.push.new.self.items) _ (seen_spoken c.args.spoken)
+    c.args.self.declared (search (rules, length-map)) c.requires c.in_ok-statement.ensures.variables grown

@@ -1,12 +1,21 @@
-use Rattle.std.proofs.Common.{rules, ◌≡◌, Some}
+use Rattle.std.proofs.Common.{rules, ◌≡◌, Some, length, map}
+use Rattle.std.specs.Prelude.{vec_len}
+use Rattle.std.specs.String.{string_bytes}
+use Rattle.std.proofs.lemmas.List.{length-map}
 use Rattle.std.proofs.lemmas.Result.{err_from_is_err_and}
 use Rattle.session_language.specs.Lexer.{pieces_of}
 use Rattle.session_language.specs.Names.{scope_of}
 use Rattle.session_language.specs.Reading.{scope_in}
 use Rattle.session_language.specs.Spoken.{seen_spoken}
 use Rattle.session_language.specs.Drafts.{draft_of, reading_of}
+use Rattle.session_language.proofs.Keeping.{over_variables}
 use Rattle.session_language.proofs.Speaking.{statement_taken, not_spoken, not_added, spoken_added}
 use Rattle.session_language.proofs.reader.Reader.take_statement.Goals as goal
+
+pub add-requires : goal.add-requires
+add-requires c =
+    let len : vec_len c.in-Some.draft.variables ≡ length (map string_bytes c.deref.result.now) = search (rules, length-map) in
+    over_variables (scope_of (record { plan = c.args.plan; office = c.in-Some.draft.office; variables = c.deref.result })) c.args.keyword (pieces_of c.args.pieces.rest.now) (seen_spoken c.in_ok-spoken.spoken) _ len c.in_ok-spoken.ensures
 
 pub returns-in_err-spoken : goal.returns-in_err-spoken
 returns-in_err-spoken c =

@@ -1,0 +1,122 @@
+-- The numbers, names and codes of a line are in their ranges.
+use Rattle.std.proofs.Common.{◌≡◌, ◌<◌, ◌^◌, ℕ, List, [], ◌∷◌, length, Bool, true, false, ◌&&◌, nat_lt, nat_le, Option, Some, None, IfSome, if◌then◌else◌, codes, refl, ap, ◌∙◌, arith}
+use Rattle.std.specs.List.{list_all}
+use Rattle.std.specs.Str.{bytes_eq}
+use Rattle.std.specs.Char.{is_ascii_digit}
+use Rattle.std.proofs.lemmas.Bool.{and_parts}
+use Rattle.std.proofs.lemmas.Bool.Decides.{nat_tests}
+use Rattle.office_map.specs.Text.{is_name, name_of, number_of, decimal}
+use Rattle.session_language.specs.declared.lexer.Symbol.{Symbol}
+use Rattle.session_language.specs.declared.lexer.Symbol.TheVariants as symbol
+use Rattle.session_language.specs.Lexer.{Piece, AWord, ASymbol, AStray}
+use Rattle.session_language.specs.Spelling.{Operand, ANumber, AVariable, ARecord, Token, Leaf, Plus, Minus, Times, Open, Close}
+use Rattle.session_language.specs.Phrase.{Run, run, is_read, with_token, with_symbol, with_operand, with_record, operand_in, or_variable, expression_symbol}
+use Rattle.session_language.specs.Form.{small_code, else_code}
+
+-- a literal is a number of a text
+abbrev pub operand_fits : Operand → Bool
+operand_fits (ANumber n) = nat_lt n (2 ^ 63)
+operand_fits (AVariable name) = true
+operand_fits (ARecord name) = true
+
+abbrev pub token_fits : Token → Bool
+token_fits (Leaf x) = operand_fits x
+token_fits Plus = true
+token_fits Minus = true
+token_fits Times = true
+token_fits Open = true
+token_fits Close = true
+
+abbrev pub tokens_fit : List Token → Type 0
+tokens_fit ts = list_all token_fits ts ≡ true
+
+-- a number has a value below 2 ^ 63, and a word that is taken for a name is one
+number_by : (b : Bool) (n : ℕ) → ((b ≡ true) → nat_lt n (2 ^ 63) ≡ true) → IfSome (if b then Some n else None) (λ m. nat_lt m (2 ^ 63) ≡ true)
+number_by true n h = h refl
+number_by false n h = tt
+
+number_fits : (w : List ℕ) → IfSome (number_of w) (λ n. nat_lt n (2 ^ 63) ≡ true)
+number_fits w =
+    number_by ((nat_lt 0 (length w) && nat_le (length w) 19) && (list_all is_ascii_digit w && nat_lt (decimal w) (2 ^ 63))) (decimal w)
+    (λ e. (and_parts (list_all is_ascii_digit w) _ (and_parts (nat_lt 0 (length w) && nat_le (length w) 19) _ e).1).1)
+
+name_by : (b : Bool) (w : List ℕ) → is_name w ≡ b → IfSome (if b then Some w else None) (λ n. is_name n ≡ true)
+name_by true w h = h
+name_by false w h = tt
+
+pub name_fits : (w : List ℕ) → IfSome (name_of w) (λ n. is_name n ≡ true)
+name_fits w = name_by (is_name w) w refl
+
+operand_by : (n : Option ℕ) (name : Option (List ℕ)) → IfSome n (λ m. nat_lt m (2 ^ 63) ≡ true) → IfSome (or_variable n name) (λ x. operand_fits x ≡ true)
+operand_by (Some n) name h = h
+operand_by None (Some name) h = refl
+operand_by None None h = tt
+
+abbrev RunFits : Option Run → Type 0
+RunFits o = IfSome o (λ r. tokens_fit r.tokens)
+
+token_more : (t : Token) (o : Option Run) → token_fits t ≡ true → RunFits o → RunFits (with_token t o)
+token_more t None h g = tt
+token_more t (Some r) h g = ap (λ b. b && list_all token_fits r.tokens) h ∙ g
+
+operand_more : (x : Option Operand) (here : List Piece) (further : Option Run) → IfSome x (λ y. operand_fits y ≡ true) → RunFits further → RunFits (with_operand x here further)
+operand_more (Some x) here further h g = token_more (Leaf x) further h g
+operand_more None here further h g = refl
+
+record_more : (n : Option (List ℕ)) (further : Option Run) → RunFits further → RunFits (with_record n further)
+record_more (Some name) further g = token_more (Leaf (ARecord name)) further refl g
+record_more None further g = tt
+
+symbol_more : (s : Symbol) (here : List Piece) (further : Option Run) → RunFits further → RunFits (with_symbol (expression_symbol s) here further)
+symbol_more symbol.Plus here further g = token_more Plus further refl g
+symbol_more symbol.Minus here further g = token_more Minus further refl g
+symbol_more symbol.Times here further g = token_more Times further refl g
+symbol_more symbol.Open here further g = token_more Open further refl g
+symbol_more symbol.Close here further g = token_more Close further refl g
+symbol_more symbol.Assign here further g = refl
+symbol_more symbol.Equal here further g = refl
+symbol_more symbol.NotEqual here further g = refl
+symbol_more symbol.Less here further g = refl
+symbol_more symbol.AtMost here further g = refl
+symbol_more symbol.Greater here further g = refl
+symbol_more symbol.AtLeast here further g = refl
+
+word_more : (b : Bool) (w : List ℕ) (ps : List Piece) → RunFits (run true ps) → RunFits (run false ps) → RunFits (if b then run true ps else with_operand (operand_in w) (AWord w ∷ ps) (run false ps))
+word_more true w ps h g = h
+word_more false w ps h g = operand_more (operand_in w) (AWord w ∷ ps) (run false ps) (operand_by (number_of w) (name_of w) (number_fits w)) g
+
+pub run_fits : (b : Bool) (ps : List Piece) → RunFits (run b ps)
+run_fits false [] = refl
+run_fits true [] = tt
+run_fits false (AWord w ∷ ps) = word_more (is_read w) w ps (run_fits true ps) (run_fits false ps)
+run_fits true (AWord w ∷ ps) = record_more (name_of w) (run false ps) (run_fits false ps)
+run_fits false (ASymbol s ∷ ps) = symbol_more s (ASymbol s ∷ ps) (run false ps) (run_fits false ps)
+run_fits true (ASymbol s ∷ ps) = tt
+run_fits false (AStray ∷ ps) = refl
+run_fits true (AStray ∷ ps) = tt
+
+-- a code is below 65536
+abbrev CodeFits : Option ℕ → Type 0
+CodeFits o = IfSome o (λ n. n < 65536)
+
+small_by : (b : Bool) (n : ℕ) → nat_lt n 65536 ≡ b → CodeFits (if b then Some n else None)
+small_by true n h = grind (h, arith, nat_tests)
+small_by false n h = tt
+
+small_fits : (o : Option ℕ) → CodeFits (small_code o)
+small_fits None = tt
+small_fits (Some n) = small_by (nat_lt n 65536) n refl
+
+code_by : (b : Bool) (o : Option ℕ) → CodeFits (small_code o) → CodeFits (if b then small_code o else None)
+code_by true o h = h
+code_by false o h = tt
+
+pub code_fits : (ps : List Piece) → CodeFits (else_code ps)
+code_fits [] = tt
+code_fits (AWord w ∷ []) = tt
+code_fits (AWord w ∷ AWord code ∷ []) = code_by (bytes_eq w (codes "else")) (number_of code) (small_fits (number_of code))
+code_fits (AWord w ∷ AWord code ∷ p ∷ ps) = tt
+code_fits (AWord w ∷ ASymbol s ∷ ps) = tt
+code_fits (AWord w ∷ AStray ∷ ps) = tt
+code_fits (ASymbol s ∷ ps) = tt
+code_fits (AStray ∷ ps) = tt

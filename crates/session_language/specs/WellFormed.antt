@@ -1,0 +1,97 @@
+-- What holds of every program: all that a reader can have read, and no more.
+use Rattle.std.specs.Prelude.{◌≡◌, ◌≢◌, ◌<◌, ◌≤◌, ◌^◌, ℕ, suc, max, ℤ, pos, negsuc, List, length, All, AllPairs, IsTrue, false}
+use Rattle.office_map.specs.Text.{is_name}
+use Rattle.session_language.specs.declared.node.Operator.TheVariants as op
+use Rattle.session_language.specs.declared.rank.Rank.{Rank}
+use Rattle.session_language.specs.declared.rank.Rank.TheVariants.{Factor, Product, Sum}
+use Rattle.session_language.specs.Tree.{Term, Constant, Var, ReadOf, Neg, Bin, Command, LetVar, SetTo, GiveOf, Requires, When, Choice, Loop, Block, Nothing, Then}
+use Rattle.session_language.specs.ProgramValue.{ProgramValue}
+use Rattle.session_language.specs.Needs.{needs_of}
+use Rattle.session_language.specs.Measures.{block_gives}
+use Rattle.session_language.specs.Text.{rank_of}
+use Rattle.session_language.specs.Reading.{Spoken, SpeaksLet, SpeaksSet, SpeaksGive, SpeaksDemand, is_too_long}
+
+-- one more for parentheses, where the canonical text has them
+abbrev pub factor_depth : Rank → ℕ → ℕ
+factor_depth Factor d = d
+factor_depth Product d = suc d
+factor_depth Sum d = suc d
+
+abbrev pub product_depth : Rank → ℕ → ℕ
+product_depth Factor d = d
+product_depth Product d = d
+product_depth Sum d = suc d
+
+-- how deep an expression is in its canonical text; no other text of it is less deep
+abbrev pub depth : Term → ℕ
+depth (Constant v) = 1
+depth (Var k) = 1
+depth (ReadOf r) = 1
+depth (Neg e) = suc (factor_depth (rank_of e) (depth e))
+depth (Bin op.Times a b) = suc (max (product_depth (rank_of a) (depth a)) (factor_depth (rank_of b) (depth b)))
+depth (Bin op.Plus a b) = suc (max (depth a) (product_depth (rank_of b) (depth b)))
+depth (Bin op.Minus a b) = suc (max (depth a) (product_depth (rank_of b) (depth b)))
+
+-- a literal is a number of a text, which has no sign
+abbrev pub IsLiteral : ℤ → Type 0
+IsLiteral (pos n) = n < 2 ^ 63
+IsLiteral (negsuc n) = ⊥
+
+-- an expression over the first variables, so many as are known
+abbrev pub IsOver : ℕ → Term → Type 0
+IsOver known (Constant v) = IsLiteral v.number
+IsOver known (Var k) = k < known
+IsOver known (ReadOf r) = Unit {0}
+IsOver known (Neg e) = IsOver known e
+IsOver known (Bin o a b) = IsOver known a × IsOver known b
+
+-- which is no deeper than a text may be
+abbrev pub IsExpressionOver : ℕ → Term → Type 0
+IsExpressionOver known e = IsOver known e × (depth e ≤ 32)
+
+-- A statement of one line, since no text has blocks. A `let` names a variable that is known, or the next; its expression
+-- knows only those before.
+abbrev pub IsStatementOver : ℕ → Command → Type 0
+IsStatementOver known (LetVar k e) = (k ≤ known) × IsExpressionOver known e
+IsStatementOver known (SetTo r e) = IsExpressionOver known e
+IsStatementOver known (GiveOf e) = IsExpressionOver known e
+IsStatementOver known (Requires t code) = IsExpressionOver known t.left × IsExpressionOver known t.right × (code < 65536)
+IsStatementOver known (When t b) = ⊥
+IsStatementOver known (Choice t a b) = ⊥
+IsStatementOver known (Loop n b) = ⊥
+
+-- the same of a statement whose variable is still a name
+abbrev pub IsSpokenOver : ℕ → Spoken → Type 0
+IsSpokenOver known (SpeaksLet name e) = IsTrue (is_name name) × IsExpressionOver known e
+IsSpokenOver known (SpeaksSet r e) = IsExpressionOver known e
+IsSpokenOver known (SpeaksGive e) = IsExpressionOver known e
+IsSpokenOver known (SpeaksDemand t code) = IsExpressionOver known t.left × IsExpressionOver known t.right × (code < 65536)
+
+-- how many variables are known after it
+abbrev pub known_after : ℕ → Command → ℕ
+known_after known (LetVar k e) = max known (suc k)
+known_after known (SetTo r e) = known
+known_after known (GiveOf e) = known
+known_after known (Requires t code) = known
+known_after known (When t b) = known
+known_after known (Choice t a b) = known
+known_after known (Loop n b) = known
+
+-- statements, from where so many variables are known to where `last` are
+abbrev pub AreStatements : ℕ → Block → ℕ → Type 0
+AreStatements known Nothing last = known ≡ last
+AreStatements known (Then c rest) last = IsStatementOver known c × AreStatements (known_after known c) rest last
+
+-- the variables are distinct names, in the order in which lines first let them
+pub record IsDeclared (variables : List (List ℕ)) (body : Block) : Type 0 where
+  pub names : All (λ v. IsTrue (is_name v)) variables
+  pub distinct : AllPairs (λ a b. a ≢ b) variables
+  pub statements : AreStatements 0 body (length variables)
+
+-- and the limits of a session are kept
+pub record IsWellFormed (p : ProgramValue) : Type 0 where
+  pub declared : IsDeclared p.variables p.body
+  pub few_records : length (needs_of p.body) ≤ 16
+  pub few_variables : length p.variables ≤ 32
+  pub few_gives : block_gives p.body ≤ 64
+  pub short : is_too_long p ≡ false
