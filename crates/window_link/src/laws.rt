@@ -14,3 +14,6 @@ pub use two::Two;
 pub fn streams_are_kept()
     ensures { StreamsAreKept }
 {}
+
+#[cfg(test)]
+mod tests;

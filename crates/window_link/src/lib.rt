@@ -24,3 +24,6 @@ pub use arrival::Arrival;
 pub use fault::LinkFault;
 pub use link::Link;
 pub use sending::MAX_WAITING;
+
+#[cfg(test)]
+mod tests;

@@ -108,17 +108,16 @@ impl Link {
         requires last { i ≤ length self.now.sending.waiting }
         ensures { result ≡ frame_of self.now i }
     {
-        let waiting = self.sending.waiting();
-        let number = self.sending.acked() + i as u64;
-        let count = self.receiving.taken();
-        Frame::data(self.run, self.me, self.peer, number, count, waiting[i - 1])
+        let msg = self.waiting()[i - 1];
+        let number = self.acked() + i as u64;
+        Frame::data(self.run, self.me, self.peer, number, self.taken(), msg)
     }
 
     /// A frame with the count alone.
     pub fn ack_frame(&self) -> Frame
         ensures { result ≡ ack_frame_of self.now }
     {
-        Frame::ack(self.run, self.me, self.peer, self.receiving.taken())
+        Frame::ack(self.run, self.me, self.peer, self.taken())
     }
 
     /// What is wrong with a frame that comes: `Stranger` before `AckAhead`.
