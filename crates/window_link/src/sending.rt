@@ -93,7 +93,9 @@ impl SendWindow {
     {
         if count > self.acked {
             let known = (count - self.acked) as usize;
-            self.waiting.drain(..known);
+            let left = self.waiting.len() - known;
+            self.waiting.copy_within(known.., 0);
+            self.waiting.truncate(left);
             self.acked = count;
         }
     }
