@@ -1,0 +1,4 @@
+pub mod Lists
+pub mod Held
+pub mod Apart
+pub mod Bound
