@@ -146,7 +146,7 @@ abbrev pub Kept : List Place → List Msg → Type 0
 Kept places ms = Apart places ms × (length places ≤ 18)
 
 -- no breach: the thing is the pair's, and doesn't wait
-no_breach : (shared held waiting : Bool) → (not shared || held || waiting) ≡ false → (shared ≡ true) × (waiting ≡ false)
+pub no_breach : (shared held waiting : Bool) → (not shared || held || waiting) ≡ false → (shared ≡ true) × (waiting ≡ false)
 no_breach true true w e = absurd cc
 no_breach true false w e = (refl, e)
 no_breach false h w e = absurd cc

@@ -1,17 +1,19 @@
 -- One end of a channel: a link, and what of the pair's things is held here.
-use Rattle.std.specs.Prelude.{ℕ, ◌+◌, ◌-◌, ◌≤◌, Bool, true, false, not, ◌||◌, ◌==◌, if◌then◌else◌, List, drop, Option, Some, None}
+use Rattle.std.specs.Prelude.{◌≡◌, ℕ, ◌+◌, ◌-◌, ◌≤◌, Bool, true, false, not, ◌||◌, ◌==◌, if◌then◌else◌, List, drop, Option, Some, None}
 use Rattle.std.specs.Option.{option_map_or}
 use Rattle.frame_codec.specs.declared.message.Msg.{Msg}
 use Rattle.frame_codec.specs.Frame.{Fields}
 use Rattle.office_map.specs.PlanValue.{PlanValue}
 use Rattle.window_link.specs.Windows.{queued}
-use Rattle.window_link.specs.Links.{LinkState, resumed, fault_of, after_arrival}
+use Rattle.window_link.specs.Links.{LinkState, resumed, fault_of, arrival_at, after_arrival}
+use Rattle.window_link.specs.declared.arrival.Arrival.{Arrival}
+use Rattle.window_link.specs.declared.arrival.Arrival.TheVariants.{Acked, Fresh, Repeat, Early}
 use Rattle.window_link.specs.declared.fault.LinkFault.{LinkFault}
 use Rattle.token_channel.specs.declared.fault.ChannelFault.{ChannelFault}
 use Rattle.token_channel.specs.declared.fault.ChannelFault.TheVariants.{Link, Breach}
 use Rattle.token_channel.specs.declared.thing.Thing.{Thing}
 use Rattle.token_channel.specs.declared.thing.Place.{Place}
-use Rattle.token_channel.specs.Things.{thing_of, num, count}
+use Rattle.token_channel.specs.Things.{thing_of, num, count, hold}
 use Rattle.token_channel.specs.Places.{holds, shares, waits, changed, places_of}
 
 pub record ChannelState : Type 0 where
@@ -66,3 +68,16 @@ with_taken places (Some msg) = changed places (thing_of msg) true
 abbrev pub after_frame : ChannelState → Fields → ChannelState
 after_frame c f =
     record { link = after_arrival c.link f; places = with_taken c.places (next_of c.link f) }
+
+-- ---- a law
+
+-- what is held after a frame that brought this
+abbrev pub held_after : (Thing → Bool) → Arrival → Thing → Bool
+held_after held (Fresh msg) t = hold held (thing_of msg) true t
+held_after held Acked t = held t
+held_after held Repeat t = held t
+held_after held Early t = held t
+
+-- Of a frame that isn't refused, what it brings is held, and all else as before.
+abbrev pub WhatComesIsHeld : Type 0
+WhatComesIsHeld = (c : ChannelState) (f : Fields) (t : Thing) → channel_fault c f ≡ None → holds (after_frame c f).places t ≡ held_after (holds c.places) (arrival_at c.link f) t

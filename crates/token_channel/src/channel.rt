@@ -50,6 +50,7 @@ impl Channel {
         ensures opened { IfOk result (λ c. c ≡ opened plan.now me peer) }
         ensures few { IfOk result (λ c. length c.places ≤ 2 + 2 * records_between plan.now me peer) }
     {
+        // The plan is consistent, so that few records are shared.
         let _ = plan.offices();
         let places = places::open(alloc, plan, me, peer)?;
         let link = Link::open(plan.run(), me.number(), peer.number());
@@ -147,7 +148,7 @@ impl Channel {
     fn next(&self, frame: &Frame) -> Option<Msg>
         ensures { result ≡ next_of self.now.link frame.now }
     {
-        if frame.number() == self.link.taken() + 1 {
+        if frame.number() == self.taken() + 1 {
             frame.msg()
         } else {
             None
@@ -163,7 +164,7 @@ impl Channel {
         if !places::shares(&self.places, thing) || places::holds(&self.places, thing) {
             return true;
         }
-        let known = count.saturating_sub(self.link.acked()) as usize;
-        places::waits(thing, &self.link.waiting()[known..])
+        let known = count.saturating_sub(self.acked()) as usize;
+        places::waits(thing, &self.waiting()[known..])
     }
 }

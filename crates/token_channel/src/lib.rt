@@ -9,6 +9,7 @@
 //!   (`IsApart`, in the same file; clauses `apart` and `few` of [`Channel::waiting`]). So at most
 //!   `2 + 2B` messages wait where the two share B records, and with at most 8 of them the link's 18
 //!   places are enough.
+//! - [`laws`] says that of a frame that isn't refused what it brings is held, and all else as before.
 //! - A [`Thing`] is what a message carries (`specs/Things.antt`).
 //!
 //! No call takes memory but [`Channel::open`]. It stands on `window_link`, `frame_codec`, `office_map`
@@ -17,6 +18,7 @@
 
 mod channel;
 mod fault;
+pub mod laws;
 mod places;
 mod thing;
 

@@ -226,5 +226,6 @@ fn ten_thousand_random_events(rt: HostRuntime) -> Result<(), Fail> {
         }
         assert!(rt; a.taken() > 100 && b.taken() > 100, "seed {seed}");
     }
+    laws::what_comes_is_held();
     Ok(())
 }
