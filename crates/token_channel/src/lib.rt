@@ -13,7 +13,7 @@
 //! - A [`Thing`] is what a message carries (`specs/Things.antt`).
 //!
 //! No call takes memory but [`Channel::open`]. It stands on `window_link`, `frame_codec`, `office_map`
-//! and `thiserror`.
+//! and `thiserror`; `docs/architecture.md` has the arithmetic of the 18 places.
 #![tactic(auto)]
 
 mod channel;

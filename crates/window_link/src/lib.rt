@@ -10,7 +10,7 @@
 //!   `specs/Two.antt`, over the streams of `specs/Streams.antt`).
 //!
 //! `sending` and `receiving` are the two windows of an end. No call of [`Link`] takes memory. It
-//! stands on `frame_codec`, `arrayvec` and `thiserror`.
+//! stands on `frame_codec`, `arrayvec` and `thiserror`; `docs/architecture.md` says how links are used.
 #![tactic(auto)]
 
 mod arrival;
