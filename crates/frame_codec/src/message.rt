@@ -12,9 +12,11 @@ pub const ASK_BOTTLE: u8 = 3;
 pub const BOTTLE: u8 = 4;
 
 /// A message about the fork or one bottle of a pair. A bottle is named by its record's number.
-#[derive(Clone, Copy, Debug, PartialEq, Eq)]
+/// The default is what a place for messages holds while it has none.
+#[derive(Clone, Copy, Debug, Default, PartialEq, Eq)]
 pub enum Msg {
     /// The fork's request token.
+    #[default]
     AskFork,
     /// The fork.
     Fork,

@@ -1,0 +1,5 @@
+pub mod Lists
+pub mod Held
+pub mod Apart
+pub mod Bound
+pub mod Brought

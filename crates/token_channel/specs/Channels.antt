@@ -1,0 +1,83 @@
+-- One end of a channel: a link, and what of the pair's things is held here.
+use Rattle.std.specs.Prelude.{◌≡◌, ℕ, ◌+◌, ◌-◌, ◌≤◌, Bool, true, false, not, ◌||◌, ◌==◌, if◌then◌else◌, List, drop, Option, Some, None}
+use Rattle.std.specs.Option.{option_map_or}
+use Rattle.frame_codec.specs.declared.message.Msg.{Msg}
+use Rattle.frame_codec.specs.Frame.{Fields}
+use Rattle.office_map.specs.PlanValue.{PlanValue}
+use Rattle.window_link.specs.Windows.{queued}
+use Rattle.window_link.specs.Links.{LinkState, resumed, fault_of, arrival_at, after_arrival}
+use Rattle.window_link.specs.declared.arrival.Arrival.{Arrival}
+use Rattle.window_link.specs.declared.arrival.Arrival.TheVariants.{Acked, Fresh, Repeat, Early}
+use Rattle.window_link.specs.declared.fault.LinkFault.{LinkFault}
+use Rattle.token_channel.specs.declared.fault.ChannelFault.{ChannelFault}
+use Rattle.token_channel.specs.declared.fault.ChannelFault.TheVariants.{Link, Breach}
+use Rattle.token_channel.specs.declared.thing.Thing.{Thing}
+use Rattle.token_channel.specs.declared.thing.Place.{Place}
+use Rattle.token_channel.specs.Things.{thing_of, num, count, hold}
+use Rattle.token_channel.specs.Places.{holds, shares, waits, changed, places_of}
+
+pub record ChannelState : Type 0 where
+  pub link : LinkState
+  pub places : List Place
+
+-- Each thing of the pair is held here, or waits here once, or neither; and nothing else does.
+abbrev pub IsApart : ChannelState → Type 0
+IsApart c = (t : Thing) → num (holds c.places t) + count t c.link.sending.waiting ≤ num (shares c.places t)
+
+abbrev pub opened : PlanValue → ℕ → ℕ → ChannelState
+opened p me peer = record { link = resumed p.run me peer 0 0; places = places_of p me peer }
+
+-- the message's thing is held no more; it waits
+abbrev pub sent : ChannelState → Msg → ChannelState
+sent c msg =
+    record {
+      link = record { run = c.link.run; me = c.link.me; peer = c.link.peer; sending = queued c.link.sending msg; receiving = c.link.receiving };
+      places = changed c.places (thing_of msg) false;
+    }
+
+-- the message that a frame would bring
+abbrev pub next_of : LinkState → Fields → Option Msg
+next_of l f = if f.number == l.receiving.taken + 1 then f.msg else None
+
+-- what still waits once the count is used
+abbrev pub left_by : LinkState → ℕ → List Msg
+left_by l count = drop (count - l.sending.acked) l.sending.waiting
+
+-- the thing isn't the pair's, or is held here, or still waits
+abbrev pub is_breach : ChannelState → ℕ → Msg → Bool
+is_breach c count msg =
+    not (shares c.places (thing_of msg)) || holds c.places (thing_of msg) || waits (thing_of msg) (left_by c.link count)
+
+abbrev pub breach_of : Bool → Option ChannelFault
+breach_of b = if b then Some Breach else None
+
+abbrev pub link_fault_or : Option LinkFault → Bool → Option ChannelFault
+link_fault_or None b = breach_of b
+link_fault_or (Some fault) b = Some (Link fault)
+
+-- what is wrong with a frame, the first that applies
+abbrev pub channel_fault : ChannelState → Fields → Option ChannelFault
+channel_fault c f =
+    link_fault_or (fault_of c.link f) (option_map_or (is_breach c f.count) (next_of c.link f) false)
+
+abbrev pub with_taken : List Place → Option Msg → List Place
+with_taken places None = places
+with_taken places (Some msg) = changed places (thing_of msg) true
+
+-- after a frame: the link used it, and what it brought is held
+abbrev pub after_frame : ChannelState → Fields → ChannelState
+after_frame c f =
+    record { link = after_arrival c.link f; places = with_taken c.places (next_of c.link f) }
+
+-- ---- a law
+
+-- what is held after a frame that brought this
+abbrev pub held_after : (Thing → Bool) → Arrival → Thing → Bool
+held_after held (Fresh msg) t = hold held (thing_of msg) true t
+held_after held Acked t = held t
+held_after held Repeat t = held t
+held_after held Early t = held t
+
+-- Of a frame that isn't refused, what it brings is held, and all else as before.
+abbrev pub WhatComesIsHeld : Type 0
+WhatComesIsHeld = (c : ChannelState) (f : Fields) (t : Thing) → channel_fault c f ≡ None → holds (after_frame c f).places t ≡ held_after (holds c.places) (arrival_at c.link f) t

@@ -1,0 +1,3 @@
+pub mod Things
+pub mod Places
+pub mod Channels

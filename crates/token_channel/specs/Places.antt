@@ -1,0 +1,48 @@
+-- The things of a pair, each with whether it is held at one end.
+use Rattle.std.specs.Prelude.{ℕ, Bool, false, not, ◌&&◌, ◌==◌, if◌then◌else◌, List, [], ◌∷◌, ◌++◌, map, Option}
+use Rattle.std.specs.List.{list_any, flat_map}
+use Rattle.std.specs.Option.{option_map_or}
+use Rattle.frame_codec.specs.declared.message.Msg.{Msg}
+use Rattle.office_map.specs.PlanValue.{PlanValue, records_of, is_end, fork_end_of, start_end_of}
+use Rattle.token_channel.specs.declared.thing.Thing.{Thing}
+use Rattle.token_channel.specs.declared.thing.Thing.TheVariants.{TheFork, ForkToken, TheBottle, BottleToken}
+use Rattle.token_channel.specs.declared.thing.Place.{Place}
+use Rattle.token_channel.specs.Things.{same, thing_of}
+
+-- the thing is one of these, and it is held
+abbrev pub holds : List Place → Thing → Bool
+holds places t = list_any (λ (p : Place). same p.thing t && p.held) places
+
+-- the thing is one of these
+abbrev pub shares : List Place → Thing → Bool
+shares places t = list_any (λ (p : Place). same p.thing t) places
+
+-- some of the messages carries it
+abbrev pub waits : Thing → List Msg → Bool
+waits t ms = list_any (λ m. same t (thing_of m)) ms
+
+abbrev pub with_held : Thing → Bool → Place → Place
+with_held t b p = if same p.thing t then record { thing = p.thing; held = b } else p
+
+-- where that thing came or went
+abbrev pub changed : List Place → Thing → Bool → List Place
+changed places t b = map (with_held t b) places
+
+-- ---- the opening
+
+-- a thing that starts at an end is held there, and its token at the other
+abbrev pub with_token : Thing → Thing → Bool → List Place
+with_token thing token here =
+    record { thing = thing; held = here } ∷ record { thing = token; held = not here } ∷ []
+
+abbrev pub starts_at : Option ℕ → ℕ → Bool
+starts_at end me = option_map_or (λ e. e == me) end false
+
+-- the bottle of a record that is shared with the peer
+abbrev pub bottle_places : PlanValue → ℕ → ℕ → ℕ → List Place
+bottle_places p me peer r =
+    if is_end p r peer then with_token (TheBottle r) (BottleToken r) (starts_at (start_end_of p r) me) else []
+
+abbrev pub places_of : PlanValue → ℕ → ℕ → List Place
+places_of p me peer =
+    with_token TheFork ForkToken (starts_at (fork_end_of p me peer) me) ++ flat_map (bottle_places p me peer) (records_of p me)

@@ -1,0 +1,33 @@
+-- What a pair of neighbours shares, each once, and which message carries it.
+use Rattle.std.specs.Prelude.{ℕ, ◌+◌, Bool, true, false, ◌==◌, if◌then◌else◌, List, [], ◌∷◌}
+use Rattle.frame_codec.specs.declared.message.Msg.{Msg}
+use Rattle.frame_codec.specs.declared.message.Msg.TheVariants.{AskFork, Fork, AskBottle, Bottle}
+use Rattle.token_channel.specs.declared.thing.Thing.{Thing}
+use Rattle.token_channel.specs.declared.thing.Thing.TheVariants.{TheFork, ForkToken, TheBottle, BottleToken}
+
+-- what a message carries
+abbrev pub thing_of : Msg → Thing
+thing_of AskFork = ForkToken
+thing_of Fork = TheFork
+thing_of (AskBottle r) = BottleToken r
+thing_of (Bottle r value) = TheBottle r
+
+abbrev pub same : Thing → Thing → Bool
+same TheFork TheFork = true
+same ForkToken ForkToken = true
+same (TheBottle r) (TheBottle q) = r == q
+same (BottleToken r) (BottleToken q) = r == q
+same _ _ = false
+
+abbrev pub num : Bool → ℕ
+num true = 1
+num false = 0
+
+-- how many of the messages carry it
+abbrev pub count : Thing → List Msg → ℕ
+count t [] = 0
+count t (m ∷ ms) = num (same t (thing_of m)) + count t ms
+
+-- what is held, where one thing came or went
+abbrev pub hold : (Thing → Bool) → Thing → Bool → Thing → Bool
+hold held t b u = if same u t then b else held u

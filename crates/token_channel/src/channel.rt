@@ -1,0 +1,170 @@
+//! One end of the channel between two neighbours.
+
+ghost use Rattle.std.specs.Prelude.{◌≡◌, ◌+◌, ◌*◌, ◌<◌, ◌≤◌, ◌^◌, ◌↔◌, length, IsTrue, IsErr, IfOk, IfErr, OnOk, OnErr, true, false};
+ghost use Rattle.std.specs.Result.{result_err};
+ghost use Rattle.office_map.specs.PlanValue.{are_neighbours, records_between};
+ghost use Rattle.window_link.specs.Windows.{used, greatest};
+ghost use Rattle.window_link.specs.Links.{frame_of, ack_frame_of, arrival_at};
+ghost use Rattle.token_channel.specs.Things.{thing_of, hold};
+ghost use Rattle.token_channel.specs.Places.{holds, shares};
+ghost use Rattle.token_channel.specs.Channels.{IsApart, opened, sent, channel_fault, after_frame, is_breach, next_of};
+
+use crate::fault::ChannelFault;
+use crate::places;
+use crate::thing::{Place, Thing};
+use frame_codec::{Frame, Msg};
+use office_map::{OfficeId, Plan};
+use std::alloc::{AllocError, Global};
+use std::marker::Model;
+use window_link::{Arrival, Link, LinkFault};
+
+/// One office's end of the channel to a neighbour: the link, and what is held here of the things
+/// that the two share.
+#[derive(Drop)]
+pub struct Channel {
+    link: Link,
+    places: Vec<Place>,
+}
+
+impl Model for Channel {
+    ghost use Rattle.std.specs.Prelude.{◌≤◌, length};
+    ghost use Rattle.token_channel.specs.Channels.{ChannelState, IsApart};
+
+    ghost Value = { ChannelState };
+
+    ghost view = { λ c. record { link = c.link; places = c.places.items } };
+
+    ghost invariant = { λ c. IsApart (record { link = c.link; places = c.places.items }) × (length c.places.items ≤ 18) };
+}
+
+impl Channel {
+    /// The channel as the plan starts.
+    pub fn open(
+        alloc: Global,
+        plan: &Plan,
+        me: OfficeId,
+        peer: OfficeId,
+    ) -> Result<Channel, AllocError>
+        requires office { me < length plan.now.offices }
+        requires neighbours { IsTrue (are_neighbours plan.now me peer) }
+        ensures opened { IfOk result (λ c. c ≡ opened plan.now me peer) }
+        ensures few { IfOk result (λ c. length c.places ≤ 2 + 2 * records_between plan.now me peer) }
+    {
+        // The plan is consistent, so that few records are shared.
+        let _ = plan.offices();
+        let places = places::open(alloc, plan, me, peer)?;
+        let link = Link::open(plan.run(), me.number(), peer.number());
+        Ok(Channel { link, places })
+    }
+
+    /// Whether the thing is held here.
+    pub fn holds(&self, thing: Thing) -> bool
+        ensures { result ≡ holds self.now.places thing }
+    {
+        places::holds(&self.places, thing)
+    }
+
+    /// How many of the peer's messages were taken, in order.
+    pub fn taken(&self) -> u64
+        ensures value { result ≡ self.now.link.receiving.taken }
+        ensures range { result < 2 ^ 48 }
+    {
+        self.link.taken()
+    }
+
+    /// How many messages the peer is known to have taken.
+    pub fn acked(&self) -> u64
+        ensures value { result ≡ self.now.link.sending.acked }
+        ensures range { result < 2 ^ 48 }
+    {
+        self.link.acked()
+    }
+
+    /// The messages after those, the oldest first. What waits isn't held, and waits once; so at most
+    /// as many wait as there are things.
+    pub fn waiting(&self) -> &[Msg]
+        ensures value { result.now ≡ self.now.link.sending.waiting }
+        ensures apart { IsApart self.now }
+        ensures few { length result.now ≤ length self.now.places }
+    {
+        let _ = &self.places;
+        self.link.waiting()
+    }
+
+    /// Sends the thing that the message carries: it is held no more, and waits.
+    ///
+    /// # Errors
+    /// `Worn` where the link's greatest number was used. Nothing changed.
+    pub fn send(&mut self, msg: Msg) -> Result<(), LinkFault>
+        requires { holds self.old.places (thing_of msg) ≡ true }
+        ensures worn { IsErr result ↔ (used self.old.link.sending ≡ greatest) }
+        ensures fault { IfErr result (λ fault. fault ≡ LinkFault.Worn) }
+        ensures sent { OnOk result (self.new ≡ sent self.old msg) }
+        ensures held { OnOk result ((t : Thing) → holds self.new.places t ≡ hold (holds self.old.places) (thing_of msg) false t) }
+        ensures err { OnErr result (self.new ≡ self.old) }
+    {
+        self.link.queue(msg)?;
+        places::change(&mut self.places, Thing::of(msg), false);
+        Ok(())
+    }
+
+    /// The frame of the `i`-th waiting message, from 1, with the count of now.
+    pub fn frame(&self, i: usize) -> Frame
+        requires first { 0 < i }
+        requires last { i ≤ length self.now.link.sending.waiting }
+        ensures { result ≡ frame_of self.now.link i }
+    {
+        self.link.frame(i)
+    }
+
+    /// A frame with the count alone.
+    pub fn ack_frame(&self) -> Frame
+        ensures { result ≡ ack_frame_of self.now.link }
+    {
+        self.link.ack_frame()
+    }
+
+    /// Takes in a frame that comes. What it brings is held.
+    ///
+    /// # Errors
+    /// The link's faults, or else `Breach`. Nothing changed, and the frame's count isn't used.
+    pub fn take(&mut self, frame: &Frame) -> Result<Arrival, ChannelFault>
+        ensures fault { result_err result ≡ channel_fault self.old frame.now }
+        ensures arrival { IfOk result (λ arrival. arrival ≡ arrival_at self.old.link frame.now) }
+        ensures taken { OnOk result (self.new ≡ after_frame self.old frame.now) }
+        ensures err { OnErr result (self.new ≡ self.old) }
+    {
+        self.link.check(frame).map_err(ChannelFault::Link)?;
+        if let Some(msg) = self.next(frame) {
+            if self.is_breach(frame.count(), msg) {
+                return Err(ChannelFault::Breach);
+            }
+            places::change(&mut self.places, Thing::of(msg), true);
+        }
+        Ok(self.link.accept(frame))
+    }
+
+    // The message that the frame would bring.
+    fn next(&self, frame: &Frame) -> Option<Msg>
+        ensures { result ≡ next_of self.now.link frame.now }
+    {
+        if frame.number() == self.taken() + 1 {
+            frame.msg()
+        } else {
+            None
+        }
+    }
+
+    // Whether the message can't be next, where the peer has taken so many.
+    fn is_breach(&self, count: u64, msg: Msg) -> bool
+        requires { count ≤ used self.now.link.sending }
+        ensures { result ≡ is_breach self.now count msg }
+    {
+        let thing = Thing::of(msg);
+        if !places::shares(&self.places, thing) || places::holds(&self.places, thing) {
+            return true;
+        }
+        let known = count.saturating_sub(self.acked()) as usize;
+        places::waits(thing, &self.waiting()[known..])
+    }
+}

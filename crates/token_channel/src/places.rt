@@ -1,0 +1,80 @@
+//! What is held at an end.
+
+ghost use Rattle.std.specs.Prelude.{◌≡◌, ◌++◌, ◌<◌, length, IfOk, IsTrue};
+ghost use Rattle.office_map.specs.PlanValue.{are_neighbours};
+ghost use Rattle.token_channel.specs.Places.{holds, shares, waits, changed, with_token, places_of};
+
+use crate::thing::{Place, Thing};
+use frame_codec::Msg;
+use office_map::{OfficeId, Plan};
+use std::alloc::{AllocError, Global};
+
+pub fn holds(places: &[Place], thing: Thing) -> bool
+    ensures { result ≡ holds places.now thing }
+{
+    places
+        .iter()
+        .any(|place| place.thing.is(thing) && place.held)
+}
+
+pub fn shares(places: &[Place], thing: Thing) -> bool
+    ensures { result ≡ shares places.now thing }
+{
+    places.iter().any(|place| place.thing.is(thing))
+}
+
+pub fn waits(thing: Thing, messages: &[Msg]) -> bool
+    ensures { result ≡ waits thing messages.now }
+{
+    messages.iter().any(|msg| thing.is(Thing::of(*msg)))
+}
+
+/// The thing came or went.
+pub fn change(places: &mut Vec<Place>, thing: Thing, held: bool)
+    ensures { places.new.items ≡ changed places.old.items thing held }
+{
+    for place in places.iter_mut() {
+        *place = place.with_held(thing, held);
+    }
+}
+
+/// The things that two neighbours share, with what is held at the first as the plan starts.
+pub fn open(
+    alloc: Global,
+    plan: &Plan,
+    me: OfficeId,
+    peer: OfficeId,
+) -> Result<Vec<Place>, AllocError>
+    requires office { me < length plan.now.offices }
+    requires neighbours { IsTrue (are_neighbours plan.now me peer) }
+    ensures { IfOk result (λ places. places.items ≡ places_of plan.now me peer) }
+{
+    let mut places = Vec::new(alloc);
+    let fork_is_here = plan.fork_end(me, peer) == me;
+    push_both(&mut places, Thing::TheFork, Thing::ForkToken, fork_is_here)?;
+    for r in plan.records_of(me) {
+        if plan.has_end(*r, peer) {
+            let bottle = Thing::TheBottle(r.number());
+            let token = Thing::BottleToken(r.number());
+            push_both(&mut places, bottle, token, plan.start_end(*r) == me)?;
+        }
+    }
+    Ok(places)
+}
+
+// A thing, and its token, which is at the other end.
+fn push_both(
+    places: &mut Vec<Place>,
+    thing: Thing,
+    token: Thing,
+    here: bool,
+) -> Result<(), AllocError>
+    ensures { IfOk result (λ _. places.new.items ≡ places.old.items ++ with_token thing token here) }
+{
+    places.push(Place { thing, held: here })?;
+    places.push(Place {
+        thing: token,
+        held: !here,
+    })?;
+    Ok(())
+}

@@ -1,0 +1,4 @@
+pub mod Sound
+pub mod Shown
+pub mod Runs
+pub mod Arriving

@@ -1,0 +1,5 @@
+pub mod Windows
+pub mod Links
+pub mod Streams
+pub mod Two
+pub mod Steps

@@ -1,0 +1,124 @@
+-- What goes each way between two ends, told as whole lists, and what each event does to it.
+use Rattle.std.specs.Prelude.{◌≡◌, ℕ, zero, suc, ◌+◌, ◌≤◌, max, Bool, ◌&&◌, ◌==◌, nat_lt, if◌then◌else◌, List, [], ◌∷◌, ◌++◌, length, drop, slice_get, Option, Some, None}
+use Rattle.frame_codec.specs.declared.message.Msg.{Msg}
+use Rattle.frame_codec.specs.Frame.{Fields}
+use Rattle.window_link.specs.declared.laws.event.End.{End}
+use Rattle.window_link.specs.declared.laws.event.End.TheVariants.{Left, Right}
+use Rattle.window_link.specs.declared.laws.event.Posted.{Posted}
+use Rattle.window_link.specs.declared.laws.event.LinkEvent.{LinkEvent}
+use Rattle.window_link.specs.declared.laws.event.LinkEvent.TheVariants.{Queue, Make, Ack, Arrive}
+use Rattle.window_link.specs.declared.laws.event.Reply.{Reply}
+use Rattle.window_link.specs.declared.laws.event.Reply.TheVariants.{Idle, Queued, Made, Arrived}
+use Rattle.window_link.specs.Windows.{greatest}
+use Rattle.window_link.specs.Links.{brings}
+
+-- What goes one way: the messages that were sent, of which the k-th has the number k; those that
+-- the other end took, in order; and how many the sender knows to be taken.
+pub record Stream : Type 0 where
+  pub sent : List Msg
+  pub taken : List Msg
+  pub acked : ℕ
+
+-- what waits for acknowledgement: what was sent, without the acknowledged beginning
+abbrev pub waiting : Stream → List Msg
+waiting s = drop s.acked s.sent
+
+-- What is taken begins what was sent; what is acknowledged was taken; at most 18 wait.
+pub record IsLawful (s : Stream) : Type 0 where
+  pub ahead : List Msg
+  pub begins : s.sent ≡ s.taken ++ ahead
+  pub acknowledged : s.acked ≤ length s.taken
+  pub few : length (waiting s) ≤ 18
+
+-- two ends: the run's number, the offices' numbers, what each end sends, every frame that was made
+pub record Pair : Type 0 where
+  pub run : ℕ
+  pub office : End → ℕ
+  pub stream : End → Stream
+  pub frames : List Posted
+
+abbrev pub other : End → End
+other Left = Right
+other Right = Left
+
+-- a function of the ends with one value changed
+abbrev pub put : {X : Type 0} → (End → X) → End → X → End → X
+put f Left x Left = x
+put f Left x Right = f Right
+put f Right x Left = f Left
+put f Right x Right = x
+
+abbrev pub with_stream : Pair → End → Stream → Pair
+with_stream p e s =
+    record { run = p.run; office = p.office; stream = put p.stream e s; frames = p.frames }
+
+-- the k-th of a list, from 1
+abbrev pub nth : {X : Type 0} → List X → ℕ → Option X
+nth xs zero = None
+nth xs (suc k) = slice_get xs k
+
+-- ---- the events
+
+-- a message can be sent where there is room and a number for it
+abbrev pub can_send : Stream → Bool
+can_send s = nat_lt (length (waiting s)) 18 && nat_lt (length s.sent) greatest
+
+abbrev pub send : Pair → End → Msg → Reply × Pair
+send p e msg =
+    let s = p.stream e in
+    if can_send s
+    then (Queued, with_stream p e (record { sent = s.sent ++ msg ∷ []; taken = s.taken; acked = s.acked }))
+    else (Idle, p)
+
+-- a frame of that end has the count of what the end has taken by now
+abbrev pub post : Pair → End → ℕ → Option Msg → Reply × Pair
+post p e number msg =
+    let frame : Fields = record { run = p.run; from = p.office e; to = p.office (other e); number = number; count = length (p.stream (other e)).taken; msg = msg } in
+    (Made, record { run = p.run; office = p.office; stream = p.stream; frames = p.frames ++ record { by = e; frame = frame } ∷ [] })
+
+abbrev pub post_waiting : Pair → End → ℕ → Option Msg → Reply × Pair
+post_waiting p e i None = (Idle, p)
+post_waiting p e i (Some msg) = post p e ((p.stream e).acked + i) (Some msg)
+
+-- the sender learns the count
+abbrev pub learned : Stream → ℕ → Stream
+learned s count = record { sent = s.sent; taken = s.taken; acked = max s.acked count }
+
+-- the message is taken where its number is the next
+abbrev pub took : Stream → ℕ → Option Msg → Stream
+took s number None = s
+took s number (Some msg) =
+    if number == length s.taken + 1 then record { sent = s.sent; taken = s.taken ++ msg ∷ []; acked = s.acked } else s
+
+abbrev pub deliver : Pair → Option Posted → Reply × Pair
+deliver p None = (Idle, p)
+deliver p (Some posted) =
+    let f = posted.frame in
+    let out = p.stream posted.by in
+    let back = p.stream (other posted.by) in (
+      Arrived (brings (length out.taken) f.number f.msg),
+      with_stream (with_stream p (other posted.by) (learned back f.count)) posted.by (took out f.number f.msg),
+    )
+
+-- what happens, and what is answered
+abbrev pub happens : Pair → LinkEvent → Reply × Pair
+happens p (Queue e msg) = send p e msg
+happens p (Make e i) = post_waiting p e i (nth (waiting (p.stream e)) i)
+happens p (Ack e) = post p e 0 None
+happens p (Arrive k) = deliver p (nth p.frames k)
+
+-- ---- runs
+
+abbrev pub empty : Stream
+empty = record { sent = []; taken = []; acked = 0 }
+
+abbrev pub opening : ℕ → (End → ℕ) → Pair
+opening run office = record { run = run; office = office; stream = λ e. empty; frames = [] }
+
+abbrev pub run_of : Pair → List LinkEvent → Pair
+run_of p [] = p
+run_of p (event ∷ events) = run_of (happens p event).1 events
+
+-- Over every list of events, both ends are lawful.
+abbrev pub StreamsAreKept : Type 0
+StreamsAreKept = (run : ℕ) (office : End → ℕ) (events : List LinkEvent) (e : End) → IsLawful ((run_of (opening run office) events).stream e)

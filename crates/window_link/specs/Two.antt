@@ -1,0 +1,61 @@
+-- Two linked ends as contracts see them, and which lists of events led to them.
+use Rattle.std.specs.Prelude.{◌≡◌, ℕ, List, ◌∷◌, [], ◌++◌, length}
+use Rattle.window_link.specs.declared.laws.event.End.{End}
+use Rattle.window_link.specs.declared.laws.event.End.TheVariants.{Left, Right}
+use Rattle.window_link.specs.declared.laws.event.Posted.{Posted}
+use Rattle.window_link.specs.declared.laws.event.LinkEvent.{LinkEvent}
+use Rattle.window_link.specs.declared.laws.event.Reply.{Reply}
+use Rattle.window_link.specs.Links.{LinkState}
+use Rattle.window_link.specs.Streams.{Pair, IsLawful, waiting, other, happens, opening, run_of}
+
+pub record Ends : Type 0 where
+  pub left : LinkState
+  pub right : LinkState
+  pub frames : List Posted
+
+abbrev pub at : Ends → End → LinkState
+at t Left = t.left
+at t Right = t.right
+
+-- what the link at an end keeps of the streams
+abbrev pub link_at : Pair → End → LinkState
+link_at p e =
+    record {
+      run = p.run;
+      me = p.office e;
+      peer = p.office (other e);
+      sending = record { acked = (p.stream e).acked; waiting = waiting (p.stream e) };
+      receiving = record { taken = length (p.stream (other e)).taken };
+    }
+
+abbrev pub ends_of : Pair → Ends
+ends_of p = record { left = link_at p Left; right = link_at p Right; frames = p.frames }
+
+-- the run's number and the offices' numbers
+pub record Names : Type 0 where
+  pub run : ℕ
+  pub left : ℕ
+  pub right : ℕ
+
+abbrev pub office_at : Names → End → ℕ
+office_at names Left = names.left
+office_at names Right = names.right
+
+-- both ends after these events, from the opening
+abbrev pub after : Names → List LinkEvent → Pair
+after names events = run_of (opening names.run (office_at names)) events
+
+-- these events led to these ends
+abbrev pub LedTo : Names → List LinkEvent → Ends → Type 0
+LedTo names events t = ends_of (after names events) ≡ t
+
+-- Some events led to these ends, and what goes each way after them is lawful.
+pub record KeepsStreams (t : Ends) : Type 0 where
+  pub names : Names
+  pub events : List LinkEvent
+  pub led : LedTo names events t
+  pub lawful : (e : End) → IsLawful ((after names events).stream e)
+
+-- whatever events led to the old ends, they and this one led to the new, and the answer is theirs
+abbrev pub Happens : Ends → LinkEvent → Reply → Ends → Type 0
+Happens old event reply new = (names : Names) (events : List LinkEvent) → LedTo names events old → LedTo names (events ++ event ∷ []) new × (reply ≡ (happens (after names events) event).0)

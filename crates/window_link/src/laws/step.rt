@@ -1,0 +1,82 @@
+//! One event at two links and the frames that they made.
+
+ghost use Rattle.std.specs.Prelude.{◌≡◌, ◌++◌, ◌∷◌, [], None, IfOk, OnOk, OnErr};
+ghost use Rattle.window_link.specs.Links.{fault_of, arrival_at, after_arrival};
+ghost use Rattle.window_link.specs.Streams.{nth};
+ghost use Rattle.window_link.specs.Steps.{queue_step, made_of, arrive_step, ends, Accepts, Steps};
+
+use crate::laws::event::{End, LinkEvent, Posted, Reply};
+use crate::link::Link;
+use frame_codec::{Frame, Msg};
+use std::alloc::AllocError;
+
+/// What happens to the links and the frames. Where a growth is refused nothing does.
+pub fn step(
+    left: &mut Link,
+    right: &mut Link,
+    frames: &mut Vec<Posted>,
+    event: &LinkEvent,
+) -> Result<Reply, AllocError>
+    requires { Accepts (ends left.old right.old frames.old.items) }
+    ensures { Steps (ends left.old right.old frames.old.items) event.now result (ends left.new right.new frames.new.items) }
+{
+    match *event {
+        LinkEvent::Queue(End::Left, msg) => Ok(queue(left, msg)),
+        LinkEvent::Queue(End::Right, msg) => Ok(queue(right, msg)),
+        LinkEvent::Make(End::Left, i) => make(frames, left, End::Left, i),
+        LinkEvent::Make(End::Right, i) => make(frames, right, End::Right, i),
+        LinkEvent::Ack(End::Left) => post(frames, End::Left, left.ack_frame()),
+        LinkEvent::Ack(End::Right) => post(frames, End::Right, right.ack_frame()),
+        LinkEvent::Arrive(k) => Ok(arrive(left, right, frames, k)),
+    }
+}
+
+fn queue(link: &mut Link, msg: Msg) -> Reply
+    ensures reply { result ≡ (queue_step link.old msg).0 }
+    ensures link { link.new ≡ (queue_step link.old msg).1 }
+{
+    if !link.has_room() {
+        return Reply::Idle;
+    }
+    match link.queue(msg) {
+        Ok(()) => Reply::Queued,
+        Err(_) => Reply::Idle,
+    }
+}
+
+fn make(frames: &mut Vec<Posted>, link: &Link, by: End, i: usize) -> Result<Reply, AllocError>
+    ensures reply { IfOk result (λ reply. reply ≡ (made_of link.now by i (nth link.now.sending.waiting i)).0) }
+    ensures frames { OnOk result (frames.new.items ≡ frames.old.items ++ (made_of link.now by i (nth link.now.sending.waiting i)).1) }
+    ensures err { OnErr result (frames.new.items ≡ frames.old.items) }
+{
+    if i == 0 || i > link.waiting().len() {
+        return Ok(Reply::Idle);
+    }
+    post(frames, by, link.frame(i))
+}
+
+fn post(frames: &mut Vec<Posted>, by: End, frame: Frame) -> Result<Reply, AllocError>
+    ensures reply { IfOk result (λ reply. reply ≡ Reply.Made) }
+    ensures frames { OnOk result (frames.new.items ≡ frames.old.items ++ record { by = by; frame = frame } ∷ []) }
+    ensures err { OnErr result (frames.new.items ≡ frames.old.items) }
+{
+    frames.push(Posted { by, frame })?;
+    Ok(Reply::Made)
+}
+
+fn arrive(left: &mut Link, right: &mut Link, frames: &[Posted], k: usize) -> Reply
+    requires { Accepts (ends left.old right.old frames.now) }
+    ensures { (result, ends left.new right.new frames.now) ≡ arrive_step (ends left.old right.old frames.now) (nth frames.now k) }
+{
+    if k == 0 {
+        return Reply::Idle;
+    }
+    let Some(posted) = frames.get(k - 1) else {
+        return Reply::Idle;
+    };
+    let arrival = match posted.by {
+        End::Left => right.accept(&posted.frame),
+        End::Right => left.accept(&posted.frame),
+    };
+    Reply::Arrived(arrival)
+}

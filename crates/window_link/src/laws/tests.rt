@@ -1,0 +1,222 @@
+ghost use Rattle.std.specs.Prelude.{◌<◌, ◌≤◌, IsTrue};
+
+use super::*;
+use crate::arrival::Arrival;
+use crate::link::Link;
+use frame_codec::{Frame, Msg};
+use std::alloc::{AllocError, Global};
+use std::process::Abort;
+use std::test::Fail;
+
+fn happens(
+    rt: &impl Abort,
+    two: &mut Two,
+    event: LinkEvent,
+    reply: Reply,
+) -> Result<(), AllocError> {
+    assert_eq!(rt; two.apply(&event)?, reply, "{event:?}");
+    Ok(())
+}
+
+// Three messages are asked for in one direction, and their frames are made.
+fn three_made(rt: &impl Abort, alloc: Global) -> Result<Two, AllocError> {
+    let mut two = Two::open(alloc, 42, 0, 1);
+    for bottle in 0..3 {
+        let queue = LinkEvent::Queue(End::Left, Msg::AskBottle(bottle));
+        happens(rt, &mut two, queue, Reply::Queued)?;
+    }
+    for i in 1..4 {
+        happens(rt, &mut two, LinkEvent::Make(End::Left, i), Reply::Made)?;
+    }
+    Ok(two)
+}
+
+#[test]
+fn frames_come_out_of_order(rt: HostRuntime) -> Result<(), Fail> {
+    let mut two = three_made(&rt, rt.alloc())?;
+    let arrivals = [
+        (3, Arrival::Early),
+        (1, Arrival::Fresh(Msg::AskBottle(0))),
+        (2, Arrival::Fresh(Msg::AskBottle(1))),
+    ];
+    for (k, arrival) in arrivals {
+        happens(&rt, &mut two, LinkEvent::Arrive(k), Reply::Arrived(arrival))?;
+    }
+    happens(&rt, &mut two, LinkEvent::Make(End::Left, 3), Reply::Made)?;
+    let third = Reply::Arrived(Arrival::Fresh(Msg::AskBottle(2)));
+    happens(&rt, &mut two, LinkEvent::Arrive(4), third)?;
+    let repeat = Reply::Arrived(Arrival::Repeat);
+    happens(&rt, &mut two, LinkEvent::Arrive(3), repeat)?;
+    let frames = two.frames();
+    assert!(rt; frames.len() == 4);
+    assert_eq!(rt; frames[3], frames[2]);
+    Ok(())
+}
+
+#[test]
+fn a_frame_has_the_count_of_its_making(rt: HostRuntime) -> Result<(), Fail> {
+    let mut two = three_made(&rt, rt.alloc())?;
+    let queue = LinkEvent::Queue(End::Right, Msg::Fork);
+    happens(&rt, &mut two, queue, Reply::Queued)?;
+    happens(&rt, &mut two, LinkEvent::Make(End::Right, 1), Reply::Made)?;
+    let taken = Reply::Arrived(Arrival::Fresh(Msg::AskBottle(0)));
+    happens(&rt, &mut two, LinkEvent::Arrive(1), taken)?;
+    happens(&rt, &mut two, LinkEvent::Make(End::Right, 1), Reply::Made)?;
+    happens(&rt, &mut two, LinkEvent::Ack(End::Right), Reply::Made)?;
+    let frames = two.frames();
+    assert!(rt; frames.len() == 6);
+    let told = [frames[3].frame, frames[4].frame, frames[5].frame];
+    assert_eq!(rt;
+        told,
+        [
+            Frame::data(42, 1, 0, 1, 0, Msg::Fork),
+            Frame::data(42, 1, 0, 1, 1, Msg::Fork),
+            Frame::ack(42, 1, 0, 1),
+        ]
+    );
+    Ok(())
+}
+
+#[test]
+fn nothing_to_do(rt: HostRuntime) -> Result<(), Fail> {
+    let mut two = Two::open(rt.alloc(), 42, 0, 1);
+    for event in [
+        LinkEvent::Arrive(0),
+        LinkEvent::Arrive(1),
+        LinkEvent::Make(End::Left, 0),
+        LinkEvent::Make(End::Right, 1),
+    ] {
+        happens(&rt, &mut two, event, Reply::Idle)?;
+    }
+    for bottle in 0..18 {
+        let queue = LinkEvent::Queue(End::Right, Msg::AskBottle(bottle));
+        happens(&rt, &mut two, queue, Reply::Queued)?;
+    }
+    let one_more = LinkEvent::Queue(End::Right, Msg::Fork);
+    happens(&rt, &mut two, one_more, Reply::Idle)?;
+    assert!(rt; two.frames().is_empty());
+    Ok(())
+}
+
+// ---- random events
+
+static SEEDS: [u64; 8] = [0, 1, 2, 7, 42, 1984, 65_537, 4_294_967_295];
+
+// A linear congruential generator; its high bits are drawn.
+#[derive(Drop)]
+struct Draws {
+    state: u64,
+}
+
+impl Draws {
+    fn below(&mut self, limit: u64) -> u64
+        requires { 0 < limit }
+        ensures { result < limit }
+    {
+        self.state = self
+            .state
+            .wrapping_mul(6_364_136_223_846_793_005)
+            .wrapping_add(1_442_695_040_888_963_407);
+        (self.state >> 33) % limit
+    }
+
+    fn end(&mut self) -> End {
+        if self.below(2) == 0 {
+            End::Left
+        } else {
+            End::Right
+        }
+    }
+
+    // Mostly one of the last frames arrives, now and then any of the others.
+    fn event(&mut self, frames: usize) -> LinkEvent {
+        match self.below(10) {
+            0..2 => LinkEvent::Queue(self.end(), Msg::AskBottle(self.below(65_536) as u16)),
+            2..5 => LinkEvent::Make(self.end(), self.below(5) as usize),
+            5 => LinkEvent::Ack(self.end()),
+            6 => LinkEvent::Arrive(self.below(10_000) as usize),
+            _ => LinkEvent::Arrive(frames.saturating_sub(self.below(40) as usize)),
+        }
+    }
+}
+
+// What went one way.
+#[derive(Drop)]
+struct Way {
+    sent: Vec<Msg>,
+    taken: Vec<Msg>,
+}
+
+impl Way {
+    fn new(alloc: Global) -> Way {
+        Way {
+            sent: Vec::new(alloc),
+            taken: Vec::new(alloc),
+        }
+    }
+
+    // What the sender and the taker say of it.
+    fn is_kept(&self, rt: &impl Abort, sender: &Link, taker: &Link) {
+        let taken = self.taken.len();
+        assert!(rt; taken > 100);
+        assert_eq!(rt; self.sent.get(..taken), Some(self.taken.as_slice()));
+        assert_eq!(rt; taker.taken(), taken as u64);
+        let acked = sender.acked() as usize;
+        assert!(rt; acked <= taken);
+        assert_eq!(rt; self.sent.get(acked..), Some(sender.waiting()));
+    }
+}
+
+fn note(
+    two: &Two,
+    left: &mut Way,
+    right: &mut Way,
+    event: LinkEvent,
+    reply: Reply,
+) -> Result<(), AllocError> {
+    match (event, reply) {
+        (LinkEvent::Queue(End::Left, msg), Reply::Queued) => left.sent.push(msg)?,
+        (LinkEvent::Queue(End::Right, msg), Reply::Queued) => right.sent.push(msg)?,
+        (LinkEvent::Arrive(k), Reply::Arrived(Arrival::Fresh(msg))) => {
+            match two.frames().get(k.saturating_sub(1)) {
+                Some(Posted { by: End::Left, .. }) => left.taken.push(msg)?,
+                Some(_) => right.taken.push(msg)?,
+                None => {}
+            }
+        }
+        _ => {}
+    }
+    Ok(())
+}
+
+#[test]
+fn ten_thousand_random_events(rt: HostRuntime) -> Result<(), Fail> {
+    for seed in SEEDS {
+        let mut draws = Draws { state: seed };
+        let mut two = Two::open(rt.alloc(), 42, 0, 1);
+        let mut left = Way::new(rt.alloc());
+        let mut right = Way::new(rt.alloc());
+        for _ in 0..10_000 {
+            let event = draws.event(two.frames().len());
+            let reply = two.apply(&event)?;
+            note(&two, &mut left, &mut right, event, reply)?;
+        }
+        left.is_kept(&rt, two.link(End::Left), two.link(End::Right));
+        right.is_kept(&rt, two.link(End::Right), two.link(End::Left));
+    }
+    streams_are_kept();
+    Ok(())
+}
+
+// A reader of the contract alone knows that what is acknowledged was taken.
+fn known_is_taken(two: &Two) -> bool
+    ensures { IsTrue result }
+{
+    two.link(End::Left).acked() <= two.link(End::Right).taken()
+}
+
+#[test]
+fn a_caller_knows_the_law(rt: HostRuntime) {
+    let two = Two::open(rt.alloc(), 42, 0, 1);
+    assert!(rt; known_is_taken(&two));
+}

@@ -1,0 +1,74 @@
+//! Two linked ends.
+
+ghost use Rattle.std.specs.Prelude.{◌≡◌, [], IfOk, OnErr, IsTrue};
+ghost use Rattle.window_link.specs.Steps.{makes_frame};
+ghost use Rattle.window_link.specs.Two.{at, LedTo, KeepsStreams, Happens};
+
+use crate::laws::event::{End, LinkEvent, Posted, Reply};
+use crate::laws::step::step;
+use crate::link::Link;
+use std::alloc::{AllocError, Global};
+use std::marker::Model;
+
+/// Both ends of a link, and every frame that they made. A frame arrives at any time, any number of
+/// times or never.
+#[derive(Drop)]
+pub struct Two {
+    left: Link,
+    right: Link,
+    frames: Vec<Posted>,
+}
+
+impl Model for Two {
+    ghost use Rattle.window_link.specs.Two.{Ends, KeepsStreams};
+    ghost use Rattle.window_link.specs.Steps.{ends};
+
+    ghost Value = { Ends };
+
+    ghost view = { λ t. ends t.left t.right t.frames.items };
+
+    ghost invariant = { λ t. KeepsStreams (ends t.left t.right t.frames.items) };
+}
+
+impl Two {
+    /// The run's number, and the numbers of the offices at the two ends.
+    pub fn open(alloc: Global, run: u32, left: u8, right: u8) -> Two
+        ensures { LedTo (record { run = run; left = left; right = right }) [] result }
+    {
+        Two {
+            left: Link::open(run, left, right),
+            right: Link::open(run, right, left),
+            frames: Vec::new(alloc),
+        }
+    }
+
+    /// What an end keeps. What goes each way is lawful, whatever events came.
+    pub fn link(&self, end: End) -> &Link
+        ensures link { result.now ≡ at self.now end }
+        ensures streams { KeepsStreams self.now }
+    {
+        match end {
+            End::Left => &self.left,
+            End::Right => &self.right,
+        }
+    }
+
+    /// Every frame that was made, in order.
+    pub fn frames(&self) -> &[Posted]
+        ensures { result.now ≡ self.now.frames }
+    {
+        &self.frames
+    }
+
+    /// One event.
+    ///
+    /// # Errors
+    /// Where a growth for a frame was refused. Both ends and the frames are as they were.
+    pub fn apply(&mut self, event: &LinkEvent) -> Result<Reply, AllocError>
+        ensures happens { IfOk result (λ reply. Happens self.old event.now reply self.new) }
+        ensures err { OnErr result (self.new ≡ self.old) }
+        ensures memory { OnErr result (IsTrue (makes_frame event.now)) }
+    {
+        step(&mut self.left, &mut self.right, &mut self.frames, event)
+    }
+}

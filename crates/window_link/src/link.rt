@@ -1,0 +1,162 @@
+//! One end of a link.
+
+ghost use Rattle.std.specs.Prelude.{◌≡◌, ◌<◌, ◌≤◌, ◌^◌, ◌↔◌, length, None, IsTrue, IsErr, IfOk, IfErr, OnOk, OnErr};
+ghost use Rattle.std.specs.Result.{result_err};
+ghost use Rattle.window_link.specs.Windows.{used, greatest, queued};
+ghost use Rattle.window_link.specs.Links.{resumed, frame_of, ack_frame_of, fault_of, arrival_at, after_arrival};
+
+use crate::arrival::Arrival;
+use crate::fault::LinkFault;
+use crate::receiving::ReceiveWindow;
+use crate::sending::{MAX_WAITING, SendWindow};
+use frame_codec::{Frame, Msg};
+use std::marker::Model;
+
+/// One office's end of the link to a neighbour.
+#[derive(Drop)]
+pub struct Link {
+    run: u32,
+    me: u8,
+    peer: u8,
+    sending: SendWindow,
+    receiving: ReceiveWindow,
+}
+
+impl Model for Link {
+    ghost use Rattle.window_link.specs.Links.{LinkState};
+
+    ghost Value = { LinkState };
+
+    ghost view = { λ l. record { run = l.run; me = l.me; peer = l.peer; sending = l.sending; receiving = l.receiving } };
+}
+
+impl Link {
+    /// A link on which nothing was sent. The run's number stands in each frame, with the numbers of
+    /// the two offices.
+    pub fn open(run: u32, me: u8, peer: u8) -> Link
+        ensures { result ≡ resumed run me peer 0 0 }
+    {
+        Link::resume(run, me, peer, 0, 0)
+    }
+
+    /// A link whose numbers up to `sent` were used, and which has taken the messages up to `taken`.
+    /// Nothing waits.
+    pub fn resume(run: u32, me: u8, peer: u8, sent: u64, taken: u64) -> Link
+        requires sent { sent < 2 ^ 48 }
+        requires taken { taken < 2 ^ 48 }
+        ensures { result ≡ resumed run me peer sent taken }
+    {
+        Link {
+            run,
+            me,
+            peer,
+            sending: SendWindow::after(sent),
+            receiving: ReceiveWindow::after(taken),
+        }
+    }
+
+    /// Whether one more message can wait.
+    pub fn has_room(&self) -> bool
+        ensures { IsTrue result ↔ (length self.now.sending.waiting < MAX_WAITING) }
+    {
+        self.sending.has_room()
+    }
+
+    /// How many of the peer's messages were taken, in order.
+    pub fn taken(&self) -> u64
+        ensures value { result ≡ self.now.receiving.taken }
+        ensures range { result < 2 ^ 48 }
+    {
+        self.receiving.taken()
+    }
+
+    /// How many messages the peer is known to have taken.
+    pub fn acked(&self) -> u64
+        ensures value { result ≡ self.now.sending.acked }
+        ensures range { result < 2 ^ 48 }
+    {
+        self.sending.acked()
+    }
+
+    /// The messages after those, the oldest first. The first has the number after `acked`.
+    pub fn waiting(&self) -> &[Msg]
+        ensures value { result.now ≡ self.now.sending.waiting }
+        ensures few { length result.now ≤ MAX_WAITING }
+        ensures range { used self.now.sending < 2 ^ 48 }
+    {
+        self.sending.waiting()
+    }
+
+    /// Gives the message the next number, and lets it wait.
+    ///
+    /// # Errors
+    /// `Worn` where the greatest number was used. The link is as it was.
+    pub fn queue(&mut self, msg: Msg) -> Result<(), LinkFault>
+        requires { length self.old.sending.waiting < MAX_WAITING }
+        ensures worn { IsErr result ↔ (used self.old.sending ≡ greatest) }
+        ensures fault { IfErr result (λ fault. fault ≡ LinkFault.Worn) }
+        ensures numbered { OnOk result (used self.old.sending < greatest) }
+        ensures ok { OnOk result (self.new ≡ record self.old { sending = queued self.old.sending msg }) }
+        ensures err { OnErr result (self.new ≡ self.old) }
+    {
+        self.sending.push(msg)
+    }
+
+    /// The frame of the `i`-th waiting message, from 1, with the count of now.
+    pub fn frame(&self, i: usize) -> Frame
+        requires first { 0 < i }
+        requires last { i ≤ length self.now.sending.waiting }
+        ensures { result ≡ frame_of self.now i }
+    {
+        let msg = self.waiting()[i - 1];
+        let number = self.acked() + i as u64;
+        Frame::data(self.run, self.me, self.peer, number, self.taken(), msg)
+    }
+
+    /// A frame with the count alone.
+    pub fn ack_frame(&self) -> Frame
+        ensures { result ≡ ack_frame_of self.now }
+    {
+        Frame::ack(self.run, self.me, self.peer, self.taken())
+    }
+
+    /// What is wrong with a frame that comes: `Stranger` before `AckAhead`.
+    pub fn check(&self, frame: &Frame) -> Result<(), LinkFault>
+        ensures { result_err result ≡ fault_of self.now frame.now }
+    {
+        if frame.run() != self.run || frame.from() != self.peer || frame.to() != self.me {
+            return Err(LinkFault::Stranger);
+        }
+        if frame.count() > self.sending.last_number() {
+            return Err(LinkFault::AckAhead);
+        }
+        Ok(())
+    }
+
+    /// Takes in a frame that `check` passes: first its count, then its message.
+    pub fn accept(&mut self, frame: &Frame) -> Arrival
+        requires { fault_of self.old frame.now ≡ None }
+        ensures arrival { result ≡ arrival_at self.old frame.now }
+        ensures link { self.new ≡ after_arrival self.old frame.now }
+    {
+        self.sending.acknowledge(frame.count());
+        match frame.msg() {
+            None => Arrival::Acked,
+            Some(msg) => self.receiving.receive(frame.number(), msg),
+        }
+    }
+
+    /// Takes in a frame that comes.
+    ///
+    /// # Errors
+    /// `Stranger`, or else `AckAhead`. The link is as it was.
+    pub fn arrive(&mut self, frame: &Frame) -> Result<Arrival, LinkFault>
+        ensures fault { result_err result ≡ fault_of self.old frame.now }
+        ensures arrival { IfOk result (λ arrival. arrival ≡ arrival_at self.old frame.now) }
+        ensures link { OnOk result (self.new ≡ after_arrival self.old frame.now) }
+        ensures err { OnErr result (self.new ≡ self.old) }
+    {
+        self.check(frame)?;
+        Ok(self.accept(frame))
+    }
+}

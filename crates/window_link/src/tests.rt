@@ -1,0 +1,96 @@
+use super::*;
+use frame_codec::{Frame, Msg};
+use std::process::Abort;
+use std::test::Fail;
+
+#[test]
+fn the_greatest_number_is_the_last(rt: HostRuntime) {
+    let mut worn = Link::resume(42, 0, 1, 281474976710655, 0);
+    assert_eq!(rt; worn.queue(Msg::Fork), Err(LinkFault::Worn));
+    let mut last = Link::resume(42, 0, 1, 281474976710654, 0);
+    assert_eq!(rt; last.queue(Msg::Fork), Ok(()));
+    let waiting = last.waiting().len();
+    assert!(rt; waiting == 1);
+    assert_eq!(rt;
+        last.frame(1),
+        Frame::data(42, 0, 1, 281474976710655, 0, Msg::Fork)
+    );
+    assert_eq!(rt; last.queue(Msg::Fork), Err(LinkFault::Worn));
+}
+
+#[test]
+fn eighteen_messages_wait(rt: HostRuntime) -> Result<(), Fail> {
+    let mut link = Link::open(42, 0, 1);
+    for bottle in 0..30 {
+        if link.has_room() {
+            assert_eq!(rt; link.queue(Msg::AskBottle(bottle)), Ok(()));
+        }
+    }
+    let mut asked = Vec::new(rt.alloc());
+    for bottle in 0..18 {
+        asked.push(Msg::AskBottle(bottle))?;
+    }
+    assert_eq!(rt; link.waiting(), asked.as_slice());
+    Ok(())
+}
+
+// What the frame is to the link, and then how many messages it took, has acknowledged, and lets wait.
+fn comes(
+    rt: &impl Abort,
+    link: &mut Link,
+    frame: Frame,
+    arrival: Result<Arrival, LinkFault>,
+    counts: (u64, u64, usize),
+) {
+    let told = link.arrive(&frame);
+    assert_eq!(rt; told, arrival, "{frame:?}");
+    let now = (link.taken(), link.acked(), link.waiting().len());
+    assert_eq!(rt; now, counts, "{frame:?}");
+}
+
+fn with_two_waiting(rt: &impl Abort) -> Link {
+    let mut link = Link::open(42, 0, 1);
+    assert_eq!(rt; link.queue(Msg::AskFork), Ok(()));
+    assert!(rt; link.has_room());
+    assert_eq!(rt; link.queue(Msg::AskBottle(7)), Ok(()));
+    link
+}
+
+#[test]
+fn strangers_come_first(rt: HostRuntime) {
+    let mut link = with_two_waiting(&rt);
+    for (run, from, to) in [(43, 1, 0), (42, 2, 0), (42, 1, 2), (42, 0, 1)] {
+        let frame = Frame::data(run, from, to, 1, 3, Msg::Fork);
+        comes(&rt, &mut link, frame, Err(LinkFault::Stranger), (0, 0, 2));
+    }
+    let ahead = Frame::ack(42, 1, 0, 3);
+    comes(&rt, &mut link, ahead, Err(LinkFault::AckAhead), (0, 0, 2));
+}
+
+#[test]
+fn counts_are_used_in_every_frame(rt: HostRuntime) {
+    let mut link = with_two_waiting(&rt);
+    let early = Frame::data(42, 1, 0, 2, 1, Msg::Fork);
+    comes(&rt, &mut link, early, Ok(Arrival::Early), (0, 1, 1));
+    let next = Frame::data(42, 1, 0, 1, 0, Msg::AskFork);
+    let fresh = Ok(Arrival::Fresh(Msg::AskFork));
+    comes(&rt, &mut link, next, fresh, (1, 1, 1));
+    let again = Frame::data(42, 1, 0, 1, 2, Msg::AskFork);
+    comes(&rt, &mut link, again, Ok(Arrival::Repeat), (1, 2, 0));
+    let ack = Frame::ack(42, 1, 0, 1);
+    comes(&rt, &mut link, ack, Ok(Arrival::Acked), (1, 2, 0));
+    assert_eq!(rt; link.ack_frame(), Frame::ack(42, 0, 1, 1));
+}
+
+#[test]
+fn faults_are_printed_with_their_codes(rt: HostRuntime) -> Result<(), Fail> {
+    for (fault, text) in [
+        (LinkFault::Stranger, "L1 Stranger"),
+        (LinkFault::AckAhead, "L2 AckAhead"),
+        (LinkFault::Worn, "L3 Worn"),
+    ] {
+        let printed = format!(in rt.alloc(); "{fault}")?;
+        assert_eq!(rt; printed.as_str(), text);
+    }
+    Ok(())
+}
