@@ -3,7 +3,7 @@ use Rattle.std.proofs.Common.{◌≡◌, ℕ, ◌+◌, ◌≤◌, Bool, true, fa
 use Rattle.std.proofs.lemmas.Bool.{cond_both, eqb-true, eq-eqb}
 use Rattle.frame_codec.specs.declared.message.Msg.{Msg}
 use Rattle.token_channel.specs.declared.thing.Thing.{Thing}
-use Rattle.token_channel.specs.declared.thing.Thing.TheVariants.{TheFork, ForkToken, TheBottle, BottleToken}
+use Rattle.token_channel.specs.declared.thing.Thing.TheVariants.{Fork as TheFork, ForkToken, Bottle as TheBottle, BottleToken}
 use Rattle.token_channel.specs.declared.thing.Place.{Place}
 use Rattle.token_channel.specs.Things.{same, thing_of, num, count}
 use Rattle.token_channel.specs.Places.{holds, shares, waits, with_held, changed}

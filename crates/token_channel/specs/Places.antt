@@ -5,7 +5,7 @@ use Rattle.std.specs.Option.{option_map_or}
 use Rattle.frame_codec.specs.declared.message.Msg.{Msg}
 use Rattle.office_map.specs.PlanValue.{PlanValue, records_of, is_end, fork_end_of, start_end_of}
 use Rattle.token_channel.specs.declared.thing.Thing.{Thing}
-use Rattle.token_channel.specs.declared.thing.Thing.TheVariants.{TheFork, ForkToken, TheBottle, BottleToken}
+use Rattle.token_channel.specs.declared.thing.Thing.TheVariants.{Fork as TheFork, ForkToken, Bottle as TheBottle, BottleToken}
 use Rattle.token_channel.specs.declared.thing.Place.{Place}
 use Rattle.token_channel.specs.Things.{same, thing_of}
 

@@ -3,7 +3,7 @@ use Rattle.std.specs.Prelude.{ℕ, ◌+◌, Bool, true, false, ◌==◌, if◌th
 use Rattle.frame_codec.specs.declared.message.Msg.{Msg}
 use Rattle.frame_codec.specs.declared.message.Msg.TheVariants.{AskFork, Fork, AskBottle, Bottle}
 use Rattle.token_channel.specs.declared.thing.Thing.{Thing}
-use Rattle.token_channel.specs.declared.thing.Thing.TheVariants.{TheFork, ForkToken, TheBottle, BottleToken}
+use Rattle.token_channel.specs.declared.thing.Thing.TheVariants.{Fork as TheFork, ForkToken, Bottle as TheBottle, BottleToken}
 
 -- what a message carries
 abbrev pub thing_of : Msg → Thing

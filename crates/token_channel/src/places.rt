@@ -51,10 +51,10 @@ pub fn open(
 {
     let mut places = Vec::new(alloc);
     let fork_is_here = plan.fork_end(me, peer) == me;
-    push_both(&mut places, Thing::TheFork, Thing::ForkToken, fork_is_here)?;
+    push_both(&mut places, Thing::Fork, Thing::ForkToken, fork_is_here)?;
     for r in plan.records_of(me) {
         if plan.has_end(*r, peer) {
-            let bottle = Thing::TheBottle(r.number());
+            let bottle = Thing::Bottle(r.number());
             let token = Thing::BottleToken(r.number());
             push_both(&mut places, bottle, token, plan.start_end(*r) == me)?;
         }

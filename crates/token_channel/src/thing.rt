@@ -10,9 +10,9 @@ use frame_codec::Msg;
 /// number.
 #[derive(Clone, Copy, Debug, PartialEq, Eq)]
 pub enum Thing {
-    TheFork,
+    Fork,
     ForkToken,
-    TheBottle(u16),
+    Bottle(u16),
     BottleToken(u16),
 }
 
@@ -23,9 +23,9 @@ impl Thing {
     {
         match msg {
             Msg::AskFork => Thing::ForkToken,
-            Msg::Fork => Thing::TheFork,
+            Msg::Fork => Thing::Fork,
             Msg::AskBottle(bottle) => Thing::BottleToken(bottle),
-            Msg::Bottle(bottle, _) => Thing::TheBottle(bottle),
+            Msg::Bottle(bottle, _) => Thing::Bottle(bottle),
         }
     }
 
@@ -34,8 +34,8 @@ impl Thing {
         ensures { result ≡ same self other }
     {
         match (self, other) {
-            (Thing::TheFork, Thing::TheFork) | (Thing::ForkToken, Thing::ForkToken) => true,
-            (Thing::TheBottle(a), Thing::TheBottle(b)) => a == b,
+            (Thing::Fork, Thing::Fork) | (Thing::ForkToken, Thing::ForkToken) => true,
+            (Thing::Bottle(a), Thing::Bottle(b)) => a == b,
             (Thing::BottleToken(a), Thing::BottleToken(b)) => a == b,
             _ => false,
         }

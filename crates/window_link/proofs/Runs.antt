@@ -8,7 +8,7 @@ use Rattle.window_link.specs.Streams.{Pair, happens, run_of}
 use Rattle.window_link.specs.Two.{Ends, Names, ends_of, office_at, after, LedTo, KeepsStreams, Happens}
 use Rattle.window_link.specs.declared.laws.event.Posted.{Posted}
 use Rattle.window_link.specs.Links.{LinkState, resumed}
-use Rattle.window_link.specs.Steps.{step, ends, Steps, Accepts}
+use Rattle.window_link.specs.Steps.{step, ends, Steps, Accepts, NoFrameIsRefused}
 use Rattle.window_link.proofs.Sound.{Sound, sound_run, sound_opening, streams_kept}
 use Rattle.window_link.proofs.Shown.{step_is, accepts_all}
 
@@ -57,3 +57,6 @@ keeps_ends names left right frames l r f =
 pub happens_steps : (old new : Ends) (event : LinkEvent) (result : Result Reply AllocError) → Steps old event result new → IfOk result (λ reply. Happens old event reply new)
 happens_steps old new event (Ok reply) s = happens_so old new event reply s.0
 happens_steps old new event (Err e) s = tt
+
+pub none_refused : NoFrameIsRefused
+none_refused names events = accepts_all (after names events) (sound_after names events)

@@ -12,7 +12,7 @@ use Rattle.window_link.specs.declared.laws.event.Reply.TheVariants.{Idle, Queued
 use Rattle.window_link.specs.Windows.{used, greatest, queued}
 use Rattle.window_link.specs.Links.{LinkState, frame_with, fault_of, arrival_at, after_arrival}
 use Rattle.window_link.specs.Streams.{other, nth}
-use Rattle.window_link.specs.Two.{Ends, at}
+use Rattle.window_link.specs.Two.{Ends, Names, at, ends_of, after}
 
 abbrev pub ends : LinkState → LinkState → List Posted → Ends
 ends left right frames = record { left = left; right = right; frames = frames }
@@ -57,6 +57,10 @@ step t (Arrive k) = arrive_step t (nth t.frames k)
 -- an end refuses none of the frames that were made for it
 abbrev pub Accepts : Ends → Type 0
 Accepts t = (k : ℕ) (posted : Posted) → slice_get t.frames k ≡ Some posted → fault_of (at t (other posted.by)) posted.frame ≡ None
+
+-- over every list of events
+abbrev pub NoFrameIsRefused : Type 0
+NoFrameIsRefused = (names : Names) (events : List LinkEvent) → Accepts (ends_of (after names events))
 
 -- a frame is to be made
 abbrev pub makes_frame : LinkEvent → Bool

@@ -1,6 +1,7 @@
 //! The law of a link, on two ends and every frame that they made.
 
 ghost use Rattle.window_link.specs.Streams.{StreamsAreKept};
+ghost use Rattle.window_link.specs.Steps.{NoFrameIsRefused};
 
 mod event;
 mod step;
@@ -13,6 +14,11 @@ pub use two::Two;
 /// taken was taken, and at most 18 messages wait at it.
 pub fn streams_are_kept()
     ensures { StreamsAreKept }
+{}
+
+/// Over every list of events an end refuses no frame that the other made, whenever it arrives.
+pub fn no_frame_is_refused()
+    ensures { NoFrameIsRefused }
 {}
 
 #[cfg(test)]

@@ -1,7 +1,6 @@
 //! One event at two links and the frames that they made.
 
-ghost use Rattle.std.specs.Prelude.{◌≡◌, ◌++◌, ◌∷◌, [], None, IfOk, OnOk, OnErr};
-ghost use Rattle.window_link.specs.Links.{fault_of, arrival_at, after_arrival};
+ghost use Rattle.std.specs.Prelude.{◌≡◌, ◌++◌, ◌∷◌, [], IfOk, OnOk, OnErr};
 ghost use Rattle.window_link.specs.Streams.{nth};
 ghost use Rattle.window_link.specs.Steps.{queue_step, made_of, arrive_step, ends, Accepts, Steps};
 

@@ -1,4 +1,4 @@
-ghost use Rattle.std.specs.Prelude.{◌<◌, ◌≤◌, IsTrue};
+ghost use Rattle.std.specs.Prelude.{◌<◌, IsTrue};
 
 use super::*;
 use crate::arrival::Arrival;
@@ -205,6 +205,7 @@ fn ten_thousand_random_events(rt: HostRuntime) -> Result<(), Fail> {
         right.is_kept(&rt, two.link(End::Right), two.link(End::Left));
     }
     streams_are_kept();
+    no_frame_is_refused();
     Ok(())
 }
 

@@ -1,5 +1,5 @@
 use Rattle.std.proofs.Common.{length, ap, arith}
-use Rattle.token_channel.specs.declared.thing.Thing.TheVariants.{TheFork}
+use Rattle.token_channel.specs.declared.thing.Thing.TheVariants.{Fork as TheFork}
 use Rattle.token_channel.specs.Channels.{ChannelState}
 use Rattle.token_channel.proofs.Apart.{room}
 use Rattle.token_channel.proofs.channel.Channel.waiting.Goals as goal
