@@ -1,11 +1,11 @@
 //! All offices of a plan, and what happens to them.
 
-ghost use Rattle.std.specs.Prelude.{◌≡◌, ◌<◌, ◌≤◌, ◌↔◌, Err, IsTrue, length, IfOk, OnOk, IfErr, take};
+ghost use Rattle.std.specs.Prelude.{◌≡◌, ◌<◌, ◌≤◌, ◌↔◌, Err, IsTrue, length, map, IfOk, OnOk, IfErr, take};
 ghost use Rattle.serial_replay.specs.Serial.{start_map, map_of, outcomes_of};
 ghost use Rattle.world_schedule.specs.Worlds.{opening, happens, run_of, replies_of, programs, outcomes, bottle_value, unfinished_in};
 ghost use Rattle.world_schedule.specs.declared.reply.Refusal.TheVariants as refusals;
 ghost use Rattle.world_schedule.specs.Headline.{HasSerialValues, HasSerialSessions, HasOnePlaceEach};
-ghost use Rattle.world_schedule.specs.Tables.{state_of, IsReached};
+ghost use Rattle.world_schedule.specs.Tables.{state_of, world_in, office_table, IsReached, IsWorld};
 ghost use Rattle.world_schedule.specs.Effects.{OrMemory};
 
 use crate::event::WorldEvent;
@@ -119,6 +119,19 @@ impl World {
         ensures plan { self.new.plan ≡ self.old.plan }
         ensures replies { IfOk result (λ replies. replies.items ≡ replies_of self.old.plan (state_of self.old) events.now) }
         ensures world { OnOk result (state_of self.new ≡ run_of self.old.plan (state_of self.old) events.now) }
+        ensures bottles { HasSerialValues self.new.plan (state_of self.new) }
+        ensures sessions { HasSerialSessions self.new.plan (state_of self.new) }
+        ensures stopped { IfErr result (λ s. (s.done ≤ length events.now) × (state_of self.new ≡ run_of self.old.plan (state_of self.old) (take s.done events.now))) }
+    {
+        let replies = self.run_all(events);
+        self.is_serial();
+        replies
+    }
+
+    fn run_all(&mut self, events: &[WorldEvent]) -> Result<Vec<Result<Reply, Refusal>>, Stopped>
+        ensures plan { self.new.plan ≡ self.old.plan }
+        ensures replies { IfOk result (λ replies. replies.items ≡ replies_of self.old.plan (state_of self.old) events.now) }
+        ensures world { OnOk result (state_of self.new ≡ run_of self.old.plan (state_of self.old) events.now) }
         ensures stopped { IfErr result (λ s. (s.done ≤ length events.now) × (state_of self.new ≡ run_of self.old.plan (state_of self.old) (take s.done events.now))) }
     {
         let mut replies = Vec::new(self.alloc);
@@ -134,6 +147,18 @@ impl World {
             replies.push_reserved(reply);
         }
         Ok(replies)
+    }
+
+    /// What holds of every world: some events led to it from its plan; each record's bottle has the value, and the
+    /// finished sessions have the outcomes, of the serial run of these in finishing order; and each thing that two
+    /// offices share is at one place.
+    pub fn is_serial(&self)
+        ensures reached { IsReached self.now.plan (state_of self.now) }
+        ensures bottles { HasSerialValues self.now.plan (state_of self.now) }
+        ensures sessions { HasSerialSessions self.now.plan (state_of self.now) }
+        ensures places { HasOnePlaceEach self.now.plan (state_of self.now) }
+    {
+        is_serial(&self.plan, &self.offices, &self.messages, &self.finished);
     }
 
     /// How many messages were ever sent.
@@ -179,4 +204,15 @@ fn is_memory(reply: &Result<Reply, Refusal>) -> bool
     ensures { IsTrue result ↔ (reply.now ≡ Err refusals.Memory) }
 {
     matches!(reply, Err(Refusal::Memory))
+}
+
+/// What holds of every world's parts.
+fn is_serial(plan: &Plan, offices: &[Office], messages: &[Message], finished: &[Finished])
+    requires { IsWorld plan.now offices.now messages.now finished.now }
+    ensures reached { IsReached plan.now (world_in plan.now (map office_table offices.now) messages.now finished.now) }
+    ensures bottles { HasSerialValues plan.now (world_in plan.now (map office_table offices.now) messages.now finished.now) }
+    ensures sessions { HasSerialSessions plan.now (world_in plan.now (map office_table offices.now) messages.now finished.now) }
+    ensures places { HasOnePlaceEach plan.now (world_in plan.now (map office_table offices.now) messages.now finished.now) }
+{
+    writes_what_it_has();
 }

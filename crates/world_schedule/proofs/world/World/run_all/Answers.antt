@@ -5,7 +5,7 @@ use Rattle.office_map.specs.PlanValue.{PlanValue}
 use Rattle.world_schedule.specs.Worlds.{happens}
 use Rattle.world_schedule.specs.Tables.{state_of}
 use Rattle.world_schedule.proofs.Runs.{not_memory, run_more, replies_more}
-use Rattle.world_schedule.proofs.world.World.run.Goals as goal
+use Rattle.world_schedule.proofs.world.World.run_all.Goals as goal
 
 pub loop-event-preserved : goal.loop-event-preserved
 loop-event-preserved c =
