@@ -33,3 +33,9 @@ report_is p shown meant values kept m e k t =
     ∙ ap (λ os. flat_map (outcome_line p) os ++ value_lines p (value_at kept)) e
     ∙ ap (λ rows. flat_map (outcome_line p) meant ++ rows)
     (same_rows (λ r. value_line p r (value_at kept r)) (λ r. value_line p r (m r)) 0 (length p.records) (λ r lt. ap (value_line p r) (value_is kept _ m t r (omega (arith, lt)))))
+
+-- three parts, added one after the other
+pub three_added : (old a b c first second third : List ℕ) → first ≡ old ++ a → second ≡ first ++ b → third ≡ second ++ c → third ≡ old ++ (a ++ (b ++ c))
+three_added old a b c first second third e f g =
+    let two : second ≡ old ++ (a ++ b) = f ∙ ap (λ t. t ++ b) e ∙ append_assoc old a b in
+    g ∙ ap (λ t. t ++ c) two ∙ append_assoc old (a ++ b) c ∙ ap (λ t. old ++ t) (append_assoc a b c)

@@ -5,3 +5,5 @@ pub mod Report
 pub mod Texts
 pub mod Serial
 pub mod CommandLine
+pub mod Script
+pub mod Transcript

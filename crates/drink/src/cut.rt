@@ -1,6 +1,6 @@
-//! One input that stands for two texts.
+//! One input that stands for several texts.
 
-ghost use Rattle.std.specs.Prelude.{◌≡◌, ◌↔◌, ◌++◌, ◌∷◌, IfNone, IfSome, IsTrue};
+ghost use Rattle.std.specs.Prelude.{◌≡◌, ◌<◌, ◌-◌, ◌↔◌, ◌++◌, [], ◌∷◌, IfNone, IfSome, IsTrue};
 ghost use Rattle.drink.specs.Cut.{IsLine, IsCutLine, IsCut};
 
 /// The text before the first line that is exactly `---`, and the text after that line. Where there
@@ -19,6 +19,31 @@ pub fn cut(text: &[u8]) -> (&[u8], &[u8])
         return (&text[..text.len() - rest.len()], &[]);
     }
     (text, &[])
+}
+
+/// What is left of an input that stands for several texts, and how often it is cut still.
+#[derive(Clone, Copy)]
+pub struct Parts<'a> {
+    pub rest: &'a [u8],
+    pub cuts: usize,
+}
+
+impl<'a> Parts<'a> {
+    /// The next text: up to the next cut, or all that is left where no cut is to be made.
+    pub fn next(&mut self) -> &'a [u8]
+        ensures cut { 0 < self.old.cuts → IsCut self.old.rest.now result.now self.new.rest.now × (self.new.cuts ≡ self.old.cuts - 1) }
+        ensures last { self.old.cuts ≡ 0 → (result.now ≡ self.old.rest.now) × (self.new.rest.now ≡ []) × (self.new.cuts ≡ 0) }
+    {
+        if self.cuts == 0 {
+            let last = self.rest;
+            self.rest = &[];
+            return last;
+        }
+        let (part, rest) = cut(self.rest);
+        self.rest = rest;
+        self.cuts -= 1;
+        part
+    }
 }
 
 /// The first line that an LF ends, without the LF, and what stands after it.

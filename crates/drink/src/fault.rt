@@ -5,7 +5,31 @@ ghost use Rattle.drink.specs.declared.fault.Fault.TheVariants.{Memory};
 
 use crate::input::Input;
 use std::alloc::{AllocError, AllocFailed};
+use std::error::Error;
+use std::fmt;
 use thiserror::Error;
+
+/// The first faulty line of a script: from 1, or 0 where the text is too long.
+#[derive(Clone, Copy, Debug, PartialEq, Eq)]
+pub struct ScriptRefusal {
+    pub line: u64,
+}
+
+impl fmt::Display for ScriptRefusal {
+    fn fmt<W: fmt::Write>(&self, f: &mut fmt::Formatter<W>) -> fmt::Result {
+        let line = self.line;
+        if line == 0 {
+            return write!(f, "X1 Script: a script has at most 16777216 bytes");
+        }
+        write!(f, "line {line}: X1 Script: {FORMS}")
+    }
+}
+
+impl Error for ScriptRefusal {}
+
+/// What a line of a script may be.
+const FORMS: &str =
+    "expected `submit N`, `do OFFICE RULE` or `deliver K`, with a session, an office and a record that are there";
 
 /// Why a command fails. Its text doesn't name the input: the user has a name for it, and
 /// [`Fault::input`] says which input is meant.
@@ -19,6 +43,12 @@ pub enum Fault {
     /// The text of the sessions is refused.
     #[error("{0}")]
     Sessions(session_language::fault::Refusal),
+    /// The text of the script is refused.
+    #[error("{0}")]
+    Script(ScriptRefusal),
+    /// The plan of a simulation isn't of two offices and one pair.
+    #[error("X3 TwoOffices: a simulation needs a plan of two offices that are a pair")]
+    TwoOffices,
     /// An input can't be opened, a read fails, or there is no end to it.
     #[error("X4 ReadFailed: it cannot be read")]
     ReadFailed(Input),
@@ -37,6 +67,8 @@ impl Fault {
         match *self {
             Fault::Plan(_) => Some(Input::Plan),
             Fault::Sessions(_) => Some(Input::Sessions),
+            Fault::Script(_) => Some(Input::Script),
+            Fault::TwoOffices => Some(Input::Plan),
             Fault::ReadFailed(input) => Some(input),
             Fault::Memory | Fault::WriteFailed => None,
         }

@@ -8,6 +8,7 @@ ghost use Rattle.drink.specs.Input.{limit_of};
 pub enum Input {
     Plan,
     Sessions,
+    Script,
 }
 
 impl Input {
@@ -18,6 +19,7 @@ impl Input {
         match self {
             Input::Plan => 262_144,
             Input::Sessions => 1_048_576,
+            Input::Script => 16_777_216,
         }
     }
 }

@@ -3,13 +3,16 @@
 //! - [`commands::serial`] is `drink serial`. It writes the report of the serial run of the sessions
 //!   (clause `reports`), and it writes nothing where an input is refused (clause `unwritten`). Its
 //!   faults say what the texts are (clauses `plan_judged` and `sessions_judged`).
+//! - [`commands::sim`] is `drink sim`. It writes the transcript of the run of a script (clause `simulates`), and nothing
+//!   where an input is refused; its faults say what the texts are, in the order of the words (clauses `plan_judged`,
+//!   `sessions_judged` and `script_judged`).
 //! - [`command_line::command_line`] reads the words of a command line as `clap` defines them
 //!   (clauses `request` and `faults`).
 //! - [`reading::read_at_most`] reads an input no further than it is told to (clauses `taken` and
-//!   `bounded`), and [`cut::cut`] cuts the standard input where it stands for both texts.
+//!   `bounded`), and [`cut::cut`] cuts the standard input where it stands for several texts.
 //!
-//! What is printed is in `specs/Report.antt`, and what a fault says of a text in
-//! `specs/Texts.antt`. Which bytes a file, the standard input or a terminal gives or takes is
+//! What is printed is in `specs/Report.antt` and `specs/Transcript.antt`, which events a script means in
+//! `specs/Script.antt`, and what a fault says of a text in `specs/Texts.antt`. Which bytes a file, the standard input or a terminal gives or takes is
 //! outside what is proved: this file and [`source`] hand readers and a writer to the functions above.
 #![tactic(auto)]
 
@@ -20,11 +23,13 @@ pub mod fault;
 pub mod input;
 pub mod reading;
 pub mod report;
+pub mod script;
 pub mod source;
 pub mod texts;
+pub mod transcript;
 
 use crate::command_line::{Request, command_line};
-use crate::cut::cut;
+use crate::cut::{Parts, cut};
 use crate::fault::Fault;
 use crate::input::Input;
 use crate::reading::read_at_most;
@@ -64,6 +69,13 @@ where
     };
     match command_line(rt.alloc(), words.as_slice()) {
         Ok(Request::Serial { plan, sessions }) => serial(rt, plan, sessions),
+        Ok(
+            Request::Sim {
+                plan,
+                sessions,
+                script,
+            },
+        ) => sim(rt, plan, sessions, script),
         Err(error) if error.kind() == clap::error::ErrorKind::OutOfMemory => {
             tell(rt, None, Fault::Memory)
         }
@@ -89,7 +101,7 @@ where
         Err(fault) => match fault.input() {
             Some(Input::Plan) => tell(rt, Some(plan), fault),
             Some(Input::Sessions) => tell(rt, Some(sessions), fault),
-            None => tell(rt, None, fault),
+            Some(Input::Script) | None => tell(rt, None, fault),
         },
     }
 }
@@ -113,6 +125,106 @@ where
     let text = read_at_most(rt.alloc(), &mut rt.reader(), most, Input::Plan)?;
     let (mut plan, mut sessions) = cut(&text);
     commands::serial(rt.alloc(), &mut plan, &mut sessions, &mut io::writer(rt))
+}
+
+/// The command `sim` on the inputs that these words name.
+fn sim<R>(rt: &R, plan: &str, sessions: &str, script: &str) -> u8
+where
+    R: AllocGlobal + Files + std::io::Input + Print + Eprint,
+{
+    let shared = usize::from(plan == "-")
+        + usize::from(sessions == "-")
+        + usize::from(script == "-");
+    let result = if shared < 2 {
+        sim_of_three(rt, plan, sessions, script)
+    } else {
+        sim_of_parts(rt, plan, sessions, script, shared - 1)
+    };
+    match result {
+        Ok(status) => status,
+        Err(fault) => match fault.input() {
+            Some(Input::Plan) => tell(rt, Some(plan), fault),
+            Some(Input::Sessions) => tell(rt, Some(sessions), fault),
+            Some(Input::Script) => tell(rt, Some(script), fault),
+            None => tell(rt, None, fault),
+        },
+    }
+}
+
+fn sim_of_three<R>(rt: &R, plan: &str, sessions: &str, script: &str) -> Result<u8, Fault>
+where
+    R: AllocGlobal + Files + std::io::Input + Print,
+{
+    let mut plan = Source::new(rt, plan);
+    let mut sessions = Source::new(rt, sessions);
+    let mut script = Source::new(rt, script);
+    commands::sim(
+        rt.alloc(),
+        &mut plan,
+        &mut sessions,
+        &mut script,
+        &mut io::writer(rt),
+    )
+}
+
+/// The standard input stands for two or three of the texts, and is cut once or twice. What is longer than all may be
+/// together is too long in one of its parts, so the rest of it need not be read.
+fn sim_of_parts<R>(
+    rt: &R,
+    plan: &str,
+    sessions: &str,
+    script: &str,
+    cuts: usize,
+) -> Result<u8, Fault>
+where
+    R: AllocGlobal + Files + std::io::Input + Print,
+{
+    let texts = Input::Plan.limit() + Input::Sessions.limit() + Input::Script.limit();
+    let most = texts + 2 * CUT_LINE + 1;
+    let first = if plan == "-" {
+        Input::Plan
+    } else {
+        Input::Sessions
+    };
+    let text = read_at_most(rt.alloc(), &mut rt.reader(), most, first)?;
+    sim_of_text(rt, &text, cuts, plan, sessions, script)
+}
+
+/// The parts of a text stand for the words that are `-`.
+fn sim_of_text<'a, R>(
+    rt: &'a R,
+    text: &'a [u8],
+    cuts: usize,
+    plan: &'a str,
+    sessions: &'a str,
+    script: &'a str,
+) -> Result<u8, Fault>
+where
+    R: AllocGlobal + Files + std::io::Input + Print,
+{
+    let mut parts = Parts { rest: text, cuts };
+    let mut plan = part_or_source(rt, plan, &mut parts);
+    let mut sessions = part_or_source(rt, sessions, &mut parts);
+    let mut script = part_or_source(rt, script, &mut parts);
+    commands::sim(
+        rt.alloc(),
+        &mut plan,
+        &mut sessions,
+        &mut script,
+        &mut io::writer(rt),
+    )
+}
+
+/// The next part for the word `-`, and the file of that name for any other.
+fn part_or_source<'a, R>(rt: &'a R, word: &'a str, parts: &mut Parts<'a>) -> Source<'a, R>
+where
+    R: Files + std::io::Input,
+{
+    if word == "-" {
+        Source::Part(parts.next())
+    } else {
+        Source::new(rt, word)
+    }
 }
 
 /// Prints a fault, after the name of the input that is at fault, and answers the exit status.

@@ -30,7 +30,11 @@ pub fn report(
     Ok(text)
 }
 
-fn add_outcome(text: &mut String, plan: &Plan, outcome: &Outcome) -> Result<(), AllocError>
+pub(crate) fn add_outcome(
+    text: &mut String,
+    plan: &Plan,
+    outcome: &Outcome,
+) -> Result<(), AllocError>
     ensures { OnOk result (string_bytes text.new ≡ string_bytes text.old ++ outcome_line plan.now outcome.now) }
 {
     add_title(text, plan, outcome)?;
@@ -114,7 +118,12 @@ fn add_values(text: &mut String, plan: &Plan, values: &[Value]) -> Result<(), Al
     Ok(())
 }
 
-fn add_value(text: &mut String, plan: &Plan, id: RecordId, value: Value) -> Result<(), AllocError>
+pub(crate) fn add_value(
+    text: &mut String,
+    plan: &Plan,
+    id: RecordId,
+    value: Value,
+) -> Result<(), AllocError>
     ensures { OnOk result (string_bytes text.new ≡ string_bytes text.old ++ value_line plan.now id value) }
 {
     let name = record_name(plan, id);

@@ -4,12 +4,13 @@ use std::io::Read;
 use std::rt::Files;
 use std::{fs, io};
 
-/// A file, which is opened by its first read, or the standard input.
+/// A file, which is opened by its first read, the standard input, or a part of it that was read before.
 #[derive(Drop)]
 pub enum Source<'a, R: Files + Input> {
     Named(&'a R, &'a str),
     Opened(R::File),
     Standard(R::Reader),
+    Part(&'a [u8]),
 }
 
 impl<'a, R: Files + Input> Source<'a, R> {
@@ -32,6 +33,7 @@ impl<R: Files + Input> Read for Source<'_, R> {
             Source::Named(_, _) => Ok(0),
             Source::Opened(file) => file.read(buf),
             Source::Standard(reader) => reader.read(buf),
+            Source::Part(text) => text.read(buf),
         }
     }
 }

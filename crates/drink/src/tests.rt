@@ -8,6 +8,7 @@ use std::process::Abort;
 use std::test::Fail;
 
 mod devices;
+mod scripts;
 mod words;
 
 const PLAN: &str =

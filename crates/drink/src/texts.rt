@@ -1,22 +1,27 @@
 //! The texts of the inputs, read and judged.
 
-ghost use Rattle.std.specs.Prelude.{◌≡◌, ◌≤◌, All, IfErr, IfOk, IfSome, IsTrue, Ok, length};
+ghost use Rattle.std.specs.Prelude.{◌≡◌, ◌≤◌, ◌⊎◌, All, IfErr, IfOk, IfSome, IsTrue, Ok, length, true};
 ghost use Rattle.office_map.specs.PlanText.{plan_of};
 ghost use Rattle.session_language.specs.Program.{fits};
 ghost use Rattle.session_language.specs.Reading.{sessions_of};
 ghost use Rattle.drink.specs.Fault.{IsFaultOf};
-ghost use Rattle.drink.specs.Texts.{RefusesPlan, RefusesSessions};
+ghost use Rattle.drink.specs.Texts.{JudgesPlanOfOnePair, RefusesPlan, RefusesSessions, RefusesEvents};
+ghost use Rattle.drink.specs.Script.{IsScript};
+ghost use Rattle.drink.specs.Transcript.{is_of_one_pair};
 
 use crate::fault::Fault;
 use crate::input::Input;
 use crate::reading::read_at_most;
+use crate::script;
 use office_map::fault::PlanFault;
+use office_map::ids::OfficeId;
 use office_map::plan::Plan;
 use session_language::fault::LangFault;
 use session_language::program::Program;
 use session_language::read::read_sessions;
 use std::alloc::Global;
 use std::io::Read;
+use world_schedule::event::WorldEvent;
 
 /// The plan that an input means.
 pub fn read_plan<R: Read>(alloc: Global, reader: &mut R) -> Result<Plan, Fault>
@@ -31,6 +36,27 @@ pub fn read_plan<R: Read>(alloc: Global, reader: &mut R) -> Result<Plan, Fault>
         Err(PlanFault::Refused(refusal)) => Err(Fault::Plan(refusal)),
         Err(PlanFault::Memory) => Err(Fault::Memory),
     }
+}
+
+/// The plan of two offices that are a pair, that an input means.
+pub fn read_pair<R: Read>(alloc: Global, reader: &mut R) -> Result<Plan, Fault>
+    ensures meaning { IfOk result (λ p. IfSome (R.remaining reader.old) (λ text. plan_of text ≡ Ok p)) }
+    ensures one_pair { IfOk result (λ p. is_of_one_pair p ≡ true) }
+    ensures judged { IfErr result (λ f. IfSome (R.remaining reader.old) (λ text. JudgesPlanOfOnePair text f)) }
+    ensures fault { IfErr result (λ f. (f ≡ Fault.TwoOffices) ⊎ IsFaultOf Input.Plan f) }
+{
+    let plan = read_plan(alloc, reader)?;
+    if is_of_one_pair(&plan) {
+        Ok(plan)
+    } else {
+        Err(Fault::TwoOffices)
+    }
+}
+
+fn is_of_one_pair(plan: &Plan) -> bool
+    ensures { result ≡ is_of_one_pair plan.now }
+{
+    plan.offices() == 2 && plan.are_neighbours(OfficeId::new(0), OfficeId::new(1))
 }
 
 /// The programs of the sessions that an input means under a plan. Each fits the plan, and there are
@@ -53,4 +79,20 @@ pub fn read_programs<R: Read>(
         Err(LangFault::Refused(refusal)) => Err(Fault::Sessions(refusal)),
         Err(LangFault::Memory) => Err(Fault::Memory),
     }
+}
+
+/// The events of the script that an input means under a plan, where these are the programs of the file of sessions.
+pub fn read_events<R: Read>(
+    alloc: Global,
+    reader: &mut R,
+    plan: &Plan,
+    programs: &[Program],
+) -> Result<Vec<WorldEvent>, Fault>
+    ensures meaning { IfOk result (λ v. IfSome (R.remaining reader.old) (λ text. IsScript plan.now programs.now text v.items)) }
+    ensures refused { IfErr result (λ f. IfSome (R.remaining reader.old) (λ text. RefusesEvents plan.now programs.now text f)) }
+    ensures fault { IfErr result (IsFaultOf Input.Script) }
+{
+    let input = Input::Script;
+    let text = read_at_most(alloc, reader, input.limit() + 1, input)?;
+    script::events(alloc, &text, plan, programs)
 }

@@ -10,15 +10,15 @@ use std::test::Fail;
 /// Gives a text a few bytes at a time, and is interrupted at every second read. It fails once so
 /// many reads are done.
 #[derive(Drop)]
-struct Slow<'a> {
+pub struct Slow<'a> {
     text: &'a [u8],
     step: usize,
-    reads: u32,
+    pub reads: u32,
     fails_after: u32,
 }
 
 impl<'a> Slow<'a> {
-    fn new(text: &'a str, step: usize, fails_after: u32) -> Slow<'a> {
+    pub fn new(text: &'a str, step: usize, fails_after: u32) -> Slow<'a> {
         Slow {
             text: text.as_bytes(),
             step,
@@ -44,7 +44,7 @@ impl Read for Slow<'_> {
 
 /// Has no end.
 #[derive(Drop)]
-struct Endless;
+pub struct Endless;
 
 impl Read for Endless {
     fn read(&mut self, buf: &mut [u8]) -> io::Result<usize> {

@@ -28,10 +28,30 @@ fn reads_the_words_of_serial(rt: HostRuntime) -> Result<(), Fail> {
 }
 
 #[test]
+fn reads_the_words_of_sim(rt: HostRuntime) -> Result<(), Fail> {
+    let rows: [(&[&str], &str, &str, &str); 2] = [
+        (&["drink", "sim", "p", "s", "c"], "p", "s", "c"),
+        (&["drink", "sim", "-", "s", "-"], "-", "s", "-"),
+    ];
+    for (words, plan, sessions, script) in rows {
+        let words = strings(rt.alloc(), words)?;
+        let request = command_line(rt.alloc(), words.as_slice())?;
+        let expected = Request::Sim {
+            plan,
+            sessions,
+            script,
+        };
+        assert_eq!(rt; request, expected);
+    }
+    Ok(())
+}
+
+#[test]
 fn other_words_are_a_fault(rt: HostRuntime) -> Result<(), Fail> {
-    let rows: [(&[&str], i32); 9] = [
+    let rows: [(&[&str], i32); 11] = [
         (&["drink"], 2),
-        (&["drink", "sim", "p", "s", "c"], 2),
+        (&["drink", "sim", "p", "s"], 2),
+        (&["drink", "sim", "p", "s", "c", "d"], 2),
         (&["drink", "serial"], 2),
         (&["drink", "serial", "p"], 2),
         (&["drink", "serial", "p", "s", "t"], 2),
@@ -39,6 +59,7 @@ fn other_words_are_a_fault(rt: HostRuntime) -> Result<(), Fail> {
         (&["drink", "p", "s"], 2),
         (&["drink", "--help"], 0),
         (&["drink", "serial", "--help"], 0),
+        (&["drink", "sim", "--help"], 0),
     ];
     for (words, status) in rows {
         let words = strings(rt.alloc(), words)?;

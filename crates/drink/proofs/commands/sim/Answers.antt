@@ -1,0 +1,9 @@
+use Rattle.drink.proofs.Simulated.{simulated}
+use Rattle.drink.proofs.commands.sim.Goals as goal
+
+pub returns-clause-simulates : goal.returns-clause-simulates
+returns-clause-simulates g c =
+    simulated (g.P.Read.remaining c.args.plan.now) (g.S.Read.remaining c.args.sessions.now) (g.C.Read.remaining c.args.script.now) _ _
+    c.in_ok-plan.plan c.in_ok-programs.programs.items c.deref.result.now c.in_ok-events.events.items c.deref-2.result.now _ c.deref-3.result.now
+    c.in_ok-plan.ensures.meaning c.in_ok-plan.ensures.one_pair c.in_ok-programs.ensures.meaning c.deref.ensures.value
+    c.in_ok-events.ensures.meaning c.deref-2.ensures.value c.in_ok-printed.ensures.text c.deref-3.ensures c.in_ok-write_whole.ensures.written
