@@ -1,5 +1,5 @@
 -- A text that is cut one byte past its limit means what the whole text means.
-use Rattle.std.proofs.Common.{◌≡◌, ◌+◌, ◌≤◌, ◌<◌, ℕ, min, List, length, take, take_all, Option, Some, None, IfSome, true, false, nat_lt, Err, inl, inr, ◌⊎◌, subst, refl, sym, ap, ◌∙◌, arith}
+use Rattle.std.proofs.Common.{◌≡◌, ◌+◌, ◌≤◌, ◌<◌, ℕ, min, List, length, take, take_all, Option, Some, None, IfSome, true, false, nat_lt, Err, refl, sym, ap, ◌∙◌, arith}
 use Rattle.std.proofs.lemmas.Bool.Decides.{nat_tests}
 use Rattle.std.proofs.lemmas.List.{length-take}
 use Rattle.office_map.specs.PlanValue.{PlanValue}
@@ -7,10 +7,6 @@ use Rattle.office_map.specs.PlanText.{plan_of}
 use Rattle.office_map.specs.declared.fault.Rule.TheVariants as plan_rules
 use Rattle.session_language.specs.declared.fault.Rule.TheVariants as rules_of
 use Rattle.session_language.specs.Reading.{sessions_of}
-use Rattle.session_language.specs.ProgramValue.{ProgramValue}
-use Rattle.world_schedule.specs.declared.event.WorldEvent.{WorldEvent}
-use Rattle.drink.specs.declared.fault.ScriptRefusal.{ScriptRefusal}
-use Rattle.drink.specs.Script.{IsScript, RefusesScript}
 
 -- past the limit nothing but the length counts
 by_length : {X : Type 0} (f : List ℕ → X) (limit : ℕ) (refused : X) → ((text : List ℕ) → limit < length text → f text ≡ refused)
@@ -46,42 +42,3 @@ pub kept : {X : Type 0} (f : List ℕ → X) (limit : ℕ) → ((text : List ℕ
     → n ≡ limit → w ≡ v → f w ≡ r → IfSome known (λ text. v ≡ take n text) → IfSome known (λ text. f text ≡ r)
 kept f limit same None n v w r en ew er h = tt
 kept f limit same (Some text) n v w r en ew er h = sym (same text) ∙ ap (λ k. f (take k text)) (sym en) ∙ ap f (sym h) ∙ ap f (sym ew) ∙ er
-
--- a text that isn't changed by the cut, or one that is too long with it and without
-abbrev pub Cut : ℕ → List ℕ → Type 0
-Cut limit text = (take (limit + 1) text ≡ text) ⊎ ((limit < length text) × (limit < length (take (limit + 1) text)))
-
-cut_at : (limit : ℕ) (text : List ℕ) → Cut limit text
-cut_at limit text =
-    elim (nat_lt limit (length text)) as (λ b. nat_lt limit (length text) ≡ b → Cut limit text) [
-      | true ↦ λ e.
-          let long : limit < length text = grind (arith, nat_tests, e) in
-          let part : length (take (limit + 1) text) ≡ min (limit + 1) (length text) = length-take (limit + 1) text in
-          inr (long, omega (arith, part, long))
-      | false ↦ λ e. let short : length text ≤ limit = grind (arith, nat_tests, e) in inl (take_all (limit + 1) text (omega (arith, short)))
-    ] refl
-
-script_cut : (p : PlanValue) (programs : List ProgramValue) (text part : List ℕ) (events : List WorldEvent)
-    → (part ≡ text) ⊎ ((16777216 < length text) × (16777216 < length part)) → IsScript p programs part events → IsScript p programs text events
-script_cut p programs text part events (inl e) h = subst (λ t. IsScript p programs t events) e h
-script_cut p programs text part events (inr long) h = absurd (omega (arith, long.1, h.short))
-
-pub script_of_part : (p : PlanValue) (programs : List ProgramValue) (events : List WorldEvent) (text : List ℕ)
-    → IsScript p programs (take 16777217 text) events → IsScript p programs text events
-script_of_part p programs events text h = script_cut p programs text (take 16777217 text) events (cut_at 16777216 text) h
-
-refusal_cut : (p : PlanValue) (programs : List ProgramValue) (text part : List ℕ) (r : ScriptRefusal)
-    → (part ≡ text) ⊎ ((16777216 < length text) × (16777216 < length part)) → RefusesScript p programs part r → RefusesScript p programs text r
-refusal_cut p programs text part r (inl e) h = subst (λ t. RefusesScript p programs t r) e h
-refusal_cut p programs text part r (inr long) (inl h) = inl (long.0, h.1)
-refusal_cut p programs text part r (inr long) (inr h) = absurd (omega (arith, long.1, h.0))
-
-pub refusal_of_part : (p : PlanValue) (programs : List ProgramValue) (r : ScriptRefusal) (text : List ℕ)
-    → RefusesScript p programs (take 16777217 text) r → RefusesScript p programs text r
-refusal_of_part p programs r text h = refusal_cut p programs text (take 16777217 text) r (cut_at 16777216 text) h
-
--- what holds of a text that was read up to its limit
-pub kept_fact : (P : List ℕ → Type 0) (limit : ℕ) → ((text : List ℕ) → P (take limit text) → P text) → (known : Option (List ℕ)) (n : ℕ) (v w : List ℕ)
-    → n ≡ limit → w ≡ v → P w → IfSome known (λ text. v ≡ take n text) → IfSome known P
-kept_fact P limit same None n v w en ew h k = tt
-kept_fact P limit same (Some text) n v w en ew h k = same text (subst P (ew ∙ k ∙ ap (λ m. take m text) en) h)

@@ -1,20 +1,16 @@
 -- A script, read line by line.
 use Rattle.std.proofs.Common.{◌≡◌, ◌≢◌, ℕ, List, [], ◌∷◌, ◌++◌, length, map, Option, Some, None, refl, sym, ap, ap₂, ◌∙◌, append_assoc, arith, Bor}
-use Rattle.std.proofs.lemmas.List.{append-nil, map-append}
+use Rattle.std.proofs.lemmas.List.{map-append}
 use Rattle.office_map.specs.PlanValue.{PlanValue}
-use Rattle.office_map.specs.Text.{statements}
 use Rattle.session_language.specs.ProgramValue.{ProgramValue}
 use Rattle.world_schedule.specs.declared.event.WorldEvent.{WorldEvent}
-use Rattle.drink.specs.Script.{event_of, event_by, AreEvents, IsFirstFault}
+use Rattle.drink.specs.Script.{event_of, event_by, AreEvents}
 
 -- the lines before the rest mean these events
 pub record Walked (p : PlanValue) (programs : List ProgramValue) (all rest : List (ℕ × List ℕ)) (events : List WorldEvent) : Type 0 where
   pub before : List (ℕ × List ℕ)
   pub split : all ≡ before ++ rest
   pub good : AreEvents p programs before events
-
-pub started : (p : PlanValue) (programs : List ProgramValue) (all : List (ℕ × List ℕ)) (events : List WorldEvent) → events ≡ [] → Walked p programs all all events
-started p programs all events e = record { before = []; split = refl; good = sym (ap (map Some) e) }
 
 pub further : (p : PlanValue) (programs : List ProgramValue) (all rest more : List (ℕ × List ℕ)) (number : ℕ) (line : List ℕ) (e : WorldEvent) (events grown : List WorldEvent)
     → rest ≡ (number, line) ∷ more → event_of p programs line ≡ Some e → grown ≡ events ++ e ∷ [] → Walked p programs all rest events → Walked p programs all more grown
@@ -27,23 +23,6 @@ further p programs all rest more number line e events grown first means g w =
       split = w.split ∙ ap (λ r. w.before ++ r) first ∙ sym (append_assoc w.before ((number, line) ∷ []) more);
       good = both ∙ sym (ap (map Some) g);
     }
-
-pub whole : (p : PlanValue) (programs : List ProgramValue) (all rest : List (ℕ × List ℕ)) (events : List WorldEvent) → rest ≡ [] → Walked p programs all rest events → AreEvents p programs all events
-whole p programs all rest events none w =
-    let same : all ≡ w.before = w.split ∙ ap (λ r. w.before ++ r) none ∙ append-nil w.before in
-    ap (map (λ l. event_of p programs l.1)) same ∙ w.good
-
-pub stopped : (p : PlanValue) (programs : List ProgramValue) (text : List ℕ) (rest more : List (ℕ × List ℕ)) (number : ℕ) (line : List ℕ) (events : List WorldEvent)
-    → rest ≡ (number, line) ∷ more → event_of p programs line ≡ None → Walked p programs (statements text) rest events → IsFirstFault p programs text number
-stopped p programs text rest more number line events first means w = record {
-  before = w.before;
-  line = line;
-  after = more;
-  events = events;
-  split = w.split ∙ ap (λ r. w.before ++ r) first;
-  good = w.good;
-  faulty = means;
-}
 
 -- lines of other lengths than those of the forms
 pub means_nothing : (p : PlanValue) (programs : List ProgramValue) (words : List (Bor (List ℕ))) → length words ≢ 2 → length words ≢ 3 → length words ≢ 4
