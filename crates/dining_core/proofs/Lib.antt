@@ -1,0 +1,5 @@
+pub mod Lists
+pub mod Opened
+pub mod Placed
+pub mod Steps
+pub mod Orders
