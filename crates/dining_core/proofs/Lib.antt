@@ -3,3 +3,4 @@ pub mod Opened
 pub mod Placed
 pub mod Steps
 pub mod Orders
+pub mod Precedence

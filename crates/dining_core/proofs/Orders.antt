@@ -1,10 +1,10 @@
 -- Lists of offices, and one that is put last.
-use Rattle.std.proofs.Common.{◌≡◌, ℕ, zero, suc, ◌+◌, ◌<◌, ◌≤◌, Bool, true, false, not, ◌&&◌, ◌||◌, cond, List, [], ◌∷◌, ◌++◌, length, refl, sym, ap, ◌∙◌, subst, arith, ⊎_elim, get_or}
-use Rattle.std.specs.Prelude.{◌==◌, nat_lt, filter, count_by}
+use Rattle.std.proofs.Common.{◌≡◌, ℕ, zero, suc, ◌+◌, ◌<◌, ◌≤◌, Bool, true, false, not, ◌&&◌, cond, List, [], ◌∷◌, ◌++◌, length, refl, sym, ap, ◌∙◌, subst, arith, ⊎_elim, get_or}
+use Rattle.std.specs.Prelude.{◌==◌, filter}
 use Rattle.std.specs.List.{list_any, list_all, range_with_len}
 use Rattle.std.proofs.lemmas.Bool.{eqb-true, eq-eqb, ne_eqb, and_parts, and_from, or_cases, or_left, or_right, cases_eq}
 use Rattle.std.proofs.lemmas.List.FromFn.{get_or-range_with_len, length-range_with_len}
-use Rattle.dining_core.specs.Worlds.{comes_before, with_last}
+use Rattle.dining_core.specs.Worlds.{num, times, comes_before, with_last}
 
 -- an element is kept, or is the one that is put last
 kept_or_not : (P : List ℕ → Type 0) (a x : ℕ) (ys : List ℕ) → (x ≡ a → P ys) → ((x ≡ a → ⊥) → P (x ∷ ys)) → P (cond (not (x == a)) (x ∷ ys) ys)
@@ -16,41 +16,38 @@ kept_or_not P a x ys same other = ⊎_elim
 abbrev others : ℕ → List ℕ → List ℕ
 others a xs = filter (λ x. not (x == a)) xs
 
-abbrev amount : ℕ → List ℕ → ℕ
-amount y xs = count_by (λ x. x == y) xs
-
 abbrev among : ℕ → List ℕ → Bool
 among y xs = list_any (λ x. x == y) xs
 
 -- how often
-amount_first : (y x : ℕ) (xs : List ℕ) → x ≡ y → amount y (x ∷ xs) ≡ 1 + amount y xs
-amount_first y x xs e = ap (λ b. cond b (1 + amount y xs) (amount y xs)) (eq-eqb x y e)
+times_first : (y x : ℕ) (xs : List ℕ) → x ≡ y → times y (x ∷ xs) ≡ 1 + times y xs
+times_first y x xs e = ap (λ b. num b + times y xs) (eq-eqb x y e)
 
-amount_not_first : (y x : ℕ) (xs : List ℕ) → (x ≡ y → ⊥) → amount y (x ∷ xs) ≡ amount y xs
-amount_not_first y x xs ne = ap (λ b. cond b (1 + amount y xs) (amount y xs)) (ne_eqb x y ne)
+times_not_first : (y x : ℕ) (xs : List ℕ) → (x ≡ y → ⊥) → times y (x ∷ xs) ≡ times y xs
+times_not_first y x xs ne = omega (arith, ap num (ne_eqb x y ne))
 
-pub amount_of_last : (a : ℕ) (xs : List ℕ) → amount a (with_last a xs) ≡ 1
-amount_of_last a [] = amount_first a a [] refl
-amount_of_last a (x ∷ xs) = kept_or_not (λ l. amount a (l ++ a ∷ []) ≡ 1) a x (others a xs)
-    (λ e. amount_of_last a xs)
-    (λ ne. amount_not_first a x (others a xs ++ a ∷ []) ne ∙ amount_of_last a xs)
+pub times_of_last : (a : ℕ) (xs : List ℕ) → times a (with_last a xs) ≡ 1
+times_of_last a [] = times_first a a [] refl
+times_of_last a (x ∷ xs) = kept_or_not (λ l. times a (l ++ a ∷ []) ≡ 1) a x (others a xs)
+    (λ e. times_of_last a xs)
+    (λ ne. times_not_first a x (others a xs ++ a ∷ []) ne ∙ times_of_last a xs)
 
-pub amount_of_other : (a y : ℕ) (xs : List ℕ) → (y ≡ a → ⊥) → amount y (with_last a xs) ≡ amount y xs
-amount_of_other a y [] ne = amount_not_first y a [] (λ e. ne (sym e))
-amount_of_other a y (x ∷ xs) ne = kept_or_not (λ l. amount y (l ++ a ∷ []) ≡ amount y (x ∷ xs)) a x (others a xs)
-    (λ e. amount_of_other a y xs ne ∙ sym (amount_not_first y x xs (λ s. ne (sym s ∙ e))))
-    (λ n. ap (λ k. cond (x == y) (1 + k) k) (amount_of_other a y xs ne))
+pub times_of_other : (a y : ℕ) (xs : List ℕ) → (y ≡ a → ⊥) → times y (with_last a xs) ≡ times y xs
+times_of_other a y [] ne = times_not_first y a [] (λ e. ne (sym e))
+times_of_other a y (x ∷ xs) ne = kept_or_not (λ l. times y (l ++ a ∷ []) ≡ times y (x ∷ xs)) a x (others a xs)
+    (λ e. times_of_other a y xs ne ∙ sym (times_not_first y x xs (λ s. ne (sym s ∙ e))))
+    (λ n. ap (λ k. num (x == y) + k) (times_of_other a y xs ne))
 
-pub counted_among : (y : ℕ) (xs : List ℕ) → 1 ≤ amount y xs → among y xs ≡ true
+pub counted_among : (y : ℕ) (xs : List ℕ) → 1 ≤ times y xs → among y xs ≡ true
 counted_among y [] h = absurd (omega (arith, h))
 counted_among y (x ∷ xs) h = ⊎_elim
     (λ e. or_left (x == y) (among y xs) (eq-eqb x y e))
-    (λ ne. or_right (x == y) (among y xs) (counted_among y xs (omega (arith, h, amount_not_first y x xs ne))))
+    (λ ne. or_right (x == y) (among y xs) (counted_among y xs (omega (arith, h, times_not_first y x xs ne))))
     (cases_eq x y)
 
 -- who stands in the list
 among_last : (a : ℕ) (xs : List ℕ) → among a (with_last a xs) ≡ true
-among_last a xs = counted_among a (with_last a xs) (omega (arith, amount_of_last a xs))
+among_last a xs = counted_among a (with_last a xs) (omega (arith, times_of_last a xs))
 
 among_kept : (a y : ℕ) (xs : List ℕ) → (y ≡ a → ⊥) → among y xs ≡ true → among y (with_last a xs) ≡ true
 among_kept a y [] ne h = cc
@@ -97,5 +94,5 @@ of_passed f g (x ∷ xs) (suc k) d h lt p = of_passed f g xs k d (rest (g x) h) 
 
 pub of_each : (f g : ℕ → Bool) (n v : ℕ) → list_all f (filter g (range_with_len 0 n)) ≡ true → v < n → g v ≡ true → f v ≡ true
 of_each f g n v h lt p =
-    let is : get_or (range_with_len 0 n) v 0 ≡ v = get_or-range_with_len 0 n v 0 lt in
+    let is : get_or (range_with_len 0 n) v 0 ≡ v = get_or-range_with_len 0 n v 0 lt ∙ omega arith in
     subst (λ z. f z ≡ true) is (of_passed f g (range_with_len 0 n) v 0 h (omega (arith, lt, length-range_with_len 0 n)) (subst (λ z. g z ≡ true) (sym is) p))

@@ -1,14 +1,14 @@
 -- What an event does to the fork of two neighbours.
-use Rattle.std.proofs.Common.{◌≡◌, ℕ, zero, suc, ◌+◌, ◌<◌, ◌≤◌, Bool, true, false, not, ◌&&◌, ◌||◌, cond, List, [], ◌∷◌, ◌++◌, length, refl, sym, ap, ◌∙◌, subst, arith, ⊎_elim}
-use Rattle.std.specs.Prelude.{◌==◌, nat_lt, All}
-use Rattle.std.specs.List.{list_any, list_all}
-use Rattle.std.proofs.lemmas.Bool.{cond_both, eqb-true, eqb-false, eq-eqb, ne_eqb, and_parts, or_cases, cases_Bool}
+use Rattle.std.proofs.Common.{◌≡◌, ℕ, ◌+◌, Bool, true, false, not, ◌&&◌, ◌||◌, cond, List, [], ◌∷◌, refl, sym, ap, ◌∙◌, subst, arith, ⊎_elim}
+use Rattle.std.specs.Prelude.{◌==◌, All}
+use Rattle.std.specs.List.{list_any}
+use Rattle.std.proofs.lemmas.Bool.{cond_both, eqb-true, eqb-false, eq-eqb, ne_eqb, and_parts, or_cases}
 use Rattle.std.proofs.lemmas.List.Elements.{All-head, All-tail}
 use Rattle.office_map.specs.declared.entries.PairEntry.{PairEntry}
 use Rattle.office_map.specs.PlanValue.{PlanValue, joins, are_neighbours}
 use Rattle.office_map.specs.Consistency.{IsConsistent}
 use Rattle.dining_core.specs.Diners.{Diner, put}
-use Rattle.dining_core.specs.Worlds.{World, with_way, num, precedes, fork_places}
+use Rattle.dining_core.specs.Worlds.{with_way, num}
 
 pub put_cases : {X : Type 0} (f : ℕ → X) (k : ℕ) (x : X) (j : ℕ) (P : X → Type 0) → (j ≡ k → P x) → ((j ≡ k → ⊥) → P (f j)) → P (put f k x j)
 put_cases f k x j P there away = cond_both (j == k) x (f j) P (λ e. there (eqb-true j k e)) (λ e. away (eqb-false j k e))

@@ -1,5 +1,5 @@
 -- All offices of a plan at their tables with the forks on the way, and who precedes whom.
-use Rattle.std.specs.Prelude.{◌≡◌, ℕ, ◌+◌, Bool, true, false, not, ◌==◌, nat_lt, ◌&&◌, ◌||◌, List, [], ◌∷◌, ◌++◌, length, filter, count_by, if◌then◌else◌}
+use Rattle.std.specs.Prelude.{◌≡◌, ℕ, ◌+◌, Bool, true, false, not, ◌==◌, nat_lt, ◌&&◌, ◌||◌, List, [], ◌∷◌, ◌++◌, length, filter, if◌then◌else◌}
 use Rattle.std.specs.List.{list_any}
 use Rattle.office_map.specs.PlanValue.{PlanValue, are_neighbours, neighbours_of}
 use Rattle.office_map.specs.Consistency.{IsConsistent}
@@ -72,9 +72,14 @@ abbrev pub comes_before : List ℕ → ℕ → ℕ → Bool
 comes_before [] u v = false
 comes_before (x ∷ xs) u v = (x == u && list_any (λ y. y == v) xs) || comes_before xs u v
 
+-- how often it stands in the list
+abbrev pub times : ℕ → List ℕ → ℕ
+times a [] = 0
+times a (x ∷ xs) = num (x == a) + times a xs
+
 -- all offices, each once, in which of two neighbours the one that precedes comes earlier
 pub record IsOrder (plan : PlanValue) (w : World) (order : List ℕ) : Type 0 where
-  pub once : (a : ℕ) → count_by (λ x. x == a) order ≡ num (nat_lt a (length plan.offices))
+  pub once : (a : ℕ) → times a order ≡ num (nat_lt a (length plan.offices))
   pub earlier : (u v : ℕ) → are_neighbours plan u v ≡ true → precedes w u v ≡ true → comes_before order u v ≡ true
 
 pub record HasNoRing (plan : PlanValue) (w : World) : Type 0 where
@@ -109,7 +114,7 @@ abbrev pub OnlyEatingTurns : Type 0
 OnlyEatingTurns = (plan : PlanValue) (w : World) (e : Event) (u v : ℕ) → IsConsistent plan → IsLaid plan w → eats plan w e ≡ false → are_neighbours plan u v ≡ true →
     precedes (happens plan w e) u v ≡ precedes w u v
 
--- who eats is preceded by each neighbour, and of the others nothing changes
+-- where an office eats, an order of before, with the eater put last, is one of after
 abbrev pub TheEaterComesLast : Type 0
 TheEaterComesLast = (plan : PlanValue) (w : World) (a : ℕ) (order : List ℕ) → IsConsistent plan → IsLaid plan w → eats plan w (Do a Eat) ≡ true →
     IsOrder plan w order → IsOrder plan (happens plan w (Do a Eat)) (with_last a order)

@@ -11,10 +11,13 @@
 #![tactic(auto)]
 
 mod fault;
+pub mod laws;
 mod phase;
 mod place;
 mod places;
 mod table;
+#[cfg(test)]
+mod tests;
 
 pub use fault::NotNow;
 pub use phase::Phase;
