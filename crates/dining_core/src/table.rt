@@ -135,7 +135,7 @@ impl Table {
         ensures done { OnOk result (diner_of self.new ≡ act (diner_of self.old) Eat) }
         ensures kept { OnErr result (self.new ≡ self.old) }
     {
-        let has_all = places::hold_all(&self.places, &self.neighbours);
+        let has_all = places::hold_all(&self.places, self.neighbours());
         if !(matches!(self.phase, Phase::Hungry) && has_all) {
             return Err(NotNow);
         }
