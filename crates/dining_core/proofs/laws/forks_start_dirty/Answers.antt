@@ -1,0 +1,5 @@
+use Rattle.dining_core.proofs.Precedence.{starts_dirty}
+use Rattle.dining_core.proofs.laws.forks_start_dirty.Goals as goal
+
+pub returns : goal.returns
+returns c = starts_dirty

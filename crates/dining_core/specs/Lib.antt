@@ -1,0 +1,3 @@
+pub mod Diners
+pub mod Tables
+pub mod Worlds

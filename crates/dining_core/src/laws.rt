@@ -1,0 +1,28 @@
+//! Laws of all tables and the forks on the way.
+
+ghost use Rattle.dining_core.specs.Worlds.{EachForkHasOnePlace, ForksStartDirty, OnlyEatingTurns, TheEaterComesLast, NeverARing};
+
+/// After every list of events the fork of two neighbours is at one of them, or on the way.
+pub fn each_fork_has_one_place()
+    ensures { EachForkHasOnePlace }
+{}
+
+/// At the start an office precedes the neighbour that has their fork.
+pub fn forks_start_dirty()
+    ensures { ForksStartDirty }
+{}
+
+/// No event but eating changes who precedes whom.
+pub fn only_eating_turns()
+    ensures { OnlyEatingTurns }
+{}
+
+/// Who eats comes after all others, and these stay in order.
+pub fn the_eater_comes_last()
+    ensures { TheEaterComesLast }
+{}
+
+/// Where precedence has no ring at the start, no event makes one.
+pub fn never_a_ring()
+    ensures { NeverARing }
+{}

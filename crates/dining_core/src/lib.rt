@@ -1,0 +1,25 @@
+//! The forks of one office: who eats first of it and its neighbours.
+//!
+//! - A [`Table`] is an office's side: its phase, and of each neighbour's fork whether it is here, clean, and asked for.
+//!   Each rule call is its row: `NotNow` exactly where the guard is false (clause `not_now`), and else its effect
+//!   (clause `done`). The rows are `may` and `act` in `specs/Diners.antt`; `diner_of`, in `specs/Tables.antt`, says which
+//!   office a table means.
+//! - [`laws`] has all tables with the forks on the way (`specs/Worlds.antt`): precedence never has a ring, and only
+//!   eating turns it, which puts the eater last.
+//!
+//! No call takes memory but [`Table::open`]. It stands on `office_map` and `thiserror`.
+#![tactic(auto)]
+
+mod fault;
+pub mod laws;
+mod phase;
+mod place;
+mod places;
+mod table;
+#[cfg(test)]
+mod tests;
+
+pub use fault::NotNow;
+pub use phase::Phase;
+pub use place::{Fork, Place};
+pub use table::Table;

@@ -1,0 +1,67 @@
+//! The places of a table, one for each office of the plan.
+
+ghost use Rattle.std.specs.Prelude.{◌≡◌, ◌<◌, length, map, IfOk};
+ghost use Rattle.std.specs.List.{list_all, range_with_len};
+ghost use Rattle.std.proofs.Math.ListN.{set};
+ghost use Rattle.dining_core.specs.Tables.{place_at, holds, used_place, start_place};
+
+use crate::place::{Fork, Place};
+use office_map::{OfficeId, Plan};
+use std::alloc::{AllocError, Global};
+
+#[tactic(auto, using(crate::proofs::Opened::places_more))]
+/// What an office has of each pair as the plan starts.
+pub fn open(alloc: Global, plan: &Plan, id: OfficeId) -> Result<Vec<Place>, AllocError>
+    ensures { IfOk result (λ ps. ps.items ≡ map (start_place plan.now id) (range_with_len 0 (length plan.now.offices))) }
+{
+    let mut places = Vec::with_capacity(alloc, plan.offices())?;
+    for v in 0..plan.offices() {
+        places.push(start(plan, id, OfficeId::new(v as u8)))?;
+    }
+    Ok(places)
+}
+
+fn start(plan: &Plan, id: OfficeId, other: OfficeId) -> Place
+    ensures { result ≡ start_place plan.now id other }
+{
+    let near = plan.are_neighbours(id, other);
+    let here = near && plan.fork_end(id, other) == id;
+    Place {
+        fork: if here { Fork::Dirty } else { Fork::Away },
+        token: near && !here,
+    }
+}
+
+/// What is here of the pair with that office.
+pub fn at(places: &[Place], v: OfficeId) -> Place
+    ensures { result ≡ place_at places.now v }
+{
+    match places.get(v.index()) {
+        Some(place) => *place,
+        None => Place {
+            fork: Fork::Away,
+            token: false,
+        },
+    }
+}
+
+/// Whether the fork of each of these is here.
+pub fn hold_all(places: &[Place], neighbours: &[OfficeId]) -> bool
+    ensures { result ≡ list_all (holds places.now) neighbours.now }
+{
+    for v in neighbours {
+        if !at(places, *v).fork.is_held() {
+            return false;
+        }
+    }
+    true
+}
+
+/// Every fork that is here was used.
+pub fn use_all(places: &mut Vec<Place>)
+    ensures { places.new.items ≡ map used_place places.old.items }
+{
+    for place in places.iter_mut() {
+        place.fork = place.fork.used();
+    }
+}

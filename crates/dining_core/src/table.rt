@@ -1,0 +1,177 @@
+//! One office's forks.
+
+ghost use Rattle.std.specs.Prelude.{◌≡◌, ◌<◌, ◌↔◌, length, IsErr, IfOk, OnOk, OnErr, All, true, false, ◌==◌};
+ghost use Rattle.std.specs.List.{list_any};
+ghost use Rattle.dining_core.specs.Diners.{BecomeHungry, AskFork, GiveFork, Eat, Leave, may, act, with_token, with_fork, seated};
+ghost use Rattle.dining_core.specs.Tables.{diner_of, holds, has_clean, has_token};
+
+use crate::fault::NotNow;
+use crate::phase::Phase;
+use crate::place::{Fork, Place};
+use crate::places;
+use office_map::{OfficeId, Plan};
+use std::alloc::{AllocError, Global};
+use std::marker::Model;
+
+/// Who of an office and its neighbours eats first: the forks that are here, and how far the office is.
+#[derive(Debug, Drop)]
+pub struct Table {
+    neighbours: Vec<OfficeId>,
+    phase: Phase,
+    places: Vec<Place>,
+}
+
+impl Model for Table {
+    ghost use Rattle.std.specs.Prelude.{◌<◌, length, All};
+    ghost use Rattle.dining_core.specs.Tables.{TableValue};
+
+    ghost Value = { TableValue };
+
+    ghost view = { λ t. record { neighbours = t.neighbours.items; phase = t.phase; places = t.places.items } };
+
+    ghost invariant = { λ t. All (λ v. v < length t.places.items) t.neighbours.items };
+}
+
+impl Table {
+    /// The table of an office as the plan starts.
+    pub fn open(alloc: Global, plan: &Plan, id: OfficeId) -> Result<Table, AllocError>
+        requires { id < length plan.now.offices }
+        ensures { IfOk result (λ t. diner_of t ≡ seated plan.now id) }
+    {
+        // The plan is consistent, so that neighbours are offices.
+        let _ = plan.offices();
+        let neighbours = plan.neighbours(id).to_vec(alloc)?;
+        let places = places::open(alloc, plan, id)?;
+        Ok(Table {
+            neighbours,
+            phase: Phase::Thinking,
+            places,
+        })
+    }
+
+    /// The offices with which this one shares a fork, the least number first.
+    pub fn neighbours(&self) -> &[OfficeId]
+        ensures { result.now ≡ (diner_of self.now).neighbours }
+    {
+        &self.neighbours
+    }
+
+    pub fn phase(&self) -> Phase
+        ensures { result ≡ (diner_of self.now).phase }
+    {
+        self.phase
+    }
+
+    /// Whether the fork that is shared with `v` is here.
+    pub fn holds(&self, v: OfficeId) -> bool
+        ensures { result ≡ (diner_of self.now).held v }
+    {
+        places::at(&self.places, v).fork.is_held()
+    }
+
+    /// Whether that fork is here and wasn't used since it came.
+    pub fn is_clean(&self, v: OfficeId) -> bool
+        ensures { result ≡ (diner_of self.now).clean v }
+    {
+        places::at(&self.places, v).fork.is_clean()
+    }
+
+    /// Whether the request token of that fork is here.
+    pub fn has_token(&self, v: OfficeId) -> bool
+        ensures { result ≡ (diner_of self.now).token v }
+    {
+        places::at(&self.places, v).token
+    }
+
+    /// A thinking office that is thirsty becomes hungry.
+    pub fn hungry(&mut self, thirsty: bool) -> Result<(), NotNow>
+        ensures not_now { IsErr result ↔ (may (diner_of self.old) (BecomeHungry thirsty) ≡ false) }
+        ensures done { OnOk result (diner_of self.new ≡ act (diner_of self.old) (BecomeHungry thirsty)) }
+        ensures kept { OnErr result (self.new ≡ self.old) }
+    {
+        if !(matches!(self.phase, Phase::Thinking) && thirsty) {
+            return Err(NotNow);
+        }
+        self.phase = Phase::Hungry;
+        Ok(())
+    }
+
+    /// A hungry office sends the request token of a fork that isn't here.
+    pub fn ask_fork(&mut self, v: OfficeId) -> Result<(), NotNow>
+        ensures not_now { IsErr result ↔ (may (diner_of self.old) (AskFork v) ≡ false) }
+        ensures done { OnOk result (diner_of self.new ≡ act (diner_of self.old) (AskFork v)) }
+        ensures kept { OnErr result (self.new ≡ self.old) }
+    {
+        let place = places::at(&self.places, v);
+        if !(matches!(self.phase, Phase::Hungry) && !place.fork.is_held() && place.token) {
+            return Err(NotNow);
+        }
+        self.places[v.index()] = Place {
+            token: false,
+            ..place
+        };
+        Ok(())
+    }
+
+    /// An office that doesn't eat sends a dirty fork to the neighbour who asked for it.
+    pub fn give_fork(&mut self, v: OfficeId) -> Result<(), NotNow>
+        ensures not_now { IsErr result ↔ (may (diner_of self.old) (GiveFork v) ≡ false) }
+        ensures done { OnOk result (diner_of self.new ≡ act (diner_of self.old) (GiveFork v)) }
+        ensures kept { OnErr result (self.new ≡ self.old) }
+    {
+        if matches!(self.phase, Phase::Eating) {
+            return Err(NotNow);
+        }
+        if !places::at(&self.places, v).is_owed() {
+            return Err(NotNow);
+        }
+        self.places[v.index()].fork = Fork::Away;
+        Ok(())
+    }
+
+    /// A hungry office that has all its forks eats, and each of them is dirty.
+    pub fn eat(&mut self) -> Result<(), NotNow>
+        ensures not_now { IsErr result ↔ (may (diner_of self.old) Eat ≡ false) }
+        ensures done { OnOk result (diner_of self.new ≡ act (diner_of self.old) Eat) }
+        ensures kept { OnErr result (self.new ≡ self.old) }
+    {
+        let has_all = places::hold_all(&self.places, self.neighbours());
+        if !(matches!(self.phase, Phase::Hungry) && has_all) {
+            return Err(NotNow);
+        }
+        self.phase = Phase::Eating;
+        places::use_all(&mut self.places);
+        Ok(())
+    }
+
+    /// An eating office that isn't thirsty thinks again.
+    pub fn leave(&mut self, thirsty: bool) -> Result<(), NotNow>
+        ensures not_now { IsErr result ↔ (may (diner_of self.old) (Leave thirsty) ≡ false) }
+        ensures done { OnOk result (diner_of self.new ≡ act (diner_of self.old) (Leave thirsty)) }
+        ensures kept { OnErr result (self.new ≡ self.old) }
+    {
+        if !(matches!(self.phase, Phase::Eating) && !thirsty) {
+            return Err(NotNow);
+        }
+        self.phase = Phase::Thinking;
+        Ok(())
+    }
+
+    /// The request token that is shared with `v` came.
+    pub fn got_token(&mut self, v: OfficeId)
+        requires ours { list_any (λ u. u == v) (diner_of self.old).neighbours ≡ true }
+        requires away { (diner_of self.old).token v ≡ false }
+        ensures { diner_of self.new ≡ with_token (diner_of self.old) v }
+    {
+        self.places[v.index()].token = true;
+    }
+
+    /// The fork that is shared with `v` came.
+    pub fn got_fork(&mut self, v: OfficeId)
+        requires ours { list_any (λ u. u == v) (diner_of self.old).neighbours ≡ true }
+        requires away { (diner_of self.old).held v ≡ false }
+        ensures { diner_of self.new ≡ with_fork (diner_of self.old) v }
+    {
+        self.places[v.index()].fork = Fork::Clean;
+    }
+}
