@@ -7,13 +7,7 @@
 #   sh bench/serial.sh [PROGRAM]        PROGRAM is crates/drink/out/drink where it is left out
 set -eu
 here=$(cd "$(dirname "$0")" && pwd)
-program=${1:-$here/../crates/drink/out/drink}
-if [ ! -x "$program" ]; then
-    echo "bench/serial.sh: $program is not built" >&2
-    exit 1
-fi
-work=$(mktemp -d)
-trap 'rm -rf "$work"' EXIT
+. "$here/program.sh"
 
 # 16 offices, a to p. Between each two of them a pair, and of each pair the first RECORDS of 8 records, named as ab0 to
 # ab7. What is left of SIZE bytes is comments.

@@ -6,13 +6,7 @@
 #   sh bench/sim.sh [PROGRAM]        PROGRAM is crates/drink/out/drink where it is left out
 set -eu
 here=$(cd "$(dirname "$0")" && pwd)
-program=${1:-$here/../crates/drink/out/drink}
-if [ ! -x "$program" ]; then
-    echo "bench/sim.sh: $program is not built" >&2
-    exit 1
-fi
-work=$(mktemp -d)
-trap 'rm -rf "$work"' EXIT
+. "$here/program.sh"
 
 printf '%s\n' 'plan 1 run 1' 'office a -' 'office b -' 'pair a b fork a' 'record x a b 0 at a' > "$work/plan"
 printf '%s\n' 'session a' 'set x = read x + 1' 'end' 'session b' 'set x = read x + 1' 'give read x' 'end' > "$work/sessions"
