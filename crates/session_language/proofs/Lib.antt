@@ -28,3 +28,4 @@ pub mod Sized
 pub mod RoundTrip
 pub mod Keeping
 pub mod Ordered
+pub mod Weighed

@@ -1,9 +1,9 @@
 -- A line, one piece after another.
-use Rattle.std.proofs.Common.{◌≡◌, ℕ, zero, suc, ◌+◌, ◌≤◌, List, [], ◌∷◌, length, Option, Some, None, Bool, true, false, refl, sym, ap, ◌∙◌, arith, length-drop, if◌then◌else◌}
+use Rattle.std.proofs.Common.{◌≡◌, ℕ, zero, suc, ◌+◌, ◌≤◌, List, [], ◌∷◌, length, take, drop, Option, Some, None, Bool, true, false, refl, sym, ap, ◌∙◌, arith, length-drop, if◌then◌else◌}
 use Rattle.std.specs.List.{prefix_len}
 use Rattle.office_map.specs.Text.{is_blank, is_name_byte}
 use Rattle.session_language.specs.declared.lexer.Symbol.{Symbol}
-use Rattle.session_language.specs.Lexer.{Piece, symbol_at, long_symbol, piece_at, pieces_in, pieces_of}
+use Rattle.session_language.specs.Lexer.{Piece, AWord, word_len, symbol_at, long_symbol, piece_at, pieces_in, pieces_of}
 
 symbol_shorter : (o : Option Symbol) (b : ℕ) (bs : List ℕ) → length (symbol_at o b bs).1 ≤ length bs
 symbol_shorter (Some s) b bs = omega (arith, length-drop 1 bs)
@@ -59,3 +59,8 @@ at_piece rest b bs all p left is blank found so_far =
 pub at_end : (rest : List ℕ) (all : List Piece) → length rest ≡ 0 → pieces_of rest ≡ all → all ≡ []
 at_end [] all h so_far = sym so_far ∙ pieces_of-nil
 at_end (b ∷ bs) all h so_far = absurd (omega arith)
+
+-- the word at the front
+pub word_found : (rest : List ℕ) (b : ℕ) (bs : List ℕ) (k : ℕ) (front back : List ℕ) → rest ≡ b ∷ bs → is_name_byte b ≡ true → k ≡ word_len bs → front ≡ take (1 + k) rest → back ≡ drop (1 + k) rest → (AWord front, back) ≡ piece_at b bs
+word_found rest b bs k front back is name count f g =
+    rw (f, g, is, name) (ap (λ n. (AWord (take (1 + n) (b ∷ bs)), drop (1 + n) (b ∷ bs))) count)

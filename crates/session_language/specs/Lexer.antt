@@ -1,10 +1,12 @@
 -- A line cut into words and symbols, the longest each time.
-use Rattle.std.specs.Prelude.{ℕ, zero, suc, List, [], ◌∷◌, length, take, drop, Bool, false, ◌==◌, Option, Some, None, if◌then◌else◌}
+use Rattle.std.specs.Prelude.{◌≡◌, ℕ, zero, suc, List, [], ◌∷◌, length, take, drop, Bool, true, false, ◌==◌, Option, Some, None, if◌then◌else◌}
 use Rattle.std.specs.List.{prefix_len}
 use Rattle.office_map.specs.Text.{is_blank, is_name_byte}
 use Rattle.session_language.specs.declared.lexer.Symbol.{Symbol}
 use Rattle.session_language.specs.declared.lexer.Symbol.TheVariants.{Assign, Equal, NotEqual, Less, AtMost, Greater, AtLeast, Plus, Minus, Times, Open, Close}
 use Rattle.session_language.specs.declared.lexer.Piece as code
+use Rattle.session_language.specs.declared.lexer.Start.{Start}
+use Rattle.session_language.specs.declared.lexer.Start.TheVariants.{Blank, Word, Sign, Other}
 use Rattle.session_language.specs.declared.lexer.Piece.TheVariants as pieces
 
 pub data Piece : Type 0 where
@@ -53,6 +55,13 @@ abbrev pub piece_at : ℕ → List ℕ → Piece × List ℕ
 piece_at b bs =
     if is_name_byte b then (AWord (take (word_len (b ∷ bs)) (b ∷ bs)), drop (word_len (b ∷ bs)) (b ∷ bs))
     else symbol_at (long_symbol b bs) b bs
+
+-- what the code says of the byte that a piece begins with
+abbrev pub Begins : Start → ℕ → Type 0
+Begins Blank b = is_blank b ≡ true
+Begins Word b = (is_blank b ≡ false) × (is_name_byte b ≡ true)
+Begins (Sign s) b = (is_blank b ≡ false) × ((bs : List ℕ) → piece_at b bs ≡ (ASymbol s, bs))
+Begins Other b = (is_blank b ≡ false) × (is_name_byte b ≡ false)
 
 -- each step takes a byte at least, so n is enough where it is the length
 abbrev pub pieces_in : ℕ → List ℕ → List Piece

@@ -17,6 +17,7 @@ pub mod Reading
 pub mod Spoken
 pub mod Measures
 pub mod Text
+pub mod Sizes
 pub mod Splits
 pub mod Drafts
 pub mod Program

@@ -1,20 +1,15 @@
 //! Sessions that are closed.
 
-ghost use Rattle.std.specs.Prelude.{◌≡◌, IfOk, length, map};
-ghost use Rattle.std.specs.String.{string_bytes};
-ghost use Rattle.session_language.specs.Shape.{block_of};
-ghost use Rattle.session_language.specs.Text.{session_text, wide_words};
+ghost use Rattle.std.specs.Prelude.{◌≡◌, IfOk};
 ghost use Rattle.session_language.specs.Spoken.{Tells};
 ghost use Rattle.session_language.specs.Drafts.{draft_of};
 ghost use Rattle.session_language.specs.Reading.{closed, program_of, is_too_long};
 
 use crate::draft::Draft;
 use crate::fault::{Rule, Stop};
-use crate::listing::session_text;
 use crate::measures::{block_cost, block_gives, block_statements};
 use crate::program::Program;
-use crate::tree::Statement;
-use crate::words::{RecordNames, Words};
+use crate::sizes::session_size;
 use std::alloc::{AllocError, Global};
 
 /// The most statements of a session, blocks included.
@@ -22,7 +17,7 @@ const MOST_STATEMENTS: u32 = 256;
 /// The most that a session may cost.
 const MOST_COST: u32 = 10_000;
 /// The most bytes of a session's text, where each office and record counts as 16.
-const MOST_BYTES: usize = 16_384;
+const MOST_BYTES: u32 = 16_384;
 /// The most values that a session may give.
 const MOST_GIVES: u32 = 64;
 
@@ -49,23 +44,6 @@ impl Draft {
         if block_cost(&self.statements) > MOST_COST {
             return Ok(true);
         }
-        Ok(size_of(alloc, &self.variables, &self.statements)? > MOST_BYTES)
+        Ok(session_size(alloc, &self.variables, &self.statements)? > MOST_BYTES)
     }
-}
-
-/// The bytes of a session's text, where each office and record has a name of 16.
-fn size_of(
-    alloc: Global,
-    variables: &[String],
-    statements: &[Statement],
-) -> Result<usize, AllocError>
-    ensures { IfOk result (λ n. n ≡ length (session_text (wide_words (map string_bytes variables.now)) (block_of statements.now))) }
-{
-    let words = Words {
-        office: "0123456789abcdef",
-        variables,
-        records: RecordNames::Wide,
-    };
-    let text = session_text(alloc, &words, statements)?;
-    Ok(text.as_bytes().len())
 }

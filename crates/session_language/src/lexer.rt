@@ -1,8 +1,8 @@
 //! Words and symbols of a line.
 
-ghost use Rattle.std.specs.Prelude.{◌≡◌, ◌∷◌, [], ◌≤◌, ◌<◌, length, MatchOption, OnSome};
-ghost use Rattle.office_map.specs.Text.{is_blank, is_name_byte};
-ghost use Rattle.session_language.specs.Lexer.{seen, one_byte, two_bytes, long_symbol, piece_at, pieces_of, word_len, begins_equals};
+ghost use Rattle.std.specs.Prelude.{◌≡◌, ◌∷◌, [], ◌≤◌, ◌<◌, length, MatchOption, OnSome, false};
+ghost use Rattle.office_map.specs.Text.{is_name_byte};
+ghost use Rattle.session_language.specs.Lexer.{seen, Begins, one_byte, two_bytes, long_symbol, piece_at, pieces_of, word_len, begins_equals};
 
 #[derive(Clone, Copy, Debug, PartialEq, Eq)]
 pub enum Symbol {
@@ -44,28 +44,59 @@ impl<'a> Pieces<'a> {
         ensures within { length self.new.rest.now ≤ length self.old.rest.now }
     {
         while let Some((first, after)) = self.rest.split_first() {
-            if is_blank(*first) {
-                self.rest = after;
-                continue;
+            match start_of(*first) {
+                Start::Blank => self.rest = after,
+                Start::Word => {
+                    let (word, rest) = self.rest.split_at(1 + word_len(after));
+                    self.rest = rest;
+                    return Some(Piece::Word(word));
+                }
+                Start::Sign(symbol) => {
+                    self.rest = after;
+                    return Some(Piece::Symbol(symbol));
+                }
+                Start::Other => {
+                    let (piece, rest) = other_piece(*first, after);
+                    self.rest = rest;
+                    return Some(piece);
+                }
             }
-            let (piece, after) = piece_at(*first, after, self.rest);
-            self.rest = after;
-            return Some(piece);
         }
         None
     }
 }
 
-// `whole` is `first` and `after`.
-fn piece_at<'a>(first: u8, after: &'a [u8], whole: &'a [u8]) -> (Piece<'a>, &'a [u8])
-    requires { whole.now ≡ first ∷ after.now }
-    ensures gives { (seen result.0, result.1.now) ≡ piece_at first after.now }
-    ensures shorter { length result.1.now < length whole.now }
+/// What a byte begins.
+#[derive(Clone, Copy)]
+enum Start {
+    Blank,
+    Word,
+    /// A symbol of one byte, whatever comes after it.
+    Sign(Symbol),
+    Other,
+}
+
+fn start_of(b: u8) -> Start
+    ensures { Begins result b }
 {
-    if is_name_byte(first) {
-        let (word, rest) = whole.split_at(word_len(whole));
-        return (Piece::Word(word), rest);
+    match b {
+        b' ' | b'\t' => Start::Blank,
+        b'0'..=b'9' | b'A'..=b'Z' | b'a'..=b'z' | b'_' => Start::Word,
+        b'+' => Start::Sign(Symbol::Plus),
+        b'-' => Start::Sign(Symbol::Minus),
+        b'*' => Start::Sign(Symbol::Times),
+        b'(' => Start::Sign(Symbol::Open),
+        b')' => Start::Sign(Symbol::Close),
+        _ => Start::Other,
     }
+}
+
+/// The piece that begins with a byte of no word.
+fn other_piece<'a>(first: u8, after: &'a [u8]) -> (Piece<'a>, &'a [u8])
+    requires { is_name_byte first ≡ false }
+    ensures gives { (seen result.0, result.1.now) ≡ piece_at first after.now }
+    ensures shorter { length result.1.now ≤ length after.now }
+{
     if let Some(symbol) = long_symbol(first, after) {
         return (Piece::Symbol(symbol), after.split_at(1).1);
     }
@@ -73,12 +104,6 @@ fn piece_at<'a>(first: u8, after: &'a [u8], whole: &'a [u8]) -> (Piece<'a>, &'a 
         Some(symbol) => (Piece::Symbol(symbol), after),
         None => (Piece::Stray, after),
     }
-}
-
-fn is_blank(b: u8) -> bool
-    ensures { result ≡ is_blank b }
-{
-    b == b' ' || b == b'\t'
 }
 
 fn is_name_byte(b: u8) -> bool

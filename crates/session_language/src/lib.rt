@@ -36,6 +36,7 @@ mod rank;
 pub mod read;
 mod reader;
 mod scope;
+mod sizes;
 mod spoken;
 mod steps;
 #[cfg(test)]

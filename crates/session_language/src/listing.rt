@@ -170,7 +170,7 @@ fn write_condition(out: &mut String, words: &Words<'_>, c: &Condition) -> Result
     write_expression(out, words, &c.right)
 }
 
-fn comparison_text(comparison: Comparison) -> &'static str
+pub(crate) fn comparison_text(comparison: Comparison) -> &'static str
     ensures { result.now ≡ comparison_text comparison }
 {
     match comparison {

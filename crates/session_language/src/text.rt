@@ -110,7 +110,7 @@ fn write_literal(out: &mut String, value: Value) -> Result<(), AllocError>
 }
 
 /// The number of a literal, which has no sign.
-fn magnitude(value: Value) -> u64
+pub(crate) fn magnitude(value: Value) -> u64
     ensures { result ≡ magnitude value.number }
 {
     if value.number < 0 {
