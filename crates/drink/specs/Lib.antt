@@ -7,3 +7,4 @@ pub mod Serial
 pub mod CommandLine
 pub mod Script
 pub mod Transcript
+pub mod Sources

@@ -41,7 +41,7 @@ pub fn serial<P: Read, S: Read, W: Write>(
 {
     let plan = read_plan(alloc, plan)?;
     let programs = read_programs(alloc, sessions, &plan)?;
-    let text = serial_report(alloc, &plan, &programs)?;
+    let text = serial_report(alloc, &plan, programs)?;
     write_whole(out, &text)?;
     Ok(DONE)
 }
@@ -77,12 +77,14 @@ pub fn sim<P: Read, S: Read, C: Read, W: Write>(
 }
 
 /// The report of the serial run of sessions that fit a plan.
-fn serial_report(alloc: Global, plan: &Plan, programs: &[Program]) -> Result<String, AllocError>
-    requires fit { All (λ p. IsTrue (fits plan.now p)) programs.now }
-    requires few { length programs.now ≤ 1024 }
-    ensures { IfOk result (λ text. string_bytes text ≡ serial_report plan.now programs.now) }
+fn serial_report(alloc: Global, plan: &Plan, programs: Vec<Program>) -> Result<String, AllocError>
+    requires fit { All (λ p. IsTrue (fits plan.now p)) programs.items }
+    requires few { length programs.items ≤ 1024 }
+    ensures { IfOk result (λ text. string_bytes text ≡ serial_report plan.now programs.items) }
 {
-    let replay = replay::serial(alloc, plan, programs)?;
+    let replay = replay::serial(alloc, plan, &programs)?;
+    // The report may be longer than the programs, whose memory it can take.
+    drop(programs);
     let text = report(alloc, plan, &replay.outcomes, &replay.values)?;
     Ok(text)
 }

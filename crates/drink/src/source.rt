@@ -25,6 +25,10 @@ impl<'a, R: Files + Input> Source<'a, R> {
 }
 
 impl<R: Files + Input> Read for Source<'_, R> {
+    ghost use Rattle.drink.specs.Sources.{left_in};
+
+    ghost remaining = { left_in };
+
     fn read(&mut self, buf: &mut [u8]) -> io::Result<usize> {
         if let Source::Named(rt, path) = self {
             *self = Source::Opened(fs::open(*rt, *path)?);

@@ -1,11 +1,12 @@
 -- A text, cut at its first LF.
-use Rattle.std.proofs.Common.{◌≡◌, ℕ, ◌+◌, ◌<◌, ◌≤◌, List, [], ◌∷◌, length, take, drop, false, Bool, refl, arith, ap, ◌∙◌, cond, nat_lt, Some, None, unwrap_or}
+use Rattle.std.proofs.Common.{◌≡◌, ℕ, ◌+◌, ◌<◌, ◌≤◌, List, [], ◌∷◌, length, take, drop, true, false, Bool, Option, refl, sym, arith, ap, ◌∙◌, slice_index, cond, nat_lt, Some, None, unwrap_or}
 use Rattle.std.specs.List.{slice_split, before_first, after_first, position_or_len}
 use Rattle.std.specs.Str.Lines.{lines_of_parts, strip_carriage_return}
 use Rattle.std.proofs.lemmas.List.Splits.{slice_split_first, slice_split_none, length-slice_split}
 use Rattle.std.proofs.lemmas.List.Elements.{All-from_get_or}
-use Rattle.std.proofs.lemmas.List.Sums.{fails_before_first}
+use Rattle.std.proofs.lemmas.List.Sums.{fails_before_first, position_or_len_is}
 use Rattle.std.proofs.lemmas.Bool.Decides.{nat_tests}
+use Rattle.memchr.specs.Find.{IsFirstByte}
 use Rattle.office_map.specs.Text.{lines, is_newline}
 
 several : (x : List ℕ) (ps : List (List ℕ)) → 0 < length ps → lines_of_parts (x ∷ ps) ≡ strip_carriage_return x ∷ lines_of_parts ps
@@ -55,3 +56,12 @@ cut_nowhere p word none =
 -- a list that is cut has at least one part
 pub some_parts : (p : ℕ → Bool) (word : List ℕ) → 0 < length (slice_split p word)
 some_parts p word = omega (arith, length-slice_split p word)
+
+not_true : (b : Bool) → (b ≡ true → ⊥) → b ≡ false
+not_true true h = absurd (h refl)
+not_true false h = refl
+
+-- what a search of bytes answers
+pub first_place : (p : ℕ → Bool) (text : List ℕ) (r : Option ℕ) → IsFirstByte p text r → unwrap_or r (length text) ≡ position_or_len p text
+first_place p text None h = sym (position_or_len_is p text (length text) 0 (omega arith) (λ k lt. not_true (p (slice_index text k)) (h k (omega arith) lt)) (λ lt. absurd (omega arith)))
+first_place p text (Some i) h = sym (position_or_len_is p text i 0 (omega (arith, h.0.high)) (λ k lt. not_true (p (slice_index text k)) (h.0.before k (omega arith) lt)) (λ lt. h.1))

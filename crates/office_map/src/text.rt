@@ -7,6 +7,7 @@ ghost use Rattle.std.specs.List.{list_all, position_or_len};
 ghost use Rattle.office_map.specs.Text.{lines, words_of, is_name, name_of, is_keyword, is_name_byte, number_of, decimal, is_plain};
 ghost use Rattle.std.specs.Char.{is_ascii_digit};
 
+use memchr::memchr;
 use std::alloc::{AllocError, Global};
 
 /// The words of a line, in order.
@@ -36,7 +37,7 @@ pub fn first_line(text: &[u8]) -> (&[u8], &[u8])
 pub(crate) fn place_of(text: &[u8], byte: u8) -> usize
     ensures { result ≡ position_or_len (λ b. b == byte) text.now }
 {
-    text.iter().position(|b| *b == byte).unwrap_or(text.len())
+    memchr(byte, text).unwrap_or(text.len())
 }
 
 fn without_return(line: &[u8]) -> &[u8]

@@ -29,3 +29,4 @@ pub mod RoundTrip
 pub mod Keeping
 pub mod Ordered
 pub mod Weighed
+pub mod Bounded

@@ -16,6 +16,9 @@ use std::alloc::{AllocError, Global};
 const MOST_STATEMENTS: u32 = 256;
 /// The most that a session may cost.
 const MOST_COST: u32 = 10_000;
+/// Each node costs 1 and has at most 21 bytes of text, each statement costs 1 and has at most 24 besides, and the first
+/// and the last line have 29. So the text of a session that costs no more than this is never too long.
+const SHORT_COST: u32 = 681;
 /// The most bytes of a session's text, where each office and record counts as 16.
 const MOST_BYTES: u32 = 16_384;
 /// The most values that a session may give.
@@ -41,8 +44,12 @@ impl Draft {
         if block_statements(&self.statements) > MOST_STATEMENTS {
             return Ok(true);
         }
-        if block_cost(&self.statements) > MOST_COST {
+        let cost = block_cost(&self.statements);
+        if cost > MOST_COST {
             return Ok(true);
+        }
+        if cost <= SHORT_COST {
+            return Ok(false);
         }
         Ok(session_size(alloc, &self.variables, &self.statements)? > MOST_BYTES)
     }

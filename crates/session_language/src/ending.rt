@@ -1,6 +1,6 @@
 //! How sessions end.
 
-ghost use Rattle.std.specs.Prelude.{◌≡◌, [], ◌∷◌, ◌++◌, OnOk, IfOk};
+ghost use Rattle.std.specs.Prelude.{◌≡◌, [], ◌∷◌, ◌++◌, OnOk, OnErr, IfOk};
 
 use bottle_values::Value;
 use office_map::ids::{OfficeId, RecordId};
@@ -42,7 +42,8 @@ impl RecordValues {
     }
 
     pub fn push(&mut self, id: RecordId, value: Value) -> Result<(), AllocError>
-        ensures { OnOk result (self.new ≡ self.old ++ (id, value) ∷ []) }
+        ensures pushed { OnOk result (self.new ≡ self.old ++ (id, value) ∷ []) }
+        ensures kept { OnErr result (self.new ≡ self.old) }
     {
         self.items.push((id, value))?;
         Ok(())
@@ -89,7 +90,8 @@ impl Gives {
     }
 
     pub fn push(&mut self, value: Value) -> Result<(), AllocError>
-        ensures { OnOk result (self.new ≡ self.old ++ value ∷ []) }
+        ensures pushed { OnOk result (self.new ≡ self.old ++ value ∷ []) }
+        ensures kept { OnErr result (self.new ≡ self.old) }
     {
         self.items.push(value)?;
         Ok(())

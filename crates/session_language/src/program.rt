@@ -65,8 +65,9 @@ impl Program {
             office,
             variables,
             needs,
-            statements,
+            mut statements,
         } = draft;
+        statements.shrink_to_fit();
         Program {
             office,
             variables,

@@ -4,6 +4,6 @@ use Rattle.serial_replay.proofs.Slots as slots
 
 pub loop-i-preserved : goal.loop-i-preserved
 loop-i-preserved c =
-    let p = rw c.loop-i.invariant at c.in_ok-push.ensures in
+    let p = rw c.loop-i.invariant at c.in_ok-push.ensures.pushed in
     let q = rw c.index-needs-i.is at p in
     q ∙ sym (slots.zip_more c.args.needs.now c.args.values.now c.loop-i.i c.index-needs-i.result _ c.loop-i-test.true c.requires)
