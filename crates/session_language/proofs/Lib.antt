@@ -30,3 +30,5 @@ pub mod Keeping
 pub mod Ordered
 pub mod Weighed
 pub mod Bounded
+pub mod Lengths
+pub mod Worked

@@ -11,6 +11,8 @@ use Rattle.session_language.specs.Parse.{read_part}
 use Rattle.session_language.specs.Grammar.{IsExpr}
 use Rattle.session_language.specs.Reading.{Reading, take_line, at_line, read_lines, sessions_of}
 use Rattle.session_language.specs.Meaning.{alone}
+use Rattle.session_language.specs.Measures.{block_cost}
+use Rattle.session_language.specs.Length.{length_on}
 
 -- these lines are accepted one after the other, from x on, and leave y
 abbrev pub Lead : PlanValue → Reading → List (ℕ × List ℕ) → Reading → Type 0
@@ -54,3 +56,7 @@ WritesWhatItHas = (p : ProgramValue) (reads : List (ℕ × Value)) → All (λ w
 -- however it ends, it tells the values that it was given
 abbrev pub TellsWhatItRead : Type 0
 TellsWhatItRead = (p : ProgramValue) (reads : List (ℕ × Value)) → (alone p reads).reads ≡ reads
+
+-- a session does something, and at most one more than its cost
+abbrev pub EndsWithinItsCost : Type 0
+EndsWithinItsCost = (p : ProgramValue) (reads : List (ℕ × Value)) → (1 ≤ length_on p reads) × (length_on p reads ≤ block_cost p.body + 1)

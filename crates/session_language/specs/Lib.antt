@@ -1,6 +1,7 @@
 pub mod Tree
 pub mod TreeCode
 pub mod Postfix
+pub mod Nodes
 pub mod Shape
 pub mod Lexer
 pub mod Spelling
@@ -12,6 +13,7 @@ pub mod Phrase
 pub mod ProgramValue
 pub mod Needs
 pub mod Meaning
+pub mod Length
 pub mod Form
 pub mod Reading
 pub mod Spoken

@@ -1,16 +1,24 @@
 //! Expressions.
 
 ghost use Rattle.std.specs.Prelude.{◌≡◌, IfOk};
+ghost use Rattle.session_language.specs.Nodes.{nodes_in};
 ghost use Rattle.session_language.specs.Postfix.{postfix, tree_of, IsPostfix};
 
 use crate::node::Node;
 use std::alloc::{AllocError, Global};
 use std::marker::Model;
 
-/// An expression: its nodes in postfix order, in one piece of memory. Contracts see its tree.
+/// An expression: its nodes in postfix order. Contracts see its tree.
 #[derive(Debug, Drop)]
 pub struct Expression {
-    nodes: Vec<Node>,
+    nodes: Nodes,
+}
+
+/// One node stands in its place, and several in memory of their own.
+#[derive(Debug, Drop)]
+pub(crate) enum Nodes {
+    One([Node; 1]),
+    Several(Vec<Node>),
 }
 
 impl Model for Expression {
@@ -18,15 +26,16 @@ impl Model for Expression {
     ghost use Rattle.session_language.specs.declared.node.Node.{Node};
     ghost use Rattle.session_language.specs.Tree.{Term};
     ghost use Rattle.session_language.specs.TreeCode.{term_code};
+    ghost use Rattle.session_language.specs.Nodes.{nodes_in};
     ghost use Rattle.session_language.specs.Postfix.{tree_of, IsPostfix};
 
     ghost Value = { Term };
 
     ghost coded = { let nodes : Coded Node = Prim.hlevel codes in term_code nodes };
 
-    ghost view = { λ e. tree_of e.nodes.items };
+    ghost view = { λ e. tree_of (nodes_in e.nodes) };
 
-    ghost invariant = { λ e. IsPostfix e.nodes.items };
+    ghost invariant = { λ e. IsPostfix (nodes_in e.nodes) };
 }
 
 impl Expression {
@@ -36,7 +45,7 @@ impl Expression {
         ensures { IfOk result (λ e. e ≡ tree_of nodes.now) }
     {
         Ok(Expression {
-            nodes: Vec::from_slice(alloc, nodes)?,
+            nodes: Nodes::of(alloc, nodes)?,
         })
     }
 
@@ -44,7 +53,7 @@ impl Expression {
     pub fn nodes(&self) -> &[Node]
         ensures { result.now ≡ postfix self.now }
     {
-        &self.nodes
+        self.nodes.as_slice()
     }
 
     /// The same expression, in memory of its own.
@@ -52,7 +61,27 @@ impl Expression {
         ensures { IfOk result (λ e. e ≡ self.now) }
     {
         Ok(Expression {
-            nodes: Vec::from_slice(alloc, &self.nodes)?,
+            nodes: Nodes::of(alloc, self.nodes.as_slice())?,
         })
+    }
+}
+
+impl Nodes {
+    fn of(alloc: Global, nodes: &[Node]) -> Result<Nodes, AllocError>
+        ensures { IfOk result (λ n. nodes_in n ≡ nodes.now) }
+    {
+        match nodes {
+            [node] => Ok(Nodes::One([*node])),
+            _ => Ok(Nodes::Several(Vec::from_slice(alloc, nodes)?)),
+        }
+    }
+
+    fn as_slice(&self) -> &[Node]
+        ensures { result.now ≡ nodes_in self.now }
+    {
+        match self {
+            Nodes::One(node) => node.as_slice(),
+            Nodes::Several(nodes) => nodes,
+        }
     }
 }

@@ -7,6 +7,7 @@ ghost use Rattle.session_language.specs.Laws.{
   IsUnambiguous,
   WritesWhatItHas,
   TellsWhatItRead,
+  EndsWithinItsCost,
 };
 
 /// Reading accepts all lines, one after the other, or stops at the first that is refused.
@@ -37,4 +38,9 @@ pub fn writes_what_it_has()
 /// However a session ends, it tells what it read.
 pub fn tells_what_it_read()
     ensures { TellsWhatItRead }
+{}
+
+/// A session does something, and at most one more than its cost.
+pub fn ends_within_its_cost()
+    ensures { EndsWithinItsCost }
 {}
