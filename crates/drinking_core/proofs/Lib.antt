@@ -1,0 +1,5 @@
+pub mod Lists
+pub mod Counted
+pub mod Placed
+pub mod Opened
+pub mod Sessions

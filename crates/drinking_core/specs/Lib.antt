@@ -1,0 +1,2 @@
+pub mod Drinkers
+pub mod Bars

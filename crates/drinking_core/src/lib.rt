@@ -1,0 +1,18 @@
+//! The bottles of one office: which are here, with which values, and how far the office is with its session.
+//!
+//! - A [`Bar`] is an office's side: its phase, which records its session needs, and of each of its records the bottle
+//!   with its value, if it is here, and whether the bottle's request token is. Each rule call is its row: `NotNow`
+//!   exactly where the guard is false (clause `not_now`), and else its effect (clause `done`). The rows are `may` and
+//!   `act` in `specs/Drinkers.antt`; `drinker_of`, in `specs/Bars.antt`, says which office a bar means.
+//!
+//! No call takes memory but [`Bar::open`]. It stands on `dining_core`, `bottle_values`, `office_map` and `thiserror`.
+#![tactic(auto)]
+
+mod bar;
+mod phase;
+mod place;
+mod places;
+
+pub use bar::Bar;
+pub use phase::Phase;
+pub use place::Place;
