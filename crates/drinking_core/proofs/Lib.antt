@@ -3,3 +3,5 @@ pub mod Counted
 pub mod Placed
 pub mod Opened
 pub mod Sessions
+pub mod Spots
+pub mod Travels

@@ -9,6 +9,7 @@
 #![tactic(auto)]
 
 mod bar;
+pub mod laws;
 mod phase;
 mod place;
 mod places;
