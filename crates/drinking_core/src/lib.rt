@@ -13,6 +13,8 @@ pub mod laws;
 mod phase;
 mod place;
 mod places;
+#[cfg(test)]
+mod tests;
 
 pub use bar::Bar;
 pub use phase::Phase;
