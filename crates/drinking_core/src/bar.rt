@@ -78,18 +78,18 @@ impl Bar {
         self.missing == 0
     }
 
-    /// Whether the record's bottle is here.
-    pub fn holds(&self, r: RecordId) -> bool
-        ensures { result ≡ holds (drinker_of self.now) r }
-    {
-        places::at(&self.places, r).bottle.is_some()
-    }
-
     /// The value of a bottle that is here.
     pub fn value(&self, r: RecordId) -> Option<Value>
         ensures { result ≡ (drinker_of self.now).bottle r }
     {
         places::at(&self.places, r).bottle
+    }
+
+    /// Whether the record's bottle is here.
+    pub fn holds(&self, r: RecordId) -> bool
+        ensures { result ≡ holds (drinker_of self.now) r }
+    {
+        self.value(r).is_some()
     }
 
     /// Whether the request token of the record's bottle is here.

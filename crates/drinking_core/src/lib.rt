@@ -18,4 +18,3 @@ mod tests;
 
 pub use bar::Bar;
 pub use phase::Phase;
-pub use place::Place;

@@ -18,28 +18,28 @@ pub struct Place {
 
 impl Place {
     /// Whether the bottle is needed, and isn't here.
-    pub fn is_missing(&self) -> bool
+    pub(crate) fn is_missing(&self) -> bool
         ensures { result ≡ is_missing self.now }
     {
         self.needed && self.bottle.is_none()
     }
 
     /// Whether the bottle is missing, and may be asked for.
-    pub fn is_askable(&self) -> bool
+    pub(crate) fn is_askable(&self) -> bool
         ensures { result ≡ (self.now.needed && (not (is_some self.now.bottle) && self.now.token)) }
     {
         self.is_missing() && self.token
     }
 
     /// Whether the bottle is here, and is asked for.
-    pub fn is_owed(&self) -> bool
+    pub(crate) fn is_owed(&self) -> bool
         ensures { result ≡ (self.now.token && is_some self.now.bottle) }
     {
         self.token && self.bottle.is_some()
     }
 
     /// 1 where the record is needed.
-    pub fn weight(&self) -> usize
+    pub(crate) fn weight(&self) -> usize
         ensures { result ≡ num self.now.needed }
     {
         if self.needed { 1 } else { 0 }
