@@ -5,3 +5,4 @@ pub mod Opened
 pub mod Sessions
 pub mod Spots
 pub mod Travels
+pub mod Needs

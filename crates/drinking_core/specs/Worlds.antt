@@ -1,10 +1,11 @@
 -- All offices of a plan at their bars with the bottles and request tokens on the way, and where each bottle is.
 use Rattle.std.specs.Prelude.{◌≡◌, ℕ, ◌<◌, Bool, true, false, ◌==◌, ◌&&◌, nat_lt, List, [], ◌∷◌, length, Option, None, Some, slice_get, if◌then◌else◌}
+use Rattle.std.specs.List.{list_all}
 use Rattle.bottle_values.specs.declared.Value.{Value}
 use Rattle.bottle_values.specs.Maps.{put}
 use Rattle.office_map.specs.declared.entries.RecordEntry.{RecordEntry}
 use Rattle.office_map.specs.PlanValue.{PlanValue, is_end, start_end}
-use Rattle.drinking_core.specs.Drinkers.{Drinker, Rule, Start, AskBottle, GiveBottle, Drink, Finish, may, act, with_token, with_bottle, value_after, opened}
+use Rattle.drinking_core.specs.Drinkers.{Drinker, Rule, Start, AskBottle, GiveBottle, Drink, Finish, is_drinking, is_served, may, act, with_token, with_bottle, value_after, opened}
 
 -- each office; of each record the bottle that was sent to an office which hasn't taken it, with its value; and whether
 -- its request token was sent to an office which hasn't taken it
@@ -124,6 +125,10 @@ pub record HasValue (w : World) (r : ℕ) (v : Value) : Type 0 where
   pub spot : Spot
   pub at : IsBottleAt w r spot v
 
+-- an office that drinks has the bottles of its records that its session needs
+abbrev pub HasWhatItNeeds : Drinker → Type 0
+HasWhatItNeeds d = is_drinking d.phase ≡ true → list_all (is_served d) d.records ≡ true
+
 -- ---- laws
 
 abbrev pub EachHasOnePlace : Type 0
@@ -144,3 +149,6 @@ ValuesStay = (plan : PlanValue) (w : World) (e : Event) (r : ℕ) (v : Value) �
 abbrev pub FinishingWrites : Type 0
 FinishingWrites = (plan : PlanValue) (w : World) (a : ℕ) (writes : List (ℕ × Value)) (r : ℕ) (spot : Spot) (v : Value) → finishes plan w (Do a (Finish (Some writes))) ≡ true → IsBottleAt w r spot v →
     IsBottleAt (happens plan w (Do a (Finish (Some writes)))) r spot (if is_with spot a then value_after writes r v else v)
+
+abbrev pub DrinkersHaveWhatTheyNeed : Type 0
+DrinkersHaveWhatTheyNeed = (plan : PlanValue) (events : List Event) (a : ℕ) → HasWhatItNeeds ((run plan (opening plan) events).drinker a)

@@ -1,6 +1,6 @@
 //! Laws of all bars with the bottles and request tokens on the way.
 
-ghost use Rattle.drinking_core.specs.Worlds.{EachHasOnePlace, NoOtherPlace, BottlesStartWithTheirValues, ValuesStay, FinishingWrites};
+ghost use Rattle.drinking_core.specs.Worlds.{EachHasOnePlace, NoOtherPlace, BottlesStartWithTheirValues, ValuesStay, FinishingWrites, DrinkersHaveWhatTheyNeed};
 
 /// After every list of events the bottle of each record is with one of its ends or on the way to one, and so is the
 /// bottle's request token.
@@ -26,4 +26,9 @@ pub fn values_stay()
 /// Where an office ends its session, what was written goes into the bottles that it has, and into no other.
 pub fn finishing_writes()
     ensures { FinishingWrites }
+{}
+
+/// After every list of events an office that drinks has the bottle of each of its records that its session needs.
+pub fn drinkers_have_what_they_need()
+    ensures { DrinkersHaveWhatTheyNeed }
 {}
