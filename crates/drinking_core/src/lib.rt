@@ -7,7 +7,7 @@
 //! - [`laws`] has all bars with the bottles on the way (`specs/Worlds.antt`): each bottle has one place, and only the end of
 //!   a session changes the value of one.
 //!
-//! No call takes memory but [`Bar::open`]. It stands on `dining_core`, `bottle_values`, `office_map` and `thiserror`.
+//! No call takes memory but [`Bar::open`]. It stands on `dining_core`, `office_map` and `bottle_values`.
 #![tactic(auto)]
 
 mod bar;
