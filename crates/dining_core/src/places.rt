@@ -1,6 +1,6 @@
 //! The places of a table, one for each office of the plan.
 
-ghost use Rattle.std.specs.Prelude.{◌≡◌, ◌<◌, length, map, IfOk};
+ghost use Rattle.std.specs.Prelude.{◌≡◌, ◌<◌, length, map, All, IfOk};
 ghost use Rattle.std.specs.List.{list_all, range_with_len};
 ghost use Rattle.std.proofs.Math.ListN.{set};
 ghost use Rattle.dining_core.specs.Tables.{place_at, holds, used_place, start_place};
@@ -47,10 +47,12 @@ pub fn at(places: &[Place], v: OfficeId) -> Place
 
 /// Whether the fork of each of these is here.
 pub fn hold_all(places: &[Place], neighbours: &[OfficeId]) -> bool
+    requires { All (λ v. v < length places.now) neighbours.now }
     ensures { result ≡ list_all (holds places.now) neighbours.now }
 {
     for v in neighbours {
-        if !at(places, *v).fork.is_held() {
+        let place = &places[v.index()];
+        if !place.fork.is_held() {
             return false;
         }
     }

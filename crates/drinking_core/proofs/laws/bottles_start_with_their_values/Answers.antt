@@ -1,0 +1,5 @@
+use Rattle.drinking_core.proofs.Travels.{bottles_start}
+use Rattle.drinking_core.proofs.laws.bottles_start_with_their_values.Goals as goal
+
+pub returns : goal.returns
+returns c = bottles_start

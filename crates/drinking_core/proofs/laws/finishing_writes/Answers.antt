@@ -1,0 +1,5 @@
+use Rattle.drinking_core.proofs.Travels.{finishing_writes}
+use Rattle.drinking_core.proofs.laws.finishing_writes.Goals as goal
+
+pub returns : goal.returns
+returns c = finishing_writes

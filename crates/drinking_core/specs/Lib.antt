@@ -1,0 +1,3 @@
+pub mod Drinkers
+pub mod Bars
+pub mod Worlds

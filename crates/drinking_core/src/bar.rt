@@ -1,0 +1,232 @@
+//! One office's bottles.
+
+ghost use Rattle.std.specs.Prelude.{◌≡◌, ◌<◌, ◌↔◌, length, IsErr, IfOk, OnOk, OnErr, All, true, false, ◌&&◌, ◌||◌};
+ghost use Rattle.std.specs.List.{list_all};
+ghost use Rattle.std.specs.Option.{ForSome, option_copied};
+ghost use Rattle.dining_core.specs.Tables.{diner_of};
+ghost use Rattle.drinking_core.specs.Drinkers.{Start, AskBottle, GiveBottle, Drink, Finish, may, act, with_token, with_bottle, is_among, is_served, is_drinking, holds, opened};
+ghost use Rattle.drinking_core.specs.Bars.{drinker_of};
+
+use crate::phase::Phase;
+use crate::place::Place;
+use crate::places;
+use bottle_values::Value;
+use dining_core::{NotNow, Table};
+use office_map::{OfficeId, Plan, RecordId};
+use std::alloc::{AllocError, Global};
+use std::marker::Model;
+
+/// The bottles of an office: which are here with their values, and how far the office is with its current session.
+#[derive(Debug, Drop)]
+pub struct Bar {
+    records: Vec<RecordId>,
+    phase: Phase,
+    places: Vec<Place>,
+    missing: usize,
+}
+
+impl Model for Bar {
+    ghost use Rattle.drinking_core.specs.Bars.{BarValue, IsKept};
+
+    ghost Value = { BarValue };
+
+    ghost view = { λ b. record { records = b.records.items; phase = b.phase; places = b.places.items } };
+
+    ghost invariant = { λ b. IsKept b.records.items b.phase b.places.items b.missing };
+}
+
+impl Bar {
+    /// The bar of an office as the plan starts.
+    pub fn open(alloc: Global, plan: &Plan, id: OfficeId) -> Result<Bar, AllocError>
+        requires { id < length plan.now.offices }
+        ensures { IfOk result (λ b. drinker_of b ≡ opened plan.now id) }
+    {
+        let records = plan.records_of(id).to_vec(alloc)?;
+        let places = places::open(alloc, plan, id)?;
+        Ok(Bar {
+            records,
+            phase: Phase::Tranquil,
+            places,
+            missing: 0,
+        })
+    }
+
+    /// The records that this office shares with its neighbours, the least number first.
+    pub fn records(&self) -> &[RecordId]
+        ensures { result.now ≡ (drinker_of self.now).records }
+    {
+        &self.records
+    }
+
+    pub fn phase(&self) -> Phase
+        ensures { result ≡ (drinker_of self.now).phase }
+    {
+        self.phase
+    }
+
+    /// Whether the current session needs the record.
+    pub fn needs(&self, r: RecordId) -> bool
+        ensures { result ≡ (drinker_of self.now).needed r }
+    {
+        places::at(&self.places, r).needed
+    }
+
+    /// Whether no bottle is missing that the current session needs.
+    pub fn has_needed(&self) -> bool
+        ensures { result ≡ list_all (is_served (drinker_of self.now)) (drinker_of self.now).records }
+    {
+        self.missing == 0
+    }
+
+    /// The value of a bottle that is here.
+    pub fn value(&self, r: RecordId) -> Option<Value>
+        ensures { result ≡ (drinker_of self.now).bottle r }
+    {
+        places::at(&self.places, r).bottle
+    }
+
+    /// Whether the record's bottle is here.
+    pub fn holds(&self, r: RecordId) -> bool
+        ensures { result ≡ holds (drinker_of self.now) r }
+    {
+        self.value(r).is_some()
+    }
+
+    /// Whether the request token of the record's bottle is here.
+    pub fn has_token(&self, r: RecordId) -> bool
+        ensures { result ≡ (drinker_of self.now).token r }
+    {
+        places::at(&self.places, r).token
+    }
+
+    /// A tranquil office begins with the first waiting session, which needs these records; none where no session waits.
+    pub fn start(&mut self, session: Option<&[RecordId]>) -> Result<(), NotNow>
+        requires { ForSome session (λ rs. All (λ r. is_among r (drinker_of self.old).records ≡ true) rs.now) }
+        ensures not_now { IsErr result ↔ (may (drinker_of self.old) (Start (option_copied session.entry)) ≡ false) }
+        ensures done { OnOk result (drinker_of self.new ≡ act (drinker_of self.old) (Start (option_copied session.entry))) }
+        ensures kept { OnErr result (self.new ≡ self.old) }
+    {
+        let Some(records) = session else {
+            return Err(NotNow);
+        };
+        if !self.phase.is_tranquil() {
+            return Err(NotNow);
+        }
+        self.phase = Phase::Thirsty;
+        self.missing = places::need_all(&mut self.places, records);
+        Ok(())
+    }
+
+    /// A thirsty office sends the request token of a bottle that its session needs and that isn't here.
+    pub fn ask_bottle(&mut self, r: RecordId) -> Result<(), NotNow>
+        ensures not_now { IsErr result ↔ (may (drinker_of self.old) (AskBottle r) ≡ false) }
+        ensures done { OnOk result (drinker_of self.new ≡ act (drinker_of self.old) (AskBottle r)) }
+        ensures kept { OnErr result (self.new ≡ self.old) }
+    {
+        if !self.phase.is_thirsty() {
+            return Err(NotNow);
+        }
+        let place = places::at(&self.places, r);
+        if !place.is_askable() {
+            return Err(NotNow);
+        }
+        self.places[r.index()] = Place {
+            token: false,
+            ..place
+        };
+        Ok(())
+    }
+
+    #[tactic(auto, using(crate::proofs::Counted::count_few))]
+    /// An office sends a bottle that is asked for, with its value, unless its session needs the bottle and works, or
+    /// needs it and has the fork.
+    pub fn give_bottle(&mut self, r: RecordId, table: &Table) -> Result<(), NotNow>
+        ensures not_now { IsErr result ↔ (may (drinker_of self.old) (GiveBottle r (diner_of table.now).held) ≡ false) }
+        ensures done { OnOk result (drinker_of self.new ≡ act (drinker_of self.old) (GiveBottle r (diner_of table.now).held)) }
+        ensures kept { OnErr result (self.new ≡ self.old) }
+    {
+        let place = places::at(&self.places, r);
+        if !place.is_owed() {
+            return Err(NotNow);
+        }
+        if self.keeps(r, table) {
+            return Err(NotNow);
+        }
+        self.missing += place.weight();
+        self.places[r.index()] = Place {
+            bottle: None,
+            ..place
+        };
+        Ok(())
+    }
+
+    // Whether the office keeps a bottle that is asked for.
+    fn keeps(&self, r: RecordId, table: &Table) -> bool
+        ensures { result ≡ ((drinker_of self.now).needed r && (is_drinking (drinker_of self.now).phase || (diner_of table.now).held ((drinker_of self.now).peer r))) }
+    {
+        let place = places::at(&self.places, r);
+        let is_drinking = self.phase.is_drinking();
+        place.needed && (is_drinking || table.holds(place.peer))
+    }
+
+    /// A thirsty office that has all bottles that its session needs begins to work.
+    pub fn drink(&mut self) -> Result<(), NotNow>
+        ensures not_now { IsErr result ↔ (may (drinker_of self.old) Drink ≡ false) }
+        ensures done { OnOk result (drinker_of self.new ≡ act (drinker_of self.old) Drink) }
+        ensures kept { OnErr result (self.new ≡ self.old) }
+    {
+        if !(self.phase.is_thirsty() && self.has_needed()) {
+            return Err(NotNow);
+        }
+        self.phase = Phase::Drinking;
+        Ok(())
+    }
+
+    /// A drinking office ends its session with what the session's work wrote, each record with its value; none where
+    /// the work hasn't ended. Where a record is written twice, the last value counts. What is written to a record
+    /// whose bottle isn't here is lost.
+    pub fn finish(&mut self, writes: Option<&[(RecordId, Value)]>) -> Result<(), NotNow>
+        ensures not_now { IsErr result ↔ (may (drinker_of self.old) (Finish (option_copied writes.entry)) ≡ false) }
+        ensures done { OnOk result (drinker_of self.new ≡ act (drinker_of self.old) (Finish (option_copied writes.entry))) }
+        ensures kept { OnErr result (self.new ≡ self.old) }
+    {
+        let Some(writes) = writes else {
+            return Err(NotNow);
+        };
+        if !self.phase.is_drinking() {
+            return Err(NotNow);
+        }
+        self.phase = Phase::Tranquil;
+        places::write_all(&mut self.places, writes);
+        places::free_all(&mut self.places);
+        self.missing = 0;
+        Ok(())
+    }
+
+    /// The request token of a record's bottle came.
+    pub fn got_token(&mut self, r: RecordId)
+        requires ours { is_among r (drinker_of self.old).records ≡ true }
+        requires away { (drinker_of self.old).token r ≡ false }
+        ensures { drinker_of self.new ≡ with_token (drinker_of self.old) r }
+    {
+        let place = places::at(&self.places, r);
+        self.places[r.index()] = Place {
+            token: true,
+            ..place
+        };
+    }
+
+    /// A record's bottle came with this value.
+    pub fn got_bottle(&mut self, r: RecordId, value: Value)
+        requires ours { is_among r (drinker_of self.old).records ≡ true }
+        requires away { holds (drinker_of self.old) r ≡ false }
+        ensures { drinker_of self.new ≡ with_bottle (drinker_of self.old) r value }
+    {
+        let place = places::at(&self.places, r);
+        self.missing -= place.weight();
+        self.places[r.index()] = Place {
+            bottle: Some(value),
+            ..place
+        };
+    }
+}

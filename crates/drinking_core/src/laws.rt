@@ -1,0 +1,34 @@
+//! Laws of all bars with the bottles and request tokens on the way.
+
+ghost use Rattle.drinking_core.specs.Worlds.{EachHasOnePlace, NoOtherPlace, BottlesStartWithTheirValues, ValuesStay, FinishingWrites, DrinkersHaveWhatTheyNeed};
+
+/// After every list of events the bottle of each record is with one of its ends or on the way to one, and so is the
+/// bottle's request token.
+pub fn each_has_one_place()
+    ensures { EachHasOnePlace }
+{}
+
+/// A bottle that is somewhere is nowhere else, and has one value.
+pub fn no_other_place()
+    ensures { NoOtherPlace }
+{}
+
+/// At the start each bottle is at the plan's end with the plan's value.
+pub fn bottles_start_with_their_values()
+    ensures { BottlesStartWithTheirValues }
+{}
+
+/// No event but the end of a session changes the value of a bottle.
+pub fn values_stay()
+    ensures { ValuesStay }
+{}
+
+/// Where an office ends its session, what was written goes into the bottles that it has, and into no other.
+pub fn finishing_writes()
+    ensures { FinishingWrites }
+{}
+
+/// After every list of events an office that drinks has the bottle of each of its records that its session needs.
+pub fn drinkers_have_what_they_need()
+    ensures { DrinkersHaveWhatTheyNeed }
+{}

@@ -1,0 +1,22 @@
+//! The bottles of one office: which are here, with which values, and how far the office is with its session.
+//!
+//! - A [`Bar`] is an office's side: its phase, which records its session needs, and of each of its records the bottle
+//!   with its value, if it is here, and whether the bottle's request token is. Each rule call is its row: `NotNow`
+//!   exactly where the guard is false (clause `not_now`), and else its effect (clause `done`). The rows are `may` and
+//!   `act` in `specs/Drinkers.antt`; `drinker_of`, in `specs/Bars.antt`, says which office a bar means.
+//! - [`laws`] has all bars with the bottles on the way (`specs/Worlds.antt`): each bottle has one place, and only the end of
+//!   a session changes the value of one.
+//!
+//! No call takes memory but [`Bar::open`]. It stands on `dining_core`, `office_map` and `bottle_values`.
+#![tactic(auto)]
+
+mod bar;
+pub mod laws;
+mod phase;
+mod place;
+mod places;
+#[cfg(test)]
+mod tests;
+
+pub use bar::Bar;
+pub use phase::Phase;
