@@ -13,8 +13,8 @@ use Rattle.session_language.specs.Lexer.{Piece, AWord, pieces_of}
 use Rattle.session_language.specs.Names.{Scope}
 use Rattle.session_language.specs.Form.{Said, Says, said_after, form_of, keyword_of, IsStatement}
 use Rattle.session_language.specs.Reading.{Draft, Reading, Spoken, scope_in, speak, add, with_open, take_after, take_line, take_formed, take_statement}
-use Rattle.session_language.specs.Spoken.{Tells, spoken_after}
-use Rattle.session_language.specs.Drafts.{Leaves}
+use Rattle.session_language.specs.Spoken.{spoken_after}
+use Rattle.session_language.specs.Drafts.{Leaves, with_statement}
 
 -- what is left of a statement once its names are in their places
 abbrev pub then_added : Reading → Draft → Result Spoken Rule → Result Reading Rule
@@ -37,21 +37,22 @@ regroup : (p : PlanValue) (x : Reading) (d : Draft) (o : Option Said) → (ok_or
 regroup p x d None = refl
 regroup p x d (Some said) = refl
 
-pub statement_taken : (p : PlanValue) (x : Reading) (d : Draft) (k : Keyword) (ps : List Piece) (sc : Scope) → IsStatement k → x.open_session ≡ Some d → sc ≡ scope_in p d → take_after p x k ps ≡ then_added x d (spoken_after sc k ps)
+statement_taken : (p : PlanValue) (x : Reading) (d : Draft) (k : Keyword) (ps : List Piece) (sc : Scope) → IsStatement k → x.open_session ≡ Some d → sc ≡ scope_in p d → take_after p x k ps ≡ then_added x d (spoken_after sc k ps)
 statement_taken p x d k ps sc is h e = by_keyword p x d k ps is h ∙ regroup p x d (said_after k ps) ∙ ap (λ s. then_added x d (spoken_after s k ps)) (sym e)
 
--- a statement that is refused, and one that is added
-module _ (x : Reading) (d : Draft) (told : Result Spoken Rule) (all : Result Reading Rule) (is : all ≡ then_added x d told) (after : Reading) where
-  pub not_spoken : {A : Type 0} (e : Stop) (view : A → Spoken) → Tells view (Err e) told → Leaves {X = Unit {0}} (Err e) after all
-  not_spoken Memory view h = tt
-  not_spoken (Refused rule) view h = is ∙ ap (then_added x d) h
+regrouped : (x : Reading) (d : Draft) (told : Result Spoken Rule) → then_added x d told ≡ ((told >>= add d) >>= λ next. Ok (with_open x next))
+regrouped x d (Ok s) = refl
+regrouped x d (Err rule) = refl
 
-  pub not_added : {A : Type 0} (e : Stop) (view : A → Draft) (s : Spoken) → told ≡ Ok s → Tells view (Err e) (add d s) → Leaves {X = Unit {0}} (Err e) after all
-  not_added Memory view s h k = tt
-  not_added (Refused rule) view s h k = is ∙ ap (then_added x d) h ∙ ap (λ o. o >>= λ next. Ok (with_open x next)) k
+-- what a statement leaves of the open session is open then, and what is told of it is told
+module _ (p : PlanValue) (x : Reading) (d : Draft) (k : Keyword) (ps : List Piece) (is : IsStatement k) (h : x.open_session ≡ Some d) where
+  all : take_after p x k ps ≡ (with_statement p d k ps >>= λ next. Ok (with_open x next))
+  all = statement_taken p x d k ps (scope_in p d) is h refl ∙ regrouped x d (spoken_after (scope_in p d) k ps)
 
-  pub spoken_added : (s : Spoken) (next : Draft) → told ≡ Ok s → add d s ≡ Ok next → all ≡ Ok (with_open x next)
-  spoken_added s next h k = is ∙ ap (then_added x d) h ∙ ap (λ o. o >>= λ y. Ok (with_open x y)) k
+  pub left_open : (r : Result (Unit {0}) Stop) (next : Draft) → Leaves r next (with_statement p d k ps) → Leaves r (with_open x next) (take_after p x k ps)
+  left_open (Ok u) next l = all ∙ ap (λ o. o >>= λ y. Ok (with_open x y)) l
+  left_open (Err Memory) next l = tt
+  left_open (Err (Refused rule)) next l = all ∙ ap (λ o. o >>= λ y. Ok (with_open x y)) l
 
 -- a line that begins with a word
 pub line_taken : (p : PlanValue) (x : Reading) (line w : List ℕ) (k : Keyword) (ps : List Piece) (r : Result (Unit {0}) Stop) (after : Reading) → pieces_of line ≡ AWord w ∷ ps → k ≡ keyword_of w → Leaves r after (take_after p x k ps) → Leaves r after (take_line p x line)

@@ -9,15 +9,29 @@ use Rattle.session_language.specs.declared.fault.Stop.TheVariants.{Memory, Refus
 use Rattle.session_language.specs.declared.fault.Refusal.{Refusal}
 use Rattle.session_language.specs.declared.fault.LangFault.{LangFault}
 use Rattle.session_language.specs.declared.fault.LangFault.TheVariants as faults
+use Rattle.session_language.specs.Tree.{Command}
+use Rattle.office_map.specs.PlanValue.{PlanValue}
+use Rattle.office_map.specs.PlanText.{◌>>=◌}
+use Rattle.session_language.specs.declared.keyword.Keyword.{Keyword}
+use Rattle.session_language.specs.Lexer.{Piece}
+use Rattle.session_language.specs.Spoken.{spoken_after}
 use Rattle.session_language.specs.Shape.{command_of}
 use Rattle.session_language.specs.Needs.{with_record, term_needs, test_needs}
-use Rattle.session_language.specs.Reading.{Draft, Reading, Spoken, SpeaksLet, SpeaksSet, SpeaksGive, SpeaksDemand}
+use Rattle.session_language.specs.Reading.{Draft, Reading, Spoken, scope_in, add, SpeaksLet, SpeaksSet, SpeaksGive, SpeaksDemand}
+
+-- the parts of a session that is open
+abbrev pub parts : ℕ → List (List ℕ) → List Command → Draft
+parts office variables body = record { office = office; variables = variables; body = body }
 
 abbrev pub draft_of : code_draft.Draft → Draft
-draft_of d = record { office = d.office; variables = map string_bytes d.variables.items; body = map command_of d.statements.items }
+draft_of d = parts d.office (map string_bytes d.variables.items) (map command_of d.statements.items)
 
 abbrev pub reading_of : code_reader.Reader → Reading
 reading_of r = record { done = r.done.items; open_session = option_map draft_of r.open_session }
+
+-- an open session with the statement after a keyword
+abbrev pub with_statement : PlanValue → Draft → Keyword → List Piece → Result Draft Rule
+with_statement p d k ps = spoken_after (scope_in p d) k ps >>= add d
 
 -- the records of one more statement
 abbrev pub spoken_needs : Spoken → List ℕ → List ℕ

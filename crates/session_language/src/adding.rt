@@ -1,11 +1,12 @@
 //! Statements that are added to an open session.
 
-ghost use Rattle.std.specs.Prelude.{◌≡◌, ◌≤◌, IfOk, [], map, vec_len, OnOk};
+ghost use Rattle.std.specs.Prelude.{◌≡◌, ◌≤◌, ℕ, IfOk, [], ◌∷◌, ◌++◌, map, vec_len, OnOk};
 ghost use Rattle.std.specs.String.{string_bytes};
-ghost use Rattle.session_language.specs.Shape.{command_of};
-ghost use Rattle.session_language.specs.Spoken.{Tells, seen_spoken};
-ghost use Rattle.session_language.specs.Drafts.{draft_of};
+ghost use Rattle.session_language.specs.Shape.{command_of, block_of};
+ghost use Rattle.session_language.specs.Spoken.{seen_spoken};
+ghost use Rattle.session_language.specs.Drafts.{parts, draft_of, Leaves};
 ghost use Rattle.session_language.specs.Reading.{begun, add, place_of, with_variable, variables_after, command_in};
+ghost use Rattle.session_language.specs.Needs.{needs_of};
 ghost use Rattle.session_language.specs.WellFormed.{IsSpokenOver};
 
 use crate::draft::Draft;
@@ -14,7 +15,7 @@ use crate::names::position_of;
 use crate::needs::add_needs;
 use crate::spoken::Spoken;
 use crate::tree::Statement;
-use office_map::ids::OfficeId;
+use office_map::ids::{OfficeId, RecordId};
 use std::alloc::{AllocError, Global};
 
 /// The most records that a session may name.
@@ -36,33 +37,55 @@ impl Draft {
         }
     }
 
-    /// The session with one more statement, if it stays within its limits.
-    pub fn add(self, alloc: Global, spoken: Spoken<'_>) -> Result<Draft, Stop>
-        requires { IsSpokenOver (vec_len self.variables) (seen_spoken spoken) }
-        ensures { Tells draft_of result (add (draft_of self) (seen_spoken spoken.entry)) }
+    #[tactic(auto, using(crate::proofs::Keeping::nothing_declared))]
+    /// Adds a statement, if the session stays within its limits. Where it is refused, nothing is left of the session.
+    pub fn add(&mut self, alloc: Global, spoken: Spoken<'_>) -> Result<(), Stop>
+        requires { IsSpokenOver (vec_len self.old.variables) (seen_spoken spoken) }
+        ensures { Leaves result (draft_of self.new) (add (draft_of self.old) (seen_spoken spoken.entry)) }
     {
-        let Draft {
-            office,
-            mut variables,
-            mut needs,
-            mut statements,
-        } = self;
-        add_needs(&mut needs, &spoken)?;
-        let statement = place(alloc, &mut variables, spoken)?;
-        statements.push(statement)?;
-        if needs.len() > MOST_RECORDS {
-            return Err(Stop::Refused(Rule::TooManyRecords));
+        let added = add_to(
+            alloc,
+            &mut self.variables,
+            &mut self.needs,
+            &mut self.statements,
+            spoken,
+        );
+        if let Err(stop) = added {
+            self.variables.clear();
+            self.needs.clear();
+            self.statements.clear();
+            return Err(stop);
         }
-        if variables.len() > MOST_VARIABLES {
-            return Err(Stop::Refused(Rule::TooManyVariables));
-        }
-        Ok(Draft {
-            office,
-            variables,
-            needs,
-            statements,
-        })
+        Ok(())
     }
+}
+
+/// Adds a statement to the parts of a session.
+fn add_to(
+    alloc: Global,
+    variables: &mut Vec<String>,
+    needs: &mut Vec<RecordId>,
+    statements: &mut Vec<Statement>,
+    spoken: Spoken<'_>,
+) -> Result<(), Stop>
+    requires few { vec_len variables.old ≤ 32 }
+    requires needed { needs.old.items ≡ needs_of (block_of statements.old.items) }
+    ensures told { (office : ℕ) → Leaves result (parts office (map string_bytes variables.new.items) (map command_of statements.new.items)) (add (parts office (map string_bytes variables.old.items) (map command_of statements.old.items)) (seen_spoken spoken.entry)) }
+    ensures limits { OnOk result ((vec_len variables.new ≤ 32) × (vec_len needs.new ≤ 16)) }
+    ensures needed { OnOk result (needs.new.items ≡ needs_of (block_of statements.new.items)) }
+    ensures variables { OnOk result (map string_bytes variables.new.items ≡ variables_after (map string_bytes variables.old.items) (seen_spoken spoken.entry)) }
+    ensures statements { OnOk result (map command_of statements.new.items ≡ map command_of statements.old.items ++ command_in (map string_bytes variables.new.items) (seen_spoken spoken.entry) ∷ []) }
+{
+    add_needs(needs, &spoken)?;
+    let statement = place(alloc, variables, spoken)?;
+    statements.push(statement)?;
+    if needs.len() > MOST_RECORDS {
+        return Err(Stop::Refused(Rule::TooManyRecords));
+    }
+    if variables.len() > MOST_VARIABLES {
+        return Err(Stop::Refused(Rule::TooManyVariables));
+    }
+    Ok(())
 }
 
 /// The statement with its variable in its place, which is new where it was not there.

@@ -5,9 +5,10 @@ ghost use Rattle.std.specs.Option.{option_copied};
 ghost use Rattle.office_map.specs.PlanValue.{PlanValue};
 ghost use Rattle.session_language.specs.Lexer.{pieces_of};
 ghost use Rattle.session_language.specs.Form.{name_alone, IsStatement};
-ghost use Rattle.session_language.specs.Drafts.{reading_of, Leaves};
+ghost use Rattle.session_language.specs.Drafts.{draft_of, reading_of, Leaves, with_statement};
 ghost use Rattle.session_language.specs.Reading.{take_line, take_after};
 
+use crate::builder::Builder;
 use crate::draft::Draft;
 use crate::fault::{Rule, Stop};
 use crate::keyword::{Keyword, keyword_of};
@@ -82,17 +83,10 @@ impl Reader {
         requires { IsStatement keyword }
         ensures { Leaves result (reading_of self.new) (take_after plan.now (reading_of self.old) keyword (pieces_of pieces.entry.rest.now)) }
     {
-        let Some(draft) = mem::replace(&mut self.open_session, None) else {
-            return Err(Stop::Refused(Rule::Syntax));
-        };
-        let scope = Scope {
-            plan,
-            office: draft.office,
-            variables: &draft.variables,
-        };
-        let spoken = self.builder.speak(alloc, &scope, keyword, pieces)?;
-        self.open_session = Some(draft.add(alloc, spoken)?);
-        Ok(())
+        match &mut self.open_session {
+            Some(draft) => draft.take(alloc, &mut self.builder, plan, keyword, pieces),
+            None => Err(Stop::Refused(Rule::Syntax)),
+        }
     }
 
     fn take_closing(&mut self, alloc: Global, pieces: Pieces<'_>) -> Result<(), Stop>
@@ -108,6 +102,28 @@ impl Reader {
         let program = draft.close(alloc)?;
         self.done.push(program)?;
         Ok(())
+    }
+}
+
+impl Draft {
+    /// Takes the statement after a keyword.
+    fn take(
+        &mut self,
+        alloc: Global,
+        builder: &mut Builder,
+        plan: &Plan,
+        keyword: Keyword,
+        pieces: Pieces<'_>,
+    ) -> Result<(), Stop>
+        ensures { Leaves result (draft_of self.new) (with_statement plan.now (draft_of self.old) keyword (pieces_of pieces.entry.rest.now)) }
+    {
+        let scope = Scope {
+            plan,
+            office: self.office,
+            variables: &self.variables,
+        };
+        let spoken = builder.speak(alloc, &scope, keyword, pieces)?;
+        self.add(alloc, spoken)
     }
 }
 
