@@ -9,3 +9,5 @@ pub mod Ranges
 pub mod Positions
 pub mod Accepted
 pub mod Consistent
+pub mod Orders
+pub mod Circles

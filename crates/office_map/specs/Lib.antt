@@ -2,4 +2,5 @@ pub mod Text
 pub mod Address
 pub mod PlanValue
 pub mod PlanText
+pub mod Precedence
 pub mod Consistency

@@ -28,8 +28,11 @@ pub mod laws;
 mod line;
 mod new_entries;
 pub mod plan;
+mod precedence;
 mod read;
 mod records;
+pub mod ring;
+mod ring_search;
 pub mod statements;
 mod tables;
 #[cfg(test)]
@@ -40,3 +43,4 @@ mod word;
 pub use fault::{PlanFault, Refusal, Rule};
 pub use ids::{OfficeId, RecordId};
 pub use plan::Plan;
+pub use ring::Ring;

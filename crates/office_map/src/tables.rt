@@ -36,9 +36,9 @@ impl Model for Tables {
 }
 
 impl Tables {
-    ghost use Rattle.std.specs.Prelude.{◌≤◌, ◌⊎◌, find};
+    ghost use Rattle.std.specs.Prelude.{◌≤◌, ◌<◌, ◌⊎◌, find};
     ghost use Rattle.std.specs.Option.{option_copied};
-    ghost use Rattle.office_map.specs.PlanValue.{office_named, record_named, joins, are_neighbours, records_between, is_end, fork_end_of};
+    ghost use Rattle.office_map.specs.PlanValue.{office_named, office_name_of, record_named, joins, are_neighbours, records_between, is_end, fork_end_of};
     ghost use Rattle.office_map.specs.PlanText.{declare, at_line, Leaves, seen, is_address_taken, AnOffice, APair, ARecord};
     ghost use Rattle.office_map.specs.Consistency.{IsConsistent};
 
@@ -65,6 +65,20 @@ impl Tables {
         ensures consistent { IsConsistent self.now }
     {
         self.offices.as_slice()
+    }
+
+    pub fn office_name(&self, id: OfficeId) -> &str
+        requires { id < length self.now.offices }
+        ensures { office_name_of self.now id ≡ Some result.now }
+    {
+        self.offices[id.index()].name.as_str()
+    }
+
+    pub fn pairs(&self) -> &[PairEntry]
+        ensures all { result.now ≡ self.now.pairs }
+        ensures consistent { IsConsistent self.now }
+    {
+        self.pairs.as_slice()
     }
 
     pub fn records(&self) -> &[RecordEntry]
