@@ -85,7 +85,7 @@ at_its_line n last low high (Ok q) ok = ok
 at_its_line n last low high (Err rule) ok = (low, high)
 
 -- an empty plan
-empty : (run : ℕ) → IsConsistent (record { run = run; offices = []; pairs = []; records = [] })
+pub empty : (run : ℕ) → IsConsistent (record { run = run; offices = []; pairs = []; records = [] })
 empty run = record {
   offices_fit = omega arith;
   offices_are_named = λ k d lt. absurd (omega arith);

@@ -11,3 +11,4 @@ pub mod Accepted
 pub mod Consistent
 pub mod Orders
 pub mod Circles
+pub mod Counted

@@ -25,12 +25,13 @@ impl Model for Plan {
     ghost use Rattle.std.specs.Prelude.{◌≡◌};
     ghost use Rattle.office_map.specs.PlanValue.{PlanValue, index_of};
     ghost use Rattle.office_map.specs.Precedence.{IsLeastFirst};
+    ghost use Rattle.office_map.specs.Consistency.{IsComplete};
 
     ghost Value = { PlanValue };
 
     ghost view = { λ p. p.tables };
 
-    ghost invariant = { λ p. (p.index.items ≡ index_of p.tables) × IsLeastFirst p.tables p.order.items };
+    ghost invariant = { λ p. (p.index.items ≡ index_of p.tables) × IsLeastFirst p.tables p.order.items × IsComplete p.tables };
 }
 
 impl Plan {
@@ -91,6 +92,7 @@ impl Plan {
         ensures count { result ≡ length self.now.offices }
         ensures few { result ≤ 16 }
         ensures consistent { IsConsistent self.now }
+        ensures accepted { IsAccepted self.now }
     {
         self.tables.offices().len()
     }
@@ -109,6 +111,7 @@ impl Plan {
         ensures all { result.now ≡ neighbours_of self.now id }
         ensures each { All (λ other. IsTrue (are_neighbours self.now id other)) result.now }
         ensures offices { All (λ other. other < length self.now.offices) result.now }
+        ensures consistent { IsConsistent self.now }
     {
         self.index[id.index()].neighbours()
     }

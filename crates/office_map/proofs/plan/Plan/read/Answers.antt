@@ -16,3 +16,6 @@ returns-clause-accepted c =
       two_offices = complete.1;
       no_ring = record { order = c.in_ok-order.order.items; is = c.in_ok-order.ensures.is_order };
     }
+
+pub invariant_of-result : goal.invariant_of-result
+invariant_of-result c = (c.in_ok-index.ensures, (c.in_ok-order.ensures, complete_plan c.args.text.now c.in_ok-tables.tables c.in_ok-tables.ensures))
