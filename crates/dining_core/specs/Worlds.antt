@@ -1,6 +1,5 @@
 -- All offices of a plan at their tables with the forks on the way, and who precedes whom.
 use Rattle.std.specs.Prelude.{◌≡◌, ℕ, ◌+◌, Bool, true, false, not, ◌==◌, nat_lt, ◌&&◌, ◌||◌, List, [], ◌∷◌, ◌++◌, length, filter, if◌then◌else◌}
-use Rattle.std.specs.List.{list_any}
 use Rattle.office_map.specs.PlanValue.{PlanValue, are_neighbours, neighbours_of}
 use Rattle.office_map.specs.Precedence.{num, times, comes_before}
 use Rattle.office_map.specs.Precedence as plans

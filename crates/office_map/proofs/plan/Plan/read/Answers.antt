@@ -18,4 +18,4 @@ returns-clause-accepted c =
     }
 
 pub invariant_of-result : goal.invariant_of-result
-invariant_of-result c = (c.in_ok-index.ensures, (c.in_ok-order.ensures, complete_plan c.args.text.now c.in_ok-tables.tables c.in_ok-tables.ensures))
+invariant_of-result c = (c.in_ok-index.ensures, c.in_ok-order.ensures, complete_plan c.args.text.now c.in_ok-tables.tables c.in_ok-tables.ensures)
