@@ -4,13 +4,14 @@ use Rattle.office_map.specs.PlanValue.{PlanValue}
 use Rattle.office_map.specs.PlanText.{plan_of}
 use Rattle.drink.specs.declared.input.Input.TheVariants as inputs
 use Rattle.drink.specs.declared.fault.Fault.{Fault}
-use Rattle.drink.specs.declared.fault.Fault.TheVariants.{Memory, Plan, Sessions, Script, TwoOffices, ReadFailed, WriteFailed}
+use Rattle.drink.specs.declared.fault.Fault.TheVariants.{Memory, Plan, Ring, Sessions, Script, TwoOffices, ReadFailed, WriteFailed}
 use Rattle.drink.specs.Fault.{IsFaultOf}
 use Rattle.drink.specs.Texts.{IsPlan, JudgesPlan}
 
 judged : (text : List ℕ) (f : Fault) → IsFaultOf inputs.Sessions f → IsPlan text → JudgesPlan text f
 judged text Memory h p = tt
 judged text (Plan r) h p = (cc)
+judged text (Ring r) h p = (cc)
 judged text (Sessions r) h p = p
 judged text (Script r) h p = (cc)
 judged text TwoOffices h p = h

@@ -77,7 +77,7 @@ impl Plan {
     pub fn order(&self, alloc: Global) -> Result<Vec<OfficeId>, AllocError>
         ensures { IfOk result (λ v. IsLeastFirst self.now v.items) }
     {
-        Vec::from_slice(alloc, &self.order)
+        Vec::from_slice(alloc, self.order.as_slice())
     }
 
     /// The run's number, which stands in every frame.
