@@ -4,7 +4,8 @@ use Rattle.std.specs.Prelude.{◌==◌, filter}
 use Rattle.std.specs.List.{list_any, list_all, range_with_len}
 use Rattle.std.proofs.lemmas.Bool.{eqb-true, eq-eqb, ne_eqb, and_parts, and_from, or_cases, or_left, or_right, cases_eq}
 use Rattle.std.proofs.lemmas.List.FromFn.{get_or-range_with_len, length-range_with_len}
-use Rattle.dining_core.specs.Worlds.{num, times, comes_before, with_last}
+use Rattle.office_map.specs.Precedence.{num, times, comes_before}
+use Rattle.dining_core.specs.Worlds.{with_last}
 
 -- an element is kept, or is the one that is put last
 kept_or_not : (P : List ℕ → Type 0) (a x : ℕ) (ys : List ℕ) → (x ≡ a → P ys) → ((x ≡ a → ⊥) → P (x ∷ ys)) → P (cond (not (x == a)) (x ∷ ys) ys)

@@ -3,12 +3,14 @@ use Rattle.std.proofs.Common.{◌≡◌, ℕ, ◌+◌, ◌<◌, Bool, true, fals
 use Rattle.std.specs.Prelude.{◌==◌, nat_lt, find, option_map}
 use Rattle.std.specs.Option.{option_map_or}
 use Rattle.std.specs.List.{list_any, list_all}
-use Rattle.std.proofs.lemmas.Bool.{cond_both, eqb-true, eq-eqb, ne_eqb, and_parts, cases_eq, ltb-true, lt-ltb, or_cases}
+use Rattle.std.proofs.lemmas.Bool.{cond_both, eqb-true, eq-eqb, ne_eqb, and_parts, and_from, or_left, or_right, cases_eq, ltb-true, lt-ltb, or_cases}
 use Rattle.office_map.specs.declared.entries.PairEntry.{PairEntry}
 use Rattle.office_map.specs.PlanValue.{PlanValue, joins, are_neighbours, neighbours_of, fork_end}
-use Rattle.office_map.specs.Consistency.{IsConsistent}
+use Rattle.office_map.specs.Precedence.{num, times, comes_before, other_end, starts_before}
+use Rattle.office_map.specs.Precedence as plans
+use Rattle.office_map.specs.Consistency.{IsConsistent, IsAccepted}
 use Rattle.dining_core.specs.Diners.{Diner, Rule, BecomeHungry, AskFork, GiveFork, Eat, Leave, is_eating, may, act, with_token, with_fork, put, fork_starts_at}
-use Rattle.dining_core.specs.Worlds.{World, times, Event, Do, TokenComes, ForkComes, opening, with_way, way_after, happens, run, num, precedes, IsLaid, IsOrder, HasNoRing, eats, comes_before, with_last}
+use Rattle.dining_core.specs.Worlds.{World, Event, Do, TokenComes, ForkComes, opening, with_way, way_after, happens, run, precedes, IsLaid, IsOrder, HasNoRing, eats, with_last}
 use Rattle.dining_core.proofs.Opened.{near_within}
 use Rattle.dining_core.proofs.Steps.{put_cases, put_same, way_from, way_else, way_other, one_changed, neighbours_apart, ahead, places_between, only_first, only_last, gave_ahead, gave_behind, gave_places, came_ahead, came_behind, came_places}
 use Rattle.dining_core.proofs.Orders.{times_of_last, times_of_other, counted_among, others_stay, before_last, of_each}
@@ -326,3 +328,34 @@ each_fork_has_one_place plan es h = run_laid plan (opening plan) es h (opening_l
 
 pub never_a_ring : (plan : PlanValue) (es : List Event) → IsConsistent plan → HasNoRing plan (opening plan) → HasNoRing plan (run plan (opening plan) es)
 never_a_ring plan es h r = run_ring plan (opening plan) es h (opening_laid plan h) r
+
+-- ---- from a plan
+
+-- of two neighbours, the other end is the one without the fork
+other_is : (pair : PairEntry) (u v : ℕ) (b : Bool) → joins v u pair ≡ true → (cond b pair.first pair.second == v) ≡ true → (cond b pair.second pair.first == u) ≡ true
+other_is pair u v true j f = ⊎_elim
+    (λ s. (and_parts (pair.first == v) (pair.second == u) s).1)
+    (λ s. let e = and_parts (pair.first == u) (pair.second == v) s in eq-eqb pair.second u (eqb-true pair.second v e.1 ∙ sym (eqb-true pair.first v f) ∙ eqb-true pair.first u e.0))
+    (or_cases (pair.first == v && pair.second == u) (pair.first == u && pair.second == v) j)
+other_is pair u v false j f = ⊎_elim
+    (λ s. let e = and_parts (pair.first == v) (pair.second == u) s in eq-eqb pair.first u (eqb-true pair.first v e.0 ∙ sym (eqb-true pair.second v f) ∙ eqb-true pair.second u e.1))
+    (λ s. (and_parts (pair.first == u) (pair.second == v) s).0)
+    (or_cases (pair.first == v && pair.second == u) (pair.first == u && pair.second == v) j)
+
+before_at_start : (pairs : List PairEntry) (u v : ℕ) → option_map_or (λ z. z == v) (option_map fork_end (find (joins v u) pairs)) false ≡ true → list_any (λ pair. other_end pair == u && fork_end pair == v) pairs ≡ true
+before_at_start [] u v h = cc
+before_at_start (x ∷ xs) u v h = go (joins v u x) (λ e. e) (before_at_start xs u v) h
+  where
+    go : (b : Bool) → (b ≡ true → joins v u x ≡ true) → (option_map_or (λ z. z == v) (option_map fork_end (find (joins v u) xs)) false ≡ true → list_any (λ pair. other_end pair == u && fork_end pair == v) xs ≡ true) → option_map_or (λ z. z == v) (option_map fork_end (cond b (Some x) (find (joins v u) xs))) false ≡ true
+        → ((other_end x == u && fork_end x == v) || list_any (λ pair. other_end pair == u && fork_end pair == v) xs) ≡ true
+    go true j r e = or_left (other_end x == u && fork_end x == v) (list_any (λ pair. other_end pair == u && fork_end pair == v) xs) (and_from (other_end x == u) (fork_end x == v) (other_is x u v x.fork_at_first (j refl) e) e)
+    go false j r e = or_right (other_end x == u && fork_end x == v) (list_any (λ pair. other_end pair == u && fork_end pair == v) xs) (r e)
+
+pub starts_in_order : (plan : PlanValue) (order : List ℕ) → plans.IsOrder plan order → IsOrder plan (opening plan) order
+starts_in_order plan order is = record {
+  once = is.once;
+  earlier = λ u v near h. is.earlier u v (before_at_start plan.pairs u v (sym (starts_dirty plan u v near) ∙ h));
+}
+
+pub no_ring_from_plan : (plan : PlanValue) (es : List Event) → IsAccepted plan → HasNoRing plan (run plan (opening plan) es)
+no_ring_from_plan plan es a = never_a_ring plan es a.consistent (record { order = a.no_ring.order; is = starts_in_order plan a.no_ring.order a.no_ring.is })

@@ -8,7 +8,8 @@ use Rattle.office_map.specs.declared.entries.PairEntry.{PairEntry}
 use Rattle.office_map.specs.PlanValue.{PlanValue, joins, are_neighbours}
 use Rattle.office_map.specs.Consistency.{IsConsistent}
 use Rattle.dining_core.specs.Diners.{Diner, put}
-use Rattle.dining_core.specs.Worlds.{with_way, num}
+use Rattle.office_map.specs.Precedence.{num}
+use Rattle.dining_core.specs.Worlds.{with_way}
 
 pub put_cases : {X : Type 0} (f : ℕ → X) (k : ℕ) (x : X) (j : ℕ) (P : X → Type 0) → (j ≡ k → P x) → ((j ≡ k → ⊥) → P (f j)) → P (put f k x j)
 put_cases f k x j P there away = cond_both (j == k) x (f j) P (λ e. there (eqb-true j k e)) (λ e. away (eqb-false j k e))

@@ -1,8 +1,9 @@
 -- All offices of a plan at their tables with the forks on the way, and who precedes whom.
 use Rattle.std.specs.Prelude.{◌≡◌, ℕ, ◌+◌, Bool, true, false, not, ◌==◌, nat_lt, ◌&&◌, ◌||◌, List, [], ◌∷◌, ◌++◌, length, filter, if◌then◌else◌}
-use Rattle.std.specs.List.{list_any}
 use Rattle.office_map.specs.PlanValue.{PlanValue, are_neighbours, neighbours_of}
-use Rattle.office_map.specs.Consistency.{IsConsistent}
+use Rattle.office_map.specs.Precedence.{num, times, comes_before}
+use Rattle.office_map.specs.Precedence as plans
+use Rattle.office_map.specs.Consistency.{IsConsistent, IsAccepted}
 use Rattle.dining_core.specs.Diners.{Diner, Rule, BecomeHungry, AskFork, GiveFork, Eat, Leave, may, act, with_token, with_fork, put, fork_starts_at, seated}
 
 -- each office, and whether an office sent the fork to another, who hasn't taken it
@@ -55,10 +56,6 @@ precedes w u v =
     || w.on_way v u)
 
 -- at how many places the fork of two offices is
-abbrev pub num : Bool → ℕ
-num true = 1
-num false = 0
-
 abbrev pub fork_places : World → ℕ → ℕ → ℕ
 fork_places w u v = num ((w.diner u).held v) + (num ((w.diner v).held u) + (num (w.on_way u v) + num (w.on_way v u)))
 
@@ -66,16 +63,6 @@ fork_places w u v = num ((w.diner u).held v) + (num ((w.diner v).held u) + (num 
 pub record IsLaid (plan : PlanValue) (w : World) : Type 0 where
   pub neighbours : (a : ℕ) → (w.diner a).neighbours ≡ neighbours_of plan a
   pub one_fork : (u v : ℕ) → are_neighbours plan u v ≡ true → fork_places w u v ≡ 1
-
--- u stands in the list, and v behind it
-abbrev pub comes_before : List ℕ → ℕ → ℕ → Bool
-comes_before [] u v = false
-comes_before (x ∷ xs) u v = (x == u && list_any (λ y. y == v) xs) || comes_before xs u v
-
--- how often it stands in the list
-abbrev pub times : ℕ → List ℕ → ℕ
-times a [] = 0
-times a (x ∷ xs) = num (x == a) + times a xs
 
 -- all offices, each once, in which of two neighbours the one that precedes comes earlier
 pub record IsOrder (plan : PlanValue) (w : World) (order : List ℕ) : Type 0 where
@@ -118,6 +105,14 @@ OnlyEatingTurns = (plan : PlanValue) (w : World) (e : Event) (u v : ℕ) → IsC
 abbrev pub TheEaterComesLast : Type 0
 TheEaterComesLast = (plan : PlanValue) (w : World) (a : ℕ) (order : List ℕ) → IsConsistent plan → IsLaid plan w → eats plan w (Do a Eat) ≡ true →
     IsOrder plan w order → IsOrder plan (happens plan w (Do a Eat)) (with_last a order)
+
+-- an order in which the plan's offices precede one another is one of the world at the start
+abbrev pub StartsInThePlansOrder : Type 0
+StartsInThePlansOrder = (plan : PlanValue) (order : List ℕ) → plans.IsOrder plan order → IsOrder plan (opening plan) order
+
+-- from every accepted plan, over every list of events, precedence has no ring
+abbrev pub NoRingFromAnAcceptedPlan : Type 0
+NoRingFromAnAcceptedPlan = (plan : PlanValue) (events : List Event) → IsAccepted plan → HasNoRing plan (run plan (opening plan) events)
 
 -- where precedence has no ring at the start, it never has one
 abbrev pub NeverARing : Type 0

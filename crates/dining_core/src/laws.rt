@@ -1,6 +1,6 @@
 //! Laws of all tables and the forks on the way.
 
-ghost use Rattle.dining_core.specs.Worlds.{EachForkHasOnePlace, ForksStartDirty, OnlyEatingTurns, TheEaterComesLast, NeverARing};
+ghost use Rattle.dining_core.specs.Worlds.{EachForkHasOnePlace, ForksStartDirty, OnlyEatingTurns, TheEaterComesLast, NeverARing, StartsInThePlansOrder, NoRingFromAnAcceptedPlan};
 
 /// After every list of events the fork of two neighbours is at one of them, or on the way.
 pub fn each_fork_has_one_place()
@@ -25,4 +25,14 @@ pub fn the_eater_comes_last()
 /// Where precedence has no ring at the start, no event makes one.
 pub fn never_a_ring()
     ensures { NeverARing }
+{}
+
+/// In an order of the plan's offices these precede one another at the start.
+pub fn starts_in_the_plans_order()
+    ensures { StartsInThePlansOrder }
+{}
+
+/// From every plan that is accepted, after every list of events, precedence has no ring.
+pub fn no_ring_from_an_accepted_plan()
+    ensures { NoRingFromAnAcceptedPlan }
 {}

@@ -38,8 +38,6 @@ impl Table {
         requires { id < length plan.now.offices }
         ensures { IfOk result (λ t. diner_of t ≡ seated plan.now id) }
     {
-        // The plan is consistent, so that neighbours are offices.
-        let _ = plan.offices();
         let neighbours = plan.neighbours(id).to_vec(alloc)?;
         let places = places::open(alloc, plan, id)?;
         Ok(Table {

@@ -1,5 +1,5 @@
 -- A text that is cut one byte past its limit means what the whole text means.
-use Rattle.std.proofs.Common.{◌≡◌, ◌+◌, ◌≤◌, ◌<◌, ℕ, min, List, length, take, take_all, Option, Some, None, IfSome, true, false, nat_lt, Err, refl, sym, ap, ◌∙◌, arith}
+use Rattle.std.proofs.Common.{◌≡◌, ◌+◌, ◌≤◌, ◌<◌, ℕ, min, List, length, take, take_all, Option, Some, None, IfSome, true, false, nat_lt, Err, refl, sym, subst, ap, ◌∙◌, arith}
 use Rattle.std.proofs.lemmas.Bool.Decides.{nat_tests}
 use Rattle.std.proofs.lemmas.List.{length-take}
 use Rattle.office_map.specs.PlanValue.{PlanValue}
@@ -42,3 +42,9 @@ pub kept : {X : Type 0} (f : List ℕ → X) (limit : ℕ) → ((text : List ℕ
     → n ≡ limit → w ≡ v → f w ≡ r → IfSome known (λ text. v ≡ take n text) → IfSome known (λ text. f text ≡ r)
 kept f limit same None n v w r en ew er h = tt
 kept f limit same (Some text) n v w r en ew er h = sym (same text) ∙ ap (λ k. f (take k text)) (sym en) ∙ ap f (sym h) ∙ ap f (sym ew) ∙ er
+
+-- and a fact of what it means
+pub fact_kept : {X : Type 0} (P : X → Type 0) (f : List ℕ → X) (limit : ℕ) → ((text : List ℕ) → f (take limit text) ≡ f text) → (known : Option (List ℕ)) (n : ℕ) (v w : List ℕ)
+    → n ≡ limit → w ≡ v → P (f w) → IfSome known (λ text. v ≡ take n text) → IfSome known (λ text. P (f text))
+fact_kept P f limit same None n v w en ew fact h = tt
+fact_kept P f limit same (Some text) n v w en ew fact h = subst P (ap f ew ∙ ap f h ∙ ap (λ k. f (take k text)) en ∙ same text) fact

@@ -1,7 +1,7 @@
 -- What the texts of the inputs mean, and what a fault says of them.
 use Rattle.std.specs.Prelude.{◌≡◌, List, ℕ, Bool, true, false, Ok, Err}
 use Rattle.office_map.specs.PlanValue.{PlanValue}
-use Rattle.office_map.specs.PlanText.{plan_of}
+use Rattle.office_map.specs.PlanText.{plan_of, HasRing}
 use Rattle.session_language.specs.ProgramValue.{ProgramValue}
 use Rattle.session_language.specs.Reading.{sessions_of}
 use Rattle.world_schedule.specs.declared.event.WorldEvent.{WorldEvent}
@@ -10,7 +10,7 @@ use Rattle.drink.specs.Script.{IsScript, RefusesScript}
 use Rattle.drink.specs.Transcript.{is_of_one_pair}
 use Rattle.drink.specs.declared.input.Input.TheVariants as inputs
 use Rattle.drink.specs.declared.fault.Fault.{Fault}
-use Rattle.drink.specs.declared.fault.Fault.TheVariants.{Memory, Plan, Sessions, Script, TwoOffices, ReadFailed, WriteFailed}
+use Rattle.drink.specs.declared.fault.Fault.TheVariants.{Memory, Plan, Ring, Sessions, Script, TwoOffices, ReadFailed, WriteFailed}
 
 abbrev pub IsPlan : List ℕ → Type 0
 IsPlan text = (p : PlanValue) × (plan_of text ≡ Ok p)
@@ -24,6 +24,7 @@ AreSessions plan sessions = (p : PlanValue) × (programs : List ProgramValue) ×
 abbrev pub JudgesPlan : List ℕ → Fault → Type 0
 JudgesPlan plan Memory = Unit {0}
 JudgesPlan plan (Plan r) = plan_of plan ≡ Err r
+JudgesPlan plan (Ring r) = HasRing r (plan_of plan)
 JudgesPlan plan (Sessions r) = IsPlan plan
 JudgesPlan plan (Script r) = ⊥
 JudgesPlan plan TwoOffices = ⊥
@@ -40,6 +41,7 @@ IsPlanOfOnePair text b = (p : PlanValue) × (plan_of text ≡ Ok p) × (is_of_on
 abbrev pub JudgesPlanOfOnePair : List ℕ → Fault → Type 0
 JudgesPlanOfOnePair plan Memory = Unit {0}
 JudgesPlanOfOnePair plan (Plan r) = plan_of plan ≡ Err r
+JudgesPlanOfOnePair plan (Ring r) = HasRing r (plan_of plan)
 JudgesPlanOfOnePair plan (Sessions r) = IsPlanOfOnePair plan true
 JudgesPlanOfOnePair plan (Script r) = IsPlanOfOnePair plan true
 JudgesPlanOfOnePair plan TwoOffices = IsPlanOfOnePair plan false
@@ -52,6 +54,7 @@ JudgesPlanOfOnePair plan WriteFailed = IsPlanOfOnePair plan true
 abbrev pub JudgesSessions : List ℕ → List ℕ → Fault → Type 0
 JudgesSessions plan sessions Memory = Unit {0}
 JudgesSessions plan sessions (Plan r) = Unit {0}
+JudgesSessions plan sessions (Ring r) = Unit {0}
 JudgesSessions plan sessions (Sessions r) = (p : PlanValue) × (plan_of plan ≡ Ok p) × (sessions_of p sessions ≡ Err r)
 JudgesSessions plan sessions (Script r) = AreSessions plan sessions
 JudgesSessions plan sessions TwoOffices = Unit {0}
@@ -75,6 +78,7 @@ IsRefusedScript plan sessions script r =
 abbrev pub JudgesScript : List ℕ → List ℕ → List ℕ → Fault → Type 0
 JudgesScript plan sessions script Memory = Unit {0}
 JudgesScript plan sessions script (Plan r) = Unit {0}
+JudgesScript plan sessions script (Ring r) = Unit {0}
 JudgesScript plan sessions script (Sessions r) = Unit {0}
 JudgesScript plan sessions script (Script r) = IsRefusedScript plan sessions script r
 JudgesScript plan sessions script TwoOffices = Unit {0}
@@ -85,6 +89,7 @@ JudgesScript plan sessions script WriteFailed = AreEventsOf plan sessions script
 abbrev pub RefusesPlan : List ℕ → Fault → Type 0
 RefusesPlan plan Memory = Unit {0}
 RefusesPlan plan (Plan r) = plan_of plan ≡ Err r
+RefusesPlan plan (Ring r) = HasRing r (plan_of plan)
 RefusesPlan plan (Sessions r) = Unit {0}
 RefusesPlan plan (Script r) = Unit {0}
 RefusesPlan plan TwoOffices = Unit {0}
@@ -95,6 +100,7 @@ RefusesPlan plan WriteFailed = Unit {0}
 abbrev pub RefusesSessions : PlanValue → List ℕ → Fault → Type 0
 RefusesSessions p sessions Memory = Unit {0}
 RefusesSessions p sessions (Plan r) = Unit {0}
+RefusesSessions p sessions (Ring r) = Unit {0}
 RefusesSessions p sessions (Sessions r) = sessions_of p sessions ≡ Err r
 RefusesSessions p sessions (Script r) = Unit {0}
 RefusesSessions p sessions TwoOffices = Unit {0}
@@ -105,6 +111,7 @@ RefusesSessions p sessions WriteFailed = Unit {0}
 abbrev pub RefusesEvents : PlanValue → List ProgramValue → List ℕ → Fault → Type 0
 RefusesEvents p programs script Memory = Unit {0}
 RefusesEvents p programs script (Plan r) = Unit {0}
+RefusesEvents p programs script (Ring r) = Unit {0}
 RefusesEvents p programs script (Sessions r) = Unit {0}
 RefusesEvents p programs script (Script r) = RefusesScript p programs script r
 RefusesEvents p programs script TwoOffices = Unit {0}

@@ -33,13 +33,16 @@ const FORMS: &str =
 
 /// Why a command fails. Its text doesn't name the input: the user has a name for it, and
 /// [`Fault::input`] says which input is meant.
-#[derive(Clone, Copy, Debug, PartialEq, Eq, Error)]
+#[derive(Debug, Drop, PartialEq, Eq, Error)]
 pub enum Fault {
     #[error("out of memory")]
     Memory,
     /// The text of the plan is refused.
     #[error("{0}")]
     Plan(office_map::fault::Refusal),
+    /// The plan's offices precede one another in a ring.
+    #[error("P8 Ring: {0} (each precedes the next, and the last the first)")]
+    Ring(office_map::ring::Ring),
     /// The text of the sessions is refused.
     #[error("{0}")]
     Sessions(session_language::fault::Refusal),
@@ -65,7 +68,7 @@ impl Fault {
         ensures { result ≡ input_of self.now }
     {
         match *self {
-            Fault::Plan(_) => Some(Input::Plan),
+            Fault::Plan(_) | Fault::Ring(_) => Some(Input::Plan),
             Fault::Sessions(_) => Some(Input::Sessions),
             Fault::Script(_) => Some(Input::Script),
             Fault::TwoOffices => Some(Input::Plan),

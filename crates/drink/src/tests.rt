@@ -102,6 +102,23 @@ fn refuses_texts_and_writes_nothing(rt: HostRuntime) {
     refused(&rt, "office a -\n", "session a\ngive v\nend\n", no_header);
 }
 
+#[test]
+fn a_ring_is_told_by_its_offices(rt: HostRuntime) -> Result<(), Fail> {
+    let alloc = rt.alloc();
+    let plan =
+        "plan 1 run 1\noffice a -\noffice b -\noffice c -\npair a b fork a\npair b c fork b\npair a c fork c\n";
+    let (result, out) = ran(alloc, plan, "");
+    let Err(fault) = result else {
+        return Err(Fail::from("accepted"));
+    };
+    assert_eq!(rt; fault.input(), Some(Input::Plan));
+    assert_eq!(rt; out.len(), 0);
+    let text = fault.to_string(alloc)?;
+    let expected = "P8 Ring: a, c, b (each precedes the next, and the last the first)";
+    assert_eq!(rt; text.as_str(), expected);
+    Ok(())
+}
+
 /// `front`, a line of a comment, in all as long as this.
 fn stretched(alloc: Global, front: &str, length: usize) -> Result<String, Fail> {
     let mut text = String::from_str(alloc, front)?;

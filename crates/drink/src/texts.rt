@@ -34,6 +34,7 @@ pub fn read_plan<R: Read>(alloc: Global, reader: &mut R) -> Result<Plan, Fault>
     match Plan::read(alloc, &text) {
         Ok(plan) => Ok(plan),
         Err(PlanFault::Refused(refusal)) => Err(Fault::Plan(refusal)),
+        Err(PlanFault::Ring(ring)) => Err(Fault::Ring(ring)),
         Err(PlanFault::Memory) => Err(Fault::Memory),
     }
 }

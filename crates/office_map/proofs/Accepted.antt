@@ -11,13 +11,13 @@ use Rattle.office_map.specs.declared.fault.Rule.{Rule}
 use Rattle.office_map.specs.declared.fault.Rule.TheVariants.{Header, Line, NameTwice, UnknownName, SelfPair, PairTwice, Limit}
 use Rattle.office_map.specs.declared.fault.Refusal.{Refusal}
 use Rattle.office_map.specs.declared.fault.PlanFault.{PlanFault}
-use Rattle.office_map.specs.declared.fault.PlanFault.TheVariants.{Memory, Refused}
+use Rattle.office_map.specs.declared.fault.PlanFault.TheVariants.{Memory, Refused, Ring}
 use Rattle.office_map.specs.PlanValue.{PlanValue, office_named, record_named, are_neighbours, records_between, with_office, with_pair, with_record}
 use Rattle.office_map.specs.PlanText.{◌>>=◌, ◌>>◌, refuse_if, Declaration, AnOffice, APair, ARecord, is_address_taken, declare, office_of, pair_of, record_of, value_of, declaration_of, at_line, and_then, plain_words, run_of, read_header, read_line, read_lines, read_statements, plan_of, IsLineOf, Fails, IfRefused}
 use Rattle.std.specs.Str.{bytes_eq}
 use Rattle.office_map.specs.Address.{address_of_word}
 use Rattle.office_map.specs.Text.{is_name, name_of, lines, says_something, statements_from, statements}
-use Rattle.office_map.specs.Consistency.{IsConsistent, IsAccepted, ReadsAcceptablePlans}
+use Rattle.office_map.specs.Consistency.{IsConsistent, IsComplete, ReadsCompletePlans}
 use Rattle.office_map.proofs.Consistent.{none_found, office_consistent, pair_consistent, record_consistent}
 
 -- an answer that is accepted is consistent
@@ -85,7 +85,7 @@ at_its_line n last low high (Ok q) ok = ok
 at_its_line n last low high (Err rule) ok = (low, high)
 
 -- an empty plan
-empty : (run : ℕ) → IsConsistent (record { run = run; offices = []; pairs = []; records = [] })
+pub empty : (run : ℕ) → IsConsistent (record { run = run; offices = []; pairs = []; records = [] })
 empty run = record {
   offices_fit = omega arith;
   offices_are_named = λ k d lt. absurd (omega arith);
@@ -204,7 +204,7 @@ abbrev counted : Bool → PlanValue → Result PlanValue Refusal
 counted few p = refuse_if few (record { rule = Limit; line = 0 }) >> Ok p
 
 abbrev Accepts : List ℕ → Result PlanValue Refusal → Type 0
-Accepts text r = MatchResult r IsAccepted (λ f. IsLineOf text f.line)
+Accepts text r = MatchResult r IsComplete (λ f. IsLineOf text f.line)
 
 enough : (text : List ℕ) (p : PlanValue) (few : Bool) → IsConsistent p → nat_lt (length p.offices) 2 ≡ few → Accepts text (counted few p)
 enough text p true ok e = inl refl
@@ -221,18 +221,19 @@ short_text : (text : List ℕ) (long : Bool) (r : Result PlanValue Refusal) → 
 short_text text true r h = inl refl
 short_text text false r h = h
 
-pub acceptable : ReadsAcceptablePlans
+pub complete : ReadsCompletePlans
 unfolding plan_of
-acceptable text =
+complete text =
     let numbered : AreLines (length (lines text)) (statements text) = statements_are_lines 1 (length (lines text)) (lines text) (omega arith) (omega arith) in
     short_text text (nat_lt 262144 (length text)) _ (two_offices text (read_statements (statements text)) (statements_read text (statements text) numbered))
 
 read_as : (text : List ℕ) (r : Result PlanValue Refusal) → plan_of text ≡ r → Accepts text r
-read_as text r e = let P : Result PlanValue Refusal → Type 0 = Accepts text in subst P e (acceptable text)
+read_as text r e = let P : Result PlanValue Refusal → Type 0 = Accepts text in subst P e (complete text)
 
-pub accepted_plan : (text : List ℕ) (p : PlanValue) → plan_of text ≡ Ok p → IsAccepted p
-accepted_plan text p e = read_as text (Ok p) e
+pub complete_plan : (text : List ℕ) (p : PlanValue) → plan_of text ≡ Ok p → IsComplete p
+complete_plan text p e = read_as text (Ok p) e
 
 pub refused_line : (text : List ℕ) (e : PlanFault) → Fails e (plan_of text) → IfRefused (λ f. IsLineOf text f.line) e
 refused_line text Memory h = tt
 refused_line text (Refused f) h = read_as text (Err f) h
+refused_line text (Ring r) h = tt

@@ -9,3 +9,6 @@ pub mod Ranges
 pub mod Positions
 pub mod Accepted
 pub mod Consistent
+pub mod Orders
+pub mod Circles
+pub mod Counted

@@ -6,6 +6,7 @@ use Rattle.office_map.specs.declared.entries.PairEntry.{PairEntry}
 use Rattle.office_map.specs.declared.entries.RecordEntry.{RecordEntry}
 use Rattle.office_map.specs.declared.fault.Refusal.{Refusal}
 use Rattle.office_map.specs.PlanValue.{PlanValue, no_address, joins, are_neighbours, records_between}
+use Rattle.office_map.specs.Precedence.{HasOrder}
 use Rattle.office_map.specs.PlanText.{plan_of, IsLineOf}
 use Rattle.office_map.specs.Text.{is_name}
 use Rattle.std.specs.Prelude.{List}
@@ -31,9 +32,15 @@ pub record HasEnds (p : PlanValue) (a b : ℕ) : Type 0 where
   pub second : b < length p.offices
   pub different : a ≢ b
 
--- Every accepted plan is consistent and has two offices; a refusal names a line of the text, or 0.
-abbrev pub IsAccepted : PlanValue → Type 0
-IsAccepted p = IsConsistent p × (2 ≤ length p.offices)
+-- The lines of a plan without a fault give consistent tables with two offices; a refusal names a line of the text, or 0.
+abbrev pub IsComplete : PlanValue → Type 0
+IsComplete p = IsConsistent p × (2 ≤ length p.offices)
 
-abbrev pub ReadsAcceptablePlans : Type 0
-ReadsAcceptablePlans = (text : List ℕ) → MatchResult (plan_of text) IsAccepted (λ (f : Refusal). IsLineOf text f.line)
+abbrev pub ReadsCompletePlans : Type 0
+ReadsCompletePlans = (text : List ℕ) → MatchResult (plan_of text) IsComplete (λ (f : Refusal). IsLineOf text f.line)
+
+-- What holds of every plan that is accepted: it is complete, and precedence has no ring at the start.
+pub record IsAccepted (p : PlanValue) : Type 0 where
+  pub consistent : IsConsistent p
+  pub two_offices : 2 ≤ length p.offices
+  pub no_ring : HasOrder p

@@ -1,4 +1,4 @@
--- Which plan a text means, and which is its first fault.
+-- Which plan the lines of a text mean, and which is their first fault.
 use Rattle.std.specs.Prelude.{◌≡◌, ℕ, ◌^◌, ◌≤◌, ◌⊎◌, List, [], ◌∷◌, ◌++◌, length, Bool, not, ◌&&◌, ◌||◌, ◌==◌, nat_lt, nat_le, Option, Some, None, Result, Ok, Err, if◌then◌else◌, codes, is_some, option_map, ℤ, pos, neg_ℤ}
 use Rattle.std.specs.List.{list_any, list_all}
 use Rattle.std.specs.Str.{bytes_eq}
@@ -9,10 +9,12 @@ use Rattle.office_map.specs.declared.fault.Rule.{Rule}
 use Rattle.office_map.specs.declared.fault.Rule.TheVariants.{Header, Line, NameTwice, UnknownName, SelfPair, PairTwice, Limit}
 use Rattle.office_map.specs.declared.fault.Refusal.{Refusal}
 use Rattle.office_map.specs.declared.fault.PlanFault.{PlanFault}
-use Rattle.office_map.specs.declared.fault.PlanFault.TheVariants.{Memory, Refused}
+use Rattle.office_map.specs.declared.ring.Ring as rings
+use Rattle.office_map.specs.declared.fault.PlanFault.TheVariants.{Memory, Refused, Ring}
 use Rattle.office_map.specs.declared.line.Declaration as code
 use Rattle.office_map.specs.declared.line.Declaration.TheVariants as variants
 use Rattle.office_map.specs.PlanValue.{PlanValue, office_named, record_named, are_neighbours, records_between, with_office, with_pair, with_record, no_address}
+use Rattle.office_map.specs.Precedence.{IsNamedRing, HasOrder}
 use Rattle.office_map.specs.Text.{name_of, is_plain, number_of, words_of, lines, statements}
 use Rattle.office_map.specs.Address.{address_of_word}
 
@@ -160,7 +162,7 @@ abbrev pub read_statements : List (ℕ × List ℕ) → Result PlanValue Refusal
 read_statements [] = Err (record { rule = Header; line = 0 })
 read_statements (l ∷ ls) = read_header l >>= λ p. read_lines p ls
 
--- The plan that a text means, or its first fault.
+-- The plan that the lines of a text mean, or their first fault. Whether it has a ring isn't asked here.
 unfoldable pub plan_of : List ℕ → Result PlanValue Refusal
 plan_of text = do
   refuse_if (nat_lt 262144 (length text)) (record { rule = Limit; line = 0 })
@@ -172,6 +174,7 @@ plan_of text = do
 abbrev pub Fails : {A : Type 0} → PlanFault → Result A Refusal → Type 0
 Fails Memory read = Unit {0}
 Fails (Refused r) read = read ≡ Err r
+Fails (Ring r) read = ⊥
 
 abbrev pub Gives : {X A : Type 0} → (X → A) → Result X PlanFault → Result A Refusal → Type 0
 Gives view (Ok x) read = read ≡ Ok (view x)
@@ -182,10 +185,23 @@ abbrev pub Leaves : {X : Type 0} → Result X PlanFault → PlanValue → Result
 Leaves (Ok x) after read = read ≡ Ok after
 Leaves (Err e) after read = Fails e read
 
--- a fact of a refusal
+-- the lines have no fault, and their plan has this ring
+abbrev pub HasRing : rings.Ring → Result PlanValue Refusal → Type 0
+HasRing r (Ok p) = IsNamedRing p r
+HasRing r (Err f) = ⊥
+
+-- what reading a plan answers, where its lines mean this: their plan, which has no ring; their first fault; or a ring
+abbrev pub Answers : Result PlanValue PlanFault → Result PlanValue Refusal → Type 0
+Answers (Ok p) read = (read ≡ Ok p) × HasOrder p
+Answers (Err Memory) read = Unit {0}
+Answers (Err (Refused r)) read = read ≡ Err r
+Answers (Err (Ring r)) read = HasRing r read
+
+-- a fact of a refusal of a line
 abbrev pub IfRefused : (Refusal → Type 0) → PlanFault → Type 0
 IfRefused P Memory = Unit {0}
 IfRefused P (Refused r) = P r
+IfRefused P (Ring r) = Unit {0}
 
 -- The lines are accepted one after the other, and lead from one plan to another.
 abbrev pub Lead : PlanValue → List (ℕ × List ℕ) → PlanValue → Type 0

@@ -33,6 +33,7 @@ pub struct PairEntry {
 
 impl PairEntry {
     ghost use Rattle.office_map.specs.PlanValue.{joins, fork_end};
+    ghost use Rattle.office_map.specs.Precedence.{other_end};
 
     /// Whether these two are its neighbours, in either order.
     pub fn joins(&self, a: OfficeId, b: OfficeId) -> bool
@@ -45,6 +46,17 @@ impl PairEntry {
         ensures { result ≡ fork_end self.now }
     {
         if self.fork_at_first {
+            self.first
+        } else {
+            self.second
+        }
+    }
+
+    /// The end at which the fork doesn't start: at the start it precedes the other.
+    pub fn other_end(&self) -> OfficeId
+        ensures { result ≡ other_end self.now }
+    {
+        if !self.fork_at_first {
             self.first
         } else {
             self.second

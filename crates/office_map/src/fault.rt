@@ -3,12 +3,13 @@
 ghost use Rattle.std.specs.Prelude.{◌≡◌};
 ghost use Rattle.office_map.specs.declared.fault.PlanFault.TheVariants.{Memory};
 
+use crate::ring::Ring;
 use std::alloc::{AllocError, AllocFailed};
 use std::error::Error;
 use std::fmt;
 use thiserror::Error;
 
-/// The rule that a plan's text breaks.
+/// The rule that a line of a plan's text breaks.
 #[derive(Clone, Copy, Debug, PartialEq, Eq, Error)]
 pub enum Rule {
     #[error("P1 Header")]
@@ -72,8 +73,12 @@ impl Error for Refusal {}
 pub enum PlanFault {
     #[error("out of memory")]
     Memory,
+    /// A rule is broken by a line, or by a text that is too long or has too few offices.
     #[error("{0}")]
     Refused(Refusal),
+    /// No line is at fault, but the forks start so that some offices precede one another in a ring.
+    #[error("P8 Ring: {0} (each precedes the next, and the last the first)")]
+    Ring(Ring),
 }
 
 impl From<AllocError> for PlanFault {

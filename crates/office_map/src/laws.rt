@@ -1,15 +1,26 @@
 //! Laws of the definitions that the contracts cite.
 
 ghost use Rattle.office_map.specs.PlanText.{ReadsInOrder};
-ghost use Rattle.office_map.specs.Consistency.{ReadsAcceptablePlans};
+ghost use Rattle.office_map.specs.Consistency.{ReadsCompletePlans};
+ghost use Rattle.office_map.specs.Precedence.{AnOrderHasNoRing, OneOrderIsLeastFirst};
 
 /// Reading accepts all lines, one after the other, or stops at the first that is refused.
 pub fn reads_in_order()
     ensures { ReadsInOrder }
 {}
 
-/// An accepted plan is consistent and has two offices, and a refusal names a line of the
-/// text, or 0.
-pub fn reads_acceptable_plans()
-    ensures { ReadsAcceptablePlans }
+/// Lines without a fault give consistent tables and two offices, and a refusal names a line of
+/// the text, or 0.
+pub fn reads_complete_plans()
+    ensures { ReadsCompletePlans }
+{}
+
+/// Offices in an order hold no ring.
+pub fn an_order_has_no_ring()
+    ensures { AnOrderHasNoRing }
+{}
+
+/// No two orders are least first.
+pub fn one_order_is_least_first()
+    ensures { OneOrderIsLeastFirst }
 {}

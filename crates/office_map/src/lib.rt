@@ -1,18 +1,21 @@
 //! Plans: the offices of a broker, which of them are neighbours, and the records that a
 //! pair of neighbours shares.
 //!
-//! [`Plan::read`] answers the plan that a text means, or the first rule that the text
-//! breaks with the line that breaks it (clause `meaning`). Every plan in hand is
-//! consistent (clause `consistent` of [`Plan::offices`]): a pair and a record join two
-//! different offices that are declared, nothing is declared twice, and no limit is passed.
+//! [`Plan::read`] answers the plan that a text means, the first rule that a line of it breaks,
+//! or a ring of offices that precede one another at the start (clause `meaning`). Every plan in
+//! hand is consistent (clause `consistent` of [`Plan::offices`]): a pair and a record join two
+//! different offices that are declared, nothing is declared twice, and no limit is passed. And
+//! it has no ring (clause `accepted`), so that its offices have an order ([`Plan::order`]).
 //! Contracts see a plan as its tables alone, one
 //! `Rattle.office_map.specs.PlanValue.PlanValue`. A record is found by its name in
 //! constant time, and an office's neighbours and records are stored lists.
 //!
 //! It stands on `thiserror`, for the messages of its faults. Definitions:
 //!
-//! - `specs/PlanText.antt`: which plan a text means, and what is its first fault.
+//! - `specs/PlanText.antt`: which plan the lines of a text mean, what is their first fault, and
+//!   what reading answers.
 //! - `specs/PlanValue.antt`: the tables, and what contracts ask of them.
+//! - `specs/Precedence.antt`: who precedes whom at the start, orders and rings.
 //! - `specs/Consistency.antt`: what holds of every accepted plan.
 //! - `specs/Address.antt`: which words are addresses.
 //! - `specs/Text.antt`: lines, words, names and numbers, which other texts share; their
@@ -28,8 +31,11 @@ pub mod laws;
 mod line;
 mod new_entries;
 pub mod plan;
+mod precedence;
 mod read;
 mod records;
+pub mod ring;
+mod ring_search;
 pub mod statements;
 mod tables;
 #[cfg(test)]
@@ -40,3 +46,4 @@ mod word;
 pub use fault::{PlanFault, Refusal, Rule};
 pub use ids::{OfficeId, RecordId};
 pub use plan::Plan;
+pub use ring::Ring;

@@ -6,6 +6,7 @@ use crate::entries::{OfficeEntry, RecordEntry};
 use crate::fault::PlanFault;
 use crate::ids::{OfficeId, RecordId};
 use crate::index::{OfficeIndex, index};
+use crate::precedence::order;
 use crate::read::read_tables;
 use crate::tables::Tables;
 use std::alloc::{AllocError, Global};
@@ -17,40 +18,44 @@ use std::marker::Model;
 pub struct Plan {
     tables: Tables,
     index: Vec<OfficeIndex>,
+    order: Vec<OfficeId>,
 }
 
 impl Model for Plan {
     ghost use Rattle.std.specs.Prelude.{◌≡◌};
     ghost use Rattle.office_map.specs.PlanValue.{PlanValue, index_of};
+    ghost use Rattle.office_map.specs.Precedence.{IsLeastFirst};
+    ghost use Rattle.office_map.specs.Consistency.{IsComplete};
 
     ghost Value = { PlanValue };
 
     ghost view = { λ p. p.tables };
 
-    ghost invariant = { λ p. p.index.items ≡ index_of p.tables };
+    ghost invariant = { λ p. (p.index.items ≡ index_of p.tables) × IsLeastFirst p.tables p.order.items × IsComplete p.tables };
 }
 
 impl Plan {
     ghost use Rattle.office_map.specs.PlanValue.{office_named, record_named, office_name_of, address_of, record_name_of, are_neighbours, neighbours_of, fork_end_of, is_end, records_of, ends_of, start_end_of, start_values};
-    ghost use Rattle.office_map.specs.PlanText.{plan_of, Gives, IfRefused, IsLineOf};
+    ghost use Rattle.office_map.specs.PlanText.{plan_of, Answers, IfRefused, IsLineOf};
+    ghost use Rattle.office_map.specs.Precedence.{IsLeastFirst};
     ghost use Rattle.office_map.specs.Consistency.{IsConsistent, IsAccepted, HasEnds};
 
-    /// The plan that a text means, or the first rule that it breaks. `Memory` may stand in
-    /// place of any other answer, and comes only where a growth was refused.
+    /// The plan that a text means, the first rule that a line of it breaks, or a ring of
+    /// offices where no line breaks a rule. `Memory` may stand in place of any other answer,
+    /// and comes only where a growth was refused.
     pub fn read(alloc: Global, text: &[u8]) -> Result<Plan, PlanFault>
-        ensures meaning { Gives (λ p. p) result (plan_of text.now) }
+        ensures meaning { Answers result (plan_of text.now) }
         ensures accepted { IfOk result IsAccepted }
         ensures line { IfErr result (IfRefused (λ f. IsLineOf text.now f.line)) }
     {
         let tables = read_tables(alloc, text)?;
-        Ok(Plan::of(alloc, tables)?)
-    }
-
-    fn of(alloc: Global, tables: Tables) -> Result<Plan, AllocError>
-        ensures { IfOk result (λ p. p ≡ tables) }
-    {
+        let order = order(alloc, &tables)?;
         let index = index(alloc, &tables)?;
-        Ok(Plan { tables, index })
+        Ok(Plan {
+            tables,
+            index,
+            order,
+        })
     }
 
     /// A plan equal to this one.
@@ -58,7 +63,21 @@ impl Plan {
         ensures { IfOk result (λ p. p ≡ self.now) }
     {
         let tables = self.tables.copy(alloc)?;
-        Plan::of(alloc, tables)
+        let index = index(alloc, &tables)?;
+        let order = Vec::from_slice(alloc, &self.order)?;
+        Ok(Plan {
+            tables,
+            index,
+            order,
+        })
+    }
+
+    /// All offices, each once: one that precedes another at the start comes earlier, and where
+    /// several may come, the least number first.
+    pub fn order(&self, alloc: Global) -> Result<Vec<OfficeId>, AllocError>
+        ensures { IfOk result (λ v. IsLeastFirst self.now v.items) }
+    {
+        Vec::from_slice(alloc, self.order.as_slice())
     }
 
     /// The run's number, which stands in every frame.
@@ -73,6 +92,7 @@ impl Plan {
         ensures count { result ≡ length self.now.offices }
         ensures few { result ≤ 16 }
         ensures consistent { IsConsistent self.now }
+        ensures accepted { IsAccepted self.now }
     {
         self.tables.offices().len()
     }
@@ -91,6 +111,7 @@ impl Plan {
         ensures all { result.now ≡ neighbours_of self.now id }
         ensures each { All (λ other. IsTrue (are_neighbours self.now id other)) result.now }
         ensures offices { All (λ other. other < length self.now.offices) result.now }
+        ensures consistent { IsConsistent self.now }
     {
         self.index[id.index()].neighbours()
     }

@@ -1,8 +1,9 @@
 //! The tables of a plan, while its lines are read and afterwards.
 
-ghost use Rattle.std.specs.Prelude.{◌≡◌, [], length, Some, IfOk, IsTrue};
+ghost use Rattle.std.specs.Prelude.{◌≡◌, ◌<◌, [], length, Some, IfOk, IsTrue};
 ghost use Rattle.std.specs.List.{list_any};
 ghost use Rattle.std.specs.Str.{bytes_eq};
+ghost use Rattle.office_map.specs.Counts.{place_of};
 ghost use Rattle.office_map.specs.declared.entries.OfficeEntry.{OfficeEntry};
 
 use crate::entries::{OfficeEntry, PairEntry, RecordEntry};
@@ -22,23 +23,26 @@ pub(crate) struct Tables {
     offices: Vec<OfficeEntry>,
     pairs: Vec<PairEntry>,
     records: RecordTable,
+    // Of any two offices, at the place of their numbers, how many records they share.
+    counts: [u8; 256],
 }
 
 impl Model for Tables {
     ghost use Rattle.office_map.specs.PlanValue.{PlanValue};
     ghost use Rattle.office_map.specs.Consistency.{IsConsistent};
+    ghost use Rattle.office_map.specs.Counts.{CountsRecords};
 
     ghost Value = { PlanValue };
 
     ghost view = { λ t. record { run = t.run; offices = t.offices.items; pairs = t.pairs.items; records = t.records } };
 
-    ghost invariant = { λ t. IsConsistent (record { run = t.run; offices = t.offices.items; pairs = t.pairs.items; records = t.records }) };
+    ghost invariant = { λ t. IsConsistent (record { run = t.run; offices = t.offices.items; pairs = t.pairs.items; records = t.records }) × CountsRecords t.records t.counts };
 }
 
 impl Tables {
     ghost use Rattle.std.specs.Prelude.{◌≤◌, ◌⊎◌, find};
     ghost use Rattle.std.specs.Option.{option_copied};
-    ghost use Rattle.office_map.specs.PlanValue.{office_named, record_named, joins, are_neighbours, records_between, is_end, fork_end_of};
+    ghost use Rattle.office_map.specs.PlanValue.{office_named, office_name_of, record_named, joins, are_neighbours, records_between, is_end, fork_end_of};
     ghost use Rattle.office_map.specs.PlanText.{declare, at_line, Leaves, seen, is_address_taken, AnOffice, APair, ARecord};
     ghost use Rattle.office_map.specs.Consistency.{IsConsistent};
 
@@ -50,6 +54,7 @@ impl Tables {
             offices: Vec::new(alloc),
             pairs: Vec::new(alloc),
             records: RecordTable::new(alloc),
+            counts: [0; 256],
         }
     }
 
@@ -65,6 +70,20 @@ impl Tables {
         ensures consistent { IsConsistent self.now }
     {
         self.offices.as_slice()
+    }
+
+    pub fn office_name(&self, id: OfficeId) -> &str
+        requires { id < length self.now.offices }
+        ensures { office_name_of self.now id ≡ Some result.now }
+    {
+        self.offices[id.index()].name.as_str()
+    }
+
+    pub fn pairs(&self) -> &[PairEntry]
+        ensures all { result.now ≡ self.now.pairs }
+        ensures consistent { IsConsistent self.now }
+    {
+        self.pairs.as_slice()
     }
 
     pub fn records(&self) -> &[RecordEntry]
@@ -220,6 +239,7 @@ impl Tables {
             starts_at_first: declared.starts_at_first,
         };
         self.records.push(alloc, entry)?;
+        self.counts[place_of(first, second)] += 1;
         Ok(())
     }
 
@@ -239,13 +259,10 @@ impl Tables {
 
     /// How many records these two share.
     fn records_between(&self, a: OfficeId, b: OfficeId) -> usize
+        requires { (a < 16) × (b < 16) }
         ensures { result ≡ records_between self.now a b }
     {
-        self.records
-            .as_slice()
-            .iter()
-            .filter(|record| record.lies_between(a, b))
-            .count()
+        self.counts[place_of(a, b)] as usize
     }
 
     pub fn copy(&self, alloc: Global) -> Result<Tables, AllocError>
@@ -259,7 +276,21 @@ impl Tables {
             offices,
             pairs,
             records,
+            counts: self.counts,
         })
+    }
+}
+
+/// Where the number of the records of two offices stands.
+fn place_of(a: OfficeId, b: OfficeId) -> usize
+    requires { (a < 16) × (b < 16) }
+    ensures place { result ≡ place_of a b }
+    ensures within { result < 256 }
+{
+    if a < b {
+        16 * a.index() + b.index()
+    } else {
+        16 * b.index() + a.index()
     }
 }
 

@@ -7,6 +7,7 @@ use std::test::Fail;
 
 mod limits;
 mod refusals;
+mod rings;
 
 const TWO_OFFICES: &str =
     "plan 1 run 42\noffice a -\noffice b -\npair a b fork a\nrecord x a b 100 at a\nrecord y a b 0 at b\n";

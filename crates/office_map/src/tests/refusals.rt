@@ -118,11 +118,12 @@ fn faults_are_printed_with_code_and_line(rt: HostRuntime) -> Result<(), Fail> {
     Ok(())
 }
 
-/// The line and the rule that a text breaks.
+/// The line and the rule that a text breaks, or what is told of a ring.
 pub fn fault(alloc: Global, text: &str) -> Result<String, AllocError> {
     match Plan::read(alloc, text.as_bytes()) {
         Ok(_) => String::from_str(alloc, "accepted"),
         Err(PlanFault::Memory) => Err(AllocError),
         Err(PlanFault::Refused(Refusal { rule, line })) => format!(in alloc; "{line} {rule}"),
+        Err(fault) => format!(in alloc; "{fault}"),
     }
 }

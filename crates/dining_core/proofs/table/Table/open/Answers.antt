@@ -16,4 +16,4 @@ pub returns : goal.returns
 returns c =
     let ns : List ℕ = c.in_ok-neighbours.neighbours.items in
     let copied : ns ≡ c.neighbours.result.now = c.in_ok-neighbours.ensures.items_if_clones_equal (λ x y e. e) in
-    table_starts c.args.plan.now c.args.id ns c.in_ok-places.places.items c.offices.ensures.consistent (copied ∙ c.neighbours.ensures.all) c.in_ok-places.ensures
+    table_starts c.args.plan.now c.args.id ns c.in_ok-places.places.items c.neighbours.ensures.consistent (copied ∙ c.neighbours.ensures.all) c.in_ok-places.ensures

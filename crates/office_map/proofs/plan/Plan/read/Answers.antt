@@ -1,6 +1,6 @@
-use Rattle.std.proofs.Common.{◌∙◌, sym, ap, Ok}
 use Rattle.std.proofs.lemmas.Result.{err_from_is_err_and}
-use Rattle.office_map.proofs.Accepted.{accepted_plan, refused_line}
+use Rattle.office_map.proofs.Accepted.{complete_plan, refused_line}
+use Rattle.office_map.specs.Consistency.{IsComplete}
 use Rattle.office_map.proofs.plan.Plan.read.Goals as goal
 
 pub returns-in_err-tables-clause-line : goal.returns-in_err-tables-clause-line
@@ -10,4 +10,12 @@ returns-in_err-tables-clause-line c =
 
 pub returns-clause-accepted : goal.returns-clause-accepted
 returns-clause-accepted c =
-    accepted_plan c.args.text.now c.in_ok-of.field-0 (c.in_ok-tables.ensures ∙ ap Ok (sym c.in_ok-of.ensures))
+    let complete : IsComplete c.in_ok-tables.tables = complete_plan c.args.text.now c.in_ok-tables.tables c.in_ok-tables.ensures in
+    record {
+      consistent = complete.0;
+      two_offices = complete.1;
+      no_ring = record { order = c.in_ok-order.order.items; is = c.in_ok-order.ensures.is_order };
+    }
+
+pub invariant_of-result : goal.invariant_of-result
+invariant_of-result c = (c.in_ok-index.ensures, c.in_ok-order.ensures, complete_plan c.args.text.now c.in_ok-tables.tables c.in_ok-tables.ensures)

@@ -1,0 +1,5 @@
+use Rattle.dining_core.proofs.Precedence.{no_ring_from_plan}
+use Rattle.dining_core.proofs.laws.no_ring_from_an_accepted_plan.Goals as goal
+
+pub returns : goal.returns
+returns c = no_ring_from_plan

@@ -1,0 +1,5 @@
+use Rattle.office_map.proofs.Accepted.{complete}
+use Rattle.office_map.proofs.laws.reads_complete_plans.Goals as goal
+
+pub returns : goal.returns
+returns c = complete
