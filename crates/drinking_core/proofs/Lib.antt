@@ -6,3 +6,4 @@ pub mod Sessions
 pub mod Spots
 pub mod Travels
 pub mod Needs
+pub mod Freed

@@ -18,7 +18,7 @@ use Rattle.drinking_core.proofs.Counted.{count_none}
 use Rattle.drinking_core.proofs.Placed.{made_same, seen_put, kept_put}
 
 -- one place that is changed by a function, if the bar has it
-changed : (g : Place → Place) (ps : List Place) (r q : ℕ) → g nothing ≡ nothing → place_at (set ps r (g (place_at ps r))) q ≡ cond (q == r) (g (place_at ps q)) (place_at ps q)
+pub changed : (g : Place → Place) (ps : List Place) (r q : ℕ) → g nothing ≡ nothing → place_at (set ps r (g (place_at ps r))) q ≡ cond (q == r) (g (place_at ps q)) (place_at ps q)
 changed g ps r q none = ⊎_elim
     (λ e. ⊎_elim
     (λ lt. ap (λ k. place_at (set ps r (g (place_at ps r))) k) e ∙ get_or-set_same ps r (g (place_at ps r)) nothing lt ∙ ap (λ k. g (place_at ps k)) (sym e))
@@ -111,7 +111,7 @@ pub length_written : (ws : List (ℕ × Value)) (ps : List Place) → length (wi
 length_written [] ps = refl
 length_written (w ∷ ws) ps = length_written ws (set ps w.0 (written_place w.1 (place_at ps w.0))) ∙ length-set ps w.0 (written_place w.1 (place_at ps w.0))
 
-kept_written : {X : Type 0} (f : Place → X) → ((v : Value) (p : Place) → f (written_place v p) ≡ f p) → (ws : List (ℕ × Value)) (ps : List Place) (q : ℕ) → f (place_at (with_writes ws ps) q) ≡ f (place_at ps q)
+pub kept_written : {X : Type 0} (f : Place → X) → ((v : Value) (p : Place) → f (written_place v p) ≡ f p) → (ws : List (ℕ × Value)) (ps : List Place) (q : ℕ) → f (place_at (with_writes ws ps) q) ≡ f (place_at ps q)
 kept_written f same [] ps q = refl
 kept_written f same (w ∷ ws) ps q =
     kept_written f same ws (set ps w.0 (written_place w.1 (place_at ps w.0))) q

@@ -77,6 +77,10 @@ with_needed (r ∷ rs) ps = with_needed rs (set ps r (needed_place (place_at ps 
 abbrev pub freed_place : Place → Place
 freed_place p = record p { needed = false }
 
+abbrev pub with_freed : List ℕ → List Place → List Place
+with_freed [] ps = ps
+with_freed (r ∷ rs) ps = with_freed rs (set ps r (freed_place (place_at ps r)))
+
 -- a value goes into a bottle that is here
 abbrev pub written_place : Value → Place → Place
 written_place v p = record p { bottle = option_map (λ old. v) p.bottle }

@@ -198,7 +198,7 @@ impl Bar {
         }
         self.phase = Phase::Tranquil;
         places::write_all(&mut self.places, writes);
-        places::free_all(&mut self.places);
+        places::free_all(&mut self.places, &self.records);
         self.missing = 0;
         Ok(())
     }

@@ -4,7 +4,7 @@ ghost use Rattle.std.specs.Prelude.{◌≡◌, ◌+◌, ◌<◌, length, map, sl
 ghost use Rattle.std.specs.List.{range_with_len};
 ghost use Rattle.std.proofs.Math.ListN.{set};
 ghost use Rattle.drinking_core.specs.Drinkers.{start_bottle, start_token, start_peer};
-ghost use Rattle.drinking_core.specs.Bars.{place_at, start_place, needed_place, with_needed, written_place, with_writes, freed_place, count_missing, num, is_missing};
+ghost use Rattle.drinking_core.specs.Bars.{place_at, start_place, needed_place, with_needed, written_place, with_writes, freed_place, with_freed, count_missing, num, is_missing};
 
 use crate::place::Place;
 use bottle_values::Value;
@@ -116,11 +116,19 @@ fn need(places: &mut Vec<Place>, r: RecordId) -> usize
     }
 }
 
-/// No record is needed from now on.
-pub fn free_all(places: &mut Vec<Place>)
-    ensures { places.new.items ≡ map freed_place places.old.items }
+/// None of these records is needed from now on.
+pub fn free_all(places: &mut Vec<Place>, records: &[RecordId])
+    ensures { places.new.items ≡ with_freed records.now places.old.items }
 {
-    for place in places.iter_mut() {
+    for r in records {
+        free(places, *r);
+    }
+}
+
+fn free(places: &mut Vec<Place>, r: RecordId)
+    ensures { places.new.items ≡ set places.old.items r (freed_place (place_at places.old.items r)) }
+{
+    if let Some(place) = places.get_mut(r.index()) {
         place.needed = false;
     }
 }

@@ -1,7 +1,6 @@
-use Rattle.std.proofs.Common.{◌≡◌, ◌++◌, take, drop}
-use Rattle.std.specs.Prelude.{map}
-use Rattle.drinking_core.specs.Bars.{freed_place}
+use Rattle.std.proofs.Common.{◌≡◌, drop}
+use Rattle.drinking_core.specs.Bars.{with_freed}
 use Rattle.drinking_core.proofs.places.free_all.Given as goal
 
-abbrev pub invariant-loop-place : goal.invariant-loop-place
-invariant-loop-place l = l.place-items ≡ map freed_place (take l.place-index l.initial.place-items) ++ drop l.place-index l.initial.place-items
+abbrev pub invariant-loop-r : goal.invariant-loop-r
+invariant-loop-r l = with_freed (drop l.r-index l.records) l.places.items ≡ with_freed l.records l.initial.places.items
