@@ -28,7 +28,7 @@ BEGIN {
 AWK
 
 # Sessions of one kind, as many as SIZE bytes allow, and one for each 1,024 bytes of SIZE at most. Each begins with a
-# `require` that holds where TRUTH is 1, and else ends it there. Only the kind `spaced` has spaces round operators.
+# `require` that holds where TRUTH is 1, and else ends it there. Only the kinds `spaced` and `limit` have spaces round operators.
 cat > "$work/sessions.awk" <<'AWK'
 function joined(first, operator, term, count,    all) {
     all = first
@@ -85,7 +85,7 @@ function nested(    core) {
 function next_session(i) {
     if (kind == "spaced") return mixed(i, long_sum(30) long_sum(30) long_sum(20) "let v = 0\n")
     if (kind == "mixed") return mixed(i, long_sum(30) long_sum(30) long_sum(30) long_sum(30) long_sum(16))
-    if (kind == "numbers") return within("a", times("let v = " sum("--1", 30), 83) long_sum(9))
+    if (kind == "numbers" || kind == "limit") return within("a", times("let v = " sum("--1", 30), 83) long_sum(9))
     if (kind == "variables") return variables()
     if (kind == "reads") return reads()
     if (kind == "nested") return nested()
@@ -118,7 +118,7 @@ BEGIN {
     else if (kind == "parentheses") parentheses()
     else for (count = 0; count < size / 1024; count++) {
         text = next_session(count % 16)
-        if (kind != "spaced") text = packed(text)
+        if (kind != "spaced" && kind != "limit") text = packed(text)
         bytes += length(text)
         if (bytes > size) exit
         printf "%s", text
@@ -243,7 +243,7 @@ echo "| Input | Bytes | Nodes worked out | Milliseconds | Memory, KiB | Allowed,
 echo "|---|---|---|---|---|---|---|---|---|---|"
 row plan 0 plan "$least"
 row records 0 plan "$least"
-for kind in spaced mixed numbers variables reads nested statements gives comments blank; do
+for kind in spaced mixed limit numbers variables reads nested statements gives comments blank; do
     sessions_input "$kind"
     row "$kind" 0 sessions "$none"
 done
