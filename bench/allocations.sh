@@ -81,14 +81,15 @@ row() {
     echo "| $name | $refused | $((refused - answered)) | $answered |"
 }
 
-cd "$here/../examples"
+examples=$here/../examples
 echo "| Run | Allocations | Out of memory, nothing written | Right answer all the same |"
 echo "|---|---|---|---|"
 : > "$work/in"
-for example in */; do
-    example=${example%/}
-    row "serial, $example" serial "$example/plan.txt" "$example/sessions.txt"
+for example in branch_ledger lease_table shared_stock; do
+    row "serial, $example" serial "$examples/$example/plan.txt" "$examples/$example/sessions.txt"
 done
-row "sim, shared_stock" sim shared_stock/plan.txt shared_stock/sessions.txt shared_stock/script.txt
-{ cat branch_ledger/plan.txt; echo ---; cat branch_ledger/sessions.txt; } > "$work/in"
+stock=$examples/shared_stock
+row "sim, shared_stock" sim "$stock/plan.txt" "$stock/sessions.txt" "$stock/script.txt"
+ledger=$examples/branch_ledger
+{ cat "$ledger/plan.txt"; echo ---; cat "$ledger/sessions.txt"; } > "$work/in"
 row "serial - -" serial - -

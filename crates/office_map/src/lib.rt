@@ -10,7 +10,8 @@
 //! `Rattle.office_map.specs.PlanValue.PlanValue`. A record is found by its name in
 //! constant time, and an office's neighbours and records are stored lists.
 //!
-//! It stands on `thiserror`, for the messages of its faults. Definitions:
+//! It stands on `thiserror`, for the messages of its faults, and on `memchr`, for the ends of
+//! lines. Definitions:
 //!
 //! - `specs/PlanText.antt`: which plan the lines of a text mean, what is their first fault, and
 //!   what reading answers.
