@@ -2,7 +2,7 @@
 use Rattle.std.proofs.Common.{◌≡◌, ℕ, List, true, Option, Some, None, IfSome, Ok, subst, ap, ◌∙◌}
 use Rattle.std.specs.Io.KnownBytes.{Appends}
 use Rattle.office_map.specs.PlanValue.{PlanValue}
-use Rattle.office_map.specs.PlanText.{plan_of}
+use Rattle.drink.specs.Plans.{IsAcceptedAs}
 use Rattle.session_language.specs.ProgramValue.{ProgramValue}
 use Rattle.session_language.specs.Reading.{sessions_of}
 use Rattle.world_schedule.specs.declared.event.WorldEvent.{WorldEvent}
@@ -10,7 +10,7 @@ use Rattle.drink.specs.Script.{IsScript}
 use Rattle.drink.specs.Transcript.{transcript, is_of_one_pair, Simulates}
 
 pub simulated : (plan sessions script old new : Option (List ℕ)) (p : PlanValue) (programs seen : List ProgramValue) (events run : List WorldEvent) (text printed : List ℕ)
-    → IfSome plan (λ t. plan_of t ≡ Ok p) → is_of_one_pair p ≡ true → IfSome sessions (λ t. sessions_of p t ≡ Ok programs) → seen ≡ programs
+    → IfSome plan (λ t. IsAcceptedAs t p) → is_of_one_pair p ≡ true → IfSome sessions (λ t. sessions_of p t ≡ Ok programs) → seen ≡ programs
     → IfSome script (λ t. IsScript p seen t events) → run ≡ events → text ≡ transcript p run → printed ≡ text → Appends old new printed
     → IfSome plan (λ t. IfSome sessions (λ u. IfSome script (λ v. Simulates t u v old new)))
 simulated None sessions script old new p programs seen events run text printed k one l e m f g h w = tt

@@ -1,3 +1,4 @@
+pub mod Plans
 pub mod Input
 pub mod Fault
 pub mod Cut

@@ -2,7 +2,7 @@
 use Rattle.std.specs.Prelude.{◌≡◌, ℕ, List, Option, Ok}
 use Rattle.std.specs.Io.KnownBytes.{Appends}
 use Rattle.office_map.specs.PlanValue.{PlanValue}
-use Rattle.office_map.specs.PlanText.{plan_of}
+use Rattle.drink.specs.Plans.{IsAcceptedAs}
 use Rattle.session_language.specs.ProgramValue.{ProgramValue}
 use Rattle.session_language.specs.Reading.{sessions_of}
 use Rattle.serial_replay.specs.Serial.{outcomes_of, map_of, start_map}
@@ -17,6 +17,6 @@ serial_report p programs = report_of p (outcomes_of (start_map p) programs) (map
 pub record Reports (plan sessions : List ℕ) (old new : Option (List ℕ)) : Type 0 where
   pub p : PlanValue
   pub programs : List ProgramValue
-  pub is_plan : plan_of plan ≡ Ok p
+  pub is_plan : IsAcceptedAs plan p
   pub are_sessions : sessions_of p sessions ≡ Ok programs
   pub written : Appends old new (serial_report p programs)

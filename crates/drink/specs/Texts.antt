@@ -6,6 +6,7 @@ use Rattle.session_language.specs.ProgramValue.{ProgramValue}
 use Rattle.session_language.specs.Reading.{sessions_of}
 use Rattle.world_schedule.specs.declared.event.WorldEvent.{WorldEvent}
 use Rattle.drink.specs.declared.fault.ScriptRefusal.{ScriptRefusal}
+use Rattle.drink.specs.Plans.{IsAcceptedAs}
 use Rattle.drink.specs.Script.{IsScript, RefusesScript}
 use Rattle.drink.specs.Transcript.{is_of_one_pair}
 use Rattle.drink.specs.declared.input.Input.TheVariants as inputs
@@ -13,11 +14,11 @@ use Rattle.drink.specs.declared.fault.Fault.{Fault}
 use Rattle.drink.specs.declared.fault.Fault.TheVariants.{Memory, Plan, Ring, Sessions, Script, TwoOffices, ReadFailed, WriteFailed}
 
 abbrev pub IsPlan : List ℕ → Type 0
-IsPlan text = (p : PlanValue) × (plan_of text ≡ Ok p)
+IsPlan text = (p : PlanValue) × (IsAcceptedAs text p)
 
 -- under the plan of the first text the second one means sessions
 abbrev pub AreSessions : List ℕ → List ℕ → Type 0
-AreSessions plan sessions = (p : PlanValue) × (programs : List ProgramValue) × (plan_of plan ≡ Ok p) × (sessions_of p sessions ≡ Ok programs)
+AreSessions plan sessions = (p : PlanValue) × (programs : List ProgramValue) × (IsAcceptedAs plan p) × (sessions_of p sessions ≡ Ok programs)
 
 -- What a fault of a command without a script says of the plan's text: it is refused so, or it is a plan. Where the text wasn't read to its end, or
 -- memory ran out, nothing is said.
@@ -36,7 +37,7 @@ JudgesPlan plan WriteFailed = IsPlan plan
 -- What a fault of a simulation says of the plan's text: it is refused so, or it is a plan, and one of a pair unless that
 -- is the fault.
 abbrev pub IsPlanOfOnePair : List ℕ → Bool → Type 0
-IsPlanOfOnePair text b = (p : PlanValue) × (plan_of text ≡ Ok p) × (is_of_one_pair p ≡ b)
+IsPlanOfOnePair text b = (p : PlanValue) × (IsAcceptedAs text p) × (is_of_one_pair p ≡ b)
 
 abbrev pub JudgesPlanOfOnePair : List ℕ → Fault → Type 0
 JudgesPlanOfOnePair plan Memory = Unit {0}
@@ -55,7 +56,7 @@ abbrev pub JudgesSessions : List ℕ → List ℕ → Fault → Type 0
 JudgesSessions plan sessions Memory = Unit {0}
 JudgesSessions plan sessions (Plan r) = Unit {0}
 JudgesSessions plan sessions (Ring r) = Unit {0}
-JudgesSessions plan sessions (Sessions r) = (p : PlanValue) × (plan_of plan ≡ Ok p) × (sessions_of p sessions ≡ Err r)
+JudgesSessions plan sessions (Sessions r) = (p : PlanValue) × (IsAcceptedAs plan p) × (sessions_of p sessions ≡ Err r)
 JudgesSessions plan sessions (Script r) = AreSessions plan sessions
 JudgesSessions plan sessions TwoOffices = Unit {0}
 JudgesSessions plan sessions (ReadFailed inputs.Plan) = Unit {0}
@@ -66,13 +67,13 @@ JudgesSessions plan sessions WriteFailed = AreSessions plan sessions
 -- under the plan of the first text and the sessions of the second one, the third one means events
 abbrev pub AreEventsOf : List ℕ → List ℕ → List ℕ → Type 0
 AreEventsOf plan sessions script =
-    (p : PlanValue) × (programs : List ProgramValue) × (events : List WorldEvent) × (plan_of plan ≡ Ok p) × (sessions_of p sessions ≡ Ok programs)
+    (p : PlanValue) × (programs : List ProgramValue) × (events : List WorldEvent) × (IsAcceptedAs plan p) × (sessions_of p sessions ≡ Ok programs)
     × IsScript p programs script events
 
 -- the third text is refused so, under the first two
 abbrev pub IsRefusedScript : List ℕ → List ℕ → List ℕ → ScriptRefusal → Type 0
 IsRefusedScript plan sessions script r =
-    (p : PlanValue) × (programs : List ProgramValue) × (plan_of plan ≡ Ok p) × (sessions_of p sessions ≡ Ok programs) × RefusesScript p programs script r
+    (p : PlanValue) × (programs : List ProgramValue) × (IsAcceptedAs plan p) × (sessions_of p sessions ≡ Ok programs) × RefusesScript p programs script r
 
 -- what a fault says of the script's text, under the other two
 abbrev pub JudgesScript : List ℕ → List ℕ → List ℕ → Fault → Type 0

@@ -4,7 +4,7 @@ use Rattle.std.specs.List.{flat_map}
 use Rattle.std.specs.Fmt.{decimal}
 use Rattle.std.specs.Io.KnownBytes.{Appends}
 use Rattle.office_map.specs.PlanValue.{PlanValue, are_neighbours}
-use Rattle.office_map.specs.PlanText.{plan_of}
+use Rattle.drink.specs.Plans.{IsAcceptedAs}
 use Rattle.session_language.specs.ProgramValue.{ProgramValue}
 use Rattle.session_language.specs.Reading.{sessions_of}
 use Rattle.world_schedule.specs.declared.finished.Finished.{Finished}
@@ -61,7 +61,7 @@ pub record Simulates (plan sessions script : List ℕ) (old new : Option (List �
   pub p : PlanValue
   pub programs : List ProgramValue
   pub events : List WorldEvent
-  pub is_plan : plan_of plan ≡ Ok p
+  pub is_plan : IsAcceptedAs plan p
   pub one_pair : is_of_one_pair p ≡ true
   pub are_sessions : sessions_of p sessions ≡ Ok programs
   pub is_script : IsScript p programs script events

@@ -1,7 +1,7 @@
 //! The texts of the inputs, read and judged.
 
 ghost use Rattle.std.specs.Prelude.{◌≡◌, ◌≤◌, ◌⊎◌, All, IfErr, IfOk, IfSome, IsTrue, Ok, length, true};
-ghost use Rattle.office_map.specs.PlanText.{plan_of};
+ghost use Rattle.drink.specs.Plans.{IsAcceptedAs};
 ghost use Rattle.session_language.specs.Program.{fits};
 ghost use Rattle.session_language.specs.Reading.{sessions_of};
 ghost use Rattle.drink.specs.Fault.{IsFaultOf};
@@ -25,7 +25,7 @@ use world_schedule::event::WorldEvent;
 
 /// The plan that an input means.
 pub fn read_plan<R: Read>(alloc: Global, reader: &mut R) -> Result<Plan, Fault>
-    ensures meaning { IfOk result (λ p. IfSome (R.remaining reader.old) (λ text. plan_of text ≡ Ok p)) }
+    ensures meaning { IfOk result (λ p. IfSome (R.remaining reader.old) (λ text. IsAcceptedAs text p)) }
     ensures refused { IfErr result (λ f. IfSome (R.remaining reader.old) (λ text. RefusesPlan text f)) }
     ensures fault { IfErr result (IsFaultOf Input.Plan) }
 {
@@ -41,7 +41,7 @@ pub fn read_plan<R: Read>(alloc: Global, reader: &mut R) -> Result<Plan, Fault>
 
 /// The plan of two offices that are a pair, that an input means.
 pub fn read_pair<R: Read>(alloc: Global, reader: &mut R) -> Result<Plan, Fault>
-    ensures meaning { IfOk result (λ p. IfSome (R.remaining reader.old) (λ text. plan_of text ≡ Ok p)) }
+    ensures meaning { IfOk result (λ p. IfSome (R.remaining reader.old) (λ text. IsAcceptedAs text p)) }
     ensures one_pair { IfOk result (λ p. is_of_one_pair p ≡ true) }
     ensures judged { IfErr result (λ f. IfSome (R.remaining reader.old) (λ text. JudgesPlanOfOnePair text f)) }
     ensures fault { IfErr result (λ f. (f ≡ Fault.TwoOffices) ⊎ IsFaultOf Input.Plan f) }
