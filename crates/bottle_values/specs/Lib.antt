@@ -1,3 +1,4 @@
 pub mod Arithmetic
 pub mod Bytes
+pub mod Lists
 pub mod Maps

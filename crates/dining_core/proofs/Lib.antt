@@ -1,6 +1,5 @@
-pub mod Lists
-pub mod Opened
-pub mod Placed
-pub mod Steps
-pub mod Orders
-pub mod Precedence
+pub mod OpeningRefines
+pub mod TableUpdates
+pub mod ForkPlaces
+pub mod EaterLast
+pub mod ForkLaws

@@ -2,9 +2,10 @@
 use Rattle.std.specs.Prelude.{ℕ, Bool, true, false, not, ◌==◌, ◌&&◌, List, if◌then◌else◌}
 use Rattle.std.specs.List.{list_all}
 use Rattle.std.specs.Option.{option_map_or}
-use Rattle.office_map.specs.PlanValue.{PlanValue, are_neighbours, neighbours_of, fork_end_of}
+use Rattle.office_map.specs.PlanValue.{PlanValue, are_neighbours, neighbours_of, fork_end_of, fork_starts_at}
 use Rattle.dining_core.specs.declared.phase.Phase.{Phase}
 use Rattle.dining_core.specs.declared.phase.Phase.TheVariants.{Thinking, Hungry, Eating}
+use Rattle.bottle_values.specs.Maps.{put}
 
 -- of each neighbour's fork, whether it is held here and whether it is clean, and whether its request token is held
 pub record Diner : Type 0 where
@@ -15,12 +16,12 @@ pub record Diner : Type 0 where
   pub token : ℕ → Bool
 
 -- the rules, two of them with whether the office is thirsty
-pub data Rule : Type 0 where
-  BecomeHungry : (thirsty : Bool) → Rule
-  AskFork : (v : ℕ) → Rule
-  GiveFork : (v : ℕ) → Rule
-  Eat : Rule
-  Leave : (thirsty : Bool) → Rule
+pub data ForkRule : Type 0 where
+  BecomeHungry : (thirsty : Bool) → ForkRule
+  AskFork : (v : ℕ) → ForkRule
+  GiveFork : (v : ℕ) → ForkRule
+  Eat : ForkRule
+  Leave : (thirsty : Bool) → ForkRule
 
 abbrev pub is_thinking : Phase → Bool
 is_thinking Thinking = true
@@ -37,12 +38,8 @@ is_eating Thinking = false
 is_eating Hungry = false
 is_eating Eating = true
 
--- the function with one value changed
-abbrev pub put : {A : Type 0} → (ℕ → A) → ℕ → A → ℕ → A
-put f v x u = if u == v then x else f u
-
 -- whether the rule may be done now
-abbrev pub may : Diner → Rule → Bool
+abbrev pub may : Diner → ForkRule → Bool
 may d (BecomeHungry thirsty) = is_thinking d.phase && thirsty
 may d (AskFork v) = is_hungry d.phase && (not (d.held v) && d.token v)
 may d (GiveFork v) = not (is_eating d.phase) && (d.token v && (d.held v && not (d.clean v)))
@@ -50,7 +47,7 @@ may d Eat = is_hungry d.phase && list_all d.held d.neighbours
 may d (Leave thirsty) = is_eating d.phase && not thirsty
 
 -- what it does then
-abbrev pub act : Diner → Rule → Diner
+abbrev pub act : Diner → ForkRule → Diner
 act d (BecomeHungry thirsty) = record d { phase = Hungry }
 act d (AskFork v) = record d { token = put d.token v false }
 act d (GiveFork v) = record d { held = put d.held v false }
@@ -65,13 +62,9 @@ with_token d v = record d { token = put d.token v true }
 abbrev pub with_fork : Diner → ℕ → Diner
 with_fork d v = record d { held = put d.held v true; clean = put d.clean v true }
 
--- whether the fork of two neighbours starts at this one
-abbrev pub fork_starts_at : PlanValue → ℕ → ℕ → ℕ → Bool
-fork_starts_at plan a v x = option_map_or (λ e. e == x) (fork_end_of plan a v) false
-
 -- at the start every fork is dirty, at the end that the plan names; its request token is at the other
-abbrev pub seated : PlanValue → ℕ → Diner
-seated plan a = record {
+abbrev pub diner_at_start : PlanValue → ℕ → Diner
+diner_at_start plan a = record {
   neighbours = neighbours_of plan a;
   phase = Thinking;
   held = λ v. are_neighbours plan a v && fork_starts_at plan a v a;

@@ -1,3 +1,3 @@
 pub mod Diners
-pub mod Tables
 pub mod Worlds
+pub mod refinement

@@ -1,10 +1,12 @@
 -- All offices of a plan at their tables with the forks on the way, and who precedes whom.
 use Rattle.std.specs.Prelude.{◌≡◌, ℕ, ◌+◌, Bool, true, false, not, ◌==◌, nat_lt, ◌&&◌, ◌||◌, List, [], ◌∷◌, ◌++◌, length, filter, if◌then◌else◌}
-use Rattle.office_map.specs.PlanValue.{PlanValue, are_neighbours, neighbours_of}
-use Rattle.office_map.specs.Precedence.{num, times, comes_before}
+use Rattle.office_map.specs.PlanValue.{PlanValue, are_neighbours, neighbours_of, fork_starts_at}
+use Rattle.office_map.specs.Precedence.{occurrences, comes_before}
 use Rattle.office_map.specs.Precedence as plans
 use Rattle.office_map.specs.Consistency.{IsConsistent, IsAccepted}
-use Rattle.dining_core.specs.Diners.{Diner, Rule, BecomeHungry, AskFork, GiveFork, Eat, Leave, may, act, with_token, with_fork, put, fork_starts_at, seated}
+use Rattle.dining_core.specs.Diners.{Diner, ForkRule, BecomeHungry, AskFork, GiveFork, Eat, Leave, may, act, with_token, with_fork, diner_at_start}
+use Rattle.bottle_values.specs.Maps.{put}
+use Rattle.bottle_values.specs.Lists.{num}
 
 -- each office, and whether an office sent the fork to another, who hasn't taken it
 pub record World : Type 0 where
@@ -13,11 +15,11 @@ pub record World : Type 0 where
 
 -- at the start every office sits at its table, and nothing is on the way
 abbrev pub opening : PlanValue → World
-opening plan = record { diner = seated plan; on_way = λ a v. false }
+opening plan = record { diner = diner_at_start plan; on_way = λ a v. false }
 
 -- an office does a rule, or takes the request token or the fork that it shares with v
 pub data Event : Type 0 where
-  Do : (a : ℕ) (rule : Rule) → Event
+  Do : (a : ℕ) (rule : ForkRule) → Event
   TokenComes : (a v : ℕ) → Event
   ForkComes : (a v : ℕ) → Event
 
@@ -25,7 +27,7 @@ abbrev pub with_way : (ℕ → ℕ → Bool) → ℕ → ℕ → Bool → ℕ �
 with_way way a v b = put way a (put (way a) v b)
 
 -- a fork that is given is on the way
-abbrev pub way_after : (ℕ → ℕ → Bool) → ℕ → Rule → ℕ → ℕ → Bool
+abbrev pub way_after : (ℕ → ℕ → Bool) → ℕ → ForkRule → ℕ → ℕ → Bool
 way_after way a (BecomeHungry thirsty) = way
 way_after way a (AskFork v) = way
 way_after way a (GiveFork v) = with_way way a v true
@@ -60,13 +62,13 @@ abbrev pub fork_places : World → ℕ → ℕ → ℕ
 fork_places w u v = num ((w.diner u).held v) + (num ((w.diner v).held u) + (num (w.on_way u v) + num (w.on_way v u)))
 
 -- each office sits with its neighbours, and the fork of two neighbours is at one place
-pub record IsLaid (plan : PlanValue) (w : World) : Type 0 where
+pub record ForksArePlaced (plan : PlanValue) (w : World) : Type 0 where
   pub neighbours : (a : ℕ) → (w.diner a).neighbours ≡ neighbours_of plan a
   pub one_fork : (u v : ℕ) → are_neighbours plan u v ≡ true → fork_places w u v ≡ 1
 
 -- all offices, each once, in which of two neighbours the one that precedes comes earlier
 pub record IsOrder (plan : PlanValue) (w : World) (order : List ℕ) : Type 0 where
-  pub once : (a : ℕ) → times a order ≡ num (nat_lt a (length plan.offices))
+  pub once : (a : ℕ) → occurrences a order ≡ num (nat_lt a (length plan.offices))
   pub earlier : (u v : ℕ) → are_neighbours plan u v ≡ true → precedes w u v ≡ true → comes_before order u v ≡ true
 
 pub record HasNoRing (plan : PlanValue) (w : World) : Type 0 where
@@ -90,7 +92,7 @@ with_last a order = filter (λ x. not (x == a)) order ++ a ∷ []
 -- ---- laws
 
 abbrev pub EachForkHasOnePlace : Type 0
-EachForkHasOnePlace = (plan : PlanValue) (events : List Event) → IsConsistent plan → IsLaid plan (run plan (opening plan) events)
+EachForkHasOnePlace = (plan : PlanValue) (events : List Event) → IsConsistent plan → ForksArePlaced plan (run plan (opening plan) events)
 
 -- at the start the other end of a dirty fork precedes
 abbrev pub ForksStartDirty : Type 0
@@ -98,12 +100,12 @@ ForksStartDirty = (plan : PlanValue) (u v : ℕ) → are_neighbours plan u v ≡
 
 -- no event but eating changes who precedes whom
 abbrev pub OnlyEatingTurns : Type 0
-OnlyEatingTurns = (plan : PlanValue) (w : World) (e : Event) (u v : ℕ) → IsConsistent plan → IsLaid plan w → eats plan w e ≡ false → are_neighbours plan u v ≡ true →
+OnlyEatingTurns = (plan : PlanValue) (w : World) (e : Event) (u v : ℕ) → IsConsistent plan → ForksArePlaced plan w → eats plan w e ≡ false → are_neighbours plan u v ≡ true →
     precedes (happens plan w e) u v ≡ precedes w u v
 
 -- where an office eats, an order of before, with the eater put last, is one of after
 abbrev pub TheEaterComesLast : Type 0
-TheEaterComesLast = (plan : PlanValue) (w : World) (a : ℕ) (order : List ℕ) → IsConsistent plan → IsLaid plan w → eats plan w (Do a Eat) ≡ true →
+TheEaterComesLast = (plan : PlanValue) (w : World) (a : ℕ) (order : List ℕ) → IsConsistent plan → ForksArePlaced plan w → eats plan w (Do a Eat) ≡ true →
     IsOrder plan w order → IsOrder plan (happens plan w (Do a Eat)) (with_last a order)
 
 -- an order in which the plan's offices precede one another is one of the world at the start

@@ -2,7 +2,7 @@
 //!
 //! - A [`Table`] is an office's side: its phase, and of each neighbour's fork whether it is here, clean, and asked for.
 //!   Each rule call is its row: `NotNow` exactly where the guard is false (clause `not_now`), and else its effect
-//!   (clause `done`). The rows are `may` and `act` in `specs/Diners.antt`; `diner_of`, in `specs/Tables.antt`, says which
+//!   (clause `done`). The rows are `may` and `act` in `specs/Diners.antt`; `diner_of`, in `specs/refinement/Tables.antt`, says which
 //!   office a table means.
 //! - [`laws`] has all tables with the forks on the way (`specs/Worlds.antt`): from an accepted plan precedence never
 //!   has a ring, and only eating turns it, which puts the eater last.
@@ -13,7 +13,7 @@
 mod fault;
 pub mod laws;
 mod phase;
-mod place;
+mod shared_fork;
 mod places;
 mod table;
 #[cfg(test)]
@@ -21,5 +21,5 @@ mod tests;
 
 pub use fault::NotNow;
 pub use phase::Phase;
-pub use place::{Fork, Place};
+pub use shared_fork::{Fork, SharedFork};
 pub use table::Table;

@@ -3,15 +3,15 @@
 ghost use Rattle.std.specs.Prelude.{◌≡◌, ◌<◌, length, map, All, IfOk};
 ghost use Rattle.std.specs.List.{list_all, range_with_len};
 ghost use Rattle.std.proofs.Math.ListN.{set};
-ghost use Rattle.dining_core.specs.Tables.{place_at, holds, used_place, start_place};
+ghost use Rattle.dining_core.specs.refinement.Tables.{place_at, holds, used_shared, start_place};
 
-use crate::place::{Fork, Place};
+use crate::shared_fork::{Fork, SharedFork};
 use office_map::{OfficeId, Plan};
 use std::alloc::{AllocError, Global};
 
-#[tactic(auto, using(crate::proofs::Opened::places_more))]
+#[tactic(auto, using(bottle_values::proofs::Lists::mapped_more))]
 /// What an office has of each pair as the plan starts.
-pub fn open(alloc: Global, plan: &Plan, id: OfficeId) -> Result<Vec<Place>, AllocError>
+pub fn open(alloc: Global, plan: &Plan, id: OfficeId) -> Result<Vec<SharedFork>, AllocError>
     ensures { IfOk result (λ ps. ps.items ≡ map (start_place plan.now id) (range_with_len 0 (length plan.now.offices))) }
 {
     let mut places = Vec::with_capacity(alloc, plan.offices())?;
@@ -21,24 +21,24 @@ pub fn open(alloc: Global, plan: &Plan, id: OfficeId) -> Result<Vec<Place>, Allo
     Ok(places)
 }
 
-fn start(plan: &Plan, id: OfficeId, other: OfficeId) -> Place
+fn start(plan: &Plan, id: OfficeId, other: OfficeId) -> SharedFork
     ensures { result ≡ start_place plan.now id other }
 {
     let near = plan.are_neighbours(id, other);
     let here = near && plan.fork_end(id, other) == id;
-    Place {
+    SharedFork {
         fork: if here { Fork::Dirty } else { Fork::Away },
         token: near && !here,
     }
 }
 
 /// What is here of the pair with that office.
-pub fn at(places: &[Place], v: OfficeId) -> Place
+pub fn at(places: &[SharedFork], v: OfficeId) -> SharedFork
     ensures { result ≡ place_at places.now v }
 {
     match places.get(v.index()) {
         Some(place) => *place,
-        None => Place {
+        None => SharedFork {
             fork: Fork::Away,
             token: false,
         },
@@ -46,7 +46,7 @@ pub fn at(places: &[Place], v: OfficeId) -> Place
 }
 
 /// Whether the fork of each of these is here.
-pub fn hold_all(places: &[Place], neighbours: &[OfficeId]) -> bool
+pub fn hold_all(places: &[SharedFork], neighbours: &[OfficeId]) -> bool
     requires { All (λ v. v < length places.now) neighbours.now }
     ensures { result ≡ list_all (holds places.now) neighbours.now }
 {
@@ -60,8 +60,8 @@ pub fn hold_all(places: &[Place], neighbours: &[OfficeId]) -> bool
 }
 
 /// Every fork that is here was used.
-pub fn use_all(places: &mut Vec<Place>)
-    ensures { places.new.items ≡ map used_place places.old.items }
+pub fn use_all(places: &mut Vec<SharedFork>)
+    ensures { places.new.items ≡ map used_shared places.old.items }
 {
     for place in places.iter_mut() {
         place.fork = place.fork.used();

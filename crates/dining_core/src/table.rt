@@ -2,12 +2,12 @@
 
 ghost use Rattle.std.specs.Prelude.{◌≡◌, ◌<◌, ◌↔◌, length, IsErr, IfOk, OnOk, OnErr, All, true, false, ◌==◌};
 ghost use Rattle.std.specs.List.{list_any};
-ghost use Rattle.dining_core.specs.Diners.{BecomeHungry, AskFork, GiveFork, Eat, Leave, may, act, with_token, with_fork, seated};
-ghost use Rattle.dining_core.specs.Tables.{diner_of, holds, has_clean, has_token};
+ghost use Rattle.dining_core.specs.Diners.{BecomeHungry, AskFork, GiveFork, Eat, Leave, may, act, with_token, with_fork, diner_at_start};
+ghost use Rattle.dining_core.specs.refinement.Tables.{diner_of, holds, has_clean, has_token};
 
 use crate::fault::NotNow;
 use crate::phase::Phase;
-use crate::place::{Fork, Place};
+use crate::shared_fork::{Fork, SharedFork};
 use crate::places;
 use office_map::{OfficeId, Plan};
 use std::alloc::{AllocError, Global};
@@ -18,12 +18,12 @@ use std::marker::Model;
 pub struct Table {
     neighbours: Vec<OfficeId>,
     phase: Phase,
-    places: Vec<Place>,
+    places: Vec<SharedFork>,
 }
 
 impl Model for Table {
     ghost use Rattle.std.specs.Prelude.{◌<◌, length, All};
-    ghost use Rattle.dining_core.specs.Tables.{TableValue};
+    ghost use Rattle.dining_core.specs.refinement.Tables.{TableValue};
 
     ghost Value = { TableValue };
 
@@ -36,7 +36,7 @@ impl Table {
     /// The table of an office as the plan starts.
     pub fn open(alloc: Global, plan: &Plan, id: OfficeId) -> Result<Table, AllocError>
         requires { id < length plan.now.offices }
-        ensures { IfOk result (λ t. diner_of t ≡ seated plan.now id) }
+        ensures { IfOk result (λ t. diner_of t ≡ diner_at_start plan.now id) }
     {
         let neighbours = plan.neighbours(id).to_vec(alloc)?;
         let places = places::open(alloc, plan, id)?;
@@ -85,7 +85,7 @@ impl Table {
     pub fn hungry(&mut self, thirsty: bool) -> Result<(), NotNow>
         ensures not_now { IsErr result ↔ (may (diner_of self.old) (BecomeHungry thirsty) ≡ false) }
         ensures done { OnOk result (diner_of self.new ≡ act (diner_of self.old) (BecomeHungry thirsty)) }
-        ensures kept { OnErr result (self.new ≡ self.old) }
+        ensures unchanged { OnErr result (self.new ≡ self.old) }
     {
         if !(matches!(self.phase, Phase::Thinking) && thirsty) {
             return Err(NotNow);
@@ -98,13 +98,13 @@ impl Table {
     pub fn ask_fork(&mut self, v: OfficeId) -> Result<(), NotNow>
         ensures not_now { IsErr result ↔ (may (diner_of self.old) (AskFork v) ≡ false) }
         ensures done { OnOk result (diner_of self.new ≡ act (diner_of self.old) (AskFork v)) }
-        ensures kept { OnErr result (self.new ≡ self.old) }
+        ensures unchanged { OnErr result (self.new ≡ self.old) }
     {
         let place = places::at(&self.places, v);
         if !(matches!(self.phase, Phase::Hungry) && !place.fork.is_held() && place.token) {
             return Err(NotNow);
         }
-        self.places[v.index()] = Place {
+        self.places[v.index()] = SharedFork {
             token: false,
             ..place
         };
@@ -115,7 +115,7 @@ impl Table {
     pub fn give_fork(&mut self, v: OfficeId) -> Result<(), NotNow>
         ensures not_now { IsErr result ↔ (may (diner_of self.old) (GiveFork v) ≡ false) }
         ensures done { OnOk result (diner_of self.new ≡ act (diner_of self.old) (GiveFork v)) }
-        ensures kept { OnErr result (self.new ≡ self.old) }
+        ensures unchanged { OnErr result (self.new ≡ self.old) }
     {
         if matches!(self.phase, Phase::Eating) {
             return Err(NotNow);
@@ -131,7 +131,7 @@ impl Table {
     pub fn eat(&mut self) -> Result<(), NotNow>
         ensures not_now { IsErr result ↔ (may (diner_of self.old) Eat ≡ false) }
         ensures done { OnOk result (diner_of self.new ≡ act (diner_of self.old) Eat) }
-        ensures kept { OnErr result (self.new ≡ self.old) }
+        ensures unchanged { OnErr result (self.new ≡ self.old) }
     {
         let has_all = places::hold_all(&self.places, self.neighbours());
         if !(matches!(self.phase, Phase::Hungry) && has_all) {
@@ -146,7 +146,7 @@ impl Table {
     pub fn leave(&mut self, thirsty: bool) -> Result<(), NotNow>
         ensures not_now { IsErr result ↔ (may (diner_of self.old) (Leave thirsty) ≡ false) }
         ensures done { OnOk result (diner_of self.new ≡ act (diner_of self.old) (Leave thirsty)) }
-        ensures kept { OnErr result (self.new ≡ self.old) }
+        ensures unchanged { OnErr result (self.new ≡ self.old) }
     {
         if !(matches!(self.phase, Phase::Eating) && !thirsty) {
             return Err(NotNow);

@@ -1,9 +1,8 @@
-pub mod Lists
-pub mod Counted
-pub mod Placed
-pub mod Opened
-pub mod Sessions
-pub mod Spots
-pub mod Travels
-pub mod Needs
-pub mod Freed
+pub mod MissingCount
+pub mod BarUpdates
+pub mod OpeningRefines
+pub mod SessionUpdates
+pub mod UniquePlace
+pub mod BottleLaws
+pub mod DrinkersNeeds
+pub mod FreedRecords

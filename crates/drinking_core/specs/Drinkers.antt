@@ -4,9 +4,10 @@ use Rattle.std.specs.List.{list_all, list_any}
 use Rattle.bottle_values.specs.declared.Value.{Value}
 use Rattle.bottle_values.specs.Maps.{put, write_all}
 use Rattle.office_map.specs.declared.entries.RecordEntry.{RecordEntry}
-use Rattle.office_map.specs.PlanValue.{PlanValue, records_of, start_end}
+use Rattle.office_map.specs.PlanValue.{PlanValue, records_of, start_end, peer}
 use Rattle.drinking_core.specs.declared.phase.Phase.{Phase}
 use Rattle.drinking_core.specs.declared.phase.Phase.TheVariants.{Tranquil, Thirsty, Drinking}
+use Rattle.bottle_values.specs.Lists.{is_among}
 
 -- the records of the office, and of each whether the current session needs it, the bottle with its value if it is here,
 -- whether its request token is here, and the other end
@@ -20,12 +21,12 @@ pub record Drinker : Type 0 where
 
 -- the rules: Start with the records of the first waiting session, if one waits; GiveBottle with the neighbours whose
 -- fork is held; Finish with what the session wrote, if its work has ended
-pub data Rule : Type 0 where
-  Start : (session : Option (List ℕ)) → Rule
-  AskBottle : (r : ℕ) → Rule
-  GiveBottle : (r : ℕ) (forks : ℕ → Bool) → Rule
-  Drink : Rule
-  Finish : (writes : Option (List (ℕ × Value))) → Rule
+pub data BottleRule : Type 0 where
+  Start : (session : Option (List ℕ)) → BottleRule
+  AskBottle : (r : ℕ) → BottleRule
+  GiveBottle : (r : ℕ) (forks : ℕ → Bool) → BottleRule
+  Drink : BottleRule
+  Finish : (writes : Option (List (ℕ × Value))) → BottleRule
 
 abbrev pub is_tranquil : Phase → Bool
 is_tranquil Tranquil = true
@@ -42,9 +43,6 @@ is_drinking Tranquil = false
 is_drinking Thirsty = false
 is_drinking Drinking = true
 
-abbrev pub is_among : ℕ → List ℕ → Bool
-is_among r rs = list_any (λ q. q == r) rs
-
 abbrev pub holds : Drinker → ℕ → Bool
 holds d r = is_some (d.bottle r)
 
@@ -53,7 +51,7 @@ abbrev pub is_served : Drinker → ℕ → Bool
 is_served d r = not (d.needed r) || holds d r
 
 -- whether the rule may be done now
-abbrev pub may : Drinker → Rule → Bool
+abbrev pub may : Drinker → BottleRule → Bool
 may d (Start session) = is_tranquil d.phase && is_some session
 may d (AskBottle r) = is_thirsty d.phase && (d.needed r && (not (holds d r) && d.token r))
 may d (GiveBottle r forks) = d.token r && (holds d r && not (d.needed r && (is_drinking d.phase || forks (d.peer r))))
@@ -67,14 +65,14 @@ value_after writes r v = write_all writes (λ q. v) r
 -- what it does then
 abbrev pub started : Drinker → Option (List ℕ) → Drinker
 started d None = d
-started d (Some rs) = record d { phase = Thirsty; needed = λ r. is_among r rs }
+started d (Some rs) = record d { phase = Thirsty; needed = λ r. is_among rs r }
 
 -- what is written goes into the bottles that are here
 abbrev pub finished : Drinker → Option (List (ℕ × Value)) → Drinker
 finished d None = d
 finished d (Some writes) = record d { phase = Tranquil; needed = λ r. false; bottle = λ r. option_map (value_after writes r) (d.bottle r) }
 
-abbrev pub act : Drinker → Rule → Drinker
+abbrev pub act : Drinker → BottleRule → Drinker
 act d (Start session) = started d session
 act d (AskBottle r) = record d { token = put d.token r false }
 act d (GiveBottle r forks) = record d { bottle = put d.bottle r None }
@@ -93,9 +91,6 @@ with_bottle d r x = record d { bottle = put d.bottle r (Some x) }
 abbrev pub token_end : RecordEntry → ℕ
 token_end e = if e.starts_at_first then e.second else e.first
 
-abbrev pub other_end : ℕ → RecordEntry → ℕ
-other_end a e = if e.first == a then e.second else e.first
-
 -- what starts at an office of a record, which the plan may not have
 abbrev pub start_bottle : ℕ → Option RecordEntry → Option Value
 start_bottle a None = None
@@ -105,10 +100,6 @@ abbrev pub start_token : ℕ → Option RecordEntry → Bool
 start_token a None = false
 start_token a (Some e) = a == token_end e
 
-abbrev pub start_peer : ℕ → Option RecordEntry → ℕ
-start_peer a None = 0
-start_peer a (Some e) = other_end a e
-
 -- at the start every bottle is at the end that the plan names, with the plan's value; its request token is at the other
 abbrev pub opened : PlanValue → ℕ → Drinker
 opened plan a = record {
@@ -117,5 +108,5 @@ opened plan a = record {
   needed = λ r. false;
   bottle = λ r. start_bottle a (slice_get plan.records r);
   token = λ r. start_token a (slice_get plan.records r);
-  peer = λ r. start_peer a (slice_get plan.records r);
+  peer = peer plan a;
 }

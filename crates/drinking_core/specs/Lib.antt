@@ -1,3 +1,3 @@
 pub mod Drinkers
-pub mod Bars
 pub mod Worlds
+pub mod refinement

@@ -5,7 +5,7 @@ use Rattle.bottle_values.specs.declared.Value.{Value}
 use Rattle.bottle_values.specs.Maps.{put}
 use Rattle.office_map.specs.declared.entries.RecordEntry.{RecordEntry}
 use Rattle.office_map.specs.PlanValue.{PlanValue, is_end, start_end}
-use Rattle.drinking_core.specs.Drinkers.{Drinker, Rule, Start, AskBottle, GiveBottle, Drink, Finish, is_drinking, is_served, may, act, with_token, with_bottle, value_after, opened}
+use Rattle.drinking_core.specs.Drinkers.{Drinker, BottleRule, Start, AskBottle, GiveBottle, Drink, Finish, is_drinking, is_served, may, act, with_token, with_bottle, value_after, opened}
 
 -- each office; of each record the bottle that was sent to an office which hasn't taken it, with its value; and whether
 -- its request token was sent to an office which hasn't taken it
@@ -20,7 +20,7 @@ opening plan = record { drinker = opened plan; bottle_to = λ r a. None; token_t
 
 -- an office does a rule, or takes the request token or the bottle of a record
 pub data Event : Type 0 where
-  Do : (a : ℕ) (rule : Rule) → Event
+  Do : (a : ℕ) (rule : BottleRule) → Event
   TokenComes : (a r : ℕ) → Event
   BottleComes : (a r : ℕ) → Event
 
@@ -28,7 +28,7 @@ abbrev pub put_to : {A : Type 0} → (ℕ → ℕ → A) → ℕ → ℕ → A �
 put_to way r a x = put way r (put (way r) a x)
 
 -- a bottle that is given is on the way to the other end
-abbrev pub bottles_after : (ℕ → ℕ → Option Value) → Drinker → Rule → ℕ → ℕ → Option Value
+abbrev pub bottles_after : (ℕ → ℕ → Option Value) → Drinker → BottleRule → ℕ → ℕ → Option Value
 bottles_after way d (Start session) = way
 bottles_after way d (AskBottle r) = way
 bottles_after way d (GiveBottle r forks) = put_to way r (d.peer r) (d.bottle r)
@@ -36,14 +36,14 @@ bottles_after way d Drink = way
 bottles_after way d (Finish writes) = way
 
 -- and so is the token of a bottle that is asked for
-abbrev pub tokens_after : (ℕ → ℕ → Bool) → Drinker → Rule → ℕ → ℕ → Bool
+abbrev pub tokens_after : (ℕ → ℕ → Bool) → Drinker → BottleRule → ℕ → ℕ → Bool
 tokens_after way d (Start session) = way
 tokens_after way d (AskBottle r) = put_to way r (d.peer r) true
 tokens_after way d (GiveBottle r forks) = way
 tokens_after way d Drink = way
 tokens_after way d (Finish writes) = way
 
-abbrev pub done : World → ℕ → Rule → World
+abbrev pub done : World → ℕ → BottleRule → World
 done w a rule = record {
   drinker = put w.drinker a (act (w.drinker a) rule);
   bottle_to = bottles_after w.bottle_to (w.drinker a) rule;
@@ -58,7 +58,7 @@ abbrev pub token_taken : World → ℕ → ℕ → World
 token_taken w a r = record { drinker = put w.drinker a (with_token (w.drinker a) r); bottle_to = w.bottle_to; token_to = put_to w.token_to r a false }
 
 -- an office of the plan does a rule where the guard holds
-abbrev pub does : PlanValue → World → ℕ → Rule → Bool
+abbrev pub does : PlanValue → World → ℕ → BottleRule → Bool
 does plan w a rule = nat_lt a (length plan.offices) && may (w.drinker a) rule
 
 -- what was sent comes

@@ -3,36 +3,37 @@
 ghost use Rattle.std.specs.Prelude.{◌≡◌, ◌<◌, ◌↔◌, length, IsErr, IfOk, OnOk, OnErr, All, true, false, ◌&&◌, ◌||◌};
 ghost use Rattle.std.specs.List.{list_all};
 ghost use Rattle.std.specs.Option.{ForSome, option_copied};
-ghost use Rattle.dining_core.specs.Tables.{diner_of};
-ghost use Rattle.drinking_core.specs.Drinkers.{Start, AskBottle, GiveBottle, Drink, Finish, may, act, with_token, with_bottle, is_among, is_served, is_drinking, holds, opened};
-ghost use Rattle.drinking_core.specs.Bars.{drinker_of};
+ghost use Rattle.dining_core.specs.refinement.Tables.{diner_of};
+ghost use Rattle.drinking_core.specs.Drinkers.{Start, AskBottle, GiveBottle, Drink, Finish, may, act, with_token, with_bottle, is_served, is_drinking, holds, opened};
+ghost use Rattle.drinking_core.specs.refinement.Bars.{drinker_of};
 
 use crate::phase::Phase;
-use crate::place::Place;
+use crate::shared_bottle::SharedBottle;
 use crate::places;
 use bottle_values::Value;
 use dining_core::{NotNow, Table};
 use office_map::{OfficeId, Plan, RecordId};
 use std::alloc::{AllocError, Global};
 use std::marker::Model;
+ghost use Rattle.bottle_values.specs.Lists.{is_among};
 
 /// The bottles of an office: which are here with their values, and how far the office is with its current session.
 #[derive(Debug, Drop)]
 pub struct Bar {
     records: Vec<RecordId>,
     phase: Phase,
-    places: Vec<Place>,
+    places: Vec<SharedBottle>,
     missing: usize,
 }
 
 impl Model for Bar {
-    ghost use Rattle.drinking_core.specs.Bars.{BarValue, IsKept};
+    ghost use Rattle.drinking_core.specs.refinement.Bars.{BarValue, IsBarOf};
 
     ghost Value = { BarValue };
 
     ghost view = { λ b. record { records = b.records.items; phase = b.phase; places = b.places.items } };
 
-    ghost invariant = { λ b. IsKept b.records.items b.phase b.places.items b.missing };
+    ghost invariant = { λ b. IsBarOf b.records.items b.phase b.places.items b.missing };
 }
 
 impl Bar {
@@ -101,10 +102,10 @@ impl Bar {
 
     /// A tranquil office begins with the first waiting session, which needs these records; none where no session waits.
     pub fn start(&mut self, session: Option<&[RecordId]>) -> Result<(), NotNow>
-        requires { ForSome session (λ rs. All (λ r. is_among r (drinker_of self.old).records ≡ true) rs.now) }
+        requires { ForSome session (λ rs. All (λ r. is_among (drinker_of self.old).records r ≡ true) rs.now) }
         ensures not_now { IsErr result ↔ (may (drinker_of self.old) (Start (option_copied session.entry)) ≡ false) }
         ensures done { OnOk result (drinker_of self.new ≡ act (drinker_of self.old) (Start (option_copied session.entry))) }
-        ensures kept { OnErr result (self.new ≡ self.old) }
+        ensures unchanged { OnErr result (self.new ≡ self.old) }
     {
         let Some(records) = session else {
             return Err(NotNow);
@@ -121,7 +122,7 @@ impl Bar {
     pub fn ask_bottle(&mut self, r: RecordId) -> Result<(), NotNow>
         ensures not_now { IsErr result ↔ (may (drinker_of self.old) (AskBottle r) ≡ false) }
         ensures done { OnOk result (drinker_of self.new ≡ act (drinker_of self.old) (AskBottle r)) }
-        ensures kept { OnErr result (self.new ≡ self.old) }
+        ensures unchanged { OnErr result (self.new ≡ self.old) }
     {
         if !self.phase.is_thirsty() {
             return Err(NotNow);
@@ -130,20 +131,20 @@ impl Bar {
         if !place.is_askable() {
             return Err(NotNow);
         }
-        self.places[r.index()] = Place {
+        self.places[r.index()] = SharedBottle {
             token: false,
             ..place
         };
         Ok(())
     }
 
-    #[tactic(auto, using(crate::proofs::Counted::count_few))]
+    #[tactic(auto, using(crate::proofs::MissingCount::count_few))]
     /// An office sends a bottle that is asked for, with its value, unless its session needs the bottle and works, or
     /// needs it and has the fork.
     pub fn give_bottle(&mut self, r: RecordId, table: &Table) -> Result<(), NotNow>
         ensures not_now { IsErr result ↔ (may (drinker_of self.old) (GiveBottle r (diner_of table.now).held) ≡ false) }
         ensures done { OnOk result (drinker_of self.new ≡ act (drinker_of self.old) (GiveBottle r (diner_of table.now).held)) }
-        ensures kept { OnErr result (self.new ≡ self.old) }
+        ensures unchanged { OnErr result (self.new ≡ self.old) }
     {
         let place = places::at(&self.places, r);
         if !place.is_owed() {
@@ -153,7 +154,7 @@ impl Bar {
             return Err(NotNow);
         }
         self.missing += place.weight();
-        self.places[r.index()] = Place {
+        self.places[r.index()] = SharedBottle {
             bottle: None,
             ..place
         };
@@ -173,7 +174,7 @@ impl Bar {
     pub fn drink(&mut self) -> Result<(), NotNow>
         ensures not_now { IsErr result ↔ (may (drinker_of self.old) Drink ≡ false) }
         ensures done { OnOk result (drinker_of self.new ≡ act (drinker_of self.old) Drink) }
-        ensures kept { OnErr result (self.new ≡ self.old) }
+        ensures unchanged { OnErr result (self.new ≡ self.old) }
     {
         if !(self.phase.is_thirsty() && self.has_needed()) {
             return Err(NotNow);
@@ -188,7 +189,7 @@ impl Bar {
     pub fn finish(&mut self, writes: Option<&[(RecordId, Value)]>) -> Result<(), NotNow>
         ensures not_now { IsErr result ↔ (may (drinker_of self.old) (Finish (option_copied writes.entry)) ≡ false) }
         ensures done { OnOk result (drinker_of self.new ≡ act (drinker_of self.old) (Finish (option_copied writes.entry))) }
-        ensures kept { OnErr result (self.new ≡ self.old) }
+        ensures unchanged { OnErr result (self.new ≡ self.old) }
     {
         let Some(writes) = writes else {
             return Err(NotNow);
@@ -205,12 +206,12 @@ impl Bar {
 
     /// The request token of a record's bottle came.
     pub fn got_token(&mut self, r: RecordId)
-        requires ours { is_among r (drinker_of self.old).records ≡ true }
+        requires ours { is_among (drinker_of self.old).records r ≡ true }
         requires away { (drinker_of self.old).token r ≡ false }
         ensures { drinker_of self.new ≡ with_token (drinker_of self.old) r }
     {
         let place = places::at(&self.places, r);
-        self.places[r.index()] = Place {
+        self.places[r.index()] = SharedBottle {
             token: true,
             ..place
         };
@@ -218,13 +219,13 @@ impl Bar {
 
     /// A record's bottle came with this value.
     pub fn got_bottle(&mut self, r: RecordId, value: Value)
-        requires ours { is_among r (drinker_of self.old).records ≡ true }
+        requires ours { is_among (drinker_of self.old).records r ≡ true }
         requires away { holds (drinker_of self.old) r ≡ false }
         ensures { drinker_of self.new ≡ with_bottle (drinker_of self.old) r value }
     {
         let place = places::at(&self.places, r);
         self.missing -= place.weight();
-        self.places[r.index()] = Place {
+        self.places[r.index()] = SharedBottle {
             bottle: Some(value),
             ..place
         };

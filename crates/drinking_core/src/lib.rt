@@ -3,7 +3,7 @@
 //! - A [`Bar`] is an office's side: its phase, which records its session needs, and of each of its records the bottle
 //!   with its value, if it is here, and whether the bottle's request token is. Each rule call is its row: `NotNow`
 //!   exactly where the guard is false (clause `not_now`), and else its effect (clause `done`). The rows are `may` and
-//!   `act` in `specs/Drinkers.antt`; `drinker_of`, in `specs/Bars.antt`, says which office a bar means.
+//!   `act` in `specs/Drinkers.antt`; `drinker_of`, in `specs/refinement/Bars.antt`, says which office a bar means.
 //! - [`laws`] has all bars with the bottles on the way (`specs/Worlds.antt`): each bottle has one place, and only the end of
 //!   a session changes the value of one.
 //!
@@ -13,7 +13,7 @@
 mod bar;
 pub mod laws;
 mod phase;
-mod place;
+mod shared_bottle;
 mod places;
 #[cfg(test)]
 mod tests;

@@ -3,17 +3,19 @@
 ghost use Rattle.std.specs.Prelude.{◌≡◌, ◌+◌, ◌<◌, length, map, slice_get, All, IfOk};
 ghost use Rattle.std.specs.List.{range_with_len};
 ghost use Rattle.std.proofs.Math.ListN.{set};
-ghost use Rattle.drinking_core.specs.Drinkers.{start_bottle, start_token, start_peer};
-ghost use Rattle.drinking_core.specs.Bars.{place_at, start_place, needed_place, with_needed, written_place, with_writes, freed_place, with_freed, count_missing, num, is_missing};
+ghost use Rattle.drinking_core.specs.Drinkers.{start_bottle, start_token};
+ghost use Rattle.drinking_core.specs.refinement.Bars.{place_at, start_place, needed_place, with_needed, written_place, with_writes, freed_place, with_freed, count_missing, is_missing};
 
-use crate::place::Place;
+use crate::shared_bottle::SharedBottle;
 use bottle_values::Value;
 use office_map::{OfficeId, Plan, RecordId};
 use std::alloc::{AllocError, Global};
+ghost use Rattle.bottle_values.specs.Lists.{num};
+ghost use Rattle.office_map.specs.PlanValue.{peer};
 
 /// What an office has of each record as the plan starts.
-#[tactic(auto, using(crate::proofs::Opened::places_more))]
-pub fn open(alloc: Global, plan: &Plan, id: OfficeId) -> Result<Vec<Place>, AllocError>
+#[tactic(auto, using(bottle_values::proofs::Lists::mapped_more))]
+pub fn open(alloc: Global, plan: &Plan, id: OfficeId) -> Result<Vec<SharedBottle>, AllocError>
     ensures { IfOk result (λ ps. ps.items ≡ map (start_place plan.now id) (range_with_len 0 (length plan.now.records))) }
 {
     let mut places = Vec::with_capacity(alloc, plan.records())?;
@@ -23,15 +25,15 @@ pub fn open(alloc: Global, plan: &Plan, id: OfficeId) -> Result<Vec<Place>, Allo
     Ok(places)
 }
 
-fn start(plan: &Plan, id: OfficeId, r: RecordId) -> Place
+fn start(plan: &Plan, id: OfficeId, r: RecordId) -> SharedBottle
     requires { r < length plan.now.records }
     ensures { result ≡ start_place plan.now id r }
 {
-    Place {
+    SharedBottle {
         needed: false,
         bottle: start_bottle(plan, id, r),
         token: starts_with_token(plan, id, r),
-        peer: start_peer(plan, id, r),
+        peer: plan.other_end(r, id),
     }
 }
 
@@ -46,7 +48,7 @@ fn start_bottle(plan: &Plan, id: OfficeId, r: RecordId) -> Option<Value>
     }
 }
 
-#[tactic(auto, using(crate::proofs::Opened::token_starts))]
+#[tactic(auto, using(crate::proofs::OpeningRefines::token_starts))]
 fn starts_with_token(plan: &Plan, id: OfficeId, r: RecordId) -> bool
     requires { r < length plan.now.records }
     ensures { result ≡ start_token id (slice_get plan.now.records r) }
@@ -60,22 +62,13 @@ fn starts_with_token(plan: &Plan, id: OfficeId, r: RecordId) -> bool
     id == other
 }
 
-#[tactic(auto, using(crate::proofs::Opened::peer_starts))]
-fn start_peer(plan: &Plan, id: OfficeId, r: RecordId) -> OfficeId
-    requires { r < length plan.now.records }
-    ensures { result ≡ start_peer id (slice_get plan.now.records r) }
-{
-    let (first, second) = plan.ends(r);
-    if first == id { second } else { first }
-}
-
 /// What is here of that record.
-pub fn at(places: &[Place], r: RecordId) -> Place
+pub fn at(places: &[SharedBottle], r: RecordId) -> SharedBottle
     ensures { result ≡ place_at places.now r }
 {
     match places.get(r.index()) {
         Some(place) => *place,
-        None => Place {
+        None => SharedBottle {
             needed: false,
             bottle: None,
             token: false,
@@ -84,9 +77,9 @@ pub fn at(places: &[Place], r: RecordId) -> Place
     }
 }
 
-#[tactic(auto, using(crate::proofs::Counted::count_more, crate::proofs::Counted::count_few))]
+#[tactic(auto, using(crate::proofs::MissingCount::count_more, crate::proofs::MissingCount::count_few))]
 /// These records are needed from now on. The answer is how many bottles are missing now that weren't before.
-pub fn need_all(places: &mut Vec<Place>, records: &[RecordId]) -> usize
+pub fn need_all(places: &mut Vec<SharedBottle>, records: &[RecordId]) -> usize
     requires { All (λ r. r < length places.old.items) records.now }
     ensures places { places.new.items ≡ with_needed records.now places.old.items }
     ensures missing { count_missing places.new.items ≡ count_missing places.old.items + result }
@@ -99,13 +92,13 @@ pub fn need_all(places: &mut Vec<Place>, records: &[RecordId]) -> usize
 }
 
 // The record is needed from now on; 1 where its bottle is missing now and wasn't before.
-fn need(places: &mut Vec<Place>, r: RecordId) -> usize
+fn need(places: &mut Vec<SharedBottle>, r: RecordId) -> usize
     requires { r < length places.old.items }
     ensures places { places.new.items ≡ set places.old.items r (needed_place (place_at places.old.items r)) }
     ensures missing { num (is_missing (needed_place (place_at places.old.items r))) ≡ num (is_missing (place_at places.old.items r)) + result }
 {
     let place = at(places, r);
-    places[r.index()] = Place {
+    places[r.index()] = SharedBottle {
         needed: true,
         ..place
     };
@@ -117,7 +110,7 @@ fn need(places: &mut Vec<Place>, r: RecordId) -> usize
 }
 
 /// None of these records is needed from now on.
-pub fn free_all(places: &mut Vec<Place>, records: &[RecordId])
+pub fn free_all(places: &mut Vec<SharedBottle>, records: &[RecordId])
     ensures { places.new.items ≡ with_freed records.now places.old.items }
 {
     for r in records {
@@ -125,7 +118,7 @@ pub fn free_all(places: &mut Vec<Place>, records: &[RecordId])
     }
 }
 
-fn free(places: &mut Vec<Place>, r: RecordId)
+fn free(places: &mut Vec<SharedBottle>, r: RecordId)
     ensures { places.new.items ≡ set places.old.items r (freed_place (place_at places.old.items r)) }
 {
     if let Some(place) = places.get_mut(r.index()) {
@@ -134,7 +127,7 @@ fn free(places: &mut Vec<Place>, r: RecordId)
 }
 
 /// These values go into the bottles that are here.
-pub fn write_all(places: &mut Vec<Place>, writes: &[(RecordId, Value)])
+pub fn write_all(places: &mut Vec<SharedBottle>, writes: &[(RecordId, Value)])
     ensures { places.new.items ≡ with_writes writes.now places.old.items }
 {
     for (r, value) in writes {
@@ -142,12 +135,12 @@ pub fn write_all(places: &mut Vec<Place>, writes: &[(RecordId, Value)])
     }
 }
 
-fn write(places: &mut Vec<Place>, r: RecordId, value: Value)
+fn write(places: &mut Vec<SharedBottle>, r: RecordId, value: Value)
     ensures { places.new.items ≡ set places.old.items r (written_place value (place_at places.old.items r)) }
 {
     let place = at(places, r);
     if place.bottle.is_some() {
-        places[r.index()] = Place {
+        places[r.index()] = SharedBottle {
             bottle: Some(value),
             ..place
         };

@@ -1,6 +1,5 @@
 ghost use Rattle.std.specs.Prelude.{◌≡◌};
-ghost use Rattle.drinking_core.specs.Drinkers.{is_among};
-ghost use Rattle.drinking_core.specs.Bars.{drinker_of};
+ghost use Rattle.drinking_core.specs.refinement.Bars.{drinker_of};
 
 use super::*;
 use bottle_values::Value;
@@ -10,6 +9,7 @@ use std::alloc::{AllocError, Global};
 use std::fmt::Write;
 use std::process::Abort;
 use std::test::Fail;
+ghost use Rattle.bottle_values.specs.Lists.{is_among};
 
 const TWO_OFFICES: &str =
     "plan 1 run 42\noffice a -\noffice b -\npair a b fork a\nrecord x a b 100 at a\nrecord y a b 0 at b\n";
@@ -60,7 +60,7 @@ fn seats(rt: &impl Abort, alloc: Global) -> Result<(Seat, Seat), Fail> {
 }
 
 fn has_record(bar: &Bar, r: RecordId) -> bool
-    ensures { result ≡ is_among r (drinker_of bar.now).records }
+    ensures { result ≡ is_among (drinker_of bar.now).records r }
 {
     bar.records().iter().any(|q| *q == r)
 }

@@ -1,7 +1,7 @@
-pub mod Numbers
-pub mod HeaderLemmas
-pub mod Writing
-pub mod Grammar
-pub mod Faults
-pub mod Reading
-pub mod Encoding
+pub mod BigEndian
+pub mod HeaderSpelling
+pub mod BufferWrites
+pub mod SpellingUnique
+pub mod FirstFaults
+pub mod DecodeSpells
+pub mod EncodeSpells

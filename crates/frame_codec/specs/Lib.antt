@@ -1,4 +1,4 @@
 pub mod Frame
 pub mod Header
-pub mod Parts
 pub mod Version01
+pub mod refinement

@@ -4,7 +4,7 @@ ghost use Rattle.std.specs.Prelude.{◌≡◌, ◌≢◌, ◌≤◌, ◌++◌, l
 ghost use Rattle.std.specs.Result.{result_err};
 ghost use Rattle.frame_codec.specs.Frame.{IsFrame};
 ghost use Rattle.frame_codec.specs.Header.{ack_kind, data_kind, header, header_fault, kind_of};
-ghost use Rattle.frame_codec.specs.Parts.{BeginsWith, code_of, is_numbered_by};
+ghost use Rattle.frame_codec.specs.refinement.DecodedParts.{BeginsWith, code_of, is_numbered_by};
 
 use crate::fault::FrameFault;
 use crate::frame::{Frame, MAX_NUMBER};

@@ -3,7 +3,7 @@
 ghost use Rattle.std.specs.Prelude.{◌≡◌, ◌≤◌, ◌++◌, length, take, drop, IfOk, Ok};
 ghost use Rattle.std.specs.Result.{result_err};
 ghost use Rattle.frame_codec.specs.Frame.{Fields, IsMsg};
-ghost use Rattle.frame_codec.specs.Parts.{message_fault};
+ghost use Rattle.frame_codec.specs.refinement.DecodedParts.{message_fault};
 ghost use Rattle.frame_codec.specs.Version01.{Spells, first_fault, message, spelling};
 
 use crate::fault::FrameFault;

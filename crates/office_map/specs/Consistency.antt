@@ -4,7 +4,7 @@ use Rattle.std.specs.Result.{MatchResult}
 use Rattle.office_map.specs.declared.entries.OfficeEntry.{OfficeEntry}
 use Rattle.office_map.specs.declared.entries.PairEntry.{PairEntry}
 use Rattle.office_map.specs.declared.entries.RecordEntry.{RecordEntry}
-use Rattle.office_map.specs.declared.fault.Refusal.{Refusal}
+use Rattle.office_map.specs.declared.fault.PlanRefusal.{PlanRefusal}
 use Rattle.office_map.specs.PlanValue.{PlanValue, no_address, joins, are_neighbours, records_between}
 use Rattle.office_map.specs.Precedence.{HasOrder}
 use Rattle.office_map.specs.PlanText.{plan_of, IsLineOf}
@@ -37,7 +37,7 @@ abbrev pub IsComplete : PlanValue → Type 0
 IsComplete p = IsConsistent p × (2 ≤ length p.offices)
 
 abbrev pub ReadsCompletePlans : Type 0
-ReadsCompletePlans = (text : List ℕ) → MatchResult (plan_of text) IsComplete (λ (f : Refusal). IsLineOf text f.line)
+ReadsCompletePlans = (text : List ℕ) → MatchResult (plan_of text) IsComplete (λ (f : PlanRefusal). IsLineOf text f.line)
 
 -- What holds of every plan that is accepted: it is complete, and precedence has no ring at the start.
 pub record IsAccepted (p : PlanValue) : Type 0 where

@@ -5,9 +5,9 @@ use Rattle.std.specs.Str.{bytes_eq}
 use Rattle.std.specs.Option.{ok_or}
 use Rattle.std.specs.Result.{MatchResult}
 use Rattle.office_map.specs.declared.entries.OfficeEntry.{OfficeEntry}
-use Rattle.office_map.specs.declared.fault.Rule.{Rule}
-use Rattle.office_map.specs.declared.fault.Rule.TheVariants.{Header, Line, NameTwice, UnknownName, SelfPair, PairTwice, Limit}
-use Rattle.office_map.specs.declared.fault.Refusal.{Refusal}
+use Rattle.office_map.specs.declared.fault.PlanRule.{PlanRule}
+use Rattle.office_map.specs.declared.fault.PlanRule.TheVariants.{Header, Line, NameTwice, UnknownName, SelfPair, PairTwice, Limit}
+use Rattle.office_map.specs.declared.fault.PlanRefusal.{PlanRefusal}
 use Rattle.office_map.specs.declared.fault.PlanFault.{PlanFault}
 use Rattle.office_map.specs.declared.ring.Ring as rings
 use Rattle.office_map.specs.declared.fault.PlanFault.TheVariants.{Memory, Refused, Ring}
@@ -115,7 +115,7 @@ is_address_taken p address =
     not (bytes_eq address no_address) && list_any (λ (o : OfficeEntry). bytes_eq o.address address) p.offices
 
 -- the plan with one more declaration, or the first rule that refuses it
-abbrev pub declare : PlanValue → Declaration → Result PlanValue Rule
+abbrev pub declare : PlanValue → Declaration → Result PlanValue PlanRule
 declare p (AnOffice name address) = do
   refuse_if (is_some (office_named p name)) NameTwice
   refuse_if (is_address_taken p address) NameTwice
@@ -135,7 +135,7 @@ declare p (ARecord name a b value at_first) = do
   refuse_if (nat_le 8 (records_between p first second)) Limit
   Ok (with_record p (record { name = name; first = first; second = second; value = value; starts_at_first = at_first }))
 
-abbrev pub at_line : {A : Type 0} → ℕ → Result A Rule → Result A Refusal
+abbrev pub at_line : {A : Type 0} → ℕ → Result A PlanRule → Result A PlanRefusal
 at_line n (Ok x) = Ok x
 at_line n (Err rule) = Err (record { rule = rule; line = n })
 
@@ -143,27 +143,27 @@ at_line n (Err rule) = Err (record { rule = rule; line = n })
 abbrev pub plain_words : List ℕ → Option (List (List ℕ))
 plain_words line = if list_all is_plain line then Some (words_of line) else None
 
-unfoldable pub read_header : ℕ × List ℕ → Result PlanValue Refusal
+unfoldable pub read_header : ℕ × List ℕ → Result PlanValue PlanRefusal
 read_header l = at_line l.0 (do
   run ← ok_or (and_then (plain_words l.1) run_of) Header
   Ok (record { run = run; offices = []; pairs = []; records = [] }))
 
-unfoldable pub read_line : PlanValue → ℕ × List ℕ → Result PlanValue Refusal
+unfoldable pub read_line : PlanValue → ℕ × List ℕ → Result PlanValue PlanRefusal
 read_line p l = at_line l.0 (do
   d ← ok_or (and_then (plain_words l.1) declaration_of) Line
   declare p d)
 
 -- each line in order, on what those before it declare
-abbrev pub read_lines : PlanValue → List (ℕ × List ℕ) → Result PlanValue Refusal
+abbrev pub read_lines : PlanValue → List (ℕ × List ℕ) → Result PlanValue PlanRefusal
 read_lines p [] = Ok p
 read_lines p (l ∷ ls) = read_line p l >>= λ q. read_lines q ls
 
-abbrev pub read_statements : List (ℕ × List ℕ) → Result PlanValue Refusal
+abbrev pub read_statements : List (ℕ × List ℕ) → Result PlanValue PlanRefusal
 read_statements [] = Err (record { rule = Header; line = 0 })
 read_statements (l ∷ ls) = read_header l >>= λ p. read_lines p ls
 
 -- The plan that the lines of a text mean, or their first fault. Whether it has a ring isn't asked here.
-unfoldable pub plan_of : List ℕ → Result PlanValue Refusal
+unfoldable pub plan_of : List ℕ → Result PlanValue PlanRefusal
 plan_of text = do
   refuse_if (nat_lt 262144 (length text)) (record { rule = Limit; line = 0 })
   p ← read_statements (statements text)
@@ -171,34 +171,34 @@ plan_of text = do
   Ok p
 
 -- what a function returned, seen by view, is what reading gives, unless memory ran out
-abbrev pub Fails : {A : Type 0} → PlanFault → Result A Refusal → Type 0
+abbrev pub Fails : {A : Type 0} → PlanFault → Result A PlanRefusal → Type 0
 Fails Memory read = Unit {0}
 Fails (Refused r) read = read ≡ Err r
 Fails (Ring r) read = ⊥
 
-abbrev pub Gives : {X A : Type 0} → (X → A) → Result X PlanFault → Result A Refusal → Type 0
+abbrev pub Gives : {X A : Type 0} → (X → A) → Result X PlanFault → Result A PlanRefusal → Type 0
 Gives view (Ok x) read = read ≡ Ok (view x)
 Gives view (Err e) read = Fails e read
 
 -- the same of a function that changes a plan
-abbrev pub Leaves : {X : Type 0} → Result X PlanFault → PlanValue → Result PlanValue Refusal → Type 0
+abbrev pub Leaves : {X : Type 0} → Result X PlanFault → PlanValue → Result PlanValue PlanRefusal → Type 0
 Leaves (Ok x) after read = read ≡ Ok after
 Leaves (Err e) after read = Fails e read
 
 -- the lines have no fault, and their plan has this ring
-abbrev pub HasRing : rings.Ring → Result PlanValue Refusal → Type 0
+abbrev pub HasRing : rings.Ring → Result PlanValue PlanRefusal → Type 0
 HasRing r (Ok p) = IsNamedRing p r
 HasRing r (Err f) = ⊥
 
 -- what reading a plan answers, where its lines mean this: their plan, which has no ring; their first fault; or a ring
-abbrev pub Answers : Result PlanValue PlanFault → Result PlanValue Refusal → Type 0
+abbrev pub Answers : Result PlanValue PlanFault → Result PlanValue PlanRefusal → Type 0
 Answers (Ok p) read = (read ≡ Ok p) × HasOrder p
 Answers (Err Memory) read = Unit {0}
 Answers (Err (Refused r)) read = read ≡ Err r
 Answers (Err (Ring r)) read = HasRing r read
 
 -- a fact of a refusal of a line
-abbrev pub IfRefused : (Refusal → Type 0) → PlanFault → Type 0
+abbrev pub IfRefused : (PlanRefusal → Type 0) → PlanFault → Type 0
 IfRefused P Memory = Unit {0}
 IfRefused P (Refused r) = P r
 IfRefused P (Ring r) = Unit {0}
@@ -209,7 +209,7 @@ Lead p [] q = p ≡ q
 Lead p (l ∷ ls) q = (next : PlanValue) × (read_line p l ≡ Ok next) × Lead next ls q
 
 -- a line is refused, and all before it are accepted
-pub record IsFirstFault (p : PlanValue) (lines : List (ℕ × List ℕ)) (f : Refusal) : Type 0 where
+pub record IsFirstFault (p : PlanValue) (lines : List (ℕ × List ℕ)) (f : PlanRefusal) : Type 0 where
   pub before : List (ℕ × List ℕ)
   pub line : ℕ × List ℕ
   pub after : List (ℕ × List ℕ)

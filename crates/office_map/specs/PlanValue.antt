@@ -76,12 +76,32 @@ index_of p = map (λ office. (neighbours_of p office, records_of p office)) (ran
 abbrev pub ends_of : PlanValue → ℕ → Option (ℕ × ℕ)
 ends_of p r = option_map (λ (e : RecordEntry). (e.first, e.second)) (slice_get p.records r)
 
+-- the plan has this record, and these two are its ends
+abbrev pub has_ends : PlanValue → ℕ → ℕ → ℕ → Bool
+has_ends p r a b = option_map_or (lies_between a b) (slice_get p.records r) false
+
+-- the end of a record other than this one
+abbrev pub other_end : ℕ → RecordEntry → ℕ
+other_end a r = if r.first == a then r.second else r.first
+
+-- the office at the other end of a record, or 0 of a record that the plan doesn't have
+abbrev pub peer : PlanValue → ℕ → ℕ → ℕ
+peer p a r = option_map_or (other_end a) (slice_get p.records r) 0
+
+-- whether the fork of two neighbours starts at this office
+abbrev pub fork_starts_at : PlanValue → ℕ → ℕ → ℕ → Bool
+fork_starts_at p a b x = option_map_or (λ e. e == x) (fork_end_of p a b) false
+
 -- where a record's bottle starts
 abbrev pub start_end : RecordEntry → ℕ
 start_end r = if r.starts_at_first then r.first else r.second
 
 abbrev pub start_end_of : PlanValue → ℕ → Option ℕ
 start_end_of p r = option_map start_end (slice_get p.records r)
+
+-- whether the bottle of a record starts at this office
+abbrev pub bottle_starts_at : PlanValue → ℕ → ℕ → Bool
+bottle_starts_at p r x = option_map_or (λ e. start_end e == x) (slice_get p.records r) false
 
 -- the records' values at the start, in order
 abbrev pub start_values : PlanValue → List ℤ

@@ -6,43 +6,37 @@ use Rattle.std.specs.String.{string_bytes}
 use Rattle.office_map.specs.declared.entries.PairEntry.{PairEntry}
 use Rattle.office_map.specs.declared.ring.Ring.{Ring}
 use Rattle.office_map.specs.PlanValue.{PlanValue, fork_end, office_name_of}
+use Rattle.bottle_values.specs.Lists.{num, is_among}
 
 -- where a pair's fork doesn't start
-abbrev pub other_end : PairEntry → ℕ
-other_end pair = if pair.fork_at_first then pair.second else pair.first
+abbrev pub preceding_end : PairEntry → ℕ
+preceding_end pair = if pair.fork_at_first then pair.second else pair.first
 
 -- u precedes v: of a pair, u is the end without the fork, and v the end with it
 abbrev pub starts_before : PlanValue → ℕ → ℕ → Bool
-starts_before p u v = list_any (λ pair. other_end pair == u && fork_end pair == v) p.pairs
+starts_before p u v = list_any (λ pair. preceding_end pair == u && fork_end pair == v) p.pairs
 
 -- ---- lists of offices
-
-abbrev pub is_among : List ℕ → ℕ → Bool
-is_among xs v = list_any (λ x. x == v) xs
 
 -- u stands in the list, and v behind it
 abbrev pub comes_before : List ℕ → ℕ → ℕ → Bool
 comes_before [] u v = false
 comes_before (x ∷ xs) u v = (x == u && list_any (λ y. y == v) xs) || comes_before xs u v
 
-abbrev pub num : Bool → ℕ
-num true = 1
-num false = 0
-
 -- how often it stands in the list
-abbrev pub times : ℕ → List ℕ → ℕ
-times a [] = 0
-times a (x ∷ xs) = num (x == a) + times a xs
+abbrev pub occurrences : ℕ → List ℕ → ℕ
+occurrences a [] = 0
+occurrences a (x ∷ xs) = num (x == a) + occurrences a xs
 
 -- the office has this pair's fork, and the other end isn't one of these
 abbrev pub awaits : List ℕ → ℕ → PairEntry → Bool
-awaits placed v pair = fork_end pair == v && not (is_among placed (other_end pair))
+awaits placed v pair = fork_end pair == v && not (is_among placed (preceding_end pair))
 
 -- ---- orders
 
 -- all offices, each once, in which one that precedes another comes earlier
 pub record IsOrder (p : PlanValue) (order : List ℕ) : Type 0 where
-  pub once : (a : ℕ) → times a order ≡ num (nat_lt a (length p.offices))
+  pub once : (a : ℕ) → occurrences a order ≡ num (nat_lt a (length p.offices))
   pub earlier : (u v : ℕ) → starts_before p u v ≡ true → comes_before order u v ≡ true
 
 -- an office may come after these: it isn't one of them, and all that precede it are
@@ -83,7 +77,7 @@ pub record IsCircle (p : PlanValue) (ring : List ℕ) : Type 0 where
   pub some : 0 < length ring
   pub offices : All (λ x. x < length p.offices) ring
   pub around : LeadTo p ring (first_or ring 0)
-  pub once : (a : ℕ) → times a ring ≤ 1
+  pub once : (a : ℕ) → occurrences a ring ≤ 1
 
 -- a circle that begins with its least number
 pub record IsRing (p : PlanValue) (ring : List ℕ) : Type 0 where

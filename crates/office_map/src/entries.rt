@@ -14,6 +14,7 @@ pub struct OfficeEntry {
 }
 
 impl OfficeEntry {
+    /// An entry equal to this one.
     pub fn copy(&self, alloc: Global) -> Result<OfficeEntry, AllocError>
         ensures { IfOk result (λ o. o ≡ self.now) }
     {
@@ -33,7 +34,7 @@ pub struct PairEntry {
 
 impl PairEntry {
     ghost use Rattle.office_map.specs.PlanValue.{joins, fork_end};
-    ghost use Rattle.office_map.specs.Precedence.{other_end};
+    ghost use Rattle.office_map.specs.Precedence.{preceding_end};
 
     /// Whether these two are its neighbours, in either order.
     pub fn joins(&self, a: OfficeId, b: OfficeId) -> bool
@@ -42,6 +43,7 @@ impl PairEntry {
         (self.first == a && self.second == b) || (self.first == b && self.second == a)
     }
 
+    /// The end at which the fork starts.
     pub fn fork_end(&self) -> OfficeId
         ensures { result ≡ fork_end self.now }
     {
@@ -53,8 +55,8 @@ impl PairEntry {
     }
 
     /// The end at which the fork doesn't start: at the start it precedes the other.
-    pub fn other_end(&self) -> OfficeId
-        ensures { result ≡ other_end self.now }
+    pub fn preceding_end(&self) -> OfficeId
+        ensures { result ≡ preceding_end self.now }
     {
         if !self.fork_at_first {
             self.first
@@ -76,7 +78,7 @@ pub struct RecordEntry {
 }
 
 impl RecordEntry {
-    ghost use Rattle.office_map.specs.PlanValue.{lies_between, has_end, start_end};
+    ghost use Rattle.office_map.specs.PlanValue.{lies_between, has_end, other_end, start_end};
 
     /// Whether these two are its ends, in either order.
     pub fn lies_between(&self, a: OfficeId, b: OfficeId) -> bool
@@ -85,12 +87,25 @@ impl RecordEntry {
         (self.first == a && self.second == b) || (self.first == b && self.second == a)
     }
 
+    /// Whether this office is one of its ends.
     pub fn has_end(&self, office: OfficeId) -> bool
         ensures { result ≡ has_end self.now office }
     {
         self.first == office || self.second == office
     }
 
+    /// The end other than this office; of an office that is no end, the first.
+    pub fn other_end(&self, office: OfficeId) -> OfficeId
+        ensures { result ≡ other_end office self.now }
+    {
+        if self.first == office {
+            self.second
+        } else {
+            self.first
+        }
+    }
+
+    /// Where the record's bottle starts.
     pub fn start_end(&self) -> OfficeId
         ensures { result ≡ start_end self.now }
     {
@@ -101,6 +116,7 @@ impl RecordEntry {
         }
     }
 
+    /// An entry equal to this one.
     pub fn copy(&self, alloc: Global) -> Result<RecordEntry, AllocError>
         ensures { IfOk result (λ r. r ≡ self.now) }
     {

@@ -11,7 +11,7 @@ use thiserror::Error;
 
 /// The rule that a line of a plan's text breaks.
 #[derive(Clone, Copy, Debug, PartialEq, Eq, Error)]
-pub enum Rule {
+pub enum PlanRule {
     #[error("P1 Header")]
     Header,
     #[error("P2 Line")]
@@ -28,19 +28,19 @@ pub enum Rule {
     Limit,
 }
 
-impl Rule {
+impl PlanRule {
     /// What the rule asks for, in words for people.
     pub fn explanation(self) -> &'static str {
         match self {
-            Rule::Header => "the first line has to be `plan 1 run N`, with N below 4294967296",
-            Rule::Line => {
+            PlanRule::Header => "the first line has to be `plan 1 run N`, with N below 4294967296",
+            PlanRule::Line => {
                 "expected `office NAME ADDR`, `pair A B fork E` or `record NAME A B VALUE at E`"
             }
-            Rule::NameTwice => "this name or address was declared before",
-            Rule::UnknownName => "an office or pair has to be declared before it is named",
-            Rule::SelfPair => "a pair joins two different offices",
-            Rule::PairTwice => "this pair was declared before",
-            Rule::Limit => {
+            PlanRule::NameTwice => "this name or address was declared before",
+            PlanRule::UnknownName => "an office or pair has to be declared before it is named",
+            PlanRule::SelfPair => "a pair joins two different offices",
+            PlanRule::PairTwice => "this pair was declared before",
+            PlanRule::Limit => {
                 "a plan has 2 to 16 offices, at most 8 records a pair and at most 262144 bytes"
             }
         }
@@ -50,14 +50,14 @@ impl Rule {
 /// The first rule that is broken, and the number of the line that breaks it: from 1, or 0
 /// where no line does.
 #[derive(Clone, Copy, Debug, PartialEq, Eq)]
-pub struct Refusal {
-    pub rule: Rule,
+pub struct PlanRefusal {
+    pub rule: PlanRule,
     pub line: u64,
 }
 
-impl fmt::Display for Refusal {
+impl fmt::Display for PlanRefusal {
     fn fmt<W: fmt::Write>(&self, f: &mut fmt::Formatter<W>) -> fmt::Result {
-        let Refusal { rule, line } = *self;
+        let PlanRefusal { rule, line } = *self;
         let explanation = rule.explanation();
         if line > 0 {
             write!(f, "line {line}: ")?;
@@ -66,7 +66,7 @@ impl fmt::Display for Refusal {
     }
 }
 
-impl Error for Refusal {}
+impl Error for PlanRefusal {}
 
 /// Why there is no plan.
 #[derive(Debug, Drop, Error)]
@@ -75,7 +75,7 @@ pub enum PlanFault {
     Memory,
     /// A rule is broken by a line, or by a text that is too long or has too few offices.
     #[error("{0}")]
-    Refused(Refusal),
+    Refused(PlanRefusal),
     /// No line is at fault, but the forks start so that some offices precede one another in a ring.
     #[error("P8 Ring: {0} (each precedes the next, and the last the first)")]
     Ring(Ring),
@@ -97,8 +97,8 @@ impl<T: Drop> From<AllocFailed<T>> for PlanFault {
     }
 }
 
-pub(crate) fn refused(rule: Rule, line: u64) -> PlanFault
+pub(crate) fn refused(rule: PlanRule, line: u64) -> PlanFault
     ensures { result ≡ PlanFault.Refused (record { rule = rule; line = line }) }
 {
-    PlanFault::Refused(Refusal { rule, line })
+    PlanFault::Refused(PlanRefusal { rule, line })
 }

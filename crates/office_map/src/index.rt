@@ -4,7 +4,7 @@ ghost use Rattle.std.specs.Prelude.{◌≡◌, IfOk};
 ghost use Rattle.office_map.specs.PlanValue.{neighbours_of, records_of, index_of};
 
 use crate::ids::{OfficeId, RecordId};
-use crate::tables::Tables;
+use crate::plan_entries::PlanEntries;
 use std::alloc::{AllocError, Global};
 use std::marker::Model;
 
@@ -25,7 +25,7 @@ impl Model for OfficeIndex {
 }
 
 impl OfficeIndex {
-    fn of(alloc: Global, tables: &Tables, office: OfficeId) -> Result<OfficeIndex, AllocError>
+    fn of(alloc: Global, tables: &PlanEntries, office: OfficeId) -> Result<OfficeIndex, AllocError>
         ensures { IfOk result (λ i. i ≡ (neighbours_of tables.now office, records_of tables.now office)) }
     {
         let neighbours = neighbours(alloc, tables, office)?;
@@ -51,7 +51,7 @@ impl OfficeIndex {
 
 /// The index of each office.
 
-pub(crate) fn index(alloc: Global, tables: &Tables) -> Result<Vec<OfficeIndex>, AllocError>
+pub(crate) fn index(alloc: Global, tables: &PlanEntries) -> Result<Vec<OfficeIndex>, AllocError>
     ensures { IfOk result (λ v. v.items ≡ index_of tables.now) }
 {
     let mut index = Vec::new(alloc);
@@ -61,7 +61,7 @@ pub(crate) fn index(alloc: Global, tables: &Tables) -> Result<Vec<OfficeIndex>, 
     Ok(index)
 }
 
-fn neighbours(alloc: Global, tables: &Tables, office: OfficeId) -> Result<Vec<OfficeId>, AllocError>
+fn neighbours(alloc: Global, tables: &PlanEntries, office: OfficeId) -> Result<Vec<OfficeId>, AllocError>
     ensures { IfOk result (λ v. v.items ≡ neighbours_of tables.now office) }
 {
     let mut neighbours = Vec::new(alloc);
@@ -74,7 +74,7 @@ fn neighbours(alloc: Global, tables: &Tables, office: OfficeId) -> Result<Vec<Of
     Ok(neighbours)
 }
 
-fn records(alloc: Global, tables: &Tables, office: OfficeId) -> Result<Vec<RecordId>, AllocError>
+fn records(alloc: Global, tables: &PlanEntries, office: OfficeId) -> Result<Vec<RecordId>, AllocError>
     ensures { IfOk result (λ v. v.items ≡ records_of tables.now office) }
 {
     let mut records = Vec::new(alloc);

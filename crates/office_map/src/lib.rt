@@ -38,13 +38,13 @@ mod records;
 pub mod ring;
 mod ring_search;
 pub mod statements;
-mod tables;
+mod plan_entries;
 #[cfg(test)]
 mod tests;
 pub mod text;
 mod word;
 
-pub use fault::{PlanFault, Refusal, Rule};
+pub use fault::{PlanFault, PlanRefusal, PlanRule};
 pub use ids::{OfficeId, RecordId};
 pub use plan::Plan;
 pub use ring::Ring;

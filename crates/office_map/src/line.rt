@@ -30,7 +30,7 @@ pub(crate) fn declaration_in<'a>(words: &[&'a [u8]]) -> Option<Declaration<'a>>
     }
 }
 
-#[tactic(auto, using(crate::proofs::Names::is_named))]
+#[tactic(auto, using(crate::proofs::AsciiNames::is_named))]
 fn office<'a>(keyword: &[u8], word: &'a [u8], place: &'a [u8]) -> Option<Declaration<'a>>
     ensures { option_map seen result ≡ office_line keyword.now word.now place.now }
 {
@@ -64,7 +64,7 @@ fn pair<'a>(
     }))
 }
 
-#[tactic(auto, using(crate::proofs::Names::is_named))]
+#[tactic(auto, using(crate::proofs::AsciiNames::is_named))]
 fn record<'a>(
     keyword: &[u8],
     word: &'a [u8],

@@ -7,8 +7,8 @@ use crate::fault::PlanFault;
 use crate::ids::{OfficeId, RecordId};
 use crate::index::{OfficeIndex, index};
 use crate::precedence::order;
-use crate::read::read_tables;
-use crate::tables::Tables;
+use crate::read::read_entries;
+use crate::plan_entries::PlanEntries;
 use std::alloc::{AllocError, Global};
 use std::marker::Model;
 
@@ -16,7 +16,7 @@ use std::marker::Model;
 /// order of their lines.
 #[derive(Drop)]
 pub struct Plan {
-    tables: Tables,
+    tables: PlanEntries,
     index: Vec<OfficeIndex>,
     order: Vec<OfficeId>,
 }
@@ -35,7 +35,7 @@ impl Model for Plan {
 }
 
 impl Plan {
-    ghost use Rattle.office_map.specs.PlanValue.{office_named, record_named, office_name_of, address_of, record_name_of, are_neighbours, neighbours_of, fork_end_of, is_end, records_of, ends_of, start_end_of, start_values};
+    ghost use Rattle.office_map.specs.PlanValue.{office_named, record_named, office_name_of, address_of, record_name_of, are_neighbours, neighbours_of, fork_end_of, is_end, records_of, ends_of, peer, start_end_of, start_values};
     ghost use Rattle.office_map.specs.PlanText.{plan_of, Answers, IfRefused, IsLineOf};
     ghost use Rattle.office_map.specs.Precedence.{IsLeastFirst};
     ghost use Rattle.office_map.specs.Consistency.{IsConsistent, IsAccepted, HasEnds};
@@ -48,7 +48,7 @@ impl Plan {
         ensures accepted { IfOk result IsAccepted }
         ensures line { IfErr result (IfRefused (λ f. IsLineOf text.now f.line)) }
     {
-        let tables = read_tables(alloc, text)?;
+        let tables = read_entries(alloc, text)?;
         let order = order(alloc, &tables)?;
         let index = index(alloc, &tables)?;
         Ok(Plan {
@@ -161,6 +161,20 @@ impl Plan {
         (entry.first, entry.second)
     }
 
+    /// The end of a record other than this office. Of one of its ends that is the neighbour with
+    /// which it shares the record.
+    pub fn other_end(&self, r: RecordId, office: OfficeId) -> OfficeId
+        requires { r < length self.now.records }
+        ensures peer { result ≡ peer self.now office r }
+        ensures office { result < length self.now.offices }
+        ensures near { IsTrue (is_end self.now r office) → IsTrue (are_neighbours self.now office result) }
+        ensures back { IsTrue (is_end self.now r office) → peer self.now result r ≡ office }
+    {
+        // The plan is consistent, so its records join neighbours.
+        let _ = self.offices();
+        self.record(r).other_end(office)
+    }
+
     /// The end at which a record's bottle starts.
     pub fn start_end(&self, r: RecordId) -> OfficeId
         requires { r < length self.now.records }
@@ -179,6 +193,7 @@ impl Plan {
         self.record(r).value
     }
 
+    /// An office's name.
     pub fn office_name(&self, id: OfficeId) -> &str
         requires { id < length self.now.offices }
         ensures { office_name_of self.now id ≡ Some result.now }
@@ -194,6 +209,7 @@ impl Plan {
         self.office(id).address.as_str()
     }
 
+    /// A record's name.
     pub fn record_name(&self, r: RecordId) -> &str
         requires { r < length self.now.records }
         ensures { record_name_of self.now r ≡ Some result.now }

@@ -3,18 +3,19 @@
 ghost use Rattle.std.specs.Prelude.{◌≡◌, ◌<◌, length, MatchOption, ℕ, not, ◌&&◌, ◌==◌, true, false, Ok, Err};
 ghost use Rattle.std.specs.Result.{MatchResult};
 ghost use Rattle.office_map.specs.PlanText.{Answers};
-ghost use Rattle.office_map.specs.Precedence.{starts_before, is_among, awaits, MayCome, IsNext, IsLeastFirst};
+ghost use Rattle.office_map.specs.Precedence.{starts_before, awaits, MayCome, IsNext, IsLeastFirst};
 
 use crate::entries::PairEntry;
 use crate::fault::PlanFault;
 use crate::ids::OfficeId;
 use crate::ring_search::ring_from;
-use crate::tables::Tables;
+use crate::plan_entries::PlanEntries;
 use std::alloc::Global;
+ghost use Rattle.bottle_values.specs.Lists.{is_among};
 
 /// All offices, one that precedes earlier, and the least number first where several may come;
 /// or a ring, where there is no such order.
-pub(crate) fn order(alloc: Global, tables: &Tables) -> Result<Vec<OfficeId>, PlanFault>
+pub(crate) fn order(alloc: Global, tables: &PlanEntries) -> Result<Vec<OfficeId>, PlanFault>
     ensures { MatchResult result (λ v. IsLeastFirst tables.now v.items) (λ f. Answers (Err f) (Ok tables.now)) }
 {
     let mut order = Vec::with_capacity(alloc, tables.offices().len())?;
@@ -28,7 +29,7 @@ pub(crate) fn order(alloc: Global, tables: &Tables) -> Result<Vec<OfficeId>, Pla
 }
 
 /// The office that comes after those that are placed.
-fn next(tables: &Tables, placed: &[OfficeId]) -> Option<OfficeId>
+fn next(tables: &PlanEntries, placed: &[OfficeId]) -> Option<OfficeId>
     ensures { MatchOption result
         ((v : ℕ) → MayCome tables.now placed.now v → ⊥)
         (λ v. IsNext tables.now placed.now v) }
@@ -43,14 +44,14 @@ fn next(tables: &Tables, placed: &[OfficeId]) -> Option<OfficeId>
 }
 
 /// An office that isn't placed yet and precedes this one.
-pub(crate) fn awaited(tables: &Tables, placed: &[OfficeId], office: OfficeId) -> Option<OfficeId>
+pub(crate) fn awaited(tables: &PlanEntries, placed: &[OfficeId], office: OfficeId) -> Option<OfficeId>
     ensures { MatchOption result
         ((u : ℕ) → starts_before tables.now u office ≡ true → is_among placed.now u ≡ true)
         (λ u. (starts_before tables.now u office ≡ true) × (u < length tables.now.offices) × (is_among placed.now u ≡ false)) }
 {
     for pair in tables.pairs() {
         if awaits(placed, office, pair) {
-            return Some(pair.other_end());
+            return Some(pair.preceding_end());
         }
     }
     None
@@ -60,7 +61,7 @@ pub(crate) fn awaited(tables: &Tables, placed: &[OfficeId], office: OfficeId) ->
 fn awaits(placed: &[OfficeId], office: OfficeId, pair: &PairEntry) -> bool
     ensures { result ≡ awaits placed.now office pair.now }
 {
-    pair.fork_end() == office && !is_among(placed, pair.other_end())
+    pair.fork_end() == office && !is_among(placed, pair.preceding_end())
 }
 
 pub(crate) fn is_among(placed: &[OfficeId], office: OfficeId) -> bool
@@ -70,7 +71,7 @@ pub(crate) fn is_among(placed: &[OfficeId], office: OfficeId) -> bool
 }
 
 /// The first office that isn't placed.
-fn first_left(tables: &Tables, placed: &[OfficeId]) -> Option<OfficeId>
+fn first_left(tables: &PlanEntries, placed: &[OfficeId]) -> Option<OfficeId>
     ensures { MatchOption result
         ((a : ℕ) → a < length tables.now.offices → is_among placed.now a ≡ true)
         (λ a. (a < length tables.now.offices) × (is_among placed.now a ≡ false)) }

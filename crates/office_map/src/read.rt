@@ -1,13 +1,13 @@
-//! Tables from texts.
+//! PlanEntries from texts.
 
 ghost use Rattle.std.specs.Prelude.{◌≡◌, ◌<◌, ◌+◌, ◌^◌, length, map, option_map, IfOk};
 ghost use Rattle.office_map.specs.Text.{lines, statements_from};
 ghost use Rattle.office_map.specs.PlanText.{plan_of, plain_words, read_line, read_lines, read_header, Gives, Leaves};
 
-use crate::fault::{PlanFault, Rule, refused};
+use crate::fault::{PlanFault, PlanRule, refused};
 use crate::line::{declaration_in, run_in};
 use crate::statements::Statements;
-use crate::tables::Tables;
+use crate::plan_entries::PlanEntries;
 use crate::text::{is_plain, words};
 use std::alloc::{AllocError, Global};
 
@@ -16,45 +16,45 @@ const TEXT_LIMIT: usize = 262_144;
 
 /// The tables that a text means. The first faulty line is refused.
 #[tactic(auto, unfolding(crate::specs::PlanText::plan_of))]
-pub(crate) fn read_tables(alloc: Global, text: &[u8]) -> Result<Tables, PlanFault>
+pub(crate) fn read_entries(alloc: Global, text: &[u8]) -> Result<PlanEntries, PlanFault>
     ensures { Gives (λ t. t) result (plan_of text.now) }
 {
     if text.len() > TEXT_LIMIT {
-        return Err(refused(Rule::Limit, 0));
+        return Err(refused(PlanRule::Limit, 0));
     }
     let mut statements = Statements {
         rest: text,
         number: 1,
     };
     let Some((number, line)) = statements.next() else {
-        return Err(refused(Rule::Header, 0));
+        return Err(refused(PlanRule::Header, 0));
     };
     let tables = read_header(alloc, number, line)?;
     let tables = read_lines(alloc, tables, statements)?;
     if tables.offices().len() < 2 {
-        return Err(refused(Rule::Limit, 0));
+        return Err(refused(PlanRule::Limit, 0));
     }
     Ok(tables)
 }
 
 #[tactic(auto, unfolding(crate::specs::PlanText::read_header))]
-fn read_header(alloc: Global, number: u64, line: &[u8]) -> Result<Tables, PlanFault>
+fn read_header(alloc: Global, number: u64, line: &[u8]) -> Result<PlanEntries, PlanFault>
     ensures { Gives (λ t. t) result (read_header (number, line.now)) }
 {
     let Some(words) = plain_words(alloc, line)? else {
-        return Err(refused(Rule::Header, number));
+        return Err(refused(PlanRule::Header, number));
     };
     match run_in(&words) {
-        Some(run) => Ok(Tables::new(alloc, run)),
-        None => Err(refused(Rule::Header, number)),
+        Some(run) => Ok(PlanEntries::new(alloc, run)),
+        None => Err(refused(PlanRule::Header, number)),
     }
 }
 
 fn read_lines(
     alloc: Global,
-    tables: Tables,
+    tables: PlanEntries,
     statements: Statements<'_>,
-) -> Result<Tables, PlanFault>
+) -> Result<PlanEntries, PlanFault>
     requires { statements.number + length statements.rest.now < 2 ^ 64 }
     ensures { Gives (λ t. t) result (read_lines tables (statements_from statements.entry.number (lines statements.entry.rest.now))) }
 {
@@ -67,15 +67,15 @@ fn read_lines(
 }
 
 #[tactic(auto, unfolding(crate::specs::PlanText::read_line))]
-fn read_line(alloc: Global, tables: &mut Tables, number: u64, line: &[u8]) -> Result<(), PlanFault>
+fn read_line(alloc: Global, tables: &mut PlanEntries, number: u64, line: &[u8]) -> Result<(), PlanFault>
     ensures { Leaves result tables.new (read_line tables.old (number, line.now)) }
 {
     let Some(words) = plain_words(alloc, line)? else {
-        return Err(refused(Rule::Line, number));
+        return Err(refused(PlanRule::Line, number));
     };
     match declaration_in(&words) {
         Some(declaration) => tables.declare(alloc, number, declaration),
-        None => Err(refused(Rule::Line, number)),
+        None => Err(refused(PlanRule::Line, number)),
     }
 }
 

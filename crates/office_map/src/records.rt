@@ -64,7 +64,7 @@ impl RecordTable {
     pub fn push(&mut self, alloc: Global, entry: RecordEntry) -> Result<(), AllocError>
         requires { length self.old < 65536 }
         ensures ok { OnOk result (self.new ≡ self.old ++ entry ∷ []) }
-        ensures err { OnErr result (self.new ≡ self.old) }
+        ensures unchanged { OnErr result (self.new ≡ self.old) }
     {
         let number = RecordId::new(self.entries.len() as u16);
         let name = String::from_str(alloc, entry.name.as_str())?;

@@ -3,18 +3,19 @@
 ghost use Rattle.std.specs.Prelude.{◌≡◌, ◌<◌, ◌≤◌, ◌++◌, All, IfOk, Some, ℕ, drop, false, get_or, length, map, take, true};
 ghost use Rattle.std.specs.String.{string_bytes};
 ghost use Rattle.office_map.specs.PlanValue.{office_name_of};
-ghost use Rattle.office_map.specs.Precedence.{starts_before, is_among, MayCome, IsCircle, IsNamedRing, first_or};
+ghost use Rattle.office_map.specs.Precedence.{starts_before, MayCome, IsCircle, IsNamedRing, first_or};
 
 use crate::ids::OfficeId;
 use crate::precedence::{awaited, is_among};
 use crate::ring::Ring;
-use crate::tables::Tables;
+use crate::plan_entries::PlanEntries;
 use std::alloc::{AllocError, Global};
+ghost use Rattle.bottle_values.specs.Lists.{is_among};
 
 /// A ring of offices that aren't placed.
 pub(crate) fn ring_from(
     alloc: Global,
-    tables: &Tables,
+    tables: &PlanEntries,
     placed: &[OfficeId],
     start: OfficeId,
 ) -> Result<Ring, AllocError>
@@ -32,7 +33,7 @@ pub(crate) fn ring_from(
 /// The offices that come round, when one goes from an office to one that precedes it, and on.
 fn circle(
     alloc: Global,
-    tables: &Tables,
+    tables: &PlanEntries,
     placed: &[OfficeId],
     start: OfficeId,
 ) -> Result<Vec<OfficeId>, AllocError>
@@ -53,7 +54,7 @@ fn circle(
 }
 
 /// An office that isn't placed and precedes this one.
-fn predecessor(tables: &Tables, placed: &[OfficeId], office: OfficeId) -> OfficeId
+fn predecessor(tables: &PlanEntries, placed: &[OfficeId], office: OfficeId) -> OfficeId
     requires stuck { MayCome tables.now placed.now office → ⊥ }
     requires office { office < length tables.now.offices }
     requires unplaced { is_among placed.now office ≡ false }
@@ -107,7 +108,7 @@ fn turned(alloc: Global, circle: &[OfficeId], place: usize) -> Result<Vec<Office
     Ok(turned)
 }
 
-fn names(alloc: Global, tables: &Tables, offices: &[OfficeId]) -> Result<Vec<String>, AllocError>
+fn names(alloc: Global, tables: &PlanEntries, offices: &[OfficeId]) -> Result<Vec<String>, AllocError>
     requires { All (λ a. a < length tables.now.offices) offices.now }
     ensures { IfOk result (λ v. map (office_name_of tables.now) offices.now ≡ map (λ name. Some (string_bytes name)) v.items) }
 {

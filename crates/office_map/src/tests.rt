@@ -1,4 +1,4 @@
-use crate::fault::{PlanFault, Refusal, Rule};
+use crate::fault::{PlanFault, PlanRefusal, PlanRule};
 use crate::ids::{OfficeId, RecordId};
 use crate::plan::Plan;
 use std::alloc::{AllocError, Global};

@@ -1,4 +1,4 @@
-pub mod Turns
-pub mod Stack
-pub mod Slots
-pub mod Tables
+pub mod LoopTurns
+pub mod StackEvaluation
+pub mod RecordSlots
+pub mod ValueTables

@@ -1,3 +1,2 @@
 pub mod Serial
-pub mod Machine
-pub mod Walk
+pub mod refinement

@@ -41,6 +41,6 @@ abbrev pub start_map : PlanValue → ℕ → Value
 start_map p r = record { number = slice_index_or (start_values p) r (pos 0) }
 
 -- the list has the map's values for the first n records
-pub record IsTable (values : List Value) (n : ℕ) (m : ℕ → Value) : Type 0 where
+pub record ListsValues (values : List Value) (n : ℕ) (m : ℕ → Value) : Type 0 where
   pub size : length values ≡ n
   pub each : (r : ℕ) → r < n → slice_get values r ≡ Some (m r)

@@ -3,9 +3,9 @@
 ghost use Rattle.std.specs.Prelude.{◌≡◌, IfOk, length, zip, map};
 ghost use Rattle.session_language.specs.Needs.{needs_of};
 ghost use Rattle.session_language.specs.Meaning.{alone, begun, slot_of, writes_of, ending_of, Goes};
-ghost use Rattle.serial_replay.specs.Walk as walk;
+ghost use Rattle.serial_replay.specs.refinement.WalkRefinement as walk;
 
-use crate::desk::{Desk, Slot};
+use crate::environment::{Environment, Slot};
 use crate::stop::Stop;
 use crate::walk::walk_all;
 use bottle_values::Value;
@@ -21,10 +21,10 @@ pub fn alone(alloc: Global, program: &Program, values: &[Value]) -> Result<Endin
     ensures { IfOk result (λ e. e ≡ alone program.now (zip (needs_of program.now.body) values.now)) }
 {
     let reads = reads_of(alloc, program.needs(), values)?;
-    let mut desk = begun(alloc, program, &reads)?;
+    let mut environment = begun(alloc, program, &reads)?;
     let mut stack = Vec::new(alloc);
-    match walk_all(&mut desk, &mut stack, program.tree()) {
-        Ok(()) => done(alloc, reads, desk),
+    match walk_all(&mut environment, &mut stack, program.tree()) {
+        Ok(()) => done(alloc, reads, environment),
         Err(Stop::Ended(end)) => Ok(Ending {
             end,
             reads,
@@ -48,12 +48,12 @@ fn reads_of(alloc: Global, needs: &[RecordId], values: &[Value]) -> Result<Recor
 }
 
 /// What a session has as it begins.
-fn begun(alloc: Global, program: &Program, reads: &RecordValues) -> Result<Desk, AllocError>
-    ensures { IfOk result (λ d. walk.desk_of d ≡ begun program.now reads.now) }
+fn begun(alloc: Global, program: &Program, reads: &RecordValues) -> Result<Environment, AllocError>
+    ensures { IfOk result (λ d. walk.environment_of d ≡ begun program.now reads.now) }
 {
     let slots = slots_of(alloc, reads.as_slice())?;
     let variables = vec![in alloc; Value { number: 0 }; program.variables().len()]?;
-    Ok(Desk {
+    Ok(Environment {
         slots,
         variables,
         gives: Gives::new(alloc),
@@ -74,15 +74,15 @@ fn slots_of(alloc: Global, reads: &[(RecordId, Value)]) -> Result<Vec<Slot>, All
     Ok(slots)
 }
 
-fn done(alloc: Global, reads: RecordValues, desk: Desk) -> Result<Ending, AllocError>
-    ensures { IfOk result (λ e. e ≡ ending_of reads (Goes (walk.desk_of desk))) }
+fn done(alloc: Global, reads: RecordValues, environment: Environment) -> Result<Ending, AllocError>
+    ensures { IfOk result (λ e. e ≡ ending_of reads (Goes (walk.environment_of environment))) }
 {
-    let writes = writes_of(alloc, &desk.slots)?;
-    let Desk {
+    let writes = writes_of(alloc, &environment.slots)?;
+    let Environment {
         slots: _,
         variables: _,
         gives,
-    } = desk;
+    } = environment;
     Ok(Ending {
         end: End::Done,
         reads,

@@ -3,29 +3,30 @@
 ghost use Rattle.std.specs.Prelude.{◌≡◌, ◌∷◌, IfOk, map, reverse, if◌then◌else◌, Some, None, true};
 ghost use Rattle.std.specs.Result.{result_ok};
 ghost use Rattle.std.specs.List.{slice_index_or};
-ghost use Rattle.session_language.specs.Meaning.{nought, value_in, apply, value_of};
-ghost use Rattle.serial_replay.specs.Machine.{put, on_top};
-ghost use Rattle.serial_replay.specs.Walk.{slot_of, desk_of};
+ghost use Rattle.session_language.specs.Meaning.{value_in, apply, value_of};
+ghost use Rattle.serial_replay.specs.refinement.PostfixEvaluation.{after_node, on_top};
+ghost use Rattle.serial_replay.specs.refinement.WalkRefinement.{slot_of, environment_of};
 
-use crate::desk::{Desk, Slot};
+use crate::environment::{Environment, Slot};
 use bottle_values::{Overflow, Value};
 use office_map::ids::RecordId;
 use session_language::expression::Expression;
 use session_language::node::{Node, Operator};
 use std::alloc::AllocError;
+ghost use Rattle.bottle_values.specs.Arithmetic.{nought};
 
 /// The value of an expression, worked out on a stack that is handed in for its memory. None where
 /// a result is no i64.
 pub fn evaluate(
-    desk: &Desk,
+    environment: &Environment,
     stack: &mut Vec<Value>,
     e: &Expression,
 ) -> Result<Option<Value>, AllocError>
-    ensures { IfOk result (λ o. o ≡ value_of e.now (desk_of desk.now)) }
+    ensures { IfOk result (λ o. o ≡ value_of e.now (environment_of environment.now)) }
 {
     stack.clear();
     for node in e.nodes() {
-        if !put(desk, stack, *node)? {
+        if !after_node(environment, stack, *node)? {
             return Ok(None);
         }
     }
@@ -33,13 +34,13 @@ pub fn evaluate(
 }
 
 /// Works out one node. False where its result is no i64.
-fn put(desk: &Desk, stack: &mut Vec<Value>, node: Node) -> Result<bool, AllocError>
-    ensures { IfOk result (λ ok. put (desk_of desk.now) node (reverse stack.old.items) ≡ (if ok then Some (reverse stack.new.items) else None)) }
+fn after_node(environment: &Environment, stack: &mut Vec<Value>, node: Node) -> Result<bool, AllocError>
+    ensures { IfOk result (λ ok. after_node (environment_of environment.now) node (reverse stack.old.items) ≡ (if ok then Some (reverse stack.new.items) else None)) }
 {
     match node {
         Node::Literal(value) => push(stack, value),
-        Node::Variable(place) => push(stack, value_at(&desk.variables, place)),
-        Node::Read(id) => push(stack, value_in(&desk.slots, id)),
+        Node::Variable(place) => push(stack, value_at(&environment.variables, place)),
+        Node::Read(id) => push(stack, value_in(&environment.slots, id)),
         Node::Negate => {
             let Some(value) = stack.pop() else {
                 return Ok(false);

@@ -2,11 +2,11 @@
 //!
 //! [`serial`] is the serial run: its outcomes are `outcomes_of`, and the values that it leaves are those of `map_of`
 //! (`specs/Serial.antt`). What one session does alone is `alone`, in `session_language`'s `specs/Meaning.antt`.
-//! Evaluation keeps its operands on a stack of its own (`specs/Machine.antt`), so no expression deepens the call stack.
+//! Evaluation keeps its operands on a stack of its own (`specs/refinement/PostfixEvaluation.antt`), so no expression deepens the call stack.
 #![tactic(auto)]
 
 pub mod alone;
-mod desk;
+mod environment;
 mod evaluate;
 pub mod replay;
 mod stop;

@@ -18,7 +18,6 @@ ghost use Rattle.std.specs.Prelude.{
 ghost use Rattle.std.proofs.Math.ListN.{set};
 ghost use Rattle.bottle_values.specs.Maps.{put, write_all};
 ghost use Rattle.bottle_values.specs.declared.Value as bottle;
-ghost use Rattle.session_language.specs.Meaning.{nought};
 ghost use Rattle.session_language.specs.Needs.{needs_of};
 ghost use Rattle.session_language.specs.Program.{fits};
 ghost use Rattle.serial_replay.specs.Serial.{
@@ -26,7 +25,7 @@ ghost use Rattle.serial_replay.specs.Serial.{
   map_of,
   start_map,
   ending_on,
-  IsTable,
+  ListsValues,
 };
 
 use crate::alone::alone;
@@ -36,6 +35,7 @@ use office_map::plan::Plan;
 use session_language::ending::{Ending, Outcome};
 use session_language::program::Program;
 use std::alloc::{AllocError, Global};
+ghost use Rattle.bottle_values.specs.Arithmetic.{nought};
 
 /// What a serial run shows: how each session ended, in order, and the value that each record has then, in order of
 /// number.
@@ -45,7 +45,7 @@ pub struct Replay {
     pub values: Vec<Value>,
 }
 
-#[tactic(auto, using(crate::proofs::Tables::fits_records))]
+#[tactic(auto, using(crate::proofs::ValueTables::fits_records))]
 /// Runs sessions one after another: the first on the plan's start values, and each next one on what the one before
 /// left. Fails only where memory runs out.
 pub fn serial(alloc: Global, plan: &Plan, programs: &[Program]) -> Result<Replay, AllocError>
@@ -53,7 +53,7 @@ pub fn serial(alloc: Global, plan: &Plan, programs: &[Program]) -> Result<Replay
     requires few { length programs.now < 2 ^ 32 }
     ensures outcomes { IfOk result (λ r. r.outcomes.items ≡ outcomes_of (start_map plan.now) programs.now) }
     ensures values { IfOk result
-        (λ r. IsTable r.values.items (length plan.now.records) (map_of (start_map plan.now) programs.now)) }
+        (λ r. ListsValues r.values.items (length plan.now.records) (map_of (start_map plan.now) programs.now)) }
 {
     let mut values = start_values(alloc, plan)?;
     let mut counts = vec![in alloc; 0u32; plan.offices()]?;
@@ -71,10 +71,10 @@ pub fn serial(alloc: Global, plan: &Plan, programs: &[Program]) -> Result<Replay
     Ok(Replay { outcomes, values })
 }
 
-#[tactic(auto, using(crate::proofs::Tables::start_more))]
+#[tactic(auto, using(crate::proofs::ValueTables::start_more))]
 /// The values that the plan starts with.
 fn start_values(alloc: Global, plan: &Plan) -> Result<Vec<Value>, AllocError>
-    ensures { IfOk result (λ v. IsTable v.items (length plan.now.records) (start_map plan.now)) }
+    ensures { IfOk result (λ v. ListsValues v.items (length plan.now.records) (start_map plan.now)) }
 {
     let mut values = Vec::with_capacity(alloc, plan.records())?;
     for r in 0..plan.records() {
@@ -85,11 +85,11 @@ fn start_values(alloc: Global, plan: &Plan) -> Result<Vec<Value>, AllocError>
     Ok(values)
 }
 
-#[tactic(auto, using(crate::proofs::Tables::gathered), unfolding(crate::specs::Serial::ending_on))]
+#[tactic(auto, using(crate::proofs::ValueTables::gathered), unfolding(crate::specs::Serial::ending_on))]
 /// How a session ends on these values.
 fn ending_on(alloc: Global, program: &Program, values: &[Value]) -> Result<Ending, AllocError>
     requires { All (λ r. r < length values.now) (needs_of program.now.body) }
-    ensures { (m : ℕ → bottle.Value) → IsTable values.now (length values.now) m → IfOk result (λ e. e ≡ ending_on program.now m) }
+    ensures { (m : ℕ → bottle.Value) → ListsValues values.now (length values.now) m → IfOk result (λ e. e ≡ ending_on program.now m) }
 {
     let needed = values_of(alloc, program.needs(), values)?;
     alone(alloc, program, &needed)
@@ -109,7 +109,7 @@ fn values_of(alloc: Global, needs: &[RecordId], values: &[Value]) -> Result<Vec<
 
 /// The values after these writes, in order.
 fn write_all(values: &mut Vec<Value>, writes: &[(RecordId, Value)])
-    ensures { (n : ℕ) (m : ℕ → bottle.Value) → IsTable values.old.items n m → IsTable values.new.items n (write_all writes.now m) }
+    ensures { (n : ℕ) (m : ℕ → bottle.Value) → ListsValues values.old.items n m → ListsValues values.new.items n (write_all writes.now m) }
 {
     for (id, value) in writes {
         put(values, *id, *value);
@@ -118,7 +118,7 @@ fn write_all(values: &mut Vec<Value>, writes: &[(RecordId, Value)])
 
 /// A record that the table doesn't have is left out.
 fn put(values: &mut Vec<Value>, id: RecordId, value: Value)
-    ensures { (n : ℕ) (m : ℕ → bottle.Value) → IsTable values.old.items n m → IsTable values.new.items n (put m id value) }
+    ensures { (n : ℕ) (m : ℕ → bottle.Value) → ListsValues values.old.items n m → ListsValues values.new.items n (put m id value) }
 {
     if let Some(place) = values.get_mut(id.index()) {
         *place = value;

@@ -12,7 +12,7 @@ mutual
 
   pub data IsProduct : List Token → Spelled → ℕ → Type 0 where
     one : (ts : List Token) (e : Spelled) (d : ℕ) → IsFactor ts e d → IsProduct ts e d
-    times : (ts us : List Token) (x y : Spelled) (c d : ℕ) → IsProduct ts x c → IsFactor us y d → IsProduct (ts ++ Times ∷ us) (Binary op.Times x y) (suc (max c d))
+    star : (ts us : List Token) (x y : Spelled) (c d : ℕ) → IsProduct ts x c → IsFactor us y d → IsProduct (ts ++ Times ∷ us) (Binary op.Times x y) (suc (max c d))
 
   pub data IsExpr : List Token → Spelled → ℕ → Type 0 where
     alone : (ts : List Token) (e : Spelled) (d : ℕ) → IsProduct ts e d → IsExpr ts e d

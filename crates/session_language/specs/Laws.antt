@@ -4,7 +4,7 @@ use Rattle.std.specs.Result.{MatchResult}
 use Rattle.bottle_values.specs.declared.Value.{Value}
 use Rattle.office_map.specs.PlanValue.{PlanValue}
 use Rattle.office_map.specs.Text.{lines}
-use Rattle.session_language.specs.declared.fault.Refusal.{Refusal}
+use Rattle.session_language.specs.declared.fault.SessionRefusal.{SessionRefusal}
 use Rattle.session_language.specs.ProgramValue.{ProgramValue}
 use Rattle.session_language.specs.Spelling.{Spelled, Token}
 use Rattle.session_language.specs.Parse.{read_part}
@@ -20,7 +20,7 @@ Lead p x [] y = x ≡ y
 Lead p x (l ∷ ls) y = (next : Reading) × (at_line l.0 (take_line p x l.1) ≡ Ok next) × Lead p next ls y
 
 -- a line is refused, and all before it are accepted
-pub record IsFirstFault (p : PlanValue) (x : Reading) (lines : List (ℕ × List ℕ)) (f : Refusal) : Type 0 where
+pub record IsFirstFault (p : PlanValue) (x : Reading) (lines : List (ℕ × List ℕ)) (f : SessionRefusal) : Type 0 where
   pub before : List (ℕ × List ℕ)
   pub line : ℕ × List ℕ
   pub after : List (ℕ × List ℕ)
@@ -35,7 +35,7 @@ ReadsInOrder = (p : PlanValue) (x : Reading) (lines : List (ℕ × List ℕ)) �
 
 -- a refusal is of the whole text (0), of one of its lines, or of the end after them
 abbrev pub RefusesALine : Type 0
-RefusesALine = (p : PlanValue) (text : List ℕ) → MatchResult (sessions_of p text) (λ (ps : List ProgramValue). Unit {0}) (λ (f : Refusal). f.line ≤ length (lines text) + 1)
+RefusesALine = (p : PlanValue) (text : List ℕ) → MatchResult (sessions_of p text) (λ (ps : List ProgramValue). Unit {0}) (λ (f : SessionRefusal). f.line ≤ length (lines text) + 1)
 
 -- an expression is read exactly where the grammar has it, as that tree and as deep
 pub record IsReadBy (ts : List Token) (e : Spelled) (d : ℕ) : Type 0 where

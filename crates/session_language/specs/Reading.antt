@@ -5,11 +5,11 @@ use Rattle.std.specs.Str.{bytes_eq}
 use Rattle.office_map.specs.PlanValue.{PlanValue, office_named}
 use Rattle.office_map.specs.PlanText.{◌>>=◌, ◌>>◌, refuse_if}
 use Rattle.office_map.specs.Text.{lines, statements}
-use Rattle.session_language.specs.declared.fault.Rule.{Rule}
-use Rattle.session_language.specs.declared.fault.Rule.TheVariants.{Syntax, UnknownName, UnknownRecord, TooDeep, TooLong, TooManyRecords, TooManyGives, TooManyVariables}
-use Rattle.session_language.specs.declared.fault.Refusal.{Refusal}
+use Rattle.session_language.specs.declared.fault.SessionRule.{SessionRule}
+use Rattle.session_language.specs.declared.fault.SessionRule.TheVariants.{Syntax, UnknownName, UnknownRecord, TooDeep, TooLong, TooManyRecords, TooManyGives, TooManyVariables}
+use Rattle.session_language.specs.declared.fault.SessionRefusal.{SessionRefusal}
 use Rattle.session_language.specs.Tree.{Term, Test, Command, LetVar, SetTo, GiveOf, Requires}
-use Rattle.session_language.specs.Shape.{block_from}
+use Rattle.session_language.specs.refinement.TreeOfStatements.{block_from}
 use Rattle.session_language.specs.ProgramValue.{ProgramValue}
 use Rattle.session_language.specs.Names.{Scope, placed, record_of, knows_variables, knows_records}
 use Rattle.session_language.specs.Needs.{needs_of}
@@ -65,7 +65,7 @@ is_too_deep (Gives e) = nat_lt 32 e.depth
 is_too_deep (Demands l c r code) = nat_lt 32 l.depth || nat_lt 32 r.depth
 
 -- the statement, or the first refusal of its names and depth
-abbrev pub speak : Scope → Said → Result Spoken Rule
+abbrev pub speak : Scope → Said → Result Spoken SessionRule
 speak s said = do
   refuse_if (not (are_variables_known s said)) UnknownName
   refuse_if (not (are_records_known s said)) UnknownRecord
@@ -95,13 +95,13 @@ command_in variables (SpeaksDemand t code) = Requires t code
 abbrev pub with_command : Draft → List (List ℕ) → Command → Draft
 with_command d variables c = record { office = d.office; variables = variables; body = d.body ++ c ∷ [] }
 
-abbrev pub within_limits : Draft → Result Draft Rule
+abbrev pub within_limits : Draft → Result Draft SessionRule
 within_limits d = do
   refuse_if (nat_lt 16 (length (needs_of (block_from d.body)))) TooManyRecords
   refuse_if (nat_lt 32 (length d.variables)) TooManyVariables
   Ok d
 
-abbrev pub add : Draft → Spoken → Result Draft Rule
+abbrev pub add : Draft → Spoken → Result Draft SessionRule
 add d x = within_limits (with_command d (variables_after d.variables x) (command_in (variables_after d.variables x) x))
 
 abbrev pub program_of : Draft → ProgramValue
@@ -112,7 +112,7 @@ abbrev pub is_too_long : ProgramValue → Bool
 is_too_long p = (nat_lt 256 (block_statements p.body) || nat_lt 10000 (block_cost p.body)) || nat_lt 16384 (length (session_text (wide_words p.variables) p.body))
 
 -- a session that is closed
-abbrev pub closed : Draft → Result ProgramValue Rule
+abbrev pub closed : Draft → Result ProgramValue SessionRule
 closed d = do
   refuse_if (is_too_long (program_of d)) TooLong
   refuse_if (nat_lt 64 (block_gives (block_from d.body))) TooManyGives
@@ -128,47 +128,47 @@ abbrev pub with_closed : Reading → ProgramValue → Reading
 with_closed x p = record { done = x.done ++ p ∷ []; open_session = None }
 
 -- a line of each form; one that can't stand where it stands is a fault of syntax
-abbrev pub take_opening : PlanValue → Reading → Option Draft → List ℕ → Result Reading Rule
+abbrev pub take_opening : PlanValue → Reading → Option Draft → List ℕ → Result Reading SessionRule
 take_opening p x (Some d) name = Err Syntax
 take_opening p x None name = do
   office ← ok_or (office_named p name) UnknownName
   refuse_if (nat_le 1024 (length x.done)) TooLong
   Ok (with_open x (begun office))
 
-abbrev pub take_statement : PlanValue → Reading → Option Draft → Said → Result Reading Rule
+abbrev pub take_statement : PlanValue → Reading → Option Draft → Said → Result Reading SessionRule
 take_statement p x None said = Err Syntax
 take_statement p x (Some d) said = do
   spoken ← speak (scope_in p d) said
   next ← add d spoken
   Ok (with_open x next)
 
-abbrev pub take_closing : Reading → Option Draft → Result Reading Rule
+abbrev pub take_closing : Reading → Option Draft → Result Reading SessionRule
 take_closing x None = Err Syntax
 take_closing x (Some d) = do
   program ← closed d
   Ok (with_closed x program)
 
-abbrev pub take_form : PlanValue → Reading → Form → Result Reading Rule
+abbrev pub take_form : PlanValue → Reading → Form → Result Reading SessionRule
 take_form p x (Opens name) = take_opening p x x.open_session name
 take_form p x (Says said) = take_statement p x x.open_session said
 take_form p x Closes = take_closing x x.open_session
 
-abbrev pub take_formed : PlanValue → Reading → Option Form → Result Reading Rule
+abbrev pub take_formed : PlanValue → Reading → Option Form → Result Reading SessionRule
 take_formed p x form = ok_or form Syntax >>= take_form p x
 
-abbrev pub take_line : PlanValue → Reading → List ℕ → Result Reading Rule
+abbrev pub take_line : PlanValue → Reading → List ℕ → Result Reading SessionRule
 take_line p x line = take_formed p x (form_of (pieces_of line))
 
 -- what stands after the first word of a line
-abbrev pub take_after : PlanValue → Reading → Keyword → List Piece → Result Reading Rule
+abbrev pub take_after : PlanValue → Reading → Keyword → List Piece → Result Reading SessionRule
 take_after p x k ps = take_formed p x (form_after k ps)
 
-abbrev pub at_line : {A : Type 0} → ℕ → Result A Rule → Result A Refusal
+abbrev pub at_line : {A : Type 0} → ℕ → Result A SessionRule → Result A SessionRefusal
 at_line n (Ok x) = Ok x
 at_line n (Err rule) = Err (record { rule = rule; line = n })
 
 -- each line in order, on what those before it leave
-abbrev pub read_lines : PlanValue → Reading → List (ℕ × List ℕ) → Result Reading Refusal
+abbrev pub read_lines : PlanValue → Reading → List (ℕ × List ℕ) → Result Reading SessionRefusal
 read_lines p x [] = Ok x
 read_lines p x (l ∷ ls) = at_line l.0 (take_line p x l.1) >>= λ y. read_lines p y ls
 
@@ -176,15 +176,15 @@ abbrev pub nothing_read : Reading
 nothing_read = record { done = []; open_session = None }
 
 -- all sessions are closed; else the fault is past the last line
-abbrev pub unless_open : ℕ → List ProgramValue → Option Draft → Result (List ProgramValue) Refusal
+abbrev pub unless_open : ℕ → List ProgramValue → Option Draft → Result (List ProgramValue) SessionRefusal
 unless_open count ps None = Ok ps
 unless_open count ps (Some d) = Err (record { rule = Syntax; line = count + 1 })
 
-abbrev pub all_closed : ℕ → Reading → Result (List ProgramValue) Refusal
+abbrev pub all_closed : ℕ → Reading → Result (List ProgramValue) SessionRefusal
 all_closed count x = unless_open count x.done x.open_session
 
 -- The programs that a text means under a plan, or its first fault.
-unfoldable pub sessions_of : PlanValue → List ℕ → Result (List ProgramValue) Refusal
+unfoldable pub sessions_of : PlanValue → List ℕ → Result (List ProgramValue) SessionRefusal
 sessions_of p text = do
   refuse_if (nat_lt 1048576 (length text)) (record { rule = TooLong; line = 0 })
   x ← read_lines p nothing_read (statements text)

@@ -2,15 +2,15 @@
 
 ghost use Rattle.std.specs.Prelude.{◌≡◌, ◌≤◌, ℕ, IfOk, [], ◌∷◌, ◌++◌, map, vec_len, OnOk};
 ghost use Rattle.std.specs.String.{string_bytes};
-ghost use Rattle.session_language.specs.Shape.{command_of, block_of};
-ghost use Rattle.session_language.specs.Spoken.{seen_spoken};
-ghost use Rattle.session_language.specs.Drafts.{parts, draft_of, Leaves};
+ghost use Rattle.session_language.specs.refinement.TreeOfStatements.{command_of, block_of};
+ghost use Rattle.session_language.specs.refinement.ResolvedStatements.{seen_spoken};
+ghost use Rattle.session_language.specs.refinement.ReaderRefinement.{parts, draft_of, Leaves};
 ghost use Rattle.session_language.specs.Reading.{begun, add, place_of, with_variable, variables_after, command_in};
 ghost use Rattle.session_language.specs.Needs.{needs_of};
 ghost use Rattle.session_language.specs.WellFormed.{IsSpokenOver};
 
 use crate::draft::Draft;
-use crate::fault::{Rule, Stop};
+use crate::fault::{SessionRule, Stop};
 use crate::names::position_of;
 use crate::needs::add_needs;
 use crate::spoken::Spoken;
@@ -25,7 +25,7 @@ const MOST_VARIABLES: usize = 32;
 
 impl Draft {
     /// A session with nothing in it yet.
-    #[tactic(auto, using(crate::proofs::Keeping::nothing_declared))]
+    #[tactic(auto, using(crate::proofs::session_reading::WellFormedness::nothing_declared))]
     pub fn begun(alloc: Global, office: OfficeId) -> Draft
         ensures { draft_of result ≡ begun office }
     {
@@ -37,7 +37,7 @@ impl Draft {
         }
     }
 
-    #[tactic(auto, using(crate::proofs::Keeping::nothing_declared))]
+    #[tactic(auto, using(crate::proofs::session_reading::WellFormedness::nothing_declared))]
     /// Adds a statement, if the session stays within its limits. Where it is refused, nothing is left of the session.
     pub fn add(&mut self, alloc: Global, spoken: Spoken<'_>) -> Result<(), Stop>
         requires { IsSpokenOver (vec_len self.old.variables) (seen_spoken spoken) }
@@ -80,10 +80,10 @@ fn add_to(
     let statement = place(alloc, variables, spoken)?;
     statements.push(statement)?;
     if needs.len() > MOST_RECORDS {
-        return Err(Stop::Refused(Rule::TooManyRecords));
+        return Err(Stop::Refused(SessionRule::TooManyRecords));
     }
     if variables.len() > MOST_VARIABLES {
-        return Err(Stop::Refused(Rule::TooManyVariables));
+        return Err(Stop::Refused(SessionRule::TooManyVariables));
     }
     Ok(())
 }

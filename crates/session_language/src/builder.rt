@@ -1,7 +1,7 @@
 //! An expression in postfix order, built from its tokens in one pass.
 
 ghost use Rattle.std.specs.Prelude.{◌≡◌, ◌+◌, ◌<◌, ◌≤◌, ◌^◌, ◌++◌, ◌∷◌, [], IfOk, OnOk, min, max, suc, replicate, if◌then◌else◌, Some};
-ghost use Rattle.session_language.specs.Emit.{build_of, emit, emit_wanting, emit_having, after_sign, joined_depth, sum_depth, sum_end, completed, HasRoom};
+ghost use Rattle.session_language.specs.refinement.PostfixBuilder.{build_of, emit, emit_wanting, emit_having, after_sign, joined_depth, sum_depth, sum_end, completed, HasRoom};
 
 use crate::node::{Node, Operator};
 use std::alloc::{AllocError, Global};

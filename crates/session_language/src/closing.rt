@@ -1,12 +1,12 @@
 //! Sessions that are closed.
 
 ghost use Rattle.std.specs.Prelude.{◌≡◌, IfOk};
-ghost use Rattle.session_language.specs.Spoken.{Tells};
-ghost use Rattle.session_language.specs.Drafts.{draft_of};
+ghost use Rattle.session_language.specs.refinement.ResolvedStatements.{Tells};
+ghost use Rattle.session_language.specs.refinement.ReaderRefinement.{draft_of};
 ghost use Rattle.session_language.specs.Reading.{closed, program_of, is_too_long};
 
 use crate::draft::Draft;
-use crate::fault::{Rule, Stop};
+use crate::fault::{SessionRule, Stop};
 use crate::measures::{block_cost, block_gives, block_statements};
 use crate::program::Program;
 use crate::sizes::session_size;
@@ -30,10 +30,10 @@ impl Draft {
         ensures { Tells (λ p. p) result (closed (draft_of self)) }
     {
         if self.is_too_long(alloc)? {
-            return Err(Stop::Refused(Rule::TooLong));
+            return Err(Stop::Refused(SessionRule::TooLong));
         }
         if block_gives(&self.statements) > MOST_GIVES {
-            return Err(Stop::Refused(Rule::TooManyGives));
+            return Err(Stop::Refused(SessionRule::TooManyGives));
         }
         Ok(Program::of(self))
     }

@@ -2,7 +2,7 @@
 
 ghost use Rattle.std.specs.Prelude.{◌≡◌, ◌++◌, IfOk, map};
 ghost use Rattle.std.specs.String.{string_bytes};
-ghost use Rattle.session_language.specs.Shape.{test_of, command_of, block_of};
+ghost use Rattle.session_language.specs.refinement.TreeOfStatements.{test_of, command_of, block_of};
 
 use crate::tree::{Condition, Statement};
 use std::alloc::{AllocError, Global};
@@ -22,7 +22,7 @@ pub(crate) fn copy_block(
 }
 
 #[cycle(copy)]
-#[tactic(auto, using(crate::proofs::Rows::row_block_is))]
+#[tactic(auto, using(crate::proofs::TreeErasure::row_block_is))]
 fn copy_statement(alloc: Global, statement: &Statement) -> Result<Statement, AllocError>
     ensures { IfOk result (λ s. command_of s ≡ command_of statement.now) }
 {

@@ -2,10 +2,10 @@
 
 ghost use Rattle.std.specs.Prelude.{◌≡◌, ◌≤◌, vec_len, map};
 ghost use Rattle.std.specs.String.{string_bytes};
-ghost use Rattle.session_language.specs.Shape.{block_of};
+ghost use Rattle.session_language.specs.refinement.TreeOfStatements.{block_of};
 ghost use Rattle.session_language.specs.Needs.{needs_of};
 ghost use Rattle.session_language.specs.WellFormed.{IsDeclared};
-ghost use Rattle.session_language.specs.OneProof.{declared-prop};
+ghost use Rattle.session_language.specs.refinement.UniqueProofs.{declared-prop};
 
 use crate::tree::Statement;
 use office_map::ids::{OfficeId, RecordId};

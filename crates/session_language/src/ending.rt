@@ -43,7 +43,7 @@ impl RecordValues {
 
     pub fn push(&mut self, id: RecordId, value: Value) -> Result<(), AllocError>
         ensures pushed { OnOk result (self.new ≡ self.old ++ (id, value) ∷ []) }
-        ensures kept { OnErr result (self.new ≡ self.old) }
+        ensures unchanged { OnErr result (self.new ≡ self.old) }
     {
         self.items.push((id, value))?;
         Ok(())
@@ -91,7 +91,7 @@ impl Gives {
 
     pub fn push(&mut self, value: Value) -> Result<(), AllocError>
         ensures pushed { OnOk result (self.new ≡ self.old ++ value ∷ []) }
-        ensures kept { OnErr result (self.new ≡ self.old) }
+        ensures unchanged { OnErr result (self.new ≡ self.old) }
     {
         self.items.push(value)?;
         Ok(())

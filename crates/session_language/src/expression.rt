@@ -1,7 +1,7 @@
 //! Expressions.
 
 ghost use Rattle.std.specs.Prelude.{◌≡◌, IfOk};
-ghost use Rattle.session_language.specs.Nodes.{nodes_in};
+ghost use Rattle.session_language.specs.refinement.ExpressionNodes.{nodes_in};
 ghost use Rattle.session_language.specs.Postfix.{postfix, tree_of, IsPostfix};
 
 use crate::node::Node;
@@ -25,8 +25,8 @@ impl Model for Expression {
     ghost use Rattle.std.specs.Coded.{Coded, codes};
     ghost use Rattle.session_language.specs.declared.node.Node.{Node};
     ghost use Rattle.session_language.specs.Tree.{Term};
-    ghost use Rattle.session_language.specs.TreeCode.{term_code};
-    ghost use Rattle.session_language.specs.Nodes.{nodes_in};
+    ghost use Rattle.session_language.specs.refinement.TreeEncoding.{term_code};
+    ghost use Rattle.session_language.specs.refinement.ExpressionNodes.{nodes_in};
     ghost use Rattle.session_language.specs.Postfix.{tree_of, IsPostfix};
 
     ghost Value = { Term };

@@ -9,7 +9,7 @@ use thiserror::Error;
 
 /// The rule that a text of sessions breaks.
 #[derive(Clone, Copy, Debug, PartialEq, Eq, Error)]
-pub enum Rule {
+pub enum SessionRule {
     #[error("S1 Syntax: the line is no line of a session, or cannot stand here")]
     Syntax,
     #[error("S2 UnknownName: no such office, or no earlier line of the session lets this variable")]
@@ -32,8 +32,8 @@ pub enum Rule {
 /// one past the last line where a session isn't closed.
 #[derive(Clone, Copy, Debug, PartialEq, Eq, Error)]
 #[error("line {line}: {rule}")]
-pub struct Refusal {
-    pub rule: Rule,
+pub struct SessionRefusal {
+    pub rule: SessionRule,
     pub line: u64,
 }
 
@@ -42,7 +42,7 @@ pub enum LangFault {
     #[error("out of memory")]
     Memory,
     #[error("{0}")]
-    Refused(Refusal),
+    Refused(SessionRefusal),
 }
 
 impl From<AllocError> for LangFault {
@@ -65,7 +65,7 @@ impl<T: Drop> From<AllocFailed<T>> for LangFault {
 #[derive(Debug, Drop)]
 pub(crate) enum Stop {
     Memory,
-    Refused(Rule),
+    Refused(SessionRule),
 }
 
 impl From<AllocError> for Stop {
@@ -84,10 +84,10 @@ impl<T: Drop> From<AllocFailed<T>> for Stop {
     }
 }
 
-impl From<Rule> for Stop {
+impl From<SessionRule> for Stop {
     ghost from_gives = { λ rule e. e ≡ stops.Refused rule };
 
-    fn from(rule: Rule) -> Stop {
+    fn from(rule: SessionRule) -> Stop {
         Stop::Refused(rule)
     }
 }

@@ -7,7 +7,7 @@
 //!   (`text_under`, in `specs/Program.antt`), which means that program and nothing else under the plan, and `fits` says
 //!   whether a plan has its office and its records. What holds of every program is in `specs/WellFormed.antt`.
 //! - What a session does alone is `alone`, in `specs/Meaning.antt`, and how much it does `length_on`, in
-//!   `specs/Length.antt`; `proofs/Worked.antt` works out examples of both. How it ended is an
+//!   `specs/Length.antt`; `proofs/WorkedExamples.antt` works out examples of both. How it ended is an
 //!   [`Ending`](ending::Ending).
 //! - Expressions are kept in postfix order (`specs/Postfix.antt`), and reading them takes one pass and no recursion; the
 //!   grammar is in `specs/Grammar.antt`, the words of a line in `specs/Lexer.antt`, the limits in
@@ -48,6 +48,6 @@ mod token;
 pub mod tree;
 mod words;
 
-pub use crate::fault::{LangFault, Refusal, Rule};
+pub use crate::fault::{LangFault, SessionRefusal, SessionRule};
 pub use crate::program::Program;
 pub use crate::read::read_sessions;

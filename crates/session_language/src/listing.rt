@@ -3,7 +3,7 @@
 ghost use Rattle.std.specs.Prelude.{◌≡◌, ◌∷◌, [], ◌++◌, OnOk, IfOk, codes};
 ghost use Rattle.std.specs.String.{string_bytes};
 ghost use Rattle.std.specs.Fmt.{decimal};
-ghost use Rattle.session_language.specs.Shape.{test_of, command_of, block_of};
+ghost use Rattle.session_language.specs.refinement.TreeOfStatements.{test_of, command_of, block_of};
 ghost use Rattle.session_language.specs.Tree.{LetVar, SetTo, GiveOf, Requires};
 ghost use Rattle.session_language.specs.Text.{words_of, term_text, test_text, comparison_text, command_text, block_text, session_text, line};
 
@@ -48,7 +48,7 @@ fn write_block(
 }
 
 #[cycle(listing)]
-#[tactic(auto, using(crate::proofs::Rows::row_block_is))]
+#[tactic(auto, using(crate::proofs::TreeErasure::row_block_is))]
 fn write_statement(
     out: &mut String,
     words: &Words<'_>,

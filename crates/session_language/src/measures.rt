@@ -1,7 +1,7 @@
 //! Measures of sessions, exact up to the limits and one past each of them beyond.
 
 ghost use Rattle.std.specs.Prelude.{◌≡◌, ◌≤◌, ◌^◌, min, max, ◌+◌, ◌*◌, length};
-ghost use Rattle.session_language.specs.Shape.{test_of, command_of, block_of};
+ghost use Rattle.session_language.specs.refinement.TreeOfStatements.{test_of, command_of, block_of};
 ghost use Rattle.session_language.specs.Postfix.{postfix};
 ghost use Rattle.session_language.specs.Measures.{nodes, test_nodes, cost, block_cost, gives, block_gives, statements, block_statements};
 
@@ -46,7 +46,7 @@ pub fn block_cost(statements: &[Statement]) -> u32
 }
 
 #[cycle(cost)]
-#[tactic(auto, using(crate::proofs::Rows::row_block_is, crate::proofs::Capped::capped_turns))]
+#[tactic(auto, using(crate::proofs::TreeErasure::row_block_is, crate::proofs::session_measures::Saturation::capped_turns))]
 fn cost(statement: &Statement) -> u32
     ensures { result ≡ min 10001 (cost (command_of statement.now)) }
 {

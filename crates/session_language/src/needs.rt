@@ -2,8 +2,8 @@
 
 ghost use Rattle.std.specs.Prelude.{◌≡◌, ◌≤◌, OnOk, IfSome, MatchOption, insert, length};
 ghost use Rattle.session_language.specs.Needs.{with_record, term_needs, nodes_needs};
-ghost use Rattle.session_language.specs.Spoken.{seen_spoken};
-ghost use Rattle.session_language.specs.Drafts.{spoken_needs};
+ghost use Rattle.session_language.specs.refinement.ResolvedStatements.{seen_spoken};
+ghost use Rattle.session_language.specs.refinement.ReaderRefinement.{spoken_needs};
 
 use crate::expression::Expression;
 use crate::node::Node;
@@ -29,7 +29,7 @@ pub(crate) fn add_needs(needs: &mut Vec<RecordId>, spoken: &Spoken<'_>) -> Resul
     }
 }
 
-#[tactic(auto, using(crate::proofs::Needed::nodes_needs_are))]
+#[tactic(auto, using(crate::proofs::needed_records::Append::nodes_needs_are))]
 fn add_reads(needs: &mut Vec<RecordId>, e: &Expression) -> Result<(), AllocError>
     ensures { OnOk result (needs.new.items ≡ term_needs e.now needs.old.items) }
 {

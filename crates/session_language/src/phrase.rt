@@ -1,7 +1,7 @@
 //! Expressions within a line.
 
 ghost use Rattle.std.specs.Prelude.{◌≡◌, ◌≤◌, ◌&&◌, IfOk, length, option_map};
-ghost use Rattle.session_language.specs.Emit.{build_of, fresh_build, ended};
+ghost use Rattle.session_language.specs.refinement.PostfixBuilder.{build_of, fresh_build, ended};
 ghost use Rattle.session_language.specs.Lexer.{pieces_of};
 ghost use Rattle.session_language.specs.Names.{scope_of};
 ghost use Rattle.session_language.specs.Phrase.{phrase_at, Reads};

@@ -5,7 +5,7 @@ ghost use Rattle.std.specs.List.Sorted.{IsStrictlyIncreasing};
 ghost use Rattle.std.specs.List.{list_all};
 ghost use Rattle.std.specs.String.{string_bytes};
 ghost use Rattle.office_map.specs.PlanValue.{is_end};
-ghost use Rattle.session_language.specs.Shape.{block_of};
+ghost use Rattle.session_language.specs.refinement.TreeOfStatements.{block_of};
 ghost use Rattle.session_language.specs.Needs.{needs_of};
 ghost use Rattle.session_language.specs.Naming.{BlockNames};
 ghost use Rattle.session_language.specs.WellFormed.{IsWellFormed};
@@ -35,8 +35,8 @@ impl Model for Program {
     ghost use Rattle.std.specs.Coded.{Coded, codes};
     ghost use Rattle.session_language.specs.ProgramValue.{ProgramValue};
     ghost use Rattle.session_language.specs.declared.node.Node.{Node};
-    ghost use Rattle.session_language.specs.TreeCode.{Mark, term_code, block_code};
-    ghost use Rattle.session_language.specs.Shape.{block_of};
+    ghost use Rattle.session_language.specs.refinement.TreeEncoding.{Mark, term_code, block_code};
+    ghost use Rattle.session_language.specs.refinement.TreeOfStatements.{block_of};
     ghost use Rattle.session_language.specs.Needs.{needs_of};
     ghost use Rattle.session_language.specs.WellFormed.{IsWellFormed};
 
@@ -50,7 +50,7 @@ impl Model for Program {
 }
 
 impl Program {
-    ghost use Rattle.session_language.specs.Drafts.{draft_of};
+    ghost use Rattle.session_language.specs.refinement.ReaderRefinement.{draft_of};
     ghost use Rattle.session_language.specs.Program.{fits, text_under};
     ghost use Rattle.session_language.specs.Measures.{block_gives};
     ghost use Rattle.session_language.specs.Reading.{program_of, is_too_long, sessions_of};
@@ -84,7 +84,7 @@ impl Program {
     }
 
     /// The records that it reads or sets anywhere, each once, in order of number.
-    #[tactic(auto, using(crate::proofs::Ordered::needs_increase, crate::proofs::Ordered::needs_are_named))]
+    #[tactic(auto, using(crate::proofs::needed_records::Sorted::needs_increase, crate::proofs::needed_records::Sorted::needs_are_named))]
     pub fn needs(&self) -> &[RecordId]
         ensures all { result.now ≡ needs_of self.now.body }
         ensures in_order { IsStrictlyIncreasing result.now }

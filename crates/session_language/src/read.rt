@@ -4,10 +4,10 @@ ghost use Rattle.std.specs.Prelude.{◌≡◌, ◌<◌, ◌≤◌, ◌+◌, ◌^
 ghost use Rattle.session_language.specs.Program.{fits};
 ghost use Rattle.office_map.specs.Text.{lines, statements_from};
 ghost use Rattle.session_language.specs.Reading.{sessions_of, read_lines, at_line, take_line, all_closed};
-ghost use Rattle.session_language.specs.Drafts.{reading_of, Gives, LeavesLine};
+ghost use Rattle.session_language.specs.refinement.ReaderRefinement.{reading_of, Gives, LeavesLine};
 
 use crate::builder::{Builder, Level, Stage, Sum};
-use crate::fault::{LangFault, Refusal, Rule, Stop};
+use crate::fault::{LangFault, SessionRefusal, SessionRule, Stop};
 use crate::program::Program;
 use crate::reader::Reader;
 use office_map::plan::Plan;
@@ -19,14 +19,14 @@ use std::alloc::Global;
 const TEXT_LIMIT: usize = 1_048_576;
 
 /// The programs of the sessions in a text, in order. The first faulty line is refused.
-#[tactic(auto, unfolding(crate::specs::Reading::sessions_of), using(crate::proofs::Fitting::sessions_fit, crate::proofs::Fitting::sessions_few))]
+#[tactic(auto, unfolding(crate::specs::Reading::sessions_of), using(crate::proofs::session_reading::ProgramsFit::sessions_fit, crate::proofs::session_reading::ProgramsFit::sessions_few))]
 pub fn read_sessions(alloc: Global, text: &[u8], plan: &Plan) -> Result<Vec<Program>, LangFault>
     ensures meaning { Gives (λ v. v.items) result (sessions_of plan.now text.now) }
     ensures fit { IfOk result (λ v. All (λ p. IsTrue (fits plan.now p)) v.items) }
     ensures few { IfOk result (λ v. length v.items ≤ 1024) }
 {
     if text.len() > TEXT_LIMIT {
-        return Err(refused(Rule::TooLong, 0));
+        return Err(refused(SessionRule::TooLong, 0));
     }
     let reader = read_lines(
         alloc,
@@ -38,7 +38,7 @@ pub fn read_sessions(alloc: Global, text: &[u8], plan: &Plan) -> Result<Vec<Prog
         },
     )?;
     if reader.open_session.is_some() {
-        return Err(refused(Rule::Syntax, count_of_lines(text) + 1));
+        return Err(refused(SessionRule::Syntax, count_of_lines(text) + 1));
     }
     Ok(reader.into_done())
 }
@@ -76,10 +76,10 @@ fn read_line(
     }
 }
 
-fn refused(rule: Rule, line: u64) -> LangFault
+fn refused(rule: SessionRule, line: u64) -> LangFault
     ensures { result ≡ LangFault.Refused (record { rule = rule; line = line }) }
 {
-    LangFault::Refused(Refusal { rule, line })
+    LangFault::Refused(SessionRefusal { rule, line })
 }
 
 /// How many lines a text has.

@@ -4,11 +4,11 @@
 ghost use Rattle.std.specs.Prelude.{◌≡◌, ◌≤◌, ◌++◌, ◌∷◌, [], IfOk, List, min, ◌+◌, length, map};
 ghost use Rattle.std.specs.String.{string_bytes};
 ghost use Rattle.std.specs.Fmt.{decimal};
-ghost use Rattle.session_language.specs.Shape.{test_of, command_of, block_of};
+ghost use Rattle.session_language.specs.refinement.TreeOfStatements.{test_of, command_of, block_of};
 ghost use Rattle.session_language.specs.Tree.{Term, Bin};
-ghost use Rattle.session_language.specs.Postfix.{put, put_all};
+ghost use Rattle.session_language.specs.Postfix.{push_node, push_nodes};
 ghost use Rattle.session_language.specs.Text.{Words, wide_words, variable_name, rank_of, term_text, test_text, command_text, block_text, session_text};
-ghost use Rattle.session_language.specs.Sizes.{ranks_of, bytes_of, around_factor, around_product, around_both};
+ghost use Rattle.session_language.specs.refinement.TextSizes.{ranks_of, bytes_of, around_factor, around_product, around_both};
 
 use crate::expression::Expression;
 use crate::listing::comparison_text;
@@ -49,7 +49,7 @@ fn block_size(
 }
 
 #[cycle(size)]
-#[tactic(auto, using(crate::proofs::Rows::row_block_is))]
+#[tactic(auto, using(crate::proofs::TreeErasure::row_block_is))]
 fn statement_size(
     ranks: &mut Vec<Rank>,
     variables: &[String],
@@ -99,7 +99,7 @@ fn condition_size(
     Ok(sum(sum(left, sign), right))
 }
 
-#[tactic(auto, using(crate::proofs::Weighed::one_left))]
+#[tactic(auto, using(crate::proofs::session_measures::SizeStep::one_left))]
 fn expression_size(
     ranks: &mut Vec<Rank>,
     variables: &[String],
@@ -116,7 +116,7 @@ fn nodes_size(
     variables: &[String],
     nodes: &[Node],
 ) -> Result<u32, AllocError>
-    ensures { IfOk result (λ n. n ≡ min 16385 (bytes_of (wide_words (map string_bytes variables.now)) (put_all nodes.now []))) }
+    ensures { IfOk result (λ n. n ≡ min 16385 (bytes_of (wide_words (map string_bytes variables.now)) (push_nodes nodes.now []))) }
 {
     ranks.clear();
     let mut size = 0;
@@ -135,7 +135,7 @@ fn with_node(
 ) -> Result<u32, AllocError>
     requires size { size ≤ 16385 }
     ensures { (st : List Term) → ranks.old.items ≡ ranks_of st → size ≡ min 16385 (bytes_of (wide_words (map string_bytes variables.now)) st) →
-        IfOk result (λ n. (ranks.new.items ≡ ranks_of (put node st)) × (n ≡ min 16385 (bytes_of (wide_words (map string_bytes variables.now)) (put node st)))) }
+        IfOk result (λ n. (ranks.new.items ≡ ranks_of (push_node node st)) × (n ≡ min 16385 (bytes_of (wide_words (map string_bytes variables.now)) (push_node node st)))) }
 {
     match node {
         Node::Literal(value) => with_leaf(ranks, size, digits(magnitude(value))),
@@ -158,7 +158,7 @@ fn with_leaf(ranks: &mut Vec<Rank>, size: u32, bytes: u32) -> Result<u32, AllocE
 fn with_sign(ranks: &mut Vec<Rank>, size: u32) -> Result<u32, AllocError>
     requires size { size ≤ 16385 }
     ensures { (w : Words) (st : List Term) → ranks.old.items ≡ ranks_of st → size ≡ min 16385 (bytes_of w st) →
-        IfOk result (λ n. (ranks.new.items ≡ ranks_of (put Node.Negate st)) × (n ≡ min 16385 (bytes_of w (put Node.Negate st)))) }
+        IfOk result (λ n. (ranks.new.items ≡ ranks_of (push_node Node.Negate st)) × (n ≡ min 16385 (bytes_of w (push_node Node.Negate st)))) }
 {
     let Some(rank) = ranks.pop() else {
         return Ok(0);
@@ -170,7 +170,7 @@ fn with_sign(ranks: &mut Vec<Rank>, size: u32) -> Result<u32, AllocError>
 fn with_operator(ranks: &mut Vec<Rank>, size: u32, operator: Operator) -> Result<u32, AllocError>
     requires size { size ≤ 16385 }
     ensures { (w : Words) (st : List Term) → ranks.old.items ≡ ranks_of st → size ≡ min 16385 (bytes_of w st) →
-        IfOk result (λ n. (ranks.new.items ≡ ranks_of (put (Node.Apply operator) st)) × (n ≡ min 16385 (bytes_of w (put (Node.Apply operator) st)))) }
+        IfOk result (λ n. (ranks.new.items ≡ ranks_of (push_node (Node.Apply operator) st)) × (n ≡ min 16385 (bytes_of w (push_node (Node.Apply operator) st)))) }
 {
     let Some(right) = ranks.pop() else {
         return Ok(0);

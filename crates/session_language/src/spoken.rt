@@ -6,11 +6,11 @@ ghost use Rattle.session_language.specs.Postfix.{IsPostfix, tree_of};
 ghost use Rattle.session_language.specs.Names.{scope_of};
 ghost use Rattle.session_language.specs.Reading.{SpeaksDemand};
 ghost use Rattle.session_language.specs.Form.{phrase_alone, assigned, else_code, comparison_of};
-ghost use Rattle.session_language.specs.Spoken.{Tells, ReadsAlone, ReadsAssigned, seen_spoken, spoken_after, judged};
+ghost use Rattle.session_language.specs.refinement.ResolvedStatements.{Tells, ReadsAlone, ReadsAssigned, seen_spoken, spoken_after, judged};
 
 use crate::builder::Builder;
 use crate::expression::Expression;
-use crate::fault::{Rule, Stop};
+use crate::fault::{SessionRule, Stop};
 use crate::keyword::Keyword;
 use crate::lexer::{Piece, Pieces, Symbol};
 use crate::node::Comparison;
@@ -91,11 +91,11 @@ impl Builder {
             Keyword::Set => self.speak_set(alloc, scope, pieces),
             Keyword::Give => self.speak_give(alloc, scope, pieces),
             Keyword::Require => self.speak_require(alloc, scope, pieces),
-            Keyword::Session | Keyword::End | Keyword::Other => Err(Stop::Refused(Rule::Syntax)),
+            Keyword::Session | Keyword::End | Keyword::Other => Err(Stop::Refused(SessionRule::Syntax)),
         }
     }
 
-    #[tactic(auto, using(crate::proofs::Speech::is_postfix, crate::proofs::Speech::its_tree))]
+    #[tactic(auto, using(crate::proofs::session_reading::ResolveNames::is_postfix, crate::proofs::session_reading::ResolveNames::its_tree))]
     fn speak_let<'a>(
         &mut self,
         alloc: Global,
@@ -106,13 +106,13 @@ impl Builder {
         ensures { Tells seen_spoken result (spoken_after (scope_of scope.now) Keyword.Let (pieces_of pieces.entry.rest.now)) }
     {
         let Some((name, summary)) = self.assigned(scope, pieces)? else {
-            return Err(Stop::Refused(Rule::Syntax));
+            return Err(Stop::Refused(SessionRule::Syntax));
         };
         judge(summary)?;
         Ok(Spoken::Let(name, self.expression(alloc)?))
     }
 
-    #[tactic(auto, using(crate::proofs::Speech::is_postfix, crate::proofs::Speech::its_tree))]
+    #[tactic(auto, using(crate::proofs::session_reading::ResolveNames::is_postfix, crate::proofs::session_reading::ResolveNames::its_tree))]
     fn speak_set<'a>(
         &mut self,
         alloc: Global,
@@ -123,7 +123,7 @@ impl Builder {
         ensures { Tells seen_spoken result (spoken_after (scope_of scope.now) Keyword.Set (pieces_of pieces.entry.rest.now)) }
     {
         let Some((name, summary)) = self.assigned(scope, pieces)? else {
-            return Err(Stop::Refused(Rule::Syntax));
+            return Err(Stop::Refused(SessionRule::Syntax));
         };
         let Some(record) = scope.record_of(name) else {
             return Err(Stop::Refused(without_record(summary)));
@@ -132,7 +132,7 @@ impl Builder {
         Ok(Spoken::Set(record, self.expression(alloc)?))
     }
 
-    #[tactic(auto, using(crate::proofs::Speech::is_postfix, crate::proofs::Speech::its_tree))]
+    #[tactic(auto, using(crate::proofs::session_reading::ResolveNames::is_postfix, crate::proofs::session_reading::ResolveNames::its_tree))]
     fn speak_give<'a>(
         &mut self,
         alloc: Global,
@@ -143,13 +143,13 @@ impl Builder {
         ensures { Tells seen_spoken result (spoken_after (scope_of scope.now) Keyword.Give (pieces_of pieces.entry.rest.now)) }
     {
         let Some(summary) = self.alone(scope, pieces)? else {
-            return Err(Stop::Refused(Rule::Syntax));
+            return Err(Stop::Refused(SessionRule::Syntax));
         };
         judge(summary)?;
         Ok(Spoken::Give(self.expression(alloc)?))
     }
 
-    #[tactic(auto, using(crate::proofs::Speech::is_postfix, crate::proofs::Speech::its_tree))]
+    #[tactic(auto, using(crate::proofs::session_reading::ResolveNames::is_postfix, crate::proofs::session_reading::ResolveNames::its_tree))]
     fn speak_require<'a>(
         &mut self,
         alloc: Global,
@@ -161,17 +161,17 @@ impl Builder {
     {
         let mut rest = pieces;
         let Some((first, Some(Piece::Symbol(symbol)))) = self.phrase(scope, &mut rest)? else {
-            return Err(Stop::Refused(Rule::Syntax));
+            return Err(Stop::Refused(SessionRule::Syntax));
         };
         let Some(comparison) = comparison_of(symbol) else {
-            return Err(Stop::Refused(Rule::Syntax));
+            return Err(Stop::Refused(SessionRule::Syntax));
         };
         let left = self.expression(alloc)?;
         let Some((second, Some(Piece::Word(word)))) = self.phrase(scope, &mut rest)? else {
-            return Err(Stop::Refused(Rule::Syntax));
+            return Err(Stop::Refused(SessionRule::Syntax));
         };
         let Some(code) = else_code(word, rest) else {
-            return Err(Stop::Refused(Rule::Syntax));
+            return Err(Stop::Refused(SessionRule::Syntax));
         };
         judge(first.and(second))?;
         let right = self.expression(alloc)?;
@@ -222,29 +222,29 @@ impl Summary {
 }
 
 /// The first refusal of an expression's names and depth.
-fn judge(summary: Summary) -> Result<(), Rule>
+fn judge(summary: Summary) -> Result<(), SessionRule>
     ensures { result ≡ judged summary }
 {
     if !summary.knows_variables {
-        return Err(Rule::UnknownName);
+        return Err(SessionRule::UnknownName);
     }
     if !summary.knows_records {
-        return Err(Rule::UnknownRecord);
+        return Err(SessionRule::UnknownRecord);
     }
     if summary.depth > 32 {
-        return Err(Rule::TooDeep);
+        return Err(SessionRule::TooDeep);
     }
     Ok(())
 }
 
 /// The first refusal where a record is unknown.
-fn without_record(summary: Summary) -> Rule
-    ensures { result ≡ (if summary.knows_variables then Rule.UnknownRecord else Rule.UnknownName) }
+fn without_record(summary: Summary) -> SessionRule
+    ensures { result ≡ (if summary.knows_variables then SessionRule.UnknownRecord else SessionRule.UnknownName) }
 {
     if summary.knows_variables {
-        Rule::UnknownRecord
+        SessionRule::UnknownRecord
     } else {
-        Rule::UnknownName
+        SessionRule::UnknownName
     }
 }
 

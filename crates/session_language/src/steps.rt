@@ -5,12 +5,12 @@ ghost use Rattle.std.specs.Option.{option_copied};
 ghost use Rattle.office_map.specs.PlanValue.{PlanValue};
 ghost use Rattle.session_language.specs.Lexer.{pieces_of};
 ghost use Rattle.session_language.specs.Form.{name_alone, IsStatement};
-ghost use Rattle.session_language.specs.Drafts.{draft_of, reading_of, Leaves, with_statement};
+ghost use Rattle.session_language.specs.refinement.ReaderRefinement.{draft_of, reading_of, Leaves, with_statement};
 ghost use Rattle.session_language.specs.Reading.{take_line, take_after};
 
 use crate::builder::Builder;
 use crate::draft::Draft;
-use crate::fault::{Rule, Stop};
+use crate::fault::{SessionRule, Stop};
 use crate::keyword::{Keyword, keyword_of};
 use crate::lexer::{Piece, Pieces};
 use crate::reader::Reader;
@@ -30,7 +30,7 @@ impl Reader {
     {
         let mut pieces = Pieces { rest: line };
         let Some(Piece::Word(word)) = pieces.next() else {
-            return Err(Stop::Refused(Rule::Syntax));
+            return Err(Stop::Refused(SessionRule::Syntax));
         };
         self.take_after(alloc, plan, keyword_of(word), pieces)
     }
@@ -58,16 +58,16 @@ impl Reader {
         ensures { Leaves result (reading_of self.new) (take_after plan.now (reading_of self.old) Keyword.Session (pieces_of pieces.entry.rest.now)) }
     {
         let Some(name) = name_alone(pieces) else {
-            return Err(Stop::Refused(Rule::Syntax));
+            return Err(Stop::Refused(SessionRule::Syntax));
         };
         if self.open_session.is_some() {
-            return Err(Stop::Refused(Rule::Syntax));
+            return Err(Stop::Refused(SessionRule::Syntax));
         }
         let Some(office) = plan.office_named(name) else {
-            return Err(Stop::Refused(Rule::UnknownName));
+            return Err(Stop::Refused(SessionRule::UnknownName));
         };
         if self.done.len() >= MOST_SESSIONS {
-            return Err(Stop::Refused(Rule::TooLong));
+            return Err(Stop::Refused(SessionRule::TooLong));
         }
         self.open_session = Some(Draft::begun(alloc, office));
         Ok(())
@@ -85,7 +85,7 @@ impl Reader {
     {
         match &mut self.open_session {
             Some(draft) => draft.take(alloc, &mut self.builder, plan, keyword, pieces),
-            None => Err(Stop::Refused(Rule::Syntax)),
+            None => Err(Stop::Refused(SessionRule::Syntax)),
         }
     }
 
@@ -94,10 +94,10 @@ impl Reader {
     {
         let mut rest = pieces;
         if rest.next().is_some() {
-            return Err(Stop::Refused(Rule::Syntax));
+            return Err(Stop::Refused(SessionRule::Syntax));
         }
         let Some(draft) = mem::replace(&mut self.open_session, None) else {
-            return Err(Stop::Refused(Rule::Syntax));
+            return Err(Stop::Refused(SessionRule::Syntax));
         };
         let program = draft.close(alloc)?;
         self.done.push(program)?;

@@ -1,5 +1,5 @@
-pub mod Lists
-pub mod Held
-pub mod Apart
-pub mod Bound
-pub mod Brought
+pub mod HeldUpdates
+pub mod ThingsApart
+pub mod WaitingBound
+pub mod FrameArrival
+pub mod StartsOnce

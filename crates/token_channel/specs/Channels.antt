@@ -12,17 +12,18 @@ use Rattle.window_link.specs.declared.fault.LinkFault.{LinkFault}
 use Rattle.token_channel.specs.declared.fault.ChannelFault.{ChannelFault}
 use Rattle.token_channel.specs.declared.fault.ChannelFault.TheVariants.{Link, Breach}
 use Rattle.token_channel.specs.declared.thing.Thing.{Thing}
-use Rattle.token_channel.specs.declared.thing.Place.{Place}
-use Rattle.token_channel.specs.Things.{thing_of, num, count, hold}
+use Rattle.token_channel.specs.declared.thing.SharedThing.{SharedThing}
+use Rattle.token_channel.specs.Things.{thing_of, count_carrying, hold}
 use Rattle.token_channel.specs.Places.{holds, shares, waits, changed, places_of}
+use Rattle.bottle_values.specs.Lists.{num}
 
 pub record ChannelState : Type 0 where
   pub link : LinkState
-  pub places : List Place
+  pub places : List SharedThing
 
 -- Each thing of the pair is held here, or waits here once, or neither; and nothing else does.
 abbrev pub IsApart : ChannelState → Type 0
-IsApart c = (t : Thing) → num (holds c.places t) + count t c.link.sending.waiting ≤ num (shares c.places t)
+IsApart c = (t : Thing) → num (holds c.places t) + count_carrying t c.link.sending.waiting ≤ num (shares c.places t)
 
 abbrev pub opened : PlanValue → ℕ → ℕ → ChannelState
 opened p me peer = record { link = resumed p.run me peer 0 0; places = places_of p me peer }
@@ -60,7 +61,7 @@ abbrev pub channel_fault : ChannelState → Fields → Option ChannelFault
 channel_fault c f =
     link_fault_or (fault_of c.link f) (option_map_or (is_breach c f.count) (next_of c.link f) false)
 
-abbrev pub with_taken : List Place → Option Msg → List Place
+abbrev pub with_taken : List SharedThing → Option Msg → List SharedThing
 with_taken places None = places
 with_taken places (Some msg) = changed places (thing_of msg) true
 

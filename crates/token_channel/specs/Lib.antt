@@ -1,3 +1,5 @@
 pub mod Things
 pub mod Places
 pub mod Channels
+pub mod Ends
+pub mod Sides

@@ -6,32 +6,32 @@ use Rattle.frame_codec.specs.declared.message.Msg.{Msg}
 use Rattle.office_map.specs.PlanValue.{PlanValue, records_of, is_end, fork_end_of, start_end_of}
 use Rattle.token_channel.specs.declared.thing.Thing.{Thing}
 use Rattle.token_channel.specs.declared.thing.Thing.TheVariants.{Fork as TheFork, ForkToken, Bottle as TheBottle, BottleToken}
-use Rattle.token_channel.specs.declared.thing.Place.{Place}
+use Rattle.token_channel.specs.declared.thing.SharedThing.{SharedThing}
 use Rattle.token_channel.specs.Things.{same, thing_of}
 
 -- the thing is one of these, and it is held
-abbrev pub holds : List Place → Thing → Bool
-holds places t = list_any (λ (p : Place). same p.thing t && p.held) places
+abbrev pub holds : List SharedThing → Thing → Bool
+holds places t = list_any (λ (p : SharedThing). same p.thing t && p.held) places
 
 -- the thing is one of these
-abbrev pub shares : List Place → Thing → Bool
-shares places t = list_any (λ (p : Place). same p.thing t) places
+abbrev pub shares : List SharedThing → Thing → Bool
+shares places t = list_any (λ (p : SharedThing). same p.thing t) places
 
 -- some of the messages carries it
 abbrev pub waits : Thing → List Msg → Bool
 waits t ms = list_any (λ m. same t (thing_of m)) ms
 
-abbrev pub with_held : Thing → Bool → Place → Place
+abbrev pub with_held : Thing → Bool → SharedThing → SharedThing
 with_held t b p = if same p.thing t then record { thing = p.thing; held = b } else p
 
 -- where that thing came or went
-abbrev pub changed : List Place → Thing → Bool → List Place
+abbrev pub changed : List SharedThing → Thing → Bool → List SharedThing
 changed places t b = map (with_held t b) places
 
 -- ---- the opening
 
 -- a thing that starts at an end is held there, and its token at the other
-abbrev pub with_token : Thing → Thing → Bool → List Place
+abbrev pub with_token : Thing → Thing → Bool → List SharedThing
 with_token thing token here =
     record { thing = thing; held = here } ∷ record { thing = token; held = not here } ∷ []
 
@@ -39,10 +39,10 @@ abbrev pub starts_at : Option ℕ → ℕ → Bool
 starts_at end me = option_map_or (λ e. e == me) end false
 
 -- the bottle of a record that is shared with the peer
-abbrev pub bottle_places : PlanValue → ℕ → ℕ → ℕ → List Place
+abbrev pub bottle_places : PlanValue → ℕ → ℕ → ℕ → List SharedThing
 bottle_places p me peer r =
     if is_end p r peer then with_token (TheBottle r) (BottleToken r) (starts_at (start_end_of p r) me) else []
 
-abbrev pub places_of : PlanValue → ℕ → ℕ → List Place
+abbrev pub places_of : PlanValue → ℕ → ℕ → List SharedThing
 places_of p me peer =
     with_token TheFork ForkToken (starts_at (fork_end_of p me peer) me) ++ flat_map (bottle_places p me peer) (records_of p me)

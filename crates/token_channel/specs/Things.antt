@@ -4,6 +4,7 @@ use Rattle.frame_codec.specs.declared.message.Msg.{Msg}
 use Rattle.frame_codec.specs.declared.message.Msg.TheVariants.{AskFork, Fork, AskBottle, Bottle}
 use Rattle.token_channel.specs.declared.thing.Thing.{Thing}
 use Rattle.token_channel.specs.declared.thing.Thing.TheVariants.{Fork as TheFork, ForkToken, Bottle as TheBottle, BottleToken}
+use Rattle.bottle_values.specs.Lists.{num}
 
 -- what a message carries
 abbrev pub thing_of : Msg → Thing
@@ -19,14 +20,10 @@ same (TheBottle r) (TheBottle q) = r == q
 same (BottleToken r) (BottleToken q) = r == q
 same _ _ = false
 
-abbrev pub num : Bool → ℕ
-num true = 1
-num false = 0
-
 -- how many of the messages carry it
-abbrev pub count : Thing → List Msg → ℕ
-count t [] = 0
-count t (m ∷ ms) = num (same t (thing_of m)) + count t ms
+abbrev pub count_carrying : Thing → List Msg → ℕ
+count_carrying t [] = 0
+count_carrying t (m ∷ ms) = num (same t (thing_of m)) + count_carrying t ms
 
 -- what is held, where one thing came or went
 abbrev pub hold : (Thing → Bool) → Thing → Bool → Thing → Bool

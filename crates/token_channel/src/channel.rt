@@ -11,7 +11,7 @@ ghost use Rattle.token_channel.specs.Channels.{IsApart, opened, sent, channel_fa
 
 use crate::fault::ChannelFault;
 use crate::places;
-use crate::thing::{Place, Thing};
+use crate::thing::{SharedThing, Thing};
 use frame_codec::{Frame, Msg};
 use office_map::{OfficeId, Plan};
 use std::alloc::{AllocError, Global};
@@ -23,7 +23,7 @@ use window_link::{Arrival, Link, LinkFault};
 #[derive(Drop)]
 pub struct Channel {
     link: Link,
-    places: Vec<Place>,
+    places: Vec<SharedThing>,
 }
 
 impl Model for Channel {
@@ -101,7 +101,7 @@ impl Channel {
         ensures fault { IfErr result (λ fault. fault ≡ LinkFault.Worn) }
         ensures sent { OnOk result (self.new ≡ sent self.old msg) }
         ensures held { OnOk result ((t : Thing) → holds self.new.places t ≡ hold (holds self.old.places) (thing_of msg) false t) }
-        ensures err { OnErr result (self.new ≡ self.old) }
+        ensures unchanged { OnErr result (self.new ≡ self.old) }
     {
         self.link.queue(msg)?;
         places::change(&mut self.places, Thing::of(msg), false);
@@ -132,7 +132,7 @@ impl Channel {
         ensures fault { result_err result ≡ channel_fault self.old frame.now }
         ensures arrival { IfOk result (λ arrival. arrival ≡ arrival_at self.old.link frame.now) }
         ensures taken { OnOk result (self.new ≡ after_frame self.old frame.now) }
-        ensures err { OnErr result (self.new ≡ self.old) }
+        ensures unchanged { OnErr result (self.new ≡ self.old) }
     {
         self.link.check(frame).map_err(ChannelFault::Link)?;
         if let Some(msg) = self.next(frame) {

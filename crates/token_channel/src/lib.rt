@@ -24,7 +24,7 @@ mod thing;
 
 pub use channel::Channel;
 pub use fault::ChannelFault;
-pub use thing::{Place, Thing};
+pub use thing::{SharedThing, Thing};
 
 #[cfg(test)]
 mod tests;

@@ -4,12 +4,12 @@ ghost use Rattle.std.specs.Prelude.{◌≡◌, ◌++◌, ◌<◌, length, IfOk, 
 ghost use Rattle.office_map.specs.PlanValue.{are_neighbours};
 ghost use Rattle.token_channel.specs.Places.{holds, shares, waits, changed, with_token, places_of};
 
-use crate::thing::{Place, Thing};
+use crate::thing::{SharedThing, Thing};
 use frame_codec::Msg;
 use office_map::{OfficeId, Plan};
 use std::alloc::{AllocError, Global};
 
-pub fn holds(places: &[Place], thing: Thing) -> bool
+pub fn holds(places: &[SharedThing], thing: Thing) -> bool
     ensures { result ≡ holds places.now thing }
 {
     places
@@ -17,7 +17,7 @@ pub fn holds(places: &[Place], thing: Thing) -> bool
         .any(|place| place.thing.is(thing) && place.held)
 }
 
-pub fn shares(places: &[Place], thing: Thing) -> bool
+pub fn shares(places: &[SharedThing], thing: Thing) -> bool
     ensures { result ≡ shares places.now thing }
 {
     places.iter().any(|place| place.thing.is(thing))
@@ -30,7 +30,7 @@ pub fn waits(thing: Thing, messages: &[Msg]) -> bool
 }
 
 /// The thing came or went.
-pub fn change(places: &mut Vec<Place>, thing: Thing, held: bool)
+pub fn change(places: &mut Vec<SharedThing>, thing: Thing, held: bool)
     ensures { places.new.items ≡ changed places.old.items thing held }
 {
     for place in places.iter_mut() {
@@ -44,7 +44,7 @@ pub fn open(
     plan: &Plan,
     me: OfficeId,
     peer: OfficeId,
-) -> Result<Vec<Place>, AllocError>
+) -> Result<Vec<SharedThing>, AllocError>
     requires office { me < length plan.now.offices }
     requires neighbours { IsTrue (are_neighbours plan.now me peer) }
     ensures { IfOk result (λ places. places.items ≡ places_of plan.now me peer) }
@@ -64,15 +64,15 @@ pub fn open(
 
 // A thing, and its token, which is at the other end.
 fn push_both(
-    places: &mut Vec<Place>,
+    places: &mut Vec<SharedThing>,
     thing: Thing,
     token: Thing,
     here: bool,
 ) -> Result<(), AllocError>
     ensures { IfOk result (λ _. places.new.items ≡ places.old.items ++ with_token thing token here) }
 {
-    places.push(Place { thing, held: here })?;
-    places.push(Place {
+    places.push(SharedThing { thing, held: here })?;
+    places.push(SharedThing {
         thing: token,
         held: !here,
     })?;

@@ -6,6 +6,8 @@ use frame_codec::{Frame, Msg};
 use office_map::{OfficeId, Plan};
 use std::alloc::{AllocError, Global};
 use std::process::Abort;
+use rand_core::utils::NextWord;
+use rand_pcg::Pcg32;
 use std::test::Fail;
 use window_link::{Arrival, LinkFault};
 
@@ -137,22 +139,24 @@ static MESSAGES: [Msg; 6] = [
     Msg::Bottle(1, Value { number: -7 }),
 ];
 
-// A linear congruential generator; its high bits are drawn.
+// Numbers that are drawn from a seed.
 #[derive(Drop)]
 struct Draws {
-    state: u64,
+    words: Pcg32,
 }
 
 impl Draws {
+    fn from_seed(seed: u64) -> Draws {
+        Draws {
+            words: Pcg32::new(seed, 54),
+        }
+    }
+
     fn below(&mut self, limit: u64) -> usize
         requires { 0 < limit }
         ensures { result < limit }
     {
-        self.state = self
-            .state
-            .wrapping_mul(6_364_136_223_846_793_005)
-            .wrapping_add(1_442_695_040_888_963_407);
-        ((self.state >> 33) % limit) as usize
+        (u64::from(self.words.next_word()) % limit) as usize
     }
 }
 
@@ -210,7 +214,7 @@ fn is_once(rt: &impl Abort, a: &Channel, b: &Channel, thing: Thing) {
 #[test]
 fn ten_thousand_random_events(rt: HostRuntime) -> Result<(), Fail> {
     for seed in SEEDS {
-        let mut draws = Draws { state: seed };
+        let mut draws = Draws::from_seed(seed);
         let (mut a, mut b) = ends(&rt, rt.alloc(), TWO_RECORDS)?;
         let mut from_a = Vec::new(rt.alloc());
         let mut from_b = Vec::new(rt.alloc());

@@ -44,18 +44,18 @@ impl Thing {
 
 /// A thing of the pair, and whether it is held at this end.
 #[derive(Clone, Copy, Debug, PartialEq, Eq)]
-pub struct Place {
+pub struct SharedThing {
     pub thing: Thing,
     pub held: bool,
 }
 
-impl Place {
+impl SharedThing {
     /// The same, with `held` where it is this thing's place.
-    pub fn with_held(self, thing: Thing, held: bool) -> Place
+    pub fn with_held(self, thing: Thing, held: bool) -> SharedThing
         ensures { result ≡ with_held thing held self }
     {
         if self.thing.is(thing) {
-            return Place { held, ..self };
+            return SharedThing { held, ..self };
         }
         self
     }

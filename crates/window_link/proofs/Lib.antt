@@ -1,4 +1,4 @@
-pub mod Sound
-pub mod Shown
-pub mod Runs
-pub mod Arriving
+pub mod Invariant
+pub mod LinksRefineStreams
+pub mod RunsExtended
+pub mod FrameDelivery

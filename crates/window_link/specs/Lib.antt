@@ -2,4 +2,4 @@ pub mod Windows
 pub mod Links
 pub mod Streams
 pub mod Two
-pub mod Steps
+pub mod refinement

@@ -7,8 +7,8 @@ use Rattle.window_link.specs.declared.laws.event.End.TheVariants.{Left, Right}
 use Rattle.window_link.specs.declared.laws.event.Posted.{Posted}
 use Rattle.window_link.specs.declared.laws.event.LinkEvent.{LinkEvent}
 use Rattle.window_link.specs.declared.laws.event.LinkEvent.TheVariants.{Queue, Make, Ack, Arrive}
-use Rattle.window_link.specs.declared.laws.event.Reply.{Reply}
-use Rattle.window_link.specs.declared.laws.event.Reply.TheVariants.{Idle, Queued, Made, Arrived}
+use Rattle.window_link.specs.declared.laws.event.LinkReply.{LinkReply}
+use Rattle.window_link.specs.declared.laws.event.LinkReply.TheVariants.{Idle, Queued, Made, Arrived}
 use Rattle.window_link.specs.Windows.{greatest}
 use Rattle.window_link.specs.Links.{brings}
 
@@ -42,15 +42,15 @@ other Left = Right
 other Right = Left
 
 -- a function of the ends with one value changed
-abbrev pub put : {X : Type 0} → (End → X) → End → X → End → X
-put f Left x Left = x
-put f Left x Right = f Right
-put f Right x Left = f Left
-put f Right x Right = x
+abbrev pub with_end : {X : Type 0} → (End → X) → End → X → End → X
+with_end f Left x Left = x
+with_end f Left x Right = f Right
+with_end f Right x Left = f Left
+with_end f Right x Right = x
 
 abbrev pub with_stream : Pair → End → Stream → Pair
 with_stream p e s =
-    record { run = p.run; office = p.office; stream = put p.stream e s; frames = p.frames }
+    record { run = p.run; office = p.office; stream = with_end p.stream e s; frames = p.frames }
 
 -- the k-th of a list, from 1
 abbrev pub nth : {X : Type 0} → List X → ℕ → Option X
@@ -63,7 +63,7 @@ nth xs (suc k) = slice_get xs k
 abbrev pub can_send : Stream → Bool
 can_send s = nat_lt (length (waiting s)) 18 && nat_lt (length s.sent) greatest
 
-abbrev pub send : Pair → End → Msg → Reply × Pair
+abbrev pub send : Pair → End → Msg → LinkReply × Pair
 send p e msg =
     let s = p.stream e in
     if can_send s
@@ -71,12 +71,12 @@ send p e msg =
     else (Idle, p)
 
 -- a frame of that end has the count of what the end has taken by now
-abbrev pub post : Pair → End → ℕ → Option Msg → Reply × Pair
+abbrev pub post : Pair → End → ℕ → Option Msg → LinkReply × Pair
 post p e number msg =
     let frame : Fields = record { run = p.run; from = p.office e; to = p.office (other e); number = number; count = length (p.stream (other e)).taken; msg = msg } in
     (Made, record { run = p.run; office = p.office; stream = p.stream; frames = p.frames ++ record { by = e; frame = frame } ∷ [] })
 
-abbrev pub post_waiting : Pair → End → ℕ → Option Msg → Reply × Pair
+abbrev pub post_waiting : Pair → End → ℕ → Option Msg → LinkReply × Pair
 post_waiting p e i None = (Idle, p)
 post_waiting p e i (Some msg) = post p e ((p.stream e).acked + i) (Some msg)
 
@@ -90,7 +90,7 @@ took s number None = s
 took s number (Some msg) =
     if number == length s.taken + 1 then record { sent = s.sent; taken = s.taken ++ msg ∷ []; acked = s.acked } else s
 
-abbrev pub deliver : Pair → Option Posted → Reply × Pair
+abbrev pub deliver : Pair → Option Posted → LinkReply × Pair
 deliver p None = (Idle, p)
 deliver p (Some posted) =
     let f = posted.frame in
@@ -101,7 +101,7 @@ deliver p (Some posted) =
     )
 
 -- what happens, and what is answered
-abbrev pub happens : Pair → LinkEvent → Reply × Pair
+abbrev pub happens : Pair → LinkEvent → LinkReply × Pair
 happens p (Queue e msg) = send p e msg
 happens p (Make e i) = post_waiting p e i (nth (waiting (p.stream e)) i)
 happens p (Ack e) = post p e 0 None
@@ -120,5 +120,5 @@ run_of p [] = p
 run_of p (event ∷ events) = run_of (happens p event).1 events
 
 -- Over every list of events, both ends are lawful.
-abbrev pub StreamsAreKept : Type 0
-StreamsAreKept = (run : ℕ) (office : End → ℕ) (events : List LinkEvent) (e : End) → IsLawful ((run_of (opening run office) events).stream e)
+abbrev pub StreamsStayLawful : Type 0
+StreamsStayLawful = (run : ℕ) (office : End → ℕ) (events : List LinkEvent) (e : End) → IsLawful ((run_of (opening run office) events).stream e)

@@ -4,7 +4,7 @@ use Rattle.window_link.specs.declared.laws.event.End.{End}
 use Rattle.window_link.specs.declared.laws.event.End.TheVariants.{Left, Right}
 use Rattle.window_link.specs.declared.laws.event.Posted.{Posted}
 use Rattle.window_link.specs.declared.laws.event.LinkEvent.{LinkEvent}
-use Rattle.window_link.specs.declared.laws.event.Reply.{Reply}
+use Rattle.window_link.specs.declared.laws.event.LinkReply.{LinkReply}
 use Rattle.window_link.specs.Links.{LinkState}
 use Rattle.window_link.specs.Streams.{Pair, IsLawful, waiting, other, happens, opening, run_of}
 
@@ -50,12 +50,12 @@ abbrev pub LedTo : Names → List LinkEvent → Ends → Type 0
 LedTo names events t = ends_of (after names events) ≡ t
 
 -- Some events led to these ends, and what goes each way after them is lawful.
-pub record KeepsStreams (t : Ends) : Type 0 where
+pub record HasLawfulStreams (t : Ends) : Type 0 where
   pub names : Names
   pub events : List LinkEvent
   pub led : LedTo names events t
   pub lawful : (e : End) → IsLawful ((after names events).stream e)
 
 -- whatever events led to the old ends, they and this one led to the new, and the answer is theirs
-abbrev pub Happens : Ends → LinkEvent → Reply → Ends → Type 0
+abbrev pub Happens : Ends → LinkEvent → LinkReply → Ends → Type 0
 Happens old event reply new = (names : Names) (events : List LinkEvent) → LedTo names events old → LedTo names (events ++ event ∷ []) new × (reply ≡ (happens (after names events) event).0)

@@ -6,7 +6,7 @@
 //!   it is refused ([`LinkFault`]). Contracts see it as `LinkState`, in `specs/Links.antt`; what a
 //!   frame does is `fault_of`, `arrival_at` and `after_arrival` there.
 //! - [`laws`] has both ends and every frame that they made. Over every list of events what is taken
-//!   begins what was sent, what is acknowledged was taken, and the rest waits (`KeepsStreams`, in
+//!   begins what was sent, what is acknowledged was taken, and the rest waits (`HasLawfulStreams`, in
 //!   `specs/Two.antt`, over the streams of `specs/Streams.antt`).
 //!
 //! `sending` and `receiving` are the two windows of an end. No call of [`Link`] takes memory. It

@@ -97,7 +97,7 @@ impl Link {
         ensures fault { IfErr result (λ fault. fault ≡ LinkFault.Worn) }
         ensures numbered { OnOk result (used self.old.sending < greatest) }
         ensures ok { OnOk result (self.new ≡ record self.old { sending = queued self.old.sending msg }) }
-        ensures err { OnErr result (self.new ≡ self.old) }
+        ensures unchanged { OnErr result (self.new ≡ self.old) }
     {
         self.sending.push(msg)
     }
@@ -154,7 +154,7 @@ impl Link {
         ensures fault { result_err result ≡ fault_of self.old frame.now }
         ensures arrival { IfOk result (λ arrival. arrival ≡ arrival_at self.old frame.now) }
         ensures link { OnOk result (self.new ≡ after_arrival self.old frame.now) }
-        ensures err { OnErr result (self.new ≡ self.old) }
+        ensures unchanged { OnErr result (self.new ≡ self.old) }
     {
         self.check(frame)?;
         Ok(self.accept(frame))

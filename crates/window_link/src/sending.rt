@@ -77,7 +77,7 @@ impl SendWindow {
         ensures fault { IfErr result (λ fault. fault ≡ LinkFault.Worn) }
         ensures numbered { OnOk result (used self.old < greatest) }
         ensures ok { OnOk result (self.new ≡ queued self.old msg) }
-        ensures err { OnErr result (self.new ≡ self.old) }
+        ensures unchanged { OnErr result (self.new ≡ self.old) }
     {
         if self.last_number() == MAX_NUMBER {
             return Err(LinkFault::Worn);

@@ -8,7 +8,7 @@ use Rattle.bottle_values.specs.declared.Value.{Value}
 use Rattle.bottle_values.specs.Maps.{put}
 use Rattle.frame_codec.specs.declared.message.Msg.{Msg}
 use Rattle.frame_codec.specs.declared.message.Msg.TheVariants as msg
-use Rattle.office_map.specs.PlanValue.{PlanValue, is_end}
+use Rattle.office_map.specs.PlanValue.{PlanValue, is_end, peer}
 use Rattle.office_map.specs.Consistency.{IsConsistent}
 use Rattle.session_language.specs.ProgramValue.{ProgramValue}
 use Rattle.session_language.specs.Program.{fits}
@@ -24,15 +24,20 @@ use Rattle.world_schedule.specs.declared.event.WorldEvent.{WorldEvent}
 use Rattle.world_schedule.specs.declared.event.WorldEvent.TheVariants as event
 use Rattle.world_schedule.specs.declared.reply.Reply.TheVariants as reply
 use Rattle.world_schedule.specs.declared.reply.Refusal.TheVariants as refusal
-use Rattle.world_schedule.specs.Streams.{Thing, Fork, Bottle, BottleToken, thing_of, same, Side, side_sent, side_taken, values_taken}
-use Rattle.world_schedule.specs.Ends.{is_shared, peer}
-use Rattle.world_schedule.specs.Offices.{Phase, Tranquil, Thirsty, Drinking, Office, has_bottle, is_among, is_tranquil, is_drinking, is_thirsty, needed, holds, may, send, numbered, started, drinking, worked, is_ours, is_full, submitted}
+use Rattle.world_schedule.specs.Offices.{Phase, Tranquil, Thirsty, Drinking, Office, has_bottle, is_listed, is_tranquil, is_drinking, is_thirsty, needed, holds, may, send, numbered, started, drinking, worked, is_ours, is_full, submitted}
 use Rattle.world_schedule.specs.Worlds.{World, programs, submit, done, try_rule, taken, is_next, deliver, sent_as, at_office, happens, run_of, Answer}
-use Rattle.world_schedule.proofs.Basics.{put_cases, same_is, slice_get-last}
-use Rattle.world_schedule.proofs.Ends.{peer_is, peer_apart}
+use Rattle.world_schedule.proofs.ListsAndMessages.{slice_get-last}
+use Rattle.office_map.proofs.RecordEnds.{peer_is, peer_apart}
 use Rattle.world_schedule.proofs.Pairs.{Pair, Right, Next, next_is, pair_sent, pair_taken, pair_values, values_right, untouched}
 use Rattle.world_schedule.proofs.Invariant.{Busy, current, Ticketed, count_at, Honest, Inv, Grown, grown_same, honest_at, kept}
 use Rattle.world_schedule.proofs.Finishing.{reads_same, all_of_at, value_here, finish_kept}
+use Rattle.token_channel.specs.Sides.{Side, side_sent, side_taken, values_taken}
+use Rattle.token_channel.specs.Things.{thing_of, same}
+use Rattle.token_channel.specs.declared.thing.Thing.{Thing}
+use Rattle.token_channel.specs.declared.thing.Thing.TheVariants.{Fork, Bottle, BottleToken}
+use Rattle.token_channel.specs.Ends.{is_shared}
+use Rattle.token_channel.proofs.HeldUpdates.{same_is}
+use Rattle.bottle_values.proofs.Maps.{put_cases}
 
 -- An office changes, but for its sides and values
 
@@ -66,7 +71,7 @@ hb_sent plan a side v x r hb other =
     (λ e. hb)
 
 busy_sent : (plan : PlanValue) (a : ℕ) (side : ℕ → Side) (value : ℕ → Value) (v : ℕ) (x : Msg) (p : Phase) → Busy plan a side value p →
-    ((r : ℕ) → is_among r (needed p) ≡ true → peer plan a r ≡ v → same (Bottle r) (thing_of x) ≡ true → is_drinking p ≡ true → ⊥) →
+    ((r : ℕ) → is_listed r (needed p) ≡ true → peer plan a r ≡ v → same (Bottle r) (thing_of x) ≡ true → is_drinking p ≡ true → ⊥) →
     Busy plan a (put side v (side_sent (side v) x)) value p
 busy_sent plan a side value v x Tranquil busy other = tt
 busy_sent plan a side value v x (Thirsty s) busy other = tt
@@ -150,23 +155,23 @@ rule_kept plan w a rule.Start h law I e =
 rule_kept plan w a (rule.AskBottle r) h law I e =
     let o : Office = w.office a in
     let v : ℕ = peer plan a r in
-    let k : (is_end plan r a ≡ true) × ((is_thirsty o.phase && (is_among r (needed o.phase) && (not (holds o v (Bottle r)) && holds o v (BottleToken r)))) ≡ true) = and_parts _ _ e in
-    let j : (is_thirsty o.phase ≡ true) × ((is_among r (needed o.phase) && (not (holds o v (Bottle r)) && holds o v (BottleToken r))) ≡ true) = and_parts _ _ k.1 in
-    let i : (is_among r (needed o.phase) ≡ true) × ((not (holds o v (Bottle r)) && holds o v (BottleToken r)) ≡ true) = and_parts _ _ j.1 in
+    let k : (is_end plan r a ≡ true) × ((is_thirsty o.phase && (is_listed r (needed o.phase) && (not (holds o v (Bottle r)) && holds o v (BottleToken r)))) ≡ true) = and_parts _ _ e in
+    let j : (is_thirsty o.phase ≡ true) × ((is_listed r (needed o.phase) && (not (holds o v (Bottle r)) && holds o v (BottleToken r))) ≡ true) = and_parts _ _ k.1 in
+    let i : (is_listed r (needed o.phase) ≡ true) × ((not (holds o v (Bottle r)) && holds o v (BottleToken r)) ≡ true) = and_parts _ _ j.1 in
     let g : (not (holds o v (Bottle r)) ≡ true) × (holds o v (BottleToken r) ≡ true) = and_parts _ _ i.1 in
     sent_kept plan w a v (msg.AskBottle r) I (peer_apart plan r a h k.0) g.1 tt
     (busy_sent plan a o.side o.value v (msg.AskBottle r) o.phase (I.busy a) (λ q n p t d. cc))
 rule_kept plan w a (rule.GiveBottle r) h law I e =
     let o : Office = w.office a in
     let v : ℕ = peer plan a r in
-    let guard : Bool = not (is_among r (needed o.phase) && (is_drinking o.phase || holds o v Fork)) in
+    let guard : Bool = not (is_listed r (needed o.phase) && (is_drinking o.phase || holds o v Fork)) in
     let k : (is_end plan r a ≡ true) × ((holds o v (BottleToken r) && (holds o v (Bottle r) && guard)) ≡ true) = and_parts _ _ e in
     let j : (holds o v (BottleToken r) ≡ true) × ((holds o v (Bottle r) && guard) ≡ true) = and_parts _ _ k.1 in
     let i : (holds o v (Bottle r) ≡ true) × (guard ≡ true) = and_parts _ _ j.1 in
     sent_kept plan w a v (msg.Bottle r (o.value r)) I (peer_apart plan r a h k.0) i.0
     (value_here plan (map_of (start_map plan) (programs w.finished)) w.office a r h I.pairs (and_from _ _ k.0 i.0))
     (busy_sent plan a o.side o.value v (msg.Bottle r (o.value r)) o.phase (I.busy a)
-    (λ q n p t d. not_given (is_among r (needed o.phase)) (is_drinking o.phase) (holds o v Fork) i.1 (subst (λ z. is_among z (needed o.phase) ≡ true) (eqb-true q r t) n) d))
+    (λ q n p t d. not_given (is_listed r (needed o.phase)) (is_drinking o.phase) (holds o v Fork) i.1 (subst (λ z. is_listed z (needed o.phase) ≡ true) (eqb-true q r t) n) d))
 rule_kept plan w a rule.Drink h law I e =
     let o : Office = w.office a in
     let k : (is_thirsty o.phase ≡ true) × (list_all (has_bottle plan a o.side) (needed o.phase) ≡ true) = and_parts _ _ e in

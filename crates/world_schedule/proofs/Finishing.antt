@@ -8,7 +8,7 @@ use Rattle.std.proofs.lemmas.List.Elements.{All-head, All-tail}
 use Rattle.std.proofs.lemmas.List.Sums.{sum_by_push}
 use Rattle.bottle_values.specs.declared.Value.{Value}
 use Rattle.bottle_values.specs.Maps.{put, reads_of, write_all}
-use Rattle.office_map.specs.PlanValue.{PlanValue, is_end}
+use Rattle.office_map.specs.PlanValue.{PlanValue, is_end, has_ends, peer}
 use Rattle.office_map.specs.Consistency.{IsConsistent}
 use Rattle.session_language.specs.declared.ending.Ending.{Ending}
 use Rattle.session_language.specs.declared.ending.Outcome.{Outcome}
@@ -18,14 +18,16 @@ use Rattle.session_language.specs.Meaning.{alone}
 use Rattle.session_language.specs.Laws.{WritesWhatItHas}
 use Rattle.serial_replay.specs.Serial.{start_map, ending_on, map_after, map_of, ticket_of, outcomes_after, outcomes_of}
 use Rattle.world_schedule.specs.declared.finished.Finished.{Finished}
-use Rattle.world_schedule.specs.Streams.{Bottle, num, count, Side}
-use Rattle.world_schedule.specs.Ends.{has_ends, peer}
-use Rattle.world_schedule.specs.Offices.{Phase, Tranquil, Thirsty, Drinking, Office, has_bottle, is_among, is_drinking, finished_of, values_finished}
+use Rattle.world_schedule.specs.Offices.{Phase, Tranquil, Thirsty, Drinking, Office, has_bottle, is_listed, is_drinking, finished_of, values_finished}
 use Rattle.world_schedule.specs.Worlds.{World, programs}
-use Rattle.world_schedule.proofs.Basics.{is_key, num_true, num_le, unwritten, write_same}
-use Rattle.world_schedule.proofs.Ends.{peer_is, peer_apart, ends_are}
+use Rattle.world_schedule.proofs.ListsAndMessages.{is_key, num_true, num_le, unwritten, write_same}
+use Rattle.office_map.proofs.RecordEnds.{peer_is, peer_apart, ends_are}
 use Rattle.world_schedule.proofs.Pairs.{Pair, pair_written}
 use Rattle.world_schedule.proofs.Invariant.{Busy, current, Ticketed, count_at, AllPaired, Inv, grown_same, kept_all}
+use Rattle.token_channel.specs.Sides.{Side}
+use Rattle.token_channel.specs.Things.{count_carrying}
+use Rattle.bottle_values.specs.Lists.{num}
+use Rattle.token_channel.specs.declared.thing.Thing.TheVariants.{Bottle}
 
 -- the serial run with one program more
 
@@ -44,18 +46,18 @@ outcomes_push before m (q ∷ qs) p =
     ap (λ l. outcome_of before q m ∷ l) (rest ∙ ap (λ l. outcomes_after (before ++ q ∷ []) (map_after q m) qs ++ outcome_of l p (map_of (map_after q m) qs) ∷ []) (append_assoc before (q ∷ []) qs))
 
 -- maps that agree on the records read the same there
-pub reads_same : (rs : List ℕ) (f g : ℕ → Value) → ((r : ℕ) → is_among r rs ≡ true → f r ≡ g r) → reads_of rs f ≡ reads_of rs g
+pub reads_same : (rs : List ℕ) (f g : ℕ → Value) → ((r : ℕ) → is_listed r rs ≡ true → f r ≡ g r) → reads_of rs f ≡ reads_of rs g
 reads_same [] f g h = refl
 reads_same (r ∷ rs) f g h =
-    let head : f r ≡ g r = h r (or_left (r == r) (is_among r rs) (eq-eqb r r refl)) in
-    let tail : reads_of rs f ≡ reads_of rs g = reads_same rs f g (λ q e. h q (or_right (q == r) (is_among q rs) e)) in
+    let head : f r ≡ g r = h r (or_left (r == r) (is_listed r rs) (eq-eqb r r refl)) in
+    let tail : reads_of rs f ≡ reads_of rs g = reads_same rs f g (λ q e. h q (or_right (q == r) (is_listed q rs) e)) in
     ap (λ x. (r, x) ∷ reads_of rs f) head ∙ ap (λ l. (r, g r) ∷ l) tail
 
-pub all_of_at : (p : ℕ → Bool) (xs : List ℕ) (r : ℕ) → list_all p xs ≡ true → is_among r xs ≡ true → p r ≡ true
+pub all_of_at : (p : ℕ → Bool) (xs : List ℕ) (r : ℕ) → list_all p xs ≡ true → is_listed r xs ≡ true → p r ≡ true
 all_of_at p [] r e h = cc
 all_of_at p (x ∷ xs) r e h =
     let k : (p x ≡ true) × (list_all p xs ≡ true) = and_parts (p x) (list_all p xs) e in
-    ⊎_elim (λ t. ap p (eqb-true r x t) ∙ k.0) (λ t. all_of_at p xs r k.1 t) (or_cases (r == x) (is_among r xs) h)
+    ⊎_elim (λ t. ap p (eqb-true r x t) ∙ k.0) (λ t. all_of_at p xs r k.1 t) (or_cases (r == x) (is_listed r xs) h)
 
 -- what is written is needed
 
@@ -63,33 +65,33 @@ records_read : (rs : List ℕ) (m : ℕ → Value) → map (λ (x : ℕ × Value
 records_read [] m = refl
 records_read (r ∷ rs) m = ap (λ l. r ∷ l) (records_read rs m)
 
-among_at : (xs : List ℕ) (k r : ℕ) → k < length xs → get_or xs k r ≡ r → is_among r xs ≡ true
+among_at : (xs : List ℕ) (k r : ℕ) → k < length xs → get_or xs k r ≡ r → is_listed r xs ≡ true
 among_at [] k r lt e = absurd (omega arith)
-among_at (x ∷ xs) zero r lt e = or_left (r == x) (is_among r xs) (eq-eqb r x (sym e))
-among_at (x ∷ xs) (suc k) r lt e = or_right (r == x) (is_among r xs) (among_at xs k r (omega arith) e)
+among_at (x ∷ xs) zero r lt e = or_left (r == x) (is_listed r xs) (eq-eqb r x (sym e))
+among_at (x ∷ xs) (suc k) r lt e = or_right (r == x) (is_listed r xs) (among_at xs k r (omega arith) e)
 
-among_from : (xs : List ℕ) (r : ℕ) → Contains xs r → is_among r xs ≡ true
+among_from : (xs : List ℕ) (r : ℕ) → Contains xs r → is_listed r xs ≡ true
 among_from xs r c = go xs r c.0 c.1 c.2
   where
-    go : (ys : List ℕ) (q k : ℕ) → k < length ys → get_or ys k q ≡ q → is_among q ys ≡ true
+    go : (ys : List ℕ) (q k : ℕ) → k < length ys → get_or ys k q ≡ q → is_listed q ys ≡ true
     go ys q k lt e = among_at ys k q lt e
 
-key_among : (rs : List ℕ) (ws : List (ℕ × Value)) (r : ℕ) → All (λ (w : ℕ × Value). Contains rs w.0) ws → is_key r ws ≡ true → is_among r rs ≡ true
+key_among : (rs : List ℕ) (ws : List (ℕ × Value)) (r : ℕ) → All (λ (w : ℕ × Value). Contains rs w.0) ws → is_key r ws ≡ true → is_listed r rs ≡ true
 key_among rs [] r h e = cc
 key_among rs (w ∷ ws) r h e =
     ⊎_elim
-    (λ t. ap (λ q. is_among q rs) (eqb-true r w.0 t) ∙ among_from rs w.0 (All-head (λ (x : ℕ × Value). Contains rs x.0) w ws h))
+    (λ t. ap (λ q. is_listed q rs) (eqb-true r w.0 t) ∙ among_from rs w.0 (All-head (λ (x : ℕ × Value). Contains rs x.0) w ws h))
     (λ t. key_among rs ws r (All-tail (λ (x : ℕ × Value). Contains rs x.0) w ws h) t)
     (or_cases (r == w.0) (is_key r ws) e)
 
-pub written_needed : WritesWhatItHas → (p : ProgramValue) (m : ℕ → Value) (reads : List (ℕ × Value)) (r : ℕ) → reads ≡ reads_of (needs_of p.body) m → is_key r (alone p reads).writes ≡ true → is_among r (needs_of p.body) ≡ true
+pub written_needed : WritesWhatItHas → (p : ProgramValue) (m : ℕ → Value) (reads : List (ℕ × Value)) (r : ℕ) → reads ≡ reads_of (needs_of p.body) m → is_key r (alone p reads).writes ≡ true → is_listed r (needs_of p.body) ≡ true
 written_needed law p m reads r e k =
     key_among (needs_of p.body) (alone p reads).writes r
     (subst (λ l. All (λ (w : ℕ × Value). Contains l w.0) (alone p reads).writes) (ap (map (λ (x : ℕ × Value). x.0)) e ∙ records_read (needs_of p.body) m) (law p reads)) k
 
 -- where the office a has the bottle, nobody else of the pair a, b has it, and it is not on the way
 alone_here : (plan : PlanValue) (m : ℕ → Value) (a b : ℕ) (side : ℕ → Side) (sb : Side) (va vb : ℕ → Value) (r : ℕ) → has_bottle plan a side r ≡ true → (P : Pair plan m a b (side b) sb va vb) →
-    num (sb.held (Bottle r)) + count (Bottle r) P.there + count (Bottle r) P.back ≡ 0
+    num (sb.held (Bottle r)) + count_carrying (Bottle r) P.there + count_carrying (Bottle r) P.back ≡ 0
 alone_here plan m a b side sb va vb r hb P =
     let k : (is_end plan r a ≡ true) × ((side (peer plan a r)).held (Bottle r) ≡ true) = and_parts _ _ hb in
     ⊎_elim
@@ -101,7 +103,7 @@ alone_here plan m a b side sb va vb r hb P =
     (cases_eq (peer plan a r) b)
 
 alone_there : (plan : PlanValue) (m : ℕ → Value) (a x y : ℕ) (side : ℕ → Side) (sx sy : Side) (vx vy : ℕ → Value) (r : ℕ) → (x ≡ a → ⊥) → (y ≡ a → ⊥) → has_bottle plan a side r ≡ true → (P : Pair plan m x y sx sy vx vy) →
-    num (sx.held (Bottle r)) + num (sy.held (Bottle r)) + count (Bottle r) P.there + count (Bottle r) P.back ≡ 0
+    num (sx.held (Bottle r)) + num (sy.held (Bottle r)) + count_carrying (Bottle r) P.there + count_carrying (Bottle r) P.back ≡ 0
 alone_there plan m a x y side sx sy vx vy r xa ya hb P =
     let f : has_ends plan r x y ≡ false = false_from_ne_true _ (λ t. ends_are plan r a x y (and_parts _ _ hb).0 t xa ya) in
     let g : num (has_ends plan r x y) ≡ 0 = ap num f in
@@ -116,7 +118,7 @@ finish_pairs : (plan : PlanValue) (m : ℕ → Value) (office : ℕ → Office) 
     (b : ℕ) → (a ≡ b → ⊥) → Pair plan (write_all ws m) a b ((office a).side b) ((office b).side a) (write_all ws (office a).value) (office b).value
 finish_pairs plan m office a ws home pairs b ne =
     let P : Pair plan m a b ((office a).side b) ((office b).side a) (office a).value (office b).value = pairs a b ne in
-    let none : (r : ℕ) → is_key r ws ≡ true → num (((office b).side a).held (Bottle r)) + count (Bottle r) P.there + count (Bottle r) P.back ≡ 0 =
+    let none : (r : ℕ) → is_key r ws ≡ true → num (((office b).side a).held (Bottle r)) + count_carrying (Bottle r) P.there + count_carrying (Bottle r) P.back ≡ 0 =
     λ r e. alone_here plan m a b (office a).side ((office b).side a) (office a).value (office b).value r (home r e) P in
     pair_written plan m a b ((office a).side b) ((office b).side a) (office a).value (office b).value (write_all ws (office a).value) (office b).value ws P
     (λ r e. omega (arith, none r e))
@@ -128,7 +130,7 @@ finish_others : (plan : PlanValue) (m : ℕ → Value) (office : ℕ → Office)
     (x y : ℕ) → (x ≡ y → ⊥) → (x ≡ a → ⊥) → (y ≡ a → ⊥) → Pair plan (write_all ws m) x y ((office x).side y) ((office y).side x) (office x).value (office y).value
 finish_others plan m office a ws home pairs x y ne xa ya =
     let P : Pair plan m x y ((office x).side y) ((office y).side x) (office x).value (office y).value = pairs x y ne in
-    let none : (r : ℕ) → is_key r ws ≡ true → num (((office x).side y).held (Bottle r)) + num (((office y).side x).held (Bottle r)) + count (Bottle r) P.there + count (Bottle r) P.back ≡ 0 =
+    let none : (r : ℕ) → is_key r ws ≡ true → num (((office x).side y).held (Bottle r)) + num (((office y).side x).held (Bottle r)) + count_carrying (Bottle r) P.there + count_carrying (Bottle r) P.back ≡ 0 =
     λ r e. alone_there plan m a x y (office a).side ((office x).side y) ((office y).side x) (office x).value (office y).value r xa ya (home r e) P in
     pair_written plan m x y ((office x).side y) ((office y).side x) (office x).value (office y).value (office x).value (office y).value ws P
     (λ r e. omega (arith, none r e))

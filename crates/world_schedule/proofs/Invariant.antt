@@ -12,17 +12,18 @@ use Rattle.serial_replay.specs.Serial.{start_map, map_of, outcomes_of}
 use Rattle.world_schedule.specs.declared.message.Message.{Message}
 use Rattle.world_schedule.specs.declared.finished.Finished.{Finished}
 use Rattle.world_schedule.specs.declared.session.Session.{Session}
-use Rattle.world_schedule.specs.Streams.{Side}
-use Rattle.world_schedule.specs.Offices.{Phase, Tranquil, Thirsty, Drinking, Office, has_bottle, is_among}
+use Rattle.world_schedule.specs.Offices.{Phase, Tranquil, Thirsty, Drinking, Office, has_bottle, is_listed}
 use Rattle.world_schedule.specs.Worlds.{World, programs, outcomes}
-use Rattle.world_schedule.proofs.Basics.{put_cases, slice_get-grown}
+use Rattle.world_schedule.proofs.ListsAndMessages.{slice_get-grown}
 use Rattle.world_schedule.proofs.Pairs.{Pair, flip}
+use Rattle.token_channel.specs.Sides.{Side}
+use Rattle.bottle_values.proofs.Maps.{put_cases}
 
 -- a drinking office holds its needed bottles, and works on their values
 abbrev pub Busy : PlanValue → ℕ → (ℕ → Side) → (ℕ → Value) → Phase → Type 0
 Busy plan a side value Tranquil = Unit {0}
 Busy plan a side value (Thirsty s) = Unit {0}
-Busy plan a side value (Drinking s reads n) = (reads ≡ reads_of (needs_of s.program.body) value) × ((r : ℕ) → is_among r (needs_of s.program.body) ≡ true → has_bottle plan a side r ≡ true)
+Busy plan a side value (Drinking s reads n) = (reads ≡ reads_of (needs_of s.program.body) value) × ((r : ℕ) → is_listed r (needs_of s.program.body) ≡ true → has_bottle plan a side r ≡ true)
 
 -- the current session
 abbrev pub current : Phase → List Session

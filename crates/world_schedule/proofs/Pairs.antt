@@ -7,10 +7,16 @@ use Rattle.bottle_values.specs.Maps.{write_all}
 use Rattle.frame_codec.specs.declared.message.Msg.{Msg}
 use Rattle.frame_codec.specs.declared.message.Msg.TheVariants as msg
 use Rattle.office_map.specs.PlanValue.{PlanValue}
-use Rattle.world_schedule.specs.Streams.{Thing, Bottle, thing_of, same, num, count, hold, Side, side_sent, side_taken, values_taken}
-use Rattle.world_schedule.specs.Ends.{is_shared}
-use Rattle.world_schedule.proofs.Basics.{is_key, put_other, same_is, same_self, count_push, num_le, num_zero, num_one, num_true, num_lost, num_gained, lost_held, next_of, unwritten}
-use Rattle.world_schedule.proofs.Ends.{shared_both}
+use Rattle.world_schedule.proofs.ListsAndMessages.{is_key, num_le, num_zero, num_one, num_true, num_lost, num_gained, lost_held, next_of, unwritten}
+use Rattle.token_channel.specs.Sides.{Side, side_sent, side_taken, values_taken}
+use Rattle.token_channel.specs.Things.{thing_of, same, count_carrying, hold}
+use Rattle.bottle_values.specs.Lists.{num}
+use Rattle.token_channel.specs.declared.thing.Thing.{Thing}
+use Rattle.token_channel.specs.declared.thing.Thing.TheVariants.{Bottle}
+use Rattle.token_channel.specs.Ends.{is_shared}
+use Rattle.token_channel.proofs.HeldUpdates.{same_is, same_self, count_carrying-push}
+use Rattle.token_channel.proofs.StartsOnce.{shared_both}
+use Rattle.bottle_values.proofs.Maps.{put_other}
 
 -- a bottle's message has the map's value
 abbrev pub Right : (ℕ → Value) → Msg → Type 0
@@ -33,7 +39,7 @@ pub record Pair (plan : PlanValue) (m : ℕ → Value) (a b : ℕ) (sa sb : Side
   pub back : List Msg
   pub there_is : sa.sent ≡ sb.taken ++ there
   pub back_is : sb.sent ≡ sa.taken ++ back
-  pub place : (t : Thing) → num (sa.held t) + num (sb.held t) + count t there + count t back ≡ num (is_shared plan a b t)
+  pub place : (t : Thing) → num (sa.held t) + num (sb.held t) + count_carrying t there + count_carrying t back ≡ num (is_shared plan a b t)
   pub here : (r : ℕ) → sa.held (Bottle r) ≡ true → va r ≡ m r
   pub yonder : (r : ℕ) → sb.held (Bottle r) ≡ true → vb r ≡ m r
   pub on_there : Carry m there
@@ -62,7 +68,7 @@ pair_sent plan m a b sa sb va vb x held right P = record {
   place = λ t. omega (
     arith,
     P.place t,
-    count_push t P.there x,
+    count_carrying-push t P.there x,
     num_lost (same t (thing_of x)) (sa.held t) (λ e. ap sa.held (same_is t (thing_of x) e) ∙ held),
   );
   here = λ r e. P.here r (lost_held (same (Bottle r) (thing_of x)) (sa.held (Bottle r)) e);
@@ -96,8 +102,8 @@ pub next_is : (plan : PlanValue) (m : ℕ → Value) (a b : ℕ) (sa sb : Side) 
 next_is plan m a b sa sb va vb x next P =
     let found : (rest : List Msg) × (P.back ≡ x ∷ rest) = next_of sa.taken P.back x (subst (λ l. slice_get l (length sa.taken) ≡ Some x) P.back_is next) in
     let carried : Carry m (x ∷ found.0) = subst (Carry m) found.1 P.on_back in
-    let old : num (sa.held (thing_of x)) + num (sb.held (thing_of x)) + count (thing_of x) P.there + count (thing_of x) (x ∷ found.0) ≡ num (is_shared plan a b (thing_of x)) =
-    subst (λ l. num (sa.held (thing_of x)) + num (sb.held (thing_of x)) + count (thing_of x) P.there + count (thing_of x) l ≡ num (is_shared plan a b (thing_of x))) found.1 (P.place (thing_of x)) in
+    let old : num (sa.held (thing_of x)) + num (sb.held (thing_of x)) + count_carrying (thing_of x) P.there + count_carrying (thing_of x) (x ∷ found.0) ≡ num (is_shared plan a b (thing_of x)) =
+    subst (λ l. num (sa.held (thing_of x)) + num (sb.held (thing_of x)) + count_carrying (thing_of x) P.there + count_carrying (thing_of x) l ≡ num (is_shared plan a b (thing_of x))) found.1 (P.place (thing_of x)) in
     let one : num (same (thing_of x) (thing_of x)) ≡ 1 = num_true _ (same_self (thing_of x)) in
     record {
       right = carried.0;
@@ -110,8 +116,8 @@ pub pair_taken : (plan : PlanValue) (m : ℕ → Value) (a b : ℕ) (sa sb : Sid
 pair_taken plan m a b sa sb va vb x next P =
     let found : (rest : List Msg) × (P.back ≡ x ∷ rest) = next_of sa.taken P.back x (subst (λ l. slice_get l (length sa.taken) ≡ Some x) P.back_is next) in
     let carried : Carry m (x ∷ found.0) = subst (Carry m) found.1 P.on_back in
-    let old : (t : Thing) → num (sa.held t) + num (sb.held t) + count t P.there + count t (x ∷ found.0) ≡ num (is_shared plan a b t) =
-    λ t. subst (λ l. num (sa.held t) + num (sb.held t) + count t P.there + count t l ≡ num (is_shared plan a b t)) found.1 (P.place t) in
+    let old : (t : Thing) → num (sa.held t) + num (sb.held t) + count_carrying t P.there + count_carrying t (x ∷ found.0) ≡ num (is_shared plan a b t) =
+    λ t. subst (λ l. num (sa.held t) + num (sb.held t) + count_carrying t P.there + count_carrying t l ≡ num (is_shared plan a b t)) found.1 (P.place t) in
     record {
       there = P.there;
       back = found.0;
@@ -125,7 +131,7 @@ pair_taken plan m a b sa sb va vb x next P =
     }
 
 -- messages whose bottles are not written have the new map's values too
-pub carry_written : (m : ℕ → Value) (ws : List (ℕ × Value)) (ms : List Msg) → ((r : ℕ) → is_key r ws ≡ true → count (Bottle r) ms ≡ 0) → Carry m ms → Carry (write_all ws m) ms
+pub carry_written : (m : ℕ → Value) (ws : List (ℕ × Value)) (ms : List Msg) → ((r : ℕ) → is_key r ws ≡ true → count_carrying (Bottle r) ms ≡ 0) → Carry m ms → Carry (write_all ws m) ms
 carry_written m ws [] none h = tt
 carry_written m ws (msg.AskFork ∷ ms) none h = (tt, carry_written m ws ms (λ r e. omega (arith, none r e)) h.1)
 carry_written m ws (msg.Fork ∷ ms) none h = (tt, carry_written m ws ms (λ r e. omega (arith, none r e)) h.1)
@@ -142,7 +148,7 @@ carry_written m ws (msg.Bottle q x ∷ ms) none h = (
 -- a finishing office has written; whoever holds a bottle holds the new value, and no written bottle is on the way
 pub pair_written : (plan : PlanValue) (m : ℕ → Value) (a b : ℕ) (sa sb : Side) (va vb va' vb' : ℕ → Value) (ws : List (ℕ × Value)) →
     (P : Pair plan m a b sa sb va vb) →
-    ((r : ℕ) → is_key r ws ≡ true → count (Bottle r) P.there + count (Bottle r) P.back ≡ 0) →
+    ((r : ℕ) → is_key r ws ≡ true → count_carrying (Bottle r) P.there + count_carrying (Bottle r) P.back ≡ 0) →
     ((r : ℕ) → sa.held (Bottle r) ≡ true → va' r ≡ write_all ws m r) →
     ((r : ℕ) → sb.held (Bottle r) ≡ true → vb' r ≡ write_all ws m r) →
     Pair plan (write_all ws m) a b sa sb va' vb'

@@ -4,9 +4,10 @@ use Rattle.office_map.specs.PlanValue.{PlanValue}
 use Rattle.office_map.specs.Consistency.{IsConsistent}
 use Rattle.serial_replay.specs.Serial.{start_map, map_of, outcomes_of}
 use Rattle.world_schedule.specs.declared.event.WorldEvent.{WorldEvent}
-use Rattle.world_schedule.specs.Streams.{Thing, num}
-use Rattle.world_schedule.specs.Ends.{is_shared}
 use Rattle.world_schedule.specs.Worlds.{World, opening, run_of, programs, outcomes, places, bottle_value}
+use Rattle.bottle_values.specs.Lists.{num}
+use Rattle.token_channel.specs.declared.thing.Thing.{Thing}
+use Rattle.token_channel.specs.Ends.{is_shared}
 
 -- each record's bottle has the value that the record has after the serial run of the finished sessions, in finishing order
 abbrev pub HasSerialValues : PlanValue → World → Type 0

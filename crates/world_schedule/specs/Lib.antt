@@ -1,9 +1,4 @@
-pub mod Streams
-pub mod Ends
 pub mod Offices
 pub mod Worlds
 pub mod Headline
-pub mod Tables
-pub mod Effects
-pub mod Start
-pub mod Places
+pub mod refinement

@@ -5,7 +5,7 @@ use Rattle.bottle_values.specs.declared.Value.{Value}
 use Rattle.bottle_values.specs.Maps.{reads_of, write_all}
 use Rattle.frame_codec.specs.declared.message.Msg.{Msg}
 use Rattle.frame_codec.specs.declared.message.Msg.TheVariants as msg
-use Rattle.office_map.specs.PlanValue.{PlanValue, is_end}
+use Rattle.office_map.specs.PlanValue.{PlanValue, is_end, peer}
 use Rattle.session_language.specs.ProgramValue.{ProgramValue}
 use Rattle.session_language.specs.Program.{fits}
 use Rattle.session_language.specs.Needs.{needs_of}
@@ -16,9 +16,11 @@ use Rattle.world_schedule.specs.declared.rule.Rule.TheVariants as rule
 use Rattle.world_schedule.specs.declared.message.Message.{Message}
 use Rattle.world_schedule.specs.declared.session.Session.{Session}
 use Rattle.world_schedule.specs.declared.finished.Finished.{Finished}
-use Rattle.world_schedule.specs.Streams.{Thing, Fork, Bottle, BottleToken, Side, side_sent}
-use Rattle.world_schedule.specs.Ends.{is_shared, starts_here, peer}
 use Rattle.bottle_values.specs.Maps.{put}
+use Rattle.token_channel.specs.Sides.{Side, side_sent}
+use Rattle.token_channel.specs.declared.thing.Thing.{Thing}
+use Rattle.token_channel.specs.declared.thing.Thing.TheVariants.{Fork, Bottle, BottleToken}
+use Rattle.token_channel.specs.Ends.{is_shared, starts_here}
 
 -- how far an office is with its current session: it has none, it waits for its bottles, or it works on these values
 -- of its records and has done so many instructions
@@ -77,8 +79,8 @@ abbrev pub is_empty : {A : Type 0} → List A → Bool
 is_empty [] = true
 is_empty (x ∷ xs) = false
 
-abbrev pub is_among : ℕ → List ℕ → Bool
-is_among r = list_any (λ q. r == q)
+abbrev pub is_listed : ℕ → List ℕ → Bool
+is_listed r = list_any (λ q. r == q)
 
 abbrev pub holds : Office → ℕ → Thing → Bool
 holds o v t = (o.side v).held t
@@ -90,8 +92,8 @@ has_bottle plan me side r = is_end plan r me && (side (peer plan me r)).held (Bo
 -- whether the rule may be done now
 abbrev pub may : PlanValue → ℕ → Office → Rule → Bool
 may plan me o rule.Start = is_tranquil o.phase && not (is_empty o.queue)
-may plan me o (rule.AskBottle r) = is_end plan r me && (is_thirsty o.phase && (is_among r (needed o.phase) && (not (holds o (peer plan me r) (Bottle r)) && holds o (peer plan me r) (BottleToken r))))
-may plan me o (rule.GiveBottle r) = is_end plan r me && (holds o (peer plan me r) (BottleToken r) && (holds o (peer plan me r) (Bottle r) && not (is_among r (needed o.phase) && (is_drinking o.phase || holds o (peer plan me r) Fork))))
+may plan me o (rule.AskBottle r) = is_end plan r me && (is_thirsty o.phase && (is_listed r (needed o.phase) && (not (holds o (peer plan me r) (Bottle r)) && holds o (peer plan me r) (BottleToken r))))
+may plan me o (rule.GiveBottle r) = is_end plan r me && (holds o (peer plan me r) (BottleToken r) && (holds o (peer plan me r) (Bottle r) && not (is_listed r (needed o.phase) && (is_drinking o.phase || holds o (peer plan me r) Fork))))
 may plan me o rule.Drink = is_thirsty o.phase && list_all (has_bottle plan me o.side) (needed o.phase)
 may plan me o (rule.Work n) = is_drinking o.phase && (not (has_worked o.phase) && (nat_le 1 n && nat_le n 1000))
 may plan me o rule.Finish = is_drinking o.phase && has_worked o.phase

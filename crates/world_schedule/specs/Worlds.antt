@@ -18,8 +18,12 @@ use Rattle.world_schedule.specs.declared.reply.Reply.{Reply}
 use Rattle.world_schedule.specs.declared.reply.Reply.TheVariants as reply
 use Rattle.world_schedule.specs.declared.reply.Refusal.{Refusal}
 use Rattle.world_schedule.specs.declared.reply.Refusal.TheVariants as refusal
-use Rattle.world_schedule.specs.Streams.{Thing, Bottle, num, count, side_taken, values_taken}
 use Rattle.world_schedule.specs.Offices.{Office, opened, may, act, sends, numbered, finishes, is_ours, is_full, submitted, holds}
+use Rattle.token_channel.specs.Sides.{side_taken, values_taken}
+use Rattle.token_channel.specs.Things.{count_carrying}
+use Rattle.bottle_values.specs.Lists.{num}
+use Rattle.token_channel.specs.declared.thing.Thing.{Thing}
+use Rattle.token_channel.specs.declared.thing.Thing.TheVariants.{Bottle}
 
 pub record World : Type 0 where
   pub office : ℕ → Office
@@ -99,7 +103,7 @@ toward w a b = drop (length ((w.office b).side a).taken) ((w.office a).side b).s
 
 -- at how many places a thing of a and b is: held at either end, or on the way
 abbrev pub places : World → ℕ → ℕ → Thing → ℕ
-places w a b t = num (holds (w.office a) b t) + num (holds (w.office b) a t) + count t (toward w a b) + count t (toward w b a)
+places w a b t = num (holds (w.office a) b t) + num (holds (w.office b) a t) + count_carrying t (toward w a b) + count_carrying t (toward w b a)
 
 -- the value of the first bottle of r among the messages, or d
 abbrev pub value_among : ℕ → List Msg → Value → Value

@@ -7,8 +7,8 @@ ghost use Rattle.bottle_values.specs.Maps.{put, write_all};
 ghost use Rattle.office_map.specs.PlanValue.{PlanValue, is_end};
 ghost use Rattle.world_schedule.specs.declared.rule.Rule.TheVariants as rules;
 ghost use Rattle.world_schedule.specs.Offices as offices;
-ghost use Rattle.world_schedule.specs.Tables.{phase_of, line_table, line_at, values_in, office_table, office_in, IsTold, IsWhole};
-ghost use Rattle.world_schedule.specs.Effects.{line_sent, unended, AreWithin, IsWithin, SameThings, line_taken, places_taken, table_taken};
+ghost use Rattle.world_schedule.specs.refinement.Tables.{phase_of, line_table, line_at, values_in, office_table, office_in, IsTold, IsWhole};
+ghost use Rattle.world_schedule.specs.refinement.Effects.{line_sent, unended, AreWithin, IsWithin, SameThings, line_taken, places_taken, table_taken};
 
 use crate::finished::Finished;
 use crate::guards::{needed, peer, place_of};
@@ -37,8 +37,8 @@ fn send(
     ensures count { length lines.new.items ≡ length lines.old.items }
     ensures line { OnOk result (map line_table lines.new.items ≡ set (map line_table lines.old.items) to (line_sent (line_at (map line_table lines.old.items) to) msg)) }
     ensures message { OnOk result (messages.new.items ≡ messages.old.items ++ record { from = from; to = to; number = length (line_at (map line_table lines.old.items) to).sent + 1; msg = msg } ∷ []) }
-    ensures line_kept { OnErr result (map line_table lines.new.items ≡ map line_table lines.old.items) }
-    ensures messages_kept { OnErr result (messages.new.items ≡ messages.old.items) }
+    ensures line_unchanged { OnErr result (map line_table lines.new.items ≡ map line_table lines.old.items) }
+    ensures messages_unchanged { OnErr result (messages.new.items ≡ messages.old.items) }
 {
     messages.reserve(1)?;
     let line = &mut lines[to.index()];
@@ -78,8 +78,8 @@ pub fn ask(
     ensures office { OnOk result (office_in plan.now me (office_table office.new) ≡ offices.act plan.now me (office_in plan.now me (office_table office.old)) (rules.AskBottle r)) }
     ensures sent { OnOk result (messages.new.items ≡ messages.old.items
         ++ offices.numbered me (office_in plan.now me (office_table office.old)) (offices.sends plan.now me (office_in plan.now me (office_table office.old)) (rules.AskBottle r))) }
-    ensures office_kept { OnErr result (office_table office.new ≡ office_table office.old) }
-    ensures messages_kept { OnErr result (messages.new.items ≡ messages.old.items) }
+    ensures office_unchanged { OnErr result (office_table office.new ≡ office_table office.old) }
+    ensures messages_unchanged { OnErr result (messages.new.items ≡ messages.old.items) }
 {
     let to = peer(plan, me, r);
     send(
@@ -107,8 +107,8 @@ pub fn give(
     ensures office { OnOk result (office_in plan.now me (office_table office.new) ≡ offices.act plan.now me (office_in plan.now me (office_table office.old)) (rules.GiveBottle r)) }
     ensures sent { OnOk result (messages.new.items ≡ messages.old.items
         ++ offices.numbered me (office_in plan.now me (office_table office.old)) (offices.sends plan.now me (office_in plan.now me (office_table office.old)) (rules.GiveBottle r))) }
-    ensures office_kept { OnErr result (office_table office.new ≡ office_table office.old) }
-    ensures messages_kept { OnErr result (messages.new.items ≡ messages.old.items) }
+    ensures office_unchanged { OnErr result (office_table office.new ≡ office_table office.old) }
+    ensures messages_unchanged { OnErr result (messages.new.items ≡ messages.old.items) }
 {
     let to = peer(plan, me, r);
     let value = office.places[r.index()].value;
@@ -128,7 +128,7 @@ pub fn drink(alloc: Global, office: &mut Office) -> Result<(), AllocError>
     requires told { IsTold office.old.phase }
     ensures whole { (plan : PlanValue) → IsWhole plan office.old → IsWhole plan office.new }
     ensures office { OnOk result ((plan : PlanValue) (me : ℕ) → office_in plan me (office_table office.new) ≡ offices.act plan me (office_in plan me (office_table office.old)) rules.Drink) }
-    ensures office_kept { OnErr result (office_table office.new ≡ office_table office.old) }
+    ensures office_unchanged { OnErr result (office_table office.new ≡ office_table office.old) }
 {
     let values = values_of(alloc, &office.places, needed(&office.phase))?;
     office.phase = begun(mem::replace(&mut office.phase, Phase::Tranquil), values);
@@ -164,7 +164,7 @@ pub fn work(alloc: Global, phase: &mut Phase) -> Result<(), AllocError>
     requires told { IsTold phase.old }
     ensures told { IsTold phase.new }
     ensures worked { OnOk result ((n : ℕ) → 1 ≤ n → phase_of phase.new ≡ offices.worked n (phase_of phase.old)) }
-    ensures kept { OnErr result (phase_of phase.new ≡ phase_of phase.old) }
+    ensures unchanged { OnErr result (phase_of phase.new ≡ phase_of phase.old) }
 {
     if let Some(ending) = run(alloc, phase)? {
         *phase = ended(mem::replace(phase, Phase::Tranquil), ending);
@@ -209,8 +209,8 @@ pub fn finish(
     ensures whole { (plan : PlanValue) → IsWhole plan office.old → IsWhole plan office.new }
     ensures office { OnOk result ((plan : PlanValue) → office_in plan me (office_table office.new) ≡ offices.act plan me (office_in plan me (office_table office.old)) rules.Finish) }
     ensures finished { OnOk result (finished.new.items ≡ finished.old.items ++ offices.finished_of me (phase_of office.old.phase)) }
-    ensures office_kept { OnErr result (office_table office.new ≡ office_table office.old) }
-    ensures finished_kept { OnErr result (finished.new.items ≡ finished.old.items) }
+    ensures office_unchanged { OnErr result (office_table office.new ≡ office_table office.old) }
+    ensures finished_unchanged { OnErr result (finished.new.items ≡ finished.old.items) }
 {
     finished.reserve(1)?;
     let Phase::Worked(session, ending) = mem::replace(&mut office.phase, Phase::Tranquil) else {
@@ -257,7 +257,7 @@ pub fn take(office: &mut Office, from: OfficeId, msg: Msg) -> Result<(), AllocEr
     requires place { IsWithin (length office.old.places.items) msg }
     ensures whole { (plan : PlanValue) → IsWhole plan office.old → IsWhole plan office.new }
     ensures office { OnOk result (office_table office.new ≡ table_taken (office_table office.old) from msg) }
-    ensures office_kept { OnErr result (office_table office.new ≡ office_table office.old) }
+    ensures office_unchanged { OnErr result (office_table office.new ≡ office_table office.old) }
 {
     take_on(&mut office.lines[from.index()], msg)?;
     put_away(&mut office.places, msg);
@@ -267,7 +267,7 @@ pub fn take(office: &mut Office, from: OfficeId, msg: Msg) -> Result<(), AllocEr
 /// A message is taken on a line, and a fork or its token with it.
 fn take_on(line: &mut Line, msg: Msg) -> Result<(), AllocError>
     ensures taken { OnOk result (line_table line.new ≡ line_taken (line_table line.old) msg) }
-    ensures kept { OnErr result (line_table line.new ≡ line_table line.old) }
+    ensures unchanged { OnErr result (line_table line.new ≡ line_table line.old) }
 {
     line.taken.push(msg)?;
     match msg {

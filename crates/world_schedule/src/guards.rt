@@ -2,10 +2,9 @@
 
 ghost use Rattle.std.specs.Prelude.{◌≡◌, ◌&&◌, ◌||◌, not, true, ◌<◌, length};
 ghost use Rattle.std.specs.List.{list_all};
-ghost use Rattle.office_map.specs.PlanValue.{is_end, are_neighbours};
-ghost use Rattle.world_schedule.specs.Ends.{fork_starts_at, peer};
+ghost use Rattle.office_map.specs.PlanValue.{is_end, are_neighbours, fork_starts_at, peer};
 ghost use Rattle.world_schedule.specs.Offices as offices;
-ghost use Rattle.world_schedule.specs.Tables.{phase_of, place_at, line_at, office_table, office_in};
+ghost use Rattle.world_schedule.specs.refinement.Tables.{phase_of, place_at, line_at, office_table, office_in};
 
 use crate::rule::Rule;
 use crate::tables::{Office, Phase, Place};
@@ -13,7 +12,7 @@ use bottle_values::Value;
 use office_map::ids::{OfficeId, RecordId};
 use office_map::plan::Plan;
 
-#[tactic(auto, using(crate::proofs::Guarded::gives))]
+#[tactic(auto, using(crate::proofs::GuardsRefine::gives))]
 /// Whether the rule's guard holds.
 pub fn may(plan: &Plan, me: OfficeId, office: &Office, rule: &Rule) -> bool
     requires { length office.now.lines.items ≡ length plan.now.offices }
@@ -35,7 +34,7 @@ pub fn may(plan: &Plan, me: OfficeId, office: &Office, rule: &Rule) -> bool
 /// Whether a thirsty session needs a bottle that isn't here, and its request token is.
 fn may_ask(office: &Office, r: RecordId) -> bool
     ensures { result ≡ (offices.is_thirsty (phase_of office.now.phase)
-        && (offices.is_among r (offices.needed (phase_of office.now.phase))
+        && (offices.is_listed r (offices.needed (phase_of office.now.phase))
         && (not (place_at office.now.places.items r).bottle && (place_at office.now.places.items r).token))) }
 {
     let place = place_of(&office.places, r);
@@ -49,7 +48,7 @@ fn may_give(plan: &Plan, me: OfficeId, office: &Office, r: RecordId) -> bool
     ensures near { are_neighbours plan.now me (peer plan.now me r) ≡ true }
     ensures gives { result ≡ ((place_at office.now.places.items r).token
         && ((place_at office.now.places.items r).bottle
-        && not (offices.is_among r (offices.needed (phase_of office.now.phase))
+        && not (offices.is_listed r (offices.needed (phase_of office.now.phase))
         && (offices.is_drinking (phase_of office.now.phase) || (line_at (office_table office.now).lines (peer plan.now me r)).fork)))) }
 {
     let place = place_of(&office.places, r);
@@ -58,7 +57,7 @@ fn may_give(plan: &Plan, me: OfficeId, office: &Office, r: RecordId) -> bool
     place.token && place.bottle && !keeps
 }
 
-#[tactic(auto, using(crate::proofs::Guarded::near_second))]
+#[tactic(auto, using(crate::proofs::GuardsRefine::near_second))]
 /// The other end of a record of this office.
 pub fn peer(plan: &Plan, me: OfficeId, r: RecordId) -> OfficeId
     requires { is_end plan.now r me ≡ true }
@@ -83,7 +82,7 @@ fn has_all(plan: &Plan, me: OfficeId, office: &Office) -> bool
 }
 
 fn is_needed(phase: &Phase, r: RecordId) -> bool
-    ensures { result ≡ offices.is_among r (offices.needed (phase_of phase.now)) }
+    ensures { result ≡ offices.is_listed r (offices.needed (phase_of phase.now)) }
 {
     for id in needed(phase) {
         if r == *id {

@@ -4,8 +4,8 @@ ghost use Rattle.std.specs.Prelude.{◌≡◌, map};
 ghost use Rattle.world_schedule.specs.declared.event.WorldEvent.TheVariants as events;
 ghost use Rattle.world_schedule.specs.Offices as offices;
 ghost use Rattle.world_schedule.specs.Worlds.{happens};
-ghost use Rattle.world_schedule.specs.Tables.{world_in, office_table, IsWorld};
-ghost use Rattle.world_schedule.specs.Effects.{OrMemory};
+ghost use Rattle.world_schedule.specs.refinement.Tables.{world_in, office_table, IsWorld};
+ghost use Rattle.world_schedule.specs.refinement.Effects.{OrMemory};
 
 use crate::finished::Finished;
 use crate::message::Message;

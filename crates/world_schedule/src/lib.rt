@@ -11,9 +11,9 @@
 //! - `specs/Offices.antt`: an office, and the guard and effect of each rule.
 //! - `specs/Streams.antt`, `specs/Ends.antt`: what a pair shares, what its ends hold, sent and took, where it starts.
 //! - `specs/Headline.antt`: the headline.
-//! - `specs/Tables.antt`: the tables that the code keeps, and the world that they mean. Contracts speak of that world.
+//! - `specs/refinement/Tables.antt`: the tables that the code keeps, and the world that they mean. Contracts speak of that world.
 //!
-//! `proofs/Invariant.antt` has the invariant, `proofs/Events.antt` that each event keeps it, and `proofs/Serial.antt`
+//! `proofs/Invariant.antt` has the invariant, `proofs/Events.antt` that each event keeps it, and `proofs/InvariantGivesLaws.antt`
 //! that it gives the headline.
 #![tactic(auto)]
 

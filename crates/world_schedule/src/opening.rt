@@ -4,8 +4,8 @@ ghost use Rattle.std.specs.Prelude.{◌≡◌, ◌<◌, length, map, All, IfOk};
 ghost use Rattle.std.specs.List.{range_with_len};
 ghost use Rattle.office_map.specs.Consistency.{IsConsistent};
 ghost use Rattle.world_schedule.specs.Offices.{opened};
-ghost use Rattle.world_schedule.specs.Tables.{line_table, office_table, office_in, office_at, IsWhole};
-ghost use Rattle.world_schedule.specs.Start.{start_place, start_line};
+ghost use Rattle.world_schedule.specs.refinement.Tables.{line_table, office_table, office_in, office_at, IsWhole};
+ghost use Rattle.world_schedule.specs.refinement.StartTables.{start_place, start_line};
 
 use crate::tables::{Line, Office, Phase, Place};
 use bottle_values::Value;
@@ -14,7 +14,7 @@ use office_map::plan::Plan;
 use std::alloc::{AllocError, Global};
 use std::collections::VecDeque;
 
-#[tactic(auto, using(crate::proofs::Opened::opened_more, crate::proofs::Opened::offices_start))]
+#[tactic(auto, using(crate::proofs::OpeningRefines::opened_more, crate::proofs::OpeningRefines::offices_start))]
 /// All offices of a plan, in order of number.
 pub fn offices_of(alloc: Global, plan: &Plan) -> Result<Vec<Office>, AllocError>
     ensures count { IfOk result (λ os. length os.items ≡ length plan.now.offices) }
@@ -45,7 +45,7 @@ fn office_of(alloc: Global, plan: &Plan, me: OfficeId) -> Result<Office, AllocEr
     })
 }
 
-#[tactic(auto, using(crate::proofs::Opened::places_more))]
+#[tactic(auto, using(bottle_values::proofs::Lists::mapped_more))]
 fn places_of(alloc: Global, plan: &Plan, me: OfficeId) -> Result<Vec<Place>, AllocError>
     ensures { IfOk result (λ ps. ps.items ≡ map (start_place plan.now me) (range_with_len 0 (length plan.now.records))) }
 {
@@ -71,7 +71,7 @@ fn place_of(plan: &Plan, me: OfficeId, r: RecordId) -> Place
     }
 }
 
-#[tactic(auto, using(crate::proofs::Opened::lines_more))]
+#[tactic(auto, using(crate::proofs::OpeningRefines::lines_more))]
 fn lines_of(alloc: Global, plan: &Plan, me: OfficeId) -> Result<Vec<Line>, AllocError>
     ensures { IfOk result (λ ls. map line_table ls.items ≡ map (start_line plan.now me) (range_with_len 0 (length plan.now.offices))) }
 {

@@ -3,8 +3,8 @@
 ghost use Rattle.std.specs.Prelude.{◌≡◌, ◌==◌, ◌<◌, ◌^◌, ◌+◌, ◌||◌, nat_le, if◌then◌else◌, ℕ, true, length, map, OnOk, OnErr, IfOk};
 ghost use Rattle.office_map.specs.PlanValue.{PlanValue};
 ghost use Rattle.world_schedule.specs.Offices as offices;
-ghost use Rattle.world_schedule.specs.Tables.{phase_of, line_table, line_at, office_table, office_in, IsTold, IsWhole};
-ghost use Rattle.world_schedule.specs.Effects.{AreWithin, IsWithin, Acts, IsStill, Tries, Submits, Takes};
+ghost use Rattle.world_schedule.specs.refinement.Tables.{phase_of, line_table, line_at, office_table, office_in, IsTold, IsWhole};
+ghost use Rattle.world_schedule.specs.refinement.Effects.{AreWithin, IsWithin, Acts, IsStill, Tries, Submits, Takes};
 
 use crate::effects;
 use crate::finished::Finished;
@@ -100,7 +100,7 @@ fn enqueue(alloc: Global, office: &mut Office, program: &Program) -> Result<u32,
     ensures whole { (plan : PlanValue) → IsWhole plan office.old → IsWhole plan office.new }
     ensures ticket { IfOk result (λ t. t ≡ office.old.tickets + 1) }
     ensures office { OnOk result ((plan : PlanValue) (me : ℕ) → office_in plan me (office_table office.new) ≡ offices.submitted (office_in plan me (office_table office.old)) program.now) }
-    ensures office_kept { OnErr result (office_table office.new ≡ office_table office.old) }
+    ensures office_unchanged { OnErr result (office_table office.new ≡ office_table office.old) }
 {
     let program = program.copy(alloc)?;
     let ticket = office.tickets + 1;

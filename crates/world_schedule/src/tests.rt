@@ -25,108 +25,104 @@ const PAIR: &str =
 const SESSIONS: &str =
     "session a\nlet v = read x\nset x = v - 30\nset y = read y + 30\ngive read x\ngive read y\nend\nsession b\nset y = read y * 2\ngive read y\nend\nsession b\nrequire read x >= 50 else 7\nset x = read x - 50\nset y = 1\nend\nsession a\ngive 5\nend\n";
 
+/// What a step is: a rule, a submitted session, or a message that is delivered.
+#[derive(Clone, Copy)]
+enum What {
+    Start,
+    Ask,
+    Give,
+    Drink,
+    Work,
+    Finish,
+    Submit,
+    Deliver,
+}
+
 /// An event in few words: what, at which office, and a number.
 #[derive(Clone, Copy)]
-struct Step(u8, u8, u16);
-
-/// The rules, and what else a step can be.
-const START: u8 = 0;
-
-const ASK: u8 = 1;
-
-const GIVE: u8 = 2;
-
-const DRINK: u8 = 3;
-
-const WORK: u8 = 4;
-
-const FINISH: u8 = 5;
-
-const SUBMIT: u8 = 6;
-
-const DELIVER: u8 = 7;
+struct Step(What, u8, u16);
 
 /// Steps, and what is answered.
 static ROWS: [(&[Step], &str); 5] = [
     (
         &[
-            Step(SUBMIT, 0, 0),
-            Step(START, 0, 0),
-            Step(ASK, 0, 1),
-            Step(DELIVER, 0, 1),
-            Step(GIVE, 1, 1),
-            Step(DELIVER, 0, 2),
-            Step(DRINK, 0, 0),
-            Step(WORK, 0, 100),
-            Step(FINISH, 0, 0),
-            Step(DELIVER, 0, 2),
+            Step(What::Submit, 0, 0),
+            Step(What::Start, 0, 0),
+            Step(What::Ask, 0, 1),
+            Step(What::Deliver, 0, 1),
+            Step(What::Give, 1, 1),
+            Step(What::Deliver, 0, 2),
+            Step(What::Drink, 0, 0),
+            Step(What::Work, 0, 100),
+            Step(What::Finish, 0, 0),
+            Step(What::Deliver, 0, 2),
         ],
         "ticket 1; done; done; taken; done; taken; done; done; done; refused N1 NoFrame; 0.1 Done reads 0=100 1=0 writes 0=70 1=30 gives 70 30; unfinished 0; values 70 30",
     ),
     (
         &[
-            Step(START, 0, 0),
-            Step(DRINK, 0, 0),
-            Step(FINISH, 0, 0),
-            Step(ASK, 0, 1),
-            Step(GIVE, 1, 0),
-            Step(GIVE, 0, 7),
-            Step(SUBMIT, 1, 0),
-            Step(SUBMIT, 2, 0),
-            Step(START, 9, 0),
-            Step(DELIVER, 0, 0),
-            Step(DELIVER, 0, 1),
+            Step(What::Start, 0, 0),
+            Step(What::Drink, 0, 0),
+            Step(What::Finish, 0, 0),
+            Step(What::Ask, 0, 1),
+            Step(What::Give, 1, 0),
+            Step(What::Give, 0, 7),
+            Step(What::Submit, 1, 0),
+            Step(What::Submit, 2, 0),
+            Step(What::Start, 9, 0),
+            Step(What::Deliver, 0, 0),
+            Step(What::Deliver, 0, 1),
         ],
         "refused O1 NotNow; refused O1 NotNow; refused O1 NotNow; refused O1 NotNow; refused O1 NotNow; refused O1 NotNow; refused O2 NotOurs; refused N2 NoOffice; refused N2 NoOffice; refused N1 NoFrame; refused N1 NoFrame; unfinished 0; values 100 0",
     ),
     (
         &[
-            Step(SUBMIT, 0, 3),
-            Step(START, 0, 0),
-            Step(DRINK, 0, 0),
-            Step(WORK, 0, 0),
-            Step(WORK, 0, 1001),
-            Step(FINISH, 0, 0),
-            Step(WORK, 0, 1000),
-            Step(WORK, 0, 1),
-            Step(FINISH, 0, 0),
-            Step(FINISH, 0, 0),
+            Step(What::Submit, 0, 3),
+            Step(What::Start, 0, 0),
+            Step(What::Drink, 0, 0),
+            Step(What::Work, 0, 0),
+            Step(What::Work, 0, 1001),
+            Step(What::Finish, 0, 0),
+            Step(What::Work, 0, 1000),
+            Step(What::Work, 0, 1),
+            Step(What::Finish, 0, 0),
+            Step(What::Finish, 0, 0),
         ],
         "ticket 1; done; done; refused O1 NotNow; refused O1 NotNow; refused O1 NotNow; done; refused O1 NotNow; done; refused O1 NotNow; 0.1 Done reads writes gives 5; unfinished 0; values 100 0",
     ),
     (
         &[
-            Step(SUBMIT, 1, 1),
-            Step(START, 1, 0),
-            Step(SUBMIT, 0, 0),
-            Step(START, 0, 0),
-            Step(ASK, 0, 1),
-            Step(DELIVER, 0, 1),
-            Step(DRINK, 1, 0),
-            Step(GIVE, 1, 1),
-            Step(WORK, 1, 5),
-            Step(FINISH, 1, 0),
-            Step(GIVE, 1, 1),
-            Step(DELIVER, 0, 2),
-            Step(DRINK, 0, 0),
+            Step(What::Submit, 1, 1),
+            Step(What::Start, 1, 0),
+            Step(What::Submit, 0, 0),
+            Step(What::Start, 0, 0),
+            Step(What::Ask, 0, 1),
+            Step(What::Deliver, 0, 1),
+            Step(What::Drink, 1, 0),
+            Step(What::Give, 1, 1),
+            Step(What::Work, 1, 5),
+            Step(What::Finish, 1, 0),
+            Step(What::Give, 1, 1),
+            Step(What::Deliver, 0, 2),
+            Step(What::Drink, 0, 0),
         ],
         "ticket 1; done; ticket 1; done; done; taken; done; refused O1 NotNow; done; done; done; taken; done; 1.1 Done reads 1=0 writes 1=0 gives 0; unfinished 1; values 100 0",
     ),
     (
         &[
-            Step(SUBMIT, 1, 2),
-            Step(SUBMIT, 1, 1),
-            Step(START, 1, 0),
-            Step(ASK, 1, 0),
-            Step(ASK, 1, 0),
-            Step(DELIVER, 0, 1),
-            Step(GIVE, 0, 0),
-            Step(DELIVER, 0, 2),
-            Step(DRINK, 1, 0),
-            Step(WORK, 1, 5),
-            Step(FINISH, 1, 0),
-            Step(START, 1, 0),
-            Step(START, 1, 0),
+            Step(What::Submit, 1, 2),
+            Step(What::Submit, 1, 1),
+            Step(What::Start, 1, 0),
+            Step(What::Ask, 1, 0),
+            Step(What::Ask, 1, 0),
+            Step(What::Deliver, 0, 1),
+            Step(What::Give, 0, 0),
+            Step(What::Deliver, 0, 2),
+            Step(What::Drink, 1, 0),
+            Step(What::Work, 1, 5),
+            Step(What::Finish, 1, 0),
+            Step(What::Start, 1, 0),
+            Step(What::Start, 1, 0),
         ],
         "ticket 1; ticket 2; done; done; refused O1 NotNow; taken; done; taken; done; done; done; done; refused O1 NotNow; 1.1 Done reads 0=100 1=0 writes 0=50 1=1 gives; unfinished 1; values 50 1",
     ),
@@ -153,22 +149,22 @@ fn sixty_four_sessions_may_wait(rt: HostRuntime) -> Result<(), Fail> {
     let mut world = opened(alloc)?;
     let mut text = String::new(alloc);
     for _ in 0..64 {
-        take_step(alloc, &mut text, &mut world, Step(SUBMIT, 0, 3))?;
+        take_step(alloc, &mut text, &mut world, Step(What::Submit, 0, 3))?;
     }
     text.clear();
     for step in [
-        Step(SUBMIT, 0, 3),
-        Step(START, 0, 0),
-        Step(SUBMIT, 0, 3),
-        Step(DRINK, 0, 0),
+        Step(What::Submit, 0, 3),
+        Step(What::Start, 0, 0),
+        Step(What::Submit, 0, 3),
+        Step(What::Drink, 0, 0),
     ] {
         take_step(alloc, &mut text, &mut world, step)?;
     }
     for step in [
-        Step(WORK, 0, 1),
-        Step(FINISH, 0, 0),
-        Step(SUBMIT, 0, 3),
-        Step(SUBMIT, 1, 1),
+        Step(What::Work, 0, 1),
+        Step(What::Finish, 0, 0),
+        Step(What::Submit, 0, 3),
+        Step(What::Submit, 1, 1),
     ] {
         take_step(alloc, &mut text, &mut world, step)?;
     }
@@ -210,19 +206,22 @@ fn next(draw: u64) -> u64 {
 
 /// A step, of the upper bits of a number. A message that is delivered is one of the last four.
 fn drawn(draw: u64, frames: usize) -> Step {
-    let what = ((draw >> 33) % 9) as u8;
     let at = ((draw >> 40) % 2) as u8;
     let number = ((draw >> 50) % 4) as u16;
-    if what >= DELIVER {
-        Step(
-            DELIVER,
+    let back = ((draw >> 45) % 4) as usize;
+    match (draw >> 33) % 9 {
+        0 => Step(What::Start, at, number % 2),
+        1 => Step(What::Ask, at, number % 2),
+        2 => Step(What::Give, at, number % 2),
+        3 => Step(What::Drink, at, number % 2),
+        4 => Step(What::Work, at, number),
+        5 => Step(What::Finish, at, number % 2),
+        6 => Step(What::Submit, at, number),
+        _ => Step(
+            What::Deliver,
             at,
-            (frames.saturating_sub(((draw >> 45) % 4) as usize) % 65536) as u16,
-        )
-    } else if what == SUBMIT || what == WORK {
-        Step(what, at, number)
-    } else {
-        Step(what, at, number % 2)
+            (frames.saturating_sub(back) % 65536) as u16,
+        ),
     }
 }
 
@@ -249,30 +248,31 @@ fn take_step(alloc: Global, text: &mut String, world: &mut World, step: Step) ->
 fn event_of(alloc: Global, plan: &Plan, step: Step) -> Result<Option<WorldEvent>, Fail> {
     let Step(what, at, number) = step;
     let at = OfficeId::new(at);
-    if what == SUBMIT {
-        let mut programs = read_sessions(alloc, SESSIONS.as_bytes(), plan)?;
-        programs.truncate(number as usize + 1);
-        return Ok(
-            programs
-                .pop()
-                .map(|program| WorldEvent::Submit(at, program)),
-        );
-    }
-    if what == DELIVER {
-        return Ok(Some(WorldEvent::Deliver(number as usize)));
-    }
-    Ok(Some(WorldEvent::Do(at, rule_of(what, number))))
+    let rule = match what {
+        What::Start => Rule::Start,
+        What::Ask => Rule::AskBottle(RecordId::new(number)),
+        What::Give => Rule::GiveBottle(RecordId::new(number)),
+        What::Drink => Rule::Drink,
+        What::Work => Rule::Work(number),
+        What::Finish => Rule::Finish,
+        What::Submit => return submitted(alloc, plan, at, number),
+        What::Deliver => return Ok(Some(WorldEvent::Deliver(number as usize))),
+    };
+    Ok(Some(WorldEvent::Do(at, rule)))
 }
 
-fn rule_of(what: u8, number: u16) -> Rule {
-    match what {
-        START => Rule::Start,
-        ASK => Rule::AskBottle(RecordId::new(number)),
-        GIVE => Rule::GiveBottle(RecordId::new(number)),
-        DRINK => Rule::Drink,
-        WORK => Rule::Work(number),
-        _ => Rule::Finish,
-    }
+/// The event that submits a session, by its place in the text.
+fn submitted(
+    alloc: Global,
+    plan: &Plan,
+    at: OfficeId,
+    number: u16,
+) -> Result<Option<WorldEvent>, Fail> {
+    let mut programs = read_sessions(alloc, SESSIONS.as_bytes(), plan)?;
+    programs.truncate(number as usize + 1);
+    Ok(programs
+        .pop()
+        .map(|program| WorldEvent::Submit(at, program)))
 }
 
 /// What finished, how many haven't, and the values.

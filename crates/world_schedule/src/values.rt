@@ -4,10 +4,10 @@ ghost use Rattle.std.specs.Prelude.{◌≡◌, ◌<◌, List, All, length, map, 
 ghost use Rattle.std.specs.Option.{unwrap_or};
 ghost use Rattle.bottle_values.specs.declared.Value as bottle;
 ghost use Rattle.world_schedule.specs.Worlds.{value_among, bottle_value};
-ghost use Rattle.world_schedule.specs.Tables.{office_table, world_in};
+ghost use Rattle.world_schedule.specs.refinement.Tables.{office_table, world_in};
 ghost use Rattle.world_schedule.specs.declared.message.Message.{Message};
 ghost use Rattle.world_schedule.specs.declared.finished.Finished.{Finished};
-ghost use Rattle.world_schedule.specs.Places.{value_in_tables};
+ghost use Rattle.world_schedule.specs.refinement.BottleTables.{value_in_tables};
 
 use crate::guards::place_of;
 use crate::tables::Office;
@@ -16,7 +16,7 @@ use frame_codec::Msg;
 use office_map::ids::{OfficeId, RecordId};
 use office_map::plan::Plan;
 
-#[tactic(auto, using(crate::proofs::Found::value_found, crate::proofs::Found::start_is))]
+#[tactic(auto, using(crate::proofs::BottleValueRefines::value_found, crate::proofs::BottleValueRefines::start_is))]
 /// The value at the place of a record's bottle.
 pub fn bottle_value(plan: &Plan, offices: &[Office], r: RecordId) -> Value
     requires place { r < length plan.now.records }

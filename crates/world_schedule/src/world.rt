@@ -5,8 +5,8 @@ ghost use Rattle.serial_replay.specs.Serial.{start_map, map_of, outcomes_of};
 ghost use Rattle.world_schedule.specs.Worlds.{opening, happens, run_of, replies_of, programs, outcomes, bottle_value, unfinished_in};
 ghost use Rattle.world_schedule.specs.declared.reply.Refusal.TheVariants as refusals;
 ghost use Rattle.world_schedule.specs.Headline.{HasSerialValues, HasSerialSessions, HasOnePlaceEach};
-ghost use Rattle.world_schedule.specs.Tables.{state_of, world_in, office_table, IsReached, IsWorld};
-ghost use Rattle.world_schedule.specs.Effects.{OrMemory};
+ghost use Rattle.world_schedule.specs.refinement.Tables.{state_of, world_in, office_table, IsReached, IsWorld};
+ghost use Rattle.world_schedule.specs.refinement.Effects.{OrMemory};
 
 use crate::event::WorldEvent;
 use crate::finished::Finished;
@@ -44,8 +44,8 @@ impl Model for World {
     ghost use Rattle.std.specs.Prelude.{map};
     ghost use Rattle.std.specs.Coded.{Coded, codes};
     ghost use Rattle.session_language.specs.declared.node.Node.{Node};
-    ghost use Rattle.session_language.specs.TreeCode.{Mark, term_code, block_code};
-    ghost use Rattle.world_schedule.specs.Tables.{WorldTable, office_table, IsWorld};
+    ghost use Rattle.session_language.specs.refinement.TreeEncoding.{Mark, term_code, block_code};
+    ghost use Rattle.world_schedule.specs.refinement.Tables.{WorldTable, office_table, IsWorld};
 
     ghost Value = { WorldTable };
 

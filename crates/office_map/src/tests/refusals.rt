@@ -1,6 +1,6 @@
 //! Texts that break a rule, and what is said of them.
 
-use crate::fault::{PlanFault, Refusal, Rule};
+use crate::fault::{PlanFault, PlanRefusal, PlanRule};
 use crate::plan::Plan;
 use std::alloc::{AllocError, Global};
 use std::test::Fail;
@@ -106,12 +106,12 @@ fn no_other_word_is_an_address(rt: HostRuntime) -> Result<(), Fail> {
 
 #[test]
 fn faults_are_printed_with_code_and_line(rt: HostRuntime) -> Result<(), Fail> {
-    let rule = Rule::NameTwice;
-    let text = format!(in rt.alloc(); "{}", PlanFault::Refused(Refusal { rule, line: 4 }))?;
+    let rule = PlanRule::NameTwice;
+    let text = format!(in rt.alloc(); "{}", PlanFault::Refused(PlanRefusal { rule, line: 4 }))?;
     let expected = "line 4: P3 NameTwice: this name or address was declared before";
     assert_eq!(rt; text.as_str(), expected);
-    let rule = Rule::Limit;
-    let text = format!(in rt.alloc(); "{}", Refusal { rule, line: 0 })?;
+    let rule = PlanRule::Limit;
+    let text = format!(in rt.alloc(); "{}", PlanRefusal { rule, line: 0 })?;
     let expected =
         "P7 Limit: a plan has 2 to 16 offices, at most 8 records a pair and at most 262144 bytes";
     assert_eq!(rt; text.as_str(), expected);
@@ -123,7 +123,7 @@ pub fn fault(alloc: Global, text: &str) -> Result<String, AllocError> {
     match Plan::read(alloc, text.as_bytes()) {
         Ok(_) => String::from_str(alloc, "accepted"),
         Err(PlanFault::Memory) => Err(AllocError),
-        Err(PlanFault::Refused(Refusal { rule, line })) => format!(in alloc; "{line} {rule}"),
+        Err(PlanFault::Refused(PlanRefusal { rule, line })) => format!(in alloc; "{line} {rule}"),
         Err(fault) => format!(in alloc; "{fault}"),
     }
 }

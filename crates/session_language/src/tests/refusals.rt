@@ -1,7 +1,7 @@
 //! Texts that break a rule, and what is said of them.
 
 use super::PLAN;
-use crate::fault::{LangFault, Refusal, Rule};
+use crate::fault::{LangFault, SessionRefusal, SessionRule};
 use crate::read::read_sessions;
 use office_map::plan::Plan;
 use std::alloc::{AllocError, Global};
@@ -85,15 +85,15 @@ static LINES: [(&str, &str); 42] = [
 ];
 
 /// Each rule with its code and name.
-static RULES: [(Rule, &str); 8] = [
-    (Rule::Syntax, "line 3: S1 Syntax: "),
-    (Rule::UnknownName, "line 3: S2 UnknownName: "),
-    (Rule::UnknownRecord, "line 3: S3 UnknownRecord: "),
-    (Rule::TooDeep, "line 3: S4 TooDeep: "),
-    (Rule::TooLong, "line 3: S5 TooLong: "),
-    (Rule::TooManyRecords, "line 3: S6 TooManyRecords: "),
-    (Rule::TooManyGives, "line 3: S7 TooManyGives: "),
-    (Rule::TooManyVariables, "line 3: S8 TooManyVariables: "),
+static RULES: [(SessionRule, &str); 8] = [
+    (SessionRule::Syntax, "line 3: S1 Syntax: "),
+    (SessionRule::UnknownName, "line 3: S2 UnknownName: "),
+    (SessionRule::UnknownRecord, "line 3: S3 UnknownRecord: "),
+    (SessionRule::TooDeep, "line 3: S4 TooDeep: "),
+    (SessionRule::TooLong, "line 3: S5 TooLong: "),
+    (SessionRule::TooManyRecords, "line 3: S6 TooManyRecords: "),
+    (SessionRule::TooManyGives, "line 3: S7 TooManyGives: "),
+    (SessionRule::TooManyVariables, "line 3: S8 TooManyVariables: "),
 ];
 
 #[test]
@@ -139,7 +139,7 @@ fn any_byte_may_stand_in_a_comment(rt: HostRuntime) -> Result<(), Fail> {
 #[test]
 fn faults_are_printed_with_code_and_line(rt: HostRuntime) -> Result<(), Fail> {
     for (rule, expected) in &RULES {
-        let fault = LangFault::Refused(Refusal {
+        let fault = LangFault::Refused(SessionRefusal {
             rule: *rule,
             line: 3,
         });
@@ -160,7 +160,7 @@ pub fn fault(alloc: Global, text: &[u8]) -> Result<String, Fail> {
 pub fn fault_under(alloc: Global, plan: &Plan, text: &[u8]) -> Result<String, AllocError> {
     match read_sessions(alloc, text, plan) {
         Ok(_) => String::from_str(alloc, "accepted"),
-        Err(LangFault::Refused(Refusal { rule, line })) => {
+        Err(LangFault::Refused(SessionRefusal { rule, line })) => {
             let mut found = String::new(alloc);
             write!(found, "{line} {rule:?}")?;
             Ok(found)

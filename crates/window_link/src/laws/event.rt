@@ -25,7 +25,7 @@ pub enum LinkEvent {
 
 /// What an event gives.
 #[derive(Clone, Copy, Debug, PartialEq, Eq)]
-pub enum Reply {
+pub enum LinkReply {
     /// There was nothing to do: no room or number for a message, no such waiting message, no such
     /// frame.
     Idle,

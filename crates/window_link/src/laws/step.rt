@@ -2,9 +2,9 @@
 
 ghost use Rattle.std.specs.Prelude.{◌≡◌, ◌++◌, ◌∷◌, [], IfOk, OnOk, OnErr};
 ghost use Rattle.window_link.specs.Streams.{nth};
-ghost use Rattle.window_link.specs.Steps.{queue_step, made_of, arrive_step, ends, Accepts, Steps};
+ghost use Rattle.window_link.specs.refinement.TwoLinksStep.{queue_step, made_of, arrive_step, ends, Accepts, Steps};
 
-use crate::laws::event::{End, LinkEvent, Posted, Reply};
+use crate::laws::event::{End, LinkEvent, Posted, LinkReply};
 use crate::link::Link;
 use frame_codec::{Frame, Msg};
 use std::alloc::AllocError;
@@ -15,7 +15,7 @@ pub fn step(
     right: &mut Link,
     frames: &mut Vec<Posted>,
     event: &LinkEvent,
-) -> Result<Reply, AllocError>
+) -> Result<LinkReply, AllocError>
     requires { Accepts (ends left.old right.old frames.old.items) }
     ensures { Steps (ends left.old right.old frames.old.items) event.now result (ends left.new right.new frames.new.items) }
 {
@@ -30,52 +30,52 @@ pub fn step(
     }
 }
 
-fn queue(link: &mut Link, msg: Msg) -> Reply
+fn queue(link: &mut Link, msg: Msg) -> LinkReply
     ensures reply { result ≡ (queue_step link.old msg).0 }
     ensures link { link.new ≡ (queue_step link.old msg).1 }
 {
     if !link.has_room() {
-        return Reply::Idle;
+        return LinkReply::Idle;
     }
     match link.queue(msg) {
-        Ok(()) => Reply::Queued,
-        Err(_) => Reply::Idle,
+        Ok(()) => LinkReply::Queued,
+        Err(_) => LinkReply::Idle,
     }
 }
 
-fn make(frames: &mut Vec<Posted>, link: &Link, by: End, i: usize) -> Result<Reply, AllocError>
+fn make(frames: &mut Vec<Posted>, link: &Link, by: End, i: usize) -> Result<LinkReply, AllocError>
     ensures reply { IfOk result (λ reply. reply ≡ (made_of link.now by i (nth link.now.sending.waiting i)).0) }
     ensures frames { OnOk result (frames.new.items ≡ frames.old.items ++ (made_of link.now by i (nth link.now.sending.waiting i)).1) }
-    ensures err { OnErr result (frames.new.items ≡ frames.old.items) }
+    ensures unchanged { OnErr result (frames.new.items ≡ frames.old.items) }
 {
     if i == 0 || i > link.waiting().len() {
-        return Ok(Reply::Idle);
+        return Ok(LinkReply::Idle);
     }
     post(frames, by, link.frame(i))
 }
 
-fn post(frames: &mut Vec<Posted>, by: End, frame: Frame) -> Result<Reply, AllocError>
-    ensures reply { IfOk result (λ reply. reply ≡ Reply.Made) }
+fn post(frames: &mut Vec<Posted>, by: End, frame: Frame) -> Result<LinkReply, AllocError>
+    ensures reply { IfOk result (λ reply. reply ≡ LinkReply.Made) }
     ensures frames { OnOk result (frames.new.items ≡ frames.old.items ++ record { by = by; frame = frame } ∷ []) }
-    ensures err { OnErr result (frames.new.items ≡ frames.old.items) }
+    ensures unchanged { OnErr result (frames.new.items ≡ frames.old.items) }
 {
     frames.push(Posted { by, frame })?;
-    Ok(Reply::Made)
+    Ok(LinkReply::Made)
 }
 
-fn arrive(left: &mut Link, right: &mut Link, frames: &[Posted], k: usize) -> Reply
+fn arrive(left: &mut Link, right: &mut Link, frames: &[Posted], k: usize) -> LinkReply
     requires { Accepts (ends left.old right.old frames.now) }
     ensures { (result, ends left.new right.new frames.now) ≡ arrive_step (ends left.old right.old frames.now) (nth frames.now k) }
 {
     if k == 0 {
-        return Reply::Idle;
+        return LinkReply::Idle;
     }
     let Some(posted) = frames.get(k - 1) else {
-        return Reply::Idle;
+        return LinkReply::Idle;
     };
     let arrival = match posted.by {
         End::Left => right.accept(&posted.frame),
         End::Right => left.accept(&posted.frame),
     };
-    Reply::Arrived(arrival)
+    LinkReply::Arrived(arrival)
 }

@@ -1,10 +1,10 @@
 //! Two linked ends.
 
 ghost use Rattle.std.specs.Prelude.{◌≡◌, [], IfOk, OnErr, IsTrue};
-ghost use Rattle.window_link.specs.Steps.{makes_frame};
-ghost use Rattle.window_link.specs.Two.{at, LedTo, KeepsStreams, Happens};
+ghost use Rattle.window_link.specs.refinement.TwoLinksStep.{makes_frame};
+ghost use Rattle.window_link.specs.Two.{at, LedTo, HasLawfulStreams, Happens};
 
-use crate::laws::event::{End, LinkEvent, Posted, Reply};
+use crate::laws::event::{End, LinkEvent, Posted, LinkReply};
 use crate::laws::step::step;
 use crate::link::Link;
 use std::alloc::{AllocError, Global};
@@ -20,14 +20,14 @@ pub struct Two {
 }
 
 impl Model for Two {
-    ghost use Rattle.window_link.specs.Two.{Ends, KeepsStreams};
-    ghost use Rattle.window_link.specs.Steps.{ends};
+    ghost use Rattle.window_link.specs.Two.{Ends, HasLawfulStreams};
+    ghost use Rattle.window_link.specs.refinement.TwoLinksStep.{ends};
 
     ghost Value = { Ends };
 
     ghost view = { λ t. ends t.left t.right t.frames.items };
 
-    ghost invariant = { λ t. KeepsStreams (ends t.left t.right t.frames.items) };
+    ghost invariant = { λ t. HasLawfulStreams (ends t.left t.right t.frames.items) };
 }
 
 impl Two {
@@ -45,7 +45,7 @@ impl Two {
     /// What an end keeps. What goes each way is lawful, whatever events came.
     pub fn link(&self, end: End) -> &Link
         ensures link { result.now ≡ at self.now end }
-        ensures streams { KeepsStreams self.now }
+        ensures streams { HasLawfulStreams self.now }
     {
         match end {
             End::Left => &self.left,
@@ -64,9 +64,9 @@ impl Two {
     ///
     /// # Errors
     /// Where a growth for a frame was refused. Both ends and the frames are as they were.
-    pub fn apply(&mut self, event: &LinkEvent) -> Result<Reply, AllocError>
+    pub fn apply(&mut self, event: &LinkEvent) -> Result<LinkReply, AllocError>
         ensures happens { IfOk result (λ reply. Happens self.old event.now reply self.new) }
-        ensures err { OnErr result (self.new ≡ self.old) }
+        ensures unchanged { OnErr result (self.new ≡ self.old) }
         ensures memory { OnErr result (IsTrue (makes_frame event.now)) }
     {
         step(&mut self.left, &mut self.right, &mut self.frames, event)

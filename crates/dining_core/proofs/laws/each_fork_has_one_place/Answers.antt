@@ -1,4 +1,4 @@
-use Rattle.dining_core.proofs.Precedence.{each_fork_has_one_place}
+use Rattle.dining_core.proofs.ForkLaws.{each_fork_has_one_place}
 use Rattle.dining_core.proofs.laws.each_fork_has_one_place.Goals as goal
 
 pub returns : goal.returns

@@ -1,4 +1,4 @@
-use Rattle.dining_core.proofs.Precedence.{only_eating_turns}
+use Rattle.dining_core.proofs.ForkLaws.{only_eating_turns}
 use Rattle.dining_core.proofs.laws.only_eating_turns.Goals as goal
 
 pub returns : goal.returns

@@ -1,4 +1,4 @@
-use Rattle.dining_core.proofs.Precedence.{starts_in_order}
+use Rattle.dining_core.proofs.ForkLaws.{starts_in_order}
 use Rattle.dining_core.proofs.laws.starts_in_the_plans_order.Goals as goal
 
 pub returns : goal.returns

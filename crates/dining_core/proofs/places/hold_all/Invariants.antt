@@ -1,6 +1,6 @@
 use Rattle.std.proofs.Common.{◌≡◌, drop}
 use Rattle.std.specs.List.{list_all}
-use Rattle.dining_core.specs.Tables.{holds}
+use Rattle.dining_core.specs.refinement.Tables.{holds}
 use Rattle.dining_core.proofs.places.hold_all.Given as goal
 
 abbrev pub invariant-loop-v : goal.invariant-loop-v

@@ -1,6 +1,6 @@
 use Rattle.std.proofs.Common.{◌≡◌, map}
 use Rattle.std.specs.List.{range_with_len}
-use Rattle.dining_core.specs.Tables.{start_place}
+use Rattle.dining_core.specs.refinement.Tables.{start_place}
 use Rattle.dining_core.proofs.places.open.Given as goal
 
 abbrev pub invariant-loop-v : goal.invariant-loop-v

@@ -1,4 +1,4 @@
-use Rattle.drinking_core.proofs.Travels.{no_other_place}
+use Rattle.drinking_core.proofs.BottleLaws.{no_other_place}
 use Rattle.drinking_core.proofs.laws.no_other_place.Goals as goal
 
 pub returns : goal.returns

@@ -1,5 +1,5 @@
 use Rattle.std.proofs.Common.{◌≡◌, drop}
-use Rattle.drinking_core.specs.Bars.{with_freed}
+use Rattle.drinking_core.specs.refinement.Bars.{with_freed}
 use Rattle.drinking_core.proofs.places.free_all.Given as goal
 
 abbrev pub invariant-loop-r : goal.invariant-loop-r

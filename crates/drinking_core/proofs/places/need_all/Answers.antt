@@ -1,14 +1,14 @@
 use Rattle.std.proofs.Common.{◌<◌, ℕ, ap, ◌∙◌, length, List, arith, get_or}
 use Rattle.std.proofs.lemmas.List.{length-set}
 use Rattle.std.proofs.lemmas.List.Elements.{All-get_or}
-use Rattle.drinking_core.specs.declared.place.Place.{Place}
-use Rattle.drinking_core.specs.Bars.{place_at, needed_place}
-use Rattle.drinking_core.proofs.Counted.{need_step, count_more}
+use Rattle.drinking_core.specs.declared.shared_bottle.SharedBottle.{SharedBottle}
+use Rattle.drinking_core.specs.refinement.Bars.{place_at, needed_place}
+use Rattle.drinking_core.proofs.MissingCount.{need_step, count_more}
 use Rattle.drinking_core.proofs.places.need_all.Goals as goal
 
 pub loop-r-preserved : goal.loop-r-preserved
 loop-r-preserved c =
-    let ps : List Place = c.loop-r.places.items in
+    let ps : List SharedBottle = c.loop-r.places.items in
     let r : ℕ = c.r-item.result in
     let n : ℕ = length c.args.places.now.items in
     let within : get_or c.args.records.now c.loop-r.r-index r < n = All-get_or (λ q. q < n) c.args.records.now c.loop-r.r-index r c.loop-r-test.true c.requires in

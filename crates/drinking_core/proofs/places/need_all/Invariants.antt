@@ -1,5 +1,5 @@
 use Rattle.std.proofs.Common.{◌≡◌, ◌+◌, drop, length}
-use Rattle.drinking_core.specs.Bars.{with_needed, count_missing}
+use Rattle.drinking_core.specs.refinement.Bars.{with_needed, count_missing}
 use Rattle.drinking_core.proofs.places.need_all.Given as goal
 
 abbrev pub invariant-loop-r : goal.invariant-loop-r

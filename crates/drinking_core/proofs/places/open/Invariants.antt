@@ -1,6 +1,6 @@
 use Rattle.std.proofs.Common.{◌≡◌, map}
 use Rattle.std.specs.List.{range_with_len}
-use Rattle.drinking_core.specs.Bars.{start_place}
+use Rattle.drinking_core.specs.refinement.Bars.{start_place}
 use Rattle.drinking_core.proofs.places.open.Given as goal
 
 abbrev pub invariant-loop-r : goal.invariant-loop-r

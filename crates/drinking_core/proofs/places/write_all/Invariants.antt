@@ -1,5 +1,5 @@
 use Rattle.std.proofs.Common.{◌≡◌, drop}
-use Rattle.drinking_core.specs.Bars.{with_writes}
+use Rattle.drinking_core.specs.refinement.Bars.{with_writes}
 use Rattle.drinking_core.proofs.places.write_all.Given as goal
 
 abbrev pub invariant-loop-r : goal.invariant-loop-r

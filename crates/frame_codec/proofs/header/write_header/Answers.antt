@@ -2,7 +2,7 @@ use Rattle.std.proofs.Common.{◌≤◌, length, [], refl, arith, rules}
 use Rattle.std.specs.Prelude.{IfSome}
 use Rattle.frame_codec.specs.Frame.{IsMsg}
 use Rattle.byteorder.specs.Endian.{big_bytes}
-use Rattle.frame_codec.proofs.Writing.{Written, write_byte, write_field}
+use Rattle.frame_codec.proofs.BufferWrites.{Written, write_byte, write_field}
 use Rattle.frame_codec.proofs.header.write_header.Goals as goal
 
 pub returns-clause-written : goal.returns-clause-written

@@ -1,6 +1,6 @@
 use Rattle.std.proofs.Common.{sym, ◌∙◌}
-use Rattle.frame_codec.proofs.Writing.{taken, kept}
-use Rattle.frame_codec.proofs.Encoding.{header_written, spells_header, message_written}
+use Rattle.frame_codec.proofs.BufferWrites.{taken, kept}
+use Rattle.frame_codec.proofs.EncodeSpells.{header_written, spells_header, message_written}
 use Rattle.frame_codec.proofs.version_01.encode.Goals as goal
 
 pub returns-in-None-clause-spelled : goal.returns-in-None-clause-spelled

@@ -1,7 +1,7 @@
 use Rattle.std.proofs.Common.{◌≤◌, length, [], refl, ◌∙◌, arith}
 use Rattle.byteorder.specs.Endian.{big_bytes}
 use Rattle.bottle_values.specs.Bytes.{bytes_of}
-use Rattle.frame_codec.proofs.Writing.{Written, write_byte, write_field, write_whole}
+use Rattle.frame_codec.proofs.BufferWrites.{Written, write_byte, write_field, write_whole}
 use Rattle.frame_codec.proofs.version_01.write_message.Goals as goal
 
 pub returns-in-Bottle-clause-written : goal.returns-in-Bottle-clause-written

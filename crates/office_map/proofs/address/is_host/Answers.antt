@@ -1,4 +1,4 @@
-use Rattle.office_map.proofs.Addresses.{five_parts}
+use Rattle.office_map.proofs.AsciiAddresses.{five_parts}
 use Rattle.office_map.proofs.address.is_host.Goals as goal
 
 pub returns-in-Some-cut-3 : goal.returns-in-Some-cut-3

@@ -1,4 +1,4 @@
-use Rattle.office_map.proofs.Addresses.{three_parts}
+use Rattle.office_map.proofs.AsciiAddresses.{three_parts}
 use Rattle.office_map.proofs.address.is_host_and_port.Goals as goal
 
 pub returns-in-Some-cut : goal.returns-in-Some-cut

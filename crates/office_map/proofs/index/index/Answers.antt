@@ -1,5 +1,5 @@
 use Rattle.std.proofs.Common.{refl}
-use Rattle.office_map.proofs.Ranges.{index_more}
+use Rattle.office_map.proofs.FilteredRanges.{index_more}
 use Rattle.office_map.proofs.index.index.Goals as goal
 
 pub loop-number-preserved : goal.loop-number-preserved

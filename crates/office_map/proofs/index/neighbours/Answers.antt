@@ -1,6 +1,6 @@
 use Rattle.std.proofs.Common.{◌∙◌, ap}
 use Rattle.office_map.specs.PlanValue.{are_neighbours}
-use Rattle.office_map.proofs.Ranges.{number_kept, number_left}
+use Rattle.office_map.proofs.FilteredRanges.{number_kept, number_left}
 use Rattle.office_map.proofs.index.neighbours.Goals as goal
 use Rattle.office_map.proofs.index.neighbours.Goals.{then-are_neighbours+in_ok-push, else-are_neighbours}
 

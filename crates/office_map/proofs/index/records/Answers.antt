@@ -1,6 +1,6 @@
 use Rattle.std.proofs.Common.{◌∙◌, ap}
 use Rattle.office_map.specs.PlanValue.{is_end}
-use Rattle.office_map.proofs.Ranges.{number_kept, number_left}
+use Rattle.office_map.proofs.FilteredRanges.{number_kept, number_left}
 use Rattle.office_map.proofs.index.records.Goals as goal
 use Rattle.office_map.proofs.index.records.Goals.{then-has_end+in_ok-push, else-has_end}
 

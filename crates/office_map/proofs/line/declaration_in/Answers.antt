@@ -1,5 +1,5 @@
 use Rattle.std.proofs.Common.{arith, sym}
-use Rattle.office_map.proofs.Words.{declares_nothing}
+use Rattle.office_map.proofs.DeclarationWords.{declares_nothing}
 use Rattle.office_map.proofs.line.declaration_in.Goals as goal
 
 pub returns-in_default : goal.returns-in_default

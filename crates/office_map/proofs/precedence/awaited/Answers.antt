@@ -1,5 +1,5 @@
 use Rattle.std.proofs.Common.{◌≡◌, length, sym, ap, arith}
-use Rattle.office_map.proofs.Orders.{none_awaited}
+use Rattle.office_map.proofs.LeastFirstOrders.{none_awaited}
 use Rattle.office_map.proofs.precedence.awaited.Goals as goal
 
 pub returns : goal.returns

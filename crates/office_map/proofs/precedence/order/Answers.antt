@@ -1,7 +1,8 @@
 use Rattle.std.proofs.Common.{◌≡◌, ◌∷◌, [], ◌++◌, ◌<◌, true, length, sym, ap, subst, arith, List, ℕ, length-append}
-use Rattle.office_map.specs.Precedence.{IsNext, is_among}
-use Rattle.office_map.proofs.Orders.{IsBegun, begun_more, begun_fits, whole}
+use Rattle.office_map.specs.Precedence.{IsNext}
+use Rattle.office_map.proofs.LeastFirstOrders.{IsBegun, begun_more, begun_fits, whole}
 use Rattle.office_map.proofs.precedence.order.Goals as goal
+use Rattle.bottle_values.specs.Lists.{is_among}
 
 pub loop-office-smaller : goal.loop-office-smaller
 loop-office-smaller c =

@@ -1,5 +1,5 @@
 use Rattle.std.proofs.Common.{◌-◌, length}
-use Rattle.office_map.proofs.Orders.{IsBegun}
+use Rattle.office_map.proofs.LeastFirstOrders.{IsBegun}
 use Rattle.office_map.proofs.precedence.order.Given as goal
 
 abbrev pub invariant-loop-office : goal.invariant-loop-office

@@ -2,11 +2,11 @@ use Rattle.std.proofs.Common.{◌≡◌, ◌+◌, ◌<◌, ◌^◌, length, Resu
 use Rattle.office_map.specs.Text.{statements_from, lines}
 use Rattle.office_map.specs.PlanText.{read_lines}
 use Rattle.office_map.specs.PlanValue.{PlanValue}
-use Rattle.office_map.specs.declared.fault.Refusal.{Refusal}
+use Rattle.office_map.specs.declared.fault.PlanRefusal.{PlanRefusal}
 use Rattle.office_map.proofs.read.read_lines.Given as goal
 
 -- what is left, read on the plan so far, is what all of it is on the first
-pub record Reads (left all : Result PlanValue Refusal) (room : ℕ) : Type 0 where
+pub record Reads (left all : Result PlanValue PlanRefusal) (room : ℕ) : Type 0 where
   pub same : left ≡ all
   pub fits : room < 2 ^ 64
 

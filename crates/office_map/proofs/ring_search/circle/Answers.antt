@@ -1,7 +1,8 @@
 use Rattle.std.proofs.Common.{◌≡◌, ◌∙◌, ◌∷◌, length, get_or, sym, ap, subst, arith, List, ℕ, false}
-use Rattle.office_map.specs.Precedence.{is_among, IsCircle}
-use Rattle.office_map.proofs.Circles.{IsPath, path_more, path_fits, circle_closed}
+use Rattle.office_map.specs.Precedence.{IsCircle}
+use Rattle.office_map.proofs.Rings.{IsPath, path_more, path_fits, circle_closed}
 use Rattle.office_map.proofs.ring_search.circle.Goals as goal
+use Rattle.bottle_values.specs.Lists.{is_among}
 
 pub loop-path-smaller : goal.loop-path-smaller
 loop-path-smaller c =

@@ -1,5 +1,5 @@
 use Rattle.std.proofs.Common.{◌-◌, length}
-use Rattle.office_map.proofs.Circles.{IsPath}
+use Rattle.office_map.proofs.Rings.{IsPath}
 use Rattle.office_map.proofs.ring_search.circle.Given as goal
 
 abbrev pub invariant-loop-path : goal.invariant-loop-path

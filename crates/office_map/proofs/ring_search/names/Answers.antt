@@ -1,7 +1,7 @@
 use Rattle.std.proofs.Common.{◌∙◌, ap, sym, map, Some}
 use Rattle.std.specs.String.{string_bytes}
 use Rattle.office_map.specs.PlanValue.{office_name_of}
-use Rattle.office_map.proofs.Circles.{mapped_more}
+use Rattle.office_map.proofs.Rings.{mapped_more}
 use Rattle.office_map.proofs.ring_search.names.Goals as goal
 
 pub loop-office-preserved : goal.loop-office-preserved

@@ -1,7 +1,7 @@
 use Rattle.std.proofs.Common.{◌≡◌, ◌∙◌, ◌++◌, ◌<◌, ◌≤◌, All, length, get_or, take, drop, sym, ap, subst, arith, List, ℕ, map}
 use Rattle.office_map.specs.PlanValue.{office_name_of}
 use Rattle.office_map.specs.Precedence.{IsRing}
-use Rattle.office_map.proofs.Circles.{turned_ring}
+use Rattle.office_map.proofs.Rings.{turned_ring}
 use Rattle.office_map.proofs.ring_search.ring_from.Goals as goal
 
 pub returns : goal.returns

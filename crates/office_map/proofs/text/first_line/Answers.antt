@@ -1,5 +1,5 @@
 use Rattle.std.proofs.Common.{arith}
-use Rattle.office_map.proofs.Lines.{lines_cut, lines_whole}
+use Rattle.office_map.proofs.FirstLine.{lines_cut, lines_whole}
 use Rattle.office_map.proofs.text.first_line.Goals as goal
 
 pub returns-then-at-text-clause-cut : goal.returns-then-at-text-clause-cut

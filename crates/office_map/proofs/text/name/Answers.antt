@@ -1,7 +1,7 @@
 use Rattle.std.proofs.Common.{◌≡◌, ◌∙◌, ap, Some, sym}
 use Rattle.std.specs.Option.{option_copied}
 use Rattle.office_map.specs.Text.{name_of}
-use Rattle.office_map.proofs.Names.{name_is_text, text_of}
+use Rattle.office_map.proofs.AsciiNames.{name_is_text, text_of}
 use Rattle.office_map.proofs.text.name.Goals as goal
 
 pub returns-then-is_name : goal.returns-then-is_name

@@ -1,5 +1,5 @@
 use Rattle.std.proofs.Common.{◌∙◌, ◌==◌}
-use Rattle.office_map.proofs.Lines.{first_place}
+use Rattle.office_map.proofs.FirstLine.{first_place}
 use Rattle.office_map.proofs.text.place_of.Goals as goal
 
 pub returns : goal.returns

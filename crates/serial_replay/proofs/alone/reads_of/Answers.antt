@@ -1,6 +1,6 @@
 use Rattle.std.proofs.Common.{◌∙◌, sym}
 use Rattle.serial_replay.proofs.alone.reads_of.Goals as goal
-use Rattle.serial_replay.proofs.Slots as slots
+use Rattle.serial_replay.proofs.RecordSlots as slots
 
 pub loop-i-preserved : goal.loop-i-preserved
 loop-i-preserved c =

@@ -1,6 +1,6 @@
 use Rattle.std.proofs.Common.{◌≡◌, map, take}
 use Rattle.session_language.specs.Meaning.{slot_of}
-use Rattle.serial_replay.specs.Walk as walk
+use Rattle.serial_replay.specs.refinement.WalkRefinement as walk
 use Rattle.serial_replay.proofs.alone.slots_of.Given as goal
 
 abbrev pub invariant-loop-id : goal.invariant-loop-id

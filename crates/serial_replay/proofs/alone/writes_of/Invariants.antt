@@ -1,6 +1,6 @@
 use Rattle.std.proofs.Common.{◌≡◌, ◌++◌, map, drop}
 use Rattle.session_language.specs.Meaning.{writes_of}
-use Rattle.serial_replay.specs.Walk.{slot_of}
+use Rattle.serial_replay.specs.refinement.WalkRefinement.{slot_of}
 use Rattle.serial_replay.proofs.alone.writes_of.Given as goal
 
 -- the writes so far, and those of the slots that are left, are all of them

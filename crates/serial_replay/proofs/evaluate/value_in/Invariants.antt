@@ -1,6 +1,6 @@
 use Rattle.std.proofs.Common.{◌≡◌, drop, map}
 use Rattle.session_language.specs.Meaning.{value_in}
-use Rattle.serial_replay.specs.Walk.{slot_of}
+use Rattle.serial_replay.specs.refinement.WalkRefinement.{slot_of}
 use Rattle.serial_replay.proofs.evaluate.value_in.Given as goal
 
 abbrev pub invariant-loop-slot : goal.invariant-loop-slot

@@ -1,7 +1,7 @@
 use Rattle.std.proofs.Common.{length}
 use Rattle.session_language.specs.Needs.{needs_of}
 use Rattle.serial_replay.proofs.replay.ending_on.Goals as goal
-use Rattle.serial_replay.proofs.Tables as tables
+use Rattle.serial_replay.proofs.ValueTables as tables
 
 pub returns : goal.returns
 returns c = λ m t.

@@ -2,7 +2,7 @@ use Rattle.std.proofs.Common.{◌≡◌, ◌<◌, ◌+◌, length, take, get_or,
 use Rattle.std.proofs.Math.ListN.{set}
 use Rattle.serial_replay.specs.Serial.{start_map, map_of}
 use Rattle.serial_replay.proofs.replay.serial.Goals as goal
-use Rattle.serial_replay.proofs.Tables as tables
+use Rattle.serial_replay.proofs.ValueTables as tables
 
 pub loop-program-preserved : goal.loop-program-preserved
 loop-program-preserved c =

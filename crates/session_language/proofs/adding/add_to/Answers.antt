@@ -1,13 +1,13 @@
 use Rattle.std.proofs.Common.{rules, ◌≡◌, ◌∙◌, refl, sym, ap, map, length, arith, ◌++◌, ◌∷◌, [], Ok}
 use Rattle.std.specs.String.{string_bytes}
 use Rattle.std.proofs.lemmas.List.{map_push, length-map}
-use Rattle.session_language.specs.Shape.{command_of, block_from}
+use Rattle.session_language.specs.refinement.TreeOfStatements.{command_of, block_from}
 use Rattle.session_language.specs.Needs.{needs_of}
-use Rattle.session_language.specs.Spoken.{seen_spoken}
-use Rattle.session_language.specs.Drafts.{parts}
+use Rattle.session_language.specs.refinement.ResolvedStatements.{seen_spoken}
+use Rattle.session_language.specs.refinement.ReaderRefinement.{parts}
 use Rattle.session_language.specs.Reading.{command_in}
-use Rattle.session_language.proofs.Needed.{needs_added}
-use Rattle.session_language.proofs.Added.{too_many_records, too_many_variables, is_added}
+use Rattle.session_language.proofs.needed_records.Append.{needs_added}
+use Rattle.session_language.proofs.session_reading.AddStatement.{too_many_records, too_many_variables, is_added}
 use Rattle.session_language.proofs.adding.add_to.Goals as goal
 
 pub returns-then-len-gt-MOST_RECORDS-clause-told : goal.returns-then-len-gt-MOST_RECORDS-clause-told

@@ -1,6 +1,6 @@
 use Rattle.std.proofs.Common.{rules}
 use Rattle.session_language.specs.declared.tree.Statement.TheViews.{the_lemmas}
-use Rattle.session_language.proofs.Rows.{row_block_is}
+use Rattle.session_language.proofs.TreeErasure.{row_block_is}
 use Rattle.session_language.proofs.copying.+copy.Goals as goal
 
 pub copy_statement-returns-in_ok-body-in-If : goal.copy_statement-returns-in_ok-body-in-If

@@ -1,5 +1,5 @@
 use Rattle.std.proofs.Common.{◌≡◌, map, take}
-use Rattle.session_language.specs.Shape.{command_of}
+use Rattle.session_language.specs.refinement.TreeOfStatements.{command_of}
 use Rattle.session_language.proofs.copying.+copy.Given as goal
 
 abbrev pub invariant-copy_block-loop-statement : goal.invariant-copy_block-loop-statement

@@ -1,4 +1,4 @@
-use Rattle.session_language.proofs.Lengths.{ends_within}
+use Rattle.session_language.proofs.session_measures.LengthWithinCost.{ends_within}
 use Rattle.session_language.proofs.laws.ends_within_its_cost.Goals as goal
 
 pub returns : goal.returns

@@ -1,4 +1,4 @@
-use Rattle.session_language.proofs.Lawful.{by_grammar}
+use Rattle.session_language.proofs.LawProofs.{by_grammar}
 use Rattle.session_language.proofs.laws.reads_the_grammar.Goals as goal
 
 pub returns : goal.returns

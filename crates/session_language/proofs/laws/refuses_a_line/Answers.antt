@@ -1,4 +1,4 @@
-use Rattle.session_language.proofs.Lawful.{a_line}
+use Rattle.session_language.proofs.LawProofs.{a_line}
 use Rattle.session_language.proofs.laws.refuses_a_line.Goals as goal
 
 pub returns : goal.returns

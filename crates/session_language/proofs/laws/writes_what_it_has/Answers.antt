@@ -1,4 +1,4 @@
-use Rattle.session_language.proofs.Lawful.{what_it_has}
+use Rattle.session_language.proofs.LawProofs.{what_it_has}
 use Rattle.session_language.proofs.laws.writes_what_it_has.Goals as goal
 
 pub returns : goal.returns

@@ -1,9 +1,9 @@
 use Rattle.std.proofs.Common.{◌≡◌, rules, arith}
 use Rattle.session_language.specs.Tree.{When, Choice, Loop}
-use Rattle.session_language.specs.Shape.{test_of, command_of, block_of}
+use Rattle.session_language.specs.refinement.TreeOfStatements.{test_of, command_of, block_of}
 use Rattle.session_language.specs.declared.tree.Statement.TheViews.{the_lemmas}
-use Rattle.session_language.proofs.Rows.{row_block_is}
-use Rattle.session_language.proofs.Capped.{capped_gives}
+use Rattle.session_language.proofs.TreeErasure.{row_block_is}
+use Rattle.session_language.proofs.session_measures.Saturation.{capped_gives}
 use Rattle.session_language.proofs.measures.+gives.Goals as goal
 
 pub gives-returns-in-If : goal.gives-returns-in-If

@@ -1,5 +1,5 @@
 use Rattle.std.proofs.Common.{◌≡◌, ◌≤◌, ◌+◌, min, drop}
-use Rattle.session_language.specs.Shape.{block_of}
+use Rattle.session_language.specs.refinement.TreeOfStatements.{block_of}
 use Rattle.session_language.specs.Measures.{block_gives}
 use Rattle.session_language.proofs.measures.+gives.Given as goal
 

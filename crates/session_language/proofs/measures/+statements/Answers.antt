@@ -1,8 +1,8 @@
 use Rattle.std.proofs.Common.{◌≡◌, rules, arith}
 use Rattle.session_language.specs.Tree.{When, Choice, Loop}
-use Rattle.session_language.specs.Shape.{test_of, command_of, block_of}
+use Rattle.session_language.specs.refinement.TreeOfStatements.{test_of, command_of, block_of}
 use Rattle.session_language.specs.declared.tree.Statement.TheViews.{the_lemmas}
-use Rattle.session_language.proofs.Rows.{row_block_is}
+use Rattle.session_language.proofs.TreeErasure.{row_block_is}
 use Rattle.session_language.proofs.measures.+statements.Goals as goal
 
 pub count-returns-in-If : goal.count-returns-in-If

@@ -1,5 +1,5 @@
 use Rattle.std.proofs.Common.{ap, arith, length}
-use Rattle.session_language.proofs.Capped.{nodes_are}
+use Rattle.session_language.proofs.session_measures.Saturation.{nodes_are}
 use Rattle.session_language.proofs.measures.nodes.Goals as goal
 
 pub returns-then-count-lt10001 : goal.returns-then-count-lt10001

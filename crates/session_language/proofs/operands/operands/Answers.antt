@@ -1,4 +1,4 @@
-use Rattle.session_language.proofs.Back.{operands_are}
+use Rattle.session_language.proofs.expressions.PostfixSplit.{operands_are}
 use Rattle.session_language.proofs.operands.operands.Goals as goal
 
 pub returns-clause-apart : goal.returns-clause-apart

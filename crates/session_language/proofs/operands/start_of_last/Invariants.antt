@@ -1,7 +1,7 @@
 use Rattle.std.proofs.Common.{◌≡◌, ◌≤◌, ◌+◌, length, reverse, take}
 use Rattle.std.proofs.Common.{ℕ, List}
 use Rattle.session_language.specs.declared.node.Node.{Node}
-use Rattle.session_language.specs.Splits.{after_back}
+use Rattle.session_language.specs.refinement.PostfixSplit.{after_back}
 use Rattle.session_language.proofs.operands.start_of_last.Given as goal
 
 -- going on from here leaves what going back from the end does

@@ -1,12 +1,12 @@
 use Rattle.std.proofs.Common.{◌≡◌, ◌+◌, ◌<◌, ◌^◌, length, Result, ℕ}
 use Rattle.office_map.specs.Text.{statements_from, lines}
 use Rattle.session_language.specs.Reading.{Reading, read_lines}
-use Rattle.session_language.specs.Drafts.{reading_of}
-use Rattle.session_language.specs.declared.fault.Refusal.{Refusal}
+use Rattle.session_language.specs.refinement.ReaderRefinement.{reading_of}
+use Rattle.session_language.specs.declared.fault.SessionRefusal.{SessionRefusal}
 use Rattle.session_language.proofs.read.read_lines.Given as goal
 
 -- what is left, read on what was read so far, is what all of it is from the first
-pub record Reads (left all : Result Reading Refusal) (room : ℕ) : Type 0 where
+pub record Reads (left all : Result Reading SessionRefusal) (room : ℕ) : Type 0 where
   pub same : left ≡ all
   pub fits : room < 2 ^ 64
 

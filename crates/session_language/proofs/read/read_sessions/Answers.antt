@@ -1,6 +1,6 @@
 use Rattle.std.proofs.Common.{rules, ◌≡◌, Ok}
 use Rattle.session_language.specs.Reading.{sessions_of}
-use Rattle.session_language.proofs.Fitting as fitting
+use Rattle.session_language.proofs.session_reading.ProgramsFit as fitting
 use Rattle.session_language.proofs.read.read_sessions.Goals as goal
 
 meant : (c : goal.After-into_done) → sessions_of c.args.plan.now c.args.text.now ≡ Ok c.into_done.result.items

@@ -2,10 +2,10 @@ use Rattle.std.proofs.Common.{◌≡◌, rules, arith, map}
 use Rattle.std.specs.String.{string_bytes}
 use Rattle.session_language.specs.Tree.{When, Choice, Loop}
 use Rattle.session_language.specs.Text.{wide_words}
-use Rattle.session_language.specs.Shape.{test_of, command_of, block_of}
+use Rattle.session_language.specs.refinement.TreeOfStatements.{test_of, command_of, block_of}
 use Rattle.session_language.specs.declared.tree.Statement.TheViews.{the_lemmas}
-use Rattle.session_language.proofs.Rows.{row_block_is}
-use Rattle.session_language.proofs.Weighed.{when_bytes, choice_bytes, loop_bytes}
+use Rattle.session_language.proofs.TreeErasure.{row_block_is}
+use Rattle.session_language.proofs.session_measures.SizeStep.{when_bytes, choice_bytes, loop_bytes}
 use Rattle.session_language.proofs.sizes.+size.Goals as goal
 
 pub statement_size-returns-in_ok-body-in-If : goal.statement_size-returns-in_ok-body-in-If

@@ -1,5 +1,5 @@
 use Rattle.std.proofs.Common.{rules}
-use Rattle.session_language.proofs.Weighed.{operated}
+use Rattle.session_language.proofs.session_measures.SizeStep.{operated}
 use Rattle.session_language.proofs.sizes.with_operator.Goals as goal
 
 pub returns : goal.returns

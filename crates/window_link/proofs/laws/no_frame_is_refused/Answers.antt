@@ -1,4 +1,4 @@
-use Rattle.window_link.proofs.Runs.{none_refused}
+use Rattle.window_link.proofs.RunsExtended.{none_refused}
 use Rattle.window_link.proofs.laws.no_frame_is_refused.Goals as goal
 
 pub returns : goal.returns

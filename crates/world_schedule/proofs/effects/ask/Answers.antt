@@ -2,10 +2,10 @@ use Rattle.std.proofs.Common.{◌≡◌, ◌<◌, ℕ, List, false, length, map,
 use Rattle.std.proofs.lemmas.List.{length-map}
 use Rattle.frame_codec.specs.declared.message.Msg.TheVariants as msg
 use Rattle.world_schedule.specs.declared.tables.Place.{Place}
-use Rattle.world_schedule.specs.Tables.{OfficeTable, line_at, line_table, office_table, office_in}
-use Rattle.world_schedule.specs.Effects.{line_sent}
-use Rattle.world_schedule.proofs.Ends.{has_peer}
-use Rattle.world_schedule.proofs.Effected.{asked, place_is, end_within}
+use Rattle.world_schedule.specs.refinement.Tables.{OfficeTable, line_at, line_table, office_table, office_in}
+use Rattle.world_schedule.specs.refinement.Effects.{line_sent}
+use Rattle.office_map.proofs.RecordEnds.{has_peer}
+use Rattle.world_schedule.proofs.EffectsRefine.{asked, place_is, end_within}
 use Rattle.world_schedule.proofs.effects.ask.Goals as goal
 
 pub returns-clause-office : goal.returns-clause-office

@@ -2,8 +2,8 @@ use Rattle.std.proofs.Common.{map, ap, ◌∙◌, sym}
 use Rattle.std.specs.Prelude.{zip}
 use Rattle.session_language.specs.Needs.{needs_of}
 use Rattle.world_schedule.specs.Offices as offices
-use Rattle.world_schedule.specs.Tables.{phase_of}
-use Rattle.world_schedule.proofs.Effected.{reads_zip}
+use Rattle.world_schedule.specs.refinement.Tables.{phase_of}
+use Rattle.world_schedule.proofs.EffectsRefine.{reads_zip}
 use Rattle.world_schedule.proofs.effects.begun.Goals as goal
 
 pub returns-in-Thirsty-clause-phase : goal.returns-in-Thirsty-clause-phase

@@ -3,12 +3,12 @@ use Rattle.std.proofs.lemmas.List.{length-map}
 use Rattle.bottle_values.specs.declared.Value.{Value}
 use Rattle.frame_codec.specs.declared.message.Msg.TheVariants as msg
 use Rattle.world_schedule.specs.declared.tables.Place.{Place}
-use Rattle.world_schedule.specs.Tables.{OfficeTable, line_at, line_table, place_at, office_table, office_in}
-use Rattle.world_schedule.specs.Ends.{peer}
-use Rattle.world_schedule.specs.Effects.{line_sent}
-use Rattle.world_schedule.proofs.Ends.{has_peer}
-use Rattle.world_schedule.proofs.Effected.{given, place_is, end_within}
+use Rattle.world_schedule.specs.refinement.Tables.{OfficeTable, line_at, line_table, place_at, office_table, office_in}
+use Rattle.world_schedule.specs.refinement.Effects.{line_sent}
+use Rattle.office_map.proofs.RecordEnds.{has_peer}
+use Rattle.world_schedule.proofs.EffectsRefine.{given, place_is, end_within}
 use Rattle.world_schedule.proofs.effects.give.Goals as goal
+use Rattle.office_map.specs.PlanValue.{peer}
 
 pub returns-clause-office : goal.returns-clause-office
 returns-clause-office c =

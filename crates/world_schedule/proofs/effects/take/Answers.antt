@@ -1,11 +1,11 @@
 use Rattle.std.proofs.Common.{rules, ℕ, ap, ◌∙◌, set}
-use Rattle.world_schedule.specs.Tables.{OfficeTable, line_at, office_table}
-use Rattle.world_schedule.specs.Effects.{line_taken}
-use Rattle.world_schedule.proofs.Effected.{line_changed, lines_kept, on_err}
+use Rattle.world_schedule.specs.refinement.Tables.{OfficeTable, line_at, office_table}
+use Rattle.world_schedule.specs.refinement.Effects.{line_taken}
+use Rattle.world_schedule.proofs.EffectsRefine.{line_changed, lines_kept, on_err}
 use Rattle.world_schedule.proofs.effects.take.Goals as goal
 
-pub returns-in_err-take_on-clause-office_kept : goal.returns-in_err-take_on-clause-office_kept
-returns-in_err-take_on-clause-office_kept c =
+pub returns-in_err-take_on-clause-office_unchanged : goal.returns-in_err-take_on-clause-office_unchanged
+returns-in_err-take_on-clause-office_unchanged c =
     let t : OfficeTable = office_table c.args.office.now in
     on_err c.from_residual.result (ap (λ l. record { places = t.places; lines = l; phase = t.phase; queue = t.queue; tickets = t.tickets })
     (lines_kept c.args.office.now.lines.items c.index.result c.index_mut.result.now c.take_on.new.line c.index_mut.ensures.value c.in_err-take_on.ensures.kept))

@@ -1,5 +1,5 @@
 use Rattle.std.proofs.Common.{◌≡◌, map, take}
-use Rattle.world_schedule.specs.Tables.{values_in}
+use Rattle.world_schedule.specs.refinement.Tables.{values_in}
 use Rattle.world_schedule.proofs.effects.values_of.Given as goal
 
 abbrev pub invariant-loop-r : goal.invariant-loop-r

@@ -1,9 +1,9 @@
 use Rattle.std.proofs.Common.{rules, ◌<◌, List, length, refl, ap, ◌∙◌}
 use Rattle.bottle_values.specs.Maps.{put}
 use Rattle.world_schedule.specs.declared.tables.Place.{Place}
-use Rattle.world_schedule.specs.Tables.{values_in}
-use Rattle.world_schedule.proofs.Tabled.{values_put}
-use Rattle.world_schedule.proofs.Effected.{place_is, same_things}
+use Rattle.world_schedule.specs.refinement.Tables.{values_in}
+use Rattle.world_schedule.proofs.TableUpdates.{values_put}
+use Rattle.world_schedule.proofs.EffectsRefine.{place_is, same_things}
 use Rattle.world_schedule.proofs.effects.write.Goals as goal
 
 pub returns-clause-things : goal.returns-clause-things

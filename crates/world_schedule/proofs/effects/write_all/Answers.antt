@@ -1,8 +1,8 @@
 use Rattle.std.proofs.Common.{◌+◌, ℕ, drop, sym, ap, ◌∙◌}
 use Rattle.bottle_values.specs.declared.Value.{Value}
 use Rattle.bottle_values.specs.Maps.{put, write_all}
-use Rattle.world_schedule.specs.Tables.{values_in}
-use Rattle.world_schedule.proofs.Effected.{write_next}
+use Rattle.world_schedule.specs.refinement.Tables.{values_in}
+use Rattle.world_schedule.proofs.EffectsRefine.{write_next}
 use Rattle.world_schedule.proofs.effects.write_all.Goals as goal
 
 pub loop-r-preserved : goal.loop-r-preserved

@@ -1,7 +1,7 @@
 use Rattle.std.proofs.Common.{◌≡◌, length, drop}
 use Rattle.bottle_values.specs.Maps.{write_all}
-use Rattle.world_schedule.specs.Tables.{values_in}
-use Rattle.world_schedule.specs.Effects.{SameThings}
+use Rattle.world_schedule.specs.refinement.Tables.{values_in}
+use Rattle.world_schedule.specs.refinement.Effects.{SameThings}
 use Rattle.world_schedule.proofs.effects.write_all.Given as goal
 
 abbrev pub invariant-loop-r : goal.invariant-loop-r

@@ -1,7 +1,7 @@
 use Rattle.std.proofs.Common.{◌≡◌, ◌&&◌, drop}
 use Rattle.std.specs.List.{list_all}
 use Rattle.office_map.specs.PlanValue.{is_end}
-use Rattle.world_schedule.specs.Tables.{place_at}
+use Rattle.world_schedule.specs.refinement.Tables.{place_at}
 use Rattle.world_schedule.proofs.guards.has_all.Given as goal
 
 abbrev pub invariant-loop-r : goal.invariant-loop-r

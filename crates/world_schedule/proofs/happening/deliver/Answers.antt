@@ -2,8 +2,8 @@ use Rattle.std.proofs.Common.{rules, ◌≡◌, ◌<◌, ◌-◌, suc, Some, len
 use Rattle.std.specs.Prelude.{slice_get}
 use Rattle.std.proofs.lemmas.Option.{slice_get_read}
 use Rattle.world_schedule.specs.declared.message.Message.{Message}
-use Rattle.world_schedule.specs.Tables.{IsWhole, IsAddressed}
-use Rattle.world_schedule.proofs.Kept.{take_happened, next_within}
+use Rattle.world_schedule.specs.refinement.Tables.{IsWhole, IsAddressed}
+use Rattle.world_schedule.proofs.TableInvariant.{take_happened, next_within}
 use Rattle.world_schedule.proofs.happening.deliver.Goals as goal
 
 pub take-requires-clause-place : goal.take-requires-clause-place

@@ -1,6 +1,6 @@
 use Rattle.std.proofs.Common.{rules, sym, subst}
-use Rattle.world_schedule.specs.Tables.{IsWhole}
-use Rattle.world_schedule.proofs.Kept.{rule_happened, writes_fit}
+use Rattle.world_schedule.specs.refinement.Tables.{IsWhole}
+use Rattle.world_schedule.proofs.TableInvariant.{rule_happened, writes_fit}
 use Rattle.world_schedule.proofs.happening.do_rule.Goals as goal
 
 pub try_rule-requires-clause-within : goal.try_rule-requires-clause-within

@@ -1,7 +1,7 @@
 use Rattle.std.proofs.Common.{rules, ◌≡◌, true, sym, subst}
 use Rattle.world_schedule.specs.Offices.{is_ours}
-use Rattle.world_schedule.specs.Tables.{IsWhole}
-use Rattle.world_schedule.proofs.Kept.{submit_happened}
+use Rattle.world_schedule.specs.refinement.Tables.{IsWhole}
+use Rattle.world_schedule.proofs.TableInvariant.{submit_happened}
 use Rattle.world_schedule.proofs.happening.submit.Goals as goal
 
 pub returns-clause-world : goal.returns-clause-world

@@ -1,4 +1,4 @@
-use Rattle.world_schedule.proofs.Serial.{bottles_are_serial}
+use Rattle.world_schedule.proofs.InvariantGivesLaws.{bottles_are_serial}
 use Rattle.world_schedule.proofs.laws.bottles_are_serial.Goals as goal
 
 pub returns : goal.returns

@@ -1,4 +1,4 @@
-use Rattle.world_schedule.proofs.Serial.{sessions_are_serial}
+use Rattle.world_schedule.proofs.InvariantGivesLaws.{sessions_are_serial}
 use Rattle.world_schedule.proofs.laws.sessions_are_serial.Goals as goal
 
 pub returns : goal.returns

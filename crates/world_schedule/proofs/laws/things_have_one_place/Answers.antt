@@ -1,4 +1,4 @@
-use Rattle.world_schedule.proofs.Serial.{things_have_one_place}
+use Rattle.world_schedule.proofs.InvariantGivesLaws.{things_have_one_place}
 use Rattle.world_schedule.proofs.laws.things_have_one_place.Goals as goal
 
 pub returns : goal.returns

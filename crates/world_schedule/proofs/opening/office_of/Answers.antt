@@ -2,9 +2,9 @@ use Rattle.std.proofs.Common.{length, map, refl, sym, ap, ◌∙◌}
 use Rattle.std.proofs.lemmas.List.{length-map}
 use Rattle.std.proofs.lemmas.List.FromFn.{length-map-range_with_len}
 use Rattle.world_schedule.specs.Offices.{Tranquil}
-use Rattle.world_schedule.specs.Tables.{line_table}
-use Rattle.world_schedule.specs.Start.{start_place, start_line}
-use Rattle.world_schedule.proofs.Opened.{office_starts}
+use Rattle.world_schedule.specs.refinement.Tables.{line_table}
+use Rattle.world_schedule.specs.refinement.StartTables.{start_place, start_line}
+use Rattle.world_schedule.proofs.OpeningRefines.{office_starts}
 use Rattle.world_schedule.proofs.opening.office_of.Goals as goal
 
 pub returns-clause-whole : goal.returns-clause-whole

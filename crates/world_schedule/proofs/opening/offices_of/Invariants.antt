@@ -1,7 +1,7 @@
 use Rattle.std.proofs.Common.{◌≡◌, length}
 use Rattle.std.specs.Prelude.{All}
-use Rattle.world_schedule.specs.Tables.{IsWhole}
-use Rattle.world_schedule.proofs.Opened.{AreOpened}
+use Rattle.world_schedule.specs.refinement.Tables.{IsWhole}
+use Rattle.world_schedule.proofs.OpeningRefines.{AreOpened}
 use Rattle.world_schedule.proofs.opening.offices_of.Given as goal
 
 abbrev pub invariant-loop-a : goal.invariant-loop-a

@@ -1,6 +1,6 @@
 use Rattle.std.proofs.Common.{◌≡◌, map}
 use Rattle.std.specs.List.{range_with_len}
-use Rattle.world_schedule.specs.Start.{start_place}
+use Rattle.world_schedule.specs.refinement.StartTables.{start_place}
 use Rattle.world_schedule.proofs.opening.places_of.Given as goal
 
 abbrev pub invariant-loop-r : goal.invariant-loop-r

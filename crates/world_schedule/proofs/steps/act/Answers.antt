@@ -1,9 +1,9 @@
 use Rattle.std.proofs.Common.{sym, subst}
 use Rattle.std.proofs.lemmas.List.{append-nil}
 use Rattle.world_schedule.specs.Offices.{Office}
-use Rattle.world_schedule.specs.Tables.{office_table, office_in}
-use Rattle.world_schedule.specs.Effects.{Acts}
-use Rattle.world_schedule.proofs.Effected.{on_ok, on_both}
+use Rattle.world_schedule.specs.refinement.Tables.{office_table, office_in}
+use Rattle.world_schedule.specs.refinement.Effects.{Acts}
+use Rattle.world_schedule.proofs.EffectsRefine.{on_ok, on_both}
 use Rattle.world_schedule.proofs.steps.act.Goals as goal
 
 pub returns-in-Drink-clause-acts : goal.returns-in-Drink-clause-acts

@@ -2,7 +2,7 @@ use Rattle.std.proofs.Common.{rules, ◌≡◌, ◌||◌, ◌+◌, false, nat_le
 use Rattle.std.specs.Prelude.{if◌then◌else◌}
 use Rattle.world_schedule.specs.declared.reply.Reply.TheVariants as reply
 use Rattle.world_schedule.specs.Offices as offices
-use Rattle.world_schedule.specs.Tables.{phase_of}
+use Rattle.world_schedule.specs.refinement.Tables.{phase_of}
 use Rattle.world_schedule.proofs.steps.submit.Goals as goal
 
 pub returns-clause-submits : goal.returns-clause-submits

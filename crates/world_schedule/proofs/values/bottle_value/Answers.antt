@@ -2,9 +2,9 @@ use Rattle.std.proofs.Common.{rules, ◌≡◌, ℕ, List, ap, ◌∙◌, arith,
 use Rattle.std.specs.Option.{unwrap_or}
 use Rattle.bottle_values.specs.declared.Value.{Value}
 use Rattle.world_schedule.specs.declared.tables.Office as code_office
-use Rattle.world_schedule.specs.Tables.{office_table}
-use Rattle.world_schedule.specs.Places.{value_in_tables}
-use Rattle.world_schedule.proofs.Found.{value_found, start_is}
+use Rattle.world_schedule.specs.refinement.Tables.{office_table}
+use Rattle.world_schedule.specs.refinement.BottleTables.{value_in_tables}
+use Rattle.world_schedule.proofs.BottleValueRefines.{value_found, start_is}
 use Rattle.world_schedule.proofs.values.bottle_value.Goals as goal
 
 pub returns : goal.returns

@@ -1,8 +1,8 @@
 use Rattle.std.proofs.Common.{map}
 use Rattle.world_schedule.specs.Worlds.{World}
-use Rattle.world_schedule.specs.Tables.{office_table, world_in}
-use Rattle.world_schedule.proofs.Happened.{inv_of}
-use Rattle.world_schedule.proofs.Serial.{values_in, places_in}
+use Rattle.world_schedule.specs.refinement.Tables.{office_table, world_in}
+use Rattle.world_schedule.proofs.StepRefines.{inv_of}
+use Rattle.world_schedule.proofs.InvariantGivesLaws.{values_in, places_in}
 use Rattle.world_schedule.proofs.world.is_serial.Goals as goal
 
 pub returns-clause-bottles : goal.returns-clause-bottles

@@ -1,11 +1,11 @@
 use Rattle.std.proofs.Common.{◌≡◌, ℕ, ap, ◌∙◌, ◌<◌, length, List, set, arith}
 use Rattle.std.specs.Prelude.{◌==◌}
 use Rattle.std.specs.List.{list_any}
-use Rattle.dining_core.specs.declared.place.Fork.TheVariants.{Clean}
-use Rattle.dining_core.specs.declared.place.Place.{Place}
+use Rattle.dining_core.specs.declared.shared_fork.Fork.TheVariants.{Clean}
+use Rattle.dining_core.specs.declared.shared_fork.SharedFork.{SharedFork}
 use Rattle.dining_core.specs.Diners.{with_fork}
-use Rattle.dining_core.specs.Tables.{TableValue, diner_of, place_at}
-use Rattle.dining_core.proofs.Placed.{fork_came, place_is, among_within}
+use Rattle.dining_core.specs.refinement.Tables.{TableValue, diner_of, place_at}
+use Rattle.dining_core.proofs.TableUpdates.{fork_came, place_is, among_within}
 use Rattle.dining_core.proofs.table.Table.got_fork.Goals as goal
 
 pub index_mut-requires : goal.index_mut-requires
@@ -14,7 +14,7 @@ index_mut-requires c =
 
 pub returns : goal.returns
 returns c =
-    let ps : List Place = c.self.inside.places.items in
+    let ps : List SharedFork = c.self.inside.places.items in
     let v : ℕ = c.args.v in
     let lt : v < length ps = among_within (length ps) c.self.inside.neighbours.items v c.self.invariant (ap (λ (t : TableValue). list_any (λ u. u == v) t.neighbours) c.self.view_is ∙ c.requires.ours) in
     let is : c.index_mut.result.now ≡ place_at ps v = place_is ps c.index.result v c.index_mut.result.now c.index.ensures lt c.index_mut.ensures.value in

@@ -1,8 +1,8 @@
 use Rattle.std.proofs.Common.{◌≡◌, ℕ, ap, ◌∙◌, length, List, sym, subst}
 use Rattle.std.specs.Prelude.{All, ◌<◌}
 use Rattle.std.proofs.lemmas.List.FromFn.{length-map-range_with_len}
-use Rattle.dining_core.specs.Tables.{start_place}
-use Rattle.dining_core.proofs.Opened.{table_starts}
+use Rattle.dining_core.specs.refinement.Tables.{start_place}
+use Rattle.dining_core.proofs.OpeningRefines.{table_starts}
 use Rattle.dining_core.proofs.table.Table.open.Goals as goal
 
 pub invariant_of-result : goal.invariant_of-result

@@ -1,8 +1,8 @@
 use Rattle.std.proofs.Common.{ap, ◌∙◌}
 use Rattle.std.specs.List.{list_all}
 use Rattle.drinking_core.specs.Drinkers.{is_served}
-use Rattle.drinking_core.specs.Bars.{BarValue, drinker_of}
-use Rattle.drinking_core.proofs.Sessions.{has_needed_is}
+use Rattle.drinking_core.specs.refinement.Bars.{BarValue, drinker_of}
+use Rattle.drinking_core.proofs.SessionUpdates.{has_needed_is}
 use Rattle.drinking_core.proofs.bar.Bar.has_needed.Goals as goal
 
 pub returns : goal.returns

@@ -1,6 +1,6 @@
 use Rattle.std.proofs.Common.{◌≡◌, ◌<◌, ℕ, List, length, sym, ◌∙◌, subst}
 use Rattle.std.specs.Prelude.{All}
-use Rattle.drinking_core.proofs.Opened.{bar_starts, kept_opening}
+use Rattle.drinking_core.proofs.OpeningRefines.{bar_starts, kept_opening}
 use Rattle.drinking_core.proofs.bar.Bar.open.Goals as goal
 
 pub invariant_of-result : goal.invariant_of-result

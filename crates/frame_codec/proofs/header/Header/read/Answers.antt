@@ -2,8 +2,8 @@ use Rattle.std.proofs.Common.{◌≡◌, drop, refl, sym, ◌∙◌, ap, arith, 
 use Rattle.std.proofs.lemmas.List.{take_rest}
 use Rattle.byteorder.specs.Endian.{big_number}
 use Rattle.frame_codec.specs.Header.{number_in, count_in}
-use Rattle.frame_codec.specs.Parts.{code_of}
-use Rattle.frame_codec.proofs.HeaderLemmas.{Opens, header_spelled, header_fault-number, header_fault-count, header_fault-none}
+use Rattle.frame_codec.specs.refinement.DecodedParts.{code_of}
+use Rattle.frame_codec.proofs.HeaderSpelling.{Opens, header_spelled, header_fault-number, header_fault-count, header_fault-none}
 use Rattle.frame_codec.proofs.header.Header.read.Goals as goal
 
 pub returns-then-not-admits-clause-fault : goal.returns-then-not-admits-clause-fault

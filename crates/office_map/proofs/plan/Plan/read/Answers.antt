@@ -1,5 +1,5 @@
 use Rattle.std.proofs.lemmas.Result.{err_from_is_err_and}
-use Rattle.office_map.proofs.Accepted.{complete_plan, refused_line}
+use Rattle.office_map.proofs.AcceptedPlans.{complete_plan, refused_line}
 use Rattle.office_map.specs.Consistency.{IsComplete}
 use Rattle.office_map.proofs.plan.Plan.read.Goals as goal
 

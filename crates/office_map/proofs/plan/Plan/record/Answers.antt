@@ -1,5 +1,5 @@
 use Rattle.std.proofs.Common.{◌<◌, length}
-use Rattle.office_map.proofs.Consistent.{record_ends}
+use Rattle.office_map.proofs.ConsistencyKept.{record_ends}
 use Rattle.office_map.proofs.plan.Plan.record.Goals as goal
 
 pub returns-clause-ends : goal.returns-clause-ends

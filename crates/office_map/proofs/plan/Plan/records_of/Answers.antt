@@ -2,7 +2,7 @@ use Rattle.std.proofs.Common.{◌≡◌, ◌<◌, ◌∙◌, length, arith, ap}
 use Rattle.std.specs.List.{range_with_len}
 use Rattle.std.proofs.lemmas.List.Elements.{filter_passes}
 use Rattle.office_map.specs.PlanValue.{is_end, records_of}
-use Rattle.office_map.proofs.Ranges.{length-index, index_at, kept_below}
+use Rattle.office_map.proofs.FilteredRanges.{length-index, index_at, kept_below}
 use Rattle.office_map.proofs.plan.Plan.records_of.Goals as goal
 
 pub index-requires-2 : goal.index-requires-2

@@ -3,7 +3,7 @@ use Rattle.std.specs.Str.{bytes_eq}
 use Rattle.std.specs.String.{string_bytes}
 use Rattle.std.proofs.lemmas.Map.Text.{text_keys}
 use Rattle.office_map.specs.declared.entries.RecordEntry.{RecordEntry}
-use Rattle.office_map.proofs.Positions.{position_push}
+use Rattle.office_map.proofs.FirstPosition.{position_push}
 use Rattle.office_map.proofs.records.RecordTable.push.Goals as goal
 
 pub invariant_of-self-2 : goal.invariant_of-self-2

@@ -1,10 +1,10 @@
 use Rattle.std.proofs.Common.{◌≡◌, arith, rules, length, Some}
-use Rattle.session_language.specs.Emit.{build_of, emit}
+use Rattle.session_language.specs.refinement.PostfixBuilder.{build_of, emit}
 use Rattle.session_language.specs.Lexer.{pieces_of}
 use Rattle.session_language.specs.Names.{scope_of, element_of}
 use Rattle.session_language.specs.Phrase.{token_of}
-use Rattle.session_language.proofs.Phrases.{begun, one_more, no_more, refused, accepted, goes_on}
-use Rattle.session_language.proofs.Rooms.{room_begun, room_after}
+use Rattle.session_language.proofs.expressions.PhraseLoop.{begun, one_more, no_more, refused, accepted, goes_on}
+use Rattle.session_language.proofs.expressions.CounterBounds.{room_begun, room_after}
 use Rattle.session_language.proofs.builder.Builder.phrase.Goals as goal
 
 pub loop-token-init : goal.loop-token-init

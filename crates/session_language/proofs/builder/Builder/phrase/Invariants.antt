@@ -1,9 +1,9 @@
 use Rattle.std.proofs.Common.{◌≤◌, length}
-use Rattle.session_language.specs.Emit.{build_of, HasRoomFor}
+use Rattle.session_language.specs.refinement.PostfixBuilder.{build_of, HasRoomFor}
 use Rattle.session_language.specs.Lexer.{pieces_of}
 use Rattle.session_language.specs.Names.{scope_of}
 use Rattle.session_language.specs.Phrase.{phrase_at}
-use Rattle.session_language.proofs.Phrases.{Going}
+use Rattle.session_language.proofs.expressions.PhraseLoop.{Going}
 use Rattle.session_language.proofs.builder.Builder.phrase.Given as goal
 
 abbrev pub invariant-loop-token : goal.invariant-loop-token

@@ -1,7 +1,7 @@
 use Rattle.std.proofs.Common.{◌∙◌, sym, ap, rules, Ok}
 use Rattle.session_language.specs.Names.{scope_of}
 use Rattle.session_language.specs.Lexer.{pieces_of}
-use Rattle.session_language.proofs.Speech.{demand_spoken}
+use Rattle.session_language.proofs.session_reading.ResolveNames.{demand_spoken}
 use Rattle.session_language.proofs.builder.Builder.speak_require.Goals as goal
 
 pub returns : goal.returns

@@ -1,9 +1,9 @@
 use Rattle.std.proofs.Common.{rules, map}
 use Rattle.std.specs.String.{string_bytes}
 use Rattle.std.proofs.lemmas.List.{length-map}
-use Rattle.session_language.specs.Shape.{command_of}
-use Rattle.session_language.specs.Spoken.{seen_spoken}
-use Rattle.session_language.proofs.Keeping.{declared_added}
+use Rattle.session_language.specs.refinement.TreeOfStatements.{command_of}
+use Rattle.session_language.specs.refinement.ResolvedStatements.{seen_spoken}
+use Rattle.session_language.proofs.session_reading.WellFormedness.{declared_added}
 use Rattle.session_language.proofs.draft.Draft.add.Goals as goal
 
 pub invariant_of-self-in_default : goal.invariant_of-self-in_default

@@ -1,9 +1,9 @@
 use Rattle.std.proofs.Common.{◌≤◌, rules, sym}
 use Rattle.session_language.specs.Measures.{block_statements, block_cost}
-use Rattle.session_language.specs.Shape.{block_of}
-use Rattle.session_language.specs.Drafts.{draft_of}
+use Rattle.session_language.specs.refinement.TreeOfStatements.{block_of}
+use Rattle.session_language.specs.refinement.ReaderRefinement.{draft_of}
 use Rattle.session_language.specs.Reading.{program_of}
-use Rattle.session_language.proofs.Bounded.{short_by_cost}
+use Rattle.session_language.proofs.session_measures.CostBoundsSize.{short_by_cost}
 use Rattle.session_language.proofs.draft.Draft.is_too_long.Goals as goal
 
 pub returns-then-cost-le-SHORT_COST : goal.returns-then-cost-le-SHORT_COST

@@ -4,8 +4,8 @@ use Rattle.std.specs.String.{string_bytes}
 use Rattle.std.proofs.lemmas.List.{length-map}
 use Rattle.session_language.specs.Lexer.{pieces_of}
 use Rattle.session_language.specs.Names.{scope_of}
-use Rattle.session_language.specs.Spoken.{seen_spoken}
-use Rattle.session_language.proofs.Keeping.{over_variables}
+use Rattle.session_language.specs.refinement.ResolvedStatements.{seen_spoken}
+use Rattle.session_language.proofs.session_reading.WellFormedness.{over_variables}
 use Rattle.session_language.proofs.draft.Draft.take.Goals as goal
 
 pub add-requires : goal.add-requires

@@ -1,7 +1,7 @@
 use Rattle.std.proofs.Common.{rules}
 use Rattle.std.specs.String.{string_bytes}
 use Rattle.session_language.specs.WellFormed.{IsWellFormed}
-use Rattle.session_language.proofs.RoundTrip.{reads_back, read_again}
+use Rattle.session_language.proofs.canonical.RoundTrip.{reads_back, read_again}
 use Rattle.session_language.proofs.program.Program.text.Goals as goal
 
 pub returns-clause-canonical : goal.returns-clause-canonical

@@ -1,7 +1,7 @@
 use Rattle.std.proofs.Common.{rules, ◌≡◌, ◌∷◌}
 use Rattle.session_language.specs.Lexer.{pieces_of, AWord}
-use Rattle.session_language.specs.Drafts.{reading_of}
-use Rattle.session_language.proofs.Speaking.{line_taken}
+use Rattle.session_language.specs.refinement.ReaderRefinement.{reading_of}
+use Rattle.session_language.proofs.session_reading.StatementStep.{line_taken}
 use Rattle.session_language.proofs.reader.Reader.take_line.Goals as goal
 
 pub returns : goal.returns

@@ -1,7 +1,7 @@
 use Rattle.std.proofs.Common.{rules, ◌≡◌, Some}
 use Rattle.session_language.specs.Lexer.{pieces_of}
-use Rattle.session_language.specs.Drafts.{draft_of, reading_of}
-use Rattle.session_language.proofs.Speaking.{left_open}
+use Rattle.session_language.specs.refinement.ReaderRefinement.{draft_of, reading_of}
+use Rattle.session_language.proofs.session_reading.StatementStep.{left_open}
 use Rattle.session_language.proofs.reader.Reader.take_statement.Goals as goal
 
 pub returns-in-Some : goal.returns-in-Some

@@ -1,7 +1,7 @@
 use Rattle.std.proofs.Common.{length, sym, ap, subst, arith}
 use Rattle.window_link.specs.Links.{LinkState}
-use Rattle.token_channel.proofs.Apart.{Apart, apart_none}
-use Rattle.token_channel.proofs.Bound.{few_places}
+use Rattle.token_channel.proofs.ThingsApart.{Apart, apart_none}
+use Rattle.token_channel.proofs.WaitingBound.{few_places}
 use Rattle.token_channel.proofs.channel.Channel.open.Goals as goal
 
 pub invariant_of-result : goal.invariant_of-result

@@ -3,7 +3,7 @@ use Rattle.window_link.specs.Links.{LinkState}
 use Rattle.token_channel.specs.Things.{thing_of, hold}
 use Rattle.token_channel.specs.Places.{holds, changed}
 use Rattle.token_channel.specs.Channels.{ChannelState}
-use Rattle.token_channel.proofs.Apart.{room_left, kept_sent, held-changed, shared_held}
+use Rattle.token_channel.proofs.ThingsApart.{room_left, kept_sent, held-changed, shared_held}
 use Rattle.token_channel.proofs.channel.Channel.send.Goals as goal
 
 pub queue-requires : goal.queue-requires

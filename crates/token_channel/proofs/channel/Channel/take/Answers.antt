@@ -4,7 +4,7 @@ use Rattle.token_channel.specs.declared.channel.Channel.TheInside.{Inside}
 use Rattle.token_channel.specs.Things.{thing_of}
 use Rattle.token_channel.specs.Places.{changed}
 use Rattle.token_channel.specs.Channels.{ChannelState, is_breach}
-use Rattle.token_channel.proofs.Apart.{kept_taken, kept_dropped}
+use Rattle.token_channel.proofs.ThingsApart.{kept_taken, kept_dropped}
 use Rattle.token_channel.proofs.channel.Channel.take.Goals.{in-Some+else-is_breach, in_default}
 use Rattle.token_channel.proofs.channel.Channel.take.Goals as goal
 

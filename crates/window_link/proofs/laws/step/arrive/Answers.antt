@@ -1,8 +1,8 @@
 use Rattle.std.proofs.Common.{refl}
 use Rattle.std.proofs.lemmas.Option.{slice_get_read}
-use Rattle.window_link.specs.Steps.{ends}
+use Rattle.window_link.specs.refinement.TwoLinksStep.{ends}
 use Rattle.window_link.specs.declared.laws.event.End.TheVariants.{Left, Right}
-use Rattle.window_link.proofs.Arriving.{accepted_from, arrived_left, arrived_right}
+use Rattle.window_link.proofs.FrameDelivery.{accepted_from, arrived_left, arrived_right}
 use Rattle.window_link.proofs.laws.step.arrive.Goals as goal
 
 pub accept-arrival-requires : goal.accept-arrival-requires

@@ -2,8 +2,8 @@ use Rattle.std.proofs.Common.{◌≡◌, ◌++◌, Option, None, length, sym, ap
 use Rattle.std.proofs.lemmas.List.{append-nil}
 use Rattle.frame_codec.specs.declared.message.Msg.{Msg}
 use Rattle.window_link.specs.Streams.{nth}
-use Rattle.window_link.specs.Steps.{made_of}
-use Rattle.window_link.proofs.Arriving.{nth_zero, nth_past}
+use Rattle.window_link.specs.refinement.TwoLinksStep.{made_of}
+use Rattle.window_link.proofs.FrameDelivery.{nth_zero, nth_past}
 use Rattle.window_link.proofs.laws.step.make.Goals.{then-i-eq0-via-then-i-eq0, then-i-eq0-via-else-i-eq0+then-i-waiting}
 use Rattle.window_link.proofs.laws.step.make.Goals as goal
 

@@ -3,7 +3,7 @@ use Rattle.std.proofs.lemmas.Bool.{iff_false}
 use Rattle.std.proofs.lemmas.List.{length_push}
 use Rattle.office_map.specs.PlanValue.{PlanValue}
 use Rattle.world_schedule.specs.Worlds.{happens}
-use Rattle.world_schedule.specs.Tables.{state_of}
+use Rattle.world_schedule.specs.refinement.Tables.{state_of}
 use Rattle.world_schedule.proofs.Runs.{not_memory, run_more, replies_more}
 use Rattle.world_schedule.proofs.world.World.run_all.Goals as goal
 

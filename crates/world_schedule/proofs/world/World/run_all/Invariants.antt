@@ -1,6 +1,6 @@
 use Rattle.std.proofs.Common.{◌≡◌, length, take}
 use Rattle.world_schedule.specs.Worlds.{run_of, replies_of}
-use Rattle.world_schedule.specs.Tables.{state_of}
+use Rattle.world_schedule.specs.refinement.Tables.{state_of}
 use Rattle.world_schedule.proofs.world.World.run_all.Given as goal
 
 abbrev pub invariant-loop-event : goal.invariant-loop-event

@@ -1,7 +1,7 @@
 use Rattle.std.proofs.Common.{rules, ◌≡◌, ◌≤◌, ◌<◌, ◌+◌, ℕ, length, map, refl, sym, ap, ◌∙◌, subst, arith, get_or}
 use Rattle.std.specs.List.{sum_by, range_with_len}
 use Rattle.world_schedule.specs.Offices.{Office}
-use Rattle.world_schedule.specs.Tables.{office_table, office_at}
+use Rattle.world_schedule.specs.refinement.Tables.{office_table, office_at}
 use Rattle.world_schedule.proofs.Runs.{tickets_more}
 use Rattle.world_schedule.proofs.world.World.unfinished.Goals as goal
 

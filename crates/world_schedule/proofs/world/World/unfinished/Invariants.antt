@@ -1,7 +1,7 @@
 use Rattle.std.proofs.Common.{◌≡◌, ◌≤◌, ◌*◌, map}
 use Rattle.std.specs.List.{sum_by, range_with_len}
 use Rattle.world_schedule.specs.Offices.{Office}
-use Rattle.world_schedule.specs.Tables.{office_at}
+use Rattle.world_schedule.specs.refinement.Tables.{office_at}
 use Rattle.world_schedule.proofs.world.World.unfinished.Given as goal
 
 abbrev pub invariant-loop-office : goal.invariant-loop-office

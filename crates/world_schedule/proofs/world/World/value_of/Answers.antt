@@ -1,8 +1,8 @@
 use Rattle.std.proofs.Common.{◌≡◌, ◌<◌, length, map, ◌∙◌, subst}
 use Rattle.serial_replay.specs.Serial.{start_map, map_of}
 use Rattle.world_schedule.specs.Worlds.{programs, bottle_value}
-use Rattle.world_schedule.specs.Tables.{WorldTable, state_of, world_in, office_table}
-use Rattle.world_schedule.proofs.Found.{value_serial}
+use Rattle.world_schedule.specs.refinement.Tables.{WorldTable, state_of, world_in, office_table}
+use Rattle.world_schedule.proofs.BottleValueRefines.{value_serial}
 use Rattle.world_schedule.proofs.world.World.value_of.Goals as goal
 
 pub returns-clause-serial : goal.returns-clause-serial

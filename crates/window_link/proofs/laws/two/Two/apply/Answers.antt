@@ -1,8 +1,8 @@
 use Rattle.std.proofs.Common.{subst}
 use Rattle.std.specs.Prelude.{IfOk}
 use Rattle.window_link.specs.Two.{Happens}
-use Rattle.window_link.specs.Steps.{ends}
-use Rattle.window_link.proofs.Runs.{keeps_accepts, keeps_steps, happens_steps}
+use Rattle.window_link.specs.refinement.TwoLinksStep.{ends}
+use Rattle.window_link.proofs.RunsExtended.{keeps_accepts, keeps_steps, happens_steps}
 use Rattle.window_link.proofs.laws.two.Two.apply.Goals as goal
 
 pub step-requires : goal.step-requires

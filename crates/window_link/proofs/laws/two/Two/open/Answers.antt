@@ -1,4 +1,4 @@
-use Rattle.window_link.proofs.Runs.{keeps_ends}
+use Rattle.window_link.proofs.RunsExtended.{keeps_ends}
 use Rattle.window_link.proofs.laws.two.Two.open.Goals as goal
 
 pub invariant_of-result : goal.invariant_of-result

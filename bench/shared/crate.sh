@@ -1,0 +1,36 @@
+# For the scripts that count the instructions of calls: builds the program bench.txt beside the script, which is no crate
+# of the repository, in a repository of its own. `here` is the script's folder, `top` the repository, and `uses` the
+# crates that the program names. Those and what they stand on are copied with what is proved of them already, which isn't
+# proved again.
+work=$(mktemp -d)
+trap 'rm -rf "$work"' EXIT
+program=$(basename "$here")_bench
+mkdir "$work/crates"
+cp "$top/HANDLES" "$work"
+
+# CRATE..: copies the crates of the repository among these, and those that crates.txt says they stand on.
+add() {
+    for crate in "$@"; do
+        if [ -d "$top/crates/$crate" ] && [ ! -d "$work/crates/$crate" ]; then
+            mkdir "$work/crates/$crate"
+            for part in src specs proofs out; do
+                [ ! -d "$top/crates/$crate/$part" ] || cp -r "$top/crates/$crate/$part" "$work/crates/$crate"
+            done
+            grep "^$crate[ :]" "$top/crates.txt" >> "$work/crates.txt"
+            add $(sed -n "s/^$crate\( [^:]*\)*: *//p" "$top/crates.txt")
+        fi
+    done
+}
+
+add $uses
+mkdir -p "$work/crates/$program/src"
+cp "$here/bench.txt" "$work/crates/$program/src/main.rt"
+echo "$program: $uses" >> "$work/crates.txt"
+cd "$work/crates/$program"
+rt run > "$work/log" 2>&1 || { cat "$work/log"; exit 1; }
+
+# The instructions of a run with these words.
+instructions() {
+    valgrind --tool=callgrind --callgrind-out-file="$work/profile" "$work/crates/$program/out/$program" "$@" 2>&1 |
+        sed -n 's/.*Collected : //p'
+}

@@ -1,0 +1,95 @@
+#!/bin/sh
+# Refuses each allocation of the program in turn, the first, the second and so on, until a run needs no more. Each such run
+# has to say that memory ran out, with status 1 and nothing written; only a run that was refused nothing may answer. It
+# fails where one doesn't. It needs a program that is built, and a C compiler.
+#
+#   sh checks/allocations.sh [PROGRAM]        PROGRAM is crates/drink/out/drink where it is left out
+set -eu
+top=$(cd "$(dirname "$0")/.." && pwd)
+. "$top/bench/shared/program.sh"
+
+cat > "$work/refuse.c" <<'C'
+#define _GNU_SOURCE
+#include <dlfcn.h>
+#include <errno.h>
+#include <stdlib.h>
+#include <unistd.h>
+
+/* Which allocation is refused, and how many there were. */
+static long wanted, count;
+
+static int refused(void) {
+    if (!wanted) return 0;
+    if (++count != wanted) return 0;
+    errno = ENOMEM;
+    if (write(3, "r", 1) != 1) abort();
+    return 1;
+}
+void *malloc(size_t size) {
+    static void *(*next)(size_t);
+    if (!next) next = (void *(*)(size_t))dlsym(RTLD_NEXT, "malloc");
+    return refused() ? NULL : next(size);
+}
+void *realloc(void *old, size_t size) {
+    static void *(*next)(void *, size_t);
+    if (!next) next = (void *(*)(void *, size_t))dlsym(RTLD_NEXT, "realloc");
+    return refused() ? NULL : next(old, size);
+}
+void *aligned_alloc(size_t align, size_t size) {
+    static void *(*next)(size_t, size_t);
+    if (!next) next = (void *(*)(size_t, size_t))dlsym(RTLD_NEXT, "aligned_alloc");
+    return refused() ? NULL : next(align, size);
+}
+int posix_memalign(void **to, size_t align, size_t size) {
+    static int (*next)(void **, size_t, size_t);
+    if (!next) next = (int (*)(void **, size_t, size_t))dlsym(RTLD_NEXT, "posix_memalign");
+    return refused() ? ENOMEM : next(to, align, size);
+}
+__attribute__((constructor)) static void begin(void) {
+    const char *n = getenv("REFUSED");
+    wanted = n ? atol(n) : 0;
+}
+C
+cc -O2 -shared -fPIC -o "$work/refuse.so" "$work/refuse.c" -ldl
+
+# NAME WORDS..: the program on these words, with the standard input of $work/in.
+row() {
+    name=$1
+    shift
+    "$program" "$@" < "$work/in" > "$work/wanted" 2> "$work/err"
+    refused=0
+    answered=0
+    n=1
+    while :; do
+        status=0
+        REFUSED=$n LD_PRELOAD="$work/refuse.so" "$program" "$@" < "$work/in" > "$work/out" 2> "$work/err" 3> "$work/told" || status=$?
+        if [ ! -s "$work/told" ]; then
+            break
+        fi
+        refused=$((refused + 1))
+        if [ "$status" -eq 1 ] && [ ! -s "$work/out" ] && grep -q 'out of memory' "$work/err"; then
+            :
+        elif [ "$status" -eq 0 ] && cmp -s "$work/out" "$work/wanted"; then
+            answered=$((answered + 1))
+        else
+            echo "checks/allocations.sh: $name, allocation $n: status $status" >&2
+            head -n 3 "$work/out" "$work/err" >&2
+            exit 1
+        fi
+        n=$((n + 1))
+    done
+    echo "| $name | $refused | $((refused - answered)) | $answered |"
+}
+
+examples=$top/examples
+echo "| Run | Allocations | Out of memory, nothing written | Right answer all the same |"
+echo "|---|---|---|---|"
+: > "$work/in"
+for example in branch_ledger lease_table shared_stock; do
+    row "serial, $example" serial "$examples/$example/plan.txt" "$examples/$example/sessions.txt"
+done
+stock=$examples/shared_stock
+row "sim, shared_stock" sim "$stock/plan.txt" "$stock/sessions.txt" "$stock/script.txt"
+ledger=$examples/branch_ledger
+{ cat "$ledger/plan.txt"; echo ---; cat "$ledger/sessions.txt"; } > "$work/in"
+row "serial - -" serial - -

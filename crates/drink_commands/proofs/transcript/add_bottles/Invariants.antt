@@ -1,0 +1,10 @@
+use Rattle.std.proofs.Common.{◌≡◌, ◌++◌}
+use Rattle.std.specs.List.{flat_map, range_with_len}
+use Rattle.std.specs.String.{string_bytes}
+use Rattle.world_schedule.specs.Worlds.{bottle_value}
+use Rattle.world_schedule.specs.refinement.Tables.{state_of}
+use Rattle.drink_commands.specs.Report.{value_line}
+use Rattle.drink_commands.proofs.transcript.add_bottles.Given as goal
+
+abbrev pub invariant-loop-i : goal.invariant-loop-i
+invariant-loop-i l = string_bytes l.text ≡ string_bytes l.initial.text ++ flat_map (λ r. value_line l.plan r (bottle_value l.plan (state_of l.world) r)) (range_with_len 0 l.i)

@@ -1,0 +1,10 @@
+-- The inputs of the commands.
+use Rattle.std.specs.Prelude.{ℕ}
+use Rattle.drink_commands.specs.declared.input.Input.{Input}
+use Rattle.drink_commands.specs.declared.input.Input.TheVariants.{Plan, Sessions, Script}
+
+-- the longest text that each may have, in bytes
+abbrev pub limit_of : Input → ℕ
+limit_of Plan = 262144
+limit_of Sessions = 1048576
+limit_of Script = 16777216

@@ -1,0 +1,118 @@
+//! The words of a command line.
+
+ghost use Rattle.std.specs.Prelude.{◌≡◌, IfOk, Some, false, map};
+ghost use Rattle.std.specs.String.{string_bytes};
+ghost use Rattle.clap.specs.Words.{FailsBy, app_of, fault_of, found_of, rows_of, rule_of, with_subcommand};
+ghost use Rattle.drink_commands.specs.CommandLine.{Asks, Requests, program, required, serial_command, sim_command, word_of};
+
+use clap::{Arg, ArgMatches, Command, Error};
+use std::alloc::{AllocError, Global};
+
+/// What a command line asks for.
+#[derive(Clone, Copy, Debug, PartialEq, Eq)]
+pub enum Request<'a> {
+    /// The sessions alone, in the order of the file.
+    Serial {
+        plan: &'a str,
+        sessions: &'a str,
+    },
+    /// A script on the world of two offices.
+    Sim {
+        plan: &'a str,
+        sessions: &'a str,
+        script: &'a str,
+    },
+}
+
+/// What the words of a command line ask for. The first word is the program's name. The error has
+/// the text to print and the exit status: 0 where help was asked for, and 2 for a fault.
+pub fn command_line<'a>(alloc: Global, words: &'a [String]) -> Result<Request<'a>, Error>
+    ensures request { IfOk result (Asks (map string_bytes words.entry.now)) }
+
+    // Memory may run out in place of each.
+    ensures faults { FailsBy (fault_of program (map string_bytes words.entry.now)) result }
+{
+    let matches = program(alloc)?.try_get_matches_from(words)?;
+    match matches.subcommand() {
+        Some((name, found)) => Ok(requested(name, found)),
+        None => Ok(Request::Serial {
+            plan: "-",
+            sessions: "-",
+        }),
+    }
+}
+
+/// What the command of this name asks for, with what was found of its words.
+fn requested<'a>(name: &str, found: &ArgMatches<'a>) -> Request<'a>
+    ensures { Requests name.now (Some (rows_of (found_of found.now))) result }
+{
+    let plan = word(found, "PLAN");
+    let sessions = word(found, "SESSIONS");
+    if name == "sim" {
+        return Request::Sim {
+            plan,
+            sessions,
+            script: word(found, "SCRIPT"),
+        };
+    }
+    Request::Serial { plan, sessions }
+}
+
+fn word<'a>(matches: &ArgMatches<'a>, id: &str) -> &'a str
+    ensures { result.now ≡ word_of id.now (Some (rows_of (found_of matches.now))) }
+{
+    matches.get_str(id).unwrap_or("-")
+}
+
+fn program<'a>(alloc: Global) -> Result<Command<'a>, AllocError>
+    ensures { IfOk result (λ c. app_of c ≡ program) }
+{
+    let program = Command::new(alloc, "drink")
+        .about("A broker for serial record sessions between neighbouring offices")
+        .subcommand_required(true);
+    let program = with_serial(alloc, program)?;
+    Ok(with_sim(alloc, program)?)
+}
+
+fn with_serial<'a>(alloc: Global, program: Command<'a>) -> Result<Command<'a>, AllocError>
+    ensures { IfOk result (λ c. app_of c ≡ with_subcommand (app_of program.entry) serial_command.top) }
+{
+    let plan = required(alloc, "PLAN", PLAN);
+    let sessions = required(alloc, "SESSIONS", SESSIONS);
+    let serial = Command::new(alloc, "serial")
+        .about("Runs the sessions alone, one after another, and prints what each did")
+        .arg(plan)?
+        .arg(sessions)?;
+    let program = program.subcommand(serial)?;
+    Ok(program)
+}
+
+fn with_sim<'a>(alloc: Global, program: Command<'a>) -> Result<Command<'a>, AllocError>
+    ensures { IfOk result (λ c. app_of c ≡ with_subcommand (app_of program.entry) sim_command.top) }
+{
+    let plan = required(alloc, "PLAN", PLAN);
+    let sessions = required(alloc, "SESSIONS", SESSIONS);
+    let script = required(alloc, "SCRIPT", SCRIPT);
+    let sim = Command::new(alloc, "sim")
+        .about("Runs a script on two offices, and prints its replies and what the sessions did")
+        .arg(plan)?
+        .arg(sessions)?
+        .arg(script)?;
+    let program = program.subcommand(sim)?;
+    Ok(program)
+}
+
+/// A word that has to be there.
+fn required<'a>(alloc: Global, id: &'a str, help: &'a str) -> Arg<'a>
+    ensures rule { rule_of result ≡ required id.now }
+    ensures no_global { result.global ≡ false }
+{
+    Arg::new(alloc, id).help(help).required(true)
+}
+
+const PLAN: &str = "The file of the plan, or - for the standard input";
+
+const SESSIONS: &str =
+    "The file of the sessions, or - for the standard input; where several are -, it is cut at its first lines that are exactly ---";
+
+const SCRIPT: &str = "The file of the script, or - for the standard input";

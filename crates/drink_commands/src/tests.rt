@@ -1,0 +1,190 @@
+use crate::commands::serial;
+use crate::fault::Fault;
+use crate::input::Input;
+use office_map::fault as plans;
+use session_language::fault as sessions;
+use std::alloc::Global;
+use std::process::Abort;
+use std::test::Fail;
+
+mod devices;
+mod scripts;
+mod words;
+
+const PLAN: &str =
+    "plan 1 run 42\noffice a -\noffice b -\npair a b fork a\nrecord x a b 100 at a\nrecord y a b 0 at b\n";
+
+const PLAN_OF_99: &str =
+    "plan 1 run 42\noffice a -\noffice b -\npair a b fork a\nrecord x a b 99 at a\nrecord y a b 0 at b\n";
+
+const MOVE: &str =
+    "session a\nlet v = read x\nset x = v - 30\nset y = read y + 30\ngive read x\ngive read y\nend\n";
+
+const MOVED: &str =
+    "a.1 done reads x=100 y=0 writes x=70 y=30 gives 70 30\nvalue x 70\nvalue y 30\n";
+
+/// What `serial` answers, and what it writes.
+fn ran(alloc: Global, plan: &str, sessions: &str) -> (Result<u8, Fault>, Vec<u8>) {
+    let mut out = Vec::new(alloc);
+    let result = serial(
+        alloc,
+        &mut plan.as_bytes(),
+        &mut sessions.as_bytes(),
+        &mut out,
+    );
+    (result, out)
+}
+
+#[test]
+fn prints_sessions_and_values(rt: HostRuntime) -> Result<(), Fail> {
+    let rows = [
+        (PLAN, MOVE, MOVED),
+        (PLAN, "", "value x 100\nvalue y 0\n"),
+        (
+            PLAN,
+            "session a\nset x = 1\nset x = 9223372036854775807 + 1\nend\n",
+            "a.1 overflow reads x=100 writes - gives -\nvalue x 100\nvalue y 0\n",
+        ),
+        (
+            PLAN_OF_99,
+            "session a\nset x = read x - 100\nrequire read x >= 0 else 7\nend\n",
+            "a.1 refused 7 reads x=99 writes - gives -\nvalue x 99\nvalue y 0\n",
+        ),
+        (
+            PLAN,
+            "session a\nset x = read x - 100\nrequire read x >= 0 else 7\nend\n",
+            "a.1 done reads x=100 writes x=0 gives -\nvalue x 0\nvalue y 0\n",
+        ),
+    ];
+    for (plan, sessions, printed) in rows {
+        let (result, out) = ran(rt.alloc(), plan, sessions);
+        assert_eq!(rt; result?, 0);
+        assert_eq!(rt; out.as_slice(), printed.as_bytes());
+    }
+    Ok(())
+}
+
+#[test]
+fn counts_tickets_for_each_office(rt: HostRuntime) -> Result<(), Fail> {
+    let sessions =
+        "session b\ngive 1\nend\nsession a\nset x = -5\nend\nsession b\ngive read x\ngive -7\nend\n";
+    let printed =
+        "b.1 done reads - writes - gives 1\na.1 done reads x=100 writes x=-5 gives -\nb.2 done reads x=-5 writes - gives -5 -7\nvalue x -5\nvalue y 0\n";
+    let (result, out) = ran(rt.alloc(), PLAN, sessions);
+    assert_eq!(rt; result?, 0);
+    assert_eq!(rt; out.as_slice(), printed.as_bytes());
+    Ok(())
+}
+
+/// That these texts are refused so, and nothing is written.
+fn refused(rt: &(impl Abort + AllocGlobal), plan: &str, sessions: &str, fault: Fault) {
+    let (result, out) = ran(rt.alloc(), plan, sessions);
+    assert_eq!(rt; result, Err(fault));
+    assert_eq!(rt; out.len(), 0);
+}
+
+#[test]
+fn refuses_texts_and_writes_nothing(rt: HostRuntime) {
+    let no_record = Fault::Sessions(sessions::SessionRefusal {
+        rule: sessions::SessionRule::UnknownRecord,
+        line: 2,
+    });
+    refused(&rt, PLAN, "session a\ngive read z\nend\n", no_record);
+    let no_name = Fault::Sessions(sessions::SessionRefusal {
+        rule: sessions::SessionRule::UnknownName,
+        line: 2,
+    });
+    refused(&rt, PLAN, "session a\ngive v\nlet v = 1\nend\n", no_name);
+    let no_header = Fault::Plan(plans::PlanRefusal {
+        rule: plans::PlanRule::Header,
+        line: 1,
+    });
+    refused(&rt, "office a -\n", "session a\ngive v\nend\n", no_header);
+}
+
+#[test]
+fn a_ring_is_told_by_its_offices(rt: HostRuntime) -> Result<(), Fail> {
+    let alloc = rt.alloc();
+    let plan =
+        "plan 1 run 1\noffice a -\noffice b -\noffice c -\npair a b fork a\npair b c fork b\npair a c fork c\n";
+    let (result, out) = ran(alloc, plan, "");
+    let Err(fault) = result else {
+        return Err(Fail::from("accepted"));
+    };
+    assert_eq!(rt; fault.input(), Some(Input::Plan));
+    assert_eq!(rt; out.len(), 0);
+    let text = fault.to_string(alloc)?;
+    let expected = "P8 Ring: a, c, b (each precedes the next, and the last the first)";
+    assert_eq!(rt; text.as_str(), expected);
+    Ok(())
+}
+
+/// `front`, a line of a comment, in all as long as this.
+fn stretched(alloc: Global, front: &str, length: usize) -> Result<String, Fail> {
+    let mut text = String::from_str(alloc, front)?;
+    text.push('#')?;
+    for _ in 0..length {
+        if text.len() < length {
+            text.push('-')?;
+        }
+    }
+    Ok(text)
+}
+
+#[test]
+fn reads_the_longest_texts(rt: HostRuntime) -> Result<(), Fail> {
+    let alloc = rt.alloc();
+    let plan = stretched(alloc, PLAN, 262_144)?;
+    let sessions = stretched(alloc, MOVE, 1_048_576)?;
+    let (result, out) = ran(alloc, plan.as_str(), sessions.as_str());
+    assert_eq!(rt; result?, 0);
+    assert_eq!(rt; out.as_slice(), MOVED.as_bytes());
+    Ok(())
+}
+
+#[test]
+fn refuses_a_byte_more(rt: HostRuntime) -> Result<(), Fail> {
+    let alloc = rt.alloc();
+    let plan = stretched(alloc, PLAN, 262_145)?;
+    let limit = Fault::Plan(plans::PlanRefusal {
+        rule: plans::PlanRule::Limit,
+        line: 0,
+    });
+    refused(&rt, plan.as_str(), MOVE, limit);
+    let long = stretched(alloc, MOVE, 1_048_577)?;
+    let too_long = Fault::Sessions(sessions::SessionRefusal {
+        rule: sessions::SessionRule::TooLong,
+        line: 0,
+    });
+    refused(&rt, PLAN, long.as_str(), too_long);
+    Ok(())
+}
+
+#[test]
+fn faults_say_what_is_wrong_and_where(rt: HostRuntime) -> Result<(), Fail> {
+    let alloc = rt.alloc();
+    let (result, _) = ran(alloc, "plan 1 run 42\noffice a -\noffice a -\n", "");
+    let Err(fault) = result else {
+        return Err(Fail::from("accepted"));
+    };
+    assert_eq!(rt; fault.input(), Some(Input::Plan));
+    let text = fault.to_string(alloc)?;
+    assert!(rt; text.as_str().starts_with("line 3: P3 NameTwice"));
+    let failed = Fault::ReadFailed(Input::Sessions);
+    assert_eq!(rt; failed.input(), Some(Input::Sessions));
+    assert!(rt;
+        failed
+            .to_string(alloc)?
+            .as_str()
+            .starts_with("X4 ReadFailed")
+    );
+    let unwritten = Fault::WriteFailed;
+    assert_eq!(rt; unwritten.input(), None);
+    assert!(rt;
+        unwritten
+            .to_string(alloc)?
+            .as_str()
+            .starts_with("X5 WriteFailed")
+    );
+    Ok(())
+}

@@ -1,0 +1,70 @@
+-- The numbers of records at the places of two offices.
+use Rattle.std.proofs.Common.{◌≡◌, ℕ, ◌+◌, ◌*◌, ◌<◌, ◌≤◌, List, [], ◌∷◌, ◌++◌, length, get_or, set, replicate, zero, suc, Bool, true, false, ◌&&◌, ◌||◌, cond, eqb, ◌⊎◌, inl, inr, ⊎_elim, refl, sym, ap, ◌∙◌, arith, nat_lt}
+use Rattle.std.specs.List.{count_by}
+use Rattle.std.proofs.lemmas.Bool.{eq-eqb, both_ways}
+use Rattle.std.proofs.lemmas.Bool.Decides.{nat_tests}
+use Rattle.std.proofs.lemmas.List.{get_or-set_same, get_or-set_other}
+use Rattle.std.proofs.lemmas.List.Sums.{sum_by_push}
+use Rattle.office_map.specs.declared.entries.RecordEntry.{RecordEntry}
+use Rattle.office_map.specs.PlanValue.{lies_between}
+use Rattle.office_map.specs.refinement.RecordCounts.{place_of, CountsRecords}
+use Rattle.office_map.proofs.ConsistencyKept.{in_either_order}
+
+pub none_counted : (n k : ℕ) → get_or {A = ℕ} (replicate n 0) k 0 ≡ 0
+none_counted zero k = refl
+none_counted (suc n) zero = refl
+none_counted (suc n) (suc k) = none_counted n k
+
+place_cases : (a b : ℕ) → ((a < b) × (place_of a b ≡ 16 * a + b)) ⊎ ((b ≤ a) × (place_of a b ≡ 16 * b + a))
+place_cases a b = by_test (nat_lt a b) refl
+  where
+    by_test : (t : Bool) → nat_lt a b ≡ t → ((a < b) × (cond t (16 * a + b) (16 * b + a) ≡ 16 * a + b)) ⊎ ((b ≤ a) × (cond t (16 * a + b) (16 * b + a) ≡ 16 * b + a))
+    by_test true e = inl (grind (arith, nat_tests), refl)
+    by_test false e = inr (grind (arith, nat_tests), refl)
+
+abbrev AreTheSame : (a b x y : ℕ) → Type 0
+AreTheSame a b x y = ((x ≡ a) × (y ≡ b)) ⊎ ((x ≡ b) × (y ≡ a))
+
+turned_place : (a b : ℕ) → place_of b a ≡ place_of a b
+turned_place a b = ⊎_elim
+    (λ e. ⊎_elim (λ f. omega (arith, e, f)) (λ f. omega (arith, e, f)) (place_cases b a))
+    (λ e. ⊎_elim (λ f. omega (arith, e, f)) (λ f. omega (arith, e, f)) (place_cases b a))
+    (place_cases a b)
+
+one_place : (a b x y : ℕ) → AreTheSame a b x y → place_of a b ≡ place_of x y
+one_place a b x y (inl e) = ap (λ z. place_of z b) (sym e.0) ∙ ap (place_of x) (sym e.1)
+one_place a b x y (inr e) = sym (turned_place a b) ∙ ap (λ z. place_of z a) (sym e.0) ∙ ap (place_of x) (sym e.1)
+
+same_at : (a b x y : ℕ) → a < 16 → b < 16 → x < 16 → y < 16 → place_of a b ≡ place_of x y → AreTheSame a b x y
+same_at a b x y la lb lx ly h = ⊎_elim
+    (λ e. ⊎_elim (λ f. inl (omega (arith, e, f, h, lb, ly), omega (arith, e, f, h, lb, ly))) (λ f. inr (omega (arith, e, f, h, lb, lx), omega (arith, e, f, h, lb, lx))) (place_cases x y))
+    (λ e. ⊎_elim (λ f. inr (omega (arith, e, f, h, la, ly), omega (arith, e, f, h, la, ly))) (λ f. inl (omega (arith, e, f, h, la, lx), omega (arith, e, f, h, la, lx))) (place_cases x y))
+    (place_cases a b)
+
+lies_there : (a b : ℕ) (r : RecordEntry) → AreTheSame a b r.first r.second → lies_between a b r ≡ true
+lies_there a b r (inl e) = rw (eq-eqb r.first a e.0, eq-eqb r.second b e.1) refl
+lies_there a b r (inr e) = last (eqb r.first a && eqb r.second b) (eqb r.first b) (eqb r.second a) (eq-eqb r.first b e.0) (eq-eqb r.second a e.1)
+  where
+    last : (p q s : Bool) → q ≡ true → s ≡ true → (p || (q && s)) ≡ true
+    last true q s e f = refl
+    last false true s e f = f
+    last false false s e f = absurd (cc)
+
+-- one record more
+pub counted_more : (records : List RecordEntry) (counts : List ℕ) (r : RecordEntry) (k n : ℕ) → length counts ≡ 256 → CountsRecords records counts → r.first < 16 → r.second < 16
+    → k ≡ place_of r.first r.second → k < 256 → n ≡ get_or counts k 0 + 1 → CountsRecords (records ++ r ∷ []) (set counts k n)
+counted_more records counts r k n long ok lf ls at lt more a b la lb = by_test (lies_between a b r) refl
+  where
+    plus_none : (m : ℕ) → m ≡ m + 0
+    plus_none m = omega arith
+
+    pushed : (t : Bool) → lies_between a b r ≡ t → count_by (lies_between a b) (records ++ r ∷ []) ≡ count_by (lies_between a b) records + cond t 1 0
+    pushed t e = sum_by_push (λ x. cond (lies_between a b x) 1 0) records r ∙ ap (λ c. count_by (lies_between a b) records + cond c 1 0) e
+
+    by_test : (t : Bool) → lies_between a b r ≡ t → get_or (set counts k n) (place_of a b) 0 ≡ count_by (lies_between a b) (records ++ r ∷ [])
+    by_test true e =
+        let same : place_of a b ≡ k = one_place a b r.first r.second (in_either_order a b r.first r.second e) ∙ sym at in
+        let old : get_or counts k 0 ≡ count_by (lies_between a b) records = ap (λ j. get_or counts j 0) (sym same) ∙ ok a b la lb in
+        ap (λ j. get_or (set counts k n) j 0) same ∙ get_or-set_same counts k n 0 (omega (arith, lt, long)) ∙ more ∙ ap (λ c. c + 1) old ∙ sym (pushed true e)
+    by_test false e =
+        get_or-set_other counts k (place_of a b) n 0 (λ same. both_ways (lies_between a b r) e (lies_there a b r (same_at a b r.first r.second la lb lf ls (same ∙ at)))) ∙ ok a b la lb ∙ plus_none _ ∙ sym (pushed false e)

@@ -1,5 +1,0 @@
-use Rattle.office_map.proofs.Consistent.{few_records}
-use Rattle.office_map.proofs.tables.Tables.records.Goals as goal
-
-pub returns-clause-few : goal.returns-clause-few
-returns-clause-few c = rw c.as_slice.ensures (few_records _ c.self.invariant.0)

@@ -1,0 +1,305 @@
+//! The tables of a plan, while its lines are read and afterwards.
+
+ghost use Rattle.std.specs.Prelude.{◌≡◌, ◌<◌, [], length, Some, IfOk, IsTrue};
+ghost use Rattle.std.specs.List.{list_any};
+ghost use Rattle.std.specs.Str.{bytes_eq};
+ghost use Rattle.office_map.specs.refinement.RecordCounts.{place_of};
+ghost use Rattle.office_map.specs.declared.entries.OfficeEntry.{OfficeEntry};
+
+use crate::entries::{OfficeEntry, PairEntry, RecordEntry};
+use crate::fault::{PlanFault, PlanRule, refused};
+use crate::ids::{OfficeId, RecordId};
+use crate::line::Declaration;
+use crate::new_entries::{NewOffice, NewPair, NewRecord};
+use crate::records::RecordTable;
+use crate::word::Word;
+use std::alloc::{AllocError, Global};
+use std::marker::Model;
+
+/// Offices, pairs and records in the order of their lines.
+#[derive(Drop)]
+pub(crate) struct PlanEntries {
+    run: u32,
+    offices: Vec<OfficeEntry>,
+    pairs: Vec<PairEntry>,
+    records: RecordTable,
+    // Of any two offices, at the place of their numbers, how many records they share.
+    counts: [u8; 256],
+}
+
+impl Model for PlanEntries {
+    ghost use Rattle.office_map.specs.PlanValue.{PlanValue};
+    ghost use Rattle.office_map.specs.Consistency.{IsConsistent};
+    ghost use Rattle.office_map.specs.refinement.RecordCounts.{CountsRecords};
+
+    ghost Value = { PlanValue };
+
+    ghost view = { λ t. record { run = t.run; offices = t.offices.items; pairs = t.pairs.items; records = t.records } };
+
+    ghost invariant = { λ t. IsConsistent (record { run = t.run; offices = t.offices.items; pairs = t.pairs.items; records = t.records }) × CountsRecords t.records t.counts };
+}
+
+impl PlanEntries {
+    ghost use Rattle.std.specs.Prelude.{◌≤◌, ◌⊎◌, find};
+    ghost use Rattle.std.specs.Option.{option_copied};
+    ghost use Rattle.office_map.specs.PlanValue.{office_named, office_name_of, record_named, joins, are_neighbours, records_between, is_end, fork_end_of};
+    ghost use Rattle.office_map.specs.PlanText.{declare, at_line, Leaves, seen, is_address_taken, AnOffice, APair, ARecord};
+    ghost use Rattle.office_map.specs.Consistency.{IsConsistent};
+
+    pub fn new(alloc: Global, run: u32) -> PlanEntries
+        ensures { result ≡ record { run = run; offices = []; pairs = []; records = [] } }
+    {
+        PlanEntries {
+            run,
+            offices: Vec::new(alloc),
+            pairs: Vec::new(alloc),
+            records: RecordTable::new(alloc),
+            counts: [0; 256],
+        }
+    }
+
+    pub fn run(&self) -> u32
+        ensures { result ≡ self.now.run }
+    {
+        self.run
+    }
+
+    pub fn offices(&self) -> &[OfficeEntry]
+        ensures all { result.now ≡ self.now.offices }
+        ensures few { length result.now ≤ 16 }
+        ensures consistent { IsConsistent self.now }
+    {
+        self.offices.as_slice()
+    }
+
+    pub fn office_name(&self, id: OfficeId) -> &str
+        requires { id < length self.now.offices }
+        ensures { office_name_of self.now id ≡ Some result.now }
+    {
+        self.offices[id.index()].name.as_str()
+    }
+
+    pub fn pairs(&self) -> &[PairEntry]
+        ensures all { result.now ≡ self.now.pairs }
+        ensures consistent { IsConsistent self.now }
+    {
+        self.pairs.as_slice()
+    }
+
+    pub fn records(&self) -> &[RecordEntry]
+        ensures all { result.now ≡ self.now.records }
+        ensures few { length result.now ≤ 2048 }
+        ensures consistent { IsConsistent self.now }
+    {
+        self.records.as_slice()
+    }
+
+    /// The office with this name.
+    pub fn office_named(&self, name: &str) -> Option<OfficeId>
+        ensures { result ≡ office_named self.now name.now }
+    {
+        let place = self
+            .offices
+            .iter()
+            .position(|office| office.name.as_str() == name)?;
+        Some(OfficeId::new(place as u8))
+    }
+
+    /// The record with this name.
+    pub fn record_named(&self, name: &str) -> Option<RecordId>
+        ensures { result ≡ record_named self.now name.now }
+    {
+        self.records.named(name)
+    }
+
+    pub fn are_neighbours(&self, a: OfficeId, b: OfficeId) -> bool
+        ensures { result ≡ are_neighbours self.now a b }
+    {
+        self.pairs.iter().any(|pair| pair.joins(a, b))
+    }
+
+    /// Whether this office is an end of this record; false where the plan has no such record.
+    pub fn has_end(&self, id: RecordId, office: OfficeId) -> bool
+        ensures { result ≡ is_end self.now id office }
+    {
+        match self.records.as_slice().get(id.index()) {
+            Some(entry) => entry.has_end(office),
+            None => false,
+        }
+    }
+
+    /// The end of two neighbours at which their fork starts.
+    pub fn fork_end(&self, a: OfficeId, b: OfficeId) -> OfficeId
+        requires { IsTrue (are_neighbours self.now a b) }
+        ensures end { fork_end_of self.now a b ≡ Some result }
+        ensures either { (result ≡ a) ⊎ (result ≡ b) }
+    {
+        match self.pair_of(a, b) {
+            Some(pair) => pair.fork_end(),
+            None => unreachable!(),
+        }
+    }
+
+    fn pair_of(&self, a: OfficeId, b: OfficeId) -> Option<&PairEntry>
+        ensures { option_copied result ≡ find (joins a b) self.now.pairs }
+    {
+        self.pairs.iter().find(|pair| pair.joins(a, b))
+    }
+
+    /// Adds what a line declares.
+    pub fn declare(
+        &mut self,
+        alloc: Global,
+        number: u64,
+        declaration: Declaration<'_>,
+    ) -> Result<(), PlanFault>
+        ensures { Leaves result self.new (at_line number (declare self.old (seen declaration.entry))) }
+    {
+        match declaration {
+            Declaration::Office(office) => self.add_office(alloc, number, office),
+            Declaration::Pair(pair) => self.add_pair(number, pair),
+            Declaration::Record(record) => self.add_record(alloc, number, record),
+        }
+    }
+
+    fn add_office(
+        &mut self,
+        alloc: Global,
+        number: u64,
+        office: NewOffice<'_>,
+    ) -> Result<(), PlanFault>
+        ensures { Leaves result self.new
+            (at_line number (declare self.old (AnOffice office.entry.name.now office.entry.address.now))) }
+    {
+        if self.office_named(office.name).is_some() || self.is_address_taken(office.address) {
+            return Err(refused(PlanRule::NameTwice, number));
+        }
+        if self.offices.len() >= 16 {
+            return Err(refused(PlanRule::Limit, number));
+        }
+        let name = Word::of(alloc, office.name)?;
+        let address = Word::of(alloc, office.address)?;
+        self.offices.push(OfficeEntry { name, address })?;
+        Ok(())
+    }
+
+    fn add_pair(&mut self, number: u64, pair: NewPair<'_>) -> Result<(), PlanFault>
+        ensures { Leaves result self.new
+            (at_line number (declare self.old (APair pair.entry.a.now pair.entry.b.now pair.entry.fork_at_first))) }
+    {
+        let Some(first) = self.office_named(pair.a) else {
+            return Err(refused(PlanRule::UnknownName, number));
+        };
+        let Some(second) = self.office_named(pair.b) else {
+            return Err(refused(PlanRule::UnknownName, number));
+        };
+        if first == second {
+            return Err(refused(PlanRule::SelfPair, number));
+        }
+        if self.are_neighbours(first, second) {
+            return Err(refused(PlanRule::PairTwice, number));
+        }
+        self.pairs.push(PairEntry {
+            first,
+            second,
+            fork_at_first: pair.fork_at_first,
+        })?;
+        Ok(())
+    }
+
+    fn add_record(
+        &mut self,
+        alloc: Global,
+        number: u64,
+        declared: NewRecord<'_>,
+    ) -> Result<(), PlanFault>
+        ensures { Leaves result self.new
+            (at_line number (declare self.old (ARecord declared.entry.name.now declared.entry.a.now declared.entry.b.now declared.entry.value declared.entry.starts_at_first))) }
+    {
+        let Some(first) = self.office_named(declared.a) else {
+            return Err(refused(PlanRule::UnknownName, number));
+        };
+        let Some(second) = self.office_named(declared.b) else {
+            return Err(refused(PlanRule::UnknownName, number));
+        };
+        if !self.are_neighbours(first, second) {
+            return Err(refused(PlanRule::UnknownName, number));
+        }
+        if self.record_named(declared.name).is_some() {
+            return Err(refused(PlanRule::NameTwice, number));
+        }
+        if self.records_between(first, second) >= 8 {
+            return Err(refused(PlanRule::Limit, number));
+        }
+        let entry = RecordEntry {
+            name: Word::of(alloc, declared.name)?,
+            first,
+            second,
+            value: declared.value,
+            starts_at_first: declared.starts_at_first,
+        };
+        self.records.push(alloc, entry)?;
+        self.counts[place_of(first, second)] += 1;
+        Ok(())
+    }
+
+    fn is_address_taken(&self, address: &str) -> bool
+        ensures { result ≡ is_address_taken self.now address.now }
+    {
+        address != "-" && self.has_address(address)
+    }
+
+    fn has_address(&self, address: &str) -> bool
+        ensures { result ≡ list_any (λ (o : OfficeEntry). bytes_eq o.address address.now) self.now.offices }
+    {
+        self.offices
+            .iter()
+            .any(|office| office.address.as_str() == address)
+    }
+
+    /// How many records these two share.
+    fn records_between(&self, a: OfficeId, b: OfficeId) -> usize
+        requires { (a < 16) × (b < 16) }
+        ensures { result ≡ records_between self.now a b }
+    {
+        self.counts[place_of(a, b)] as usize
+    }
+
+    pub fn copy(&self, alloc: Global) -> Result<PlanEntries, AllocError>
+        ensures { IfOk result (λ t. t ≡ self.now) }
+    {
+        let offices = copied(alloc, &self.offices)?;
+        let pairs = Vec::from_slice(alloc, &self.pairs)?;
+        let records = self.records.copy(alloc)?;
+        Ok(PlanEntries {
+            run: self.run,
+            offices,
+            pairs,
+            records,
+            counts: self.counts,
+        })
+    }
+}
+
+/// Where the number of the records of two offices stands.
+fn place_of(a: OfficeId, b: OfficeId) -> usize
+    requires { (a < 16) × (b < 16) }
+    ensures place { result ≡ place_of a b }
+    ensures within { result < 256 }
+{
+    if a < b {
+        16 * a.index() + b.index()
+    } else {
+        16 * b.index() + a.index()
+    }
+}
+
+fn copied(alloc: Global, offices: &[OfficeEntry]) -> Result<Vec<OfficeEntry>, AllocError>
+    ensures { IfOk result (λ v. v.items ≡ offices.now) }
+{
+    let mut copy = Vec::new(alloc);
+    for office in offices {
+        copy.push(office.copy(alloc)?)?;
+    }
+    Ok(copy)
+}

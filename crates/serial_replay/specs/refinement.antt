@@ -1,0 +1,2 @@
+pub mod PostfixEvaluation
+pub mod WalkRefinement

@@ -1,0 +1,6 @@
+pub mod ParserSound
+pub mod ParserComplete
+pub mod BuilderRefinesParser
+pub mod PostfixSplit
+pub mod CounterBounds
+pub mod PhraseLoop

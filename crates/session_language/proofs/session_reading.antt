@@ -1,0 +1,6 @@
+pub mod WellFormedness
+pub mod ProgramsFit
+pub mod AddStatement
+pub mod StatementStep
+pub mod ResolveNames
+pub mod LiteralRanges

@@ -1,0 +1,9 @@
+pub mod ResolvedStatements
+pub mod ReaderRefinement
+pub mod PostfixBuilder
+pub mod UniqueProofs
+pub mod TreeEncoding
+pub mod PostfixSplit
+pub mod TreeOfStatements
+pub mod ExpressionNodes
+pub mod TextSizes

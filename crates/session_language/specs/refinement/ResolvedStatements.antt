@@ -1,0 +1,54 @@
+-- What the code's readers of a line give, in the words of the forms of lines.
+use Rattle.std.specs.Prelude.{◌≡◌, ℕ, List, Option, Some, None, Result, Ok, Err, not, nat_lt}
+use Rattle.std.specs.Option.{ok_or}
+use Rattle.std.specs.Borrow.{Bor}
+use Rattle.office_map.specs.PlanText.{◌>>=◌, ◌>>◌, refuse_if}
+use Rattle.session_language.specs.declared.node.Node.{Node}
+use Rattle.session_language.specs.declared.phrase.Summary.{Summary}
+use Rattle.session_language.specs.declared.fault.SessionRule.{SessionRule}
+use Rattle.session_language.specs.declared.fault.SessionRule.TheVariants.{Syntax, UnknownName, UnknownRecord, TooDeep}
+use Rattle.session_language.specs.declared.fault.Stop.{Stop}
+use Rattle.session_language.specs.declared.fault.Stop.TheVariants.{Memory, Refused}
+use Rattle.session_language.specs.declared.keyword.Keyword.{Keyword}
+use Rattle.session_language.specs.declared.spoken.Spoken as code
+use Rattle.session_language.specs.declared.spoken.Spoken.TheVariants as spoken
+use Rattle.session_language.specs.refinement.TreeOfStatements.{test_of}
+use Rattle.session_language.specs.Lexer.{Piece}
+use Rattle.session_language.specs.Phrase.{Phrase, Keeps}
+use Rattle.session_language.specs.Names.{Scope}
+use Rattle.session_language.specs.Form.{said_after}
+use Rattle.session_language.specs.Reading.{Spoken, SpeaksLet, SpeaksSet, SpeaksGive, SpeaksDemand, speak}
+
+-- what a function returned, seen by view, is this, unless memory ran out
+abbrev pub Tells : {X A : Type 0} → (X → A) → Result X Stop → Result A SessionRule → Type 0
+Tells view (Ok x) told = told ≡ Ok (view x)
+Tells view (Err (Refused rule)) told = told ≡ Err rule
+Tells view (Err Memory) told = Unit {0}
+
+-- an expression that is the rest of a line
+abbrev pub ReadsAlone : Option Summary → Scope → List Node → Option Phrase → Type 0
+ReadsAlone None s nodes read = read ≡ None
+ReadsAlone (Some x) s nodes read = (e : Phrase) × (read ≡ Some e) × Keeps x s nodes e
+
+-- a name and an expression
+abbrev pub ReadsAssigned : Option (Bor (List ℕ) × Summary) → Scope → List Node → Option (List ℕ × Phrase) → Type 0
+ReadsAssigned None s nodes read = read ≡ None
+ReadsAssigned (Some (name, x)) s nodes read = (e : Phrase) × (read ≡ Some (name.now, e)) × Keeps x s nodes e
+
+abbrev pub seen_spoken : code.Spoken → Spoken
+seen_spoken (spoken.Let name e) = SpeaksLet name.now e
+seen_spoken (spoken.Set r e) = SpeaksSet r e
+seen_spoken (spoken.Give e) = SpeaksGive e
+seen_spoken (spoken.Require c code) = SpeaksDemand (test_of c.value) code
+
+-- the statement after a keyword, with its names in their places
+abbrev pub spoken_after : Scope → Keyword → List Piece → Result Spoken SessionRule
+spoken_after s k ps = ok_or (said_after k ps) Syntax >>= speak s
+
+-- the first refusal of an expression's names and depth
+abbrev pub judged : Summary → Result (Unit {0}) SessionRule
+judged x = do
+  refuse_if (not x.knows_variables) UnknownName
+  refuse_if (not x.knows_records) UnknownRecord
+  refuse_if (nat_lt 32 x.depth) TooDeep
+  Ok tt

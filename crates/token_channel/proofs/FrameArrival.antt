@@ -1,0 +1,69 @@
+-- What a frame brings is held after it.
+use Rattle.std.proofs.Common.{◌≡◌, ℕ, ◌+◌, Bool, true, false, cond, List, Option, Some, None, refl, sym, ap, ◌∙◌, arith}
+use Rattle.std.proofs.lemmas.Bool.Decides.{nat_tests}
+use Rattle.std.specs.Prelude.{◌==◌, nat_le}
+use Rattle.std.specs.Option.{option_map_or}
+use Rattle.std.proofs.lemmas.Bool.{eqb-true}
+use Rattle.frame_codec.specs.declared.message.Msg.{Msg}
+use Rattle.window_link.specs.declared.arrival.Arrival.TheVariants.{Fresh, Repeat, Early}
+use Rattle.window_link.specs.declared.fault.LinkFault.{LinkFault}
+use Rattle.window_link.specs.Windows.{arrival}
+use Rattle.window_link.specs.Links.{brings, fault_of}
+use Rattle.token_channel.specs.declared.thing.Thing.{Thing}
+use Rattle.token_channel.specs.declared.thing.SharedThing.{SharedThing}
+use Rattle.token_channel.specs.Things.{thing_of}
+use Rattle.token_channel.specs.Places.{holds, shares, waits}
+use Rattle.token_channel.specs.Channels.{ChannelState, with_taken, next_of, left_by, is_breach, breach_of, link_fault_or, held_after, WhatComesIsHeld}
+use Rattle.token_channel.proofs.ThingsApart.{no_breach, held-changed}
+
+not_below : (taken : ℕ) → nat_le (taken + 1) taken ≡ false
+not_below taken = grind (arith, nat_tests)
+
+-- the next one is neither a repeat nor early
+next_is : (taken number : ℕ) (msg : Msg) → (number == taken + 1) ≡ true → arrival taken number msg ≡ Fresh msg
+next_is taken number msg e =
+    let n = eqb-true number (taken + 1) e in
+    ap (λ b. cond b Repeat (cond (number == taken + 1) (Fresh msg) Early)) (ap (λ k. nat_le k taken) n ∙ not_below taken) ∙ ap (λ b. cond b (Fresh msg) Early) e
+
+-- any other one leaves what is held
+other_is : (held : Thing → Bool) (t : Thing) (taken number : ℕ) (msg : Msg) → (number == taken + 1) ≡ false → held_after held (arrival taken number msg) t ≡ held t
+other_is held t taken number msg e = go (nat_le number taken)
+  where
+    early : (b : Bool) → b ≡ false → held_after held (cond b (Fresh msg) Early) t ≡ held t
+    early true h = absurd cc
+    early false h = refl
+
+    go : (b : Bool) → held_after held (cond b Repeat (cond (number == taken + 1) (Fresh msg) Early)) t ≡ held t
+    go true = refl
+    go false = early (number == taken + 1) e
+
+brought : (places : List SharedThing) (t : Thing) (taken number : ℕ) (msg : Option Msg) → ((m : Msg) → cond (number == taken + 1) msg None ≡ Some m → shares places (thing_of m) ≡ true) →
+    holds (with_taken places (cond (number == taken + 1) msg None)) t ≡ held_after (holds places) (brings taken number msg) t
+brought places t taken number None h = none (number == taken + 1)
+  where
+    none : (b : Bool) → holds (with_taken places (cond b None None)) t ≡ holds places t
+    none true = refl
+    none false = refl
+brought places t taken number (Some m) h = go (number == taken + 1) refl
+  where
+    go : (b : Bool) → (number == taken + 1) ≡ b → holds (with_taken places (cond (number == taken + 1) (Some m) None)) t ≡ held_after (holds places) (arrival taken number m) t
+    go true e =
+        ap (λ b. holds (with_taken places (cond b (Some m) None)) t) e
+        ∙ held-changed places (thing_of m) t true (h m (ap (λ b. cond b (Some m) None) e))
+        ∙ sym (ap (λ a. held_after (holds places) a t) (next_is taken number m e))
+    go false e = ap (λ b. holds (with_taken places (cond b (Some m) None)) t) e ∙ sym (other_is (holds places) t taken number m e)
+
+-- what isn't refused is shared
+unrefused : (c : ChannelState) (count : ℕ) (fault : Option LinkFault) (next : Option Msg) → link_fault_or fault (option_map_or (is_breach c count) next false) ≡ None → (m : Msg) → next ≡ Some m → shares c.places (thing_of m) ≡ true
+unrefused c count (Some fault) next e m is = absurd cc
+unrefused c count None None e m is = absurd cc
+unrefused c count None (Some n) e m is = go (is_breach c count n) refl e
+  where
+    go : (b : Bool) → is_breach c count n ≡ b → breach_of b ≡ None → shares c.places (thing_of m) ≡ true
+    go true h f = absurd cc
+    go false h f =
+        let same : n ≡ m = cc in
+        ap (λ x. shares c.places (thing_of x)) (sym same) ∙ (no_breach (shares c.places (thing_of n)) (holds c.places (thing_of n)) (waits (thing_of n) (left_by c.link count)) h).0
+
+pub comes_held : WhatComesIsHeld
+comes_held c f t e = brought c.places t c.link.receiving.taken f.number f.msg (unrefused c f.count (fault_of c.link f) (next_of c.link f) e)

@@ -1,0 +1,219 @@
+-- The two links take each step that the streams take.
+use Rattle.std.proofs.Common.{◌≡◌, ℕ, ◌+◌, ◌-◌, ◌≤◌, max, Bool, true, false, not, cond, List, [], ◌∷◌, ◌++◌, length, drop, Option, Some, None, refl, sym, ap, ◌∙◌, arith}
+use Rattle.std.specs.Prelude.{◌&&◌, ◌==◌, nat_lt}
+use Rattle.std.proofs.lemmas.Bool.{cond_both, eqb-true, eq-eqb, le-ltb}
+use Rattle.std.proofs.lemmas.List.{length-append, length-drop, drop-drop, drop-append-le, append-nil}
+use Rattle.frame_codec.specs.declared.message.Msg.{Msg}
+use Rattle.frame_codec.specs.Frame.{Fields}
+use Rattle.window_link.specs.declared.laws.event.End.{End}
+use Rattle.window_link.specs.declared.laws.event.End.TheVariants.{Left, Right}
+use Rattle.window_link.specs.declared.laws.event.Posted.{Posted}
+use Rattle.window_link.specs.declared.laws.event.LinkEvent.{LinkEvent}
+use Rattle.window_link.specs.declared.laws.event.LinkEvent.TheVariants.{Queue, Make, Ack, Arrive}
+use Rattle.window_link.specs.declared.laws.event.LinkReply.{LinkReply}
+use Rattle.window_link.specs.declared.laws.event.LinkReply.TheVariants.{Idle, Queued, Made, Arrived}
+use Rattle.window_link.specs.declared.fault.LinkFault.TheVariants.{Stranger, AckAhead}
+use Rattle.window_link.specs.Windows.{Sending, greatest}
+use Rattle.window_link.specs.Links.{LinkState, received_from, fault_of, arrival_at, after_arrival}
+use Rattle.window_link.specs.Streams.{Stream, Pair, IsLawful, waiting, other, with_stream, nth, can_send, send, post_waiting, learned, took, deliver, happens}
+use Rattle.window_link.specs.Two.{Ends, at, link_at, ends_of}
+use Rattle.window_link.specs.refinement.TwoLinksStep.{with_link, with_sending, queue_step, made, made_of, with_frames, arrive_step, step, Accepts}
+use Rattle.window_link.proofs.Invariant.{Sound, Honest}
+
+-- ---- parts of a link's state
+
+shown_link : Pair → End → Stream → Stream → LinkState
+shown_link p e out back = record {
+  run = p.run;
+  me = p.office e;
+  peer = p.office (other e);
+  sending = record { acked = out.acked; waiting = waiting out };
+  receiving = record { taken = length back.taken };
+}
+
+at_is : (p : Pair) (e : End) → at (ends_of p) e ≡ link_at p e
+at_is p Left = refl
+at_is p Right = refl
+
+-- where one stream went on, the sender's window and the taker's count did
+ends_with : (p : Pair) (e : End) (s : Stream) → ends_of (with_stream p e s) ≡ with_link (with_link (ends_of p) e (shown_link p e s (p.stream (other e)))) (other e) (shown_link p (other e) (p.stream (other e)) s)
+unfolding shown_link
+ends_with p Left s = refl
+ends_with p Right s = refl
+
+link_sent : (p : Pair) (e : End) (s : Stream) → s.taken ≡ (p.stream e).taken → shown_link p (other e) (p.stream (other e)) s ≡ at (ends_of p) (other e)
+unfolding shown_link
+link_sent p Left s same = ap (λ l. shown_link p Right (p.stream Right) (record { sent = s.sent; taken = l; acked = s.acked })) same
+link_sent p Right s same = ap (λ l. shown_link p Left (p.stream Left) (record { sent = s.sent; taken = l; acked = s.acked })) same
+
+with_other : (t : Ends) (e : End) (l : LinkState) → with_link (with_link t e l) (other e) (at t (other e)) ≡ with_link t e l
+with_other t Left l = refl
+with_other t Right l = refl
+
+ends_sent : (p : Pair) (e : End) (s : Stream) → s.taken ≡ (p.stream e).taken → ends_of (with_stream p e s) ≡ with_link (ends_of p) e (shown_link p e s (p.stream (other e)))
+ends_sent p e s same =
+    ends_with p e s ∙ ap (with_link (with_link (ends_of p) e (shown_link p e s (p.stream (other e)))) (other e)) (link_sent p e s same)
+    ∙ with_other (ends_of p) e (shown_link p e s (p.stream (other e)))
+
+-- ---- a message is sent
+
+used_is : (s : Stream) → IsLawful s → s.acked + length (waiting s) ≡ length s.sent
+used_is s h =
+    let low = h.acknowledged in
+    omega (arith, low, length-drop s.acked s.sent, ap length h.begins, length-append s.taken h.ahead)
+
+acked_low : (s : Stream) → IsLawful s → s.acked ≤ length s.sent
+acked_low s h = let low = h.acknowledged in omega (arith, low, ap length h.begins, length-append s.taken h.ahead)
+
+more : Stream → Msg → Stream
+more s msg = record { sent = s.sent ++ msg ∷ []; taken = s.taken; acked = s.acked }
+
+window : ℕ → List Msg → Sending
+window acked ms = record { acked = acked; waiting = ms }
+
+link_more : (p : Pair) (e : End) (msg : Msg) → IsLawful (p.stream e) → shown_link p e (more (p.stream e) msg) (p.stream (other e)) ≡ with_sending (link_at p e) msg
+unfolding shown_link more
+link_more p e msg h =
+    ap (λ (ms : List Msg). with_waiting p e ms) (drop-append-le (p.stream e).acked (p.stream e).sent (msg ∷ []) (acked_low (p.stream e) h))
+  where
+    with_waiting : Pair → End → List Msg → LinkState
+    with_waiting p e ms = record { run = p.run; me = p.office e; peer = p.office (other e); sending = record { acked = (p.stream e).acked; waiting = ms }; receiving = record { taken = length (p.stream (other e)).taken } }
+
+-- a link in the place of the same link
+with_same : (t : Ends) (e : End) → with_link t e (at t e) ≡ t
+with_same t Left = refl
+with_same t Right = refl
+
+answer : LinkReply × LinkState → Ends → End → LinkReply × Ends
+answer r t e = (r.0, with_link t e r.1)
+
+shown : LinkReply × Pair → LinkReply × Ends
+shown r = (r.0, ends_of r.1)
+
+step_send : (p : Pair) (e : End) (msg : Msg) → Sound p → step (ends_of p) (Queue e msg) ≡ shown (send p e msg)
+unfolding more answer shown
+step_send p e msg S =
+    let s = p.stream e in
+    let h = S.lawful e in
+    ap (λ l. answer (queue_step l msg) (ends_of p) e) (at_is p e)
+    ∙ ap (λ n. answer (cond (nat_lt (length (waiting s)) 18 && nat_lt n greatest) (Queued, with_sending (link_at p e) msg) (Idle, link_at p e)) (ends_of p) e) (used_is s h)
+    ∙ choice (can_send s)
+  where
+    queued_to : LinkReply × Pair
+    queued_to = (Queued, with_stream p e (more (p.stream e) msg))
+
+    choice : (b : Bool) → answer (cond b (Queued, with_sending (link_at p e) msg) (Idle, link_at p e)) (ends_of p) e ≡ shown (cond b (Queued, with_stream p e (more (p.stream e) msg)) (Idle, p))
+    choice true = ap (λ t. (Queued, t)) (ap (with_link (ends_of p) e) (sym (link_more p e msg (S.lawful e))) ∙ sym (ends_sent p e (more (p.stream e) msg) refl))
+    choice false = ap (λ t. (Idle, t)) (ap (with_link (ends_of p) e) (sym (at_is p e)) ∙ with_same (ends_of p) e)
+
+-- ---- a frame is made
+
+step_post_waiting : (p : Pair) (e : End) (i : ℕ) (msg : Option Msg) → with_frames (ends_of p) (made_of (link_at p e) e i msg) ≡ shown (post_waiting p e i msg)
+unfolding shown
+step_post_waiting p e i None = ap (λ l. (Idle, record { left = link_at p Left; right = link_at p Right; frames = l })) (append-nil p.frames)
+step_post_waiting p e i (Some msg) = refl
+
+-- ---- a frame arrives
+
+link_with : (p : Pair) (e : End) → ℕ → List Msg → ℕ → LinkState
+link_with p e acked ms taken = record {
+  run = p.run;
+  me = p.office e;
+  peer = p.office (other e);
+  sending = record { acked = acked; waiting = ms };
+  receiving = record { taken = taken };
+}
+
+link_same : (p : Pair) (e : End) (out out' back back' : Stream) → out'.sent ≡ out.sent → out'.acked ≡ out.acked → back'.taken ≡ back.taken → shown_link p e out' back' ≡ shown_link p e out back
+unfolding shown_link link_with
+link_same p e out out' back back' sent acked taken =
+    ap (λ (l : List Msg). link_with p e out'.acked (drop out'.acked l) (length back'.taken)) sent
+    ∙ ap (λ (n : ℕ). link_with p e n (drop n out.sent) (length back'.taken)) acked
+    ∙ ap (λ (l : List Msg). link_with p e out.acked (drop out.acked out.sent) (length l)) taken
+
+-- where the taker learned a count and took a message, only its own link changed
+ends_taken : (p : Pair) (e : End) (out' back' : Stream) → out'.sent ≡ (p.stream e).sent → out'.acked ≡ (p.stream e).acked → back'.taken ≡ (p.stream (other e)).taken →
+    ends_of (with_stream (with_stream p (other e) back') e out') ≡ with_link (ends_of p) (other e) (shown_link p (other e) back' out')
+unfolding shown_link
+ends_taken p Left out' back' sent acked taken =
+    ap (λ l. record { left = l; right = shown_link p Right back' out'; frames = p.frames }) (link_same p Left (p.stream Left) out' (p.stream Right) back' sent acked taken)
+ends_taken p Right out' back' sent acked taken =
+    ap (λ l. record { left = shown_link p Left back' out'; right = l; frames = p.frames }) (link_same p Right (p.stream Right) out' (p.stream Left) back' sent acked taken)
+
+took_sent : (s : Stream) (number : ℕ) (msg : Option Msg) → ((took s number msg).sent ≡ s.sent) × ((took s number msg).acked ≡ s.acked)
+took_sent s number None = (refl, refl)
+took_sent s number (Some msg) = cond_both {A = Stream} (number == length s.taken + 1) _ _ (λ t. (t.sent ≡ s.sent) × (t.acked ≡ s.acked)) (λ yes. (refl, refl)) (λ no. (refl, refl))
+
+took_taken : (s : Stream) (number : ℕ) (msg : Option Msg) → length (took s number msg).taken ≡ (received_from (record { taken = length s.taken }) number msg).taken
+took_taken s number None = refl
+took_taken s number (Some msg) = choice (number == length s.taken + 1) (λ yes. let n = eqb-true number (length s.taken + 1) yes in omega (arith, length-append s.taken (msg ∷ [])))
+  where
+    choice : (b : Bool) → (b ≡ true → length (s.taken ++ msg ∷ []) ≡ number) →
+        length (cond b (record { sent = s.sent; taken = s.taken ++ msg ∷ []; acked = s.acked }) s).taken ≡ cond b number (length s.taken)
+    choice true f = f refl
+    choice false f = refl
+
+-- what waits is dropped up to the greater count
+learned_waiting : (s : Stream) (count : ℕ) → waiting (learned s count) ≡ drop (count - s.acked) (waiting s)
+learned_waiting s count =
+    let n : s.acked + (count - s.acked) ≡ max s.acked count = omega arith in
+    sym (drop-drop (count - s.acked) s.acked s.sent ∙ ap (λ k. drop k s.sent) n)
+
+link_arrived : (p : Pair) (e : End) (f : Fields) (out back : Stream) → after_arrival (shown_link p e back out) f ≡ shown_link p e (learned back f.count) (took out f.number f.msg)
+unfolding shown_link link_with
+link_arrived p e f out back =
+    ap (λ (l : List Msg). link_with p e (max back.acked f.count) l ((received_from (record { taken = length out.taken }) f.number f.msg).taken)) (sym (learned_waiting back f.count))
+    ∙ ap (λ (n : ℕ). link_with p e (max back.acked f.count) (waiting (learned back f.count)) n) (sym (took_taken out f.number f.msg))
+
+at_other : (p : Pair) (e : End) → at (ends_of p) (other e) ≡ shown_link p (other e) (p.stream (other e)) (p.stream e)
+unfolding shown_link
+at_other p Left = refl
+at_other p Right = refl
+
+arrived : Ends → End → Fields → LinkState → LinkReply × Ends
+arrived t d f l = (Arrived (arrival_at l f), with_link t d (after_arrival l f))
+
+step_deliver : (p : Pair) (posted : Option Posted) → arrive_step (ends_of p) posted ≡ shown (deliver p posted)
+unfolding shown arrived shown_link
+step_deliver p None = refl
+step_deliver p (Some posted) =
+    let e = posted.by in
+    let f = posted.frame in
+    let out = p.stream e in
+    let back = p.stream (other e) in
+    let same = took_sent out f.number f.msg in
+    ap (λ l. arrived (ends_of p) (other e) f l) (at_other p e)
+    ∙ ap (λ l. (Arrived (arrival_at (shown_link p (other e) back out) f), with_link (ends_of p) (other e) l)) (link_arrived p (other e) f out back)
+    ∙ ap (λ t. (Arrived (arrival_at (shown_link p (other e) back out) f), t)) (sym (ends_taken p e (took out f.number f.msg) (learned back f.count) same.0 same.1 refl))
+
+-- ---- every event
+
+-- the links' step is the streams'
+pub step_is : (p : Pair) (event : LinkEvent) → Sound p → step (ends_of p) event ≡ ((happens p event).0, ends_of (happens p event).1)
+unfolding shown
+step_is p (Queue e msg) S = step_send p e msg S
+step_is p (Make e i) S = ap (λ l. with_frames (ends_of p) (made_of l e i (nth l.sending.waiting i))) (at_is p e) ∙ step_post_waiting p e i (nth (waiting (p.stream e)) i)
+step_is p (Ack e) S = ap (λ l. with_frames (ends_of p) (Made, made l e 0 None)) (at_is p e)
+step_is p (Arrive k) S = step_deliver p (nth p.frames k)
+
+-- ---- no frame is refused
+
+no_fault : (a b c d : Bool) → a ≡ true → b ≡ true → c ≡ true → d ≡ false → cond (not (a && b && c)) (Some Stranger) (cond d (Some AckAhead) None) ≡ None
+no_fault a b c d ae be ce de = rw (ae, be, ce, de) refl
+
+other_other : (e : End) → other (other e) ≡ e
+other_other Left = refl
+other_other Right = refl
+
+accepts_one : (p : Pair) (posted : Posted) → Sound p → Honest p posted → fault_of (at (ends_of p) (other posted.by)) posted.frame ≡ None
+accepts_one p posted S h =
+    let e = posted.by in
+    let f = posted.frame in
+    let back = p.stream (other e) in
+    let low : f.count ≤ back.acked + length (waiting back) = let c = h.count in omega (arith, c, used_is back (S.lawful (other e)), ap length (S.lawful (other e)).begins, length-append back.taken (S.lawful (other e)).ahead) in
+    ap (λ l. fault_of l f) (at_is p (other e))
+    ∙ no_fault (f.run == p.run) (f.from == p.office (other (other e))) (f.to == p.office (other e)) (nat_lt (back.acked + length (waiting back)) f.count)
+    (eq-eqb f.run p.run h.run) (eq-eqb _ _ (h.from ∙ ap p.office (sym (other_other e)))) (eq-eqb _ _ h.to) (le-ltb _ _ low)
+
+pub accepts_all : (p : Pair) → Sound p → Accepts (ends_of p)
+accepts_all p S k posted is = accepts_one p posted S (S.honest k posted is)

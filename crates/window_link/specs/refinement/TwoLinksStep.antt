@@ -1,0 +1,75 @@
+-- One event as the two links see it, between the functions that carry it out.
+use Rattle.std.specs.Prelude.{◌≡◌, ℕ, ◌+◌, ◌&&◌, nat_lt, if◌then◌else◌, List, [], ◌∷◌, ◌++◌, length, slice_get, Option, Some, None, Result, OnErr, IfOk, IsTrue, Bool, true, false}
+use Rattle.std.specs.declared.alloc.AllocError.{AllocError}
+use Rattle.frame_codec.specs.declared.message.Msg.{Msg}
+use Rattle.window_link.specs.declared.laws.event.End.{End}
+use Rattle.window_link.specs.declared.laws.event.End.TheVariants.{Left, Right}
+use Rattle.window_link.specs.declared.laws.event.Posted.{Posted}
+use Rattle.window_link.specs.declared.laws.event.LinkEvent.{LinkEvent}
+use Rattle.window_link.specs.declared.laws.event.LinkEvent.TheVariants.{Queue, Make, Ack, Arrive}
+use Rattle.window_link.specs.declared.laws.event.LinkReply.{LinkReply}
+use Rattle.window_link.specs.declared.laws.event.LinkReply.TheVariants.{Idle, Queued, Made, Arrived}
+use Rattle.window_link.specs.Windows.{used, greatest, queued}
+use Rattle.window_link.specs.Links.{LinkState, frame_with, fault_of, arrival_at, after_arrival}
+use Rattle.window_link.specs.Streams.{other, nth}
+use Rattle.window_link.specs.Two.{Ends, Names, at, ends_of, after}
+
+abbrev pub ends : LinkState → LinkState → List Posted → Ends
+ends left right frames = record { left = left; right = right; frames = frames }
+
+abbrev pub with_link : Ends → End → LinkState → Ends
+with_link t Left l = record { left = l; right = t.right; frames = t.frames }
+with_link t Right l = record { left = t.left; right = l; frames = t.frames }
+
+abbrev pub with_sending : LinkState → Msg → LinkState
+with_sending l msg =
+    record { run = l.run; me = l.me; peer = l.peer; sending = queued l.sending msg; receiving = l.receiving }
+
+abbrev pub queue_step : LinkState → Msg → LinkReply × LinkState
+queue_step l msg =
+    if nat_lt (length l.sending.waiting) 18 && nat_lt (used l.sending) greatest
+    then (Queued, with_sending l msg)
+    else (Idle, l)
+
+abbrev pub made : LinkState → End → ℕ → Option Msg → List Posted
+made l e number msg = record { by = e; frame = frame_with l number msg } ∷ []
+
+-- what a link posts of its i-th waiting message, and what it answers
+abbrev pub made_of : LinkState → End → ℕ → Option Msg → LinkReply × List Posted
+made_of l e i None = (Idle, [])
+made_of l e i (Some msg) = (Made, made l e (l.sending.acked + i) (Some msg))
+
+abbrev pub with_frames : Ends → LinkReply × List Posted → LinkReply × Ends
+with_frames t m = (m.0, record { left = t.left; right = t.right; frames = t.frames ++ m.1 })
+
+abbrev pub arrive_step : Ends → Option Posted → LinkReply × Ends
+arrive_step t None = (Idle, t)
+arrive_step t (Some posted) =
+    let d = other posted.by in
+    (Arrived (arrival_at (at t d) posted.frame), with_link t d (after_arrival (at t d) posted.frame))
+
+abbrev pub step : Ends → LinkEvent → LinkReply × Ends
+step t (Queue e msg) = ((queue_step (at t e) msg).0, with_link t e (queue_step (at t e) msg).1)
+step t (Make e i) = with_frames t (made_of (at t e) e i (nth (at t e).sending.waiting i))
+step t (Ack e) = with_frames t (Made, made (at t e) e 0 None)
+step t (Arrive k) = arrive_step t (nth t.frames k)
+
+-- an end refuses none of the frames that were made for it
+abbrev pub Accepts : Ends → Type 0
+Accepts t = (k : ℕ) (posted : Posted) → slice_get t.frames k ≡ Some posted → fault_of (at t (other posted.by)) posted.frame ≡ None
+
+-- over every list of events
+abbrev pub NoFrameIsRefused : Type 0
+NoFrameIsRefused = (names : Names) (events : List LinkEvent) → Accepts (ends_of (after names events))
+
+-- a frame is to be made
+abbrev pub makes_frame : LinkEvent → Bool
+makes_frame (Queue e msg) = false
+makes_frame (Make e i) = true
+makes_frame (Ack e) = true
+makes_frame (Arrive k) = false
+
+-- where a growth was refused all is as it was
+abbrev pub Steps : Ends → LinkEvent → Result LinkReply AllocError → Ends → Type 0
+Steps old event result new =
+    IfOk result (λ reply. (reply ≡ (step old event).0) × (new ≡ (step old event).1)) × OnErr result ((new ≡ old) × IsTrue (makes_frame event))

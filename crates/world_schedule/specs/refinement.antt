@@ -1,0 +1,4 @@
+pub mod Effects
+pub mod BottleTables
+pub mod StartTables
+pub mod Tables
