@@ -12,3 +12,4 @@ pub mod Consistent
 pub mod Orders
 pub mod Circles
 pub mod Counted
+pub mod Refusals

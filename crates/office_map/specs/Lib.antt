@@ -5,3 +5,4 @@ pub mod Counts
 pub mod PlanText
 pub mod Precedence
 pub mod Consistency
+pub mod Faults

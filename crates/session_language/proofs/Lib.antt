@@ -31,4 +31,5 @@ pub mod Ordered
 pub mod Weighed
 pub mod Bounded
 pub mod Lengths
+pub mod Cutting
 pub mod Worked

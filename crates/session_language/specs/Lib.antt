@@ -26,4 +26,5 @@ pub mod Program
 pub mod Naming
 pub mod WellFormed
 pub mod OneProof
+pub mod LexerLaw
 pub mod Laws
