@@ -32,4 +32,5 @@ pub mod Weighed
 pub mod Bounded
 pub mod Lengths
 pub mod Cutting
+pub mod Forming
 pub mod Worked

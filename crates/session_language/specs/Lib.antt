@@ -27,4 +27,5 @@ pub mod Naming
 pub mod WellFormed
 pub mod OneProof
 pub mod LexerLaw
+pub mod FormLaw
 pub mod Laws

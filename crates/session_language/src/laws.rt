@@ -1,6 +1,7 @@
 //! Laws of the definitions that the contracts cite.
 
 ghost use Rattle.session_language.specs.LexerLaw.{CutsTheLongest};
+ghost use Rattle.session_language.specs.FormLaw.{ReadsTheForms};
 ghost use Rattle.session_language.specs.Laws.{
   ReadsInOrder,
   RefusesALine,
@@ -25,6 +26,11 @@ pub fn refuses_a_line()
 /// A line is cut into its longest pieces.
 pub fn cuts_the_longest()
     ensures { CutsTheLongest }
+{}
+
+/// Lines are read by the grammar.
+pub fn reads_the_forms()
+    ensures { ReadsTheForms }
 {}
 
 /// Expressions are read by the grammar.
