@@ -13,3 +13,4 @@ pub mod LeastFirstOrders
 pub mod Rings
 pub mod RecordCountsKept
 pub mod RecordEnds
+pub mod RefusedLines

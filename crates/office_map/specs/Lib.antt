@@ -5,3 +5,4 @@ pub mod PlanText
 pub mod Precedence
 pub mod Consistency
 pub mod refinement
+pub mod RefusedLines

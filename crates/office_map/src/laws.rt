@@ -2,6 +2,7 @@
 
 ghost use Rattle.office_map.specs.PlanText.{ReadsInOrder};
 ghost use Rattle.office_map.specs.Consistency.{ReadsCompletePlans};
+ghost use Rattle.office_map.specs.RefusedLines.{RefusesALine};
 ghost use Rattle.office_map.specs.Precedence.{AnOrderHasNoRing, OneOrderIsLeastFirst};
 
 /// Reading accepts all lines, one after the other, or stops at the first that is refused.
@@ -13,6 +14,12 @@ pub fn reads_in_order()
 /// the text, or 0.
 pub fn reads_complete_plans()
     ensures { ReadsCompletePlans }
+{}
+
+/// A refusal is of the first faulty line, or of the whole text: one that is too long, says nothing
+/// or has too few offices.
+pub fn refuses_a_line()
+    ensures { RefusesALine }
 {}
 
 /// Offices in an order hold no ring.

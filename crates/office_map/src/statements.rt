@@ -23,13 +23,17 @@ impl<'a> Statements<'a> {
         ensures shorter { OnSome result (length self.new.rest.now < length self.old.rest.now) }
         ensures fits { self.new.number + length self.new.rest.now < 2 ^ 64 }
     {
-        while !self.rest.is_empty() {
-            let (line, after) = first_line(self.rest);
+        while let Some((first, next)) = self.rest.split_first() {
             let number = self.number;
-            self.rest = after;
             self.number += 1;
-            if says_something(line) {
-                return Some((number, line));
+            if *first == b'\n' {
+                self.rest = next;
+            } else {
+                let (line, after) = first_line(self.rest);
+                self.rest = after;
+                if says_something(line) {
+                    return Some((number, line));
+                }
             }
         }
         None

@@ -1,5 +1,5 @@
 -- The laws of reading and of the meaning.
-use Rattle.std.proofs.Common.{◌≡◌, ◌≤◌, ◌+◌, ℕ, zero, suc, List, [], ◌∷◌, length, map, Bool, true, false, ◌==◌, All, Option, Some, None, IfSome, Result, Ok, Err, if◌then◌else◌, refl, ap, ◌∙◌, subst, arith, nat_lt}
+use Rattle.std.proofs.Common.{◌≡◌, ◌≤◌, ℕ, zero, suc, List, [], ◌∷◌, length, map, Bool, true, false, ◌==◌, All, Option, Some, None, IfSome, Result, Ok, Err, if◌then◌else◌, refl, ap, ◌∙◌, subst, arith, nat_lt}
 use Rattle.std.specs.Prelude.{Contains}
 use Rattle.std.specs.Result.{MatchResult}
 use Rattle.std.proofs.lemmas.List.Elements.{All-cons}
@@ -8,7 +8,8 @@ use Rattle.bottle_values.specs.declared.Value.{Value}
 use Rattle.office_map.specs.PlanValue.{PlanValue}
 use Rattle.office_map.specs.PlanText.{◌>>=◌, ◌>>◌, refuse_if}
 use Rattle.office_map.specs.Text.{lines, statements}
-use Rattle.office_map.proofs.AcceptedPlans.{AreLines, statements_are_lines}
+use Rattle.office_map.specs.RefusedLines.{SaysSomethingAt}
+use Rattle.office_map.proofs.RefusedLines.{says_at}
 use Rattle.session_language.specs.declared.fault.SessionRule.{SessionRule}
 use Rattle.session_language.specs.declared.fault.SessionRule.TheVariants.{TooLong}
 use Rattle.session_language.specs.declared.fault.SessionRefusal.{SessionRefusal}
@@ -16,10 +17,10 @@ use Rattle.session_language.specs.ProgramValue.{ProgramValue}
 use Rattle.session_language.specs.Spelling.{Spelled, Token}
 use Rattle.session_language.specs.Parse.{Part, read_part}
 use Rattle.session_language.specs.Grammar.{IsExpr}
-use Rattle.session_language.specs.Reading.{Reading, Draft, take_line, at_line, read_lines, nothing_read, unless_open, sessions_of}
+use Rattle.session_language.specs.Reading.{Reading, Draft, take_line, at_line, read_lines, nothing_read, unless_open, all_closed, sessions_of}
 use Rattle.session_language.specs.Tree.{Command, LetVar, SetTo, GiveOf, Requires, When, Choice, Loop, Block, Nothing, Then}
 use Rattle.session_language.specs.Meaning.{Slot, Environment, value_of, truth_of, set_in, Step, Goes, Ends, with_value, with_truth, and_then, repeated, command, block, slot_of, begun, writes_of, ending_of, alone}
-use Rattle.session_language.specs.Laws.{Lead, IsFirstFault, ReadsInOrder, RefusesALine, ReadsTheGrammar, IsUnambiguous, WritesWhatItHas, TellsWhatItRead}
+use Rattle.session_language.specs.Laws.{Lead, IsFirstFault, ReadsInOrder, IsRefusedAs, too_long, at_a_line, left_open, IsReadAs, RefusesALine, ReadsTheGrammar, IsUnambiguous, WritesWhatItHas, TellsWhatItRead}
 use Rattle.session_language.proofs.expressions.ParserSound.{read_spells}
 use Rattle.session_language.proofs.expressions.ParserComplete.{expression_read, one_tree}
 
@@ -37,37 +38,33 @@ pub in_order : ReadsInOrder
 in_order p x [] = refl
 in_order p x (l ∷ ls) = first_line p x l ls (at_line l.0 (take_line p x l.1)) refl (λ y. in_order p y ls)
 
--- the line of a refusal
-abbrev IsWithin : {A : Type 0} → ℕ → Result A SessionRefusal → Type 0
-IsWithin last r = MatchResult r (λ x. Unit {0}) (λ (f : SessionRefusal). f.line ≤ last)
+-- where a text is refused
+its_line : {A : Type 0} (n : ℕ) (r : Result A SessionRule) (f : SessionRefusal) → at_line n r ≡ Err f → n ≡ f.line
+its_line n (Ok x) f e = absurd (cc)
+its_line n (Err rule) f e = let same : ◌≡◌ {A = SessionRefusal} (record { rule = rule; line = n }) f = (cc) in ap (λ (x : SessionRefusal). x.line) same
 
-its_line : (n last : ℕ) → n ≤ last → (r : Result Reading SessionRule) → IsWithin last (at_line n r)
-its_line n last le (Ok x) = tt
-its_line n last le (Err e) = le
+abbrev Answers : PlanValue → List ℕ → Result (List ProgramValue) SessionRefusal → Type 0
+Answers p text r = MatchResult r (IsReadAs p text) (IsRefusedAs p text)
 
-and_more : {A B : Type 0} (last : ℕ) (r : Result A SessionRefusal) (f : A → Result B SessionRefusal) → IsWithin last r → ((x : A) → IsWithin last (f x)) → IsWithin last (r >>= f)
-and_more last (Ok x) f h g = g x
-and_more last (Err e) f h g = h
+at_the_end : (p : PlanValue) (text : List ℕ) → length text ≤ 1048576 → (done : List ProgramValue) (o : Option Draft) → Lead p nothing_read (statements text) (record { done = done; open_session = o })
+    → Answers p text (unless_open (length (lines text)) done o)
+at_the_end p text short done None h = record { short = short; accepted = h }
+at_the_end p text short done (Some d) h = left_open (record { done = done; open_session = Some d }) d short h refl
 
-lines_within : (p : PlanValue) (last : ℕ) (x : Reading) (ls : List (ℕ × List ℕ)) → AreLines last ls → IsWithin (last + 1) (read_lines p x ls)
-lines_within p last x [] h = tt
-lines_within p last x (l ∷ ls) h =
-    and_more (last + 1) (at_line l.0 (take_line p x l.1)) (λ y. read_lines p y ls) (its_line l.0 (last + 1) (omega arith) (take_line p x l.1)) (λ y. lines_within p last y ls h.2)
-
-end_within : (count : ℕ) (ps : List ProgramValue) (o : Option Draft) → IsWithin (count + 1) (unless_open count ps o)
-end_within count ps None = tt
-end_within count ps (Some d) = omega arith
-
-whole_within : (last : ℕ) (b : Bool) (r : Result (List ProgramValue) SessionRefusal) → IsWithin last r → IsWithin last (refuse_if b (record { rule = TooLong; line = 0 }) >> r)
-whole_within last true r h = omega arith
-whole_within last false r h = h
+lines_answer : (p : PlanValue) (text : List ℕ) → length text ≤ 1048576 → (r : Result Reading SessionRefusal) → MatchResult r (Lead p nothing_read (statements text)) (IsFirstFault p nothing_read (statements text))
+    → Answers p text (r >>= all_closed (length (lines text)))
+lines_answer p text short (Ok x) h = at_the_end p text short x.done x.open_session h
+lines_answer p text short (Err f) h =
+    let P : ℕ → Type 0 = SaysSomethingAt text in
+    at_a_line f short h (subst P (its_line h.line.0 (take_line p h.reached h.line.1) f h.refused) (says_at text h.before h.line h.after h.split))
 
 pub a_line : RefusesALine
-a_line p text = unfold sessions_of in
-    whole_within (length (lines text) + 1) (nat_lt 1048576 (length text)) _
-    (and_more (length (lines text) + 1) (read_lines p nothing_read (statements text)) _
-    (lines_within p (length (lines text)) nothing_read (statements text) (statements_are_lines 1 (length (lines text)) (lines text) (omega arith) (omega arith)))
-    (λ x. end_within (length (lines text)) x.done x.open_session))
+unfolding sessions_of
+a_line p text = by_length (nat_lt 1048576 (length text)) refl
+  where
+    by_length : (v : Bool) → nat_lt 1048576 (length text) ≡ v → Answers p text (refuse_if v (record { rule = TooLong; line = 0 }) >> (read_lines p nothing_read (statements text) >>= all_closed (length (lines text))))
+    by_length true e = too_long (grind (e, arith, nat_tests))
+    by_length false e = lines_answer p text (grind (e, arith, nat_tests)) (read_lines p nothing_read (statements text)) (in_order p nothing_read (statements text))
 
 spelled_of : (ts : List Token) (e : Spelled) (d : ℕ) (o : Option Part) → IfSome o (λ x. IsExpr ts x.tree x.depth) → o ≡ Some (record { tree = e; depth = d }) → IsExpr ts e d
 spelled_of ts e d o h is = subst (λ r. IfSome r (λ (x : Part). IsExpr ts x.tree x.depth)) is h

@@ -9,3 +9,5 @@ pub mod expressions
 pub mod session_measures
 pub mod session_reading
 pub mod needed_records
+pub mod LongestMatch
+pub mod LineGrammar

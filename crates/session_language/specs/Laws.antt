@@ -1,15 +1,17 @@
 -- Laws of the definitions that contracts cite.
-use Rattle.std.specs.Prelude.{◌≡◌, ◌≤◌, ◌+◌, ℕ, List, [], ◌∷◌, ◌++◌, length, map, All, Contains, Some, Ok, Err}
+use Rattle.std.specs.Prelude.{◌≡◌, ◌≤◌, ◌<◌, ◌+◌, ℕ, List, [], ◌∷◌, ◌++◌, length, map, All, Contains, Some, None, Ok, Err}
 use Rattle.std.specs.Result.{MatchResult}
 use Rattle.bottle_values.specs.declared.Value.{Value}
 use Rattle.office_map.specs.PlanValue.{PlanValue}
-use Rattle.office_map.specs.Text.{lines}
+use Rattle.office_map.specs.Text.{lines, statements}
+use Rattle.office_map.specs.RefusedLines.{SaysSomethingAt}
+use Rattle.session_language.specs.declared.fault.SessionRule.TheVariants.{TooLong, Syntax}
 use Rattle.session_language.specs.declared.fault.SessionRefusal.{SessionRefusal}
 use Rattle.session_language.specs.ProgramValue.{ProgramValue}
 use Rattle.session_language.specs.Spelling.{Spelled, Token}
 use Rattle.session_language.specs.Parse.{read_part}
 use Rattle.session_language.specs.Grammar.{IsExpr}
-use Rattle.session_language.specs.Reading.{Reading, take_line, at_line, read_lines, sessions_of}
+use Rattle.session_language.specs.Reading.{Draft, Reading, take_line, at_line, read_lines, nothing_read, sessions_of}
 use Rattle.session_language.specs.Meaning.{alone}
 use Rattle.session_language.specs.Measures.{block_cost}
 use Rattle.session_language.specs.Length.{length_on}
@@ -33,9 +35,20 @@ pub record IsFirstFault (p : PlanValue) (x : Reading) (lines : List (ℕ × List
 abbrev pub ReadsInOrder : Type 0
 ReadsInOrder = (p : PlanValue) (x : Reading) (lines : List (ℕ × List ℕ)) → MatchResult (read_lines p x lines) (Lead p x lines) (IsFirstFault p x lines)
 
--- a refusal is of the whole text (0), of one of its lines, or of the end after them
+-- A refusal is of the whole text (line 0), of the first faulty line, or of the end, where a session is still open.
+pub data IsRefusedAs (p : PlanValue) (text : List ℕ) : SessionRefusal → Type 0 where
+  too_long : 1048576 < length text → IsRefusedAs p text (record { rule = TooLong; line = 0 })
+  at_a_line : (f : SessionRefusal) → length text ≤ 1048576 → IsFirstFault p nothing_read (statements text) f → SaysSomethingAt text f.line → IsRefusedAs p text f
+  left_open : (x : Reading) (d : Draft) → length text ≤ 1048576 → Lead p nothing_read (statements text) x → x.open_session ≡ Some d
+      → IsRefusedAs p text (record { rule = Syntax; line = length (lines text) + 1 })
+
+-- a text that isn't refused is short enough, all its lines are accepted, and its sessions are closed
+pub record IsReadAs (p : PlanValue) (text : List ℕ) (ps : List ProgramValue) : Type 0 where
+  pub short : length text ≤ 1048576
+  pub accepted : Lead p nothing_read (statements text) (record { done = ps; open_session = None })
+
 abbrev pub RefusesALine : Type 0
-RefusesALine = (p : PlanValue) (text : List ℕ) → MatchResult (sessions_of p text) (λ (ps : List ProgramValue). Unit {0}) (λ (f : SessionRefusal). f.line ≤ length (lines text) + 1)
+RefusesALine = (p : PlanValue) (text : List ℕ) → MatchResult (sessions_of p text) (IsReadAs p text) (IsRefusedAs p text)
 
 -- an expression is read exactly where the grammar has it, as that tree and as deep
 pub record IsReadBy (ts : List Token) (e : Spelled) (d : ℕ) : Type 0 where

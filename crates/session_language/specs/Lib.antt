@@ -19,3 +19,5 @@ pub mod Naming
 pub mod WellFormed
 pub mod Laws
 pub mod refinement
+pub mod LongestMatch
+pub mod LineGrammar

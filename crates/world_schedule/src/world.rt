@@ -121,6 +121,7 @@ impl World {
         ensures world { OnOk result (state_of self.new ≡ run_of self.old.plan (state_of self.old) events.now) }
         ensures bottles { HasSerialValues self.new.plan (state_of self.new) }
         ensures sessions { HasSerialSessions self.new.plan (state_of self.new) }
+        ensures places { HasOnePlaceEach self.new.plan (state_of self.new) }
         ensures stopped { IfErr result (λ s. (s.done ≤ length events.now) × (state_of self.new ≡ run_of self.old.plan (state_of self.old) (take s.done events.now))) }
     {
         let replies = self.run_all(events);

@@ -8,8 +8,8 @@ pub record Reads (number left all_number all_left : ℕ) (says all_says : List (
   pub shorter : left ≤ all_left
   pub counted : number + left ≤ all_number + all_left
 
-abbrev pub invariant-loop-line : goal.invariant-loop-line
-invariant-loop-line l = Reads l.self.number (length l.self.rest.now) l.fn.self.number (length l.fn.self.rest.now) (statements_from l.self.number (lines l.self.rest.now)) (statements_from l.fn.self.number (lines l.fn.self.rest.now))
+abbrev pub invariant-loop-first : goal.invariant-loop-first
+invariant-loop-first l = Reads l.self.number (length l.self.rest.now) l.fn.self.number (length l.fn.self.rest.now) (statements_from l.self.number (lines l.self.rest.now)) (statements_from l.fn.self.number (lines l.fn.self.rest.now))
 
-abbrev pub decreases-loop-line : goal.decreases-loop-line
-decreases-loop-line l = length l.self.rest.now
+abbrev pub decreases-loop-first : goal.decreases-loop-first
+decreases-loop-first l = length l.self.rest.now
