@@ -12,9 +12,9 @@ use crate::fault::Fault;
 use crate::report::report;
 use crate::texts::{read_events, read_pair, read_plan, read_programs};
 use crate::transcript::transcript;
-use office_map::plan::Plan;
+use office_map::Plan;
 use serial_replay::replay;
-use session_language::program::Program;
+use session_language::Program;
 use std::alloc::{AllocError, Global};
 use std::io::{Read, Write};
 

@@ -39,13 +39,13 @@ pub enum Fault {
     Memory,
     /// The text of the plan is refused.
     #[error("{0}")]
-    Plan(office_map::fault::PlanRefusal),
+    Plan(office_map::PlanRefusal),
     /// The plan's offices precede one another in a ring.
     #[error("P8 Ring: {0} (each precedes the next, and the last the first)")]
-    Ring(office_map::ring::Ring),
+    Ring(office_map::Ring),
     /// The text of the sessions is refused.
     #[error("{0}")]
-    Sessions(session_language::fault::SessionRefusal),
+    Sessions(session_language::SessionRefusal),
     /// The text of the script is refused.
     #[error("{0}")]
     Script(ScriptRefusal),

@@ -6,9 +6,8 @@ ghost use Rattle.std.specs.String.{string_bytes};
 ghost use Rattle.drink_commands.specs.Report.{office_name, record_name, end_text, listed, record_text, value_text, title, outcome_line, value_at, value_line, value_lines, report_of};
 
 use bottle_values::Value;
-use office_map::ids::{OfficeId, RecordId};
-use office_map::plan::Plan;
-use session_language::ending::{End, Outcome};
+use office_map::{OfficeId, Plan, RecordId};
+use session_language::{End, Outcome};
 use std::alloc::{AllocError, Global};
 
 /// One line for each outcome, in this order, and then one line for each record, in order of number.

@@ -9,14 +9,12 @@ ghost use Rattle.drink_commands.specs.Fault.{IsFaultOf};
 
 use crate::fault::{Fault, ScriptRefusal};
 use crate::input::Input;
-use office_map::ids::{OfficeId, RecordId};
-use office_map::plan::Plan;
+use office_map::{OfficeId, Plan, RecordId};
 use office_map::statements::Statements;
 use office_map::text::{is_plain, name, number, words};
-use session_language::program::Program;
+use session_language::Program;
 use std::alloc::{AllocError, Global};
-use world_schedule::event::WorldEvent;
-use world_schedule::rule::Rule;
+use world_schedule::{Rule, WorldEvent};
 
 /// The events that a script means under a plan, where these are the programs of the file of sessions. The first faulty
 /// line is refused.

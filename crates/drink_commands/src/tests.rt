@@ -1,8 +1,8 @@
 use crate::commands::serial;
 use crate::fault::Fault;
 use crate::input::Input;
-use office_map::fault as plans;
-use session_language::fault as sessions;
+use office_map as plans;
+use session_language as sessions;
 use std::alloc::Global;
 use std::process::Abort;
 use std::test::Fail;

@@ -13,15 +13,11 @@ use crate::fault::Fault;
 use crate::input::Input;
 use crate::reading::read_at_most;
 use crate::script;
-use office_map::fault::PlanFault;
-use office_map::ids::OfficeId;
-use office_map::plan::Plan;
-use session_language::fault::LangFault;
-use session_language::program::Program;
-use session_language::read::read_sessions;
+use office_map::{OfficeId, Plan, PlanFault};
+use session_language::{LangFault, Program, read_sessions};
 use std::alloc::Global;
 use std::io::Read;
-use world_schedule::event::WorldEvent;
+use world_schedule::WorldEvent;
 
 /// The plan that an input means.
 pub fn read_plan<R: Read>(alloc: Global, reader: &mut R) -> Result<Plan, Fault>

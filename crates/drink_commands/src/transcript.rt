@@ -10,13 +10,9 @@ ghost use Rattle.drink_commands.specs.Transcript.{finished_lines, refusal_text, 
 
 use crate::fault::Fault;
 use crate::report::{add_outcome, add_value};
-use office_map::ids::RecordId;
-use office_map::plan::Plan;
+use office_map::{Plan, RecordId};
 use std::alloc::{AllocError, Global};
-use world_schedule::event::WorldEvent;
-use world_schedule::finished::Finished;
-use world_schedule::reply::{Refusal, Reply};
-use world_schedule::world::World;
+use world_schedule::{Finished, Refusal, Reply, World, WorldEvent};
 
 /// One line for each event of a run from the plan's opening, and then the report of the world that it leads to: the
 /// finished sessions in finishing order, how many submitted ones haven't finished, and the records' values.

@@ -15,8 +15,9 @@ use Rattle.office_map.specs.declared.entries.RecordEntry.{RecordEntry}
 use Rattle.office_map.specs.PlanValue.{PlanValue, office_named, record_named, joins, are_neighbours, lies_between, records_between, with_office, with_pair, with_record, no_address, fork_end}
 use Rattle.office_map.specs.PlanText.{is_address_taken}
 use Rattle.office_map.specs.Text.{is_name}
-use Rattle.office_map.specs.Consistency.{IsConsistent, HasEnds}
+use Rattle.office_map.specs.Consistency.{IsConsistent}
 use Rattle.office_map.proofs.ListBounds.{count_by-filter, length_by_key}
+use Rattle.office_map.specs.refinement.PlanReader.{HasEnds}
 
 -- where no element passes
 past_the_end : (i n : ℕ) → cond (nat_lt i n) (Some i) None ≡ None → n ≤ i

@@ -3,7 +3,8 @@ use Rattle.std.proofs.Common.{◌≡◌, ℕ, zero, suc, ◌+◌, ◌<◌, List,
 use Rattle.std.specs.List.{All, range_with_len, filter}
 use Rattle.std.proofs.lemmas.List.FromFn.{length-range_with_len, get_or-range_with_len, length-map-range_with_len, get_or-map-range_with_len, map-range_with_len_more}
 use Rattle.std.proofs.lemmas.List.Elements.{filter-append, All-filter}
-use Rattle.office_map.specs.PlanValue.{PlanValue, neighbours_of, records_of, index_of}
+use Rattle.office_map.specs.PlanValue.{PlanValue, neighbours_of, records_of}
+use Rattle.office_map.specs.refinement.OfficeIndex.{index_of}
 
 range_more : (a n : ℕ) → range_with_len a (suc n) ≡ range_with_len a n ++ (a + n) ∷ []
 range_more a zero = let first : a ≡ a + 0 = omega arith in ap (λ k. k ∷ []) first

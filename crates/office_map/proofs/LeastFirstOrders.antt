@@ -11,9 +11,10 @@ use Rattle.std.proofs.lemmas.List.Recursion.{is_count_by}
 use Rattle.office_map.specs.declared.entries.PairEntry.{PairEntry}
 use Rattle.office_map.specs.PlanValue.{PlanValue, fork_end}
 use Rattle.office_map.specs.Consistency.{IsConsistent}
-use Rattle.office_map.specs.Precedence.{preceding_end, starts_before, awaits, comes_before, occurrences, IsNext, IsLeastFirst}
+use Rattle.office_map.specs.Precedence.{preceding_end, starts_before, comes_before, occurrences, IsNext, IsLeastFirst}
 use Rattle.office_map.proofs.ListBounds.{length_by_key}
 use Rattle.bottle_values.specs.Lists.{is_among, num}
+use Rattle.office_map.specs.refinement.OrderSearch.{awaits}
 
 -- ---- how often an office stands in a list
 num_or : (b : Bool) (n : ℕ) → num b + n ≡ cond b (1 + n) n

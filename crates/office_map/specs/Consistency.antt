@@ -1,5 +1,5 @@
 -- What holds of every accepted plan.
-use Rattle.std.specs.Prelude.{◌≡◌, ◌≢◌, ℕ, ◌<◌, ◌≤◌, length, All, AllPairs, IsTrue, true, false}
+use Rattle.std.specs.Prelude.{◌≡◌, ◌≢◌, ℕ, ◌<◌, ◌≤◌, length, All, AllPairs, IsTrue, false}
 use Rattle.std.specs.Result.{MatchResult}
 use Rattle.office_map.specs.declared.entries.OfficeEntry.{OfficeEntry}
 use Rattle.office_map.specs.declared.entries.PairEntry.{PairEntry}
@@ -24,13 +24,6 @@ pub record IsConsistent (p : PlanValue) : Type 0 where
   pub record_names : AllPairs (λ (a b : RecordEntry). a.name ≢ b.name) p.records
   pub records_have_pairs : All (λ (r : RecordEntry). IsTrue (are_neighbours p r.first r.second)) p.records
   pub records_fit : (a b : ℕ) → records_between p a b ≤ 8
-
--- two different offices of the plan that are neighbours
-pub record HasEnds (p : PlanValue) (a b : ℕ) : Type 0 where
-  pub joined : are_neighbours p a b ≡ true
-  pub first : a < length p.offices
-  pub second : b < length p.offices
-  pub different : a ≢ b
 
 -- The lines of a plan without a fault give consistent tables with two offices; a refusal names a line of the text, or 0.
 abbrev pub IsComplete : PlanValue → Type 0

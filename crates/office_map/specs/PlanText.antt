@@ -11,8 +11,6 @@ use Rattle.office_map.specs.declared.fault.PlanRefusal.{PlanRefusal}
 use Rattle.office_map.specs.declared.fault.PlanFault.{PlanFault}
 use Rattle.office_map.specs.declared.ring.Ring as rings
 use Rattle.office_map.specs.declared.fault.PlanFault.TheVariants.{Memory, Refused, Ring}
-use Rattle.office_map.specs.declared.line.Declaration as code
-use Rattle.office_map.specs.declared.line.Declaration.TheVariants as variants
 use Rattle.office_map.specs.PlanValue.{PlanValue, office_named, record_named, are_neighbours, records_between, with_office, with_pair, with_record, no_address}
 use Rattle.office_map.specs.Precedence.{IsNamedRing, HasOrder}
 use Rattle.office_map.specs.Text.{name_of, is_plain, number_of, words_of, lines, statements}
@@ -41,12 +39,6 @@ pub data Declaration : Type 0 where
   AnOffice : (name address : List ℕ) → Declaration
   APair : (a b : List ℕ) (at_first : Bool) → Declaration
   ARecord : (name a b : List ℕ) (value : ℤ) (at_first : Bool) → Declaration
-
--- the same without where the names lie in memory
-abbrev pub seen : code.Declaration → Declaration
-seen (variants.Office o) = AnOffice o.name.now o.address.now
-seen (variants.Pair p) = APair p.a.now p.b.now p.fork_at_first
-seen (variants.Record r) = ARecord r.name.now r.a.now r.b.now r.value r.starts_at_first
 
 -- each declaration, where all its words are good
 abbrev pub office_of : Option (List ℕ) → Option (List ℕ) → Option Declaration
@@ -169,21 +161,6 @@ plan_of text = do
   p ← read_statements (statements text)
   refuse_if (nat_lt (length p.offices) 2) (record { rule = Limit; line = 0 })
   Ok p
-
--- what a function returned, seen by view, is what reading gives, unless memory ran out
-abbrev pub Fails : {A : Type 0} → PlanFault → Result A PlanRefusal → Type 0
-Fails Memory read = Unit {0}
-Fails (Refused r) read = read ≡ Err r
-Fails (Ring r) read = ⊥
-
-abbrev pub Gives : {X A : Type 0} → (X → A) → Result X PlanFault → Result A PlanRefusal → Type 0
-Gives view (Ok x) read = read ≡ Ok (view x)
-Gives view (Err e) read = Fails e read
-
--- the same of a function that changes a plan
-abbrev pub Leaves : {X : Type 0} → Result X PlanFault → PlanValue → Result PlanValue PlanRefusal → Type 0
-Leaves (Ok x) after read = read ≡ Ok after
-Leaves (Err e) after read = Fails e read
 
 -- the lines have no fault, and their plan has this ring
 abbrev pub HasRing : rings.Ring → Result PlanValue PlanRefusal → Type 0

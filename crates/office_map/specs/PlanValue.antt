@@ -68,10 +68,6 @@ is_end p r office = option_map_or (λ e. has_end e office) (slice_get p.records 
 abbrev pub records_of : PlanValue → ℕ → List ℕ
 records_of p office = filter (λ r. is_end p r office) (range_with_len 0 (length p.records))
 
--- each office's neighbours and records
-abbrev pub index_of : PlanValue → List (List ℕ × List ℕ)
-index_of p = map (λ office. (neighbours_of p office, records_of p office)) (range_with_len 0 (length p.offices))
-
 -- the ends of a record, in the order of its line
 abbrev pub ends_of : PlanValue → ℕ → Option (ℕ × ℕ)
 ends_of p r = option_map (λ (e : RecordEntry). (e.first, e.second)) (slice_get p.records r)

@@ -1,6 +1,6 @@
 -- Who precedes whom at the start, rings, and orders.
 -- The fork of a pair is dirty at the start, so the end that hasn't it precedes the end that has it.
-use Rattle.std.specs.Prelude.{◌≡◌, ℕ, ◌+◌, ◌<◌, ◌≤◌, List, [], ◌∷◌, length, map, take, get_or, Bool, true, false, ◌&&◌, ◌||◌, ◌==◌, not, nat_lt, Some, if◌then◌else◌, All}
+use Rattle.std.specs.Prelude.{◌≡◌, ℕ, ◌+◌, ◌<◌, ◌≤◌, List, [], ◌∷◌, length, map, take, get_or, Bool, true, false, ◌&&◌, ◌||◌, ◌==◌, nat_lt, Some, if◌then◌else◌, All}
 use Rattle.std.specs.List.{list_any}
 use Rattle.std.specs.String.{string_bytes}
 use Rattle.office_map.specs.declared.entries.PairEntry.{PairEntry}
@@ -27,10 +27,6 @@ comes_before (x ∷ xs) u v = (x == u && list_any (λ y. y == v) xs) || comes_be
 abbrev pub occurrences : ℕ → List ℕ → ℕ
 occurrences a [] = 0
 occurrences a (x ∷ xs) = num (x == a) + occurrences a xs
-
--- the office has this pair's fork, and the other end isn't one of these
-abbrev pub awaits : List ℕ → ℕ → PairEntry → Bool
-awaits placed v pair = fork_end pair == v && not (is_among placed (preceding_end pair))
 
 -- ---- orders
 

@@ -1,1 +1,4 @@
 pub mod RecordCounts
+pub mod PlanReader
+pub mod OfficeIndex
+pub mod OrderSearch

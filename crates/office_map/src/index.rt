@@ -1,12 +1,13 @@
 //! For each office its neighbours and its records.
 
 ghost use Rattle.std.specs.Prelude.{◌≡◌, IfOk};
-ghost use Rattle.office_map.specs.PlanValue.{neighbours_of, records_of, index_of};
+ghost use Rattle.office_map.specs.PlanValue.{neighbours_of, records_of};
 
 use crate::ids::{OfficeId, RecordId};
 use crate::plan_entries::PlanEntries;
 use std::alloc::{AllocError, Global};
 use std::marker::Model;
+ghost use Rattle.office_map.specs.refinement.OfficeIndex.{index_of};
 
 /// The neighbours and the records of one office, the least number first: seen as these two
 /// lists.

@@ -25,17 +25,17 @@
 
 mod address;
 mod entries;
-pub mod fault;
-pub mod ids;
+mod fault;
+mod ids;
 mod index;
 pub mod laws;
 mod line;
 mod new_entries;
-pub mod plan;
+mod plan;
 mod precedence;
 mod read;
 mod records;
-pub mod ring;
+mod ring;
 mod ring_search;
 pub mod statements;
 mod plan_entries;

@@ -23,7 +23,8 @@ pub struct Plan {
 
 impl Model for Plan {
     ghost use Rattle.std.specs.Prelude.{◌≡◌};
-    ghost use Rattle.office_map.specs.PlanValue.{PlanValue, index_of};
+    ghost use Rattle.office_map.specs.PlanValue.{PlanValue};
+    ghost use Rattle.office_map.specs.refinement.OfficeIndex.{index_of};
     ghost use Rattle.office_map.specs.Precedence.{IsLeastFirst};
     ghost use Rattle.office_map.specs.Consistency.{IsComplete};
 
@@ -38,7 +39,8 @@ impl Plan {
     ghost use Rattle.office_map.specs.PlanValue.{office_named, record_named, office_name_of, address_of, record_name_of, are_neighbours, neighbours_of, fork_end_of, is_end, records_of, ends_of, peer, start_end_of, start_values};
     ghost use Rattle.office_map.specs.PlanText.{plan_of, Answers, IfRefused, IsLineOf};
     ghost use Rattle.office_map.specs.Precedence.{IsLeastFirst};
-    ghost use Rattle.office_map.specs.Consistency.{IsConsistent, IsAccepted, HasEnds};
+    ghost use Rattle.office_map.specs.Consistency.{IsConsistent, IsAccepted};
+    ghost use Rattle.office_map.specs.refinement.PlanReader.{HasEnds};
 
     /// The plan that a text means, the first rule that a line of it breaks, or a ring of
     /// offices where no line breaks a rule. `Memory` may stand in place of any other answer,

@@ -43,7 +43,8 @@ impl PlanEntries {
     ghost use Rattle.std.specs.Prelude.{◌≤◌, ◌⊎◌, find};
     ghost use Rattle.std.specs.Option.{option_copied};
     ghost use Rattle.office_map.specs.PlanValue.{office_named, office_name_of, record_named, joins, are_neighbours, records_between, is_end, fork_end_of};
-    ghost use Rattle.office_map.specs.PlanText.{declare, at_line, Leaves, seen, is_address_taken, AnOffice, APair, ARecord};
+    ghost use Rattle.office_map.specs.PlanText.{declare, at_line, is_address_taken, AnOffice, APair, ARecord};
+    ghost use Rattle.office_map.specs.refinement.PlanReader.{Leaves, seen};
     ghost use Rattle.office_map.specs.Consistency.{IsConsistent};
 
     pub fn new(alloc: Global, run: u32) -> PlanEntries

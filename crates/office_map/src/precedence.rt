@@ -3,7 +3,7 @@
 ghost use Rattle.std.specs.Prelude.{◌≡◌, ◌<◌, length, MatchOption, ℕ, not, ◌&&◌, ◌==◌, true, false, Ok, Err};
 ghost use Rattle.std.specs.Result.{MatchResult};
 ghost use Rattle.office_map.specs.PlanText.{Answers};
-ghost use Rattle.office_map.specs.Precedence.{starts_before, awaits, MayCome, IsNext, IsLeastFirst};
+ghost use Rattle.office_map.specs.Precedence.{starts_before, MayCome, IsNext, IsLeastFirst};
 
 use crate::entries::PairEntry;
 use crate::fault::PlanFault;
@@ -12,6 +12,7 @@ use crate::ring_search::ring_from;
 use crate::plan_entries::PlanEntries;
 use std::alloc::Global;
 ghost use Rattle.bottle_values.specs.Lists.{is_among};
+ghost use Rattle.office_map.specs.refinement.OrderSearch.{awaits};
 
 /// All offices, one that precedes earlier, and the least number first where several may come;
 /// or a ring, where there is no such order.

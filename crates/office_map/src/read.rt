@@ -2,7 +2,7 @@
 
 ghost use Rattle.std.specs.Prelude.{◌≡◌, ◌<◌, ◌+◌, ◌^◌, length, map, option_map, IfOk};
 ghost use Rattle.office_map.specs.Text.{lines, statements_from};
-ghost use Rattle.office_map.specs.PlanText.{plan_of, plain_words, read_line, read_lines, read_header, Gives, Leaves};
+ghost use Rattle.office_map.specs.PlanText.{plan_of, plain_words, read_line, read_lines, read_header};
 
 use crate::fault::{PlanFault, PlanRule, refused};
 use crate::line::{declaration_in, run_in};
@@ -10,6 +10,7 @@ use crate::statements::Statements;
 use crate::plan_entries::PlanEntries;
 use crate::text::{is_plain, words};
 use std::alloc::{AllocError, Global};
+ghost use Rattle.office_map.specs.refinement.PlanReader.{Gives, Leaves};
 
 /// The longest text of a plan, in bytes.
 const TEXT_LIMIT: usize = 262_144;

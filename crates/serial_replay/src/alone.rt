@@ -9,9 +9,8 @@ use crate::environment::{Environment, Slot};
 use crate::stop::Stop;
 use crate::walk::walk_all;
 use bottle_values::Value;
-use office_map::ids::RecordId;
-use session_language::ending::{End, Ending, Gives, RecordValues};
-use session_language::program::Program;
+use office_map::RecordId;
+use session_language::{End, Ending, Gives, Program, RecordValues};
 use std::alloc::{AllocError, Global};
 
 #[tactic(auto, unfolding(session_language::specs::Meaning::alone))]

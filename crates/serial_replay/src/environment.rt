@@ -1,8 +1,8 @@
 //! What a running session has.
 
 use bottle_values::Value;
-use office_map::ids::RecordId;
-use session_language::ending::Gives;
+use office_map::RecordId;
+use session_language::Gives;
 
 /// A record's value in the session's copy, and whether the session has set it.
 #[derive(Clone, Copy, Debug)]

@@ -9,9 +9,8 @@ ghost use Rattle.serial_replay.specs.refinement.WalkRefinement.{slot_of, environ
 
 use crate::environment::{Environment, Slot};
 use bottle_values::{Overflow, Value};
-use office_map::ids::RecordId;
-use session_language::expression::Expression;
-use session_language::node::{Node, Operator};
+use office_map::RecordId;
+use session_language::{Expression, Node, Operator};
 use std::alloc::AllocError;
 ghost use Rattle.bottle_values.specs.Arithmetic.{nought};
 

@@ -30,10 +30,8 @@ ghost use Rattle.serial_replay.specs.Serial.{
 
 use crate::alone::alone;
 use bottle_values::Value;
-use office_map::ids::{OfficeId, RecordId};
-use office_map::plan::Plan;
-use session_language::ending::{Ending, Outcome};
-use session_language::program::Program;
+use office_map::{OfficeId, Plan, RecordId};
+use session_language::{Ending, Outcome, Program};
 use std::alloc::{AllocError, Global};
 ghost use Rattle.bottle_values.specs.Arithmetic.{nought};
 

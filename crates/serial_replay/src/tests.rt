@@ -1,9 +1,7 @@
 use crate::replay::{Replay, serial};
 use bottle_values::Value;
-use office_map::ids::RecordId;
-use office_map::plan::Plan;
-use session_language::ending::{End, Ending, Outcome};
-use session_language::read::read_sessions;
+use office_map::{Plan, RecordId};
+use session_language::{End, Ending, Outcome, read_sessions};
 use std::alloc::{AllocError, Global};
 use std::fmt::Write;
 use std::test::Fail;

@@ -15,7 +15,7 @@ use crate::names::position_of;
 use crate::needs::add_needs;
 use crate::spoken::Spoken;
 use crate::tree::Statement;
-use office_map::ids::{OfficeId, RecordId};
+use office_map::{OfficeId, RecordId};
 use std::alloc::{AllocError, Global};
 
 /// The most records that a session may name.

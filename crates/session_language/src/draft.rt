@@ -8,7 +8,7 @@ ghost use Rattle.session_language.specs.WellFormed.{IsDeclared};
 ghost use Rattle.session_language.specs.refinement.UniqueProofs.{declared-prop};
 
 use crate::tree::Statement;
-use office_map::ids::{OfficeId, RecordId};
+use office_map::{OfficeId, RecordId};
 
 /// A session that is open: its office, its variables, the records that it needs so far, and its
 /// statements so far.

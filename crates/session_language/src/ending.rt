@@ -3,7 +3,7 @@
 ghost use Rattle.std.specs.Prelude.{◌≡◌, [], ◌∷◌, ◌++◌, OnOk, OnErr, IfOk};
 
 use bottle_values::Value;
-use office_map::ids::{OfficeId, RecordId};
+use office_map::{OfficeId, RecordId};
 use std::alloc::{AllocError, Global};
 use std::marker::Model;
 
@@ -20,7 +20,7 @@ pub enum End {
 /// Values of records, in order of number. Contracts see the list.
 #[derive(Debug, Drop)]
 pub struct RecordValues {
-    items: Vec<(RecordId, Value)>,
+    records: Vec<(RecordId, Value)>,
 }
 
 impl Model for RecordValues {
@@ -29,30 +29,33 @@ impl Model for RecordValues {
 
     ghost Value = { List (ℕ × bottle.Value) };
 
-    ghost view = { λ v. v.items.items };
+    ghost view = { λ v. v.records.items };
 }
 
 impl RecordValues {
+    /// No record yet.
     pub fn new(alloc: Global) -> RecordValues
         ensures { result ≡ [] }
     {
         RecordValues {
-            items: Vec::new(alloc),
+            records: Vec::new(alloc),
         }
     }
 
+    /// Adds a record with its value at the end. Where memory runs out the list is as it was.
     pub fn push(&mut self, id: RecordId, value: Value) -> Result<(), AllocError>
         ensures pushed { OnOk result (self.new ≡ self.old ++ (id, value) ∷ []) }
         ensures unchanged { OnErr result (self.new ≡ self.old) }
     {
-        self.items.push((id, value))?;
+        self.records.push((id, value))?;
         Ok(())
     }
 
+    /// The records with their values, in order.
     pub fn as_slice(&self) -> &[(RecordId, Value)]
         ensures { result.now ≡ self.now }
     {
-        &self.items
+        self.records.as_slice()
     }
 
     /// The same list, in memory of its own.
@@ -60,7 +63,7 @@ impl RecordValues {
         ensures { IfOk result (λ v. v ≡ self.now) }
     {
         Ok(RecordValues {
-            items: Vec::from_slice(alloc, &self.items)?,
+            records: Vec::from_slice(alloc, &self.records)?,
         })
     }
 }
@@ -68,7 +71,7 @@ impl RecordValues {
 /// The values that a session gave, in order. Contracts see the list.
 #[derive(Debug, Drop)]
 pub struct Gives {
-    items: Vec<Value>,
+    values: Vec<Value>,
 }
 
 impl Model for Gives {
@@ -77,30 +80,33 @@ impl Model for Gives {
 
     ghost Value = { List bottle.Value };
 
-    ghost view = { λ g. g.items.items };
+    ghost view = { λ g. g.values.items };
 }
 
 impl Gives {
+    /// No value yet.
     pub fn new(alloc: Global) -> Gives
         ensures { result ≡ [] }
     {
         Gives {
-            items: Vec::new(alloc),
+            values: Vec::new(alloc),
         }
     }
 
+    /// Adds a value at the end. Where memory runs out the list is as it was.
     pub fn push(&mut self, value: Value) -> Result<(), AllocError>
         ensures pushed { OnOk result (self.new ≡ self.old ++ value ∷ []) }
         ensures unchanged { OnErr result (self.new ≡ self.old) }
     {
-        self.items.push(value)?;
+        self.values.push(value)?;
         Ok(())
     }
 
+    /// The values, in order.
     pub fn as_slice(&self) -> &[Value]
         ensures { result.now ≡ self.now }
     {
-        &self.items
+        self.values.as_slice()
     }
 
     /// The same list, in memory of its own.
@@ -108,7 +114,7 @@ impl Gives {
         ensures { IfOk result (λ g. g ≡ self.now) }
     {
         Ok(Gives {
-            items: Vec::from_slice(alloc, &self.items)?,
+            values: Vec::from_slice(alloc, &self.values)?,
         })
     }
 }

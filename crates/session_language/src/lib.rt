@@ -8,7 +8,7 @@
 //!   whether a plan has its office and its records. What holds of every program is in `specs/WellFormed.antt`.
 //! - What a session does alone is `alone`, in `specs/Meaning.antt`, and how much it does `length_on`, in
 //!   `specs/Length.antt`; `proofs/WorkedExamples.antt` works out examples of both. How it ended is an
-//!   [`Ending`](ending::Ending).
+//!   [`Ending`].
 //! - Expressions are kept in postfix order (`specs/Postfix.antt`), and reading them takes one pass and no recursion; the
 //!   grammar is in `specs/Grammar.antt`, the words of a line in `specs/Lexer.antt`, the limits in
 //!   `specs/Measures.antt`.
@@ -19,9 +19,9 @@ mod builder;
 mod closing;
 mod copying;
 mod draft;
-pub mod ending;
-pub mod expression;
-pub mod fault;
+mod ending;
+mod expression;
+mod fault;
 mod keyword;
 pub mod laws;
 mod lexer;
@@ -29,13 +29,13 @@ mod listing;
 pub mod measures;
 mod names;
 mod needs;
-pub mod node;
+mod node;
 mod number;
 mod operands;
 mod phrase;
-pub mod program;
+mod program;
 mod rank;
-pub mod read;
+mod read;
 mod reader;
 mod scope;
 mod sizes;
@@ -45,9 +45,13 @@ mod steps;
 mod tests;
 mod text;
 mod token;
-pub mod tree;
+mod tree;
 mod words;
 
+pub use crate::ending::{End, Ending, Gives, Outcome, RecordValues};
+pub use crate::expression::Expression;
 pub use crate::fault::{LangFault, SessionRefusal, SessionRule};
+pub use crate::node::{Comparison, Node, Operator};
 pub use crate::program::Program;
 pub use crate::read::read_sessions;
+pub use crate::tree::{Condition, Statement};

@@ -13,7 +13,7 @@ use crate::text::{write_record, write_term, write_variable};
 use crate::tree::{Condition, Statement};
 use crate::words::Words;
 use itoa::Buffer;
-use office_map::ids::RecordId;
+use office_map::RecordId;
 use std::alloc::{AllocError, Global};
 
 /// The canonical text of a session with these statements.

@@ -12,7 +12,7 @@ use crate::node::Node;
 use crate::scope::Scope;
 use crate::token::{Operand, Token};
 use bottle_values::Value;
-use office_map::ids::RecordId;
+use office_map::RecordId;
 
 /// A token whose names are in their places, and whether they are known as a variable and as a record.
 #[derive(Clone, Copy)]

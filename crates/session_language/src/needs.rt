@@ -8,7 +8,7 @@ ghost use Rattle.session_language.specs.refinement.ReaderRefinement.{spoken_need
 use crate::expression::Expression;
 use crate::node::Node;
 use crate::spoken::Spoken;
-use office_map::ids::RecordId;
+use office_map::RecordId;
 use std::alloc::AllocError;
 
 /// Adds the records of a statement.

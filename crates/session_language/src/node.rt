@@ -1,7 +1,7 @@
 //! The parts that an expression is made of.
 
 use bottle_values::Value;
-use office_map::ids::RecordId;
+use office_map::RecordId;
 
 /// An operator between two operands.
 #[derive(Clone, Copy, Debug, PartialEq, Eq)]

@@ -15,8 +15,7 @@ use crate::draft::Draft;
 use crate::listing::session_text;
 use crate::tree::Statement;
 use crate::words::{RecordNames, Words};
-use office_map::ids::{OfficeId, RecordId};
-use office_map::plan::Plan;
+use office_map::{OfficeId, Plan, RecordId};
 use std::alloc::{AllocError, Global};
 use std::marker::Model;
 

@@ -10,7 +10,7 @@ use crate::builder::{Builder, Level, Stage, Sum};
 use crate::fault::{LangFault, SessionRefusal, SessionRule, Stop};
 use crate::program::Program;
 use crate::reader::Reader;
-use office_map::plan::Plan;
+use office_map::Plan;
 use office_map::statements::Statements;
 use office_map::text::first_line;
 use std::alloc::Global;

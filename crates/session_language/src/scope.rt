@@ -3,8 +3,7 @@
 ghost use Rattle.std.specs.Prelude.{◌≡◌};
 ghost use Rattle.session_language.specs.Names.{scope_of, variable_named, record_of};
 
-use office_map::ids::{OfficeId, RecordId};
-use office_map::plan::Plan;
+use office_map::{OfficeId, Plan, RecordId};
 
 /// The plan, the session's office, and the variables that earlier lines name.
 #[derive(Clone, Copy)]

@@ -17,7 +17,7 @@ use crate::node::Comparison;
 use crate::phrase::Summary;
 use crate::scope::Scope;
 use crate::tree::Condition;
-use office_map::ids::RecordId;
+use office_map::RecordId;
 use office_map::text::{name, number};
 use std::alloc::{AllocError, Global};
 

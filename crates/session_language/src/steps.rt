@@ -15,7 +15,7 @@ use crate::keyword::{Keyword, keyword_of};
 use crate::lexer::{Piece, Pieces};
 use crate::reader::Reader;
 use crate::scope::Scope;
-use office_map::plan::Plan;
+use office_map::Plan;
 use office_map::text::name;
 use std::alloc::Global;
 use std::mem;

@@ -12,7 +12,7 @@ use crate::rank::Rank;
 use crate::words::{RecordNames, Words};
 use bottle_values::Value;
 use itoa::Buffer;
-use office_map::ids::RecordId;
+use office_map::RecordId;
 use std::alloc::AllocError;
 
 /// What an expression may stand as without parentheses.

@@ -2,7 +2,7 @@
 
 use crate::expression::Expression;
 use crate::node::Comparison;
-use office_map::ids::RecordId;
+use office_map::RecordId;
 
 /// Two expressions that are compared.
 #[derive(Debug, Drop)]

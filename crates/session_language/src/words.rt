@@ -1,6 +1,6 @@
 //! The words that stand for an office, variables and records in a text.
 
-use office_map::plan::Plan;
+use office_map::Plan;
 
 /// Where records' names come from.
 #[derive(Clone, Copy)]

@@ -11,8 +11,8 @@ use Rattle.window_link.specs.declared.laws.event.LinkReply.{LinkReply}
 use Rattle.window_link.specs.declared.laws.event.LinkReply.TheVariants.{Arrived}
 use Rattle.window_link.specs.Links.{LinkState, fault_of, arrival_at, after_arrival}
 use Rattle.window_link.specs.Streams.{nth, other}
-use Rattle.window_link.specs.Two.{Ends, at}
-use Rattle.window_link.specs.refinement.TwoLinksStep.{with_link, arrive_step, ends, Accepts}
+use Rattle.window_link.specs.Two.{Ends, at, Accepts}
+use Rattle.window_link.specs.refinement.TwoLinksStep.{with_link, arrive_step, ends}
 
 nth-from_get : {X : Type 0} (xs : List X) (k : ℕ) (x : X) → (k ≡ 0 → ⊥) → slice_get xs (k - 1) ≡ Some x → nth xs k ≡ Some x
 nth-from_get xs zero x n e = absurd (n refl)

@@ -16,8 +16,8 @@ use Rattle.window_link.specs.declared.fault.LinkFault.TheVariants.{Stranger, Ack
 use Rattle.window_link.specs.Windows.{Sending, greatest}
 use Rattle.window_link.specs.Links.{LinkState, received_from, fault_of, arrival_at, after_arrival}
 use Rattle.window_link.specs.Streams.{Stream, Pair, IsLawful, waiting, other, with_stream, nth, can_send, send, post_waiting, learned, took, deliver, happens}
-use Rattle.window_link.specs.Two.{Ends, at, link_at, ends_of}
-use Rattle.window_link.specs.refinement.TwoLinksStep.{with_link, with_sending, queue_step, made, made_of, with_frames, arrive_step, step, Accepts}
+use Rattle.window_link.specs.Two.{Ends, at, link_at, ends_of, Accepts}
+use Rattle.window_link.specs.refinement.TwoLinksStep.{with_link, with_sending, queue_step, made, made_of, with_frames, arrive_step, step}
 use Rattle.window_link.proofs.Invariant.{Sound, Honest}
 
 -- ---- parts of a link's state

@@ -5,10 +5,10 @@ use Rattle.std.specs.declared.alloc.AllocError.{AllocError}
 use Rattle.window_link.specs.declared.laws.event.LinkEvent.{LinkEvent}
 use Rattle.window_link.specs.declared.laws.event.LinkReply.{LinkReply}
 use Rattle.window_link.specs.Streams.{Pair, happens, run_of}
-use Rattle.window_link.specs.Two.{Ends, Names, ends_of, office_at, after, LedTo, HasLawfulStreams, Happens}
+use Rattle.window_link.specs.Two.{Ends, Names, ends_of, office_at, after, LedTo, HasLawfulStreams, Happens, Accepts, NoFrameIsRefused}
 use Rattle.window_link.specs.declared.laws.event.Posted.{Posted}
 use Rattle.window_link.specs.Links.{LinkState, resumed}
-use Rattle.window_link.specs.refinement.TwoLinksStep.{step, ends, Steps, Accepts, NoFrameIsRefused}
+use Rattle.window_link.specs.refinement.TwoLinksStep.{step, ends, Steps}
 use Rattle.window_link.proofs.Invariant.{Sound, sound_run, sound_opening, streams_kept}
 use Rattle.window_link.proofs.LinksRefineStreams.{step_is, accepts_all}
 

@@ -1,12 +1,13 @@
 -- Two linked ends as contracts see them, and which lists of events led to them.
-use Rattle.std.specs.Prelude.{◌≡◌, ℕ, List, ◌∷◌, [], ◌++◌, length}
+use Rattle.std.specs.Prelude.{◌≡◌, ℕ, List, ◌∷◌, [], ◌++◌, length, ◌+◌, slice_get, Some, None, Bool, true, false}
 use Rattle.window_link.specs.declared.laws.event.End.{End}
 use Rattle.window_link.specs.declared.laws.event.End.TheVariants.{Left, Right}
 use Rattle.window_link.specs.declared.laws.event.Posted.{Posted}
 use Rattle.window_link.specs.declared.laws.event.LinkEvent.{LinkEvent}
 use Rattle.window_link.specs.declared.laws.event.LinkReply.{LinkReply}
-use Rattle.window_link.specs.Links.{LinkState}
+use Rattle.window_link.specs.Links.{LinkState, fault_of}
 use Rattle.window_link.specs.Streams.{Pair, IsLawful, waiting, other, happens, opening, run_of}
+use Rattle.window_link.specs.declared.laws.event.LinkEvent.TheVariants.{Queue, Make, Ack, Arrive}
 
 pub record Ends : Type 0 where
   pub left : LinkState
@@ -59,3 +60,18 @@ pub record HasLawfulStreams (t : Ends) : Type 0 where
 -- whatever events led to the old ends, they and this one led to the new, and the answer is theirs
 abbrev pub Happens : Ends → LinkEvent → LinkReply → Ends → Type 0
 Happens old event reply new = (names : Names) (events : List LinkEvent) → LedTo names events old → LedTo names (events ++ event ∷ []) new × (reply ≡ (happens (after names events) event).0)
+
+-- an end refuses none of the frames that were made for it
+abbrev pub Accepts : Ends → Type 0
+Accepts t = (k : ℕ) (posted : Posted) → slice_get t.frames k ≡ Some posted → fault_of (at t (other posted.by)) posted.frame ≡ None
+
+-- over every list of events
+abbrev pub NoFrameIsRefused : Type 0
+NoFrameIsRefused = (names : Names) (events : List LinkEvent) → Accepts (ends_of (after names events))
+
+-- a frame is to be made
+abbrev pub makes_frame : LinkEvent → Bool
+makes_frame (Queue e msg) = false
+makes_frame (Make e i) = true
+makes_frame (Ack e) = true
+makes_frame (Arrive k) = false

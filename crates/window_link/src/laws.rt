@@ -1,7 +1,7 @@
 //! The law of a link, on two ends and every frame that they made.
 
 ghost use Rattle.window_link.specs.Streams.{StreamsStayLawful};
-ghost use Rattle.window_link.specs.refinement.TwoLinksStep.{NoFrameIsRefused};
+ghost use Rattle.window_link.specs.Two.{NoFrameIsRefused};
 
 mod event;
 mod step;

@@ -19,9 +19,8 @@ use Rattle.world_schedule.specs.declared.reply.Refusal.{Refusal}
 use Rattle.world_schedule.specs.declared.reply.Refusal.TheVariants as refusal
 use Rattle.world_schedule.specs.declared.tables.Office as code_office
 use Rattle.world_schedule.specs.Offices.{Office, may, is_ours, is_full, submitted}
-use Rattle.world_schedule.specs.Worlds.{World, Answer, submit, done, try_rule, taken, is_next, deliver, sent_as, at_office, happens, run_of, replies_of, programs, outcomes}
+use Rattle.world_schedule.specs.Worlds.{World, Answer, submit, done, try_rule, taken, is_next, deliver, sent_as, at_office, happens, run_of, replies_of, programs, outcomes, OrMemory}
 use Rattle.world_schedule.specs.refinement.Tables.{office_table, office_at, world_in, IsWorld}
-use Rattle.world_schedule.specs.refinement.Effects.{OrMemory}
 use Rattle.world_schedule.proofs.StepRefines.{run_push, inv_of, office_there}
 
 -- the definitions never answer Memory

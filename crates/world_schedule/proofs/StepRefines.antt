@@ -20,13 +20,14 @@ use Rattle.world_schedule.specs.declared.reply.Refusal.{Refusal}
 use Rattle.world_schedule.specs.declared.reply.Refusal.TheVariants as refusal
 use Rattle.world_schedule.specs.declared.tables.Office as code_office
 use Rattle.world_schedule.specs.Offices.{Office, opened, act, sends, numbered, is_ours, is_full, submitted}
-use Rattle.world_schedule.specs.Worlds.{World, Answer, opening, submit, done, try_rule, taken, is_next, deliver, at_office, happens, run_of}
-use Rattle.world_schedule.specs.refinement.Tables.{office_table, office_in, office_at, IsReached}
-use Rattle.world_schedule.specs.refinement.Effects.{Acts, IsStill, Tries, Submits, OrMemory}
+use Rattle.world_schedule.specs.Worlds.{World, Answer, opening, submit, done, try_rule, taken, is_next, deliver, at_office, happens, run_of, OrMemory}
+use Rattle.world_schedule.specs.refinement.Tables.{office_table, office_in, office_at}
+use Rattle.world_schedule.specs.refinement.Effects.{Acts, IsStill, Tries, Submits}
 use Rattle.world_schedule.proofs.TableUpdates.{offices_put}
 use Rattle.world_schedule.proofs.Invariant.{Inv}
 use Rattle.world_schedule.proofs.InvariantGivesLaws.{run_has}
 use Rattle.bottle_values.proofs.Maps.{put_cases}
+use Rattle.world_schedule.specs.Headline.{IsReached}
 
 -- what was there, put back
 pub put_back : (office : ℕ → Office) (a : ℕ) (o : Office) → o ≡ office a → put office a o ≡ office

@@ -20,9 +20,9 @@ use Rattle.world_schedule.specs.declared.reply.Refusal.{Refusal}
 use Rattle.world_schedule.specs.declared.reply.Refusal.TheVariants as refusal
 use Rattle.world_schedule.specs.declared.tables.Office as code_office
 use Rattle.world_schedule.specs.Offices.{Office, is_ours, may, sends, numbered}
-use Rattle.world_schedule.specs.Worlds.{World, happens, deliver, sent_as, is_next}
+use Rattle.world_schedule.specs.Worlds.{World, happens, deliver, sent_as, is_next, OrMemory}
 use Rattle.world_schedule.specs.refinement.Tables.{phase_of, line_table, line_at, office_table, office_in, office_at, world_in, IsWhole, IsAddressed, IsWorld}
-use Rattle.world_schedule.specs.refinement.Effects.{AreWithin, IsWithin, Tries, Submits, Takes, OrMemory}
+use Rattle.world_schedule.specs.refinement.Effects.{AreWithin, IsWithin, Tries, Submits, Takes}
 use Rattle.world_schedule.proofs.StepRefines.{tried, submits, took, reached_more, inv_of, office_there, office_changed, Took}
 use Rattle.world_schedule.proofs.DeliveryRefines.{takes_in, writes_within, next_shared, shared_within}
 use Rattle.office_map.proofs.RecordEnds.{peer_near}

@@ -29,3 +29,8 @@ SessionsAreSerial = (plan : PlanValue) (events : List WorldEvent) → IsConsiste
 
 abbrev pub ThingsHaveOnePlace : Type 0
 ThingsHaveOnePlace = (plan : PlanValue) (events : List WorldEvent) → IsConsistent plan → HasOnePlaceEach plan (run_of plan (opening plan) events)
+
+-- which events led to a world
+pub record IsReached (plan : PlanValue) (w : World) : Type 0 where
+  pub events : List WorldEvent
+  pub leads : run_of plan (opening plan) events ≡ w

@@ -1,5 +1,5 @@
 -- All offices, every message that was sent, and the finished sessions in finishing order.
-use Rattle.std.specs.Prelude.{ℕ, zero, suc, ◌+◌, ◌-◌, Bool, ◌==◌, nat_lt, if◌then◌else◌, List, [], ◌∷◌, ◌++◌, length, map, drop, slice_get, Option, None, Some, Result, Ok, Err}
+use Rattle.std.specs.Prelude.{ℕ, zero, suc, ◌+◌, ◌-◌, Bool, ◌==◌, nat_lt, if◌then◌else◌, List, [], ◌∷◌, ◌++◌, length, map, drop, slice_get, Option, None, Some, Result, Ok, Err, ◌≡◌, ◌⊎◌}
 use Rattle.std.specs.List.{sum_by, range_with_len}
 use Rattle.bottle_values.specs.declared.Value.{Value}
 use Rattle.bottle_values.specs.Maps.{put}
@@ -130,3 +130,9 @@ bottle_value plan w r = value_at w r (ends_of plan r) (start_map plan r)
 -- how many submitted sessions haven't finished
 abbrev pub unfinished_in : PlanValue → World → ℕ
 unfinished_in plan w = sum_by (λ (o : Office). o.tickets) (map w.office (range_with_len 0 (length plan.offices))) - length w.finished
+
+-- the answer and the world after it, or Memory and the world as it was
+abbrev pub OrMemory : World → Answer → Result Reply Refusal → World → Type 0
+OrMemory w answer result w' =
+    ((result ≡ Err refusal.Memory) × (w' ≡ w))
+    ⊎ ((result ≡ answer.0) × (w' ≡ answer.1))

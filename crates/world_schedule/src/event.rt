@@ -1,8 +1,8 @@
 //! What happens in a world.
 
 use crate::rule::Rule;
-use office_map::ids::OfficeId;
-use session_language::program::Program;
+use office_map::OfficeId;
+use session_language::Program;
 
 /// An event of a world.
 #[derive(Debug, Drop)]

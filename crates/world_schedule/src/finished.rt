@@ -1,7 +1,6 @@
 //! Finished sessions.
 
-use session_language::ending::Outcome;
-use session_language::program::Program;
+use session_language::{Outcome, Program};
 
 /// A finished session: its program, and what is told of it.
 #[derive(Debug, Drop)]

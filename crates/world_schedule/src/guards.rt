@@ -9,8 +9,7 @@ ghost use Rattle.world_schedule.specs.refinement.Tables.{phase_of, place_at, lin
 use crate::rule::Rule;
 use crate::tables::{Office, Phase, Place};
 use bottle_values::Value;
-use office_map::ids::{OfficeId, RecordId};
-use office_map::plan::Plan;
+use office_map::{OfficeId, Plan, RecordId};
 
 #[tactic(auto, using(crate::proofs::GuardsRefine::gives))]
 /// Whether the rule's guard holds.

@@ -3,9 +3,8 @@
 ghost use Rattle.std.specs.Prelude.{◌≡◌, map};
 ghost use Rattle.world_schedule.specs.declared.event.WorldEvent.TheVariants as events;
 ghost use Rattle.world_schedule.specs.Offices as offices;
-ghost use Rattle.world_schedule.specs.Worlds.{happens};
+ghost use Rattle.world_schedule.specs.Worlds.{happens, OrMemory};
 ghost use Rattle.world_schedule.specs.refinement.Tables.{world_in, office_table, IsWorld};
-ghost use Rattle.world_schedule.specs.refinement.Effects.{OrMemory};
 
 use crate::finished::Finished;
 use crate::message::Message;
@@ -13,10 +12,9 @@ use crate::reply::{Refusal, Reply};
 use crate::rule::Rule;
 use crate::steps;
 use crate::tables::Office;
-use office_map::ids::OfficeId;
-use office_map::plan::Plan;
+use office_map::{OfficeId, Plan};
 use session_language::laws::writes_what_it_has;
-use session_language::program::Program;
+use session_language::Program;
 use std::alloc::Global;
 
 /// A session is submitted at an office.

@@ -1,7 +1,7 @@
 //! Messages on their way.
 
 use frame_codec::Msg;
-use office_map::ids::OfficeId;
+use office_map::OfficeId;
 
 /// A message that was sent, with its number among those of its direction, from 1.
 #[derive(Clone, Copy, Debug, PartialEq, Eq)]

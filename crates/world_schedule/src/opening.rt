@@ -9,8 +9,7 @@ ghost use Rattle.world_schedule.specs.refinement.StartTables.{start_place, start
 
 use crate::tables::{Line, Office, Phase, Place};
 use bottle_values::Value;
-use office_map::ids::{OfficeId, RecordId};
-use office_map::plan::Plan;
+use office_map::{OfficeId, Plan, RecordId};
 use std::alloc::{AllocError, Global};
 use std::collections::VecDeque;
 

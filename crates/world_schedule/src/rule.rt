@@ -1,6 +1,6 @@
 //! What an office may do.
 
-use office_map::ids::RecordId;
+use office_map::RecordId;
 
 /// A rule of an office. Its guard is `may`, and its effect `act`, in `specs/Offices.antt`.
 #[derive(Clone, Copy, Debug, PartialEq, Eq)]

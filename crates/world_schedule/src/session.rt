@@ -1,6 +1,6 @@
 //! Submitted sessions.
 
-use session_language::program::Program;
+use session_language::Program;
 
 /// A submitted session: its number at its office, from 1, and its program.
 #[derive(Debug, Drop)]

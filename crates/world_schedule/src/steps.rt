@@ -14,9 +14,8 @@ use crate::reply::{Refusal, Reply};
 use crate::rule::Rule;
 use crate::session::Session;
 use crate::tables::{Line, Office};
-use office_map::ids::OfficeId;
-use office_map::plan::Plan;
-use session_language::program::Program;
+use office_map::{OfficeId, Plan};
+use session_language::Program;
 use std::alloc::{AllocError, Global};
 
 /// An office does a rule, where its guard holds.

@@ -3,7 +3,7 @@
 use crate::session::Session;
 use bottle_values::Value;
 use frame_codec::Msg;
-use session_language::ending::Ending;
+use session_language::Ending;
 use std::collections::VecDeque;
 
 /// What an office has of a record: its bottle or not, the bottle's request token or not, and the value that the

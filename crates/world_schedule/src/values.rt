@@ -13,8 +13,7 @@ use crate::guards::place_of;
 use crate::tables::Office;
 use bottle_values::Value;
 use frame_codec::Msg;
-use office_map::ids::{OfficeId, RecordId};
-use office_map::plan::Plan;
+use office_map::{OfficeId, Plan, RecordId};
 
 #[tactic(auto, using(crate::proofs::BottleValueRefines::value_found, crate::proofs::BottleValueRefines::start_is))]
 /// The value at the place of a record's bottle.

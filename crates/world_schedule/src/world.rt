@@ -2,11 +2,10 @@
 
 ghost use Rattle.std.specs.Prelude.{◌≡◌, ◌<◌, ◌≤◌, ◌↔◌, Err, IsTrue, length, map, IfOk, OnOk, IfErr, take};
 ghost use Rattle.serial_replay.specs.Serial.{start_map, map_of, outcomes_of};
-ghost use Rattle.world_schedule.specs.Worlds.{opening, happens, run_of, replies_of, programs, outcomes, bottle_value, unfinished_in};
+ghost use Rattle.world_schedule.specs.Worlds.{opening, happens, run_of, replies_of, programs, outcomes, bottle_value, unfinished_in, OrMemory};
 ghost use Rattle.world_schedule.specs.declared.reply.Refusal.TheVariants as refusals;
-ghost use Rattle.world_schedule.specs.Headline.{HasSerialValues, HasSerialSessions, HasOnePlaceEach};
-ghost use Rattle.world_schedule.specs.refinement.Tables.{state_of, world_in, office_table, IsReached, IsWorld};
-ghost use Rattle.world_schedule.specs.refinement.Effects.{OrMemory};
+ghost use Rattle.world_schedule.specs.Headline.{HasSerialValues, HasSerialSessions, HasOnePlaceEach, IsReached};
+ghost use Rattle.world_schedule.specs.refinement.Tables.{state_of, world_in, office_table, IsWorld};
 
 use crate::event::WorldEvent;
 use crate::finished::Finished;
@@ -17,8 +16,7 @@ use crate::reply::{Refusal, Reply};
 use crate::tables::Office;
 use crate::values::bottle_value;
 use bottle_values::Value;
-use office_map::ids::RecordId;
-use office_map::plan::Plan;
+use office_map::{Plan, RecordId};
 use session_language::laws::writes_what_it_has;
 use std::alloc::{AllocError, Global};
 use std::marker::Model;

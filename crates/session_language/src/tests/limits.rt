@@ -1,7 +1,7 @@
 //! Sessions at their limits and one past them.
 
 use super::refusals::{fault, fault_under};
-use office_map::plan::Plan;
+use office_map::Plan;
 use std::alloc::{AllocError, Global};
 use std::fmt::Write;
 use std::test::Fail;

@@ -3,7 +3,7 @@
 use super::PLAN;
 use crate::fault::{LangFault, SessionRefusal, SessionRule};
 use crate::read::read_sessions;
-use office_map::plan::Plan;
+use office_map::Plan;
 use std::alloc::{AllocError, Global};
 use std::fmt::Write;
 use std::test::Fail;

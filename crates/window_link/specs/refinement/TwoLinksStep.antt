@@ -1,5 +1,5 @@
 -- One event as the two links see it, between the functions that carry it out.
-use Rattle.std.specs.Prelude.{◌≡◌, ℕ, ◌+◌, ◌&&◌, nat_lt, if◌then◌else◌, List, [], ◌∷◌, ◌++◌, length, slice_get, Option, Some, None, Result, OnErr, IfOk, IsTrue, Bool, true, false}
+use Rattle.std.specs.Prelude.{◌≡◌, ℕ, ◌+◌, ◌&&◌, nat_lt, if◌then◌else◌, List, [], ◌∷◌, ◌++◌, length, Option, Some, None, Result, OnErr, IfOk, IsTrue}
 use Rattle.std.specs.declared.alloc.AllocError.{AllocError}
 use Rattle.frame_codec.specs.declared.message.Msg.{Msg}
 use Rattle.window_link.specs.declared.laws.event.End.{End}
@@ -10,9 +10,9 @@ use Rattle.window_link.specs.declared.laws.event.LinkEvent.TheVariants.{Queue, M
 use Rattle.window_link.specs.declared.laws.event.LinkReply.{LinkReply}
 use Rattle.window_link.specs.declared.laws.event.LinkReply.TheVariants.{Idle, Queued, Made, Arrived}
 use Rattle.window_link.specs.Windows.{used, greatest, queued}
-use Rattle.window_link.specs.Links.{LinkState, frame_with, fault_of, arrival_at, after_arrival}
+use Rattle.window_link.specs.Links.{LinkState, frame_with, arrival_at, after_arrival}
 use Rattle.window_link.specs.Streams.{other, nth}
-use Rattle.window_link.specs.Two.{Ends, Names, at, ends_of, after}
+use Rattle.window_link.specs.Two.{Ends, at, makes_frame}
 
 abbrev pub ends : LinkState → LinkState → List Posted → Ends
 ends left right frames = record { left = left; right = right; frames = frames }
@@ -53,21 +53,6 @@ step t (Queue e msg) = ((queue_step (at t e) msg).0, with_link t e (queue_step (
 step t (Make e i) = with_frames t (made_of (at t e) e i (nth (at t e).sending.waiting i))
 step t (Ack e) = with_frames t (Made, made (at t e) e 0 None)
 step t (Arrive k) = arrive_step t (nth t.frames k)
-
--- an end refuses none of the frames that were made for it
-abbrev pub Accepts : Ends → Type 0
-Accepts t = (k : ℕ) (posted : Posted) → slice_get t.frames k ≡ Some posted → fault_of (at t (other posted.by)) posted.frame ≡ None
-
--- over every list of events
-abbrev pub NoFrameIsRefused : Type 0
-NoFrameIsRefused = (names : Names) (events : List LinkEvent) → Accepts (ends_of (after names events))
-
--- a frame is to be made
-abbrev pub makes_frame : LinkEvent → Bool
-makes_frame (Queue e msg) = false
-makes_frame (Make e i) = true
-makes_frame (Ack e) = true
-makes_frame (Arrive k) = false
 
 -- where a growth was refused all is as it was
 abbrev pub Steps : Ends → LinkEvent → Result LinkReply AllocError → Ends → Type 0

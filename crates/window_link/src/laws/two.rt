@@ -1,8 +1,7 @@
 //! Two linked ends.
 
 ghost use Rattle.std.specs.Prelude.{◌≡◌, [], IfOk, OnErr, IsTrue};
-ghost use Rattle.window_link.specs.refinement.TwoLinksStep.{makes_frame};
-ghost use Rattle.window_link.specs.Two.{at, LedTo, HasLawfulStreams, Happens};
+ghost use Rattle.window_link.specs.Two.{at, LedTo, HasLawfulStreams, Happens, makes_frame};
 
 use crate::laws::event::{End, LinkEvent, Posted, LinkReply};
 use crate::laws::step::step;

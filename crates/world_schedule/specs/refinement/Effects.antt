@@ -17,7 +17,6 @@ use Rattle.world_schedule.specs.declared.reply.Reply.{Reply}
 use Rattle.world_schedule.specs.declared.reply.Refusal.{Refusal}
 use Rattle.world_schedule.specs.declared.reply.Refusal.TheVariants as refusal
 use Rattle.world_schedule.specs.Offices.{Phase, Tranquil, Thirsty, Drinking, Office, may, act, sends, numbered, finishes, is_full, submitted}
-use Rattle.world_schedule.specs.Worlds.{World, Answer}
 use Rattle.world_schedule.specs.refinement.Tables.{LineTable, OfficeTable, line_at, place_at}
 
 -- a message more was sent on a line
@@ -63,12 +62,6 @@ places_taken ps (msg.Bottle r v) = set ps r (record { bottle = true; token = (pl
 
 abbrev pub table_taken : OfficeTable → ℕ → Msg → OfficeTable
 table_taken t v m = record t { places = places_taken t.places m; lines = set t.lines v (line_taken (line_at t.lines v) m) }
-
--- the answer and the world after it, or Memory and the world as it was
-abbrev pub OrMemory : World → Answer → Result Reply Refusal → World → Type 0
-OrMemory w answer result w' =
-    ((result ≡ Err refusal.Memory) × (w' ≡ w))
-    ⊎ ((result ≡ answer.0) × (w' ≡ answer.1))
 
 -- an office did a rule
 pub record Acts (plan : PlanValue) (me : ℕ) (o : Office) (x : Rule) (o' : Office) (ms ms' : List Message) (fs fs' : List Finished) : Type 0 where

@@ -15,13 +15,13 @@ use Rattle.world_schedule.specs.declared.tables.Office as code_office
 use Rattle.world_schedule.specs.declared.message.Message.{Message}
 use Rattle.world_schedule.specs.declared.session.Session.{Session}
 use Rattle.world_schedule.specs.declared.finished.Finished.{Finished}
-use Rattle.world_schedule.specs.declared.event.WorldEvent.{WorldEvent}
 use Rattle.world_schedule.specs.Offices.{Phase, Tranquil, Thirsty, Drinking, Office, opened}
-use Rattle.world_schedule.specs.Worlds.{World, opening, run_of}
+use Rattle.world_schedule.specs.Worlds.{World}
 use Rattle.token_channel.specs.Sides.{Side}
 use Rattle.token_channel.specs.declared.thing.Thing.{Thing}
 use Rattle.token_channel.specs.declared.thing.Thing.TheVariants.{Fork, ForkToken, Bottle, BottleToken}
 use Rattle.bottle_values.specs.Arithmetic.{nought}
+use Rattle.world_schedule.specs.Headline.{IsReached}
 
 pub record LineTable : Type 0 where
   pub fork : Bool
@@ -94,11 +94,6 @@ world_in plan ts ms fs = record { office = office_at plan ts; frames = ms; finis
 
 abbrev pub state_of : WorldTable → World
 state_of w = world_in w.plan w.offices w.messages w.finished
-
--- which events led to a world
-pub record IsReached (plan : PlanValue) (w : World) : Type 0 where
-  pub events : List WorldEvent
-  pub leads : run_of plan (opening plan) events ≡ w
 
 -- an office has a place for each record and a line for each office, and its work is what its program does
 abbrev pub IsTold : code_phase.Phase → Type 0

@@ -8,7 +8,7 @@ pub returns-in_err-take_on-clause-office_unchanged : goal.returns-in_err-take_on
 returns-in_err-take_on-clause-office_unchanged c =
     let t : OfficeTable = office_table c.args.office.now in
     on_err c.from_residual.result (ap (λ l. record { places = t.places; lines = l; phase = t.phase; queue = t.queue; tickets = t.tickets })
-    (lines_kept c.args.office.now.lines.items c.index.result c.index_mut.result.now c.take_on.new.line c.index_mut.ensures.value c.in_err-take_on.ensures.kept))
+    (lines_kept c.args.office.now.lines.items c.index.result c.index_mut.result.now c.take_on.new.line c.index_mut.ensures.value c.in_err-take_on.ensures.unchanged))
 
 pub returns-clause-office : goal.returns-clause-office
 returns-clause-office c =

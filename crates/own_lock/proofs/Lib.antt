@@ -1,0 +1,6 @@
+pub mod Prefixes
+pub mod TaggedEntries
+pub mod Views
+pub mod StepsKeepRule
+pub mod Dealing
+pub mod PassCalls

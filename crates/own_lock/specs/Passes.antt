@@ -1,0 +1,63 @@
+-- What contracts see of a lock and of its passes, and what the calls do to them.
+use Rattle.std.specs.Prelude.{◌≡◌, ◌≢◌, ℕ, Bool, true, false, List, [], ◌∷◌, Option, Some, ◌<◌, length, slice_get, ◌↔◌}
+use Rattle.std.specs.List.{All}
+use mathlib.Core.Option.{some}
+use lib.ListN.{get_elem?}
+use Rattle.atomic_table.specs.Seated.{TableId}
+use Rattle.atomic_table.specs.Table.{State}
+use Rattle.own_lock.specs.declared.seat_view.SeatView.{SeatView}
+use Rattle.own_lock.specs.Entries.{tagged}
+use Rattle.own_lock.specs.Rule.{LockRule, word_of}
+
+-- which lock it is, and the key of its state
+pub record LockView (K : Type 0) : Type 0 where
+  pub name : TableId
+  pub key : K
+
+-- a pass: its lock and the key there, its tag, whether it holds the state, the entries that it has seen, and its own among them
+pub record PassView (K E : Type 0) : Type 0 where
+  pub lock : TableId
+  pub key : Option K
+  pub tag : ℕ
+  pub holds : Bool
+  pub seen : List E
+  pub mine : List E
+
+module _ {K E : Type 0} where
+  -- it is a pass of this lock
+  abbrev pub IsOf : LockView K → PassView K E → Type 0
+  IsOf lock pass = (pass.lock ≡ lock.name) × (pass.key ≡ Some lock.key)
+
+  -- a pass of the lock that has seen these entries, and holds nothing
+  abbrev pub fresh_pass : LockView K → (E → ℕ) → List E → ℕ → PassView K E
+  fresh_pass lock tag_of es t = record { lock = lock.name; key = Some lock.key; tag = t; holds = false; seen = es; mine = tagged tag_of t es }
+
+  -- as many of them, with the tags 0, 1 and so on
+  abbrev pub AreFresh : LockView K → (E → ℕ) → List E → ℕ → List (PassView K E) → Type 0
+  AreFresh lock tag_of es count passes = (length passes ≡ count) × ((t : ℕ) → t < count → slice_get passes t ≡ Some (fresh_pass lock tag_of es t))
+
+  -- each is a pass of the lock that holds nothing
+  abbrev pub AreIdle : LockView K → List (PassView K E) → Type 0
+  AreIdle lock passes = All (λ pass. IsOf lock pass × (pass.holds ≡ false)) passes
+
+  -- the pass, which holds the state now and has seen its entries
+  abbrev pub holding : PassView K E → List E → PassView K E
+  holding pass es = record pass { holds = true; seen = es }
+
+  -- the pass, which gave a state with these entries back
+  abbrev pub idle_again : (E → ℕ) → PassView K E → List E → PassView K E
+  idle_again tag_of pass es = record pass { holds = false; seen = es; mine = tagged tag_of pass.tag es }
+
+  -- the view of a seat with this pass alone
+  abbrev pub view_of : PassView K E → SeatView K E
+  view_of pass = record { key = pass.key; holds = pass.holds; parts = record { tag = pass.tag; seen = pass.seen; mine = pass.mine } ∷ [] }
+
+module _ {S K E : Type 0} (tag_of : E → ℕ) (key : S → K) (entries : S → List E) (fits : S → Type 0) where
+  -- a state of the lock's table under its rule, where this pass has its seat, and where somebody holds the state or nobody does
+  pub record RuleHolds (k : K) (pass : PassView K E) (held : Bool) : Type 0 where
+    pub passes : ℕ
+    pub table : State (Option S) (SeatView K E)
+    pub rule : LockRule tag_of key entries fits k passes table
+    pub seat : ℕ
+    pub seated : get_elem? table.views seat ≡ some (view_of pass)
+    pub held_is : (held ≡ true) ↔ (word_of table ≢ 0)

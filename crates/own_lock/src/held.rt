@@ -1,0 +1,51 @@
+//! The state, out of its lock.
+
+ghost use Rattle.std.specs.Prelude.{◌≡◌};
+ghost use Rattle.std.specs.Borrow.{Lends, sem};
+
+use std::marker::Model;
+
+/// The state of a lock, owned by whoever took it. It can't be dropped: it is given back, by the pass
+/// that took it.
+pub struct Held<S> {
+    state: S,
+}
+
+impl<S> Model for Held<S> {
+    ghost Value = { S };
+
+    ghost view = { λ h. h.state };
+}
+
+impl<S> Held<S> {
+    ghost use Rattle.own_lock.specs.contracts.held.Held.{the_row};
+
+    pub(crate) fn new(state: S) -> Held<S>
+        ensures { result ≡ state }
+    {
+        Held { state }
+    }
+
+    pub(crate) fn into_state(self) -> S
+        ensures { result ≡ self }
+    {
+        let Held { state } = self;
+        state
+    }
+
+    /// The state, to look at.
+    pub fn get(&self) -> &S
+        ensures { result.now ≡ self.now }
+    {
+        &self.state
+    }
+
+    /// The state, to change.
+    pub fn state(&mut self) -> &mut S
+        // What is written through the borrow is what is held afterwards.
+        ensures* writes_back { sem 𝓛 (Lends (the_row S.row) S.row self.entry result (λ state. state)) }
+        ensures value { result.now ≡ self.old }
+    {
+        &mut self.state
+    }
+}

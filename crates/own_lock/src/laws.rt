@@ -1,0 +1,26 @@
+//! Laws of states with a history, and of the steps at a lock.
+
+ghost use Rattle.own_lock.specs.Entries.{ExtendingIsReflexive, ExtendingIsTransitive};
+ghost use Rattle.own_lock.specs.Steps.{OpeningHasTheRule, StepsKeepTheRule};
+
+use crate::kept::Kept;
+
+/// A state extends itself.
+pub fn extending_is_reflexive<S: Kept>()
+    ensures { ExtendingIsReflexive S.key S.entries }
+{}
+
+/// A state that extends an extension of another extends that other.
+pub fn extending_is_transitive<S: Kept>()
+    ensures { ExtendingIsTransitive S.key S.entries }
+{}
+
+/// The rule of the lock holds at its opening.
+pub fn opening_has_the_rule<S: Kept>()
+    ensures { OpeningHasTheRule S.tag_of S.key S.entries S.fits }
+{}
+
+/// Each step at the table of the lock keeps its rule.
+pub fn steps_keep_the_rule<S: Kept>()
+    ensures { StepsKeepTheRule S.tag_of S.key S.entries S.fits }
+{}

@@ -1,0 +1,32 @@
+//! A lock round one state, whose history each caller knows by a pass of its own.
+//!
+//! - A state is [`Kept`]: it has a key, a list of entries with tags, and whether it fits.
+//! - [`OwnLock::open`] gives the lock and 1 to 16 passes. [`OwnLock::try_take`] and [`OwnLock::take`] hand
+//!   out the state as a [`Held`], and [`OwnLock::give`] puts it back.
+//! - A [`Pass`] knows a beginning of the history (`seen`), and all of its own entries in it (`mine`):
+//!   taking leaves `mine` as it was, so nobody else adds, drops or changes an entry of this pass (clauses
+//!   `begins` and `mine`). [`OwnLock::meet`] tells one pass what another has seen, and
+//!   [`OwnLock::close`] ends the lock and gives the state.
+//! - Between any two atomic steps the rule of the lock holds (`LockRule`, in `specs/Rule.antt`; clause
+//!   `rule` of [`OwnLock::is_held`]).
+//!
+//! No call but [`OwnLock::open`] takes memory, and none but [`OwnLock::take`] waits. Nothing is said of who
+//! gets the state first. It stands on `atomic_table`, with no `unsafe`.
+#![tactic(auto)]
+
+mod held;
+mod kept;
+pub mod laws;
+mod lock;
+mod pass;
+mod seat_view;
+mod table_rule;
+
+pub use held::Held;
+pub use kept::Kept;
+pub use lock::{Busy, OwnLock};
+pub use pass::Pass;
+pub use seat_view::{Opening, Part, SeatView};
+
+#[cfg(test)]
+mod tests;
