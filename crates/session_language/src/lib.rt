@@ -22,6 +22,7 @@ mod draft;
 pub mod ending;
 pub mod expression;
 pub mod fault;
+mod guesses;
 mod keyword;
 pub mod laws;
 mod lexer;

@@ -8,6 +8,7 @@ ghost use Rattle.session_language.specs.Drafts.{reading_of, Gives, LeavesLine};
 
 use crate::builder::{Builder, Level, Stage, Sum};
 use crate::fault::{LangFault, Refusal, Rule, Stop};
+use crate::guesses::Guesses;
 use crate::program::Program;
 use crate::reader::Reader;
 use office_map::plan::Plan;
@@ -112,6 +113,7 @@ impl Reader {
                     minuses: 0,
                 }),
                 nodes: Vec::new(alloc),
+                guesses: Guesses::new(),
             },
             done: Vec::new(alloc),
             open_session: None,
