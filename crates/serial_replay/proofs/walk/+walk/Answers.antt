@@ -6,6 +6,7 @@ use Rattle.session_language.specs.declared.tree.Statement.TheViews.{the_lemmas}
 use Rattle.session_language.proofs.Rows.{row_block_is}
 use Rattle.serial_replay.specs.Walk.{desk_of}
 use Rattle.serial_replay.proofs.Turns.{times_more, times_stops}
+use Rattle.serial_replay.proofs.Slots.{order_kept}
 use Rattle.serial_replay.proofs.walk.+walk.Goals as goal
 
 pub walk-loop-init : goal.walk-loop-init
@@ -27,3 +28,6 @@ walk-returns-in_err-walk_all-in-Repeat t c =
 
 pub walk-loop-preserved : goal.walk-loop-preserved
 walk-loop-preserved t c = times_more c.in-Repeat.turns c.loop.counter (block (block_of c.in-Repeat.body.items)) (desk_of c.loop.desk) (desk_of c.walk_all-in-loop.new.desk) _ c.loop-test.true (rw c.deref-in-loop.ensures.value at c.in_ok-walk_all-in-Repeat.ensures) c.loop.invariant
+
+pub walk-invariant_of-desk-in-Set : goal.walk-invariant_of-desk-in-Set
+walk-invariant_of-desk-in-Set t c = record { in_order = order_kept c.args.desk.now.slots.items c.set_record.new.slots.items c.in-Set.id c.in-Some-2.value c.set_record.ensures c.args.desk.now.in_order }
