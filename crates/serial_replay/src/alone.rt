@@ -1,6 +1,7 @@
 //! One session alone.
 
 ghost use Rattle.std.specs.Prelude.{◌≡◌, IfOk, length, zip, map};
+ghost use Rattle.std.specs.List.Sorted.{IsStrictlyIncreasing};
 ghost use Rattle.session_language.specs.Needs.{needs_of};
 ghost use Rattle.session_language.specs.Meaning.{alone, begun, slot_of, writes_of, ending_of, Goes};
 ghost use Rattle.serial_replay.specs.refinement.WalkRefinement as walk;
@@ -48,6 +49,7 @@ fn reads_of(alloc: Global, needs: &[RecordId], values: &[Value]) -> Result<Recor
 
 /// What a session has as it begins.
 fn begun(alloc: Global, program: &Program, reads: &RecordValues) -> Result<Environment, AllocError>
+    requires { IsStrictlyIncreasing (map (λ x. x.0) reads.now) }
     ensures { IfOk result (λ d. walk.environment_of d ≡ begun program.now reads.now) }
 {
     let slots = slots_of(alloc, reads.as_slice())?;

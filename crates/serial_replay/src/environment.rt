@@ -1,5 +1,8 @@
 //! What a running session has.
 
+ghost use Rattle.std.specs.Prelude.{map};
+ghost use Rattle.std.specs.List.Sorted.{IsStrictlyIncreasing};
+
 use bottle_values::Value;
 use office_map::RecordId;
 use session_language::Gives;
@@ -12,10 +15,11 @@ pub struct Slot {
     pub is_set: bool,
 }
 
-/// A running session's copy of the records that it needs, its variables, and what it gave.
+/// A running session's copy of the records that it needs, in order of number, its variables, and what it gave.
 #[derive(Drop)]
 pub struct Environment {
     pub slots: Vec<Slot>,
     pub variables: Vec<Value>,
     pub gives: Gives,
+    ghost in_order: { IsStrictlyIncreasing (map (λ s. s.id) slots.items) },
 }

@@ -1,18 +1,20 @@
 //! Expressions worked out.
 
-ghost use Rattle.std.specs.Prelude.{◌≡◌, ◌∷◌, IfOk, map, reverse, if◌then◌else◌, Some, None, true};
+ghost use Rattle.std.specs.Prelude.{◌≡◌, ◌<◌, ◌≤◌, ◌∷◌, ℕ, IfOk, map, length, get_or, reverse, if◌then◌else◌, Some, None, true};
+ghost use Rattle.std.specs.List.Sorted.{IsStrictlyIncreasing};
 ghost use Rattle.std.specs.Result.{result_ok};
 ghost use Rattle.std.specs.List.{slice_index_or};
 ghost use Rattle.session_language.specs.Meaning.{value_in, apply, value_of};
+ghost use Rattle.bottle_values.specs.Arithmetic.{nought};
 ghost use Rattle.serial_replay.specs.refinement.PostfixEvaluation.{after_node, on_top};
 ghost use Rattle.serial_replay.specs.refinement.WalkRefinement.{slot_of, environment_of};
+ghost use Rattle.serial_replay.specs.declared.environment.Slot as code_slot;
 
 use crate::environment::{Environment, Slot};
 use bottle_values::{Overflow, Value};
 use office_map::RecordId;
 use session_language::{Expression, Node, Operator};
 use std::alloc::AllocError;
-ghost use Rattle.bottle_values.specs.Arithmetic.{nought};
 
 /// The value of an expression, worked out on a stack that is handed in for its memory. None where
 /// a result is no i64.
@@ -87,14 +89,34 @@ fn value_at(values: &[Value], place: u8) -> Value
 
 /// The value of a record in the session's copy.
 fn value_in(slots: &[Slot], id: RecordId) -> Value
+    requires { IsStrictlyIncreasing (map (λ s. s.id) slots.now) }
     ensures { result ≡ value_in (map slot_of slots.now) id }
 {
-    for slot in slots {
-        if slot.id == id {
-            return slot.value;
+    let place = place_of(slots, id);
+    if place < slots.len() && slots[place].id == id {
+        slots[place].value
+    } else {
+        Value { number: 0 }
+    }
+}
+
+/// How many slots are of records before this one.
+fn place_of(slots: &[Slot], id: RecordId) -> usize
+    requires { IsStrictlyIncreasing (map (λ s. s.id) slots.now) }
+    ensures before { (k : ℕ) (d : code_slot.Slot) → k < result → (get_or slots.now k d).id < id }
+    ensures after { (k : ℕ) (d : code_slot.Slot) → result ≤ k → k < length slots.now → id ≤ (get_or slots.now k d).id }
+{
+    let mut low = 0;
+    let mut high = slots.len();
+    while low < high {
+        let middle = low + (high - low) / 2;
+        if slots[middle].id.index() < id.index() {
+            low = middle + 1;
+        } else {
+            high = middle;
         }
     }
-    Value { number: 0 }
+    low
 }
 
 fn apply(operator: Operator, a: Value, b: Value) -> Result<Value, Overflow>

@@ -3,6 +3,7 @@
 ghost use Rattle.std.specs.Prelude.{◌≡◌, ◌+◌, ◌<◌, ◌≤◌, ◌^◌, ◌++◌, ◌∷◌, [], IfOk, OnOk, min, max, suc, replicate, if◌then◌else◌, Some};
 ghost use Rattle.session_language.specs.refinement.PostfixBuilder.{build_of, emit, emit_wanting, emit_having, after_sign, joined_depth, sum_depth, sum_end, completed, HasRoom};
 
+use crate::guesses::Guesses;
 use crate::node::{Node, Operator};
 use std::alloc::{AllocError, Global};
 
@@ -42,12 +43,13 @@ pub enum Stage {
 }
 
 /// An expression so far: the open parentheses, and the nodes whose operators have come. Depths are
-/// exact up to 32, and 33 past it.
+/// exact up to 32, and 33 past it. With it, where variables were found last.
 #[derive(Drop)]
 pub struct Builder {
     pub outer: Vec<Level>,
     pub stage: Stage,
     pub nodes: Vec<Node>,
+    pub guesses: Guesses,
 }
 
 impl Builder {

@@ -22,6 +22,7 @@ mod draft;
 mod ending;
 mod expression;
 mod fault;
+mod guesses;
 mod keyword;
 pub mod laws;
 mod lexer;

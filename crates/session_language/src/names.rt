@@ -8,6 +8,7 @@ ghost use Rattle.session_language.specs.Phrase.{leaf_of, token_of};
 ghost use Rattle.session_language.specs.Spelling.{Leaf};
 
 use crate::builder::Element;
+use crate::guesses::Guesses;
 use crate::node::Node;
 use crate::scope::Scope;
 use crate::token::{Operand, Token};
@@ -24,10 +25,11 @@ pub struct Placed {
 
 impl Scope<'_> {
     /// The place of a variable.
-    pub fn variable_named(&self, name: &str) -> Option<usize>
+    pub fn variable_named(&self, guesses: &mut Guesses, name: &str) -> Option<usize>
+        requires { length self.now.variables.now ≤ 255 }
         ensures { result ≡ variable_named (scope_of self.now) name.now }
     {
-        position_of(self.variables, name)
+        guesses.find(self.variables, name)
     }
 
     /// The record of this name, if it is of the session's office.
@@ -43,12 +45,12 @@ impl Scope<'_> {
     }
 
     /// A token with its names in their places. An unknown name is at place 0.
-    pub fn element(&self, token: Token<'_>) -> Placed
+    pub fn element(&self, guesses: &mut Guesses, token: Token<'_>) -> Placed
         requires { length self.now.variables.now ≤ 255 }
         ensures { result ≡ placed_of (scope_of self.now) (token_of token.entry) }
     {
         match token {
-            Token::Leaf(operand) => self.place(operand),
+            Token::Leaf(operand) => self.place(guesses, operand),
             Token::Plus => known(Element::Plus),
             Token::Minus => known(Element::Minus),
             Token::Times => known(Element::Times),
@@ -57,7 +59,7 @@ impl Scope<'_> {
         }
     }
 
-    fn place(&self, operand: Operand<'_>) -> Placed
+    fn place(&self, guesses: &mut Guesses, operand: Operand<'_>) -> Placed
         requires { length self.now.variables.now ≤ 255 }
         ensures { result ≡ placed_of (scope_of self.now) (Leaf (leaf_of operand.entry)) }
     {
@@ -65,7 +67,7 @@ impl Scope<'_> {
             Operand::Number(n) => known_node(Node::Literal(Value {
                 number: n.value as i64,
             })),
-            Operand::Variable(name) => match self.variable_named(name) {
+            Operand::Variable(name) => match self.variable_named(guesses, name) {
                 Some(place) => known_node(Node::Variable(place as u8)),
                 None => Placed {
                     element: Element::Operand(Node::Variable(0)),

@@ -53,7 +53,7 @@ impl Builder {
                 }
                 Next::Wrong => return Ok(None),
             };
-            let placed = scope.element(token);
+            let placed = scope.element(&mut self.guesses, token);
             if !self.take(placed.element)? {
                 return Ok(None);
             }

@@ -8,6 +8,7 @@ ghost use Rattle.session_language.specs.refinement.ReaderRefinement.{reading_of,
 
 use crate::builder::{Builder, Level, Stage, Sum};
 use crate::fault::{LangFault, SessionRefusal, SessionRule, Stop};
+use crate::guesses::Guesses;
 use crate::program::Program;
 use crate::reader::Reader;
 use office_map::Plan;
@@ -112,6 +113,7 @@ impl Reader {
                     minuses: 0,
                 }),
                 nodes: Vec::new(alloc),
+                guesses: Guesses::new(),
             },
             done: Vec::new(alloc),
             open_session: None,

@@ -1,7 +1,7 @@
 //! What names stand for where a line stands.
 
-ghost use Rattle.std.specs.Prelude.{◌≡◌};
-ghost use Rattle.session_language.specs.Names.{scope_of, variable_named, record_of};
+ghost use Rattle.std.specs.Prelude.{◌≢◌, AllPairs, map};
+ghost use Rattle.std.specs.String.{string_bytes};
 
 use office_map::{OfficeId, Plan, RecordId};
 
@@ -11,4 +11,5 @@ pub struct Scope<'a> {
     pub plan: &'a Plan,
     pub office: OfficeId,
     pub variables: &'a [String],
+    ghost distinct: { AllPairs (λ a b. a ≢ b) (map string_bytes variables.now) },
 }

@@ -3,7 +3,6 @@ use Rattle.std.specs.Prelude.{vec_len}
 use Rattle.std.specs.String.{string_bytes}
 use Rattle.std.proofs.lemmas.List.{length-map}
 use Rattle.session_language.specs.Lexer.{pieces_of}
-use Rattle.session_language.specs.Names.{scope_of}
 use Rattle.session_language.specs.refinement.ResolvedStatements.{seen_spoken}
 use Rattle.session_language.proofs.session_reading.WellFormedness.{over_variables}
 use Rattle.session_language.proofs.draft.Draft.take.Goals as goal
@@ -11,4 +10,4 @@ use Rattle.session_language.proofs.draft.Draft.take.Goals as goal
 pub add-requires : goal.add-requires
 add-requires c =
     let len : vec_len c.args.self.now.variables ≡ length (map string_bytes c.deref.result.now) = search (rules, length-map) in
-    over_variables (scope_of (record { plan = c.args.plan; office = c.args.self.now.office; variables = c.deref.result })) c.args.keyword (pieces_of c.args.pieces.rest.now) (seen_spoken c.in_ok-spoken.spoken) _ len c.in_ok-spoken.ensures
+    over_variables (record { plan = c.args.plan.now; office = c.args.self.now.office; variables = map string_bytes c.deref.result.now }) c.args.keyword (pieces_of c.args.pieces.rest.now) (seen_spoken c.in_ok-spoken.spoken) _ len c.in_ok-spoken.ensures

@@ -1,0 +1,46 @@
+//! Where names were found last.
+
+ghost use Rattle.std.specs.Prelude.{◌≡◌, ◌≢◌, ◌<◌, ◌≤◌, AllPairs, length, map, position};
+ghost use Rattle.std.specs.Str.{bytes_eq};
+ghost use Rattle.std.specs.String.{string_bytes};
+
+use crate::names::position_of;
+
+/// For names of each key, where the last one stood that was found. A place may be of another list by now: it is only
+/// where to look first.
+#[derive(Clone, Copy)]
+pub struct Guesses {
+    last: [u8; 64],
+}
+
+impl Guesses {
+    pub fn new() -> Guesses {
+        Guesses { last: [0; 64] }
+    }
+
+    /// The place of a name in a list of different names.
+    pub fn find(&mut self, names: &[String], name: &str) -> Option<usize>
+        requires distinct { AllPairs (λ a b. a ≢ b) (map string_bytes names.now) }
+        requires few { length names.now ≤ 255 }
+        ensures { result ≡ position (λ v. bytes_eq v name.now) (map string_bytes names.now) }
+    {
+        let key = key_of(name.as_bytes());
+        let place = self.last[key] as usize;
+        if place < names.len() && names[place].as_str() == name {
+            return Some(place);
+        }
+        let place = position_of(names, name)?;
+        self.last[key] = place as u8;
+        Some(place)
+    }
+}
+
+/// A number that names of a session seldom share.
+fn key_of(name: &[u8]) -> usize
+    ensures { result < 64 }
+{
+    match name {
+        [] => 0,
+        [first, ..] => (*first as usize + 2 * name[name.len() - 1] as usize + name.len()) % 64,
+    }
+}
