@@ -10,10 +10,11 @@ use Rattle.office_map.specs.Precedence.{HasOrder}
 use Rattle.office_map.specs.PlanText.{plan_of, IsLineOf}
 use Rattle.office_map.specs.Text.{is_name}
 use Rattle.std.specs.Prelude.{List}
+use Rattle.office_map.specs.Limits.{most_offices, most_pair_records}
 
 -- The tables agree with one another, and no limit is passed.
 pub record IsConsistent (p : PlanValue) : Type 0 where
-  pub offices_fit : length p.offices ≤ 16
+  pub offices_fit : length p.offices ≤ most_offices
   pub offices_are_named : All (λ (o : OfficeEntry). IsTrue (is_name o.name)) p.offices
   pub office_names : AllPairs (λ (a b : OfficeEntry). a.name ≢ b.name) p.offices
   pub addresses : AllPairs (λ (a b : OfficeEntry). a.address ≡ b.address → a.address ≡ no_address) p.offices
@@ -23,7 +24,7 @@ pub record IsConsistent (p : PlanValue) : Type 0 where
   pub records_are_named : All (λ (r : RecordEntry). IsTrue (is_name r.name)) p.records
   pub record_names : AllPairs (λ (a b : RecordEntry). a.name ≢ b.name) p.records
   pub records_have_pairs : All (λ (r : RecordEntry). IsTrue (are_neighbours p r.first r.second)) p.records
-  pub records_fit : (a b : ℕ) → records_between p a b ≤ 8
+  pub records_fit : (a b : ℕ) → records_between p a b ≤ most_pair_records
 
 -- The lines of a plan without a fault give consistent tables with two offices; a refusal names a line of the text, or 0.
 abbrev pub IsComplete : PlanValue → Type 0

@@ -15,6 +15,7 @@ use Rattle.office_map.specs.PlanValue.{PlanValue, office_named, record_named, ar
 use Rattle.office_map.specs.Precedence.{IsNamedRing, HasOrder}
 use Rattle.office_map.specs.Text.{name_of, is_plain, number_of, words_of, lines, statements}
 use Rattle.office_map.specs.Address.{address_of_word}
+use Rattle.office_map.specs.Limits.{most_offices, most_pair_records, most_text}
 
 -- one after the other, up to the first refusal
 infixl 10 ◌>>=◌
@@ -111,7 +112,7 @@ abbrev pub declare : PlanValue → Declaration → Result PlanValue PlanRule
 declare p (AnOffice name address) = do
   refuse_if (is_some (office_named p name)) NameTwice
   refuse_if (is_address_taken p address) NameTwice
-  refuse_if (nat_le 16 (length p.offices)) Limit
+  refuse_if (nat_le most_offices (length p.offices)) Limit
   Ok (with_office p (record { name = name; address = address }))
 declare p (APair a b at_first) = do
   first ← ok_or (office_named p a) UnknownName
@@ -124,7 +125,7 @@ declare p (ARecord name a b value at_first) = do
   second ← ok_or (office_named p b) UnknownName
   refuse_if (not (are_neighbours p first second)) UnknownName
   refuse_if (is_some (record_named p name)) NameTwice
-  refuse_if (nat_le 8 (records_between p first second)) Limit
+  refuse_if (nat_le most_pair_records (records_between p first second)) Limit
   Ok (with_record p (record { name = name; first = first; second = second; value = value; starts_at_first = at_first }))
 
 abbrev pub at_line : {A : Type 0} → ℕ → Result A PlanRule → Result A PlanRefusal
@@ -157,7 +158,7 @@ read_statements (l ∷ ls) = read_header l >>= λ p. read_lines p ls
 -- The plan that the lines of a text mean, or their first fault. Whether it has a ring isn't asked here.
 unfoldable pub plan_of : List ℕ → Result PlanValue PlanRefusal
 plan_of text = do
-  refuse_if (nat_lt 262144 (length text)) (record { rule = Limit; line = 0 })
+  refuse_if (nat_lt most_text (length text)) (record { rule = Limit; line = 0 })
   p ← read_statements (statements text)
   refuse_if (nat_lt (length p.offices) 2) (record { rule = Limit; line = 0 })
   Ok p

@@ -6,6 +6,7 @@ use Rattle.office_map.specs.declared.fault.PlanRefusal.{PlanRefusal}
 use Rattle.office_map.specs.PlanValue.{PlanValue}
 use Rattle.office_map.specs.PlanText.{read_header, plan_of, Lead, IsFirstFault}
 use Rattle.office_map.specs.Text.{lines, says_something, statements}
+use Rattle.office_map.specs.Limits.{most_text}
 
 -- the line of this number is there, and says something
 pub record SaysSomethingAt (text : List ℕ) (n : ℕ) : Type 0 where
@@ -26,17 +27,17 @@ pub record IsReadTo (text : List ℕ) (p : PlanValue) : Type 0 where
 
 -- Line 0 is told of a text that is too long, has no line that says something, or declares too few offices.
 pub data IsRefusedAs (text : List ℕ) : PlanRefusal → Type 0 where
-  too_long : 262144 < length text → IsRefusedAs text (record { rule = Limit; line = 0 })
-  without_lines : length text ≤ 262144 → statements text ≡ [] → IsRefusedAs text (record { rule = Header; line = 0 })
-  at_the_header : (first : ℕ × List ℕ) (others : List (ℕ × List ℕ)) (f : PlanRefusal) → length text ≤ 262144 → statements text ≡ first ∷ others → read_header first ≡ Err f
+  too_long : most_text < length text → IsRefusedAs text (record { rule = Limit; line = 0 })
+  without_lines : length text ≤ most_text → statements text ≡ [] → IsRefusedAs text (record { rule = Header; line = 0 })
+  at_the_header : (first : ℕ × List ℕ) (others : List (ℕ × List ℕ)) (f : PlanRefusal) → length text ≤ most_text → statements text ≡ first ∷ others → read_header first ≡ Err f
       → SaysSomethingAt text f.line → IsRefusedAs text f
-  at_a_line : (first : ℕ × List ℕ) (others : List (ℕ × List ℕ)) (empty : PlanValue) (f : PlanRefusal) → length text ≤ 262144 → statements text ≡ first ∷ others
+  at_a_line : (first : ℕ × List ℕ) (others : List (ℕ × List ℕ)) (empty : PlanValue) (f : PlanRefusal) → length text ≤ most_text → statements text ≡ first ∷ others
       → read_header first ≡ Ok empty → IsFirstFault empty others f → SaysSomethingAt text f.line → IsRefusedAs text f
-  too_few : (p : PlanValue) → length text ≤ 262144 → IsReadTo text p → length p.offices < 2 → IsRefusedAs text (record { rule = Limit; line = 0 })
+  too_few : (p : PlanValue) → length text ≤ most_text → IsReadTo text p → length p.offices < 2 → IsRefusedAs text (record { rule = Limit; line = 0 })
 
 -- a text that isn't refused is short enough, and declares two offices
 pub record IsReadAs (text : List ℕ) (p : PlanValue) : Type 0 where
-  pub short : length text ≤ 262144
+  pub short : length text ≤ most_text
   pub read : IsReadTo text p
   pub offices : 2 ≤ length p.offices
 

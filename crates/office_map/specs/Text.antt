@@ -4,6 +4,7 @@ use Rattle.std.specs.List.{slice_split, list_all, list_any}
 use Rattle.std.specs.Str.{bytes_eq}
 use Rattle.std.specs.Str.Lines as std_lines
 use Rattle.std.specs.Char.{is_ascii_digit, is_ascii_alphabetic, is_ascii_alphanumeric}
+use Rattle.office_map.specs.Limits.{most_letters}
 
 -- Lines end with LF. A CR before the LF is dropped, and the last LF may be missing.
 abbrev pub lines : List ℕ → List (List ℕ)
@@ -32,7 +33,7 @@ is_name_byte b = is_ascii_alphanumeric b || b == 95
 abbrev pub is_name : List ℕ → Bool
 is_name [] = false
 is_name (first ∷ rest) =
-    (is_ascii_alphabetic first && nat_le (length (first ∷ rest)) 16) && (list_all is_name_byte (first ∷ rest) && not (is_keyword (first ∷ rest)))
+    (is_ascii_alphabetic first && nat_le (length (first ∷ rest)) most_letters) && (list_all is_name_byte (first ∷ rest) && not (is_keyword (first ∷ rest)))
 
 abbrev pub name_of : List ℕ → Option (List ℕ)
 name_of word = if is_name word then Some word else None

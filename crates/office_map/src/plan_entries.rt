@@ -44,7 +44,8 @@ impl PlanEntries {
     ghost use Rattle.std.specs.Option.{option_copied};
     ghost use Rattle.office_map.specs.PlanValue.{office_named, office_name_of, record_named, joins, are_neighbours, records_between, is_end, fork_end_of};
     ghost use Rattle.office_map.specs.PlanText.{declare, at_line, is_address_taken, AnOffice, APair, ARecord};
-    ghost use Rattle.office_map.specs.refinement.PlanReader.{Leaves, seen};
+    ghost use Rattle.office_map.specs.refinement.PlanReader.{seen, Fails};
+    ghost use Rattle.bottle_values.specs.Memory.{UnlessMemory};
     ghost use Rattle.office_map.specs.Consistency.{IsConsistent};
 
     pub fn new(alloc: Global, run: u32) -> PlanEntries
@@ -154,7 +155,7 @@ impl PlanEntries {
         number: u64,
         declaration: Declaration<'_>,
     ) -> Result<(), PlanFault>
-        ensures { Leaves result self.new (at_line number (declare self.old (seen declaration.entry))) }
+        ensures { UnlessMemory (λ _. self.new) Fails result (at_line number (declare self.old (seen declaration.entry))) }
     {
         match declaration {
             Declaration::Office(office) => self.add_office(alloc, number, office),
@@ -169,7 +170,7 @@ impl PlanEntries {
         number: u64,
         office: NewOffice<'_>,
     ) -> Result<(), PlanFault>
-        ensures { Leaves result self.new
+        ensures { UnlessMemory (λ _. self.new) Fails result
             (at_line number (declare self.old (AnOffice office.entry.name.now office.entry.address.now))) }
     {
         if self.office_named(office.name).is_some() || self.is_address_taken(office.address) {
@@ -185,7 +186,7 @@ impl PlanEntries {
     }
 
     fn add_pair(&mut self, number: u64, pair: NewPair<'_>) -> Result<(), PlanFault>
-        ensures { Leaves result self.new
+        ensures { UnlessMemory (λ _. self.new) Fails result
             (at_line number (declare self.old (APair pair.entry.a.now pair.entry.b.now pair.entry.fork_at_first))) }
     {
         let Some(first) = self.office_named(pair.a) else {
@@ -214,7 +215,7 @@ impl PlanEntries {
         number: u64,
         declared: NewRecord<'_>,
     ) -> Result<(), PlanFault>
-        ensures { Leaves result self.new
+        ensures { UnlessMemory (λ _. self.new) Fails result
             (at_line number (declare self.old (ARecord declared.entry.name.now declared.entry.a.now declared.entry.b.now declared.entry.value declared.entry.starts_at_first))) }
     {
         let Some(first) = self.office_named(declared.a) else {

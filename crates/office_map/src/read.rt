@@ -10,7 +10,8 @@ use crate::statements::Statements;
 use crate::plan_entries::PlanEntries;
 use crate::text::{is_plain, words};
 use std::alloc::{AllocError, Global};
-ghost use Rattle.office_map.specs.refinement.PlanReader.{Gives, Leaves};
+ghost use Rattle.office_map.specs.refinement.PlanReader.{Fails};
+ghost use Rattle.bottle_values.specs.Memory.{UnlessMemory};
 
 /// The longest text of a plan, in bytes.
 const TEXT_LIMIT: usize = 262_144;
@@ -18,7 +19,7 @@ const TEXT_LIMIT: usize = 262_144;
 /// The tables that a text means. The first faulty line is refused.
 #[tactic(auto, unfolding(crate::specs::PlanText::plan_of))]
 pub(crate) fn read_entries(alloc: Global, text: &[u8]) -> Result<PlanEntries, PlanFault>
-    ensures { Gives (λ t. t) result (plan_of text.now) }
+    ensures { UnlessMemory (λ t. t) Fails result (plan_of text.now) }
 {
     if text.len() > TEXT_LIMIT {
         return Err(refused(PlanRule::Limit, 0));
@@ -40,7 +41,7 @@ pub(crate) fn read_entries(alloc: Global, text: &[u8]) -> Result<PlanEntries, Pl
 
 #[tactic(auto, unfolding(crate::specs::PlanText::read_header))]
 fn read_header(alloc: Global, number: u64, line: &[u8]) -> Result<PlanEntries, PlanFault>
-    ensures { Gives (λ t. t) result (read_header (number, line.now)) }
+    ensures { UnlessMemory (λ t. t) Fails result (read_header (number, line.now)) }
 {
     let Some(words) = plain_words(alloc, line)? else {
         return Err(refused(PlanRule::Header, number));
@@ -57,7 +58,7 @@ fn read_lines(
     statements: Statements<'_>,
 ) -> Result<PlanEntries, PlanFault>
     requires { statements.number + length statements.rest.now < 2 ^ 64 }
-    ensures { Gives (λ t. t) result (read_lines tables (statements_from statements.entry.number (lines statements.entry.rest.now))) }
+    ensures { UnlessMemory (λ t. t) Fails result (read_lines tables (statements_from statements.entry.number (lines statements.entry.rest.now))) }
 {
     let mut tables = tables;
     let mut left = statements;
@@ -69,7 +70,7 @@ fn read_lines(
 
 #[tactic(auto, unfolding(crate::specs::PlanText::read_line))]
 fn read_line(alloc: Global, tables: &mut PlanEntries, number: u64, line: &[u8]) -> Result<(), PlanFault>
-    ensures { Leaves result tables.new (read_line tables.old (number, line.now)) }
+    ensures { UnlessMemory (λ _. tables.new) Fails result (read_line tables.old (number, line.now)) }
 {
     let Some(words) = plain_words(alloc, line)? else {
         return Err(refused(PlanRule::Line, number));

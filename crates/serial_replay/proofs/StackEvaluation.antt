@@ -6,7 +6,7 @@ use Rattle.session_language.specs.declared.node.Node.{Node}
 use Rattle.session_language.specs.declared.node.Node.TheVariants.{Negate, Apply}
 use Rattle.session_language.specs.declared.node.Operator.{Operator}
 use Rattle.session_language.specs.Tree.{Term, Constant, Var, ReadOf, Neg, Bin}
-use Rattle.session_language.specs.Postfix.{postfix}
+use Rattle.session_language.specs.refinement.Postfix.{postfix}
 use Rattle.session_language.specs.Meaning.{Environment, value_of, apply, negated, both}
 use Rattle.serial_replay.specs.refinement.PostfixEvaluation.{after_node, after_nodes, and_after, on_top}
 

@@ -10,6 +10,7 @@ use Rattle.session_language.specs.declared.keyword.Keyword.{Keyword}
 use Rattle.session_language.specs.declared.keyword.Keyword.TheVariants.{Session, Let, Set, Give, Require, End, Other}
 use Rattle.session_language.specs.Lexer.{Piece, AWord, ASymbol}
 use Rattle.session_language.specs.Phrase.{Phrase, phrase_at}
+use Rattle.session_language.specs.Limits.{codes_end}
 
 -- a statement, its names still text
 pub data Said : Type 0 where
@@ -66,7 +67,7 @@ assigned ps = None
 
 abbrev pub small_code : Option ℕ → Option ℕ
 small_code None = None
-small_code (Some n) = if nat_lt n 65536 then Some n else None
+small_code (Some n) = if nat_lt n codes_end then Some n else None
 
 -- else CODE, and nothing after it
 abbrev pub else_code : List Piece → Option ℕ

@@ -15,6 +15,7 @@ use Rattle.session_language.specs.Reading.{Draft, Reading, take_line, at_line, r
 use Rattle.session_language.specs.Meaning.{alone}
 use Rattle.session_language.specs.Measures.{block_cost}
 use Rattle.session_language.specs.Length.{length_on}
+use Rattle.session_language.specs.Limits.{most_text}
 
 -- these lines are accepted one after the other, from x on, and leave y
 abbrev pub Lead : PlanValue → Reading → List (ℕ × List ℕ) → Reading → Type 0
@@ -37,14 +38,14 @@ ReadsInOrder = (p : PlanValue) (x : Reading) (lines : List (ℕ × List ℕ)) �
 
 -- A refusal is of the whole text (line 0), of the first faulty line, or of the end, where a session is still open.
 pub data IsRefusedAs (p : PlanValue) (text : List ℕ) : SessionRefusal → Type 0 where
-  too_long : 1048576 < length text → IsRefusedAs p text (record { rule = TooLong; line = 0 })
-  at_a_line : (f : SessionRefusal) → length text ≤ 1048576 → IsFirstFault p nothing_read (statements text) f → SaysSomethingAt text f.line → IsRefusedAs p text f
-  left_open : (x : Reading) (d : Draft) → length text ≤ 1048576 → Lead p nothing_read (statements text) x → x.open_session ≡ Some d
+  too_long : most_text < length text → IsRefusedAs p text (record { rule = TooLong; line = 0 })
+  at_a_line : (f : SessionRefusal) → length text ≤ most_text → IsFirstFault p nothing_read (statements text) f → SaysSomethingAt text f.line → IsRefusedAs p text f
+  left_open : (x : Reading) (d : Draft) → length text ≤ most_text → Lead p nothing_read (statements text) x → x.open_session ≡ Some d
       → IsRefusedAs p text (record { rule = Syntax; line = length (lines text) + 1 })
 
 -- a text that isn't refused is short enough, all its lines are accepted, and its sessions are closed
 pub record IsReadAs (p : PlanValue) (text : List ℕ) (ps : List ProgramValue) : Type 0 where
-  pub short : length text ≤ 1048576
+  pub short : length text ≤ most_text
   pub accepted : Lead p nothing_read (statements text) (record { done = ps; open_session = None })
 
 abbrev pub RefusesALine : Type 0

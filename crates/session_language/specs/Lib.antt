@@ -1,5 +1,5 @@
+pub mod Limits
 pub mod Tree
-pub mod Postfix
 pub mod Lexer
 pub mod Spelling
 pub mod Grammar

@@ -9,6 +9,7 @@ use Rattle.session_language.specs.Spelling.{ANumber, AVariable, ARecord, Token, 
 use Rattle.session_language.specs.Grammar.{IsExpr}
 use Rattle.session_language.specs.Phrase.{Phrase, expression_symbol}
 use Rattle.session_language.specs.Form.{Lets, Sets, Gives, Demands, Form, Opens, Says, Closes, comparison_of, form_of}
+use Rattle.session_language.specs.Limits.{codes_end}
 
 -- the pieces of an expression, and its tokens: NUMBER, NAME, read NAME, and signs
 pub data AreTokens : List Piece → List Token → Type 0 where
@@ -30,7 +31,7 @@ pub data IsForm : List Piece → Form → Type 0 where
   sets : (name : List ℕ) (ps : List Piece) (e : Phrase) → is_name name ≡ true → IsPhrase ps e → IsForm (AWord (codes "set") ∷ AWord name ∷ ASymbol symbol.Assign ∷ ps) (Says (Sets name e))
   gives : (ps : List Piece) (e : Phrase) → IsPhrase ps e → IsForm (AWord (codes "give") ∷ ps) (Says (Gives e))
   demands : (ps qs : List Piece) (left right : Phrase) (s : Symbol) (c : Comparison) (word : List ℕ) (code : ℕ) → IsPhrase ps left → comparison_of s ≡ Some c → IsPhrase qs right
-      → number_of word ≡ Some code → code < 65536 → IsForm (AWord (codes "require") ∷ (ps ++ ASymbol s ∷ (qs ++ AWord (codes "else") ∷ AWord word ∷ []))) (Says (Demands left c right code))
+      → number_of word ≡ Some code → code < codes_end → IsForm (AWord (codes "require") ∷ (ps ++ ASymbol s ∷ (qs ++ AWord (codes "else") ∷ AWord word ∷ []))) (Says (Demands left c right code))
   closes : IsForm (AWord (codes "end") ∷ []) Closes
 
 -- a line is read as a form exactly where the grammar has it

@@ -18,6 +18,7 @@ use Rattle.session_language.specs.Text.{session_text, wide_words}
 use Rattle.session_language.specs.declared.keyword.Keyword.{Keyword}
 use Rattle.session_language.specs.Lexer.{Piece, pieces_of}
 use Rattle.session_language.specs.Form.{Said, Lets, Sets, Gives, Demands, Form, Opens, Says, Closes, form_of, form_after}
+use Rattle.session_language.specs.Limits.{most_depth, most_records, most_variables, most_statements, most_cost, most_bytes, most_gives, most_sessions, most_text}
 
 -- a session that is open: its office, its variables, and the statements so far
 pub record Draft : Type 0 where
@@ -59,10 +60,10 @@ are_records_known s (Gives e) = knows_records s e.tokens
 are_records_known s (Demands l c r code) = knows_records s l.tokens && knows_records s r.tokens
 
 abbrev pub is_too_deep : Said → Bool
-is_too_deep (Lets name e) = nat_lt 32 e.depth
-is_too_deep (Sets name e) = nat_lt 32 e.depth
-is_too_deep (Gives e) = nat_lt 32 e.depth
-is_too_deep (Demands l c r code) = nat_lt 32 l.depth || nat_lt 32 r.depth
+is_too_deep (Lets name e) = nat_lt most_depth e.depth
+is_too_deep (Sets name e) = nat_lt most_depth e.depth
+is_too_deep (Gives e) = nat_lt most_depth e.depth
+is_too_deep (Demands l c r code) = nat_lt most_depth l.depth || nat_lt most_depth r.depth
 
 -- the statement, or the first refusal of its names and depth
 abbrev pub speak : Scope → Said → Result Spoken SessionRule
@@ -97,8 +98,8 @@ with_command d variables c = record { office = d.office; variables = variables; 
 
 abbrev pub within_limits : Draft → Result Draft SessionRule
 within_limits d = do
-  refuse_if (nat_lt 16 (length (needs_of (block_from d.body)))) TooManyRecords
-  refuse_if (nat_lt 32 (length d.variables)) TooManyVariables
+  refuse_if (nat_lt most_records (length (needs_of (block_from d.body)))) TooManyRecords
+  refuse_if (nat_lt most_variables (length d.variables)) TooManyVariables
   Ok d
 
 abbrev pub add : Draft → Spoken → Result Draft SessionRule
@@ -109,13 +110,13 @@ program_of d = record { office = d.office; variables = d.variables; body = block
 
 -- past one of the limits of a session's length
 abbrev pub is_too_long : ProgramValue → Bool
-is_too_long p = (nat_lt 256 (block_statements p.body) || nat_lt 10000 (block_cost p.body)) || nat_lt 16384 (length (session_text (wide_words p.variables) p.body))
+is_too_long p = (nat_lt most_statements (block_statements p.body) || nat_lt most_cost (block_cost p.body)) || nat_lt most_bytes (length (session_text (wide_words p.variables) p.body))
 
 -- a session that is closed
 abbrev pub closed : Draft → Result ProgramValue SessionRule
 closed d = do
   refuse_if (is_too_long (program_of d)) TooLong
-  refuse_if (nat_lt 64 (block_gives (block_from d.body))) TooManyGives
+  refuse_if (nat_lt most_gives (block_gives (block_from d.body))) TooManyGives
   Ok (program_of d)
 
 abbrev pub begun : ℕ → Draft
@@ -132,7 +133,7 @@ abbrev pub take_opening : PlanValue → Reading → Option Draft → List ℕ �
 take_opening p x (Some d) name = Err Syntax
 take_opening p x None name = do
   office ← ok_or (office_named p name) UnknownName
-  refuse_if (nat_le 1024 (length x.done)) TooLong
+  refuse_if (nat_le most_sessions (length x.done)) TooLong
   Ok (with_open x (begun office))
 
 abbrev pub take_statement : PlanValue → Reading → Option Draft → Said → Result Reading SessionRule
@@ -186,6 +187,6 @@ all_closed count x = unless_open count x.done x.open_session
 -- The programs that a text means under a plan, or its first fault.
 unfoldable pub sessions_of : PlanValue → List ℕ → Result (List ProgramValue) SessionRefusal
 sessions_of p text = do
-  refuse_if (nat_lt 1048576 (length text)) (record { rule = TooLong; line = 0 })
+  refuse_if (nat_lt most_text (length text)) (record { rule = TooLong; line = 0 })
   x ← read_lines p nothing_read (statements text)
   all_closed (length (lines text)) x

@@ -10,6 +10,7 @@ use Rattle.session_language.specs.Needs.{needs_of}
 use Rattle.session_language.specs.Measures.{block_gives}
 use Rattle.session_language.specs.Text.{rank_of}
 use Rattle.session_language.specs.Reading.{Spoken, SpeaksLet, SpeaksSet, SpeaksGive, SpeaksDemand, is_too_long}
+use Rattle.session_language.specs.Limits.{most_depth, codes_end, most_records, most_variables, most_gives}
 
 -- one more for parentheses, where the canonical text has them
 abbrev pub factor_depth : Rank → ℕ → ℕ
@@ -47,7 +48,7 @@ IsOver known (Bin o a b) = IsOver known a × IsOver known b
 
 -- which is no deeper than a text may be
 abbrev pub IsExpressionOver : ℕ → Term → Type 0
-IsExpressionOver known e = IsOver known e × (depth e ≤ 32)
+IsExpressionOver known e = IsOver known e × (depth e ≤ most_depth)
 
 -- A statement of one line, since no text has blocks. A `let` names a variable that is known, or the next; its expression
 -- knows only those before.
@@ -55,7 +56,7 @@ abbrev pub IsStatementOver : ℕ → Command → Type 0
 IsStatementOver known (LetVar k e) = (k ≤ known) × IsExpressionOver known e
 IsStatementOver known (SetTo r e) = IsExpressionOver known e
 IsStatementOver known (GiveOf e) = IsExpressionOver known e
-IsStatementOver known (Requires t code) = IsExpressionOver known t.left × IsExpressionOver known t.right × (code < 65536)
+IsStatementOver known (Requires t code) = IsExpressionOver known t.left × IsExpressionOver known t.right × (code < codes_end)
 IsStatementOver known (When t b) = ⊥
 IsStatementOver known (Choice t a b) = ⊥
 IsStatementOver known (Loop n b) = ⊥
@@ -65,7 +66,7 @@ abbrev pub IsSpokenOver : ℕ → Spoken → Type 0
 IsSpokenOver known (SpeaksLet name e) = IsTrue (is_name name) × IsExpressionOver known e
 IsSpokenOver known (SpeaksSet r e) = IsExpressionOver known e
 IsSpokenOver known (SpeaksGive e) = IsExpressionOver known e
-IsSpokenOver known (SpeaksDemand t code) = IsExpressionOver known t.left × IsExpressionOver known t.right × (code < 65536)
+IsSpokenOver known (SpeaksDemand t code) = IsExpressionOver known t.left × IsExpressionOver known t.right × (code < codes_end)
 
 -- how many variables are known after it
 abbrev pub known_after : ℕ → Command → ℕ
@@ -91,7 +92,7 @@ pub record IsDeclared (variables : List (List ℕ)) (body : Block) : Type 0 wher
 -- and the limits of a session are kept
 pub record IsWellFormed (p : ProgramValue) : Type 0 where
   pub declared : IsDeclared p.variables p.body
-  pub few_records : length (needs_of p.body) ≤ 16
-  pub few_variables : length p.variables ≤ 32
-  pub few_gives : block_gives p.body ≤ 64
+  pub few_records : length (needs_of p.body) ≤ most_records
+  pub few_variables : length p.variables ≤ most_variables
+  pub few_gives : block_gives p.body ≤ most_gives
   pub short : is_too_long p ≡ false

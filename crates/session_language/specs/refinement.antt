@@ -7,3 +7,4 @@ pub mod PostfixSplit
 pub mod TreeOfStatements
 pub mod ExpressionNodes
 pub mod TextSizes
+pub mod Postfix

@@ -4,7 +4,8 @@ ghost use Rattle.std.specs.Prelude.{◌≡◌, ◌≤◌, ℕ, IfOk, [], ◌∷�
 ghost use Rattle.std.specs.String.{string_bytes};
 ghost use Rattle.session_language.specs.refinement.TreeOfStatements.{command_of, block_of};
 ghost use Rattle.session_language.specs.refinement.ResolvedStatements.{seen_spoken};
-ghost use Rattle.session_language.specs.refinement.ReaderRefinement.{parts, draft_of, Leaves};
+ghost use Rattle.session_language.specs.refinement.ReaderRefinement.{parts, draft_of, Stops};
+ghost use Rattle.bottle_values.specs.Memory.{UnlessMemory};
 ghost use Rattle.session_language.specs.Reading.{begun, add, place_of, with_variable, variables_after, command_in};
 ghost use Rattle.session_language.specs.Needs.{needs_of};
 ghost use Rattle.session_language.specs.WellFormed.{IsSpokenOver};
@@ -41,7 +42,7 @@ impl Draft {
     /// Adds a statement, if the session stays within its limits. Where it is refused, nothing is left of the session.
     pub fn add(&mut self, alloc: Global, spoken: Spoken<'_>) -> Result<(), Stop>
         requires { IsSpokenOver (vec_len self.old.variables) (seen_spoken spoken) }
-        ensures { Leaves result (draft_of self.new) (add (draft_of self.old) (seen_spoken spoken.entry)) }
+        ensures { UnlessMemory (λ _. draft_of self.new) Stops result (add (draft_of self.old) (seen_spoken spoken.entry)) }
     {
         let added = add_to(
             alloc,
@@ -70,7 +71,7 @@ fn add_to(
 ) -> Result<(), Stop>
     requires few { vec_len variables.old ≤ 32 }
     requires needed { needs.old.items ≡ needs_of (block_of statements.old.items) }
-    ensures told { (office : ℕ) → Leaves result (parts office (map string_bytes variables.new.items) (map command_of statements.new.items)) (add (parts office (map string_bytes variables.old.items) (map command_of statements.old.items)) (seen_spoken spoken.entry)) }
+    ensures told { (office : ℕ) → UnlessMemory (λ _. parts office (map string_bytes variables.new.items) (map command_of statements.new.items)) Stops result (add (parts office (map string_bytes variables.old.items) (map command_of statements.old.items)) (seen_spoken spoken.entry)) }
     ensures limits { OnOk result ((vec_len variables.new ≤ 32) × (vec_len needs.new ≤ 16)) }
     ensures needed { OnOk result (needs.new.items ≡ needs_of (block_of statements.new.items)) }
     ensures variables { OnOk result (map string_bytes variables.new.items ≡ variables_after (map string_bytes variables.old.items) (seen_spoken spoken.entry)) }

@@ -1,8 +1,8 @@
 //! Sessions that are closed.
 
 ghost use Rattle.std.specs.Prelude.{◌≡◌, IfOk};
-ghost use Rattle.session_language.specs.refinement.ResolvedStatements.{Tells};
-ghost use Rattle.session_language.specs.refinement.ReaderRefinement.{draft_of};
+ghost use Rattle.session_language.specs.refinement.ReaderRefinement.{draft_of, Stops};
+ghost use Rattle.bottle_values.specs.Memory.{UnlessMemory};
 ghost use Rattle.session_language.specs.Reading.{closed, program_of, is_too_long};
 
 use crate::draft::Draft;
@@ -27,7 +27,7 @@ const MOST_GIVES: u32 = 64;
 impl Draft {
     /// The program of a session that is closed, if it is within its limits.
     pub fn close(self, alloc: Global) -> Result<Program, Stop>
-        ensures { Tells (λ p. p) result (closed (draft_of self)) }
+        ensures { UnlessMemory (λ p. p) Stops result (closed (draft_of self)) }
     {
         if self.is_too_long(alloc)? {
             return Err(Stop::Refused(SessionRule::TooLong));

@@ -2,7 +2,7 @@
 
 ghost use Rattle.std.specs.Prelude.{◌≡◌, IfOk};
 ghost use Rattle.session_language.specs.refinement.ExpressionNodes.{nodes_in};
-ghost use Rattle.session_language.specs.Postfix.{postfix, tree_of, IsPostfix};
+ghost use Rattle.session_language.specs.refinement.Postfix.{postfix, tree_of, IsPostfix};
 
 use crate::node::Node;
 use std::alloc::{AllocError, Global};
@@ -27,7 +27,7 @@ impl Model for Expression {
     ghost use Rattle.session_language.specs.Tree.{Term};
     ghost use Rattle.session_language.specs.refinement.TreeEncoding.{term_code};
     ghost use Rattle.session_language.specs.refinement.ExpressionNodes.{nodes_in};
-    ghost use Rattle.session_language.specs.Postfix.{tree_of, IsPostfix};
+    ghost use Rattle.session_language.specs.refinement.Postfix.{tree_of, IsPostfix};
 
     ghost Value = { Term };
 

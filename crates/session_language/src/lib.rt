@@ -9,7 +9,7 @@
 //! - What a session does alone is `alone`, in `specs/Meaning.antt`, and how much it does `length_on`, in
 //!   `specs/Length.antt`; `proofs/WorkedExamples.antt` works out examples of both. How it ended is an
 //!   [`Ending`].
-//! - Expressions are kept in postfix order (`specs/Postfix.antt`), and reading them takes one pass and no recursion; the
+//! - Expressions are kept in postfix order (`specs/refinement/Postfix.antt`), and reading them takes one pass and no recursion; the
 //!   grammar is in `specs/Grammar.antt`, the words of a line in `specs/Lexer.antt`, the limits in
 //!   `specs/Measures.antt`.
 #![tactic(auto)]

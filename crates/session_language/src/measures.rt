@@ -2,7 +2,7 @@
 
 ghost use Rattle.std.specs.Prelude.{◌≡◌, ◌≤◌, ◌^◌, min, max, ◌+◌, ◌*◌, length};
 ghost use Rattle.session_language.specs.refinement.TreeOfStatements.{test_of, command_of, block_of};
-ghost use Rattle.session_language.specs.Postfix.{postfix};
+ghost use Rattle.session_language.specs.refinement.Postfix.{postfix};
 ghost use Rattle.session_language.specs.Measures.{nodes, test_nodes, cost, block_cost, gives, block_gives, statements, block_statements};
 
 use crate::expression::Expression;

@@ -2,7 +2,7 @@
 
 ghost use Rattle.std.specs.Prelude.{◌≡◌, ◌≤◌, ◌++◌, length, reverse, take};
 ghost use Rattle.session_language.specs.Tree.{Term};
-ghost use Rattle.session_language.specs.Postfix.{postfix};
+ghost use Rattle.session_language.specs.refinement.Postfix.{postfix};
 ghost use Rattle.session_language.specs.refinement.PostfixSplit.{after_back};
 
 use crate::node::Node;

@@ -4,7 +4,8 @@ ghost use Rattle.std.specs.Prelude.{◌≡◌, ◌<◌, ◌≤◌, ◌+◌, ◌^
 ghost use Rattle.session_language.specs.Program.{fits};
 ghost use Rattle.office_map.specs.Text.{lines, statements_from};
 ghost use Rattle.session_language.specs.Reading.{sessions_of, read_lines, at_line, take_line, all_closed};
-ghost use Rattle.session_language.specs.refinement.ReaderRefinement.{reading_of, Gives, LeavesLine};
+ghost use Rattle.session_language.specs.refinement.ReaderRefinement.{reading_of, Fails};
+ghost use Rattle.bottle_values.specs.Memory.{UnlessMemory};
 
 use crate::builder::{Builder, Level, Stage, Sum};
 use crate::fault::{LangFault, SessionRefusal, SessionRule, Stop};
@@ -22,7 +23,7 @@ const TEXT_LIMIT: usize = 1_048_576;
 /// The programs of the sessions in a text, in order. The first faulty line is refused.
 #[tactic(auto, unfolding(crate::specs::Reading::sessions_of), using(crate::proofs::session_reading::ProgramsFit::sessions_fit, crate::proofs::session_reading::ProgramsFit::sessions_few))]
 pub fn read_sessions(alloc: Global, text: &[u8], plan: &Plan) -> Result<Vec<Program>, LangFault>
-    ensures meaning { Gives (λ v. v.items) result (sessions_of plan.now text.now) }
+    ensures meaning { UnlessMemory (λ v. v.items) Fails result (sessions_of plan.now text.now) }
     ensures fit { IfOk result (λ v. All (λ p. IsTrue (fits plan.now p)) v.items) }
     ensures few { IfOk result (λ v. length v.items ≤ 1024) }
 {
@@ -51,7 +52,7 @@ fn read_lines(
     statements: Statements<'_>,
 ) -> Result<Reader, LangFault>
     requires { statements.number + length statements.rest.now < 2 ^ 64 }
-    ensures { Gives reading_of result (read_lines plan.now (reading_of reader) (statements_from statements.entry.number (lines statements.entry.rest.now))) }
+    ensures { UnlessMemory reading_of Fails result (read_lines plan.now (reading_of reader) (statements_from statements.entry.number (lines statements.entry.rest.now))) }
 {
     let mut reader = reader;
     let mut left = statements;
@@ -68,7 +69,7 @@ fn read_line(
     number: u64,
     line: &[u8],
 ) -> Result<(), LangFault>
-    ensures { LeavesLine result (reading_of reader.new) (at_line number (take_line plan.now (reading_of reader.old) line.now)) }
+    ensures { UnlessMemory (λ _. (reading_of reader.new)) Fails result (at_line number (take_line plan.now (reading_of reader.old) line.now)) }
 {
     match reader.take_line(alloc, plan, line) {
         Ok(()) => Ok(()),

@@ -6,7 +6,7 @@ ghost use Rattle.std.specs.String.{string_bytes};
 ghost use Rattle.std.specs.Fmt.{decimal};
 ghost use Rattle.session_language.specs.refinement.TreeOfStatements.{test_of, command_of, block_of};
 ghost use Rattle.session_language.specs.Tree.{Term, Bin};
-ghost use Rattle.session_language.specs.Postfix.{push_node, push_nodes};
+ghost use Rattle.session_language.specs.refinement.Postfix.{push_node, push_nodes};
 ghost use Rattle.session_language.specs.Text.{Words, wide_words, variable_name, rank_of, term_text, test_text, command_text, block_text, session_text};
 ghost use Rattle.session_language.specs.refinement.TextSizes.{ranks_of, bytes_of, around_factor, around_product, around_both};
 

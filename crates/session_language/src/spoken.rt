@@ -1,12 +1,14 @@
 //! Statements with their names in their places.
 
 ghost use Rattle.std.specs.Prelude.{◌≡◌, ◌≤◌, ◌∷◌, ◌&&◌, max, if◌then◌else◌, IfOk, length};
+ghost use Rattle.bottle_values.specs.Memory.{UnlessMemory};
+ghost use Rattle.session_language.specs.refinement.ReaderRefinement.{Stops};
 ghost use Rattle.session_language.specs.Lexer.{pieces_of, AWord};
-ghost use Rattle.session_language.specs.Postfix.{IsPostfix, tree_of};
+ghost use Rattle.session_language.specs.refinement.Postfix.{IsPostfix, tree_of};
 ghost use Rattle.session_language.specs.Names.{scope_of};
 ghost use Rattle.session_language.specs.Reading.{SpeaksDemand};
 ghost use Rattle.session_language.specs.Form.{phrase_alone, assigned, else_code, comparison_of};
-ghost use Rattle.session_language.specs.refinement.ResolvedStatements.{Tells, ReadsAlone, ReadsAssigned, seen_spoken, spoken_after, judged};
+ghost use Rattle.session_language.specs.refinement.ResolvedStatements.{ReadsAlone, ReadsAssigned, seen_spoken, spoken_after, judged};
 
 use crate::builder::Builder;
 use crate::expression::Expression;
@@ -84,7 +86,7 @@ impl Builder {
         pieces: Pieces<'a>,
     ) -> Result<Spoken<'a>, Stop>
         requires { length scope.now.variables.now ≤ 255 }
-        ensures { Tells seen_spoken result (spoken_after (scope_of scope.now) keyword (pieces_of pieces.entry.rest.now)) }
+        ensures { UnlessMemory seen_spoken Stops result (spoken_after (scope_of scope.now) keyword (pieces_of pieces.entry.rest.now)) }
     {
         match keyword {
             Keyword::Let => self.speak_let(alloc, scope, pieces),
@@ -103,7 +105,7 @@ impl Builder {
         pieces: Pieces<'a>,
     ) -> Result<Spoken<'a>, Stop>
         requires { length scope.now.variables.now ≤ 255 }
-        ensures { Tells seen_spoken result (spoken_after (scope_of scope.now) Keyword.Let (pieces_of pieces.entry.rest.now)) }
+        ensures { UnlessMemory seen_spoken Stops result (spoken_after (scope_of scope.now) Keyword.Let (pieces_of pieces.entry.rest.now)) }
     {
         let Some((name, summary)) = self.assigned(scope, pieces)? else {
             return Err(Stop::Refused(SessionRule::Syntax));
@@ -120,7 +122,7 @@ impl Builder {
         pieces: Pieces<'a>,
     ) -> Result<Spoken<'a>, Stop>
         requires { length scope.now.variables.now ≤ 255 }
-        ensures { Tells seen_spoken result (spoken_after (scope_of scope.now) Keyword.Set (pieces_of pieces.entry.rest.now)) }
+        ensures { UnlessMemory seen_spoken Stops result (spoken_after (scope_of scope.now) Keyword.Set (pieces_of pieces.entry.rest.now)) }
     {
         let Some((name, summary)) = self.assigned(scope, pieces)? else {
             return Err(Stop::Refused(SessionRule::Syntax));
@@ -140,7 +142,7 @@ impl Builder {
         pieces: Pieces<'a>,
     ) -> Result<Spoken<'a>, Stop>
         requires { length scope.now.variables.now ≤ 255 }
-        ensures { Tells seen_spoken result (spoken_after (scope_of scope.now) Keyword.Give (pieces_of pieces.entry.rest.now)) }
+        ensures { UnlessMemory seen_spoken Stops result (spoken_after (scope_of scope.now) Keyword.Give (pieces_of pieces.entry.rest.now)) }
     {
         let Some(summary) = self.alone(scope, pieces)? else {
             return Err(Stop::Refused(SessionRule::Syntax));
@@ -157,7 +159,7 @@ impl Builder {
         pieces: Pieces<'a>,
     ) -> Result<Spoken<'a>, Stop>
         requires { length scope.now.variables.now ≤ 255 }
-        ensures { Tells seen_spoken result (spoken_after (scope_of scope.now) Keyword.Require (pieces_of pieces.entry.rest.now)) }
+        ensures { UnlessMemory seen_spoken Stops result (spoken_after (scope_of scope.now) Keyword.Require (pieces_of pieces.entry.rest.now)) }
     {
         let mut rest = pieces;
         let Some((first, Some(Piece::Symbol(symbol)))) = self.phrase(scope, &mut rest)? else {

@@ -5,7 +5,8 @@ ghost use Rattle.std.specs.Option.{option_copied};
 ghost use Rattle.office_map.specs.PlanValue.{PlanValue};
 ghost use Rattle.session_language.specs.Lexer.{pieces_of};
 ghost use Rattle.session_language.specs.Form.{name_alone, IsStatement};
-ghost use Rattle.session_language.specs.refinement.ReaderRefinement.{draft_of, reading_of, Leaves, with_statement};
+ghost use Rattle.session_language.specs.refinement.ReaderRefinement.{draft_of, reading_of, with_statement, Stops};
+ghost use Rattle.bottle_values.specs.Memory.{UnlessMemory};
 ghost use Rattle.session_language.specs.Reading.{take_line, take_after};
 
 use crate::builder::Builder;
@@ -26,7 +27,7 @@ const MOST_SESSIONS: usize = 1_024;
 impl Reader {
     /// Takes one line that says something.
     pub fn take_line(&mut self, alloc: Global, plan: &Plan, line: &[u8]) -> Result<(), Stop>
-        ensures { Leaves result (reading_of self.new) (take_line plan.now (reading_of self.old) line.now) }
+        ensures { UnlessMemory (λ _. reading_of self.new) Stops result (take_line plan.now (reading_of self.old) line.now) }
     {
         let mut pieces = Pieces { rest: line };
         let Some(Piece::Word(word)) = pieces.next() else {
@@ -43,7 +44,7 @@ impl Reader {
         keyword: Keyword,
         pieces: Pieces<'_>,
     ) -> Result<(), Stop>
-        ensures { Leaves result (reading_of self.new) (take_after plan.now (reading_of self.old) keyword (pieces_of pieces.entry.rest.now)) }
+        ensures { UnlessMemory (λ _. reading_of self.new) Stops result (take_after plan.now (reading_of self.old) keyword (pieces_of pieces.entry.rest.now)) }
     {
         match keyword {
             Keyword::Session => self.take_opening(alloc, plan, pieces),
@@ -55,7 +56,7 @@ impl Reader {
     }
 
     fn take_opening(&mut self, alloc: Global, plan: &Plan, pieces: Pieces<'_>) -> Result<(), Stop>
-        ensures { Leaves result (reading_of self.new) (take_after plan.now (reading_of self.old) Keyword.Session (pieces_of pieces.entry.rest.now)) }
+        ensures { UnlessMemory (λ _. reading_of self.new) Stops result (take_after plan.now (reading_of self.old) Keyword.Session (pieces_of pieces.entry.rest.now)) }
     {
         let Some(name) = name_alone(pieces) else {
             return Err(Stop::Refused(SessionRule::Syntax));
@@ -81,7 +82,7 @@ impl Reader {
         pieces: Pieces<'_>,
     ) -> Result<(), Stop>
         requires { IsStatement keyword }
-        ensures { Leaves result (reading_of self.new) (take_after plan.now (reading_of self.old) keyword (pieces_of pieces.entry.rest.now)) }
+        ensures { UnlessMemory (λ _. reading_of self.new) Stops result (take_after plan.now (reading_of self.old) keyword (pieces_of pieces.entry.rest.now)) }
     {
         match &mut self.open_session {
             Some(draft) => draft.take(alloc, &mut self.builder, plan, keyword, pieces),
@@ -90,7 +91,7 @@ impl Reader {
     }
 
     fn take_closing(&mut self, alloc: Global, pieces: Pieces<'_>) -> Result<(), Stop>
-        ensures { (p : PlanValue) → Leaves result (reading_of self.new) (take_after p (reading_of self.old) Keyword.End (pieces_of pieces.entry.rest.now)) }
+        ensures { (p : PlanValue) → UnlessMemory (λ _. reading_of self.new) Stops result (take_after p (reading_of self.old) Keyword.End (pieces_of pieces.entry.rest.now)) }
     {
         let mut rest = pieces;
         if rest.next().is_some() {
@@ -115,7 +116,7 @@ impl Draft {
         keyword: Keyword,
         pieces: Pieces<'_>,
     ) -> Result<(), Stop>
-        ensures { Leaves result (draft_of self.new) (with_statement plan.now (draft_of self.old) keyword (pieces_of pieces.entry.rest.now)) }
+        ensures { UnlessMemory (λ _. draft_of self.new) Stops result (with_statement plan.now (draft_of self.old) keyword (pieces_of pieces.entry.rest.now)) }
     {
         let scope = Scope {
             plan,

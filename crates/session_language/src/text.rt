@@ -3,7 +3,7 @@
 ghost use Rattle.std.specs.Prelude.{◌≡◌, ◌∷◌, [], ◌++◌, OnOk, codes};
 ghost use Rattle.std.specs.String.{string_bytes};
 ghost use Rattle.session_language.specs.Tree.{Term};
-ghost use Rattle.session_language.specs.Postfix.{postfix};
+ghost use Rattle.session_language.specs.refinement.Postfix.{postfix};
 ghost use Rattle.session_language.specs.Text.{words_of, literal, magnitude, variable_name, record_names, rank_of, term_text, factor_text, product_text, operation_text, read_text};
 
 use crate::node::{Node, Operator};

@@ -14,7 +14,7 @@ use Rattle.session_language.specs.Meaning.{alone}
 use Rattle.session_language.specs.Laws.{WritesWhatItHas}
 use Rattle.serial_replay.specs.Serial.{start_map, map_of}
 use Rattle.world_schedule.specs.declared.message.Message.{Message}
-use Rattle.world_schedule.specs.declared.tables.Place.{Place}
+use Rattle.world_schedule.specs.declared.tables.BottlePlace.{BottlePlace}
 use Rattle.world_schedule.specs.declared.reply.Reply.{Reply}
 use Rattle.world_schedule.specs.declared.reply.Refusal.{Refusal}
 use Rattle.world_schedule.specs.Offices.{Office, Phase, Tranquil, Thirsty, Drinking, has_bottle}
@@ -72,7 +72,7 @@ taken_in plan a v t msg.Fork e size lv =
 taken_in plan a v t (msg.AskBottle r) e size lv =
     let l : LineTable = line_at t.lines v in
     let l' : LineTable = line_taken l (msg.AskBottle r) in
-    let p : Place = record { bottle = (place_at t.places r).bottle; token = true; value = (place_at t.places r).value } in
+    let p : BottlePlace = record { bottle = (place_at t.places r).bottle; token = true; value = (place_at t.places r).value } in
     let lt : r < length t.places = omega (arith, ends_within plan r a v e, size) in
     ap (λ (s : ℕ → Side). record { side = s; value = values_in (set t.places r p); phase = t.phase; queue = t.queue; tickets = t.tickets })
     (side_put plan a v t.places t.lines r p l' e lt lv
@@ -81,7 +81,7 @@ taken_in plan a v t (msg.AskBottle r) e size lv =
 taken_in plan a v t (msg.Bottle r x) e size lv =
     let l : LineTable = line_at t.lines v in
     let l' : LineTable = line_taken l (msg.Bottle r x) in
-    let p : Place = record { bottle = true; token = (place_at t.places r).token; value = x } in
+    let p : BottlePlace = record { bottle = true; token = (place_at t.places r).token; value = x } in
     let lt : r < length t.places = omega (arith, ends_within plan r a v e, size) in
     ap (λ (s : ℕ → Side). record { side = s; value = values_in (set t.places r p); phase = t.phase; queue = t.queue; tickets = t.tickets })
     (side_put plan a v t.places t.lines r p l' e lt lv

@@ -14,8 +14,8 @@ use Rattle.office_map.specs.declared.entries.RecordEntry.{RecordEntry}
 use Rattle.office_map.specs.PlanValue.{PlanValue, joins, are_neighbours, is_end, has_end, lies_between, start_values, has_ends, fork_starts_at, bottle_starts_at}
 use Rattle.office_map.specs.Consistency.{IsConsistent}
 use Rattle.serial_replay.specs.Serial.{start_map}
-use Rattle.world_schedule.specs.declared.tables.Place.{Place}
-use Rattle.world_schedule.specs.declared.tables.Line as code_line
+use Rattle.world_schedule.specs.declared.tables.BottlePlace.{BottlePlace}
+use Rattle.world_schedule.specs.declared.tables.Lane as code_line
 use Rattle.world_schedule.specs.declared.tables.Office as code_office
 use Rattle.world_schedule.specs.Offices.{opened, side_at_start, Tranquil}
 use Rattle.world_schedule.specs.refinement.Tables.{LineTable, OfficeTable, nowhere, place_at, no_line, line_at, line_table, held_in, values_in, office_table, office_in, office_at}
@@ -27,11 +27,11 @@ use Rattle.token_channel.specs.declared.thing.Thing.{Thing}
 use Rattle.token_channel.specs.declared.thing.Thing.TheVariants.{Fork, ForkToken, Bottle, BottleToken}
 use Rattle.token_channel.specs.Ends.{is_shared, starts_here}
 
-pub lines_more : (plan : PlanValue) (me n b : ℕ) (ls ls' : List code_line.Line) (l : code_line.Line) → b ≡ n → map line_table ls ≡ map (start_line plan me) (range_with_len 0 n) → line_table l ≡ start_line plan me b → ls' ≡ ls ++ l ∷ [] → map line_table ls' ≡ map (start_line plan me) (range_with_len 0 (n + 1))
+pub lines_more : (plan : PlanValue) (me n b : ℕ) (ls ls' : List code_line.Lane) (l : code_line.Lane) → b ≡ n → map line_table ls ≡ map (start_line plan me) (range_with_len 0 n) → line_table l ≡ start_line plan me b → ls' ≡ ls ++ l ∷ [] → map line_table ls' ≡ map (start_line plan me) (range_with_len 0 (n + 1))
 lines_more plan me n b ls ls' l same before is after =
     ap (map line_table) after ∙ map-pushed ls l ∙ ap (λ k. k ++ line_table l ∷ []) before ∙ ap (λ x. map (start_line plan me) (range_with_len 0 n) ++ x ∷ []) (is ∙ ap (start_line plan me) same) ∙ sym (map-range_with_len_more (start_line plan me) 0 n n (omega arith))
   where
-    map-pushed : (xs : List code_line.Line) (x : code_line.Line) → map line_table (xs ++ x ∷ []) ≡ map line_table xs ++ line_table x ∷ []
+    map-pushed : (xs : List code_line.Lane) (x : code_line.Lane) → map line_table (xs ++ x ∷ []) ≡ map line_table xs ++ line_table x ∷ []
     map-pushed [] x = refl
     map-pushed (y ∷ ys) x = ap (λ k. line_table y ∷ k) (map-pushed ys x)
 
@@ -51,7 +51,7 @@ line_of_start plan me b f x h is none =
     (λ far. ap (λ y. y && f (line_at (map (start_line plan me) (range_with_len 0 (length plan.offices))) b)) far ∙ sym (ap (λ y. y && x) far))
     (cases_Bool (are_neighbours plan me b))
 
-place_of_start : (plan : PlanValue) (me b r : ℕ) (f : Place → Bool) (x : Bool) → (has_ends plan r me b && f (start_place plan me r)) ≡ (has_ends plan r me b && x) →
+place_of_start : (plan : PlanValue) (me b r : ℕ) (f : BottlePlace → Bool) (x : Bool) → (has_ends plan r me b && f (start_place plan me r)) ≡ (has_ends plan r me b && x) →
     (has_ends plan r me b && f (place_at (map (start_place plan me) (range_with_len 0 (length plan.records))) r)) ≡ (has_ends plan r me b && x)
 place_of_start plan me b r f x is =
     ⊎_elim
@@ -80,8 +80,8 @@ held_at_start : (plan : PlanValue) (me b : ℕ) (t : Thing) → IsConsistent pla
     ≡ (is_shared plan me b t && starts_here plan me b t)
 held_at_start plan me b Fork h = line_of_start plan me b (λ l. l.fork) (fork_starts_at plan me b me) h refl refl
 held_at_start plan me b ForkToken h = line_of_start plan me b (λ l. l.token) (not (fork_starts_at plan me b me)) h refl refl
-held_at_start plan me b (Bottle r) h = place_of_start plan me b r (λ (p : Place). p.bottle) (bottle_starts_at plan r me) refl
-held_at_start plan me b (BottleToken r) h = place_of_start plan me b r (λ (p : Place). p.token) (not (bottle_starts_at plan r me)) (ends_end plan r me b (not (bottle_starts_at plan r me)))
+held_at_start plan me b (Bottle r) h = place_of_start plan me b r (λ (p : BottlePlace). p.bottle) (bottle_starts_at plan r me) refl
+held_at_start plan me b (BottleToken r) h = place_of_start plan me b r (λ (p : BottlePlace). p.token) (not (bottle_starts_at plan r me)) (ends_end plan r me b (not (bottle_starts_at plan r me)))
 
 -- nothing was sent or taken
 silent : (plan : PlanValue) (me b : ℕ) → (line_at (map (start_line plan me) (range_with_len 0 (length plan.offices))) b).sent ≡ []
@@ -102,8 +102,8 @@ deaf plan me b =
 value_at_start : (plan : PlanValue) (me r : ℕ) → values_in (map (start_place plan me) (range_with_len 0 (length plan.records))) r ≡ start_map plan r
 value_at_start plan me r =
     ⊎_elim
-    (λ lt. ap (λ (p : Place). p.value) (get_or-map-range_with_len (start_place plan me) 0 (length plan.records) r r nowhere lt (omega arith)))
-    (λ ge. ap (λ (p : Place). p.value) (get_or_past (map (start_place plan me) (range_with_len 0 (length plan.records))) r nowhere (omega (arith, ge, length-map-range_with_len (start_place plan me) 0 (length plan.records))))
+    (λ lt. ap (λ (p : BottlePlace). p.value) (get_or-map-range_with_len (start_place plan me) 0 (length plan.records) r r nowhere lt (omega arith)))
+    (λ ge. ap (λ (p : BottlePlace). p.value) (get_or_past (map (start_place plan me) (range_with_len 0 (length plan.records))) r nowhere (omega (arith, ge, length-map-range_with_len (start_place plan me) 0 (length plan.records))))
     ∙ sym (ap (λ z. record { number = z }) (get_or_past (start_values plan) r (pos 0) (omega (arith, ge, length-map plan.records (λ (e : RecordEntry). e.value))))))
     (cases_lt r (length plan.records))
 

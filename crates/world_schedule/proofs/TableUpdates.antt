@@ -7,7 +7,7 @@ use Rattle.std.proofs.lemmas.List.{get_or-set_same, get_or-set_other}
 use mathlib.Core.Path.{fun_ext}
 use Rattle.bottle_values.specs.Maps.{put}
 use Rattle.office_map.specs.PlanValue.{PlanValue, are_neighbours, has_ends}
-use Rattle.world_schedule.specs.declared.tables.Place.{Place}
+use Rattle.world_schedule.specs.declared.tables.BottlePlace.{BottlePlace}
 use Rattle.world_schedule.specs.Offices.{opened}
 use Rattle.world_schedule.specs.refinement.Tables.{LineTable, OfficeTable, nowhere, place_at, no_line, line_at, held_in, side_in, values_in, office_in, office_at}
 use Rattle.office_map.proofs.RecordEnds.{peer_is}
@@ -18,7 +18,7 @@ use Rattle.token_channel.specs.declared.thing.Thing.TheVariants.{Fork, ForkToken
 use Rattle.bottle_values.proofs.Maps.{put_cases}
 
 -- one element of a list changed
-pub place_put : (ps : List Place) (r : ℕ) (p : Place) (q : ℕ) → r < length ps → place_at (set ps r p) q ≡ put (place_at ps) r p q
+pub place_put : (ps : List BottlePlace) (r : ℕ) (p : BottlePlace) (q : ℕ) → r < length ps → place_at (set ps r p) q ≡ put (place_at ps) r p q
 place_put ps r p q lt =
     ⊎_elim
     (λ e. ap (place_at (set ps r p)) e ∙ get_or-set_same ps r p nowhere lt ∙ sym (ap (λ b. cond b p (place_at ps q)) (eq-eqb q r e)))
@@ -33,22 +33,22 @@ line_put ls v l b lt =
     (cases_eq b v)
 
 -- the values, with one place changed
-pub values_put : (ps : List Place) (r : ℕ) (p : Place) → r < length ps → values_in (set ps r p) ≡ put (values_in ps) r p.value
-values_put ps r p lt = fun_ext (λ q. ap (λ (x : Place). x.value) (place_put ps r p q lt) ∙ put_cases (place_at ps) r p q (λ (x : Place). x.value ≡ put (values_in ps) r p.value q)
+pub values_put : (ps : List BottlePlace) (r : ℕ) (p : BottlePlace) → r < length ps → values_in (set ps r p) ≡ put (values_in ps) r p.value
+values_put ps r p lt = fun_ext (λ q. ap (λ (x : BottlePlace). x.value) (place_put ps r p q lt) ∙ put_cases (place_at ps) r p q (λ (x : BottlePlace). x.value ≡ put (values_in ps) r p.value q)
     (λ e. sym (ap (λ b. cond b p.value (values_in ps q)) (eq-eqb q r e)))
     (λ ne. sym (ap (λ b. cond b p.value (values_in ps q)) (ne_eqb q r ne))))
 
-pub values_kept : (ps : List Place) (r : ℕ) (p : Place) → r < length ps → p.value ≡ (place_at ps r).value → values_in (set ps r p) ≡ values_in ps
+pub values_kept : (ps : List BottlePlace) (r : ℕ) (p : BottlePlace) → r < length ps → p.value ≡ (place_at ps r).value → values_in (set ps r p) ≡ values_in ps
 values_kept ps r p lt e = values_put ps r p lt ∙ fun_ext (λ q. put_cases (values_in ps) r p.value q (λ v. v ≡ values_in ps q) (λ k. e ∙ ap (values_in ps) (sym k)) (λ k. refl))
 
 -- an office's other sides don't see a record that isn't theirs
-held_apart : (plan : PlanValue) (a b v : ℕ) (ps : List Place) (l : LineTable) (r : ℕ) (p : Place) → has_ends plan r a v ≡ true → (b ≡ v → ⊥) → r < length ps → held_in plan a b (set ps r p) l ≡ held_in plan a b ps l
+held_apart : (plan : PlanValue) (a b v : ℕ) (ps : List BottlePlace) (l : LineTable) (r : ℕ) (p : BottlePlace) → has_ends plan r a v ≡ true → (b ≡ v → ⊥) → r < length ps → held_in plan a b (set ps r p) l ≡ held_in plan a b ps l
 held_apart plan a b v ps l r p ends ne lt = fun_ext go
   where
     foreign : has_ends plan r a b ≡ false
     foreign = false_from_ne_true _ (λ t. ne (sym (peer_is plan r a b t) ∙ peer_is plan r a v ends))
 
-    at_place : (q : ℕ) (f : Place → Bool) → (has_ends plan q a b && f (place_at (set ps r p) q)) ≡ (has_ends plan q a b && f (place_at ps q))
+    at_place : (q : ℕ) (f : BottlePlace → Bool) → (has_ends plan q a b && f (place_at (set ps r p) q)) ≡ (has_ends plan q a b && f (place_at ps q))
     at_place q f = ap (λ x. has_ends plan q a b && f x) (place_put ps r p q lt) ∙ put_cases (place_at ps) r p q (λ x. (has_ends plan q a b && f x) ≡ (has_ends plan q a b && f (place_at ps q)))
         (λ e. let none : has_ends plan q a b ≡ false = ap (λ k. has_ends plan k a b) e ∙ foreign in ap (λ c. c && f p) none ∙ sym (ap (λ c. c && f (place_at ps q)) none))
         (λ e. refl)
@@ -56,11 +56,11 @@ held_apart plan a b v ps l r p ends ne lt = fun_ext go
     go : (t : Thing) → held_in plan a b (set ps r p) l t ≡ held_in plan a b ps l t
     go Fork = refl
     go ForkToken = refl
-    go (Bottle q) = at_place q (λ (x : Place). x.bottle)
-    go (BottleToken q) = at_place q (λ (x : Place). x.token)
+    go (Bottle q) = at_place q (λ (x : BottlePlace). x.bottle)
+    go (BottleToken q) = at_place q (λ (x : BottlePlace). x.token)
 
 -- one record's place and its line changed
-pub side_put : (plan : PlanValue) (a v : ℕ) (ps : List Place) (ls : List LineTable) (r : ℕ) (p : Place) (l : LineTable) → has_ends plan r a v ≡ true → r < length ps → v < length ls →
+pub side_put : (plan : PlanValue) (a v : ℕ) (ps : List BottlePlace) (ls : List LineTable) (r : ℕ) (p : BottlePlace) (l : LineTable) → has_ends plan r a v ≡ true → r < length ps → v < length ls →
     (λ b. side_in plan a b (set ps r p) (line_at (set ls v l) b)) ≡ put (λ b. side_in plan a b ps (line_at ls b)) v (side_in plan a v (set ps r p) l)
 side_put plan a v ps ls r p l ends lt lv = fun_ext (λ b. ap (side_in plan a b (set ps r p)) (line_put ls v l b lv) ∙ go b)
   where
@@ -79,7 +79,7 @@ side_put plan a v ps ls r p l ends lt lv = fun_ext (λ b. ap (side_in plan a b (
         (cases_eq b v)
 
 -- a line alone changed
-pub side_lined : (plan : PlanValue) (a v : ℕ) (ps : List Place) (ls : List LineTable) (l : LineTable) → v < length ls →
+pub side_lined : (plan : PlanValue) (a v : ℕ) (ps : List BottlePlace) (ls : List LineTable) (l : LineTable) → v < length ls →
     (λ b. side_in plan a b ps (line_at (set ls v l) b)) ≡ put (λ b. side_in plan a b ps (line_at ls b)) v (side_in plan a v ps l)
 side_lined plan a v ps ls l lv = fun_ext (λ b. ap (side_in plan a b ps) (line_put ls v l b lv) ∙ put_cases (line_at ls) v l b (λ x. side_in plan a b ps x ≡ put (λ b. side_in plan a b ps (line_at ls b)) v (side_in plan a v ps l) b)
     (λ e. ap (λ z. side_in plan a z ps l) e ∙ sym (ap (λ c. cond c (side_in plan a v ps l) (side_in plan a b ps (line_at ls b))) (eq-eqb b v e)))
@@ -93,15 +93,15 @@ record_of plan a v r q x old ends =
     (λ ne. ap (λ c. has_ends plan q a v && cond c x old) (ne_eqb q r ne) ∙ sym (ap (λ c. cond c x (has_ends plan q a v && old)) (ne_eqb q r ne)))
     (cases_eq q r)
 
-put_field : (ps : List Place) (r q : ℕ) (p : Place) (f : Place → Bool) → f (put (place_at ps) r p q) ≡ cond (q == r) (f p) (f (place_at ps q))
+put_field : (ps : List BottlePlace) (r q : ℕ) (p : BottlePlace) (f : BottlePlace → Bool) → f (put (place_at ps) r p q) ≡ cond (q == r) (f p) (f (place_at ps q))
 put_field ps r q p f = put_cases (place_at ps) r p q (λ x. f x ≡ cond (q == r) (f p) (f (place_at ps q)))
     (λ e. sym (ap (λ c. cond c (f p) (f (place_at ps q))) (eq-eqb q r e)))
     (λ ne. sym (ap (λ c. cond c (f p) (f (place_at ps q))) (ne_eqb q r ne)))
 
-kept_field : (ps : List Place) (r q : ℕ) (p : Place) (f : Place → Bool) → f p ≡ f (place_at ps r) → f (put (place_at ps) r p q) ≡ f (place_at ps q)
+kept_field : (ps : List BottlePlace) (r q : ℕ) (p : BottlePlace) (f : BottlePlace → Bool) → f p ≡ f (place_at ps r) → f (put (place_at ps) r p q) ≡ f (place_at ps q)
 kept_field ps r q p f e = put_cases (place_at ps) r p q (λ x. f x ≡ f (place_at ps q)) (λ k. e ∙ ap (λ z. f (place_at ps z)) (sym k)) (λ k. refl)
 
-pub held_bottle : (plan : PlanValue) (a v : ℕ) (ps : List Place) (l l' : LineTable) (r : ℕ) (p : Place) → has_ends plan r a v ≡ true → r < length ps → l'.fork ≡ l.fork → l'.token ≡ l.token → p.token ≡ (place_at ps r).token →
+pub held_bottle : (plan : PlanValue) (a v : ℕ) (ps : List BottlePlace) (l l' : LineTable) (r : ℕ) (p : BottlePlace) → has_ends plan r a v ≡ true → r < length ps → l'.fork ≡ l.fork → l'.token ≡ l.token → p.token ≡ (place_at ps r).token →
     held_in plan a v (set ps r p) l' ≡ hold (held_in plan a v ps l) (Bottle r) p.bottle
 held_bottle plan a v ps l l' r p ends lt forks tokens kept = fun_ext go
   where
@@ -109,12 +109,12 @@ held_bottle plan a v ps l l' r p ends lt forks tokens kept = fun_ext go
     go Fork = ap (λ x. are_neighbours plan a v && x) forks
     go ForkToken = ap (λ x. are_neighbours plan a v && x) tokens
     go (Bottle q) =
-        ap (λ (x : Place). has_ends plan q a v && x.bottle) (place_put ps r p q lt) ∙ ap (λ x. has_ends plan q a v && x) (put_field ps r q p (λ (x : Place). x.bottle))
+        ap (λ (x : BottlePlace). has_ends plan q a v && x.bottle) (place_put ps r p q lt) ∙ ap (λ x. has_ends plan q a v && x) (put_field ps r q p (λ (x : BottlePlace). x.bottle))
         ∙ record_of plan a v r q p.bottle (place_at ps q).bottle ends
     go (BottleToken q) =
-        ap (λ (x : Place). has_ends plan q a v && x.token) (place_put ps r p q lt) ∙ ap (λ x. has_ends plan q a v && x) (kept_field ps r q p (λ (x : Place). x.token) kept)
+        ap (λ (x : BottlePlace). has_ends plan q a v && x.token) (place_put ps r p q lt) ∙ ap (λ x. has_ends plan q a v && x) (kept_field ps r q p (λ (x : BottlePlace). x.token) kept)
 
-pub held_token : (plan : PlanValue) (a v : ℕ) (ps : List Place) (l l' : LineTable) (r : ℕ) (p : Place) → has_ends plan r a v ≡ true → r < length ps → l'.fork ≡ l.fork → l'.token ≡ l.token → p.bottle ≡ (place_at ps r).bottle →
+pub held_token : (plan : PlanValue) (a v : ℕ) (ps : List BottlePlace) (l l' : LineTable) (r : ℕ) (p : BottlePlace) → has_ends plan r a v ≡ true → r < length ps → l'.fork ≡ l.fork → l'.token ≡ l.token → p.bottle ≡ (place_at ps r).bottle →
     held_in plan a v (set ps r p) l' ≡ hold (held_in plan a v ps l) (BottleToken r) p.token
 held_token plan a v ps l l' r p ends lt forks tokens kept = fun_ext go
   where
@@ -122,12 +122,12 @@ held_token plan a v ps l l' r p ends lt forks tokens kept = fun_ext go
     go Fork = ap (λ x. are_neighbours plan a v && x) forks
     go ForkToken = ap (λ x. are_neighbours plan a v && x) tokens
     go (Bottle q) =
-        ap (λ (x : Place). has_ends plan q a v && x.bottle) (place_put ps r p q lt) ∙ ap (λ x. has_ends plan q a v && x) (kept_field ps r q p (λ (x : Place). x.bottle) kept)
+        ap (λ (x : BottlePlace). has_ends plan q a v && x.bottle) (place_put ps r p q lt) ∙ ap (λ x. has_ends plan q a v && x) (kept_field ps r q p (λ (x : BottlePlace). x.bottle) kept)
     go (BottleToken q) =
-        ap (λ (x : Place). has_ends plan q a v && x.token) (place_put ps r p q lt) ∙ ap (λ x. has_ends plan q a v && x) (put_field ps r q p (λ (x : Place). x.token))
+        ap (λ (x : BottlePlace). has_ends plan q a v && x.token) (place_put ps r p q lt) ∙ ap (λ x. has_ends plan q a v && x) (put_field ps r q p (λ (x : BottlePlace). x.token))
         ∙ record_of plan a v r q p.token (place_at ps q).token ends
 
-pub held_fork : (plan : PlanValue) (a v : ℕ) (ps : List Place) (l l' : LineTable) → are_neighbours plan a v ≡ true → l'.token ≡ l.token → held_in plan a v ps l' ≡ hold (held_in plan a v ps l) Fork l'.fork
+pub held_fork : (plan : PlanValue) (a v : ℕ) (ps : List BottlePlace) (l l' : LineTable) → are_neighbours plan a v ≡ true → l'.token ≡ l.token → held_in plan a v ps l' ≡ hold (held_in plan a v ps l) Fork l'.fork
 held_fork plan a v ps l l' near tokens = fun_ext go
   where
     go : (t : Thing) → held_in plan a v ps l' t ≡ hold (held_in plan a v ps l) Fork l'.fork t
@@ -136,7 +136,7 @@ held_fork plan a v ps l l' near tokens = fun_ext go
     go (Bottle q) = refl
     go (BottleToken q) = refl
 
-pub held_fork_token : (plan : PlanValue) (a v : ℕ) (ps : List Place) (l l' : LineTable) → are_neighbours plan a v ≡ true → l'.fork ≡ l.fork → held_in plan a v ps l' ≡ hold (held_in plan a v ps l) ForkToken l'.token
+pub held_fork_token : (plan : PlanValue) (a v : ℕ) (ps : List BottlePlace) (l l' : LineTable) → are_neighbours plan a v ≡ true → l'.fork ≡ l.fork → held_in plan a v ps l' ≡ hold (held_in plan a v ps l) ForkToken l'.token
 held_fork_token plan a v ps l l' near forks = fun_ext go
   where
     go : (t : Thing) → held_in plan a v ps l' t ≡ hold (held_in plan a v ps l) ForkToken l'.token t

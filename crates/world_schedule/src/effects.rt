@@ -14,7 +14,7 @@ use crate::finished::Finished;
 use crate::guards::{needed, peer, place_of};
 use crate::message::Message;
 use crate::session::Session;
-use crate::tables::{Line, Office, Phase, Place};
+use crate::tables::{Lane, Office, Phase, BottlePlace};
 use bottle_values::Value;
 use frame_codec::Msg;
 use office_map::{OfficeId, Plan, RecordId};
@@ -26,7 +26,7 @@ use std::mem;
 
 /// A message is sent on a line, with the next number of its direction.
 fn send(
-    lines: &mut Vec<Line>,
+    lines: &mut Vec<Lane>,
     messages: &mut Vec<Message>,
     from: OfficeId,
     to: OfficeId,
@@ -135,7 +135,7 @@ pub fn drink(alloc: Global, office: &mut Office) -> Result<(), AllocError>
 }
 
 /// The values of these records.
-fn values_of(alloc: Global, places: &[Place], needs: &[RecordId]) -> Result<Vec<Value>, AllocError>
+fn values_of(alloc: Global, places: &[BottlePlace], needs: &[RecordId]) -> Result<Vec<Value>, AllocError>
     ensures { IfOk result (λ v. v.items ≡ map (values_in places.now) needs.now) }
 {
     let mut values = Vec::with_capacity(alloc, needs.len())?;
@@ -229,7 +229,7 @@ pub fn finish(
 }
 
 /// The values after these writes, in order.
-fn write_all(places: &mut Vec<Place>, writes: &[(RecordId, Value)])
+fn write_all(places: &mut Vec<BottlePlace>, writes: &[(RecordId, Value)])
     requires { All (λ w. w.0 < length places.old.items) writes.now }
     ensures count { length places.new.items ≡ length places.old.items }
     ensures things { SameThings places.old.items places.new.items }
@@ -241,7 +241,7 @@ fn write_all(places: &mut Vec<Place>, writes: &[(RecordId, Value)])
 }
 
 /// The values after one write.
-fn write(places: &mut Vec<Place>, r: RecordId, value: Value)
+fn write(places: &mut Vec<BottlePlace>, r: RecordId, value: Value)
     requires { r < length places.old.items }
     ensures count { length places.new.items ≡ length places.old.items }
     ensures things { SameThings places.old.items places.new.items }
@@ -264,7 +264,7 @@ pub fn take(office: &mut Office, from: OfficeId, msg: Msg) -> Result<(), AllocEr
 }
 
 /// A message is taken on a line, and a fork or its token with it.
-fn take_on(line: &mut Line, msg: Msg) -> Result<(), AllocError>
+fn take_on(line: &mut Lane, msg: Msg) -> Result<(), AllocError>
     ensures taken { OnOk result (line_table line.new ≡ line_taken (line_table line.old) msg) }
     ensures unchanged { OnErr result (line_table line.new ≡ line_table line.old) }
 {
@@ -278,7 +278,7 @@ fn take_on(line: &mut Line, msg: Msg) -> Result<(), AllocError>
 }
 
 /// A bottle or its token that is taken is here.
-fn put_away(places: &mut Vec<Place>, msg: Msg)
+fn put_away(places: &mut Vec<BottlePlace>, msg: Msg)
     requires { IsWithin (length places.old.items) msg }
     ensures { places.new.items ≡ places_taken places.old.items msg }
 {
@@ -290,7 +290,7 @@ fn put_away(places: &mut Vec<Place>, msg: Msg)
 }
 
 /// A bottle is here, with this value.
-fn fill(place: &mut Place, value: Value)
+fn fill(place: &mut BottlePlace, value: Value)
     ensures { place.new ≡ record { bottle = true; token = place.old.token; value = value } }
 {
     place.bottle = true;

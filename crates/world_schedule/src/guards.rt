@@ -7,7 +7,7 @@ ghost use Rattle.world_schedule.specs.Offices as offices;
 ghost use Rattle.world_schedule.specs.refinement.Tables.{phase_of, place_at, line_at, office_table, office_in};
 
 use crate::rule::Rule;
-use crate::tables::{Office, Phase, Place};
+use crate::tables::{Office, Phase, BottlePlace};
 use bottle_values::Value;
 use office_map::{OfficeId, Plan, RecordId};
 
@@ -104,12 +104,12 @@ pub fn needed(phase: &Phase) -> &[RecordId]
 }
 
 /// What an office has of a record, and nothing of one that the plan doesn't have.
-pub fn place_of(places: &[Place], r: RecordId) -> Place
+pub fn place_of(places: &[BottlePlace], r: RecordId) -> BottlePlace
     ensures { result ≡ place_at places.now r }
 {
     match places.get(r.index()) {
         Some(place) => *place,
-        None => Place {
+        None => BottlePlace {
             bottle: false,
             token: false,
             value: Value { number: 0 },

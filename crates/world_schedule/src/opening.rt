@@ -7,7 +7,7 @@ ghost use Rattle.world_schedule.specs.Offices.{opened};
 ghost use Rattle.world_schedule.specs.refinement.Tables.{line_table, office_table, office_in, office_at, IsWhole};
 ghost use Rattle.world_schedule.specs.refinement.StartTables.{start_place, start_line};
 
-use crate::tables::{Line, Office, Phase, Place};
+use crate::tables::{Lane, Office, Phase, BottlePlace};
 use bottle_values::Value;
 use office_map::{OfficeId, Plan, RecordId};
 use std::alloc::{AllocError, Global};
@@ -45,7 +45,7 @@ fn office_of(alloc: Global, plan: &Plan, me: OfficeId) -> Result<Office, AllocEr
 }
 
 #[tactic(auto, using(bottle_values::proofs::Lists::mapped_more))]
-fn places_of(alloc: Global, plan: &Plan, me: OfficeId) -> Result<Vec<Place>, AllocError>
+fn places_of(alloc: Global, plan: &Plan, me: OfficeId) -> Result<Vec<BottlePlace>, AllocError>
     ensures { IfOk result (λ ps. ps.items ≡ map (start_place plan.now me) (range_with_len 0 (length plan.now.records))) }
 {
     let mut places = Vec::with_capacity(alloc, plan.records())?;
@@ -56,12 +56,12 @@ fn places_of(alloc: Global, plan: &Plan, me: OfficeId) -> Result<Vec<Place>, All
 }
 
 /// What starts at an office of a record.
-fn place_of(plan: &Plan, me: OfficeId, r: RecordId) -> Place
+fn place_of(plan: &Plan, me: OfficeId, r: RecordId) -> BottlePlace
     requires { r < length plan.now.records }
     ensures { result ≡ start_place plan.now me r }
 {
     let bottle = plan.start_end(r) == me;
-    Place {
+    BottlePlace {
         bottle,
         token: plan.has_end(r, me) && !bottle,
         value: Value {
@@ -71,7 +71,7 @@ fn place_of(plan: &Plan, me: OfficeId, r: RecordId) -> Place
 }
 
 #[tactic(auto, using(crate::proofs::OpeningRefines::lines_more))]
-fn lines_of(alloc: Global, plan: &Plan, me: OfficeId) -> Result<Vec<Line>, AllocError>
+fn lines_of(alloc: Global, plan: &Plan, me: OfficeId) -> Result<Vec<Lane>, AllocError>
     ensures { IfOk result (λ ls. map line_table ls.items ≡ map (start_line plan.now me) (range_with_len 0 (length plan.now.offices))) }
 {
     let mut lines = Vec::with_capacity(alloc, plan.offices())?;
@@ -82,12 +82,12 @@ fn lines_of(alloc: Global, plan: &Plan, me: OfficeId) -> Result<Vec<Line>, Alloc
 }
 
 /// What starts at an office of its pair with another.
-fn line_of(alloc: Global, plan: &Plan, me: OfficeId, other: OfficeId) -> Line
+fn line_of(alloc: Global, plan: &Plan, me: OfficeId, other: OfficeId) -> Lane
     ensures { line_table result ≡ start_line plan.now me other }
 {
     let near = plan.are_neighbours(me, other);
     let fork = near && plan.fork_end(me, other) == me;
-    Line {
+    Lane {
         fork,
         token: near && !fork,
         sent: Vec::new(alloc),

@@ -13,7 +13,7 @@ use crate::message::Message;
 use crate::reply::{Refusal, Reply};
 use crate::rule::Rule;
 use crate::session::Session;
-use crate::tables::{Line, Office};
+use crate::tables::{Lane, Office};
 use office_map::{OfficeId, Plan};
 use session_language::Program;
 use std::alloc::{AllocError, Global};
@@ -123,7 +123,7 @@ pub fn take(office: &mut Office, message: &Message) -> Result<Reply, Refusal>
 }
 
 /// Whether a message is the oldest of its direction that isn't taken.
-fn is_next(lines: &[Line], message: &Message) -> bool
+fn is_next(lines: &[Lane], message: &Message) -> bool
     requires { message.now.from < length lines.now }
     ensures { result ≡ (message.now.number == length (line_at (map line_table lines.now) message.now.from).taken + 1) }
 {

@@ -9,7 +9,7 @@ use std::collections::VecDeque;
 /// What an office has of a record: its bottle or not, the bottle's request token or not, and the value that the
 /// bottle had when it was last here.
 #[derive(Clone, Copy, Debug)]
-pub struct Place {
+pub struct BottlePlace {
     pub bottle: bool,
     pub token: bool,
     pub value: Value,
@@ -18,7 +18,7 @@ pub struct Place {
 /// What an office has of its pair with another office: the fork or not, the fork's request token or not, and the
 /// messages sent to it and taken from it.
 #[derive(Debug, Drop)]
-pub struct Line {
+pub struct Lane {
     pub fork: bool,
     pub token: bool,
     pub sent: Vec<Msg>,
@@ -41,8 +41,8 @@ pub enum Phase {
 /// An office: a place for each record, a line to each office, the current session, and those that wait.
 #[derive(Debug, Drop)]
 pub struct Office {
-    pub places: Vec<Place>,
-    pub lines: Vec<Line>,
+    pub places: Vec<BottlePlace>,
+    pub lines: Vec<Lane>,
     pub phase: Phase,
     pub queue: VecDeque<Session>,
     pub tickets: u32,

@@ -1,5 +1,5 @@
 -- What the functions that read a plan answer, in the words of reading.
-use Rattle.std.specs.Prelude.{◌≡◌, ℕ, length, Result, Ok, Err, ◌≢◌, ◌<◌, true}
+use Rattle.std.specs.Prelude.{◌≡◌, ℕ, length, Result, Err, ◌≢◌, ◌<◌, true}
 use Rattle.office_map.specs.declared.fault.PlanRefusal.{PlanRefusal}
 use Rattle.office_map.specs.declared.fault.PlanFault.{PlanFault}
 use Rattle.office_map.specs.declared.fault.PlanFault.TheVariants.{Memory, Refused, Ring}
@@ -14,20 +14,11 @@ seen (variants.Office o) = AnOffice o.name.now o.address.now
 seen (variants.Pair p) = APair p.a.now p.b.now p.fork_at_first
 seen (variants.Record r) = ARecord r.name.now r.a.now r.b.now r.value r.starts_at_first
 
--- what a function returned, seen by view, is what reading gives, unless memory ran out
+-- what an error says of what reading gives; a ring is told by no line
 abbrev pub Fails : {A : Type 0} → PlanFault → Result A PlanRefusal → Type 0
 Fails Memory read = Unit {0}
 Fails (Refused r) read = read ≡ Err r
 Fails (Ring r) read = ⊥
-
-abbrev pub Gives : {X A : Type 0} → (X → A) → Result X PlanFault → Result A PlanRefusal → Type 0
-Gives view (Ok x) read = read ≡ Ok (view x)
-Gives view (Err e) read = Fails e read
-
--- the same of a function that changes a plan
-abbrev pub Leaves : {X : Type 0} → Result X PlanFault → PlanValue → Result PlanValue PlanRefusal → Type 0
-Leaves (Ok x) after read = read ≡ Ok after
-Leaves (Err e) after read = Fails e read
 
 -- two different offices of the plan that are neighbours
 pub record HasEnds (p : PlanValue) (a b : ℕ) : Type 0 where

@@ -9,7 +9,7 @@ use Rattle.session_language.specs.declared.builder.Sum as code_sum
 use Rattle.session_language.specs.declared.builder.Sum.TheVariants as sums
 use Rattle.session_language.specs.declared.builder.Stage.TheVariants as stages
 use Rattle.session_language.specs.Spelling.{Operand, ANumber, AVariable, ARecord, Token, Leaf, Plus, Minus, Times, Open, Close}
-use Rattle.session_language.specs.Postfix.{postfix}
+use Rattle.session_language.specs.refinement.Postfix.{postfix}
 use Rattle.session_language.specs.Parse.{Part, leaf, leading_minus, in_parentheses, Sum, NoSum, Added, Taken, Level, State, Wants, Has, negated, multiplied, summed, take_operand, take, finished}
 use Rattle.session_language.specs.Names.{Scope, operand_of, node_of, element_of, placed}
 use Rattle.session_language.specs.refinement.PostfixBuilder.{Build, completed, emit, product_depth, product_end, sum_depth, sum_end, ended}

@@ -8,7 +8,7 @@ use Rattle.session_language.specs.declared.phrase.Summary.{Summary}
 use Rattle.session_language.specs.declared.names.Placed.{Placed}
 use Rattle.session_language.specs.Lexer.{Piece}
 use Rattle.session_language.specs.Spelling.{Token}
-use Rattle.session_language.specs.Postfix.{postfix}
+use Rattle.session_language.specs.refinement.Postfix.{postfix}
 use Rattle.session_language.specs.Parse.{Part, State, take, take_all, and_take, finished, start}
 use Rattle.session_language.specs.Names.{Scope, element_of, placed, token_variable, token_record, knows_variables, knows_records, placed_of}
 use Rattle.session_language.specs.refinement.PostfixBuilder.{Build, emit, ended, fresh_build}

@@ -3,7 +3,7 @@ use Rattle.std.proofs.Common.{◌≡◌, ℕ, List, [], ◌∷◌, ◌++◌, ref
 use Rattle.session_language.specs.declared.node.Node.{Node}
 use Rattle.session_language.specs.declared.node.Node.TheVariants.{Literal, Variable, Read, Negate, Apply}
 use Rattle.session_language.specs.Tree.{Term, Constant, Var, ReadOf, Neg, Bin, Command}
-use Rattle.session_language.specs.Postfix.{postfix}
+use Rattle.session_language.specs.refinement.Postfix.{postfix}
 use Rattle.session_language.specs.refinement.TreeOfStatements.{block_from}
 use Rattle.session_language.specs.Needs.{with_record, term_needs, command_needs, block_needs, needs_of, nodes_needs}
 use Rattle.session_language.specs.Reading.{Spoken, SpeaksLet, SpeaksSet, SpeaksGive, SpeaksDemand, command_in}

@@ -2,7 +2,7 @@
 use Rattle.std.proofs.Common.{◌≡◌, ◌≤◌, ◌<◌, ◌+◌, ◌*◌, ℕ, zero, suc, min, arith, refl, Bool, true, false, nat_le, [], ◌∷◌, ◌++◌, length, length-append}
 use Rattle.std.proofs.lemmas.Bool.Decides.{nat_tests}
 use Rattle.session_language.specs.Tree.{Term, Constant, Var, ReadOf, Neg, Bin}
-use Rattle.session_language.specs.Postfix.{postfix}
+use Rattle.session_language.specs.refinement.Postfix.{postfix}
 use Rattle.session_language.specs.declared.node.Node.TheVariants.{Negate, Apply}
 use Rattle.session_language.specs.Measures.{nodes}
 

@@ -9,7 +9,7 @@ use Rattle.session_language.specs.declared.rank.Rank.{Rank}
 use Rattle.session_language.specs.declared.rank.Rank.TheVariants.{Factor, Product, Sum}
 use Rattle.session_language.specs.Tree.{Term, Bin, Test, When, Choice, Loop, Block}
 use Rattle.session_language.specs.declared.node.Node.{Node}
-use Rattle.session_language.specs.Postfix.{push_node, push_nodes, postfix, push_nodes-append, push_nodes-postfix}
+use Rattle.session_language.specs.refinement.Postfix.{push_node, push_nodes, postfix, push_nodes-append, push_nodes-postfix}
 use Rattle.session_language.specs.Text.{Words, rank_of, term_text, factor_text, product_text, operator_text, test_text, line, command_text, block_text}
 use Rattle.session_language.specs.refinement.TextSizes.{ranks_of, bytes_of, around_factor, around_product, around_both}
 use Rattle.session_language.proofs.expressions.PostfixSplit.{same_last}

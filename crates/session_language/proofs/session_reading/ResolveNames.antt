@@ -9,7 +9,7 @@ use Rattle.session_language.specs.declared.phrase.Summary.{Summary}
 use Rattle.session_language.specs.declared.fault.SessionRule.{SessionRule}
 use Rattle.session_language.specs.declared.fault.SessionRule.TheVariants.{Syntax, UnknownName, UnknownRecord, TooDeep}
 use Rattle.session_language.specs.Tree.{Term}
-use Rattle.session_language.specs.Postfix.{postfix, tree_of, tree_of-postfix, IsPostfix}
+use Rattle.session_language.specs.refinement.Postfix.{postfix, tree_of, tree_of-postfix, IsPostfix}
 use Rattle.session_language.specs.declared.lexer.Symbol.{Symbol}
 use Rattle.session_language.specs.declared.keyword.Keyword.TheVariants.{Require}
 use Rattle.session_language.specs.Lexer.{Piece, AWord, ASymbol}

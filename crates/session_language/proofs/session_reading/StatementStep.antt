@@ -14,7 +14,8 @@ use Rattle.session_language.specs.Names.{Scope}
 use Rattle.session_language.specs.Form.{Said, Says, said_after, form_of, keyword_of, IsStatement}
 use Rattle.session_language.specs.Reading.{Draft, Reading, Spoken, scope_in, speak, add, with_open, take_after, take_line, take_formed, take_statement}
 use Rattle.session_language.specs.refinement.ResolvedStatements.{spoken_after}
-use Rattle.session_language.specs.refinement.ReaderRefinement.{Leaves, with_statement}
+use Rattle.session_language.specs.refinement.ReaderRefinement.{Stops, with_statement}
+use Rattle.bottle_values.specs.Memory.{UnlessMemory}
 
 -- what is left of a statement once its names are in their places
 abbrev pub then_added : Reading → Draft → Result Spoken SessionRule → Result Reading SessionRule
@@ -49,13 +50,13 @@ module _ (p : PlanValue) (x : Reading) (d : Draft) (k : Keyword) (ps : List Piec
   all : take_after p x k ps ≡ (with_statement p d k ps >>= λ next. Ok (with_open x next))
   all = statement_taken p x d k ps (scope_in p d) is h refl ∙ regrouped x d (spoken_after (scope_in p d) k ps)
 
-  pub left_open : (r : Result (Unit {0}) Stop) (next : Draft) → Leaves r next (with_statement p d k ps) → Leaves r (with_open x next) (take_after p x k ps)
+  pub left_open : (r : Result (Unit {0}) Stop) (next : Draft) → UnlessMemory (λ _. next) Stops r (with_statement p d k ps) → UnlessMemory (λ _. with_open x next) Stops r (take_after p x k ps)
   left_open (Ok u) next l = all ∙ ap (λ o. o >>= λ y. Ok (with_open x y)) l
   left_open (Err Memory) next l = tt
   left_open (Err (Refused rule)) next l = all ∙ ap (λ o. o >>= λ y. Ok (with_open x y)) l
 
 -- a line that begins with a word
-pub line_taken : (p : PlanValue) (x : Reading) (line w : List ℕ) (k : Keyword) (ps : List Piece) (r : Result (Unit {0}) Stop) (after : Reading) → pieces_of line ≡ AWord w ∷ ps → k ≡ keyword_of w → Leaves r after (take_after p x k ps) → Leaves r after (take_line p x line)
+pub line_taken : (p : PlanValue) (x : Reading) (line w : List ℕ) (k : Keyword) (ps : List Piece) (r : Result (Unit {0}) Stop) (after : Reading) → pieces_of line ≡ AWord w ∷ ps → k ≡ keyword_of w → UnlessMemory (λ _. after) Stops r (take_after p x k ps) → UnlessMemory (λ _. after) Stops r (take_line p x line)
 line_taken p x line w k ps r after cut is h =
     let same : take_after p x k ps ≡ take_line p x line = ap (λ j. take_after p x j ps) is ∙ ap (λ qs. take_formed p x (form_of qs)) (sym cut) in
-    subst (λ told. Leaves r after told) same h
+    subst (λ told. UnlessMemory (λ _. after) Stops r told) same h

@@ -1,5 +1,5 @@
 -- What the code's drafts and reader are, in the words of reading.
-use Rattle.std.specs.Prelude.{◌≡◌, ℕ, List, map, option_map, Result, Ok, Err}
+use Rattle.std.specs.Prelude.{◌≡◌, ℕ, List, map, option_map, Result, Err}
 use Rattle.std.specs.String.{string_bytes}
 use Rattle.session_language.specs.declared.draft.Draft as code_draft
 use Rattle.session_language.specs.declared.reader.Reader as code_reader
@@ -40,21 +40,11 @@ spoken_needs (SpeaksSet r e) rs = term_needs e (with_record r rs)
 spoken_needs (SpeaksGive e) rs = term_needs e rs
 spoken_needs (SpeaksDemand t code) rs = test_needs t rs
 
--- what a function left, unless memory ran out
-abbrev pub Leaves : {X A : Type 0} → Result X Stop → A → Result A SessionRule → Type 0
-Leaves (Ok x) after told = told ≡ Ok after
-Leaves (Err (Refused rule)) after told = told ≡ Err rule
-Leaves (Err Memory) after told = Unit {0}
+-- what an error says of what was to be told of a line, and of a text
+abbrev pub Stops : {A : Type 0} → Stop → Result A SessionRule → Type 0
+Stops (Refused rule) told = told ≡ Err rule
+Stops Memory told = Unit {0}
 
--- what reading a text gives, unless memory ran out
 abbrev pub Fails : {A : Type 0} → LangFault → Result A SessionRefusal → Type 0
 Fails faults.Memory read = Unit {0}
 Fails (faults.Refused r) read = read ≡ Err r
-
-abbrev pub Gives : {X A : Type 0} → (X → A) → Result X LangFault → Result A SessionRefusal → Type 0
-Gives view (Ok x) read = read ≡ Ok (view x)
-Gives view (Err e) read = Fails e read
-
-abbrev pub LeavesLine : {X A : Type 0} → Result X LangFault → A → Result A SessionRefusal → Type 0
-LeavesLine (Ok x) after read = read ≡ Ok after
-LeavesLine (Err e) after read = Fails e read

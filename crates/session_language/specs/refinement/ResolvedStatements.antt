@@ -1,5 +1,5 @@
 -- What the code's readers of a line give, in the words of the forms of lines.
-use Rattle.std.specs.Prelude.{◌≡◌, ℕ, List, Option, Some, None, Result, Ok, Err, not, nat_lt}
+use Rattle.std.specs.Prelude.{◌≡◌, ℕ, List, Option, Some, None, Result, Ok, not, nat_lt}
 use Rattle.std.specs.Option.{ok_or}
 use Rattle.std.specs.Borrow.{Bor}
 use Rattle.office_map.specs.PlanText.{◌>>=◌, ◌>>◌, refuse_if}
@@ -7,8 +7,6 @@ use Rattle.session_language.specs.declared.node.Node.{Node}
 use Rattle.session_language.specs.declared.phrase.Summary.{Summary}
 use Rattle.session_language.specs.declared.fault.SessionRule.{SessionRule}
 use Rattle.session_language.specs.declared.fault.SessionRule.TheVariants.{Syntax, UnknownName, UnknownRecord, TooDeep}
-use Rattle.session_language.specs.declared.fault.Stop.{Stop}
-use Rattle.session_language.specs.declared.fault.Stop.TheVariants.{Memory, Refused}
 use Rattle.session_language.specs.declared.keyword.Keyword.{Keyword}
 use Rattle.session_language.specs.declared.spoken.Spoken as code
 use Rattle.session_language.specs.declared.spoken.Spoken.TheVariants as spoken
@@ -18,12 +16,6 @@ use Rattle.session_language.specs.Phrase.{Phrase, Keeps}
 use Rattle.session_language.specs.Names.{Scope}
 use Rattle.session_language.specs.Form.{said_after}
 use Rattle.session_language.specs.Reading.{Spoken, SpeaksLet, SpeaksSet, SpeaksGive, SpeaksDemand, speak}
-
--- what a function returned, seen by view, is this, unless memory ran out
-abbrev pub Tells : {X A : Type 0} → (X → A) → Result X Stop → Result A SessionRule → Type 0
-Tells view (Ok x) told = told ≡ Ok (view x)
-Tells view (Err (Refused rule)) told = told ≡ Err rule
-Tells view (Err Memory) told = Unit {0}
 
 -- an expression that is the rest of a line
 abbrev pub ReadsAlone : Option Summary → Scope → List Node → Option Phrase → Type 0

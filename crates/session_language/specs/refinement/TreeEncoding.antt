@@ -4,7 +4,7 @@ use Rattle.std.specs.Coded.{Coded, code_by, coded_list}
 use Rattle.session_language.specs.declared.node.Node.{Node}
 use Rattle.std.proofs.Common.{ap, ◌∙◌}
 use Rattle.session_language.specs.Tree.{Term, Test, Command, LetVar, SetTo, GiveOf, Requires, When, Choice, Loop, Block, Nothing, Then}
-use Rattle.session_language.specs.Postfix.{postfix, tree_of, tree_of-postfix}
+use Rattle.session_language.specs.refinement.Postfix.{postfix, tree_of, tree_of-postfix}
 
 abbrev pub term_code : Coded Node → Coded Term
 term_code nodes = code_by (List Node) (coded_list nodes) postfix tree_of tree_of-postfix

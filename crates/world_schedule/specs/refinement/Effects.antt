@@ -8,7 +8,7 @@ use Rattle.session_language.specs.declared.ending.Ending.{Ending}
 use Rattle.session_language.specs.Meaning.{alone}
 use Rattle.office_map.specs.PlanValue.{PlanValue}
 use Rattle.session_language.specs.ProgramValue.{ProgramValue}
-use Rattle.world_schedule.specs.declared.tables.Place.{Place}
+use Rattle.world_schedule.specs.declared.tables.BottlePlace.{BottlePlace}
 use Rattle.world_schedule.specs.declared.message.Message.{Message}
 use Rattle.world_schedule.specs.declared.finished.Finished.{Finished}
 use Rattle.world_schedule.specs.declared.rule.Rule.{Rule}
@@ -44,7 +44,7 @@ IsWithin n (msg.AskBottle r) = r < n
 IsWithin n (msg.Bottle r v) = r < n
 
 -- the same bottles and tokens are here
-abbrev pub SameThings : List Place → List Place → Type 0
+abbrev pub SameThings : List BottlePlace → List BottlePlace → Type 0
 SameThings ps qs = (r : ℕ) → ((place_at qs r).bottle ≡ (place_at ps r).bottle) × ((place_at qs r).token ≡ (place_at ps r).token)
 
 -- a message was taken on a line
@@ -54,7 +54,7 @@ line_taken l msg.Fork = record { fork = true; token = l.token; sent = l.sent; ta
 line_taken l (msg.AskBottle r) = record { fork = l.fork; token = l.token; sent = l.sent; taken = l.taken ++ msg.AskBottle r ∷ [] }
 line_taken l (msg.Bottle r v) = record { fork = l.fork; token = l.token; sent = l.sent; taken = l.taken ++ msg.Bottle r v ∷ [] }
 
-abbrev pub places_taken : List Place → Msg → List Place
+abbrev pub places_taken : List BottlePlace → Msg → List BottlePlace
 places_taken ps msg.AskFork = ps
 places_taken ps msg.Fork = ps
 places_taken ps (msg.AskBottle r) = set ps r (record { bottle = (place_at ps r).bottle; token = true; value = (place_at ps r).value })

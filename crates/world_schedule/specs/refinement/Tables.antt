@@ -7,8 +7,8 @@ use Rattle.office_map.specs.PlanValue.{PlanValue, are_neighbours, has_ends}
 use Rattle.office_map.specs.Consistency.{IsConsistent}
 use Rattle.session_language.specs.Needs.{needs_of}
 use Rattle.session_language.specs.Meaning.{alone}
-use Rattle.world_schedule.specs.declared.tables.Place.{Place}
-use Rattle.world_schedule.specs.declared.tables.Line as code_line
+use Rattle.world_schedule.specs.declared.tables.BottlePlace.{BottlePlace}
+use Rattle.world_schedule.specs.declared.tables.Lane as code_line
 use Rattle.world_schedule.specs.declared.tables.Phase as code_phase
 use Rattle.world_schedule.specs.declared.tables.Phase.TheVariants as now
 use Rattle.world_schedule.specs.declared.tables.Office as code_office
@@ -30,7 +30,7 @@ pub record LineTable : Type 0 where
   pub taken : List Msg
 
 pub record OfficeTable : Type 0 where
-  pub places : List Place
+  pub places : List BottlePlace
   pub lines : List LineTable
   pub phase : Phase
   pub queue : List Session
@@ -44,7 +44,7 @@ pub record WorldTable : Type 0 where
   pub finished : List Finished
 
 -- without where it lies in memory
-abbrev pub line_table : code_line.Line → LineTable
+abbrev pub line_table : code_line.Lane → LineTable
 line_table l = record { fork = l.fork; token = l.token; sent = l.sent.items; taken = l.taken.items }
 
 abbrev pub phase_of : code_phase.Phase → Phase
@@ -57,10 +57,10 @@ abbrev pub office_table : code_office.Office → OfficeTable
 office_table o = record { places = o.places.items; lines = map line_table o.lines.items; phase = phase_of o.phase; queue = o.queue.items; tickets = o.tickets }
 
 -- the place of a record, and the line to an office
-abbrev pub nowhere : Place
+abbrev pub nowhere : BottlePlace
 nowhere = record { bottle = false; token = false; value = nought }
 
-abbrev pub place_at : List Place → ℕ → Place
+abbrev pub place_at : List BottlePlace → ℕ → BottlePlace
 place_at ps r = get_or ps r nowhere
 
 abbrev pub no_line : LineTable
@@ -70,16 +70,16 @@ abbrev pub line_at : List LineTable → ℕ → LineTable
 line_at ls b = get_or ls b no_line
 
 -- the office a of the definitions
-abbrev pub held_in : PlanValue → ℕ → ℕ → List Place → LineTable → Thing → Bool
+abbrev pub held_in : PlanValue → ℕ → ℕ → List BottlePlace → LineTable → Thing → Bool
 held_in plan a b ps l Fork = are_neighbours plan a b && l.fork
 held_in plan a b ps l ForkToken = are_neighbours plan a b && l.token
 held_in plan a b ps l (Bottle r) = has_ends plan r a b && (place_at ps r).bottle
 held_in plan a b ps l (BottleToken r) = has_ends plan r a b && (place_at ps r).token
 
-abbrev pub side_in : PlanValue → ℕ → ℕ → List Place → LineTable → Side
+abbrev pub side_in : PlanValue → ℕ → ℕ → List BottlePlace → LineTable → Side
 side_in plan a b ps l = record { held = held_in plan a b ps l; sent = l.sent; taken = l.taken }
 
-abbrev pub values_in : List Place → ℕ → Value
+abbrev pub values_in : List BottlePlace → ℕ → Value
 values_in ps r = (place_at ps r).value
 
 abbrev pub office_in : PlanValue → ℕ → OfficeTable → Office

@@ -1,7 +1,7 @@
 use Rattle.std.proofs.Common.{◌≡◌, ◌<◌, ℕ, List, false, length, map, ap, ◌∙◌, arith, set}
 use Rattle.std.proofs.lemmas.List.{length-map}
 use Rattle.frame_codec.specs.declared.message.Msg.TheVariants as msg
-use Rattle.world_schedule.specs.declared.tables.Place.{Place}
+use Rattle.world_schedule.specs.declared.tables.BottlePlace.{BottlePlace}
 use Rattle.world_schedule.specs.refinement.Tables.{OfficeTable, line_at, line_table, office_table, office_in}
 use Rattle.world_schedule.specs.refinement.Effects.{line_sent}
 use Rattle.office_map.proofs.RecordEnds.{has_peer}
@@ -13,8 +13,8 @@ returns-clause-office c =
     let t : OfficeTable = office_table c.args.office.now in
     let v : ℕ = c.peer-to.result in
     let r : ℕ = c.args.r in
-    let ps : List Place = c.args.office.now.places.items in
-    let p : Place = c.index_mut.result.now in
+    let ps : List BottlePlace = c.args.office.now.places.items in
+    let p : BottlePlace = c.index_mut.result.now in
     let lt : r < length ps = omega (arith, end_within c.args.plan.now r c.args.me c.requires.end, c.requires.whole.places) in
     let lv : v < length t.lines = omega (arith, c.peer-to.ensures.office, c.requires.whole.lines, length-map c.args.office.now.lines.items line_table) in
     let line : map line_table c.send.new.lines.items ≡ set t.lines v (line_sent (line_at t.lines v) (msg.AskBottle r)) =
