@@ -124,6 +124,7 @@ impl Builder {
     }
 
     /// An operand of this depth is complete, whose nodes have been written.
+    #[inline(always)]
     fn complete(&mut self, level: Level, depth: u8) -> Result<(), AllocError>
         ensures { OnOk result (build_of self.new ≡ completed (build_of self.old).outer level (build_of self.old).nodes depth) }
     {

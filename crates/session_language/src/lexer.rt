@@ -36,6 +36,7 @@ pub struct Pieces<'a> {
 
 impl<'a> Pieces<'a> {
     /// The next piece. None at the end of the line.
+    #[inline(always)]
     pub fn next(&mut self) -> Option<Piece<'a>>
         ensures gives { MatchOption result
             (pieces_of self.old.rest.now ≡ [])
@@ -92,6 +93,7 @@ fn start_of(b: u8) -> Start
 }
 
 /// The piece that begins with a byte of no word.
+#[inline(never)]
 fn other_piece<'a>(first: u8, after: &'a [u8]) -> (Piece<'a>, &'a [u8])
     requires { is_name_byte first ≡ false }
     ensures gives { (seen result.0, result.1.now) ≡ piece_at first after.now }
