@@ -13,8 +13,8 @@
 mod fault;
 pub mod laws;
 mod phase;
-mod shared_fork;
 mod places;
+mod shared_fork;
 mod table;
 #[cfg(test)]
 mod tests;

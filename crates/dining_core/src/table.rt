@@ -7,8 +7,8 @@ ghost use Rattle.dining_core.specs.refinement.Tables.{diner_of, holds, has_clean
 
 use crate::fault::NotNow;
 use crate::phase::Phase;
-use crate::shared_fork::{Fork, SharedFork};
 use crate::places;
+use crate::shared_fork::{Fork, SharedFork};
 use office_map::{OfficeId, Plan};
 use std::alloc::{AllocError, Global};
 use std::marker::Model;

@@ -26,9 +26,9 @@ pub mod reading;
 pub mod report;
 pub mod script;
 pub mod source;
-pub mod texts;
-pub mod transcript;
 #[cfg(test)]
 mod tests;
+pub mod texts;
+pub mod transcript;
 
 pub use program::run;

@@ -9,9 +9,9 @@ ghost use Rattle.drink_commands.specs.Fault.{IsFaultOf};
 
 use crate::fault::{Fault, ScriptRefusal};
 use crate::input::Input;
-use office_map::{OfficeId, Plan, RecordId};
 use office_map::statements::Statements;
 use office_map::text::{is_plain, name, number, words};
+use office_map::{OfficeId, Plan, RecordId};
 use session_language::Program;
 use std::alloc::{AllocError, Global};
 use world_schedule::{Rule, WorldEvent};

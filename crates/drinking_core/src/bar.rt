@@ -6,16 +6,16 @@ ghost use Rattle.std.specs.Option.{ForSome, option_copied};
 ghost use Rattle.dining_core.specs.refinement.Tables.{diner_of};
 ghost use Rattle.drinking_core.specs.Drinkers.{Start, AskBottle, GiveBottle, Drink, Finish, may, act, with_token, with_bottle, is_served, is_drinking, holds, opened};
 ghost use Rattle.drinking_core.specs.refinement.Bars.{drinker_of};
+ghost use Rattle.bottle_values.specs.Lists.{is_among};
 
 use crate::phase::Phase;
-use crate::shared_bottle::SharedBottle;
 use crate::places;
+use crate::shared_bottle::SharedBottle;
 use bottle_values::Value;
 use dining_core::{NotNow, Table};
 use office_map::{OfficeId, Plan, RecordId};
 use std::alloc::{AllocError, Global};
 use std::marker::Model;
-ghost use Rattle.bottle_values.specs.Lists.{is_among};
 
 /// The bottles of an office: which are here with their values, and how far the office is with its current session.
 #[derive(Debug, Drop)]

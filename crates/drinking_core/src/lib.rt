@@ -13,8 +13,8 @@
 mod bar;
 pub mod laws;
 mod phase;
-mod shared_bottle;
 mod places;
+mod shared_bottle;
 #[cfg(test)]
 mod tests;
 

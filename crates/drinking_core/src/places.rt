@@ -5,13 +5,13 @@ ghost use Rattle.std.specs.List.{range_with_len};
 ghost use Rattle.std.proofs.Math.ListN.{set};
 ghost use Rattle.drinking_core.specs.Drinkers.{start_bottle, start_token};
 ghost use Rattle.drinking_core.specs.refinement.Bars.{place_at, start_place, needed_place, with_needed, written_place, with_writes, freed_place, with_freed, count_missing, is_missing};
+ghost use Rattle.bottle_values.specs.Lists.{num};
+ghost use Rattle.office_map.specs.PlanValue.{peer};
 
 use crate::shared_bottle::SharedBottle;
 use bottle_values::Value;
 use office_map::{OfficeId, Plan, RecordId};
 use std::alloc::{AllocError, Global};
-ghost use Rattle.bottle_values.specs.Lists.{num};
-ghost use Rattle.office_map.specs.PlanValue.{peer};
 
 /// What an office has of each record as the plan starts.
 #[tactic(auto, using(bottle_values::proofs::Lists::mapped_more))]

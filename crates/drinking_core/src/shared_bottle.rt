@@ -2,10 +2,10 @@
 
 ghost use Rattle.std.specs.Prelude.{◌≡◌, ◌&&◌, not, is_some};
 ghost use Rattle.drinking_core.specs.refinement.Bars.{is_missing};
+ghost use Rattle.bottle_values.specs.Lists.{num};
 
 use bottle_values::Value;
 use office_map::OfficeId;
-ghost use Rattle.bottle_values.specs.Lists.{num};
 
 /// What an office has of a record: whether its session needs it, the bottle with its value if it is here, whether the
 /// bottle's request token is here, and the record's other end.

@@ -1,5 +1,6 @@
 ghost use Rattle.std.specs.Prelude.{◌≡◌};
 ghost use Rattle.drinking_core.specs.refinement.Bars.{drinker_of};
+ghost use Rattle.bottle_values.specs.Lists.{is_among};
 
 use super::*;
 use bottle_values::Value;
@@ -9,7 +10,6 @@ use std::alloc::{AllocError, Global};
 use std::fmt::Write;
 use std::process::Abort;
 use std::test::Fail;
-ghost use Rattle.bottle_values.specs.Lists.{is_among};
 
 const TWO_OFFICES: &str =
     "plan 1 run 42\noffice a -\noffice b -\npair a b fork a\nrecord x a b 100 at a\nrecord y a b 0 at b\n";

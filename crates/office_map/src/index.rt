@@ -2,12 +2,12 @@
 
 ghost use Rattle.std.specs.Prelude.{◌≡◌, IfOk};
 ghost use Rattle.office_map.specs.PlanValue.{neighbours_of, records_of};
+ghost use Rattle.office_map.specs.refinement.OfficeIndex.{index_of};
 
 use crate::ids::{OfficeId, RecordId};
 use crate::plan_entries::PlanEntries;
 use std::alloc::{AllocError, Global};
 use std::marker::Model;
-ghost use Rattle.office_map.specs.refinement.OfficeIndex.{index_of};
 
 /// The neighbours and the records of one office, the least number first: seen as these two
 /// lists.
@@ -62,7 +62,11 @@ pub(crate) fn index(alloc: Global, tables: &PlanEntries) -> Result<Vec<OfficeInd
     Ok(index)
 }
 
-fn neighbours(alloc: Global, tables: &PlanEntries, office: OfficeId) -> Result<Vec<OfficeId>, AllocError>
+fn neighbours(
+    alloc: Global,
+    tables: &PlanEntries,
+    office: OfficeId,
+) -> Result<Vec<OfficeId>, AllocError>
     ensures { IfOk result (λ v. v.items ≡ neighbours_of tables.now office) }
 {
     let mut neighbours = Vec::new(alloc);
@@ -75,7 +79,11 @@ fn neighbours(alloc: Global, tables: &PlanEntries, office: OfficeId) -> Result<V
     Ok(neighbours)
 }
 
-fn records(alloc: Global, tables: &PlanEntries, office: OfficeId) -> Result<Vec<RecordId>, AllocError>
+fn records(
+    alloc: Global,
+    tables: &PlanEntries,
+    office: OfficeId,
+) -> Result<Vec<RecordId>, AllocError>
     ensures { IfOk result (λ v. v.items ≡ records_of tables.now office) }
 {
     let mut records = Vec::new(alloc);

@@ -32,13 +32,13 @@ pub mod laws;
 mod line;
 mod new_entries;
 mod plan;
+mod plan_entries;
 mod precedence;
 mod read;
 mod records;
 mod ring;
 mod ring_search;
 pub mod statements;
-mod plan_entries;
 #[cfg(test)]
 mod tests;
 pub mod text;

@@ -4,11 +4,11 @@ ghost use Rattle.std.specs.Prelude.{◌≡◌, map, option_map};
 ghost use Rattle.office_map.specs.PlanText.{declaration_of, office_line, pair_line, record_line, run_of, small_number, value_of, negative_of};
 ghost use Rattle.office_map.specs.Text.{number_of};
 ghost use Rattle.std.specs.Str.{bytes_eq};
+ghost use Rattle.office_map.specs.refinement.PlanReader.{seen};
 
 use crate::address::address;
 use crate::new_entries::{NewOffice, NewPair, NewRecord};
 use crate::text::{name, number};
-ghost use Rattle.office_map.specs.refinement.PlanReader.{seen};
 
 /// What a line declares, with names as they stand in the text.
 #[derive(Clone, Copy)]

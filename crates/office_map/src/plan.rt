@@ -6,9 +6,9 @@ use crate::entries::{OfficeEntry, RecordEntry};
 use crate::fault::PlanFault;
 use crate::ids::{OfficeId, RecordId};
 use crate::index::{OfficeIndex, index};
+use crate::plan_entries::PlanEntries;
 use crate::precedence::order;
 use crate::read::read_entries;
-use crate::plan_entries::PlanEntries;
 use std::alloc::{AllocError, Global};
 use std::marker::Model;
 

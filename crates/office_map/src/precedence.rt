@@ -4,15 +4,15 @@ ghost use Rattle.std.specs.Prelude.{◌≡◌, ◌<◌, length, MatchOption, ℕ
 ghost use Rattle.std.specs.Result.{MatchResult};
 ghost use Rattle.office_map.specs.PlanText.{Answers};
 ghost use Rattle.office_map.specs.Precedence.{starts_before, MayCome, IsNext, IsLeastFirst};
+ghost use Rattle.bottle_values.specs.Lists.{is_among};
+ghost use Rattle.office_map.specs.refinement.OrderSearch.{awaits};
 
 use crate::entries::PairEntry;
 use crate::fault::PlanFault;
 use crate::ids::OfficeId;
-use crate::ring_search::ring_from;
 use crate::plan_entries::PlanEntries;
+use crate::ring_search::ring_from;
 use std::alloc::Global;
-ghost use Rattle.bottle_values.specs.Lists.{is_among};
-ghost use Rattle.office_map.specs.refinement.OrderSearch.{awaits};
 
 /// All offices, one that precedes earlier, and the least number first where several may come;
 /// or a ring, where there is no such order.
@@ -45,7 +45,11 @@ fn next(tables: &PlanEntries, placed: &[OfficeId]) -> Option<OfficeId>
 }
 
 /// An office that isn't placed yet and precedes this one.
-pub(crate) fn awaited(tables: &PlanEntries, placed: &[OfficeId], office: OfficeId) -> Option<OfficeId>
+pub(crate) fn awaited(
+    tables: &PlanEntries,
+    placed: &[OfficeId],
+    office: OfficeId,
+) -> Option<OfficeId>
     ensures { MatchOption result
         ((u : ℕ) → starts_before tables.now u office ≡ true → is_among placed.now u ≡ true)
         (λ u. (starts_before tables.now u office ≡ true) × (u < length tables.now.offices) × (is_among placed.now u ≡ false)) }

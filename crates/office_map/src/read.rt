@@ -3,15 +3,15 @@
 ghost use Rattle.std.specs.Prelude.{◌≡◌, ◌<◌, ◌+◌, ◌^◌, length, map, option_map, IfOk};
 ghost use Rattle.office_map.specs.Text.{lines, statements_from};
 ghost use Rattle.office_map.specs.PlanText.{plan_of, plain_words, read_line, read_lines, read_header};
+ghost use Rattle.office_map.specs.refinement.PlanReader.{Fails};
+ghost use Rattle.bottle_values.specs.Memory.{UnlessMemory};
 
 use crate::fault::{PlanFault, PlanRule, refused};
 use crate::line::{declaration_in, run_in};
-use crate::statements::Statements;
 use crate::plan_entries::PlanEntries;
+use crate::statements::Statements;
 use crate::text::{is_plain, words};
 use std::alloc::{AllocError, Global};
-ghost use Rattle.office_map.specs.refinement.PlanReader.{Fails};
-ghost use Rattle.bottle_values.specs.Memory.{UnlessMemory};
 
 /// The longest text of a plan, in bytes.
 const TEXT_LIMIT: usize = 262_144;
@@ -69,7 +69,12 @@ fn read_lines(
 }
 
 #[tactic(auto, unfolding(crate::specs::PlanText::read_line))]
-fn read_line(alloc: Global, tables: &mut PlanEntries, number: u64, line: &[u8]) -> Result<(), PlanFault>
+fn read_line(
+    alloc: Global,
+    tables: &mut PlanEntries,
+    number: u64,
+    line: &[u8],
+) -> Result<(), PlanFault>
     ensures { UnlessMemory (λ _. tables.new) Fails result (read_line tables.old (number, line.now)) }
 {
     let Some(words) = plain_words(alloc, line)? else {

@@ -4,13 +4,13 @@ ghost use Rattle.std.specs.Prelude.{◌≡◌, ◌<◌, ◌≤◌, ◌++◌, All
 ghost use Rattle.std.specs.String.{string_bytes};
 ghost use Rattle.office_map.specs.PlanValue.{office_name_of};
 ghost use Rattle.office_map.specs.Precedence.{starts_before, MayCome, IsCircle, IsNamedRing, first_or};
+ghost use Rattle.bottle_values.specs.Lists.{is_among};
 
 use crate::ids::OfficeId;
+use crate::plan_entries::PlanEntries;
 use crate::precedence::{awaited, is_among};
 use crate::ring::Ring;
-use crate::plan_entries::PlanEntries;
 use std::alloc::{AllocError, Global};
-ghost use Rattle.bottle_values.specs.Lists.{is_among};
 
 /// A ring of offices that aren't placed.
 pub(crate) fn ring_from(
@@ -108,7 +108,11 @@ fn turned(alloc: Global, circle: &[OfficeId], place: usize) -> Result<Vec<Office
     Ok(turned)
 }
 
-fn names(alloc: Global, tables: &PlanEntries, offices: &[OfficeId]) -> Result<Vec<String>, AllocError>
+fn names(
+    alloc: Global,
+    tables: &PlanEntries,
+    offices: &[OfficeId],
+) -> Result<Vec<String>, AllocError>
     requires { All (λ a. a < length tables.now.offices) offices.now }
     ensures { IfOk result (λ v. map (office_name_of tables.now) offices.now ≡ map (λ name. Some (string_bytes name)) v.items) }
 {

@@ -35,7 +35,11 @@ pub fn evaluate(
 }
 
 /// Works out one node. False where its result is no i64.
-fn after_node(environment: &Environment, stack: &mut Vec<Value>, node: Node) -> Result<bool, AllocError>
+fn after_node(
+    environment: &Environment,
+    stack: &mut Vec<Value>,
+    node: Node,
+) -> Result<bool, AllocError>
     ensures { IfOk result (λ ok. after_node (environment_of environment.now) node (reverse stack.old.items) ≡ (if ok then Some (reverse stack.new.items) else None)) }
 {
     match node {

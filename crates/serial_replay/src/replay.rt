@@ -27,13 +27,13 @@ ghost use Rattle.serial_replay.specs.Serial.{
   ending_on,
   ListsValues,
 };
+ghost use Rattle.bottle_values.specs.Arithmetic.{nought};
 
 use crate::alone::alone;
 use bottle_values::Value;
 use office_map::{OfficeId, Plan, RecordId};
 use session_language::{Ending, Outcome, Program};
 use std::alloc::{AllocError, Global};
-ghost use Rattle.bottle_values.specs.Arithmetic.{nought};
 
 /// What a serial run shows: how each session ended, in order, and the value that each record has then, in order of
 /// number.

@@ -1,68 +1,25 @@
-//! Statements that are added to an open session.
+//! A statement that is added to the parts of an open session.
 
 ghost use Rattle.std.specs.Prelude.{◌≡◌, ◌≤◌, ℕ, IfOk, [], ◌∷◌, ◌++◌, map, vec_len, OnOk};
 ghost use Rattle.std.specs.String.{string_bytes};
 ghost use Rattle.session_language.specs.refinement.TreeOfStatements.{command_of, block_of};
 ghost use Rattle.session_language.specs.refinement.ResolvedStatements.{seen_spoken};
-ghost use Rattle.session_language.specs.refinement.ReaderRefinement.{parts, draft_of, Stops};
+ghost use Rattle.session_language.specs.refinement.ReaderRefinement.{parts, Stops};
 ghost use Rattle.bottle_values.specs.Memory.{UnlessMemory};
-ghost use Rattle.session_language.specs.Reading.{begun, add, place_of, with_variable, variables_after, command_in};
+ghost use Rattle.session_language.specs.Reading.{add, place_of, with_variable, variables_after, command_in};
 ghost use Rattle.session_language.specs.Needs.{needs_of};
-ghost use Rattle.session_language.specs.WellFormed.{IsSpokenOver};
 
-use crate::draft::Draft;
 use crate::fault::{SessionRule, Stop};
+use crate::limits::{MOST_RECORDS, MOST_VARIABLES};
 use crate::names::position_of;
 use crate::needs::add_needs;
 use crate::spoken::Spoken;
 use crate::tree::Statement;
-use office_map::{OfficeId, RecordId};
+use office_map::RecordId;
 use std::alloc::{AllocError, Global};
 
-/// The most records that a session may name.
-const MOST_RECORDS: usize = 16;
-/// The most variables that a session may have.
-const MOST_VARIABLES: usize = 32;
-
-impl Draft {
-    /// A session with nothing in it yet.
-    #[tactic(auto, using(crate::proofs::session_reading::WellFormedness::nothing_declared))]
-    pub fn begun(alloc: Global, office: OfficeId) -> Draft
-        ensures { draft_of result ≡ begun office }
-    {
-        Draft {
-            office,
-            variables: Vec::new(alloc),
-            needs: Vec::new(alloc),
-            statements: Vec::new(alloc),
-        }
-    }
-
-    #[tactic(auto, using(crate::proofs::session_reading::WellFormedness::nothing_declared))]
-    /// Adds a statement, if the session stays within its limits. Where it is refused, nothing is left of the session.
-    pub fn add(&mut self, alloc: Global, spoken: Spoken<'_>) -> Result<(), Stop>
-        requires { IsSpokenOver (vec_len self.old.variables) (seen_spoken spoken) }
-        ensures { UnlessMemory (λ _. draft_of self.new) Stops result (add (draft_of self.old) (seen_spoken spoken.entry)) }
-    {
-        let added = add_to(
-            alloc,
-            &mut self.variables,
-            &mut self.needs,
-            &mut self.statements,
-            spoken,
-        );
-        if let Err(stop) = added {
-            self.variables.clear();
-            self.needs.clear();
-            self.statements.clear();
-            return Err(stop);
-        }
-        Ok(())
-    }
-}
-
 /// Adds a statement to the parts of a session.
-fn add_to(
+pub(crate) fn add_to(
     alloc: Global,
     variables: &mut Vec<String>,
     needs: &mut Vec<RecordId>,

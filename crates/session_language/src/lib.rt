@@ -16,7 +16,6 @@
 
 mod adding;
 mod builder;
-mod closing;
 mod copying;
 mod draft;
 mod ending;
@@ -26,6 +25,7 @@ mod guesses;
 mod keyword;
 pub mod laws;
 mod lexer;
+mod limits;
 mod listing;
 pub mod measures;
 mod names;
@@ -41,7 +41,6 @@ mod reader;
 mod scope;
 mod sizes;
 mod spoken;
-mod steps;
 #[cfg(test)]
 mod tests;
 mod text;

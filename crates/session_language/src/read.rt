@@ -3,22 +3,18 @@
 ghost use Rattle.std.specs.Prelude.{◌≡◌, ◌<◌, ◌≤◌, ◌+◌, ◌^◌, length, IfOk, IsTrue, All};
 ghost use Rattle.session_language.specs.Program.{fits};
 ghost use Rattle.office_map.specs.Text.{lines, statements_from};
-ghost use Rattle.session_language.specs.Reading.{sessions_of, read_lines, at_line, take_line, all_closed};
+ghost use Rattle.session_language.specs.Reading.{sessions_of, read_lines, at_line, take_line};
 ghost use Rattle.session_language.specs.refinement.ReaderRefinement.{reading_of, Fails};
 ghost use Rattle.bottle_values.specs.Memory.{UnlessMemory};
 
-use crate::builder::{Builder, Level, Stage, Sum};
 use crate::fault::{LangFault, SessionRefusal, SessionRule, Stop};
-use crate::guesses::Guesses;
+use crate::limits::TEXT_LIMIT;
 use crate::program::Program;
 use crate::reader::Reader;
 use office_map::Plan;
 use office_map::statements::Statements;
 use office_map::text::first_line;
 use std::alloc::Global;
-
-/// The longest text of sessions, in bytes.
-const TEXT_LIMIT: usize = 1_048_576;
 
 /// The programs of the sessions in a text, in order. The first faulty line is refused.
 #[tactic(auto, unfolding(crate::specs::Reading::sessions_of), using(crate::proofs::session_reading::ProgramsFit::sessions_fit, crate::proofs::session_reading::ProgramsFit::sessions_few))]
@@ -97,38 +93,4 @@ fn count_of_lines(text: &[u8]) -> u64
         count += 1;
     }
     count
-}
-
-impl Reader {
-    ghost use Rattle.session_language.specs.Reading.{nothing_read};
-
-    fn new(alloc: Global) -> Reader
-        ensures { reading_of result ≡ nothing_read }
-    {
-        Reader {
-            builder: Builder {
-                outer: Vec::new(alloc),
-                stage: Stage::Wants(Level {
-                    sum: Sum::Nothing,
-                    product: None,
-                    minuses: 0,
-                }),
-                nodes: Vec::new(alloc),
-                guesses: Guesses::new(),
-            },
-            done: Vec::new(alloc),
-            open_session: None,
-        }
-    }
-
-    fn into_done(self) -> Vec<Program>
-        ensures { result.items ≡ (reading_of self).done }
-    {
-        let Reader {
-            builder: _,
-            done,
-            open_session: _,
-        } = self;
-        done
-    }
 }

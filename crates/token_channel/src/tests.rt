@@ -4,10 +4,10 @@ use super::*;
 use bottle_values::Value;
 use frame_codec::{Frame, Msg};
 use office_map::{OfficeId, Plan};
-use std::alloc::{AllocError, Global};
-use std::process::Abort;
 use rand_core::utils::NextWord;
 use rand_pcg::Pcg32;
+use std::alloc::{AllocError, Global};
+use std::process::Abort;
 use std::test::Fail;
 use window_link::{Arrival, LinkFault};
 

@@ -7,7 +7,7 @@ mod event;
 mod step;
 mod two;
 
-pub use event::{End, LinkEvent, Posted, LinkReply};
+pub use event::{End, LinkEvent, LinkReply, Posted};
 pub use two::Two;
 
 /// Over every list of events what each end takes begins what the other sent, what an end knows to be

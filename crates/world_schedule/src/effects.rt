@@ -14,13 +14,13 @@ use crate::finished::Finished;
 use crate::guards::{needed, peer, place_of};
 use crate::message::Message;
 use crate::session::Session;
-use crate::tables::{Lane, Office, Phase, BottlePlace};
+use crate::tables::{BottlePlace, Lane, Office, Phase};
 use bottle_values::Value;
 use frame_codec::Msg;
 use office_map::{OfficeId, Plan, RecordId};
 use serial_replay::alone::alone;
-use session_language::{Ending, Outcome};
 use session_language::laws::tells_what_it_read;
+use session_language::{Ending, Outcome};
 use std::alloc::{AllocError, Global};
 use std::mem;
 
@@ -135,7 +135,11 @@ pub fn drink(alloc: Global, office: &mut Office) -> Result<(), AllocError>
 }
 
 /// The values of these records.
-fn values_of(alloc: Global, places: &[BottlePlace], needs: &[RecordId]) -> Result<Vec<Value>, AllocError>
+fn values_of(
+    alloc: Global,
+    places: &[BottlePlace],
+    needs: &[RecordId],
+) -> Result<Vec<Value>, AllocError>
     ensures { IfOk result (λ v. v.items ≡ map (values_in places.now) needs.now) }
 {
     let mut values = Vec::with_capacity(alloc, needs.len())?;

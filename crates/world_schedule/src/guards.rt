@@ -7,7 +7,7 @@ ghost use Rattle.world_schedule.specs.Offices as offices;
 ghost use Rattle.world_schedule.specs.refinement.Tables.{phase_of, place_at, line_at, office_table, office_in};
 
 use crate::rule::Rule;
-use crate::tables::{Office, Phase, BottlePlace};
+use crate::tables::{BottlePlace, Office, Phase};
 use bottle_values::Value;
 use office_map::{OfficeId, Plan, RecordId};
 

@@ -7,7 +7,7 @@ ghost use Rattle.world_schedule.specs.Offices.{opened};
 ghost use Rattle.world_schedule.specs.refinement.Tables.{line_table, office_table, office_in, office_at, IsWhole};
 ghost use Rattle.world_schedule.specs.refinement.StartTables.{start_place, start_line};
 
-use crate::tables::{Lane, Office, Phase, BottlePlace};
+use crate::tables::{BottlePlace, Lane, Office, Phase};
 use bottle_values::Value;
 use office_map::{OfficeId, Plan, RecordId};
 use std::alloc::{AllocError, Global};

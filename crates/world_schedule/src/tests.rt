@@ -267,9 +267,11 @@ fn submitted(
 ) -> Result<Option<WorldEvent>, Fail> {
     let mut programs = read_sessions(alloc, SESSIONS.as_bytes(), plan)?;
     programs.truncate(number as usize + 1);
-    Ok(programs
-        .pop()
-        .map(|program| WorldEvent::Submit(at, program)))
+    Ok(
+        programs
+            .pop()
+            .map(|program| WorldEvent::Submit(at, program)),
+    )
 }
 
 /// What finished, how many haven't, and the values.

@@ -3,12 +3,12 @@
 ghost use Rattle.std.specs.Prelude.{◌≡◌, ◌++◌, ◌∷◌, [], IfOk, OnOk, OnErr};
 ghost use Rattle.window_link.specs.Streams.{nth};
 ghost use Rattle.window_link.specs.refinement.TwoLinksStep.{queue_step, made_of, arrive_step, ends, Steps};
+ghost use Rattle.window_link.specs.Two.{Accepts};
 
-use crate::laws::event::{End, LinkEvent, Posted, LinkReply};
+use crate::laws::event::{End, LinkEvent, LinkReply, Posted};
 use crate::link::Link;
 use frame_codec::{Frame, Msg};
 use std::alloc::AllocError;
-ghost use Rattle.window_link.specs.Two.{Accepts};
 
 /// What happens to the links and the frames. Where a growth is refused nothing does.
 pub fn step(

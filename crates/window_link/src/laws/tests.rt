@@ -4,10 +4,10 @@ use super::*;
 use crate::arrival::Arrival;
 use crate::link::Link;
 use frame_codec::{Frame, Msg};
-use std::alloc::{AllocError, Global};
-use std::process::Abort;
 use rand_core::utils::NextWord;
 use rand_pcg::Pcg32;
+use std::alloc::{AllocError, Global};
+use std::process::Abort;
 use std::test::Fail;
 
 fn happens(
@@ -42,9 +42,19 @@ fn frames_come_out_of_order(rt: HostRuntime) -> Result<(), Fail> {
         (2, Arrival::Fresh(Msg::AskBottle(1))),
     ];
     for (k, arrival) in arrivals {
-        happens(&rt, &mut two, LinkEvent::Arrive(k), LinkReply::Arrived(arrival))?;
+        happens(
+            &rt,
+            &mut two,
+            LinkEvent::Arrive(k),
+            LinkReply::Arrived(arrival),
+        )?;
     }
-    happens(&rt, &mut two, LinkEvent::Make(End::Left, 3), LinkReply::Made)?;
+    happens(
+        &rt,
+        &mut two,
+        LinkEvent::Make(End::Left, 3),
+        LinkReply::Made,
+    )?;
     let third = LinkReply::Arrived(Arrival::Fresh(Msg::AskBottle(2)));
     happens(&rt, &mut two, LinkEvent::Arrive(4), third)?;
     let repeat = LinkReply::Arrived(Arrival::Repeat);
@@ -60,10 +70,20 @@ fn a_frame_has_the_count_of_its_making(rt: HostRuntime) -> Result<(), Fail> {
     let mut two = three_made(&rt, rt.alloc())?;
     let queue = LinkEvent::Queue(End::Right, Msg::Fork);
     happens(&rt, &mut two, queue, LinkReply::Queued)?;
-    happens(&rt, &mut two, LinkEvent::Make(End::Right, 1), LinkReply::Made)?;
+    happens(
+        &rt,
+        &mut two,
+        LinkEvent::Make(End::Right, 1),
+        LinkReply::Made,
+    )?;
     let taken = LinkReply::Arrived(Arrival::Fresh(Msg::AskBottle(0)));
     happens(&rt, &mut two, LinkEvent::Arrive(1), taken)?;
-    happens(&rt, &mut two, LinkEvent::Make(End::Right, 1), LinkReply::Made)?;
+    happens(
+        &rt,
+        &mut two,
+        LinkEvent::Make(End::Right, 1),
+        LinkReply::Made,
+    )?;
     happens(&rt, &mut two, LinkEvent::Ack(End::Right), LinkReply::Made)?;
     let frames = two.frames();
     assert!(rt; frames.len() == 6);

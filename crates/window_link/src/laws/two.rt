@@ -3,7 +3,7 @@
 ghost use Rattle.std.specs.Prelude.{◌≡◌, [], IfOk, OnErr, IsTrue};
 ghost use Rattle.window_link.specs.Two.{at, LedTo, HasLawfulStreams, Happens, makes_frame};
 
-use crate::laws::event::{End, LinkEvent, Posted, LinkReply};
+use crate::laws::event::{End, LinkEvent, LinkReply, Posted};
 use crate::laws::step::step;
 use crate::link::Link;
 use std::alloc::{AllocError, Global};

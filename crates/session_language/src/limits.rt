@@ -1,0 +1,29 @@
+//! The limits of texts of sessions, as the definitions have them.
+
+/// The longest text of sessions, in bytes.
+pub(crate) const TEXT_LIMIT: usize = 1_048_576;
+
+/// The most sessions of a text.
+pub(crate) const MOST_SESSIONS: usize = 1_024;
+
+/// The most statements of a session, blocks included.
+pub(crate) const MOST_STATEMENTS: u32 = 256;
+
+/// The most that a session may cost.
+pub(crate) const MOST_COST: u32 = 10_000;
+
+/// Each node costs 1 and has at most 21 bytes of text, each statement costs 1 and has at most 24 besides, and the first
+/// and the last line have 29. So the text of a session that costs no more than this is never too long.
+pub(crate) const SHORT_COST: u32 = 681;
+
+/// The most bytes of a session's text, where each office and record counts as 16.
+pub(crate) const MOST_BYTES: u32 = 16_384;
+
+/// The most records that a session may name.
+pub(crate) const MOST_RECORDS: usize = 16;
+
+/// The most variables that a session may have.
+pub(crate) const MOST_VARIABLES: usize = 32;
+
+/// The most values that a session may give.
+pub(crate) const MOST_GIVES: u32 = 64;
