@@ -6,7 +6,7 @@ use Rattle.std.specs.List.{list_any, list_all}
 use Rattle.std.proofs.lemmas.Bool.{cond_both, eqb-true, eq-eqb, ne_eqb, and_parts, and_from, or_left, or_right, cases_eq, ltb-true, lt-ltb, or_cases}
 use Rattle.office_map.specs.declared.entries.PairEntry.{PairEntry}
 use Rattle.office_map.specs.PlanValue.{PlanValue, joins, are_neighbours, neighbours_of, fork_end, fork_starts_at}
-use Rattle.office_map.specs.Precedence.{occurrences, comes_before, preceding_end, starts_before}
+use Rattle.office_map.specs.Precedence.{occurrences, comes_before, preceding_end}
 use Rattle.office_map.specs.Precedence as plans
 use Rattle.office_map.specs.Consistency.{IsConsistent, IsAccepted}
 use Rattle.dining_core.specs.Diners.{Diner, ForkRule, BecomeHungry, AskFork, GiveFork, Eat, Leave, is_eating, may, act, with_token, with_fork}

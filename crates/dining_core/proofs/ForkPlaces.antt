@@ -1,12 +1,6 @@
 -- What an event does to the fork of two neighbours.
-use Rattle.std.proofs.Common.{◌≡◌, ℕ, ◌+◌, Bool, true, false, not, ◌&&◌, ◌||◌, cond, List, [], ◌∷◌, refl, sym, ap, ◌∙◌, subst, arith, ⊎_elim}
-use Rattle.std.specs.Prelude.{◌==◌, All}
-use Rattle.std.specs.List.{list_any}
-use Rattle.std.proofs.lemmas.Bool.{cond_both, eqb-true, eqb-false, eq-eqb, ne_eqb, and_parts, or_cases}
-use Rattle.std.proofs.lemmas.List.Elements.{All-head, All-tail}
-use Rattle.office_map.specs.declared.entries.PairEntry.{PairEntry}
-use Rattle.office_map.specs.PlanValue.{PlanValue, joins, are_neighbours}
-use Rattle.office_map.specs.Consistency.{IsConsistent}
+use Rattle.std.proofs.Common.{◌≡◌, ℕ, ◌+◌, Bool, true, false, not, ◌&&◌, ◌||◌, cond, [], ◌∷◌, refl, sym, ap, ◌∙◌, subst, arith, ⊎_elim}
+use Rattle.std.specs.Prelude.{◌==◌}
 use Rattle.dining_core.specs.Diners.{Diner}
 use Rattle.dining_core.specs.Worlds.{with_way}
 use Rattle.bottle_values.specs.Maps.{put}

@@ -72,3 +72,7 @@ module _ {S K E : Type 0} (tag_of : E → ℕ) (k : K) (es : List E) where
   pub pass_view-last : (t : ℕ) (me : Me (Option S) (SeatView K E)) (a b : TableId) → me ≡ dealing 1 t → a ≡ b → pass_view a me ≡ fresh_pass (record { name = b; key = k }) tag_of es t
   pass_view-last t me a b is same =
       λ i. record { lock = same i; key = (is i).0.key; tag = (the_part (is i).0).tag; holds = (is i).0.holds; seen = (the_part (is i).0).seen; mine = (the_part (is i).0).mine }
+
+  pub HasOnePass-last : (t tag : ℕ) (me : Me (Option S) (SeatView K E)) → me ≡ dealing 1 t → tag ≡ t → t < 16 → HasOnePass {S = S} tag_of tag me
+  HasOnePass-last t tag me is same low =
+      subst (λ (z : ℕ × Me (Option S) (SeatView K E)). HasOnePass {S = S} tag_of z.0 z.1) (λ i. (sym same i, sym is i)) record { one = refl; tag_is = refl; below = low; own = refl; slots = refl }

@@ -13,7 +13,7 @@ use Rattle.own_lock.specs.declared.seat_view.Part.{Part}
 use Rattle.own_lock.specs.declared.seat_view.SeatView.{SeatView}
 use Rattle.own_lock.specs.Entries.{Every, tagged, AddsOnly}
 use Rattle.own_lock.specs.Rule.{DistinctTags, PartAgrees, SeatAgrees, IsStateOf, LockRule, word_of}
-use Rattle.own_lock.specs.Steps.{rest, first_part, the_part, second_part, part_with, parts_from, longer, told_part, opening_view, view_with, without_first, first_alone, joined, spent, holder_view, giver_view, told_view, Step, Deals, Takes, FindsTaken, Gives, TakesIn, Tells, May, after}
+use Rattle.own_lock.specs.Steps.{rest, first_part, the_part, second_part, part_with, parts_from, longer, opening_view, without_first, first_alone, joined, spent, holder_view, giver_view, told_view, Step, Deals, Takes, FindsTaken, Gives, TakesIn, Tells, May, MayAll, after, run}
 use Rattle.own_lock.specs.refinement.Plays.{Tried, GaveBack, Told, Looked}
 use Rattle.own_lock.proofs.Prefixes.{IsPrefix-refl, IsPrefix-trans, longer-covers}
 use Rattle.own_lock.proofs.TaggedEntries.{Every-map, Every-zip, AddsOnly-prefix, tagged-adds_other, tagged-between}
@@ -386,15 +386,19 @@ module _ {S K E : Type 0} (tag_of : E → ℕ) (key : S → K) (entries : S → 
 
   -- ---- all of them
 
-  pub StepsKeepTheRule-proof : (s : Table) (t : Step S K E) → Rule s → May tag_of key entries fits s t → Rule (after tag_of entries s t)
-  StepsKeepTheRule-proof s (Deals seat v) r may = deals seat v (the_part v) (rest v.parts) may.1 may.2 s r may.0
-  StepsKeepTheRule-proof s (Takes word seat v x) r may =
+  pub LockRule-after : (s : Table) (t : Step S K E) → Rule s → May tag_of key entries fits s t → Rule (after tag_of entries s t)
+  LockRule-after s (Deals seat v) r may = deals seat v (the_part v) (rest v.parts) may.1 may.2 s r may.0
+  LockRule-after s (Takes word seat v x) r may =
       let lies = r.free may.2 in
       let values : Some lies.0 ≡ Some x = some-injective _ _ (some-injective _ _ (sym lies.1 ∙ may.4)) in
       let same : lies.0 ≡ x = cc values in
       taken word may.3 s r seat v may.0 may.1.1 x (subst (IsStateOf key entries fits k r.history) same lies.2) may.2
-  StepsKeepTheRule-proof s (FindsTaken seat v) r may = r
-  StepsKeepTheRule-proof s (Gives seat v x) r may = given s r seat v x may.0 may.2 may.1 may.3 may.4 may.5
-  StepsKeepTheRule-proof s (TakesIn seat v other w) r may =
+  LockRule-after s (FindsTaken seat v) r may = r
+  LockRule-after s (Gives seat v x) r may = given s r seat v x may.0 may.2 may.1 may.3 may.4 may.5
+  LockRule-after s (TakesIn seat v other w) r may =
       joins seat v other w may.1.0 may.1.1 may.3.0 may.3.1 s r may.0 may.4 (set_else s.views seat other (joined v w) may.4 ∙ may.2)
-  StepsKeepTheRule-proof s (Tells seat v) r may = (told s r seat v may.0 may.1 may.2).0
+  LockRule-after s (Tells seat v) r may = (told s r seat v may.0 may.1 may.2).0
+
+  pub LockRule-run : (s : Table) (ts : List (Step S K E)) → Rule s → MayAll tag_of key entries fits s ts → Rule (run tag_of entries s ts)
+  LockRule-run s [] r may = r
+  LockRule-run s (t ∷ ts) r may = LockRule-run (after tag_of entries s t) ts (LockRule-after s t r may.0) may.1

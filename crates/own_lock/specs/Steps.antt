@@ -122,15 +122,28 @@ module _ {S K E : Type 0} (tag_of : E → ℕ) (entries : S → List E) where
   after s (TakesIn seat v other w) = record { words = s.words; homes = s.homes; views = slice_set (slice_set s.views seat (joined v w)) other spent }
   after s (Tells seat v) = record { words = s.words; homes = s.homes; views = slice_set s.views seat (told_view v) }
 
-module _ {S K E : Type 0} (tag_of : E → ℕ) (key : S → K) (entries : S → List E) (fits : S → Type 0) where
-  -- ---- laws
+  abbrev pub run : State (Option S) (SeatView K E) → List (Step S K E) → State (Option S) (SeatView K E)
+  run s [] = s
+  run s (step ∷ steps) = run (after s step) steps
 
-  -- a table with the word 0, a state that fits in its slot, and all passes at one seat
-  abbrev pub OpeningHasTheRule : Type 0
-  OpeningHasTheRule = (x : S) (passes : ℕ) → fits x →
-      LockRule tag_of key entries fits (key x) passes (record { words = 0 ∷ []; homes = some (Some x) ∷ []; views = opening_view tag_of (key x) (entries x) passes ∷ [] })
+module _ {S K E : Type 0} (tag_of : E → ℕ) (key : S → K) (entries : S → List E) (fits : S → Type 0) where
+  -- each step of the list is one that may be taken when its turn comes
+  abbrev pub MayAll : State (Option S) (SeatView K E) → List (Step S K E) → Type 0
+  MayAll s [] = Unit {0}
+  MayAll s (step ∷ steps) = May tag_of key entries fits s step × MayAll (after tag_of entries s step) steps
+
+  -- the table at the opening: the word 0, a state in the slot, and all passes at one seat
+  abbrev pub opening_table : S → ℕ → State (Option S) (SeatView K E)
+  opening_table x passes = record { words = 0 ∷ []; homes = some (Some x) ∷ []; views = opening_view tag_of (key x) (entries x) passes ∷ [] }
+
+  -- ---- laws
 
   -- where the rule holds before a step, it holds after it
   abbrev pub StepsKeepTheRule : Type 0
   StepsKeepTheRule = (k : K) (passes : ℕ) (s : State (Option S) (SeatView K E)) (step : Step S K E) →
       LockRule tag_of key entries fits k passes s → May tag_of key entries fits s step → LockRule tag_of key entries fits k passes (after tag_of entries s step)
+
+  -- from an opening with a state that fits, the rule holds after every list of steps
+  abbrev pub TheRuleHoldsThroughout : Type 0
+  TheRuleHoldsThroughout = (x : S) (passes : ℕ) (steps : List (Step S K E)) → fits x → MayAll (opening_table x passes) steps →
+      LockRule tag_of key entries fits (key x) passes (run tag_of entries (opening_table x passes) steps)

@@ -1,7 +1,7 @@
 //! Laws of states with a history, and of the steps at a lock.
 
 ghost use Rattle.own_lock.specs.Entries.{ExtendingIsReflexive, ExtendingIsTransitive};
-ghost use Rattle.own_lock.specs.Steps.{OpeningHasTheRule, StepsKeepTheRule};
+ghost use Rattle.own_lock.specs.Steps.{StepsKeepTheRule, TheRuleHoldsThroughout};
 
 use crate::kept::Kept;
 
@@ -15,12 +15,12 @@ pub fn extending_is_transitive<S: Kept>()
     ensures { ExtendingIsTransitive S.key S.entries }
 {}
 
-/// The rule of the lock holds at its opening.
-pub fn opening_has_the_rule<S: Kept>()
-    ensures { OpeningHasTheRule S.tag_of S.key S.entries S.fits }
-{}
-
-/// Each step at the table of the lock keeps its rule.
+/// Each step at the table of a lock keeps its rule.
 pub fn steps_keep_the_rule<S: Kept>()
     ensures { StepsKeepTheRule S.tag_of S.key S.entries S.fits }
+{}
+
+/// From the opening on, the rule of a lock holds after every list of steps.
+pub fn the_rule_holds_throughout<S: Kept>()
+    ensures { TheRuleHoldsThroughout S.tag_of S.key S.entries S.fits }
 {}

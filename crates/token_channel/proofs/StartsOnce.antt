@@ -1,14 +1,12 @@
 -- What two offices share starts at one of them.
-use Rattle.std.proofs.Common.{◌≡◌, ◌≢◌, ℕ, zero, suc, ◌+◌, ◌<◌, Bool, true, false, not, ◌&&◌, ◌||◌, cond, List, [], ◌∷◌, length, Option, None, Some, refl, sym, ap, ◌∙◌, subst, arith, inl, inr, ◌⊎◌, ⊎_elim}
-use Rattle.std.specs.Prelude.{slice_get, ◌==◌, All, IsTrue, find, option_map}
+use Rattle.std.proofs.Common.{◌≡◌, ◌≢◌, ℕ, ◌+◌, ◌<◌, Bool, true, false, not, ◌&&◌, ◌||◌, List, [], ◌∷◌, Option, None, Some, refl, sym, ap, ◌∙◌, subst, arith, inl, inr, ◌⊎◌, ⊎_elim}
+use Rattle.std.specs.Prelude.{slice_get, ◌==◌, find, option_map}
 use Rattle.std.specs.Option.{option_map_or}
 use Rattle.std.specs.List.{list_any}
-use Rattle.std.proofs.lemmas.Bool.{cond_both, eqb-true, eqb-false, ne_eqb, eq-eqb, or_left, or_right, or_cases, and_parts, and_from}
-use Rattle.std.proofs.lemmas.List.Elements.{All-head, All-tail}
+use Rattle.std.proofs.lemmas.Bool.{cond_both, eqb-true, ne_eqb, eq-eqb, or_cases, and_parts, and_from}
 use Rattle.office_map.specs.declared.entries.PairEntry.{PairEntry}
 use Rattle.office_map.specs.declared.entries.RecordEntry.{RecordEntry}
-use Rattle.office_map.specs.PlanValue.{PlanValue, joins, are_neighbours, fork_end, lies_between, has_end, is_end, start_end, has_ends, fork_starts_at, bottle_starts_at}
-use Rattle.office_map.specs.Consistency.{IsConsistent}
+use Rattle.office_map.specs.PlanValue.{PlanValue, joins, fork_end, lies_between, start_end, has_ends, fork_starts_at, bottle_starts_at}
 use Rattle.bottle_values.specs.Lists.{num}
 use Rattle.token_channel.specs.declared.thing.Thing.{Thing}
 use Rattle.token_channel.specs.declared.thing.Thing.TheVariants.{Fork, ForkToken, Bottle, BottleToken}

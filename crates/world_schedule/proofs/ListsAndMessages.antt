@@ -1,15 +1,11 @@
 -- Numbers, lists and messages.
 use Rattle.std.proofs.Common.{◌≡◌, ℕ, zero, suc, ◌+◌, ◌≤◌, Bool, true, false, ◌||◌, cond, List, [], ◌∷◌, ◌++◌, length, Some, refl, ap, ◌∙◌, arith}
 use Rattle.std.specs.Prelude.{slice_get, ◌==◌}
-use Rattle.std.proofs.lemmas.Bool.{cond_both, eqb-true, eqb-false, eq-eqb}
+use Rattle.std.proofs.lemmas.Bool.{eqb-false}
 use Rattle.bottle_values.specs.declared.Value.{Value}
 use Rattle.bottle_values.specs.Maps.{put, write_all}
-use Rattle.frame_codec.specs.declared.message.Msg.{Msg}
-use Rattle.token_channel.specs.Things.{thing_of, same, count_carrying}
 use Rattle.bottle_values.specs.Lists.{num}
-use Rattle.token_channel.specs.declared.thing.Thing.{Thing}
-use Rattle.token_channel.specs.declared.thing.Thing.TheVariants.{Fork, ForkToken, Bottle, BottleToken}
-use Rattle.bottle_values.proofs.Maps.{put_cases, put_other, put_at}
+use Rattle.bottle_values.proofs.Maps.{put_other}
 
 -- the number is the first part of a pair
 abbrev pub is_key : ℕ → List (ℕ × Value) → Bool

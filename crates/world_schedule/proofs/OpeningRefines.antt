@@ -1,17 +1,15 @@
 -- The tables of an opening are the offices that the plan starts.
 use Rattle.std.proofs.Common.{◌≡◌, ℕ, zero, suc, ◌+◌, ◌<◌, Bool, true, false, not, ◌&&◌, ◌||◌, Option, None, Some, List, [], ◌∷◌, ◌++◌, length, map, refl, sym, ap, ◌∙◌, subst, arith, ⊎_elim, get_or}
-use Rattle.std.specs.Prelude.{◌==◌, slice_get, All, pos}
+use Rattle.std.specs.Prelude.{◌==◌, slice_get, pos}
 use Rattle.std.specs.Option.{option_map_or}
-use Rattle.std.specs.List.{list_any, range_with_len}
-use Rattle.std.proofs.lemmas.Bool.{eqb-true, and_parts, or_cases, cases_Bool, cases_lt}
+use Rattle.std.specs.List.{range_with_len}
+use Rattle.std.proofs.lemmas.Bool.{cases_Bool, cases_lt}
 use Rattle.std.proofs.lemmas.List.{get_or_past, length-map, get_or_append_left, get_or_push}
-use Rattle.std.proofs.lemmas.List.Elements.{All-head, All-tail}
 use Rattle.std.proofs.lemmas.List.FromFn.{length-map-range_with_len, get_or-map-range_with_len, map-range_with_len_more}
 use mathlib.Core.Path.{fun_ext}
 use Rattle.bottle_values.specs.declared.Value.{Value}
-use Rattle.office_map.specs.declared.entries.PairEntry.{PairEntry}
 use Rattle.office_map.specs.declared.entries.RecordEntry.{RecordEntry}
-use Rattle.office_map.specs.PlanValue.{PlanValue, joins, are_neighbours, is_end, has_end, lies_between, start_values, has_ends, fork_starts_at, bottle_starts_at}
+use Rattle.office_map.specs.PlanValue.{PlanValue, are_neighbours, is_end, has_end, lies_between, start_values, has_ends, fork_starts_at, bottle_starts_at}
 use Rattle.office_map.specs.Consistency.{IsConsistent}
 use Rattle.serial_replay.specs.Serial.{start_map}
 use Rattle.world_schedule.specs.declared.tables.BottlePlace.{BottlePlace}

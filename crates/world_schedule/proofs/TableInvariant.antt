@@ -5,7 +5,7 @@ use Rattle.std.proofs.lemmas.Bool.{lt-ltb, and_parts}
 use Rattle.std.proofs.lemmas.List.{length-map, length-set}
 use Rattle.std.proofs.lemmas.List.Elements.{All-append, All-set, All-push}
 use Rattle.bottle_values.specs.Maps.{put}
-use Rattle.office_map.specs.PlanValue.{PlanValue, are_neighbours, is_end, peer}
+use Rattle.office_map.specs.PlanValue.{PlanValue, is_end, peer}
 use Rattle.office_map.specs.Consistency.{IsConsistent}
 use Rattle.session_language.specs.ProgramValue.{ProgramValue}
 use Rattle.session_language.specs.Laws.{WritesWhatItHas}

@@ -1,7 +1,6 @@
 -- Expressions in postfix order, each operator after its operands, and the tree that such a list gives back.
-use Rattle.std.specs.Prelude.{◌≡◌, pos, List, [], ◌∷◌, ◌++◌, refl}
+use Rattle.std.specs.Prelude.{◌≡◌, List, [], ◌∷◌, ◌++◌, refl}
 use Rattle.std.proofs.Common.{ap, ◌∙◌}
-use Rattle.bottle_values.specs.declared.Value.{Value}
 use Rattle.session_language.specs.declared.node.Node.{Node}
 use Rattle.session_language.specs.declared.node.Node.TheVariants.{Literal, Variable, Read, Negate, Apply}
 use Rattle.session_language.specs.Tree.{Term, Constant, Var, ReadOf, Neg, Bin}

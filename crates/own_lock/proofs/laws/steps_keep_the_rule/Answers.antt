@@ -1,5 +1,5 @@
-use Rattle.own_lock.proofs.StepsKeepRule.{StepsKeepTheRule-proof}
+use Rattle.own_lock.proofs.StepsKeepRule.{LockRule-after}
 use Rattle.own_lock.proofs.laws.steps_keep_the_rule.Goals as goal
 
 pub returns : goal.returns
-returns g c k passes s step rule may = StepsKeepTheRule-proof _ _ _ _ k passes s step rule may
+returns g c k passes s step rule may = LockRule-after _ _ _ _ k passes s step rule may

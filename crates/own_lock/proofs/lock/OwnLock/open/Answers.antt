@@ -1,7 +1,7 @@
 use Rattle.std.proofs.Common.{rules, ◌≡◌, ◌-◌, ◌+◌, ◌<◌, ℕ, arith, List, ◌∷◌, [], ◌++◌, Some, refl, ap, sym, subst, ◌∙◌}
 use Rattle.own_lock.specs.Passes.{AreFresh}
 use Rattle.own_lock.proofs.StepsKeepRule.{opens, deals}
-use Rattle.own_lock.proofs.Dealing.{dealing, AreFresh-snoc, AreIdle-of_fresh, parts-dealing, without_first-dealing, HasOnePass-first, pass_view-first, pass_view-last}
+use Rattle.own_lock.proofs.Dealing.{dealing, AreFresh-snoc, AreIdle-of_fresh, parts-dealing, without_first-dealing, HasOnePass-first, HasOnePass-last, pass_view-first, pass_view-last}
 use Rattle.own_lock.proofs.lock.OwnLock.open.Goals as goal
 
 pub new-requires : goal.new-requires
@@ -54,3 +54,16 @@ returns-clause-fresh g c =
 
 pub returns-clause-idle : goal.returns-clause-idle
 returns-clause-idle g c = AreIdle-of_fresh _ _ _ _ _ (returns-clause-fresh g c)
+
+pub invariant_of-push-2 : goal.invariant_of-push-2
+invariant_of-push-2 g c =
+    let x = c.of.result.value in
+    let es = g.S.Kept.entries x in
+    let n : ℕ = c.args.passes - c.loop-tag.tag in
+    let last = c.loop-tag.auto.tag-end in
+    let end = c.loop-tag-test.false in
+    let some_pass = c.requires.some in
+    let few = c.requires.few in
+    let one : n ≡ 1 = omega arith in
+    let me = c.loop-tag.invariant.1 ∙ ap (λ n. dealing g.S.Kept.tag_of (g.S.Kept.key x) es n c.loop-tag.tag) one in
+    HasOnePass-last g.S.Kept.tag_of (g.S.Kept.key x) es c.loop-tag.tag _ _ me (omega arith) (omega arith)
