@@ -13,7 +13,7 @@ use Rattle.own_lock.specs.declared.seat_view.Part.{Part}
 use Rattle.own_lock.specs.declared.seat_view.SeatView.{SeatView}
 use Rattle.own_lock.specs.Entries.{Every, tagged, AddsOnly}
 use Rattle.own_lock.specs.Rule.{DistinctTags, PartAgrees, SeatAgrees, IsStateOf, LockRule, word_of}
-use Rattle.own_lock.specs.Steps.{rest, first_part, the_part, second_part, part_with, parts_from, longer, opening_view, without_first, first_alone, joined, spent, holder_view, giver_view, told_view, Step, Deals, Takes, FindsTaken, Gives, TakesIn, Tells, May, MayAll, after, run}
+use Rattle.own_lock.specs.Steps.{rest, first_part, the_part, second_part, part_with, parts_from, longer, opening_view, without_first, first_alone, joined_view, spent_view, holder_view, giver_view, told_view, Step, Deals, Takes, FindsTaken, Gives, TakesIn, Tells, May, MayAll, table_after, table_after_all}
 use Rattle.own_lock.specs.refinement.Plays.{Tried, GaveBack, Told, Looked}
 use Rattle.own_lock.proofs.Prefixes.{IsPrefix-refl, IsPrefix-trans, longer-covers}
 use Rattle.own_lock.proofs.TaggedEntries.{Every-map, Every-zip, AddsOnly-prefix, tagged-adds_other, tagged-between}
@@ -241,9 +241,9 @@ module _ {S K E : Type 0} (tag_of : E → ℕ) (key : S → K) (entries : S → 
   -- ---- two passes come to one seat
 
   pub joins : (id : ℕ) (v : View) (other : ℕ) (w : View) → v.holds ≡ false → v.parts ≡ the_part v ∷ [] → w.holds ≡ false → w.parts ≡ the_part w ∷ []
-      → Joins Rule id v other w (joined v w) spent
+      → Joins Rule id v other w (joined_view v w) spent_view
   joins id v other w idle one idle' one' s r at apart there =
-      let both : View = joined v w in
+      let both : View = joined_view v w in
       let p : Part E = the_part v in
       let q : Part E = the_part w in
       let before : get_elem? s.views other ≡ some w = sym (set_else s.views id other both apart) ∙ there in
@@ -263,8 +263,8 @@ module _ {S K E : Type 0} (tag_of : E → ℕ) (key : S → K) (entries : S → 
         one_word = r.one_word;
         one_slot = r.one_slot;
         free = r.free;
-        taken = λ busy. HoldsAt-set (set s.views id both) other r.holder w spent there idle' (HoldsAt-set s.views id r.holder v both at idle (r.taken busy));
-        views = each-set Agrees (set s.views id both) other spent
+        taken = λ busy. HoldsAt-set (set s.views id both) other r.holder w spent_view there idle' (HoldsAt-set s.views id r.holder v both at idle (r.taken busy));
+        views = each-set Agrees (set s.views id both) other spent_view
             record { distinct = tt; parts = tt; key = λ no. absurd (omega arith); holding = λ no. absurd (cc no) }
             (λ j u not_other e. each-set (λ i t. i ≢ other → Agrees i t) s.views id both
             (λ _. record {
@@ -386,19 +386,19 @@ module _ {S K E : Type 0} (tag_of : E → ℕ) (key : S → K) (entries : S → 
 
   -- ---- all of them
 
-  pub LockRule-after : (s : Table) (t : Step S K E) → Rule s → May tag_of key entries fits s t → Rule (after tag_of entries s t)
-  LockRule-after s (Deals seat v) r may = deals seat v (the_part v) (rest v.parts) may.1 may.2 s r may.0
-  LockRule-after s (Takes word seat v x) r may =
+  pub LockRule-table_after : (s : Table) (t : Step S K E) → Rule s → May tag_of key entries fits s t → Rule (table_after tag_of entries s t)
+  LockRule-table_after s (Deals seat v) r may = deals seat v (the_part v) (rest v.parts) may.1 may.2 s r may.0
+  LockRule-table_after s (Takes word seat v x) r may =
       let lies = r.free may.2 in
       let values : Some lies.0 ≡ Some x = some-injective _ _ (some-injective _ _ (sym lies.1 ∙ may.4)) in
       let same : lies.0 ≡ x = cc values in
       taken word may.3 s r seat v may.0 may.1.1 x (subst (IsStateOf key entries fits k r.history) same lies.2) may.2
-  LockRule-after s (FindsTaken seat v) r may = r
-  LockRule-after s (Gives seat v x) r may = given s r seat v x may.0 may.2 may.1 may.3 may.4 may.5
-  LockRule-after s (TakesIn seat v other w) r may =
-      joins seat v other w may.1.0 may.1.1 may.3.0 may.3.1 s r may.0 may.4 (set_else s.views seat other (joined v w) may.4 ∙ may.2)
-  LockRule-after s (Tells seat v) r may = (told s r seat v may.0 may.1 may.2).0
+  LockRule-table_after s (FindsTaken seat v) r may = r
+  LockRule-table_after s (Gives seat v x) r may = given s r seat v x may.0 may.2 may.1 may.3 may.4 may.5
+  LockRule-table_after s (TakesIn seat v other w) r may =
+      joins seat v other w may.1.0 may.1.1 may.3.0 may.3.1 s r may.0 may.4 (set_else s.views seat other (joined_view v w) may.4 ∙ may.2)
+  LockRule-table_after s (Tells seat v) r may = (told s r seat v may.0 may.1 may.2).0
 
-  pub LockRule-run : (s : Table) (ts : List (Step S K E)) → Rule s → MayAll tag_of key entries fits s ts → Rule (run tag_of entries s ts)
-  LockRule-run s [] r may = r
-  LockRule-run s (t ∷ ts) r may = LockRule-run (after tag_of entries s t) ts (LockRule-after s t r may.0) may.1
+  pub LockRule-table_after_all : (s : Table) (ts : List (Step S K E)) → Rule s → MayAll tag_of key entries fits s ts → Rule (table_after_all tag_of entries s ts)
+  LockRule-table_after_all s [] r may = r
+  LockRule-table_after_all s (t ∷ ts) r may = LockRule-table_after_all (table_after tag_of entries s t) ts (LockRule-table_after s t r may.0) may.1

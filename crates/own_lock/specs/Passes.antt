@@ -41,12 +41,12 @@ module _ {K E : Type 0} where
   AreIdle lock passes = All (λ pass. IsOf lock pass × (pass.holds ≡ false)) passes
 
   -- the pass, which holds the state now and has seen its entries
-  abbrev pub holding : PassView K E → List E → PassView K E
-  holding pass es = record pass { holds = true; seen = es }
+  abbrev pub pass_after_take : PassView K E → List E → PassView K E
+  pass_after_take pass es = record pass { holds = true; seen = es }
 
   -- the pass, which gave a state with these entries back
-  abbrev pub idle_again : (E → ℕ) → PassView K E → List E → PassView K E
-  idle_again tag_of pass es = record pass { holds = false; seen = es; mine = tagged tag_of pass.tag es }
+  abbrev pub pass_after_give : (E → ℕ) → PassView K E → List E → PassView K E
+  pass_after_give tag_of pass es = record pass { holds = false; seen = es; mine = tagged tag_of pass.tag es }
 
   -- the view of a seat with this pass alone
   abbrev pub view_of : PassView K E → SeatView K E

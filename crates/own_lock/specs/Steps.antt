@@ -58,12 +58,12 @@ module _ {K E : Type 0} where
   first_alone v = view_with v.key false (the_part v)
 
   -- two seats of one pass each become one
-  abbrev pub joined : SeatView K E → SeatView K E → SeatView K E
-  joined v w = record { key = v.key; holds = false; parts = the_part v ∷ the_part w ∷ [] }
+  abbrev pub joined_view : SeatView K E → SeatView K E → SeatView K E
+  joined_view v w = record { key = v.key; holds = false; parts = the_part v ∷ the_part w ∷ [] }
 
   -- and what is left of the other
-  abbrev pub spent : SeatView K E
-  spent = record { key = None; holds = false; parts = [] }
+  abbrev pub spent_view : SeatView K E
+  spent_view = record { key = None; holds = false; parts = [] }
 
   -- the seat of a pass that took a state with these entries
   abbrev pub holder_view : (E → ℕ) → SeatView K E → List E → SeatView K E
@@ -114,23 +114,23 @@ module _ {S K E : Type 0} (tag_of : E → ℕ) (key : S → K) (entries : S → 
 
 module _ {S K E : Type 0} (tag_of : E → ℕ) (entries : S → List E) where
   -- what it leaves
-  abbrev pub after : State (Option S) (SeatView K E) → Step S K E → State (Option S) (SeatView K E)
-  after s (Deals seat v) = record { words = s.words; homes = s.homes; views = slice_set s.views seat (without_first v) ++ first_alone v ∷ [] }
-  after s (Takes word seat v x) = record { words = slice_set s.words 0 word; homes = slice_set s.homes 0 none; views = slice_set s.views seat (holder_view tag_of v (entries x)) }
-  after s (FindsTaken seat v) = s
-  after s (Gives seat v x) = record { words = slice_set s.words 0 0; homes = slice_set s.homes 0 (some (Some x)); views = slice_set s.views seat (giver_view tag_of v (entries x)) }
-  after s (TakesIn seat v other w) = record { words = s.words; homes = s.homes; views = slice_set (slice_set s.views seat (joined v w)) other spent }
-  after s (Tells seat v) = record { words = s.words; homes = s.homes; views = slice_set s.views seat (told_view v) }
+  abbrev pub table_after : State (Option S) (SeatView K E) → Step S K E → State (Option S) (SeatView K E)
+  table_after s (Deals seat v) = record { words = s.words; homes = s.homes; views = slice_set s.views seat (without_first v) ++ first_alone v ∷ [] }
+  table_after s (Takes word seat v x) = record { words = slice_set s.words 0 word; homes = slice_set s.homes 0 none; views = slice_set s.views seat (holder_view tag_of v (entries x)) }
+  table_after s (FindsTaken seat v) = s
+  table_after s (Gives seat v x) = record { words = slice_set s.words 0 0; homes = slice_set s.homes 0 (some (Some x)); views = slice_set s.views seat (giver_view tag_of v (entries x)) }
+  table_after s (TakesIn seat v other w) = record { words = s.words; homes = s.homes; views = slice_set (slice_set s.views seat (joined_view v w)) other spent_view }
+  table_after s (Tells seat v) = record { words = s.words; homes = s.homes; views = slice_set s.views seat (told_view v) }
 
-  abbrev pub run : State (Option S) (SeatView K E) → List (Step S K E) → State (Option S) (SeatView K E)
-  run s [] = s
-  run s (step ∷ steps) = run (after s step) steps
+  abbrev pub table_after_all : State (Option S) (SeatView K E) → List (Step S K E) → State (Option S) (SeatView K E)
+  table_after_all s [] = s
+  table_after_all s (step ∷ steps) = table_after_all (table_after s step) steps
 
 module _ {S K E : Type 0} (tag_of : E → ℕ) (key : S → K) (entries : S → List E) (fits : S → Type 0) where
   -- each step of the list is one that may be taken when its turn comes
   abbrev pub MayAll : State (Option S) (SeatView K E) → List (Step S K E) → Type 0
   MayAll s [] = Unit {0}
-  MayAll s (step ∷ steps) = May tag_of key entries fits s step × MayAll (after tag_of entries s step) steps
+  MayAll s (step ∷ steps) = May tag_of key entries fits s step × MayAll (table_after tag_of entries s step) steps
 
   -- the table at the opening: the word 0, a state in the slot, and all passes at one seat
   abbrev pub opening_table : S → ℕ → State (Option S) (SeatView K E)
@@ -141,9 +141,9 @@ module _ {S K E : Type 0} (tag_of : E → ℕ) (key : S → K) (entries : S → 
   -- where the rule holds before a step, it holds after it
   abbrev pub StepsKeepTheRule : Type 0
   StepsKeepTheRule = (k : K) (passes : ℕ) (s : State (Option S) (SeatView K E)) (step : Step S K E) →
-      LockRule tag_of key entries fits k passes s → May tag_of key entries fits s step → LockRule tag_of key entries fits k passes (after tag_of entries s step)
+      LockRule tag_of key entries fits k passes s → May tag_of key entries fits s step → LockRule tag_of key entries fits k passes (table_after tag_of entries s step)
 
   -- from an opening with a state that fits, the rule holds after every list of steps
   abbrev pub TheRuleHoldsThroughout : Type 0
   TheRuleHoldsThroughout = (x : S) (passes : ℕ) (steps : List (Step S K E)) → fits x → MayAll (opening_table x passes) steps →
-      LockRule tag_of key entries fits (key x) passes (run tag_of entries (opening_table x passes) steps)
+      LockRule tag_of key entries fits (key x) passes (table_after_all tag_of entries (opening_table x passes) steps)

@@ -3,7 +3,7 @@
 ghost use Rattle.std.specs.Prelude.{◌≡◌, ◌<◌, ◌≤◌, ◌∷◌, ◌++◌, [], List, ℕ, true, false, Some, None, IfOk, IfErr, IfSome};
 ghost use mathlib.Core.List.{IsPrefix};
 ghost use Rattle.own_lock.specs.Entries.{tagged, AddsOnly};
-ghost use Rattle.own_lock.specs.Passes.{IsOf, AreFresh, AreIdle, holding, idle_again, RuleHolds};
+ghost use Rattle.own_lock.specs.Passes.{IsOf, AreFresh, AreIdle, pass_after_take, pass_after_give, RuleHolds};
 
 use crate::held::Held;
 use crate::kept::Kept;
@@ -85,7 +85,7 @@ impl<S: Kept> OwnLock<S> {
     pub fn take<R: Wait>(&self, rt: &R, pass: &mut Pass<S>) -> Held<S>
         requires of { IsOf self.now pass.old }
         requires idle { pass.old.holds ≡ false }
-        ensures taken { pass.new ≡ holding pass.old (S.entries result) }
+        ensures taken { pass.new ≡ pass_after_take pass.old (S.entries result) }
         ensures begins { IsPrefix pass.old.seen (S.entries result) }
         ensures mine { tagged S.tag_of pass.old.tag (S.entries result) ≡ pass.old.mine }
         ensures fits { S.fits result }
@@ -107,7 +107,7 @@ impl<S: Kept> OwnLock<S> {
     pub fn try_take(&self, pass: &mut Pass<S>) -> Result<Held<S>, Busy>
         requires of { IsOf self.now pass.old }
         requires idle { pass.old.holds ≡ false }
-        ensures taken { IfOk result (λ held. pass.new ≡ holding pass.old (S.entries held)) }
+        ensures taken { IfOk result (λ held. pass.new ≡ pass_after_take pass.old (S.entries held)) }
         ensures begins { IfOk result (λ held. IsPrefix pass.old.seen (S.entries held)) }
         ensures mine { IfOk result (λ held. tagged S.tag_of pass.old.tag (S.entries held) ≡ pass.old.mine) }
         ensures fits { IfOk result (λ held. S.fits held) }
@@ -146,7 +146,7 @@ impl<S: Kept> OwnLock<S> {
         requires fits { S.fits held }
         requires key { S.key held ≡ self.now.key }
         requires adds { AddsOnly S.tag_of pass.old.tag pass.old.seen (S.entries held) }
-        ensures given { pass.new ≡ idle_again S.tag_of pass.old (S.entries held) }
+        ensures given { pass.new ≡ pass_after_give S.tag_of pass.old (S.entries held) }
         ensures mine { (added : List S.Entry) → pass.old.seen ++ added ≡ S.entries held → pass.new.mine ≡ pass.old.mine ++ added }
     {
         let state = held.into_state();

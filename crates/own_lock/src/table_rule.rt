@@ -1,7 +1,7 @@
 //! The rule of the lock's table, and what each of its steps tells.
 
 ghost use Rattle.own_lock.specs.Rule.{LockRule};
-ghost use Rattle.own_lock.specs.Steps.{opening_view, without_first, first_alone, joined, spent};
+ghost use Rattle.own_lock.specs.Steps.{opening_view, without_first, first_alone, joined_view, spent_view};
 ghost use Rattle.own_lock.specs.refinement.Plays.{Tried, GaveBack, Told, Looked};
 
 use crate::kept::Kept;
@@ -33,9 +33,9 @@ impl<K, E> Split<SeatView<K, E>> for Deal {
 pub(crate) struct Together;
 
 impl<K, E> Join<SeatView<K, E>> for Together {
-    ghost both = { joined };
+    ghost both = { joined_view };
 
-    ghost spent = { spent };
+    ghost spent = { spent_view };
 }
 
 /// The word is set where it was 0.

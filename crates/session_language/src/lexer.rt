@@ -1,8 +1,12 @@
 //! Words and symbols of a line.
 
-ghost use Rattle.std.specs.Prelude.{◌≡◌, ◌∷◌, [], ◌≤◌, ◌<◌, length, MatchOption, OnSome, false};
+ghost use Rattle.std.specs.Prelude.{◌≡◌, ◌∷◌, [], ◌≤◌, ◌<◌, length, MatchOption, OnSome, false, true};
 ghost use Rattle.office_map.specs.Text.{is_name_byte};
-ghost use Rattle.session_language.specs.Lexer.{seen, Begins, one_byte, two_bytes, long_symbol, piece_at, pieces_of, word_len, begins_equals};
+ghost use Rattle.session_language.specs.Lexer.{seen, Begins, one_byte, two_bytes, long_symbol, piece_at, pieces_of, word_len, begins_equals, AWord};
+ghost use Rattle.session_language.specs.Phrase.{run, Tells, IsShorter};
+
+use crate::token::{Next, Operand, Token, expression_symbol, is_read, operand_in};
+use office_map::text::name;
 
 #[derive(Clone, Copy, Debug, PartialEq, Eq)]
 pub enum Symbol {
@@ -64,6 +68,50 @@ impl<'a> Pieces<'a> {
             }
         }
         None
+    }
+
+    /// The next token of an expression, or where it stops.
+    pub fn next_token(&mut self) -> Next<'a>
+        ensures gives { Tells result (run false (pieces_of self.old.rest.now)) (pieces_of self.new.rest.now) }
+        ensures shorter { IsShorter result (length self.old.rest.now) (length self.new.rest.now) }
+    {
+        match self.next() {
+            None => Next::Stop(None),
+            Some(Piece::Word(word)) => self.after_word(word),
+            Some(Piece::Symbol(symbol)) => match expression_symbol(symbol) {
+                Some(token) => Next::Token(token),
+                None => Next::Stop(Some(Piece::Symbol(symbol))),
+            },
+            Some(Piece::Stray) => Next::Stop(Some(Piece::Stray)),
+        }
+    }
+
+    /// The token that a word begins.
+    fn after_word(&mut self, word: &'a [u8]) -> Next<'a>
+        ensures gives { Tells result (run false (AWord word.entry.now ∷ pieces_of self.old.rest.now)) (pieces_of self.new.rest.now) }
+        ensures shorter { length self.new.rest.now ≤ length self.old.rest.now }
+    {
+        if is_read(word) {
+            return self.after_read();
+        }
+        match operand_in(word) {
+            Some(operand) => Next::Token(Token::Leaf(operand)),
+            None => Next::Stop(Some(Piece::Word(word))),
+        }
+    }
+
+    /// The record whose name must come after `read`.
+    fn after_read(&mut self) -> Next<'a>
+        ensures gives { Tells result (run true (pieces_of self.old.rest.now)) (pieces_of self.new.rest.now) }
+        ensures shorter { length self.new.rest.now ≤ length self.old.rest.now }
+    {
+        let Some(Piece::Word(word)) = self.next() else {
+            return Next::Wrong;
+        };
+        match name(word) {
+            Some(name) => Next::Token(Token::Leaf(Operand::Record(name))),
+            None => Next::Wrong,
+        }
     }
 }
 

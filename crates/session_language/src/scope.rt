@@ -3,6 +3,12 @@
 ghost use Rattle.std.specs.Prelude.{◌≢◌, AllPairs, map};
 ghost use Rattle.std.specs.String.{string_bytes};
 
+use crate::builder::Element;
+use crate::guesses::Guesses;
+use crate::names::{Placed, known, known_node};
+use crate::node::Node;
+use crate::token::{Operand, Token};
+use bottle_values::Value;
 use office_map::{OfficeId, Plan, RecordId};
 
 /// The plan, the session's office, and the variables that earlier lines name.
@@ -12,4 +18,73 @@ pub struct Scope<'a> {
     pub office: OfficeId,
     pub variables: &'a [String],
     ghost distinct: { AllPairs (λ a b. a ≢ b) (map string_bytes variables.now) },
+}
+
+impl Scope<'_> {
+    ghost use Rattle.std.specs.Prelude.{◌≡◌, ◌≤◌, length};
+    ghost use Rattle.session_language.specs.Names.{scope_of, variable_named, record_of, placed_of};
+    ghost use Rattle.session_language.specs.Phrase.{leaf_of, token_of};
+    ghost use Rattle.session_language.specs.Spelling.{Leaf};
+
+    /// The place of a variable.
+    pub fn variable_named(&self, guesses: &mut Guesses, name: &str) -> Option<usize>
+        requires { length self.now.variables.now ≤ 255 }
+        ensures { result ≡ variable_named (scope_of self.now) name.now }
+    {
+        guesses.find(self.variables, name)
+    }
+
+    /// The record of this name, if it is of the session's office.
+    pub fn record_of(&self, name: &str) -> Option<RecordId>
+        ensures { result ≡ record_of (scope_of self.now) name.now }
+    {
+        let record = self.plan.record_named(name)?;
+        if self.plan.has_end(record, self.office) {
+            Some(record)
+        } else {
+            None
+        }
+    }
+
+    /// A token with its names in their places. An unknown name is at place 0.
+    pub fn element(&self, guesses: &mut Guesses, token: Token<'_>) -> Placed
+        requires { length self.now.variables.now ≤ 255 }
+        ensures { result ≡ placed_of (scope_of self.now) (token_of token.entry) }
+    {
+        match token {
+            Token::Leaf(operand) => self.place(guesses, operand),
+            Token::Plus => known(Element::Plus),
+            Token::Minus => known(Element::Minus),
+            Token::Times => known(Element::Times),
+            Token::Open => known(Element::Open),
+            Token::Close => known(Element::Close),
+        }
+    }
+
+    fn place(&self, guesses: &mut Guesses, operand: Operand<'_>) -> Placed
+        requires { length self.now.variables.now ≤ 255 }
+        ensures { result ≡ placed_of (scope_of self.now) (Leaf (leaf_of operand.entry)) }
+    {
+        match operand {
+            Operand::Number(n) => known_node(Node::Literal(Value {
+                number: n.value as i64,
+            })),
+            Operand::Variable(name) => match self.variable_named(guesses, name) {
+                Some(place) => known_node(Node::Variable(place as u8)),
+                None => Placed {
+                    element: Element::Operand(Node::Variable(0)),
+                    knows_variable: false,
+                    knows_record: true,
+                },
+            },
+            Operand::Record(name) => match self.record_of(name) {
+                Some(record) => known_node(Node::Read(record)),
+                None => Placed {
+                    element: Element::Operand(Node::Read(RecordId::new(0))),
+                    knows_variable: true,
+                    knows_record: false,
+                },
+            },
+        }
+    }
 }

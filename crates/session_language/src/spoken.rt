@@ -93,7 +93,9 @@ impl Builder {
             Keyword::Set => self.speak_set(alloc, scope, pieces),
             Keyword::Give => self.speak_give(alloc, scope, pieces),
             Keyword::Require => self.speak_require(alloc, scope, pieces),
-            Keyword::Session | Keyword::End | Keyword::Other => Err(Stop::Refused(SessionRule::Syntax)),
+            Keyword::Session | Keyword::End | Keyword::Other => Err(Stop::Refused(
+                SessionRule::Syntax,
+            )),
         }
     }
 

@@ -93,7 +93,10 @@ static RULES: [(SessionRule, &str); 8] = [
     (SessionRule::TooLong, "line 3: S5 TooLong: "),
     (SessionRule::TooManyRecords, "line 3: S6 TooManyRecords: "),
     (SessionRule::TooManyGives, "line 3: S7 TooManyGives: "),
-    (SessionRule::TooManyVariables, "line 3: S8 TooManyVariables: "),
+    (
+        SessionRule::TooManyVariables,
+        "line 3: S8 TooManyVariables: ",
+    ),
 ];
 
 #[test]
