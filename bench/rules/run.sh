@@ -7,7 +7,7 @@
 set -eu
 here=$(cd "$(dirname "$0")" && pwd)
 top=$here/../..
-uses="drinking_core dining_core office_map"
+uses="drinking_core dining_core office_map bottle_values"
 . "$top/bench/shared/crate.sh"
 none=$(instructions 10000 none)
 for rule in hungry ask_fork give_fork eat leave start ask_bottle give_bottle drink finish; do
