@@ -1,6 +1,6 @@
 //! What all texts share: lines, words, names and numbers.
 
-ghost use Rattle.std.specs.Prelude.{◌≡◌, ◌∷◌, ◌<◌, length, map, IfOk, not, ◌&&◌, true, ◌≤◌, ◌==◌};
+ghost use Rattle.std.specs.Prelude.{◌≡◌, ◌∷◌, [], ◌<◌, length, map, IfOk, not, ◌&&◌, true, ◌≤◌, ◌==◌};
 ghost use Rattle.std.specs.Option.{option_copied};
 ghost use Rattle.std.specs.Str.Lines.{strip_carriage_return};
 ghost use Rattle.std.specs.List.{list_all, position_or_len};
@@ -62,12 +62,25 @@ pub fn is_plain(line: &[u8]) -> bool
 pub fn number(word: &[u8]) -> Option<u64>
     ensures { result ≡ number_of word.now }
 {
+    if let [digit] = word {
+        return one_digit(*digit);
+    }
     if word.is_empty() || word.len() > 19 || !has_only_digits(word) {
         return None;
     }
     let value = digits(word);
     if value < 9_223_372_036_854_775_808 {
         Some(value)
+    } else {
+        None
+    }
+}
+
+fn one_digit(digit: u8) -> Option<u64>
+    ensures { result ≡ number_of (digit ∷ []) }
+{
+    if digit.is_ascii_digit() {
+        Some((digit - b'0') as u64)
     } else {
         None
     }
