@@ -11,6 +11,7 @@ pub mod AcceptedPlans
 pub mod ConsistencyKept
 pub mod LeastFirstOrders
 pub mod Rings
+pub mod OrderOrRing
 pub mod RecordCountsKept
 pub mod RecordEnds
 pub mod RefusedLines

@@ -5,5 +5,6 @@ pub mod PlanValue
 pub mod PlanText
 pub mod Precedence
 pub mod Consistency
+pub mod OrderOrRing
 pub mod refinement
 pub mod RefusedLines

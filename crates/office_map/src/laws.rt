@@ -4,6 +4,7 @@ ghost use Rattle.office_map.specs.PlanText.{ReadsInOrder};
 ghost use Rattle.office_map.specs.Consistency.{ReadsCompletePlans};
 ghost use Rattle.office_map.specs.RefusedLines.{RefusesALine};
 ghost use Rattle.office_map.specs.Precedence.{AnOrderHasNoRing, OneOrderIsLeastFirst};
+ghost use Rattle.office_map.specs.OrderOrRing.{AnOrderOrARing};
 
 /// Reading accepts all lines, one after the other, or stops at the first that is refused.
 pub fn reads_in_order()
@@ -25,6 +26,11 @@ pub fn refuses_a_line()
 /// Offices in an order hold no ring.
 pub fn an_order_has_no_ring()
     ensures { AnOrderHasNoRing }
+{}
+
+/// A consistent plan has an order or a ring.
+pub fn an_order_or_a_ring()
+    ensures { AnOrderOrARing }
 {}
 
 /// No two orders are least first.
