@@ -1,5 +1,5 @@
 -- The limits of texts of sessions.
-use Rattle.std.specs.Prelude.{ℕ}
+use Rattle.std.specs.Prelude.{ℕ, suc}
 
 -- bytes of a text, and sessions in it
 abbrev pub most_text : ℕ
@@ -36,3 +36,10 @@ most_depth = 32
 -- codes of a `require` are below this
 abbrev pub codes_end : ℕ
 codes_end = 65536
+
+-- one past the most bytes and the greatest depth: as far as sizes and depths are counted
+abbrev pub past_bytes : ℕ
+past_bytes = suc most_bytes
+
+abbrev pub past_depth : ℕ
+past_depth = suc most_depth

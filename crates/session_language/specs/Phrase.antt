@@ -12,7 +12,7 @@ use Rattle.session_language.specs.declared.token.Token.TheVariants as tokens
 use Rattle.session_language.specs.declared.token.Next.{Next}
 use Rattle.session_language.specs.declared.token.Next.TheVariants as nexts
 use Rattle.session_language.specs.declared.node.Node.{Node}
-use Rattle.session_language.specs.declared.phrase.Summary.{Summary}
+use Rattle.session_language.specs.declared.summary.Summary.{Summary}
 use Rattle.session_language.specs.Lexer.{Piece, AWord, ASymbol, AStray, seen}
 use Rattle.session_language.specs.refinement.Postfix.{postfix}
 use Rattle.session_language.specs.Spelling.{Operand, ANumber, AVariable, ARecord, Spelled, Token, Leaf, Plus, Minus, Times, Open, Close}

@@ -7,6 +7,7 @@ ghost use Rattle.session_language.specs.refinement.ResolvedStatements.{seen_spok
 ghost use Rattle.session_language.specs.refinement.ReaderRefinement.{parts, Stops};
 ghost use Rattle.bottle_values.specs.Memory.{UnlessMemory};
 ghost use Rattle.session_language.specs.Reading.{add, place_of, with_variable, variables_after, command_in};
+ghost use Rattle.session_language.specs.Limits.{most_variables, most_records};
 ghost use Rattle.session_language.specs.Needs.{needs_of};
 
 use crate::fault::{SessionRule, Stop};
@@ -26,10 +27,10 @@ pub(crate) fn add_to(
     statements: &mut Vec<Statement>,
     spoken: Spoken<'_>,
 ) -> Result<(), Stop>
-    requires few { vec_len variables.old ≤ 32 }
+    requires few { vec_len variables.old ≤ most_variables }
     requires needed { needs.old.items ≡ needs_of (block_of statements.old.items) }
     ensures told { (office : ℕ) → UnlessMemory (λ _. parts office (map string_bytes variables.new.items) (map command_of statements.new.items)) Stops result (add (parts office (map string_bytes variables.old.items) (map command_of statements.old.items)) (seen_spoken spoken.entry)) }
-    ensures limits { OnOk result ((vec_len variables.new ≤ 32) × (vec_len needs.new ≤ 16)) }
+    ensures limits { OnOk result ((vec_len variables.new ≤ most_variables) × (vec_len needs.new ≤ most_records)) }
     ensures needed { OnOk result (needs.new.items ≡ needs_of (block_of statements.new.items)) }
     ensures variables { OnOk result (map string_bytes variables.new.items ≡ variables_after (map string_bytes variables.old.items) (seen_spoken spoken.entry)) }
     ensures statements { OnOk result (map command_of statements.new.items ≡ map command_of statements.old.items ++ command_in (map string_bytes variables.new.items) (seen_spoken spoken.entry) ∷ []) }
@@ -52,7 +53,7 @@ fn place(
     variables: &mut Vec<String>,
     spoken: Spoken<'_>,
 ) -> Result<Statement, AllocError>
-    requires { vec_len variables.old ≤ 32 }
+    requires { vec_len variables.old ≤ most_variables }
     ensures statement { IfOk result (λ s. command_of s ≡ command_in (map string_bytes variables.new.items) (seen_spoken spoken.entry)) }
     ensures variables { OnOk result (map string_bytes variables.new.items ≡ variables_after (map string_bytes variables.old.items) (seen_spoken spoken.entry)) }
 {
@@ -66,7 +67,7 @@ fn place(
 
 /// The place of a variable, which is put at the end where it was not there.
 fn place_of(alloc: Global, variables: &mut Vec<String>, name: &str) -> Result<u8, AllocError>
-    requires { vec_len variables.old ≤ 32 }
+    requires { vec_len variables.old ≤ most_variables }
     ensures place { IfOk result (λ k. k ≡ place_of name.now (map string_bytes variables.new.items)) }
     ensures variables { OnOk result (map string_bytes variables.new.items ≡ with_variable name.now (map string_bytes variables.old.items)) }
 {

@@ -1,10 +1,21 @@
-//! An expression in postfix order, built from its tokens in one pass.
+//! An expression in postfix order, built from the tokens of a line in one pass.
 
-ghost use Rattle.std.specs.Prelude.{◌≡◌, ◌+◌, ◌<◌, ◌≤◌, ◌^◌, ◌++◌, ◌∷◌, [], IfOk, OnOk, min, max, suc, replicate, if◌then◌else◌, Some};
-ghost use Rattle.session_language.specs.refinement.PostfixBuilder.{build_of, emit, emit_wanting, emit_having, after_sign, joined_depth, sum_depth, sum_end, completed, HasRoom};
+ghost use Rattle.std.specs.Prelude.{◌≡◌, ◌+◌, ◌<◌, ◌≤◌, ◌^◌, ◌++◌, ◌∷◌, ◌&&◌, [], IfOk, OnOk, min, max, suc, length, option_map, replicate, if◌then◌else◌, Some};
+ghost use Rattle.session_language.specs.refinement.PostfixBuilder.{build_of, fresh_build, ended, emit, emit_wanting, emit_having, after_sign, joined_depth, sum_depth, sum_end, completed, HasRoom};
+ghost use Rattle.session_language.specs.refinement.Postfix.{IsPostfix, tree_of};
+ghost use Rattle.session_language.specs.Limits.{past_depth};
+ghost use Rattle.session_language.specs.Lexer.{pieces_of};
+ghost use Rattle.session_language.specs.Names.{scope_of};
+ghost use Rattle.session_language.specs.Phrase.{phrase_at, Reads};
 
+use crate::expression::Expression;
 use crate::guesses::Guesses;
+use crate::lexer::{Piece, Pieces};
+use crate::limits::PAST_DEPTH;
 use crate::node::{Node, Operator};
+use crate::scope::Scope;
+use crate::summary::Summary;
+use crate::token::Next;
 use std::alloc::{AllocError, Global};
 
 /// A token whose names are known.
@@ -53,8 +64,82 @@ pub struct Builder {
 }
 
 impl Builder {
+    /// Reads the expression at the front of a line; its nodes stand in `nodes` then. With it comes
+    /// the piece after it. None where there is no expression.
+    pub fn phrase<'a>(
+        &mut self,
+        scope: &Scope<'_>,
+        pieces: &mut Pieces<'a>,
+    ) -> Result<Option<(Summary, Option<Piece<'a>>)>, AllocError>
+        requires { length scope.now.variables.now ≤ 255 }
+        ensures gives { IfOk result (λ o. Reads o (scope_of scope.now) self.new.nodes.items (phrase_at (pieces_of pieces.old.rest.now)) (pieces_of pieces.new.rest.now)) }
+        ensures within { length pieces.new.rest.now ≤ length pieces.old.rest.now }
+    {
+        self.clear();
+        prove!(pieces.rest.len() < usize::MAX);
+        let mut knows_variables = true;
+        let mut knows_records = true;
+        loop {
+            let token = match pieces.next_token() {
+                Next::Token(token) => token,
+                Next::Stop(stop) => {
+                    let Some(depth) = self.finish()? else {
+                        return Ok(None);
+                    };
+                    let summary = Summary {
+                        depth,
+                        knows_variables,
+                        knows_records,
+                    };
+                    return Ok(Some((summary, stop)));
+                }
+                Next::Wrong => return Ok(None),
+            };
+            let placed = scope.element(&mut self.guesses, token);
+            if !self.take(placed.element)? {
+                return Ok(None);
+            }
+            knows_variables = both(knows_variables, placed.knows_variable);
+            knows_records = both(knows_records, placed.knows_record);
+        }
+    }
+
+    fn clear(&mut self)
+        ensures { build_of self.new ≡ fresh_build }
+    {
+        self.outer.clear();
+        self.nodes.clear();
+        self.stage = Stage::Wants(Level {
+            sum: Sum::Nothing,
+            product: None,
+            minuses: 0,
+        });
+    }
+
+    /// The expression ends: how deep it is. None where it may not end.
+    fn finish(&mut self) -> Result<Option<u8>, AllocError>
+        ensures { IfOk result (λ o. ended (build_of self.old) ≡ option_map (λ d. (d, self.new.nodes.items)) o) }
+    {
+        let Stage::Has(sum, depth) = self.stage else {
+            return Ok(None);
+        };
+        if !self.outer.is_empty() {
+            return Ok(None);
+        }
+        push_sum(&mut self.nodes, sum)?;
+        Ok(Some(sum_depth(sum, depth)))
+    }
+
+    /// What was read last, in memory of its own.
+    pub fn expression(&self, alloc: Global) -> Result<Expression, AllocError>
+        requires { IsPostfix self.now.nodes.items }
+        ensures { IfOk result (λ e. e ≡ tree_of self.now.nodes.items) }
+    {
+        Expression::of(alloc, &self.nodes)
+    }
+
     /// Takes one token. False where the grammar has no such token there.
-    pub fn take(&mut self, element: Element) -> Result<bool, AllocError>
+    fn take(&mut self, element: Element) -> Result<bool, AllocError>
         requires { HasRoom self.old.stage }
         ensures { IfOk result (λ ok. emit (build_of self.old) element ≡ (if ok then Some (build_of self.new) else None)) }
     {
@@ -63,9 +148,7 @@ impl Builder {
             Stage::Has(sum, depth) => self.take_having(sum, depth, element),
         }
     }
-}
 
-impl Builder {
     fn take_wanting(&mut self, level: Level, element: Element) -> Result<bool, AllocError>
         requires { level.minuses + 1 < 2 ^ 64 }
         ensures { IfOk result (λ ok. emit_wanting (build_of self.old).outer level (build_of self.old).nodes element ≡ (if ok then Some (build_of self.new) else None)) }
@@ -163,9 +246,13 @@ fn after_sign(sum: Sum) -> Level
 }
 
 fn one_deeper(depth: u8) -> u8
-    ensures { result ≡ min 33 (suc depth) }
+    ensures { result ≡ min past_depth (suc depth) }
 {
-    if depth < 33 { depth + 1 } else { 33 }
+    if depth < PAST_DEPTH {
+        depth + 1
+    } else {
+        PAST_DEPTH
+    }
 }
 
 fn joined_depth(a: u8, b: u8) -> u8
@@ -175,16 +262,16 @@ fn joined_depth(a: u8, b: u8) -> u8
 }
 
 fn negated_depth(minuses: usize, depth: u8) -> u8
-    ensures { result ≡ min 33 (minuses + depth) }
+    ensures { result ≡ min past_depth (minuses + depth) }
 {
-    if minuses < 33 {
-        (minuses as u8 + depth.min(33)).min(33)
+    if minuses < PAST_DEPTH as usize {
+        (minuses as u8 + depth.min(PAST_DEPTH)).min(PAST_DEPTH)
     } else {
-        33
+        PAST_DEPTH
     }
 }
 
-pub(crate) fn sum_depth(sum: Sum, depth: u8) -> u8
+fn sum_depth(sum: Sum, depth: u8) -> u8
     ensures { result ≡ sum_depth sum depth }
 {
     match sum {
@@ -203,7 +290,7 @@ fn push_negations(nodes: &mut Vec<Node>, count: usize) -> Result<(), AllocError>
 }
 
 /// Writes the operator of a sum whose right operand is complete.
-pub(crate) fn push_sum(nodes: &mut Vec<Node>, sum: Sum) -> Result<(), AllocError>
+fn push_sum(nodes: &mut Vec<Node>, sum: Sum) -> Result<(), AllocError>
     ensures { OnOk result (nodes.new.items ≡ nodes.old.items ++ sum_end sum) }
 {
     match sum {
@@ -212,4 +299,10 @@ pub(crate) fn push_sum(nodes: &mut Vec<Node>, sum: Sum) -> Result<(), AllocError
         Sum::Taken(_) => nodes.push(Node::Apply(Operator::Minus))?,
     }
     Ok(())
+}
+
+fn both(a: bool, b: bool) -> bool
+    ensures { result ≡ (a && b) }
+{
+    a && b
 }

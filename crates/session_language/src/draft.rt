@@ -3,6 +3,7 @@
 ghost use Rattle.std.specs.Prelude.{◌≡◌, ◌≤◌, vec_len, map};
 ghost use Rattle.std.specs.String.{string_bytes};
 ghost use Rattle.session_language.specs.refinement.TreeOfStatements.{block_of};
+ghost use Rattle.session_language.specs.Limits.{most_variables, most_records};
 ghost use Rattle.session_language.specs.Needs.{needs_of};
 ghost use Rattle.session_language.specs.WellFormed.{IsDeclared};
 ghost use Rattle.session_language.specs.refinement.UniqueProofs.{declared-prop};
@@ -17,7 +18,7 @@ use crate::measures::{block_cost, block_gives, block_statements};
 use crate::program::Program;
 use crate::scope::Scope;
 use crate::sizes::session_size;
-use crate::spoken::Spoken;
+use crate::spoken::{Spoken, speak};
 use crate::tree::Statement;
 use office_map::{OfficeId, Plan, RecordId};
 use std::alloc::{AllocError, Global};
@@ -30,8 +31,8 @@ pub(crate) struct Draft {
     pub variables: Vec<String>,
     pub needs: Vec<RecordId>,
     pub statements: Vec<Statement>,
-    ghost few: { vec_len variables ≤ 32 },
-    ghost few_needs: { vec_len needs ≤ 16 },
+    ghost few: { vec_len variables ≤ most_variables },
+    ghost few_needs: { vec_len needs ≤ most_records },
     ghost needed: { needs.items ≡ needs_of (block_of statements.items) },
     ghost declared: { IsDeclared (map string_bytes variables.items) (block_of statements.items) } by { declared-prop (map string_bytes variables.items) (block_of statements.items) },
 }
@@ -96,7 +97,7 @@ impl Draft {
             office: self.office,
             variables: &self.variables,
         };
-        let spoken = builder.speak(alloc, &scope, keyword, pieces)?;
+        let spoken = speak(builder, alloc, &scope, keyword, pieces)?;
         self.add(alloc, spoken)
     }
 

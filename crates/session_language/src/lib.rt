@@ -33,7 +33,6 @@ mod needs;
 mod node;
 mod number;
 mod operands;
-mod phrase;
 mod program;
 mod rank;
 mod read;
@@ -41,6 +40,7 @@ mod reader;
 mod scope;
 mod sizes;
 mod spoken;
+mod summary;
 #[cfg(test)]
 mod tests;
 mod text;

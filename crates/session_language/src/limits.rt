@@ -19,6 +19,18 @@ pub(crate) const SHORT_COST: u32 = 681;
 /// The most bytes of a session's text, where each office and record counts as 16.
 pub(crate) const MOST_BYTES: u32 = 16_384;
 
+/// One past that: as far as sizes are counted.
+pub(crate) const PAST_BYTES: u32 = MOST_BYTES + 1;
+
+/// How deep an expression may be.
+pub(crate) const MOST_DEPTH: u8 = 32;
+
+/// One past that: as far as depths are counted.
+pub(crate) const PAST_DEPTH: u8 = MOST_DEPTH + 1;
+
+/// Codes of a `require` are below this.
+pub(crate) const CODES_END: u64 = 65_536;
+
 /// The most records that a session may name.
 pub(crate) const MOST_RECORDS: usize = 16;
 

@@ -51,13 +51,14 @@ impl Model for Program {
 impl Program {
     ghost use Rattle.session_language.specs.refinement.ReaderRefinement.{draft_of};
     ghost use Rattle.session_language.specs.Program.{fits, text_under};
+    ghost use Rattle.session_language.specs.Limits.{most_gives};
     ghost use Rattle.session_language.specs.Measures.{block_gives};
     ghost use Rattle.session_language.specs.Reading.{program_of, is_too_long, sessions_of};
 
     /// The program of a session that is closed.
     pub(crate) fn of(draft: Draft) -> Program
         requires short { is_too_long (program_of (draft_of draft)) ≡ false }
-        requires few_gives { block_gives (program_of (draft_of draft)).body ≤ 64 }
+        requires few_gives { block_gives (program_of (draft_of draft)).body ≤ most_gives }
         ensures { result ≡ program_of (draft_of draft) }
     {
         let Draft {

@@ -1,6 +1,7 @@
 //! Sessions from texts.
 
 ghost use Rattle.std.specs.Prelude.{◌≡◌, ◌<◌, ◌≤◌, ◌+◌, ◌^◌, length, IfOk, IsTrue, All};
+ghost use Rattle.session_language.specs.Limits.{most_text, most_sessions};
 ghost use Rattle.session_language.specs.Program.{fits};
 ghost use Rattle.office_map.specs.Text.{lines, statements_from};
 ghost use Rattle.session_language.specs.Reading.{sessions_of, read_lines, at_line, take_line};
@@ -82,9 +83,9 @@ fn refused(rule: SessionRule, line: u64) -> LangFault
 
 /// How many lines a text has.
 fn count_of_lines(text: &[u8]) -> u64
-    requires { length text.now ≤ 1048576 }
+    requires { length text.now ≤ most_text }
     ensures value { result ≡ length (lines text.now) }
-    ensures few { result ≤ 1048576 }
+    ensures few { result ≤ most_text }
 {
     let mut rest = text;
     let mut count = 0;

@@ -5,12 +5,14 @@ ghost use Rattle.std.specs.Prelude.{◌≡◌, ◌≤◌, ◌++◌, ◌∷◌, [
 ghost use Rattle.std.specs.String.{string_bytes};
 ghost use Rattle.std.specs.Fmt.{decimal};
 ghost use Rattle.session_language.specs.refinement.TreeOfStatements.{test_of, command_of, block_of};
+ghost use Rattle.session_language.specs.Limits.{past_bytes};
 ghost use Rattle.session_language.specs.Tree.{Term, Bin};
 ghost use Rattle.session_language.specs.refinement.Postfix.{push_node, push_nodes};
 ghost use Rattle.session_language.specs.Text.{Words, wide_words, variable_name, rank_of, term_text, test_text, command_text, block_text, session_text};
 ghost use Rattle.session_language.specs.refinement.TextSizes.{ranks_of, bytes_of, around_factor, around_product, around_both};
 
 use crate::expression::Expression;
+use crate::limits::PAST_BYTES;
 use crate::listing::comparison_text;
 use crate::node::{Node, Operator};
 use crate::rank::Rank;
@@ -18,16 +20,13 @@ use crate::text::magnitude;
 use crate::tree::{Condition, Statement};
 use std::alloc::{AllocError, Global};
 
-/// One past the most bytes of a session's text.
-const PAST: u32 = 16_385;
-
 /// The size of a session.
 pub fn session_size(
     alloc: Global,
     variables: &[String],
     statements: &[Statement],
 ) -> Result<u32, AllocError>
-    ensures { IfOk result (λ n. n ≡ min 16385 (length (session_text (wide_words (map string_bytes variables.now)) (block_of statements.now)))) }
+    ensures { IfOk result (λ n. n ≡ min past_bytes (length (session_text (wide_words (map string_bytes variables.now)) (block_of statements.now)))) }
 {
     let mut ranks = Vec::new(alloc);
     Ok(sum(29, block_size(&mut ranks, variables, statements)?))
@@ -39,7 +38,7 @@ fn block_size(
     variables: &[String],
     statements: &[Statement],
 ) -> Result<u32, AllocError>
-    ensures { IfOk result (λ n. n ≡ min 16385 (length (block_text (wide_words (map string_bytes variables.now)) (block_of statements.now)))) }
+    ensures { IfOk result (λ n. n ≡ min past_bytes (length (block_text (wide_words (map string_bytes variables.now)) (block_of statements.now)))) }
 {
     let mut size = 0;
     for statement in statements {
@@ -55,7 +54,7 @@ fn statement_size(
     variables: &[String],
     statement: &Statement,
 ) -> Result<u32, AllocError>
-    ensures { IfOk result (λ n. n ≡ min 16385 (length (command_text (wide_words (map string_bytes variables.now)) (command_of statement.now)))) }
+    ensures { IfOk result (λ n. n ≡ min past_bytes (length (command_text (wide_words (map string_bytes variables.now)) (command_of statement.now)))) }
 {
     match statement {
         Statement::Let(place, e) => {
@@ -91,7 +90,7 @@ fn condition_size(
     variables: &[String],
     c: &Condition,
 ) -> Result<u32, AllocError>
-    ensures { IfOk result (λ n. n ≡ min 16385 (length (test_text (wide_words (map string_bytes variables.now)) (test_of c.now)))) }
+    ensures { IfOk result (λ n. n ≡ min past_bytes (length (test_text (wide_words (map string_bytes variables.now)) (test_of c.now)))) }
 {
     let left = expression_size(ranks, variables, &c.left)?;
     let right = expression_size(ranks, variables, &c.right)?;
@@ -105,7 +104,7 @@ fn expression_size(
     variables: &[String],
     e: &Expression,
 ) -> Result<u32, AllocError>
-    ensures { IfOk result (λ n. n ≡ min 16385 (length (term_text (wide_words (map string_bytes variables.now)) e.now))) }
+    ensures { IfOk result (λ n. n ≡ min past_bytes (length (term_text (wide_words (map string_bytes variables.now)) e.now))) }
 {
     nodes_size(ranks, variables, e.nodes())
 }
@@ -116,7 +115,7 @@ fn nodes_size(
     variables: &[String],
     nodes: &[Node],
 ) -> Result<u32, AllocError>
-    ensures { IfOk result (λ n. n ≡ min 16385 (bytes_of (wide_words (map string_bytes variables.now)) (push_nodes nodes.now []))) }
+    ensures { IfOk result (λ n. n ≡ min past_bytes (bytes_of (wide_words (map string_bytes variables.now)) (push_nodes nodes.now []))) }
 {
     ranks.clear();
     let mut size = 0;
@@ -133,9 +132,9 @@ fn with_node(
     variables: &[String],
     node: Node,
 ) -> Result<u32, AllocError>
-    requires size { size ≤ 16385 }
-    ensures { (st : List Term) → ranks.old.items ≡ ranks_of st → size ≡ min 16385 (bytes_of (wide_words (map string_bytes variables.now)) st) →
-        IfOk result (λ n. (ranks.new.items ≡ ranks_of (push_node node st)) × (n ≡ min 16385 (bytes_of (wide_words (map string_bytes variables.now)) (push_node node st)))) }
+    requires size { size ≤ past_bytes }
+    ensures { (st : List Term) → ranks.old.items ≡ ranks_of st → size ≡ min past_bytes (bytes_of (wide_words (map string_bytes variables.now)) st) →
+        IfOk result (λ n. (ranks.new.items ≡ ranks_of (push_node node st)) × (n ≡ min past_bytes (bytes_of (wide_words (map string_bytes variables.now)) (push_node node st)))) }
 {
     match node {
         Node::Literal(value) => with_leaf(ranks, size, digits(magnitude(value))),
@@ -147,18 +146,18 @@ fn with_node(
 }
 
 fn with_leaf(ranks: &mut Vec<Rank>, size: u32, bytes: u32) -> Result<u32, AllocError>
-    requires size { size ≤ 16385 }
-    requires bytes { bytes ≤ 16385 }
-    ensures { IfOk result (λ n. (ranks.new.items ≡ ranks.old.items ++ Rank.Factor ∷ []) × (n ≡ min 16385 (size + bytes))) }
+    requires size { size ≤ past_bytes }
+    requires bytes { bytes ≤ past_bytes }
+    ensures { IfOk result (λ n. (ranks.new.items ≡ ranks.old.items ++ Rank.Factor ∷ []) × (n ≡ min past_bytes (size + bytes))) }
 {
     ranks.push(Rank::Factor)?;
     Ok(sum(size, bytes))
 }
 
 fn with_sign(ranks: &mut Vec<Rank>, size: u32) -> Result<u32, AllocError>
-    requires size { size ≤ 16385 }
-    ensures { (w : Words) (st : List Term) → ranks.old.items ≡ ranks_of st → size ≡ min 16385 (bytes_of w st) →
-        IfOk result (λ n. (ranks.new.items ≡ ranks_of (push_node Node.Negate st)) × (n ≡ min 16385 (bytes_of w (push_node Node.Negate st)))) }
+    requires size { size ≤ past_bytes }
+    ensures { (w : Words) (st : List Term) → ranks.old.items ≡ ranks_of st → size ≡ min past_bytes (bytes_of w st) →
+        IfOk result (λ n. (ranks.new.items ≡ ranks_of (push_node Node.Negate st)) × (n ≡ min past_bytes (bytes_of w (push_node Node.Negate st)))) }
 {
     let Some(rank) = ranks.pop() else {
         return Ok(0);
@@ -168,9 +167,9 @@ fn with_sign(ranks: &mut Vec<Rank>, size: u32) -> Result<u32, AllocError>
 }
 
 fn with_operator(ranks: &mut Vec<Rank>, size: u32, operator: Operator) -> Result<u32, AllocError>
-    requires size { size ≤ 16385 }
-    ensures { (w : Words) (st : List Term) → ranks.old.items ≡ ranks_of st → size ≡ min 16385 (bytes_of w st) →
-        IfOk result (λ n. (ranks.new.items ≡ ranks_of (push_node (Node.Apply operator) st)) × (n ≡ min 16385 (bytes_of w (push_node (Node.Apply operator) st)))) }
+    requires size { size ≤ past_bytes }
+    ensures { (w : Words) (st : List Term) → ranks.old.items ≡ ranks_of st → size ≡ min past_bytes (bytes_of w st) →
+        IfOk result (λ n. (ranks.new.items ≡ ranks_of (push_node (Node.Apply operator) st)) × (n ≡ min past_bytes (bytes_of w (push_node (Node.Apply operator) st)))) }
 {
     let Some(right) = ranks.pop() else {
         return Ok(0);
@@ -222,7 +221,7 @@ fn around_product(rank: Rank) -> u32
 
 /// The bytes of a variable's name.
 fn name_size(variables: &[String], place: u8) -> u32
-    ensures { result ≡ min 16385 (length (variable_name (wide_words (map string_bytes variables.now)) place)) }
+    ensures { result ≡ min past_bytes (length (variable_name (wide_words (map string_bytes variables.now)) place)) }
 {
     match variables.get(place as usize) {
         Some(name) => at_most_past(name.as_str().len()),
@@ -231,17 +230,17 @@ fn name_size(variables: &[String], place: u8) -> u32
 }
 
 fn at_most_past(n: usize) -> u32
-    ensures { result ≡ min 16385 n }
+    ensures { result ≡ min past_bytes n }
 {
-    n.min(PAST as usize) as u32
+    n.min(PAST_BYTES as usize) as u32
 }
 
 fn sum(a: u32, b: u32) -> u32
-    requires a { a ≤ 16385 }
-    requires b { b ≤ 16385 }
-    ensures { result ≡ min 16385 (a + b) }
+    requires a { a ≤ past_bytes }
+    requires b { b ≤ past_bytes }
+    ensures { result ≡ min past_bytes (a + b) }
 {
-    (a + b).min(PAST)
+    (a + b).min(PAST_BYTES)
 }
 
 /// How many digits a number has.

@@ -4,7 +4,7 @@ use Rattle.std.proofs.lemmas.List.{append-nil}
 use Rattle.std.specs.List.{list_all}
 use Rattle.session_language.specs.declared.node.Node.{Node}
 use Rattle.session_language.specs.declared.lexer.Piece as code_piece
-use Rattle.session_language.specs.declared.phrase.Summary.{Summary}
+use Rattle.session_language.specs.declared.summary.Summary.{Summary}
 use Rattle.session_language.specs.declared.names.Placed.{Placed}
 use Rattle.session_language.specs.Lexer.{Piece}
 use Rattle.session_language.specs.Spelling.{Token}

@@ -5,7 +5,7 @@ use Rattle.std.specs.Option.{ok_or}
 use Rattle.office_map.specs.PlanText.{◌>>=◌, ◌>>◌, refuse_if}
 use Rattle.session_language.specs.declared.node.Node.{Node}
 use Rattle.session_language.specs.declared.node.Comparison.{Comparison}
-use Rattle.session_language.specs.declared.phrase.Summary.{Summary}
+use Rattle.session_language.specs.declared.summary.Summary.{Summary}
 use Rattle.session_language.specs.declared.fault.SessionRule.{SessionRule}
 use Rattle.session_language.specs.declared.fault.SessionRule.TheVariants.{Syntax, UnknownName, UnknownRecord, TooDeep}
 use Rattle.session_language.specs.Tree.{Term}

@@ -2,7 +2,7 @@ use Rattle.std.proofs.Common.{◌∙◌, sym, ap, rules, Ok}
 use Rattle.session_language.specs.Names.{scope_of}
 use Rattle.session_language.specs.Lexer.{pieces_of}
 use Rattle.session_language.proofs.session_reading.ResolveNames.{demand_spoken}
-use Rattle.session_language.proofs.builder.Builder.speak_require.Goals as goal
+use Rattle.session_language.proofs.spoken.speak_require.Goals as goal
 
 pub returns : goal.returns
 returns c =
