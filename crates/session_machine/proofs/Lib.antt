@@ -1,0 +1,10 @@
+pub mod CodeStands
+pub mod EmittedCodeStands
+pub mod ExpressionDepth
+pub mod RunsMeaning
+pub mod EndsAtLength
+pub mod WorkInPieces
+pub mod ProgramsHaveRoom
+pub mod InstructionCounts
+pub mod RecordLookup
+pub mod WorkPhases

@@ -1,0 +1,7 @@
+pub mod Instructions
+pub mod Emission
+pub mod Session
+pub mod Work
+pub mod EnvironmentOfCode
+pub mod StateOfCode
+pub mod PhaseOfCode

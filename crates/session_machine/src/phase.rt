@@ -1,0 +1,14 @@
+//! What work keeps.
+
+use crate::finished::Finished;
+use crate::state::State;
+use session_language::RecordValues;
+
+/// A session that runs, with what it read, or how it ended. `Moved` stands only while a call is at
+/// work on it.
+#[derive(Drop)]
+pub enum Phase {
+    AtWork(RecordValues, State),
+    Over(Finished),
+    Moved,
+}

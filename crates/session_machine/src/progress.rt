@@ -1,0 +1,8 @@
+//! How far work is.
+
+/// Whether a session's work goes on.
+#[derive(Clone, Copy, Debug, PartialEq, Eq)]
+pub enum Progress {
+    Running,
+    Ended,
+}

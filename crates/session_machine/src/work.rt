@@ -1,0 +1,102 @@
+//! Work on a session, in pieces.
+
+ghost use Rattle.std.specs.Prelude.{◌≡◌, ◌+◌, ◌↔◌, ℕ, List, IfOk, IsSome, Some};
+ghost use Rattle.std.specs.Option.{option_copied};
+ghost use Rattle.bottle_values.specs.declared.Value as bottle;
+ghost use Rattle.session_language.specs.ProgramValue.{ProgramValue};
+ghost use Rattle.session_language.specs.Meaning.{alone};
+ghost use Rattle.session_machine.specs.Room.{HasRoom};
+ghost use Rattle.session_machine.specs.Pieces.{ending_after};
+ghost use Rattle.session_machine.specs.Progress.{progress_by};
+ghost use Rattle.session_machine.specs.refinement.Work.{code_of, begun_on, piece, work_of, ending_in, IsOver};
+
+use crate::code::Code;
+use crate::finished::Finished;
+use crate::machine::{opened, tick_all};
+use crate::phase::Phase;
+use crate::progress::Progress;
+use session_language::{Ending, RecordValues};
+use std::alloc::{AllocError, Global};
+use std::marker::Model;
+use std::mem;
+
+/// Work on a session.
+#[derive(Drop)]
+pub struct Work {
+    phase: Phase,
+}
+
+impl Model for Work {
+    ghost use Rattle.session_machine.specs.refinement.Work.{WorkValue};
+
+    ghost Value = { WorkValue };
+
+    ghost use Rattle.session_machine.specs.refinement.PhaseOfCode.{work_in};
+
+    ghost view = { λ w. work_in w.phase };
+}
+
+impl Work {
+    /// Begins the work on a session with these values of the records that it needs. It takes all
+    /// the memory that the work needs.
+    pub fn begin(alloc: Global, code: &Code, reads: RecordValues) -> Result<Work, AllocError>
+        ensures begun { IfOk result (λ w. w ≡ begun_on code.now reads) }
+        ensures work { (p : ProgramValue) → code.now ≡ code_of p → IfOk result (λ w. w ≡ work_of p reads 0) }
+    {
+        let state = opened(alloc, code, &reads)?;
+        Ok(Work {
+            phase: Phase::AtWork(reads, state),
+        })
+    }
+
+    /// Does n instructions of the code that the work began with, or as many as there are.
+    pub fn step(&mut self, code: &Code, n: u32) -> Progress
+        ensures piece { self.new ≡ piece code.now n self.old }
+        ensures told { result ≡ progress_by (ending_in self.new) }
+        ensures over { (result ≡ Progress.Ended) ↔ IsOver self.new }
+        ensures work { (p : ProgramValue) (reads : List (ℕ × bottle.Value)) (k : ℕ) → code.now ≡ code_of p → self.old ≡ work_of p reads k → self.new ≡ work_of p reads (k + n) }
+        ensures progress { (p : ProgramValue) (reads : List (ℕ × bottle.Value)) (k : ℕ) → HasRoom p → code.now ≡ code_of p → self.old ≡ work_of p reads k → result ≡ progress_by (ending_after p reads (k + n)) }
+    {
+        match mem::replace(&mut self.phase, Phase::Moved) {
+            Phase::AtWork(reads, mut state) => match tick_all(&mut state, code.lines(), n) {
+                None => {
+                    self.phase = Phase::AtWork(reads, state);
+                    Progress::Running
+                }
+                Some(end) => {
+                    self.phase = Phase::Over(Finished::of(end, reads, state.environment));
+                    Progress::Ended
+                }
+            },
+            Phase::Over(finished) => {
+                self.phase = Phase::Over(finished);
+                Progress::Ended
+            }
+            Phase::Moved => Progress::Running,
+        }
+    }
+
+    /// How the session ended, if it has.
+    pub fn ending(&self) -> Option<&Finished>
+        ensures shown { option_copied result ≡ ending_in self.now }
+        ensures ending { (p : ProgramValue) (reads : List (ℕ × bottle.Value)) (k : ℕ) → HasRoom p → self.now ≡ work_of p reads k → option_copied result ≡ ending_after p reads k }
+        ensures over { IsSome result ↔ IsOver self.now }
+    {
+        match &self.phase {
+            Phase::Over(finished) => Some(finished),
+            _ => None,
+        }
+    }
+
+    /// How the session ended, once it has.
+    pub fn into_ending(self, alloc: Global) -> Result<Ending, AllocError>
+        requires { IsOver self }
+        ensures shown { IfOk result (λ e. Some e ≡ ending_in self) }
+        ensures ending { (p : ProgramValue) (reads : List (ℕ × bottle.Value)) (k : ℕ) → HasRoom p → self ≡ work_of p reads k → IfOk result (λ e. e ≡ alone p reads) }
+    {
+        match self.phase {
+            Phase::Over(finished) => finished.copy(alloc),
+            _ => unreachable!(),
+        }
+    }
+}
