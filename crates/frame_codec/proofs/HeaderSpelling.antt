@@ -8,6 +8,7 @@ use Rattle.frame_codec.specs.declared.header.Kind.TheVariants.{Data, Ack}
 use Rattle.frame_codec.specs.Header.{header, header_fault, number_in, count_in}
 use Rattle.frame_codec.specs.refinement.DecodedParts.{code_of, is_numbered_by}
 use Rattle.frame_codec.proofs.BigEndian.{IsBytes, width_4, width_8, front_byte, front_field}
+use Rattle.frame_codec.specs.Limits.{sequence_space}
 
 -- the first four bytes of a header
 pub record Opens (v k : ℕ) (bytes : List ℕ) : Type 0 where
@@ -34,7 +35,7 @@ header_spelled version kind bytes run from to number count fits opens run_is fro
 
 -- what is left to look at behind four right bytes
 header_fault-opened : (version : ℕ) (kind : Kind) (bytes : List ℕ) → Opens version (code_of kind) bytes
-    → header_fault version bytes ≡ cond (not (is_numbered_by kind (number_in bytes))) (Some Number) (cond (leb (2 ^ 48) (count_in bytes)) (Some Count) None)
+    → header_fault version bytes ≡ cond (not (is_numbered_by kind (number_in bytes))) (Some Number) (cond (leb sequence_space (count_in bytes)) (Some Count) None)
 unfolding header_fault
 header_fault-opened version Data bytes opens =
     rw (le-ltb _ _ opens.whole, eq-eqb _ _ opens.d, eq-eqb _ _ opens.p, eq-eqb _ _ opens.version, eq-eqb _ _ opens.kind) refl
@@ -45,22 +46,22 @@ pub header_fault-number : (version : ℕ) (kind : Kind) (bytes : List ℕ) (numb
     → is_numbered_by kind number ≡ false → header_fault version bytes ≡ Some Number
 header_fault-number version kind bytes number opens is e =
     let wrong : is_numbered_by kind (number_in bytes) ≡ false = ap (is_numbered_by kind) (sym is) ∙ e in
-    header_fault-opened version kind bytes opens ∙ ap (λ (b : Bool). cond (not b) (Some Number) (cond (leb (2 ^ 48) (count_in bytes)) (Some Count) None)) wrong
+    header_fault-opened version kind bytes opens ∙ ap (λ (b : Bool). cond (not b) (Some Number) (cond (leb sequence_space (count_in bytes)) (Some Count) None)) wrong
 
 header_fault-numbered : (version : ℕ) (kind : Kind) (bytes : List ℕ) (number : ℕ) → Opens version (code_of kind) bytes → number ≡ number_in bytes
-    → is_numbered_by kind number ≡ true → header_fault version bytes ≡ cond (leb (2 ^ 48) (count_in bytes)) (Some Count) None
+    → is_numbered_by kind number ≡ true → header_fault version bytes ≡ cond (leb sequence_space (count_in bytes)) (Some Count) None
 header_fault-numbered version kind bytes number opens is e =
     let right : is_numbered_by kind (number_in bytes) ≡ true = ap (is_numbered_by kind) (sym is) ∙ e in
-    header_fault-opened version kind bytes opens ∙ ap (λ (b : Bool). cond (not b) (Some Number) (cond (leb (2 ^ 48) (count_in bytes)) (Some Count) None)) right
+    header_fault-opened version kind bytes opens ∙ ap (λ (b : Bool). cond (not b) (Some Number) (cond (leb sequence_space (count_in bytes)) (Some Count) None)) right
 
 pub header_fault-count : (version : ℕ) (kind : Kind) (bytes : List ℕ) (number count : ℕ) → Opens version (code_of kind) bytes → number ≡ number_in bytes
-    → is_numbered_by kind number ≡ true → count ≡ count_in bytes → 2 ^ 48 ≤ count → header_fault version bytes ≡ Some Count
+    → is_numbered_by kind number ≡ true → count ≡ count_in bytes → sequence_space ≤ count → header_fault version bytes ≡ Some Count
 header_fault-count version kind bytes number count opens is e count_is high =
-    let wrong : leb (2 ^ 48) (count_in bytes) ≡ true = ap (leb (2 ^ 48)) (sym count_is) ∙ le-leb _ _ high in
+    let wrong : leb sequence_space (count_in bytes) ≡ true = ap (leb sequence_space) (sym count_is) ∙ le-leb _ _ high in
     header_fault-numbered version kind bytes number opens is e ∙ ap (λ (b : Bool). cond b (Some Count) None) wrong
 
 pub header_fault-none : (version : ℕ) (kind : Kind) (bytes : List ℕ) (number count : ℕ) → Opens version (code_of kind) bytes → number ≡ number_in bytes
-    → is_numbered_by kind number ≡ true → count ≡ count_in bytes → count < 2 ^ 48 → header_fault version bytes ≡ None
+    → is_numbered_by kind number ≡ true → count ≡ count_in bytes → count < sequence_space → header_fault version bytes ≡ None
 header_fault-none version kind bytes number count opens is e count_is low =
-    let right : leb (2 ^ 48) (count_in bytes) ≡ false = ap (leb (2 ^ 48)) (sym count_is) ∙ lt-leb _ _ low in
+    let right : leb sequence_space (count_in bytes) ≡ false = ap (leb sequence_space) (sym count_is) ∙ lt-leb _ _ low in
     header_fault-numbered version kind bytes number opens is e ∙ ap (λ (b : Bool). cond b (Some Count) None) right

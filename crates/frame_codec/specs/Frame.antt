@@ -3,6 +3,7 @@ use Rattle.std.specs.Prelude.{◌≡◌, ℕ, ◌<◌, ◌^◌, Option, Some, No
 use Rattle.bottle_values.specs.Arithmetic.{is_i64}
 use Rattle.frame_codec.specs.declared.message.Msg.{Msg}
 use Rattle.frame_codec.specs.declared.message.Msg.TheVariants.{AskFork, Fork, AskBottle, Bottle}
+use Rattle.frame_codec.specs.Limits.{sequence_space}
 
 -- a frame, field by field; one without a message is an acknowledgement
 pub record Fields : Type 0 where
@@ -16,7 +17,7 @@ pub record Fields : Type 0 where
 -- a message has a number from 1 to 2 ^ 48 - 1, an acknowledgement has 0
 abbrev pub IsNumbered : Option Msg → ℕ → Type 0
 IsNumbered None number = number ≡ 0
-IsNumbered (Some msg) number = (0 < number) × (number < 2 ^ 48)
+IsNumbered (Some msg) number = (0 < number) × (number < sequence_space)
 
 -- a record's number has 16 bits, its value is an i64
 abbrev pub IsMsg : Msg → Type 0
@@ -31,5 +32,5 @@ pub record IsFrame (f : Fields) : Type 0 where
   pub from : f.from < 2 ^ 8
   pub to : f.to < 2 ^ 8
   pub number : IsNumbered f.msg f.number
-  pub count : f.count < 2 ^ 48
+  pub count : f.count < sequence_space
   pub msg : IfSome f.msg IsMsg

@@ -6,6 +6,7 @@ use Rattle.frame_codec.specs.declared.fault.FrameFault.{FrameFault}
 use Rattle.frame_codec.specs.declared.fault.FrameFault.TheVariants.{Short, Magic, Version, Kind, Number, Count, Tag, Length}
 use Rattle.frame_codec.specs.declared.message.Msg.{Msg}
 use Rattle.frame_codec.specs.Frame.{Fields}
+use Rattle.frame_codec.specs.Limits.{sequence_space}
 
 -- the kinds
 abbrev pub data_kind : ℕ
@@ -47,8 +48,8 @@ header_has version bytes Magic = not (slice_index bytes 0 == 0x44 && slice_index
 header_has version bytes Version = not (slice_index bytes 2 == version)
 header_has version bytes Kind = not (is_data bytes || is_ack bytes)
 header_has version bytes Number =
-    not (if is_data bytes then nat_lt 0 (number_in bytes) && nat_lt (number_in bytes) (2 ^ 48) else number_in bytes == 0)
-header_has version bytes Count = nat_le (2 ^ 48) (count_in bytes)
+    not (if is_data bytes then nat_lt 0 (number_in bytes) && nat_lt (number_in bytes) sequence_space else number_in bytes == 0)
+header_has version bytes Count = nat_le sequence_space (count_in bytes)
 header_has version bytes Tag = false
 header_has version bytes Length = false
 

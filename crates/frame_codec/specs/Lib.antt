@@ -1,4 +1,5 @@
 pub mod Frame
 pub mod Header
+pub mod Limits
 pub mod Version01
 pub mod refinement

@@ -2,6 +2,7 @@
 
 ghost use Rattle.std.specs.Prelude.{◌≡◌, ◌<◌, ◌^◌, Some, None};
 ghost use Rattle.frame_codec.specs.Frame.{IsNumbered};
+ghost use Rattle.frame_codec.specs.Limits.{sequence_space};
 
 use crate::message::Msg;
 use std::marker::Model;
@@ -24,12 +25,13 @@ pub struct Frame {
 impl Model for Frame {
     ghost use Rattle.std.specs.Prelude.{◌<◌, ◌^◌};
     ghost use Rattle.frame_codec.specs.Frame.{Fields, IsNumbered};
+    ghost use Rattle.frame_codec.specs.Limits.{sequence_space};
 
     ghost Value = { Fields };
 
     ghost view = { λ f. record { run = f.run; from = f.from; to = f.to; number = f.number; count = f.count; msg = f.msg } };
 
-    ghost invariant = { λ f. IsNumbered f.msg f.number × (f.count < 2 ^ 48) };
+    ghost invariant = { λ f. IsNumbered f.msg f.number × (f.count < sequence_space) };
 
     ghost inverse = { λ f. record { run = f.run; from = f.from; to = f.to; number = f.number; count = f.count; msg = f.msg } };
 }
@@ -38,8 +40,8 @@ impl Frame {
     /// A message with its number, from 1 to `MAX_NUMBER`, and the count of messages taken in order.
     pub fn data(run: u32, from: u8, to: u8, number: u64, count: u64, msg: Msg) -> Frame
         requires positive { 0 < number }
-        requires number { number < 2 ^ 48 }
-        requires count { count < 2 ^ 48 }
+        requires number { number < sequence_space }
+        requires count { count < sequence_space }
         ensures { result ≡ record { run = run; from = from; to = to; number = number; count = count; msg = Some msg } }
     {
         Frame {
@@ -54,7 +56,7 @@ impl Frame {
 
     /// The count of messages taken in order, with no message.
     pub fn ack(run: u32, from: u8, to: u8, count: u64) -> Frame
-        requires { count < 2 ^ 48 }
+        requires { count < sequence_space }
         ensures { result ≡ record { run = run; from = from; to = to; number = 0; count = count; msg = None } }
     {
         Frame {
@@ -99,7 +101,7 @@ impl Frame {
     /// How many messages the sender has taken in order.
     pub fn count(&self) -> u64
         ensures value { result ≡ self.now.count }
-        ensures range { result < 2 ^ 48 }
+        ensures range { result < sequence_space }
     {
         self.count
     }

@@ -1,4 +1,5 @@
 ghost use Rattle.std.specs.Prelude.{◌≡◌, ◌<◌, ◌^◌, Ok};
+ghost use Rattle.frame_codec.specs.Limits.{sequence_space};
 
 use super::*;
 use bottle_values::Value;
@@ -24,7 +25,7 @@ const EIGHT: [u8; 37] =
     *b"\x44\x50\x01\x01\x00\x00\x00\x09\x00\x01\x00\x00\x00\x00\x00\x00\x00\x01\x00\x00\x00\x00\x00\x00\x00\x01\x04\x00\x00\x00\x00\x00\x00\x00\x00\x00\x08";
 
 fn bottle(run: u32, count: u64, record: u16, number: i64) -> Frame
-    requires { count < 2 ^ 48 }
+    requires { count < sequence_space }
 {
     Frame::data(run, 0, 1, 1, count, Msg::Bottle(record, Value { number }))
 }

@@ -7,6 +7,7 @@ use Rattle.token_channel.specs.Things.{same, thing_of, count_carrying, hold}
 use Rattle.token_channel.specs.Places.{holds, shares, waits, changed}
 use Rattle.token_channel.proofs.HeldUpdates.{same_self, same_is, holds-changed, holds-changed_other, shares-changed, holds_shared, length-changed, num_le, count_carrying-push, count_carrying-drop, count_carrying-none}
 use Rattle.bottle_values.specs.Lists.{num}
+use Rattle.window_link.specs.Limits.{most_waiting}
 
 -- in places and waiting messages
 abbrev pub Apart : List SharedThing → List Msg → Type 0
@@ -144,7 +145,7 @@ room places ms t h =
 -- ---- what an end keeps
 
 abbrev pub Kept : List SharedThing → List Msg → Type 0
-Kept places ms = Apart places ms × (length places ≤ 18)
+Kept places ms = Apart places ms × (length places ≤ most_waiting)
 
 -- no breach: the thing is the pair's, and doesn't wait
 pub no_breach : (shared held waiting : Bool) → (not shared || held || waiting) ≡ false → (shared ≡ true) × (waiting ≡ false)
@@ -176,5 +177,5 @@ held-changed places t u b shared =
 pub shared_held : (places : List SharedThing) (t : Thing) → holds places t ≡ true → shares places t ≡ true
 shared_held places t h = by_same _ (shares places t) (λ yes. yes) (λ no. absurd (omega (arith, holds_shared places t, num_true _ h, ap num no)))
 
-pub room_left : (places : List SharedThing) (ms : List Msg) (t : Thing) → Kept places ms → holds places t ≡ true → length ms < 18
+pub room_left : (places : List SharedThing) (ms : List Msg) (t : Thing) → Kept places ms → holds places t ≡ true → length ms < most_waiting
 room_left places ms t k held = omega (arith, room places ms t k.0, k.1, num_true _ held)

@@ -3,11 +3,13 @@
 ghost use Rattle.std.specs.Prelude.{◌≡◌, ◌+◌, ◌*◌, ◌<◌, ◌≤◌, ◌^◌, ◌↔◌, length, IsTrue, IsErr, IfOk, IfErr, OnOk, OnErr, true, false};
 ghost use Rattle.std.specs.Result.{result_err};
 ghost use Rattle.office_map.specs.PlanValue.{are_neighbours, records_between};
-ghost use Rattle.window_link.specs.Windows.{used, greatest};
+ghost use Rattle.window_link.specs.Windows.{used};
 ghost use Rattle.window_link.specs.Links.{frame_of, ack_frame_of, arrival_at};
 ghost use Rattle.token_channel.specs.Things.{thing_of, hold};
 ghost use Rattle.token_channel.specs.Places.{holds, shares};
 ghost use Rattle.token_channel.specs.Channels.{IsApart, opened, sent, channel_fault, after_frame, is_breach, next_of};
+ghost use Rattle.frame_codec.specs.Limits.{sequence_space};
+ghost use Rattle.window_link.specs.Limits.{greatest};
 
 use crate::fault::ChannelFault;
 use crate::places;
@@ -29,12 +31,13 @@ pub struct Channel {
 impl Model for Channel {
     ghost use Rattle.std.specs.Prelude.{◌≤◌, length};
     ghost use Rattle.token_channel.specs.Channels.{ChannelState, IsApart};
+    ghost use Rattle.window_link.specs.Limits.{most_waiting};
 
     ghost Value = { ChannelState };
 
     ghost view = { λ c. record { link = c.link; places = c.places.items } };
 
-    ghost invariant = { λ c. IsApart (record { link = c.link; places = c.places.items }) × (length c.places.items ≤ 18) };
+    ghost invariant = { λ c. IsApart (record { link = c.link; places = c.places.items }) × (length c.places.items ≤ most_waiting) };
 }
 
 impl Channel {
@@ -67,7 +70,7 @@ impl Channel {
     /// How many of the peer's messages were taken, in order.
     pub fn taken(&self) -> u64
         ensures value { result ≡ self.now.link.receiving.taken }
-        ensures range { result < 2 ^ 48 }
+        ensures range { result < sequence_space }
     {
         self.link.taken()
     }
@@ -75,7 +78,7 @@ impl Channel {
     /// How many messages the peer is known to have taken.
     pub fn acked(&self) -> u64
         ensures value { result ≡ self.now.link.sending.acked }
-        ensures range { result < 2 ^ 48 }
+        ensures range { result < sequence_space }
     {
         self.link.acked()
     }

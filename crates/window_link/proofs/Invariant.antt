@@ -11,6 +11,7 @@ use Rattle.window_link.specs.declared.laws.event.LinkEvent.{LinkEvent}
 use Rattle.window_link.specs.declared.laws.event.LinkEvent.TheVariants.{Queue, Make, Ack, Arrive}
 use Rattle.window_link.specs.declared.laws.event.LinkReply.{LinkReply}
 use Rattle.window_link.specs.Streams.{Stream, Pair, IsLawful, waiting, other, with_end, with_stream, nth, can_send, send, post, post_waiting, learned, took, deliver, happens, opening, run_of, StreamsStayLawful}
+use Rattle.window_link.specs.Limits.{most_waiting}
 
 -- ---- lists
 
@@ -108,7 +109,7 @@ sound_with p e s S g h = record {
 sent_more : Stream → Msg → Stream
 sent_more s msg = record { sent = s.sent ++ msg ∷ []; taken = s.taken; acked = s.acked }
 
-lawful_sent : (s : Stream) (msg : Msg) → IsLawful s → length (waiting s) < 18 → IsLawful (sent_more s msg)
+lawful_sent : (s : Stream) (msg : Msg) → IsLawful s → length (waiting s) < most_waiting → IsLawful (sent_more s msg)
 unfolding sent_more
 lawful_sent s msg h room = record {
   ahead = h.ahead ++ msg ∷ [];

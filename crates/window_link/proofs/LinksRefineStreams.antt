@@ -13,12 +13,13 @@ use Rattle.window_link.specs.declared.laws.event.LinkEvent.TheVariants.{Queue, M
 use Rattle.window_link.specs.declared.laws.event.LinkReply.{LinkReply}
 use Rattle.window_link.specs.declared.laws.event.LinkReply.TheVariants.{Idle, Queued, Made, Arrived}
 use Rattle.window_link.specs.declared.fault.LinkFault.TheVariants.{Stranger, AckAhead}
-use Rattle.window_link.specs.Windows.{Sending, greatest}
+use Rattle.window_link.specs.Windows.{Sending}
 use Rattle.window_link.specs.Links.{LinkState, received_from, fault_of, arrival_at, after_arrival}
 use Rattle.window_link.specs.Streams.{Stream, Pair, IsLawful, waiting, other, with_stream, nth, can_send, send, post_waiting, learned, took, deliver, happens}
 use Rattle.window_link.specs.Two.{Ends, at, link_at, ends_of, Accepts}
 use Rattle.window_link.specs.refinement.TwoLinksStep.{with_link, with_sending, queue_step, made, made_of, with_frames, arrive_step, step}
 use Rattle.window_link.proofs.Invariant.{Sound, Honest}
+use Rattle.window_link.specs.Limits.{most_waiting, greatest}
 
 -- ---- parts of a link's state
 
@@ -96,7 +97,7 @@ step_send p e msg S =
     let s = p.stream e in
     let h = S.lawful e in
     ap (λ l. answer (queue_step l msg) (ends_of p) e) (at_is p e)
-    ∙ ap (λ n. answer (cond (nat_lt (length (waiting s)) 18 && nat_lt n greatest) (Queued, with_sending (link_at p e) msg) (Idle, link_at p e)) (ends_of p) e) (used_is s h)
+    ∙ ap (λ n. answer (cond (nat_lt (length (waiting s)) most_waiting && nat_lt n greatest) (Queued, with_sending (link_at p e) msg) (Idle, link_at p e)) (ends_of p) e) (used_is s h)
     ∙ choice (can_send s)
   where
     queued_to : LinkReply × Pair

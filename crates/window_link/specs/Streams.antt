@@ -9,8 +9,8 @@ use Rattle.window_link.specs.declared.laws.event.LinkEvent.{LinkEvent}
 use Rattle.window_link.specs.declared.laws.event.LinkEvent.TheVariants.{Queue, Make, Ack, Arrive}
 use Rattle.window_link.specs.declared.laws.event.LinkReply.{LinkReply}
 use Rattle.window_link.specs.declared.laws.event.LinkReply.TheVariants.{Idle, Queued, Made, Arrived}
-use Rattle.window_link.specs.Windows.{greatest}
 use Rattle.window_link.specs.Links.{brings}
+use Rattle.window_link.specs.Limits.{most_waiting, greatest}
 
 -- What goes one way: the messages that were sent, of which the k-th has the number k; those that
 -- the other end took, in order; and how many the sender knows to be taken.
@@ -28,7 +28,7 @@ pub record IsLawful (s : Stream) : Type 0 where
   pub ahead : List Msg
   pub begins : s.sent ≡ s.taken ++ ahead
   pub acknowledged : s.acked ≤ length s.taken
-  pub few : length (waiting s) ≤ 18
+  pub few : length (waiting s) ≤ most_waiting
 
 -- two ends: the run's number, the offices' numbers, what each end sends, every frame that was made
 pub record Pair : Type 0 where
@@ -61,7 +61,7 @@ nth xs (suc k) = slice_get xs k
 
 -- a message can be sent where there is room and a number for it
 abbrev pub can_send : Stream → Bool
-can_send s = nat_lt (length (waiting s)) 18 && nat_lt (length s.sent) greatest
+can_send s = nat_lt (length (waiting s)) most_waiting && nat_lt (length s.sent) greatest
 
 abbrev pub send : Pair → End → Msg → LinkReply × Pair
 send p e msg =

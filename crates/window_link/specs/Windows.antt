@@ -15,10 +15,6 @@ pub record Sending : Type 0 where
 abbrev pub used : Sending → ℕ
 used s = s.acked + length s.waiting
 
--- the greatest number that there is
-abbrev pub greatest : ℕ
-greatest = 2 ^ 48 - 1
-
 abbrev pub queued : Sending → Msg → Sending
 queued s msg = record { acked = s.acked; waiting = s.waiting ++ msg ∷ [] }
 

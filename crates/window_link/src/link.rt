@@ -2,8 +2,10 @@
 
 ghost use Rattle.std.specs.Prelude.{◌≡◌, ◌<◌, ◌≤◌, ◌^◌, ◌↔◌, length, None, IsTrue, IsErr, IfOk, IfErr, OnOk, OnErr};
 ghost use Rattle.std.specs.Result.{result_err};
-ghost use Rattle.window_link.specs.Windows.{used, greatest, queued};
+ghost use Rattle.window_link.specs.Windows.{used, queued};
 ghost use Rattle.window_link.specs.Links.{resumed, frame_of, ack_frame_of, fault_of, arrival_at, after_arrival};
+ghost use Rattle.frame_codec.specs.Limits.{sequence_space};
+ghost use Rattle.window_link.specs.Limits.{greatest};
 
 use crate::arrival::Arrival;
 use crate::fault::LinkFault;
@@ -42,8 +44,8 @@ impl Link {
     /// A link whose numbers up to `sent` were used, and which has taken the messages up to `taken`.
     /// Nothing waits.
     pub fn resume(run: u32, me: u8, peer: u8, sent: u64, taken: u64) -> Link
-        requires sent { sent < 2 ^ 48 }
-        requires taken { taken < 2 ^ 48 }
+        requires sent { sent < sequence_space }
+        requires taken { taken < sequence_space }
         ensures { result ≡ resumed run me peer sent taken }
     {
         Link {
@@ -65,7 +67,7 @@ impl Link {
     /// How many of the peer's messages were taken, in order.
     pub fn taken(&self) -> u64
         ensures value { result ≡ self.now.receiving.taken }
-        ensures range { result < 2 ^ 48 }
+        ensures range { result < sequence_space }
     {
         self.receiving.taken()
     }
@@ -73,7 +75,7 @@ impl Link {
     /// How many messages the peer is known to have taken.
     pub fn acked(&self) -> u64
         ensures value { result ≡ self.now.sending.acked }
-        ensures range { result < 2 ^ 48 }
+        ensures range { result < sequence_space }
     {
         self.sending.acked()
     }
@@ -82,7 +84,7 @@ impl Link {
     pub fn waiting(&self) -> &[Msg]
         ensures value { result.now ≡ self.now.sending.waiting }
         ensures few { length result.now ≤ MAX_WAITING }
-        ensures range { used self.now.sending < 2 ^ 48 }
+        ensures range { used self.now.sending < sequence_space }
     {
         self.sending.waiting()
     }

@@ -1,7 +1,9 @@
 //! The messages of an end that its peer isn't known to have taken.
 
 ghost use Rattle.std.specs.Prelude.{◌≡◌, ◌≤◌, ◌<◌, ◌^◌, ◌↔◌, [], length, IsTrue, IsErr, IfErr, OnOk, OnErr};
-ghost use Rattle.window_link.specs.Windows.{used, greatest, queued, acknowledged};
+ghost use Rattle.window_link.specs.Windows.{used, queued, acknowledged};
+ghost use Rattle.frame_codec.specs.Limits.{sequence_space};
+ghost use Rattle.window_link.specs.Limits.{greatest};
 
 use crate::fault::LinkFault;
 use arrayvec::ArrayVec;
@@ -21,18 +23,20 @@ pub struct SendWindow {
 impl Model for SendWindow {
     ghost use Rattle.std.specs.Prelude.{◌+◌, ◌<◌, ◌≤◌, ◌^◌, length};
     ghost use Rattle.window_link.specs.Windows.{Sending};
+    ghost use Rattle.frame_codec.specs.Limits.{sequence_space};
+    ghost use Rattle.window_link.specs.Limits.{most_waiting};
 
     ghost Value = { Sending };
 
     ghost view = { λ w. record { acked = w.acked; waiting = w.waiting.items } };
 
-    ghost invariant = { λ w. (length w.waiting.items ≤ 18) × (w.acked + length w.waiting.items < 2 ^ 48) };
+    ghost invariant = { λ w. (length w.waiting.items ≤ most_waiting) × (w.acked + length w.waiting.items < sequence_space) };
 }
 
 impl SendWindow {
     /// The numbers up to `sent` were used, and nothing waits.
     pub fn after(sent: u64) -> SendWindow
-        requires { sent < 2 ^ 48 }
+        requires { sent < sequence_space }
         ensures { result ≡ record { acked = sent; waiting = [] } }
     {
         SendWindow {
@@ -49,7 +53,7 @@ impl SendWindow {
 
     pub fn acked(&self) -> u64
         ensures value { result ≡ self.now.acked }
-        ensures range { result < 2 ^ 48 }
+        ensures range { result < sequence_space }
     {
         self.acked
     }
@@ -57,7 +61,7 @@ impl SendWindow {
     pub fn waiting(&self) -> &[Msg]
         ensures value { result.now ≡ self.now.waiting }
         ensures few { length result.now ≤ MAX_WAITING }
-        ensures range { used self.now < 2 ^ 48 }
+        ensures range { used self.now < sequence_space }
     {
         &self.waiting
     }
@@ -65,7 +69,7 @@ impl SendWindow {
     /// The last number that was used.
     pub fn last_number(&self) -> u64
         ensures value { result ≡ used self.now }
-        ensures range { result < 2 ^ 48 }
+        ensures range { result < sequence_space }
     {
         self.acked + self.waiting.len() as u64
     }

@@ -8,6 +8,7 @@ use Rattle.frame_codec.specs.declared.fault.FrameFault.TheVariants.{Tag, Length}
 use Rattle.frame_codec.specs.Frame.{Fields}
 use Rattle.frame_codec.specs.Header.{data_kind, ack_kind, header}
 use Rattle.frame_codec.specs.Version01.{length_by_tag}
+use Rattle.frame_codec.specs.Limits.{sequence_space}
 
 abbrev pub code_of : Kind → ℕ
 code_of Data = data_kind
@@ -20,7 +21,7 @@ fields_of h =
 
 -- whether a frame of that kind may have the number
 abbrev pub is_numbered_by : Kind → ℕ → Bool
-is_numbered_by Data number = nat_lt 0 number && nat_lt number (2 ^ 48)
+is_numbered_by Data number = nat_lt 0 number && nat_lt number sequence_space
 is_numbered_by Ack number = number == 0
 
 -- the bytes begin with this header of that version, and its fields are in range
@@ -31,7 +32,7 @@ pub record BeginsWith (version : ℕ) (bytes : List ℕ) (h : Header) : Type 0 w
   pub from : h.from < 2 ^ 8
   pub to : h.to < 2 ^ 8
   pub number : IsTrue (is_numbered_by h.kind h.number)
-  pub count : h.count < 2 ^ 48
+  pub count : h.count < sequence_space
 
 -- the first fault of what follows a data frame's header
 abbrev pub message_fault : List ℕ → Option FrameFault

@@ -9,10 +9,11 @@ use Rattle.window_link.specs.declared.laws.event.LinkEvent.{LinkEvent}
 use Rattle.window_link.specs.declared.laws.event.LinkEvent.TheVariants.{Queue, Make, Ack, Arrive}
 use Rattle.window_link.specs.declared.laws.event.LinkReply.{LinkReply}
 use Rattle.window_link.specs.declared.laws.event.LinkReply.TheVariants.{Idle, Queued, Made, Arrived}
-use Rattle.window_link.specs.Windows.{used, greatest, queued}
+use Rattle.window_link.specs.Windows.{used, queued}
 use Rattle.window_link.specs.Links.{LinkState, frame_with, arrival_at, after_arrival}
 use Rattle.window_link.specs.Streams.{other, nth}
 use Rattle.window_link.specs.Two.{Ends, at, makes_frame}
+use Rattle.window_link.specs.Limits.{most_waiting, greatest}
 
 abbrev pub ends : LinkState → LinkState → List Posted → Ends
 ends left right frames = record { left = left; right = right; frames = frames }
@@ -27,7 +28,7 @@ with_sending l msg =
 
 abbrev pub queue_step : LinkState → Msg → LinkReply × LinkState
 queue_step l msg =
-    if nat_lt (length l.sending.waiting) 18 && nat_lt (used l.sending) greatest
+    if nat_lt (length l.sending.waiting) most_waiting && nat_lt (used l.sending) greatest
     then (Queued, with_sending l msg)
     else (Idle, l)
 
