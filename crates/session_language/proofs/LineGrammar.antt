@@ -1,5 +1,5 @@
 -- A line is read as a form exactly where the grammar has it.
-use Rattle.std.proofs.Common.{◌≡◌, ◌<◌, ℕ, List, [], ◌∷◌, ◌++◌, Bool, true, false, nat_lt, Option, Some, None, IfSome, option_map, if◌then◌else◌, codes, refl, sym, ap, ◌∙◌, subst, arith}
+use Rattle.std.proofs.Common.{◌≡◌, ◌<◌, ◌≤◌, ℕ, List, [], ◌∷◌, ◌++◌, Bool, true, false, nat_lt, nat_le, Option, Some, None, IfSome, option_map, if◌then◌else◌, codes, refl, sym, ap, ◌∙◌, subst, arith}
 use Rattle.std.specs.Prelude.{option_and_then}
 use Rattle.std.specs.Str.{bytes_eq}
 use Rattle.std.proofs.lemmas.Bool.Decides.{nat_tests}
@@ -10,14 +10,14 @@ use Rattle.session_language.specs.declared.node.Comparison.{Comparison}
 use Rattle.session_language.specs.declared.lexer.Symbol.{Symbol}
 use Rattle.session_language.specs.declared.lexer.Symbol.TheVariants as symbol
 use Rattle.session_language.specs.declared.keyword.Keyword.{Keyword}
-use Rattle.session_language.specs.declared.keyword.Keyword.TheVariants.{Session, Let, Set, Give, Require, End, Other}
+use Rattle.session_language.specs.declared.keyword.Keyword.TheVariants.{Session, Let, Set, Give, Require, If, Else, Repeat, End, Other}
 use Rattle.session_language.specs.Lexer.{Piece, AWord, ASymbol, AStray}
 use Rattle.session_language.specs.Spelling.{Operand, ANumber, AVariable, ARecord, Token, Leaf}
 use Rattle.session_language.specs.Grammar.{IsExpr}
 use Rattle.session_language.specs.Parse.{Part, read_part}
 use Rattle.session_language.specs.Phrase.{Phrase, Run, run, stop_at, with_token, with_symbol, with_operand, with_record, operand_in, or_variable, is_read, expression_symbol, phrase_of, phrase_in, phrase_at}
-use Rattle.session_language.specs.Form.{Said, Lets, Sets, Gives, Demands, Form, Opens, Says, Closes, comparison_of, keyword_of, name_alone, ends_there, phrase_alone, if_named, assigned, small_code, else_code, demand, compared, after_left, requirement, form_after, form_of}
-use Rattle.session_language.specs.LineGrammar.{AreTokens, nothing, number, variable, value_of, sign, IsPhrase, IsForm, opens, lets, sets, gives, demands, closes, ReadsTheForms}
+use Rattle.session_language.specs.Form.{Said, Lets, Sets, Gives, Demands, Asks, Repeats, Form, Opens, Says, Otherwise, Closes, comparison_of, keyword_of, name_alone, ends_there, phrase_alone, if_named, assigned, small_code, else_code, few_turns, count_alone, Last, demand, question, compared, after_left, condition, if_empty, form_after, form_of}
+use Rattle.session_language.specs.LineGrammar.{AreTokens, nothing, number, variable, value_of, sign, IsPhrase, IsForm, opens, lets, sets, gives, demands, asks, repeats, otherwise, closes, ReadsTheForms}
 use Rattle.session_language.proofs.expressions.ParserComplete.{expression_read}
 use Rattle.session_language.proofs.expressions.ParserSound.{read_spells}
 use Rattle.session_language.proofs.canonical.LexerRoundTrip.{prepend}
@@ -85,15 +85,22 @@ comparison_stops symbol.Open c ps h = absurd (cc)
 comparison_stops symbol.Close c ps h = absurd (cc)
 
 demand_read : (ps qs : List Piece) (left right : Phrase) (s : Symbol) (c : Comparison) (word : List ℕ) (n : ℕ) → IsPhrase ps left → comparison_of s ≡ Some c → IsPhrase qs right → number_of word ≡ Some n → n < 65536
-    → requirement (ps ++ ASymbol s ∷ (qs ++ AWord (codes "else") ∷ AWord word ∷ [])) ≡ Some (Demands left c right n)
+    → condition demand (ps ++ ASymbol s ∷ (qs ++ AWord (codes "else") ∷ AWord word ∷ [])) ≡ Some (Demands left c right n)
 demand_read ps qs left right s c word n first is second value few =
     let end : List Piece = AWord (codes "else") ∷ AWord word ∷ [] in
     let small : nat_lt n 65536 ≡ true = grind (arith, nat_tests) in
     let code : else_code end ≡ Some n = ap small_code value ∙ ap (λ b. if b then Some n else None) small in
-    ap (option_and_then after_left) (phrase_read ps left (ASymbol s ∷ (qs ++ end)) first (comparison_stops s c (qs ++ end) is))
-    ∙ ap (λ o. compared left o (qs ++ end)) is
+    ap (option_and_then (after_left demand)) (phrase_read ps left (ASymbol s ∷ (qs ++ end)) first (comparison_stops s c (qs ++ end) is))
+    ∙ ap (λ o. compared demand left o (qs ++ end)) is
     ∙ ap (option_and_then (demand left c)) (phrase_read qs right end second refl)
     ∙ ap (option_map (Demands left c right)) code
+
+question_read : (ps qs : List Piece) (left right : Phrase) (s : Symbol) (c : Comparison) → IsPhrase ps left → comparison_of s ≡ Some c → IsPhrase qs right → condition question (ps ++ ASymbol s ∷ qs) ≡ Some (Asks left c right)
+question_read ps qs left right s c first is second =
+    ap (option_and_then (after_left question)) (phrase_read ps left (ASymbol s ∷ qs) first (comparison_stops s c qs is))
+    ∙ ap (λ o. compared question left o qs) is
+    ∙ ap (λ rs. option_and_then (question left c) (phrase_at rs)) (sym (append-nil qs))
+    ∙ ap (option_and_then (question left c)) (phrase_read qs right [] second refl)
 
 form_read : (ps : List Piece) (f : Form) → IsForm ps f → form_of ps ≡ Some f
 form_read _ _ (opens name h) = ap (option_map Opens) (name_again name h)
@@ -101,6 +108,11 @@ form_read _ _ (lets name ps e h g) = ap (λ o. option_map Says (option_map (λ (
 form_read _ _ (sets name ps e h g) = ap (λ o. option_map Says (option_map (λ (x : List ℕ × Phrase). Sets x.0 x.1) o)) (assigned_read name ps e h g)
 form_read _ _ (gives ps e h) = ap (λ o. option_map Says (option_map Gives o)) (alone_read ps e h)
 form_read _ _ (demands ps qs left right s c word n first is second value few) = ap (option_map Says) (demand_read ps qs left right s c word n first is second value few)
+form_read _ _ (asks ps qs left right s c first is second) = ap (option_map Says) (question_read ps qs left right s c first is second)
+form_read _ _ (repeats word n value few) =
+    let small : nat_le n 10000 ≡ true = grind (arith, nat_tests) in
+    ap (λ o. option_map Says (option_map Repeats (few_turns o))) value ∙ ap (λ b. option_map Says (option_map Repeats (if b then Some n else None))) small
+form_read _ _ otherwise = refl
 form_read _ _ closes = refl
 
 -- what is read is in the grammar
@@ -226,6 +238,9 @@ IsKeyword w Let = w ≡ codes "let"
 IsKeyword w Set = w ≡ codes "set"
 IsKeyword w Give = w ≡ codes "give"
 IsKeyword w Require = w ≡ codes "require"
+IsKeyword w If = w ≡ codes "if"
+IsKeyword w Else = w ≡ codes "else"
+IsKeyword w Repeat = w ≡ codes "repeat"
 IsKeyword w End = w ≡ codes "end"
 IsKeyword w Other = Unit {0}
 
@@ -239,7 +254,8 @@ if_word w bs k o is others = by_test (bytes_eq w bs) refl
 is_keyword : (w : List ℕ) → IsKeyword w (keyword_of w)
 is_keyword w =
     if_word w (codes "session") Session _ (λ e. e) (if_word w (codes "let") Let _ (λ e. e) (if_word w (codes "set") Set _ (λ e. e)
-    (if_word w (codes "give") Give _ (λ e. e) (if_word w (codes "require") Require _ (λ e. e) (if_word w (codes "end") End _ (λ e. e) tt)))))
+    (if_word w (codes "give") Give _ (λ e. e) (if_word w (codes "require") Require _ (λ e. e)
+    (if_word w (codes "if") If _ (λ e. e) (if_word w (codes "else") Else _ (λ e. e) (if_word w (codes "repeat") Repeat _ (λ e. e) (if_word w (codes "end") End _ (λ e. e) tt))))))))
 
 opening_is : (ps : List Piece) (f : Form) → option_map Opens (name_alone ps) ≡ Some f → IsForm (AWord (codes "session") ∷ ps) f
 opening_is [] f e = absurd (cc)
@@ -350,27 +366,71 @@ right_is ps left s c qs x first is e =
     subst P (sym (f.split ∙ ap (λ y. f.front ++ y) k.split)) (subst (IsRequirement (ps ++ ASymbol s ∷ (f.front ++ AWord (codes "else") ∷ AWord k.word ∷ []))) n.2
     (demands ps f.front left m.0.0 s c k.word n.0 first is f.is k.value k.few))
 
-after_left_is : (ps : List Piece) (left : Phrase) (rest : List Piece) (x : Said) → IsPhrase ps left → after_left (left, rest) ≡ Some x → IsRequirement (ps ++ rest) x
-after_left_is ps left [] x first e = absurd (cc)
-after_left_is ps left (AWord w ∷ qs) x first e = absurd (cc)
-after_left_is ps left (AStray ∷ qs) x first e = absurd (cc)
-after_left_is ps left (ASymbol s ∷ qs) x first e = by_comparison (comparison_of s) refl e
+abbrev IsQuestion : List Piece → Said → Type 0
+IsQuestion ps x = IsForm (AWord (codes "if") ∷ ps) (Says x)
+
+asked_is : (ps : List Piece) (left : Phrase) (s : Symbol) (c : Comparison) (qs : List Piece) (x : Said) → IsPhrase ps left → comparison_of s ≡ Some c → option_and_then (question left c) (phrase_at qs) ≡ Some x
+    → IsQuestion (ps ++ ASymbol s ∷ qs) x
+asked_is ps left s c qs x first is e =
+    let m = from_then (question left c) (phrase_at qs) x e in
+    let n = from_map (Asks left c) (ends_there m.0) x m.2 in
+    subst (IsQuestion (ps ++ ASymbol s ∷ qs)) n.2 (asks ps qs left n.0 s c first is (alone_is qs n.0 (ap (option_and_then ends_there) m.1 ∙ n.1)))
+
+-- a condition, and what comes last
+module _ (word : List ℕ) (last : Last)
+    (is_last : (ps : List Piece) (left : Phrase) (s : Symbol) (c : Comparison) (qs : List Piece) (x : Said) → IsPhrase ps left → comparison_of s ≡ Some c → option_and_then (last left c) (phrase_at qs) ≡ Some x → IsForm (AWord word ∷ (ps ++ ASymbol s ∷ qs)) (Says x)) where
+  after_left_is : (ps : List Piece) (left : Phrase) (rest : List Piece) (x : Said) → IsPhrase ps left → after_left last (left, rest) ≡ Some x → IsForm (AWord word ∷ (ps ++ rest)) (Says x)
+  after_left_is ps left [] x first e = absurd (cc)
+  after_left_is ps left (AWord w ∷ qs) x first e = absurd (cc)
+  after_left_is ps left (AStray ∷ qs) x first e = absurd (cc)
+  after_left_is ps left (ASymbol s ∷ qs) x first e = by_comparison (comparison_of s) refl e
+    where
+      by_comparison : (o : Option Comparison) → comparison_of s ≡ o → compared last left o qs ≡ Some x → IsForm (AWord word ∷ (ps ++ ASymbol s ∷ qs)) (Says x)
+      by_comparison None h e = absurd (cc)
+      by_comparison (Some c) h e = is_last ps left s c qs x first h e
+
+  condition_is : (ps : List Piece) (f : Form) → option_map Says (condition last ps) ≡ Some f → IsForm (AWord word ∷ ps) f
+  condition_is ps f e =
+      let m = from_map Says (condition last ps) f e in
+      let n = from_then (after_left last) (phrase_at ps) m.0 m.1 in
+      let g = phrase_is ps n.0.0 n.0.1 n.1 in
+      let P : List Piece → Type 0 = λ y. IsForm (AWord word ∷ y) (Says m.0) in
+      subst (IsForm (AWord word ∷ ps)) m.2 (subst P (sym g.split) (after_left_is g.front n.0.0 n.0.1 m.0 g.is n.2))
+
+-- a COUNT
+record IsCount (ps : List Piece) (n : ℕ) : Type 0 where
+  word : List ℕ
+  split : ps ≡ AWord word ∷ []
+  value : number_of word ≡ Some n
+  few : n ≤ 10000
+
+few_is : (o : Option ℕ) (n : ℕ) → few_turns o ≡ Some n → (o ≡ Some n) × (n ≤ 10000)
+few_is None n e = absurd (cc)
+few_is (Some k) n e = by_test (nat_le k 10000) refl e
   where
-    by_comparison : (o : Option Comparison) → comparison_of s ≡ o → compared left o qs ≡ Some x → IsRequirement (ps ++ ASymbol s ∷ qs) x
-    by_comparison None h e = absurd (cc)
-    by_comparison (Some c) h e = right_is ps left s c qs x first h e
+    by_test : (v : Bool) → nat_le k 10000 ≡ v → (if v then Some k else None) ≡ Some n → (Some k ≡ Some n) × (n ≤ 10000)
+    by_test true h e = let same : k ≡ n = (cc) in (e, (let low : k ≤ 10000 = grind (h, arith, nat_tests) in omega arith))
+    by_test false h e = absurd (cc)
 
-requirement_is : (ps : List Piece) (f : Form) → option_map Says (requirement ps) ≡ Some f → IsForm (AWord (codes "require") ∷ ps) f
-requirement_is ps f e =
-    let m = from_map Says (requirement ps) f e in
-    let n = from_then after_left (phrase_at ps) m.0 m.1 in
-    let g = phrase_is ps n.0.0 n.0.1 n.1 in
-    let P : List Piece → Type 0 = λ y. IsRequirement y m.0 in
-    subst (IsForm (AWord (codes "require") ∷ ps)) m.2 (subst P (sym g.split) (after_left_is g.front n.0.0 n.0.1 m.0 g.is n.2))
+count_is : (ps : List Piece) (n : ℕ) → count_alone ps ≡ Some n → IsCount ps n
+count_is [] n e = absurd (cc)
+count_is (AWord w ∷ []) n e = let s = few_is (number_of w) n e in record { word = w; split = refl; value = s.0; few = s.1 }
+count_is (AWord w ∷ p ∷ ps) n e = absurd (cc)
+count_is (ASymbol s ∷ ps) n e = absurd (cc)
+count_is (AStray ∷ ps) n e = absurd (cc)
 
-closing_is : (ps : List Piece) (f : Form) → form_after End ps ≡ Some f → IsForm (AWord (codes "end") ∷ ps) f
-closing_is [] f e = let is : Closes ≡ f = (cc) in subst (IsForm (AWord (codes "end") ∷ [])) is closes
-closing_is (p ∷ ps) f e = absurd (cc)
+repeating_is : (ps : List Piece) (f : Form) → option_map Says (option_map Repeats (count_alone ps)) ≡ Some f → IsForm (AWord (codes "repeat") ∷ ps) f
+repeating_is ps f e =
+    let m = from_map Says (option_map Repeats (count_alone ps)) f e in
+    let n = from_map Repeats (count_alone ps) m.0 m.1 in
+    let k = count_is ps n.0 n.1 in
+    let P : List Piece → Type 0 = λ qs. IsForm (AWord (codes "repeat") ∷ qs) f in
+    subst P (sym k.split) (subst (IsForm (AWord (codes "repeat") ∷ AWord k.word ∷ [])) (ap Says n.2 ∙ m.2) (repeats k.word n.0 k.value k.few))
+
+-- a word that stands alone
+alone_line : (word : List ℕ) (g : Form) → IsForm (AWord word ∷ []) g → (ps : List Piece) (f : Form) → if_empty g ps ≡ Some f → IsForm (AWord word ∷ ps) f
+alone_line word g is [] f e = let same : g ≡ f = (cc) in subst (IsForm (AWord word ∷ [])) same is
+alone_line word g is (p ∷ ps) f e = absurd (cc)
 
 after_word : (w : List ℕ) (k : Keyword) (ps : List Piece) (f : Form) → IsKeyword w k → form_after k ps ≡ Some f → IsForm (AWord w ∷ ps) f
 after_word w k ps f is e = by_keyword k is e
@@ -383,8 +443,11 @@ after_word w k ps f is e = by_keyword k is e
     by_keyword Let is e = at (codes "let") is (assignment_is (codes "let") Lets lets ps f e)
     by_keyword Set is e = at (codes "set") is (assignment_is (codes "set") Sets sets ps f e)
     by_keyword Give is e = at (codes "give") is (giving_is ps f e)
-    by_keyword Require is e = at (codes "require") is (requirement_is ps f e)
-    by_keyword End is e = at (codes "end") is (closing_is ps f e)
+    by_keyword Require is e = at (codes "require") is (condition_is (codes "require") demand right_is ps f e)
+    by_keyword If is e = at (codes "if") is (condition_is (codes "if") question asked_is ps f e)
+    by_keyword Repeat is e = at (codes "repeat") is (repeating_is ps f e)
+    by_keyword Else is e = at (codes "else") is (alone_line (codes "else") Otherwise otherwise ps f e)
+    by_keyword End is e = at (codes "end") is (alone_line (codes "end") Closes closes ps f e)
     by_keyword Other is e = absurd (cc)
 
 form_is : (ps : List Piece) (f : Form) → form_of ps ≡ Some f → IsForm ps f

@@ -2,9 +2,10 @@
 use Rattle.std.specs.Prelude.{◌≡◌, ℕ, pos, negsuc, ℤ, List, [], ◌∷◌, refl}
 use Rattle.bottle_values.specs.declared.Value.{Value}
 use Rattle.session_language.specs.declared.node.Operator.TheVariants as op
+use Rattle.session_language.specs.declared.node.Comparison.{Comparison}
 use Rattle.session_language.specs.declared.node.Comparison.TheVariants as cmp
 use Rattle.session_language.specs.declared.ending.End.TheVariants.{Done, Refused, Overflow}
-use Rattle.session_language.specs.Tree.{Term, Constant, Var, ReadOf, Neg, Bin, LetVar, SetTo, GiveOf, Requires, Choice, Loop, Block, Nothing, Then}
+use Rattle.session_language.specs.Tree.{Term, Constant, Var, ReadOf, Neg, Bin, Test, LetVar, SetTo, GiveOf, Requires, When, Choice, Loop, Block, Nothing, Then}
 use Rattle.session_language.specs.ProgramValue.{ProgramValue}
 use Rattle.session_language.specs.Measures.{block_cost, block_statements}
 use Rattle.session_language.specs.Meaning.{alone}
@@ -61,3 +62,66 @@ refused_ending = refl
 pub overflow_ending : alone (program [] (Then (SetTo 0 (number 1)) (Then (SetTo 0 (Bin op.Plus (number 9223372036854775807) (number 1))) Nothing))) ((0, value (pos 100)) ∷ []) ≡ record { end = Overflow; reads = (0, value (pos 100)) ∷ []; writes = []; gives = [] }
 unfolding alone
 overflow_ending = refl
+
+-- Lengths, each worked out by hand: in the order in which things are done, 1 each.
+abbrev pub compared : Term → Comparison → Term → Test
+compared a c b = record { left = a; comparison = c; right = b }
+
+-- give -(0 - 9223372036854775807 - 1): four nodes and the two operators are worked out, the minus in front last; it
+-- overflows with its own 1, and neither `give` nor the end is reached
+pub overflow_at_a_minus : ◌≡◌ {A = ℕ} (length_on (program [] (Then (GiveOf (Neg (Bin op.Minus (Bin op.Minus (number 0) (number 9223372036854775807)) (number 1)))) Nothing)) []) 6
+unfolding length_on
+overflow_at_a_minus = refl
+
+-- give 9223372036854775807 + 1: two numbers, and the operator that overflows
+pub overflow_at_an_operator : ◌≡◌ {A = ℕ} (length_on (program [] (Then (GiveOf (Bin op.Plus (number 9223372036854775807) (number 1))) Nothing)) []) 3
+unfolding length_on
+overflow_at_an_operator = refl
+
+-- give (9223372036854775807 + 1) * (2 + 3): the right operand is not worked out, nor the operator
+pub overflow_in_the_left_operand : ◌≡◌ {A = ℕ} (length_on (program [] (Then (GiveOf (Bin op.Times (Bin op.Plus (number 9223372036854775807) (number 1)) (Bin op.Plus (number 2) (number 3)))) Nothing)) []) 3
+unfolding length_on
+overflow_in_the_left_operand = refl
+
+-- give (2 + 3) * (9223372036854775807 + 1): the left operand's 3 and the right operand's 3, but not the operator
+pub overflow_in_the_right_operand : ◌≡◌ {A = ℕ} (length_on (program [] (Then (GiveOf (Bin op.Times (Bin op.Plus (number 2) (number 3)) (Bin op.Plus (number 9223372036854775807) (number 1)))) Nothing)) []) 6
+unfolding length_on
+overflow_in_the_right_operand = refl
+
+-- give 4, require 9223372036854775807 + 1 < 2 else 9: 2 for `give`, then 3 up to the overflow; the right side, the
+-- condition and `require` are not reached
+pub overflow_in_a_condition : ◌≡◌ {A = ℕ} (length_on (program [] (Then (GiveOf (number 4)) (Then (Requires (compared (Bin op.Plus (number 9223372036854775807) (number 1)) cmp.Less (number 2)) 9) Nothing))) []) 5
+unfolding length_on
+overflow_in_a_condition = refl
+
+-- if 1 < 2, give 5, end: two numbers and the condition, `if`, 2 for `give`, and the session's end
+pub if_runs : ◌≡◌ {A = ℕ} (length_on (program [] (Then (When (compared (number 1) cmp.Less (number 2)) (Then (GiveOf (number 5)) Nothing)) Nothing)) []) 7
+unfolding length_on
+if_runs = refl
+
+-- if 2 < 1, give 5, end: the same without `give`
+pub if_runs_nothing : ◌≡◌ {A = ℕ} (length_on (program [] (Then (When (compared (number 2) cmp.Less (number 1)) (Then (GiveOf (number 5)) Nothing)) Nothing)) []) 5
+unfolding length_on
+if_runs_nothing = refl
+
+-- if 1 < 2, give 5, else, give -6, end: 4 with `if`, 2 for the first part, and the end
+pub first_part_runs : ◌≡◌ {A = ℕ} (length_on (program [] (Then (Choice (compared (number 1) cmp.Less (number 2)) (Then (GiveOf (number 5)) Nothing) (Then (GiveOf (Neg (number 6))) Nothing)) Nothing)) []) 7
+unfolding length_on
+first_part_runs = refl
+
+-- if 2 < 1, give 5, else, give -6, end: 4 with `if`, 3 for the part after `else`, and the end
+pub second_part_runs : ◌≡◌ {A = ℕ} (length_on (program [] (Then (Choice (compared (number 2) cmp.Less (number 1)) (Then (GiveOf (number 5)) Nothing) (Then (GiveOf (Neg (number 6))) Nothing)) Nothing)) []) 8
+unfolding length_on
+second_part_runs = refl
+
+-- repeat 0, give 1, end: once after the last turn, of which there is none, and the end
+pub no_turn : ◌≡◌ {A = ℕ} (length_on (program [] (Then (Loop 0 (Then (GiveOf (number 1)) Nothing)) Nothing)) []) 2
+unfolding length_on
+no_turn = refl
+
+-- let v = 0, repeat 3, let v = v + 1, require v < 2 else 9, end: 2 for the first line, then each turn 1, 4 for `let` and
+-- 4 for `require`; the second turn's `require` is false and ends the session with its own 1
+pub refused_in_the_second_turn : ◌≡◌ {A = ℕ} (length_on
+    (program ((118 ∷ []) ∷ []) (Then (LetVar 0 (number 0)) (Then (Loop 3 (Then (LetVar 0 (Bin op.Plus (Var 0) (number 1))) (Then (Requires (compared (Var 0) cmp.Less (number 2)) 9) Nothing))) Nothing))) []) 20
+unfolding length_on
+refused_in_the_second_turn = refl

@@ -1,5 +1,5 @@
 pub mod SizeBound
 pub mod SizeStep
-pub mod CostBoundsSize
+pub mod ExtentBoundsSize
 pub mod Saturation
 pub mod LengthWithinCost

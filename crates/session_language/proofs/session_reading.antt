@@ -4,3 +4,5 @@ pub mod AddStatement
 pub mod StatementStep
 pub mod ResolveNames
 pub mod LiteralRanges
+pub mod NamedRecords
+pub mod KeptDrafts

@@ -1,5 +1,5 @@
 -- The forms of a line of sessions.
-use Rattle.std.specs.Prelude.{ℕ, List, [], ◌∷◌, Option, Some, None, if◌then◌else◌, nat_lt, option_map, option_and_then, codes}
+use Rattle.std.specs.Prelude.{ℕ, List, [], ◌∷◌, Option, Some, None, if◌then◌else◌, nat_lt, nat_le, option_map, option_and_then, codes}
 use Rattle.std.specs.Str.{bytes_eq}
 use Rattle.office_map.specs.Text.{name_of, number_of}
 use Rattle.session_language.specs.declared.node.Comparison.{Comparison}
@@ -7,27 +7,32 @@ use Rattle.session_language.specs.declared.node.Comparison.TheVariants.{Equal, N
 use Rattle.session_language.specs.declared.lexer.Symbol.{Symbol}
 use Rattle.session_language.specs.declared.lexer.Symbol.TheVariants as symbol
 use Rattle.session_language.specs.declared.keyword.Keyword.{Keyword}
-use Rattle.session_language.specs.declared.keyword.Keyword.TheVariants.{Session, Let, Set, Give, Require, End, Other}
+use Rattle.session_language.specs.declared.keyword.Keyword.TheVariants.{Session, Let, Set, Give, Require, If, Else, Repeat, End, Other}
 use Rattle.session_language.specs.Lexer.{Piece, AWord, ASymbol}
 use Rattle.session_language.specs.Phrase.{Phrase, phrase_at}
-use Rattle.session_language.specs.Limits.{codes_end}
+use Rattle.session_language.specs.Limits.{codes_end, most_turns}
 
--- a statement, its names still text
+-- the first line of a statement, its names still text; the lines of a block follow it
 pub data Said : Type 0 where
   Lets : (name : List ℕ) (e : Phrase) → Said
   Sets : (name : List ℕ) (e : Phrase) → Said
   Gives : (e : Phrase) → Said
   Demands : (left : Phrase) (comparison : Comparison) (right : Phrase) (code : ℕ) → Said
+  Asks : (left : Phrase) (comparison : Comparison) (right : Phrase) → Said
+  Repeats : (turns : ℕ) → Said
 
 pub data Form : Type 0 where
   Opens : (office : List ℕ) → Form
   Says : (s : Said) → Form
+  Otherwise : Form
   Closes : Form
 
 abbrev pub keyword_of : List ℕ → Keyword
 keyword_of w =
     if bytes_eq w (codes "session") then Session else if bytes_eq w (codes "let") then Let else if bytes_eq w (codes "set") then Set
-    else if bytes_eq w (codes "give") then Give else if bytes_eq w (codes "require") then Require else if bytes_eq w (codes "end") then End else Other
+    else if bytes_eq w (codes "give") then Give else if bytes_eq w (codes "require") then Require
+    else if bytes_eq w (codes "if") then If else if bytes_eq w (codes "else") then Else else if bytes_eq w (codes "repeat") then Repeat
+    else if bytes_eq w (codes "end") then End else Other
 
 abbrev pub comparison_of : Symbol → Option Comparison
 comparison_of symbol.Equal = Some Equal
@@ -77,17 +82,33 @@ else_code ps = None
 abbrev pub demand : Phrase → Comparison → Phrase × List Piece → Option Said
 demand left c x = option_map (Demands left c x.0) (else_code x.1)
 
-abbrev pub compared : Phrase → Option Comparison → List Piece → Option Said
-compared left None ps = None
-compared left (Some c) ps = option_and_then (demand left c) (phrase_at ps)
+abbrev pub question : Phrase → Comparison → Phrase × List Piece → Option Said
+question left c x = option_map (Asks left c) (ends_there x)
 
-abbrev pub after_left : Phrase × List Piece → Option Said
-after_left (left, ASymbol s ∷ ps) = compared left (comparison_of s) ps
-after_left (left, ps) = None
+-- what a line with a condition says, by what its last expression says
+abbrev pub Last : Type 0
+Last = Phrase → Comparison → Phrase × List Piece → Option Said
 
--- expression comparison expression else CODE
-abbrev pub requirement : List Piece → Option Said
-requirement ps = option_and_then after_left (phrase_at ps)
+abbrev pub compared : Last → Phrase → Option Comparison → List Piece → Option Said
+compared last left None ps = None
+compared last left (Some c) ps = option_and_then (last left c) (phrase_at ps)
+
+abbrev pub after_left : Last → Phrase × List Piece → Option Said
+after_left last (left, ASymbol s ∷ ps) = compared last left (comparison_of s) ps
+after_left last (left, ps) = None
+
+-- expression comparison expression, and what comes last
+abbrev pub condition : Last → List Piece → Option Said
+condition last ps = option_and_then (after_left last) (phrase_at ps)
+
+abbrev pub few_turns : Option ℕ → Option ℕ
+few_turns None = None
+few_turns (Some n) = if nat_le n most_turns then Some n else None
+
+-- COUNT, and nothing after it
+abbrev pub count_alone : List Piece → Option ℕ
+count_alone (AWord w ∷ []) = few_turns (number_of w)
+count_alone ps = None
 
 abbrev pub if_empty : Form → List Piece → Option Form
 if_empty f [] = Some f
@@ -98,7 +119,10 @@ abbrev pub said_after : Keyword → List Piece → Option Said
 said_after Let ps = option_map (λ x. Lets x.0 x.1) (assigned ps)
 said_after Set ps = option_map (λ x. Sets x.0 x.1) (assigned ps)
 said_after Give ps = option_map Gives (phrase_alone ps)
-said_after Require ps = requirement ps
+said_after Require ps = condition demand ps
+said_after If ps = condition question ps
+said_after Repeat ps = option_map Repeats (count_alone ps)
+said_after Else ps = None
 said_after Session ps = None
 said_after End ps = None
 said_after Other ps = None
@@ -110,6 +134,9 @@ form_after Let ps = option_map Says (said_after Let ps)
 form_after Set ps = option_map Says (said_after Set ps)
 form_after Give ps = option_map Says (said_after Give ps)
 form_after Require ps = option_map Says (said_after Require ps)
+form_after If ps = option_map Says (said_after If ps)
+form_after Repeat ps = option_map Says (said_after Repeat ps)
+form_after Else ps = if_empty Otherwise ps
 form_after Other ps = None
 
 -- the form of a line, if it has one
@@ -117,7 +144,7 @@ abbrev pub form_of : List Piece → Option Form
 form_of (AWord w ∷ ps) = form_after (keyword_of w) ps
 form_of ps = None
 
--- a keyword that begins neither the first line of a session nor the last
+-- a keyword that begins neither the first line of a session, nor `else`, nor `end`
 abbrev pub IsStatement : Keyword → Type 0
 IsStatement Session = ⊥
 IsStatement End = ⊥
@@ -125,4 +152,7 @@ IsStatement Let = Unit {0}
 IsStatement Set = Unit {0}
 IsStatement Give = Unit {0}
 IsStatement Require = Unit {0}
+IsStatement If = Unit {0}
+IsStatement Repeat = Unit {0}
+IsStatement Else = ⊥
 IsStatement Other = Unit {0}

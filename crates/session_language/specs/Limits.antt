@@ -29,6 +29,13 @@ most_variables = 32
 abbrev pub most_gives : ℕ
 most_gives = 64
 
+-- how many blocks may stand in one another, and how often a `repeat` may turn
+abbrev pub most_blocks : ℕ
+most_blocks = 8
+
+abbrev pub most_turns : ℕ
+most_turns = 10000
+
 -- how deep an expression may be
 abbrev pub most_depth : ℕ
 most_depth = 32

@@ -4,13 +4,13 @@ use Rattle.office_map.specs.Text.{is_name}
 use Rattle.session_language.specs.declared.node.Operator.TheVariants as op
 use Rattle.session_language.specs.declared.rank.Rank.{Rank}
 use Rattle.session_language.specs.declared.rank.Rank.TheVariants.{Factor, Product, Sum}
-use Rattle.session_language.specs.Tree.{Term, Constant, Var, ReadOf, Neg, Bin, Command, LetVar, SetTo, GiveOf, Requires, When, Choice, Loop, Block, Nothing, Then}
+use Rattle.session_language.specs.Tree.{Term, Constant, Var, ReadOf, Neg, Bin, Test, Command, LetVar, SetTo, GiveOf, Requires, When, Choice, Loop, Block, Nothing, Then}
 use Rattle.session_language.specs.ProgramValue.{ProgramValue}
 use Rattle.session_language.specs.Needs.{needs_of}
 use Rattle.session_language.specs.Measures.{block_gives}
 use Rattle.session_language.specs.Text.{rank_of}
-use Rattle.session_language.specs.Reading.{Spoken, SpeaksLet, SpeaksSet, SpeaksGive, SpeaksDemand, is_too_long}
-use Rattle.session_language.specs.Limits.{most_depth, codes_end, most_records, most_variables, most_gives}
+use Rattle.session_language.specs.Reading.{Spoken, SpeaksLet, SpeaksSet, SpeaksGive, SpeaksDemand, SpeaksIf, SpeaksRepeat, is_too_long}
+use Rattle.session_language.specs.Limits.{most_depth, most_blocks, most_turns, codes_end, most_records, most_variables, most_gives}
 
 -- one more for parentheses, where the canonical text has them
 abbrev pub factor_depth : Rank → ℕ → ℕ
@@ -50,44 +50,55 @@ IsOver known (Bin o a b) = IsOver known a × IsOver known b
 abbrev pub IsExpressionOver : ℕ → Term → Type 0
 IsExpressionOver known e = IsOver known e × (depth e ≤ most_depth)
 
--- A statement of one line, since no text has blocks. A `let` names a variable that is known, or the next; its expression
--- knows only those before.
-abbrev pub IsStatementOver : ℕ → Command → Type 0
-IsStatementOver known (LetVar k e) = (k ≤ known) × IsExpressionOver known e
-IsStatementOver known (SetTo r e) = IsExpressionOver known e
-IsStatementOver known (GiveOf e) = IsExpressionOver known e
-IsStatementOver known (Requires t code) = IsExpressionOver known t.left × IsExpressionOver known t.right × (code < codes_end)
-IsStatementOver known (When t b) = ⊥
-IsStatementOver known (Choice t a b) = ⊥
-IsStatementOver known (Loop n b) = ⊥
+abbrev pub IsTestOver : ℕ → Test → Type 0
+IsTestOver known t = IsExpressionOver known t.left × IsExpressionOver known t.right
 
--- the same of a statement whose variable is still a name
+-- how many variables are known after a statement; a `let` in a block counts for all later lines
+abbrev mutual
+  pub known_after : ℕ → Command → ℕ
+  known_after known (LetVar k e) = max known (suc k)
+  known_after known (SetTo r e) = known
+  known_after known (GiveOf e) = known
+  known_after known (Requires t code) = known
+  known_after known (When t b) = known_after_block known b
+  known_after known (Choice t a b) = known_after_block (known_after_block known a) b
+  known_after known (Loop n b) = known_after_block known b
+
+  pub known_after_block : ℕ → Block → ℕ
+  known_after_block known Nothing = known
+  known_after_block known (Then c rest) = known_after_block (known_after known c) rest
+
+-- A statement with so many blocks around it, where so many variables are known. A `let` names a variable that is known,
+-- or the next; its expression knows only those before.
+abbrev mutual
+  pub IsStatementOver : (around known : ℕ) → Command → Type 0
+  IsStatementOver around known (LetVar k e) = (k ≤ known) × IsExpressionOver known e
+  IsStatementOver around known (SetTo r e) = IsExpressionOver known e
+  IsStatementOver around known (GiveOf e) = IsExpressionOver known e
+  IsStatementOver around known (Requires t code) = IsTestOver known t × (code < codes_end)
+  IsStatementOver around known (When t b) = (around < most_blocks) × IsTestOver known t × AreStatements (suc around) known b
+  IsStatementOver around known (Choice t a b) = (around < most_blocks) × IsTestOver known t × AreStatements (suc around) known a × AreStatements (suc around) (known_after_block known a) b
+  IsStatementOver around known (Loop n b) = (around < most_blocks) × (n ≤ most_turns) × AreStatements (suc around) known b
+
+  pub AreStatements : (around known : ℕ) → Block → Type 0
+  AreStatements around known Nothing = Unit {0}
+  AreStatements around known (Then c rest) = IsStatementOver around known c × AreStatements around (known_after known c) rest
+
+-- the same of the first line of a statement whose variable is still a name
 abbrev pub IsSpokenOver : ℕ → Spoken → Type 0
 IsSpokenOver known (SpeaksLet name e) = IsTrue (is_name name) × IsExpressionOver known e
 IsSpokenOver known (SpeaksSet r e) = IsExpressionOver known e
 IsSpokenOver known (SpeaksGive e) = IsExpressionOver known e
-IsSpokenOver known (SpeaksDemand t code) = IsExpressionOver known t.left × IsExpressionOver known t.right × (code < codes_end)
-
--- how many variables are known after it
-abbrev pub known_after : ℕ → Command → ℕ
-known_after known (LetVar k e) = max known (suc k)
-known_after known (SetTo r e) = known
-known_after known (GiveOf e) = known
-known_after known (Requires t code) = known
-known_after known (When t b) = known
-known_after known (Choice t a b) = known
-known_after known (Loop n b) = known
-
--- statements, from where so many variables are known to where `last` are
-abbrev pub AreStatements : ℕ → Block → ℕ → Type 0
-AreStatements known Nothing last = known ≡ last
-AreStatements known (Then c rest) last = IsStatementOver known c × AreStatements (known_after known c) rest last
+IsSpokenOver known (SpeaksDemand t code) = IsTestOver known t × (code < codes_end)
+IsSpokenOver known (SpeaksIf t) = IsTestOver known t
+IsSpokenOver known (SpeaksRepeat n) = n ≤ most_turns
 
 -- the variables are distinct names, in the order in which lines first let them
 pub record IsDeclared (variables : List (List ℕ)) (body : Block) : Type 0 where
   pub names : All (λ v. IsTrue (is_name v)) variables
   pub distinct : AllPairs (λ a b. a ≢ b) variables
-  pub statements : AreStatements 0 body (length variables)
+  pub statements : AreStatements 0 0 body
+  pub all_let : known_after_block 0 body ≡ length variables
 
 -- and the limits of a session are kept
 pub record IsWellFormed (p : ProgramValue) : Type 0 where

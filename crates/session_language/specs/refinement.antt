@@ -8,3 +8,6 @@ pub mod TreeOfStatements
 pub mod ExpressionNodes
 pub mod TextSizes
 pub mod Postfix
+pub mod KeptDraft
+pub mod Extent
+pub mod PartsRefinement

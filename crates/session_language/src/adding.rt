@@ -1,67 +1,66 @@
-//! A statement that is added to the parts of an open session.
+//! The first line of a statement that is added to the parts of an open session.
 
-ghost use Rattle.std.specs.Prelude.{◌≡◌, ◌≤◌, ℕ, IfOk, [], ◌∷◌, ◌++◌, map, vec_len, OnOk};
+ghost use Rattle.std.specs.Prelude.{◌≡◌, ◌≤◌, IfOk, map, vec_len, OnOk};
 ghost use Rattle.std.specs.String.{string_bytes};
-ghost use Rattle.session_language.specs.refinement.TreeOfStatements.{command_of, block_of};
 ghost use Rattle.session_language.specs.refinement.ResolvedStatements.{seen_spoken};
-ghost use Rattle.session_language.specs.refinement.ReaderRefinement.{parts, Stops};
+ghost use Rattle.session_language.specs.refinement.PartsRefinement.{parts_of, with_variables};
+ghost use Rattle.session_language.specs.refinement.ReaderRefinement.{Stops};
 ghost use Rattle.bottle_values.specs.Memory.{UnlessMemory};
-ghost use Rattle.session_language.specs.Reading.{add, place_of, with_variable, variables_after, command_in};
-ghost use Rattle.session_language.specs.Limits.{most_variables, most_records};
-ghost use Rattle.session_language.specs.Needs.{needs_of};
+ghost use Rattle.session_language.specs.Reading.{add, place_of, with_variable, with_line, opens_block};
+ghost use Rattle.session_language.specs.Limits.{most_variables};
 
 use crate::fault::{SessionRule, Stop};
-use crate::limits::{MOST_RECORDS, MOST_VARIABLES};
+use crate::limits::{MOST_BLOCKS, MOST_RECORDS, MOST_VARIABLES};
 use crate::names::position_of;
 use crate::needs::add_needs;
+use crate::parts::{Head, Parts};
 use crate::spoken::Spoken;
 use crate::tree::Statement;
-use office_map::RecordId;
 use std::alloc::{AllocError, Global};
 
-/// Adds a statement to the parts of a session.
-pub(crate) fn add_to(
-    alloc: Global,
-    variables: &mut Vec<String>,
-    needs: &mut Vec<RecordId>,
-    statements: &mut Vec<Statement>,
-    spoken: Spoken<'_>,
-) -> Result<(), Stop>
-    requires few { vec_len variables.old ≤ most_variables }
-    requires needed { needs.old.items ≡ needs_of (block_of statements.old.items) }
-    ensures told { (office : ℕ) → UnlessMemory (λ _. parts office (map string_bytes variables.new.items) (map command_of statements.new.items)) Stops result (add (parts office (map string_bytes variables.old.items) (map command_of statements.old.items)) (seen_spoken spoken.entry)) }
-    ensures limits { OnOk result ((vec_len variables.new ≤ most_variables) × (vec_len needs.new ≤ most_records)) }
-    ensures needed { OnOk result (needs.new.items ≡ needs_of (block_of statements.new.items)) }
-    ensures variables { OnOk result (map string_bytes variables.new.items ≡ variables_after (map string_bytes variables.old.items) (seen_spoken spoken.entry)) }
-    ensures statements { OnOk result (map command_of statements.new.items ≡ map command_of statements.old.items ++ command_in (map string_bytes variables.new.items) (seen_spoken spoken.entry) ∷ []) }
+/// Adds the first line of a statement to the parts of a session.
+pub(crate) fn add_to(alloc: Global, parts: &mut Parts, spoken: Spoken<'_>) -> Result<(), Stop>
+    requires few { vec_len parts.old.variables ≤ most_variables }
+    ensures { UnlessMemory (λ _. parts_of parts.new) Stops result (add (parts_of parts.old) (seen_spoken spoken.entry)) }
 {
-    add_needs(needs, &spoken)?;
-    let statement = place(alloc, variables, spoken)?;
-    statements.push(statement)?;
-    if needs.len() > MOST_RECORDS {
+    if opens_block(&spoken) && parts.outer.len() >= MOST_BLOCKS {
+        return Err(Stop::Refused(SessionRule::TooDeep));
+    }
+    add_needs(&mut parts.needs, &spoken)?;
+    place(alloc, parts, spoken)?;
+    if parts.needs.len() > MOST_RECORDS {
         return Err(Stop::Refused(SessionRule::TooManyRecords));
     }
-    if variables.len() > MOST_VARIABLES {
+    if parts.variables.len() > MOST_VARIABLES {
         return Err(Stop::Refused(SessionRule::TooManyVariables));
     }
     Ok(())
 }
 
-/// The statement with its variable in its place, which is new where it was not there.
-fn place(
-    alloc: Global,
-    variables: &mut Vec<String>,
-    spoken: Spoken<'_>,
-) -> Result<Statement, AllocError>
-    requires { vec_len variables.old ≤ most_variables }
-    ensures statement { IfOk result (λ s. command_of s ≡ command_in (map string_bytes variables.new.items) (seen_spoken spoken.entry)) }
-    ensures variables { OnOk result (map string_bytes variables.new.items ≡ variables_after (map string_bytes variables.old.items) (seen_spoken spoken.entry)) }
+fn opens_block(spoken: &Spoken<'_>) -> bool
+    ensures { result ≡ opens_block (seen_spoken spoken.now) }
 {
     match spoken {
-        Spoken::Let(name, e) => Ok(Statement::Let(place_of(alloc, variables, name)?, e)),
-        Spoken::Set(id, e) => Ok(Statement::Set(id, e)),
-        Spoken::Give(e) => Ok(Statement::Give(e)),
-        Spoken::Require(c, code) => Ok(Statement::Require(c, code)),
+        Spoken::If(_) | Spoken::Repeat(_) => true,
+        Spoken::Let(_, _) | Spoken::Set(_, _) | Spoken::Give(_) | Spoken::Require(_, _) => false,
+    }
+}
+
+/// Puts a line in its place; the variable of a `let` is new where it was not there.
+fn place(alloc: Global, parts: &mut Parts, spoken: Spoken<'_>) -> Result<(), AllocError>
+    requires { vec_len parts.old.variables ≤ most_variables }
+    ensures { OnOk result (parts_of parts.new ≡ with_line (with_variables (parts_of parts.old) (seen_spoken spoken.entry)) (seen_spoken spoken.entry)) }
+{
+    match spoken {
+        Spoken::Let(name, e) => {
+            let place = place_of(alloc, &mut parts.variables, name)?;
+            parts.push(Statement::Let(place, e))
+        }
+        Spoken::Set(id, e) => parts.push(Statement::Set(id, e)),
+        Spoken::Give(e) => parts.push(Statement::Give(e)),
+        Spoken::Require(c, code) => parts.push(Statement::Require(c, code)),
+        Spoken::If(c) => parts.open(alloc, Head::If(c)),
+        Spoken::Repeat(turns) => parts.open(alloc, Head::Repeat(turns)),
     }
 }
 

@@ -5,6 +5,7 @@ ghost use Rattle.session_language.specs.declared.fault.LangFault.TheVariants as 
 ghost use Rattle.session_language.specs.declared.fault.Stop.TheVariants as stops;
 
 use std::alloc::{AllocError, AllocFailed};
+use std::fmt;
 use thiserror::Error;
 
 /// The rule that a text of sessions breaks.
@@ -30,12 +31,23 @@ pub enum SessionRule {
 
 /// The first rule that is broken, and the line that breaks it: 0 where the text is too long, and
 /// one past the last line where a session isn't closed.
-#[derive(Clone, Copy, Debug, PartialEq, Eq, Error)]
-#[error("line {line}: {rule}")]
+#[derive(Clone, Copy, Debug, PartialEq, Eq)]
 pub struct SessionRefusal {
     pub rule: SessionRule,
     pub line: u64,
 }
+
+impl fmt::Display for SessionRefusal {
+    fn fmt<W: fmt::Write>(&self, f: &mut fmt::Formatter<W>) -> fmt::Result {
+        let SessionRefusal { rule, line } = *self;
+        if line > 0 {
+            write!(f, "line {line}: ")?;
+        }
+        write!(f, "{rule}")
+    }
+}
+
+impl std::error::Error for SessionRefusal {}
 
 #[derive(Debug, Drop, Error)]
 pub enum LangFault {

@@ -11,6 +11,9 @@ pub enum Keyword {
     Set,
     Give,
     Require,
+    If,
+    Else,
+    Repeat,
     End,
     Other,
 }
@@ -24,6 +27,9 @@ pub fn keyword_of(word: &[u8]) -> Keyword
         b"set" => Keyword::Set,
         b"give" => Keyword::Give,
         b"require" => Keyword::Require,
+        b"if" => Keyword::If,
+        b"else" => Keyword::Else,
+        b"repeat" => Keyword::Repeat,
         b"end" => Keyword::End,
         _ => Keyword::Other,
     }

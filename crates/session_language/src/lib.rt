@@ -33,6 +33,7 @@ mod needs;
 mod node;
 mod number;
 mod operands;
+mod parts;
 mod program;
 mod rank;
 mod read;

@@ -12,15 +12,21 @@ pub(crate) const MOST_STATEMENTS: u32 = 256;
 /// The most that a session may cost.
 pub(crate) const MOST_COST: u32 = 10_000;
 
-/// Each node costs 1 and has at most 21 bytes of text, each statement costs 1 and has at most 24 besides, and the first
-/// and the last line have 29. So the text of a session that costs no more than this is never too long.
-pub(crate) const SHORT_COST: u32 = 681;
+/// Each node has at most 21 bytes of text, each statement at most 24 besides, and the first and the last line have 29.
+/// So the text of a session that has no more nodes and statements than this is never too long.
+pub(crate) const SHORT_EXTENT: u32 = 681;
 
 /// The most bytes of a session's text, where each office and record counts as 16.
 pub(crate) const MOST_BYTES: u32 = 16_384;
 
 /// One past that: as far as sizes are counted.
 pub(crate) const PAST_BYTES: u32 = MOST_BYTES + 1;
+
+/// The most blocks that may stand in one another.
+pub(crate) const MOST_BLOCKS: usize = 8;
+
+/// The most turns of a `repeat`.
+pub(crate) const MOST_TURNS: u64 = 10_000;
 
 /// How deep an expression may be.
 pub(crate) const MOST_DEPTH: u8 = 32;

@@ -4,6 +4,7 @@ ghost use Rattle.std.specs.Prelude.{◌≡◌, ◌≤◌, ◌^◌, min, max, ◌
 ghost use Rattle.session_language.specs.refinement.TreeOfStatements.{test_of, command_of, block_of};
 ghost use Rattle.session_language.specs.refinement.Postfix.{postfix};
 ghost use Rattle.session_language.specs.Measures.{nodes, test_nodes, cost, block_cost, gives, block_gives, statements, block_statements};
+ghost use Rattle.session_language.specs.refinement.Extent.{extent, block_extent};
 
 use crate::expression::Expression;
 use crate::tree::{Condition, Statement};
@@ -145,5 +146,40 @@ fn count(statement: &Statement) -> u32
             sum(sum(1, a), b)
         }
         Statement::Repeat(_, body) => sum(1, block_statements(body)),
+    }
+}
+
+#[cycle(extent)]
+pub fn block_extent(statements: &[Statement]) -> u32
+    ensures { result ≡ min 10001 (block_extent (block_of statements.now)) }
+{
+    let mut total = 0;
+    for statement in statements {
+        total = sum(total, extent(statement));
+    }
+    total
+}
+
+#[cycle(extent)]
+fn extent(statement: &Statement) -> u32
+    ensures { result ≡ min 10001 (extent (command_of statement.now)) }
+{
+    match statement {
+        Statement::Let(_, e) => sum(1, nodes(e)),
+        Statement::Set(_, e) => sum(1, nodes(e)),
+        Statement::Give(e) => sum(1, nodes(e)),
+        Statement::Require(c, _) => sum(1, test_nodes(c)),
+        Statement::If(c, body) => {
+            let test = test_nodes(c);
+            let body = block_extent(body);
+            sum(sum(1, test), body)
+        }
+        Statement::IfElse(c, first, second) => {
+            let test = test_nodes(c);
+            let a = block_extent(first);
+            let b = block_extent(second);
+            sum(sum(sum(1, test), a), b)
+        }
+        Statement::Repeat(_, body) => sum(1, block_extent(body)),
     }
 }

@@ -3,7 +3,7 @@
 ghost use Rattle.std.specs.Prelude.{◌≡◌, ◌≤◌, OnOk, IfSome, MatchOption, insert, length};
 ghost use Rattle.session_language.specs.Needs.{with_record, term_needs, nodes_needs};
 ghost use Rattle.session_language.specs.refinement.ResolvedStatements.{seen_spoken};
-ghost use Rattle.session_language.specs.refinement.ReaderRefinement.{spoken_needs};
+ghost use Rattle.session_language.specs.Reading.{named_after};
 
 use crate::expression::Expression;
 use crate::node::Node;
@@ -11,9 +11,9 @@ use crate::spoken::Spoken;
 use office_map::RecordId;
 use std::alloc::AllocError;
 
-/// Adds the records of a statement.
+/// Adds the records of the first line of a statement.
 pub(crate) fn add_needs(needs: &mut Vec<RecordId>, spoken: &Spoken<'_>) -> Result<(), AllocError>
-    ensures { OnOk result (needs.new.items ≡ spoken_needs (seen_spoken spoken.now) needs.old.items) }
+    ensures { OnOk result (needs.new.items ≡ named_after needs.old.items (seen_spoken spoken.now)) }
 {
     match spoken {
         Spoken::Let(_, e) => add_reads(needs, e),
@@ -22,7 +22,8 @@ pub(crate) fn add_needs(needs: &mut Vec<RecordId>, spoken: &Spoken<'_>) -> Resul
             add_reads(needs, e)
         }
         Spoken::Give(e) => add_reads(needs, e),
-        Spoken::Require(c, _) => {
+        Spoken::Repeat(_) => Ok(()),
+        Spoken::Require(c, _) | Spoken::If(c) => {
             add_reads(needs, &c.left)?;
             add_reads(needs, &c.right)
         }

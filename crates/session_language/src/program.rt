@@ -13,6 +13,7 @@ ghost use Rattle.session_language.specs.WellFormed.{IsWellFormed};
 use crate::copying::{copy_block, copy_texts};
 use crate::draft::Draft;
 use crate::listing::session_text;
+use crate::parts::Parts;
 use crate::tree::Statement;
 use crate::words::{RecordNames, Words};
 use office_map::{OfficeId, Plan, RecordId};
@@ -57,16 +58,19 @@ impl Program {
 
     /// The program of a session that is closed.
     pub(crate) fn of(draft: Draft) -> Program
+        requires no_block { (draft_of draft).outer ≡ [] }
         requires short { is_too_long (program_of (draft_of draft)) ≡ false }
         requires few_gives { block_gives (program_of (draft_of draft)).body ≤ most_gives }
         ensures { result ≡ program_of (draft_of draft) }
     {
-        let Draft {
+        let Draft { parts } = draft;
+        let Parts {
             office,
             variables,
             needs,
+            outer: _,
             mut statements,
-        } = draft;
+        } = parts;
         statements.shrink_to_fit();
         Program {
             office,

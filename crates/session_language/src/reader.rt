@@ -11,7 +11,7 @@ ghost use Rattle.session_language.specs.Reading.{take_line, take_after};
 ghost use Rattle.session_language.specs.Reading.{nothing_read};
 
 use crate::builder::{Builder, Level, Stage, Sum};
-use crate::draft::Draft;
+use crate::draft::{Draft, Ended};
 use crate::fault::{SessionRule, Stop};
 use crate::guesses::Guesses;
 use crate::keyword::{Keyword, keyword_of};
@@ -87,10 +87,15 @@ impl Reader {
     {
         match keyword {
             Keyword::Session => self.take_opening(alloc, plan, pieces),
+            Keyword::Else => self.take_otherwise(alloc, pieces),
             Keyword::End => self.take_closing(alloc, pieces),
-            Keyword::Let | Keyword::Set | Keyword::Give | Keyword::Require | Keyword::Other => {
-                self.take_statement(alloc, plan, keyword, pieces)
-            }
+            Keyword::Let
+            | Keyword::Set
+            | Keyword::Give
+            | Keyword::Require
+            | Keyword::If
+            | Keyword::Repeat
+            | Keyword::Other => self.take_statement(alloc, plan, keyword, pieces),
         }
     }
 
@@ -129,6 +134,20 @@ impl Reader {
         }
     }
 
+    fn take_otherwise(&mut self, alloc: Global, pieces: Pieces<'_>) -> Result<(), Stop>
+        ensures { (p : PlanValue) → UnlessMemory (λ _. reading_of self.new) Stops result (take_after p (reading_of self.old) Keyword.Else (pieces_of pieces.entry.rest.now)) }
+    {
+        let mut rest = pieces;
+        if rest.next().is_some() {
+            return Err(Stop::Refused(SessionRule::Syntax));
+        }
+        let Some(draft) = mem::replace(&mut self.open_session, None) else {
+            return Err(Stop::Refused(SessionRule::Syntax));
+        };
+        self.open_session = Some(draft.turned(alloc)?);
+        Ok(())
+    }
+
     fn take_closing(&mut self, alloc: Global, pieces: Pieces<'_>) -> Result<(), Stop>
         ensures { (p : PlanValue) → UnlessMemory (λ _. reading_of self.new) Stops result (take_after p (reading_of self.old) Keyword.End (pieces_of pieces.entry.rest.now)) }
     {
@@ -139,8 +158,10 @@ impl Reader {
         let Some(draft) = mem::replace(&mut self.open_session, None) else {
             return Err(Stop::Refused(SessionRule::Syntax));
         };
-        let program = draft.close(alloc)?;
-        self.done.push(program)?;
+        match draft.ended(alloc)? {
+            Ended::Going(draft) => self.open_session = Some(draft),
+            Ended::Closed(program) => self.done.push(program)?,
+        }
         Ok(())
     }
 }

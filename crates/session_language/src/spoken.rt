@@ -5,8 +5,9 @@ ghost use Rattle.bottle_values.specs.Memory.{UnlessMemory};
 ghost use Rattle.session_language.specs.refinement.ReaderRefinement.{Stops};
 ghost use Rattle.session_language.specs.Lexer.{pieces_of, AWord};
 ghost use Rattle.session_language.specs.Names.{scope_of};
-ghost use Rattle.session_language.specs.Reading.{SpeaksDemand};
-ghost use Rattle.session_language.specs.Form.{phrase_alone, assigned, else_code, comparison_of};
+ghost use Rattle.session_language.specs.Names as names;
+ghost use Rattle.session_language.specs.Reading.{SpeaksDemand, SpeaksIf};
+ghost use Rattle.session_language.specs.Form.{phrase_alone, assigned, else_code, count_alone, comparison_of};
 ghost use Rattle.session_language.specs.refinement.ResolvedStatements.{ReadsAlone, ReadsAssigned, seen_spoken, spoken_after, judged};
 
 use crate::builder::Builder;
@@ -14,7 +15,7 @@ use crate::expression::Expression;
 use crate::fault::{SessionRule, Stop};
 use crate::keyword::Keyword;
 use crate::lexer::{Piece, Pieces, Symbol};
-use crate::limits::{CODES_END, MOST_DEPTH};
+use crate::limits::{CODES_END, MOST_DEPTH, MOST_TURNS};
 use crate::node::Comparison;
 use crate::scope::Scope;
 use crate::summary::Summary;
@@ -23,13 +24,15 @@ use office_map::RecordId;
 use office_map::text::{name, number};
 use std::alloc::{AllocError, Global};
 
-/// A statement; a variable that is let is still text.
+/// The first line of a statement; a variable that is let is still text.
 #[derive(Drop)]
 pub enum Spoken<'a> {
     Let(&'a str, Expression),
     Set(RecordId, Expression),
     Give(Expression),
     Require(Box<Condition>, u16),
+    If(Box<Condition>),
+    Repeat(u16),
 }
 
 /// Reads an expression that is the rest of a line.
@@ -73,7 +76,7 @@ fn assigned<'a>(
     }
 }
 
-/// Reads the statement after a keyword. Of its faults the one that comes first in the order of
+/// Reads the first line of a statement after a keyword. Of its faults the one that comes first in the order of
 /// the refusals is told.
 pub fn speak<'a>(
     builder: &mut Builder,
@@ -90,7 +93,11 @@ pub fn speak<'a>(
         Keyword::Set => speak_set(builder, alloc, scope, pieces),
         Keyword::Give => speak_give(builder, alloc, scope, pieces),
         Keyword::Require => speak_require(builder, alloc, scope, pieces),
-        Keyword::Session | Keyword::End | Keyword::Other => Err(Stop::Refused(SessionRule::Syntax)),
+        Keyword::If => speak_if(builder, alloc, scope, pieces),
+        Keyword::Repeat => speak_repeat(pieces),
+        Keyword::Session | Keyword::Else | Keyword::End | Keyword::Other => {
+            Err(Stop::Refused(SessionRule::Syntax))
+        }
     }
 }
 
@@ -192,6 +199,76 @@ fn required<'a>(
         right,
     };
     Ok(Spoken::Require(Box::new(alloc, condition)?, code))
+}
+
+#[tactic(auto, using(crate::proofs::session_reading::ResolveNames::is_postfix, crate::proofs::session_reading::ResolveNames::its_tree))]
+fn speak_if<'a>(
+    builder: &mut Builder,
+    alloc: Global,
+    scope: &Scope<'_>,
+    pieces: Pieces<'a>,
+) -> Result<Spoken<'a>, Stop>
+    requires { length scope.now.variables.now ≤ 255 }
+    ensures { UnlessMemory seen_spoken Stops result (spoken_after (scope_of scope.now) Keyword.If (pieces_of pieces.entry.rest.now)) }
+{
+    let mut rest = pieces;
+    let Some((first, Some(Piece::Symbol(symbol)))) = builder.phrase(scope, &mut rest)? else {
+        return Err(Stop::Refused(SessionRule::Syntax));
+    };
+    let Some(comparison) = comparison_of(symbol) else {
+        return Err(Stop::Refused(SessionRule::Syntax));
+    };
+    let left = builder.expression(alloc)?;
+    let Some(second) = alone(builder, scope, rest)? else {
+        return Err(Stop::Refused(SessionRule::Syntax));
+    };
+    judge(first.and(second))?;
+    let right = builder.expression(alloc)?;
+    Ok(asked(alloc, left, comparison, right)?)
+}
+
+fn asked<'a>(
+    alloc: Global,
+    left: Expression,
+    comparison: Comparison,
+    right: Expression,
+) -> Result<Spoken<'a>, AllocError>
+    ensures { IfOk result (λ x. seen_spoken x ≡ SpeaksIf (record { left = left; comparison = comparison; right = right })) }
+{
+    let condition = Condition {
+        left,
+        comparison,
+        right,
+    };
+    Ok(Spoken::If(Box::new(alloc, condition)?))
+}
+
+fn speak_repeat<'a>(pieces: Pieces<'a>) -> Result<Spoken<'a>, Stop>
+    ensures { (s : names.Scope) → UnlessMemory seen_spoken Stops result (spoken_after s Keyword.Repeat (pieces_of pieces.entry.rest.now)) }
+{
+    match count_alone(pieces) {
+        Some(turns) => Ok(Spoken::Repeat(turns)),
+        None => Err(Stop::Refused(SessionRule::Syntax)),
+    }
+}
+
+/// A count of turns, and nothing after it.
+fn count_alone(pieces: Pieces<'_>) -> Option<u16>
+    ensures { result ≡ count_alone (pieces_of pieces.entry.rest.now) }
+{
+    let mut rest = pieces;
+    let Some(Piece::Word(word)) = rest.next() else {
+        return None;
+    };
+    if rest.next().is_some() {
+        return None;
+    }
+    let turns = number(word)?;
+    if turns <= MOST_TURNS {
+        Some(turns as u16)
+    } else {
+        None
+    }
 }
 
 /// The first refusal of an expression's names and depth.

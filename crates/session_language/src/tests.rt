@@ -7,6 +7,7 @@ use std::alloc::{AllocError, Global};
 use std::fmt::Write;
 use std::test::Fail;
 
+mod blocks;
 mod limits;
 mod refusals;
 

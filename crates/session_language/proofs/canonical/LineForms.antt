@@ -1,5 +1,5 @@
 -- The canonical line of a statement has the form of that statement.
-use Rattle.std.proofs.Common.{◌≡◌, ◌<◌, ℕ, List, [], ◌∷◌, ◌++◌, true, false, nat_lt, Some, None, option_map, option_and_then, if◌then◌else◌, codes, refl, sym, ap, ◌∙◌, append_assoc, arith}
+use Rattle.std.proofs.Common.{◌≡◌, ◌<◌, ◌≤◌, ℕ, List, [], ◌∷◌, ◌++◌, true, false, nat_lt, nat_le, Some, None, option_map, option_and_then, if◌then◌else◌, codes, refl, sym, ap, ◌∙◌, append_assoc, arith}
 use Rattle.std.proofs.lemmas.List.{append-nil}
 use Rattle.std.proofs.lemmas.Bool.Decides.{nat_tests}
 use Rattle.std.specs.Fmt as fmt
@@ -11,32 +11,42 @@ use Rattle.session_language.specs.declared.lexer.Symbol.TheVariants as symbol
 use Rattle.session_language.specs.Tree.{Term, Command, LetVar, SetTo, GiveOf, Requires, When, Choice, Loop}
 use Rattle.session_language.specs.Lexer.{Piece, AWord, ASymbol, pieces_of}
 use Rattle.session_language.specs.Phrase.{Phrase, run, stop_at, phrase_at}
-use Rattle.session_language.specs.Form.{Lets, Sets, Gives, Demands, Opens, Says, Closes, form_of, name_alone, ends_there, phrase_alone, if_named, assigned, small_code, else_code, comparison_of, demand, compared, after_left, requirement}
-use Rattle.session_language.specs.Text.{Words, variable_name, term_text, test_text, comparison_text, let_text, set_text, require_text, line, command_text}
-use Rattle.session_language.specs.WellFormed.{IsStatementOver}
+use Rattle.session_language.specs.Form.{Lets, Sets, Gives, Demands, Asks, Repeats, Opens, Says, Otherwise, Closes, form_of, name_alone, ends_there, phrase_alone, if_named, assigned, small_code, else_code, few_turns, count_alone, comparison_of, demand, question, compared, after_left, condition}
+use Rattle.session_language.specs.Text.{Words, variable_name, term_text, test_text, comparison_text, let_text, set_text, require_text}
+use Rattle.session_language.specs.WellFormed.{IsExpressionOver, IsTestOver, IsStatementOver}
 use Rattle.session_language.proofs.Pieces.{pieces_of-nil, pieces_of-piece}
 use Rattle.session_language.proofs.canonical.Lexemes.{IsWord, number_is_word, number_again, name_bytes, name_again}
 use Rattle.session_language.proofs.canonical.Tokens.{phrase, tokens}
 use Rattle.session_language.proofs.canonical.LexerRoundTrip.{Fresh, Spells, Stops, word_lexed, space_lexed, phrase_read}
 
--- a statement's line, without its LF
+-- the first line of a statement, without its LF
 abbrev pub text_of : Words → Command → List ℕ
 text_of w (LetVar k e) = let_text (variable_name w k) (term_text w e)
 text_of w (SetTo r e) = set_text (w.record_name r) (term_text w e)
 text_of w (GiveOf e) = codes "give " ++ term_text w e
 text_of w (Requires t code) = require_text (test_text w t) code
-text_of w (When t b) = []
-text_of w (Choice t a b) = []
-text_of w (Loop n b) = []
+text_of w (When t b) = codes "if " ++ test_text w t
+text_of w (Choice t a b) = codes "if " ++ test_text w t
+text_of w (Loop n b) = codes "repeat " ++ fmt.decimal n
 
-pub one_line : (w : Words) (known : ℕ) (c : Command) → IsStatementOver known c → command_text w c ≡ line (text_of w c)
-one_line w known (LetVar k e) h = refl
-one_line w known (SetTo r e) h = refl
-one_line w known (GiveOf e) h = refl
-one_line w known (Requires t code) h = refl
-one_line w known (When t b) h = absurd h
-one_line w known (Choice t a b) h = absurd h
-one_line w known (Loop n b) h = absurd h
+-- what holds of it where so many variables are known
+abbrev pub IsFirstOver : ℕ → Command → Type 0
+IsFirstOver known (LetVar k e) = (k ≤ known) × IsExpressionOver known e
+IsFirstOver known (SetTo r e) = IsExpressionOver known e
+IsFirstOver known (GiveOf e) = IsExpressionOver known e
+IsFirstOver known (Requires t code) = IsTestOver known t × (code < 65536)
+IsFirstOver known (When t b) = IsTestOver known t
+IsFirstOver known (Choice t a b) = IsTestOver known t
+IsFirstOver known (Loop n b) = n ≤ 10000
+
+pub first_over : (around known : ℕ) (c : Command) → IsStatementOver around known c → IsFirstOver known c
+first_over around known (LetVar k e) h = h
+first_over around known (SetTo r e) h = h
+first_over around known (GiveOf e) h = h
+first_over around known (Requires t code) h = h
+first_over around known (When t b) h = h.1
+first_over around known (Choice t a b) h = h.1
+first_over around known (Loop n b) h = h.1
 
 nothing_stops : Stops []
 nothing_stops = record { fresh = tt; stops = rw pieces_of-nil refl }
@@ -153,14 +163,40 @@ require_form w l r c code ls rs small h g =
     let first : phrase_at (pieces_of (ls ++ bs)) ≡ Some (phrase w l, pieces_of bs) = phrase_read w l ls bs h (comparison_stops c (rs ++ coda code)) in
     let second : phrase_at (pieces_of (rs ++ coda code)) ≡ Some (phrase w r, pieces_of (coda code)) = phrase_read w r rs (coda code) g (coda_stops code small) in
     ap form_of (keyword_lexed (codes "require") ((ls ++ (comparison_text c ++ rs)) ++ coda code) (record { some = omega arith; bytes = refl }))
-    ∙ ap (λ xs. option_map Says (requirement (pieces_of xs))) regroup
-    ∙ ap (λ o. option_map Says (option_and_then after_left o)) first
-    ∙ ap (λ ps. option_map Says (after_left (phrase w l, ps))) (comparison_lexed c (rs ++ coda code))
-    ∙ ap (λ o. option_map Says (compared (phrase w l) o (pieces_of (rs ++ coda code)))) (compares c)
+    ∙ ap (λ xs. option_map Says (condition demand (pieces_of xs))) regroup
+    ∙ ap (λ o. option_map Says (option_and_then (after_left demand) o)) first
+    ∙ ap (λ ps. option_map Says (after_left demand (phrase w l, ps))) (comparison_lexed c (rs ++ coda code))
+    ∙ ap (λ o. option_map Says (compared demand (phrase w l) o (pieces_of (rs ++ coda code)))) (compares c)
     ∙ ap (λ o. option_map Says (option_and_then (demand (phrase w l) c) o)) second
     ∙ ap (λ o. option_map Says (option_map (Demands (phrase w l) c (phrase w r)) o)) (coda_read code small)
 
--- the first line of a session, and the last
+pub if_form : (w : Words) (l r : Term) (c : Comparison) (ls rs : List ℕ) → Spells ls (tokens w l) → Spells rs (tokens w r)
+    → form_of (pieces_of (codes "if " ++ (ls ++ (comparison_text c ++ rs)))) ≡ Some (Says (Asks (phrase w l) c (phrase w r)))
+if_form w l r c ls rs h g =
+    let bs : List ℕ = comparison_text c ++ rs in
+    let first : phrase_at (pieces_of (ls ++ bs)) ≡ Some (phrase w l, pieces_of bs) = phrase_read w l ls bs h (comparison_stops c rs) in
+    let second : phrase_at (pieces_of rs) ≡ Some (phrase w r, []) =
+    ap (λ cs. phrase_at (pieces_of cs)) (sym (append-nil rs)) ∙ phrase_read w r rs [] g nothing_stops ∙ ap (λ ps. Some (phrase w r, ps)) pieces_of-nil in
+    ap form_of (keyword_lexed (codes "if") (ls ++ bs) (record { some = omega arith; bytes = refl }))
+    ∙ ap (λ o. option_map Says (option_and_then (after_left question) o)) first
+    ∙ ap (λ ps. option_map Says (after_left question (phrase w l, ps))) (comparison_lexed c rs)
+    ∙ ap (λ o. option_map Says (compared question (phrase w l) o (pieces_of rs))) (compares c)
+    ∙ ap (λ o. option_map Says (option_and_then (question (phrase w l) c) o)) second
+
+pub repeat_form : (n : ℕ) → n ≤ 10000 → form_of (pieces_of (codes "repeat " ++ fmt.decimal n)) ≡ Some (Says (Repeats n))
+repeat_form n h =
+    let small : nat_le n 10000 ≡ true = grind (arith, nat_tests) in
+    ap form_of (keyword_lexed (codes "repeat") (fmt.decimal n) (record { some = omega arith; bytes = refl }))
+    ∙ ap (λ cs. option_map Says (option_map Repeats (count_alone (pieces_of cs)))) (sym (append-nil (fmt.decimal n)))
+    ∙ ap (λ ps. option_map Says (option_map Repeats (count_alone ps))) (word_lexed (fmt.decimal n) [] (number_is_word n (omega arith)) tt ∙ ap (λ ps. AWord (fmt.decimal n) ∷ ps) pieces_of-nil)
+    ∙ ap (λ o. option_map Says (option_map Repeats (few_turns o))) (number_again n (omega arith))
+    ∙ ap (λ b. option_map Says (option_map Repeats (if b then Some n else None))) small
+
+-- the line between the parts of an `if`, the first line of a session, and the last of a block or a session
+pub else_form : form_of (pieces_of (codes "else")) ≡ Some Otherwise
+else_form =
+    ap form_of (word_lexed (codes "else") [] (record { some = omega arith; bytes = refl }) tt ∙ ap (λ ps. AWord (codes "else") ∷ ps) pieces_of-nil)
+
 pub session_form : (name : List ℕ) → is_name name ≡ true → form_of (pieces_of (codes "session " ++ name)) ≡ Some (Opens name)
 session_form name h =
     ap form_of (keyword_lexed (codes "session") name (record { some = omega arith; bytes = refl }))

@@ -1,5 +1,5 @@
 -- A program's canonical text means that program.
-use Rattle.std.proofs.Common.{◌≡◌, ◌<◌, ◌≤◌, ◌+◌, ℕ, List, [], ◌∷◌, ◌++◌, length, Bool, true, false, ◌||◌, nat_lt, nat_le, Some, None, option_map, unwrap_or, Result, Ok, Err, IfOk, codes, refl, sym, ap, ◌∙◌, append_assoc, arith}
+use Rattle.std.proofs.Common.{◌≡◌, ◌<◌, ◌≤◌, ◌+◌, ◌&&◌, ℕ, List, [], ◌∷◌, ◌++◌, length, Bool, true, false, ◌||◌, nat_lt, nat_le, Some, None, option_map, unwrap_or, Result, Ok, Err, IfOk, codes, refl, sym, ap, ◌∙◌, append_assoc, arith}
 use Rattle.std.specs.Prelude.{slice_get}
 use Rattle.std.specs.List.{list_all}
 use Rattle.std.specs.Option.{ok_or}
@@ -11,25 +11,25 @@ use Rattle.office_map.specs.declared.entries.OfficeEntry.{OfficeEntry}
 use Rattle.office_map.specs.PlanValue.{PlanValue, office_named}
 use Rattle.office_map.specs.PlanText.{◌>>=◌, ◌>>◌, refuse_if}
 use Rattle.office_map.specs.Consistency.{IsConsistent}
-use Rattle.office_map.specs.Text.{is_name, lines, statements, statements_from}
+use Rattle.std.specs.Fmt.{decimal}
+use Rattle.office_map.specs.Text.{is_name, lines, statements, statements_from, says_something}
 use Rattle.session_language.specs.declared.fault.SessionRule.{SessionRule}
 use Rattle.session_language.specs.declared.fault.SessionRule.TheVariants.{UnknownName, TooLong, TooManyGives}
 use Rattle.session_language.specs.declared.fault.SessionRefusal.{SessionRefusal}
-use Rattle.session_language.specs.Tree.{Command, LetVar, SetTo, GiveOf, Requires, When, Choice, Loop, Block, Nothing, Then}
+use Rattle.session_language.specs.Tree.{Test, Command, LetVar, SetTo, GiveOf, Requires, When, Choice, Loop, Block, Nothing, Then}
 use Rattle.session_language.specs.ProgramValue.{ProgramValue}
 use Rattle.session_language.specs.refinement.TreeOfStatements.{block_from}
-use Rattle.session_language.specs.Needs.{command_needs, block_needs, needs_of}
+use Rattle.session_language.specs.Needs.{test_needs, command_needs, block_needs, needs_of}
 use Rattle.session_language.specs.Measures.{block_statements, block_cost, block_gives}
 use Rattle.session_language.specs.Program.{fits, words_under, text_under}
-use Rattle.session_language.specs.Text.{Words, line, command_text, block_text, session_text, wide_words}
-use Rattle.session_language.specs.Reading.{Reading, program_of, is_too_long, closed, begun, with_open, with_closed, take_line, take_formed, at_line, read_lines, nothing_read, all_closed, sessions_of}
-use Rattle.session_language.specs.WellFormed.{IsStatementOver, known_after, AreStatements, IsWellFormed}
+use Rattle.session_language.specs.Text.{Words, line, test_text, command_text, block_text, session_text, wide_words}
+use Rattle.session_language.specs.Reading.{Head, IfHead, ElseHead, RepeatHead, OpenBlock, Draft, Reading, program_of, is_too_long, closed, whole, Closed, begun, with_open, with_ended, take_line, take_formed, at_line, read_lines, nothing_read, all_closed, sessions_of}
+use Rattle.session_language.specs.WellFormed.{IsStatementOver, known_after, known_after_block, AreStatements, IsWellFormed}
 use Rattle.session_language.proofs.canonical.NameResolution.{office_found, office_is_named}
-use Rattle.session_language.proofs.canonical.LineForms.{text_of, one_line, session_form, end_form}
+use Rattle.session_language.proofs.canonical.LineForms.{text_of, IsFirstOver, session_form, else_form, end_form}
 use Rattle.session_language.proofs.canonical.TextLines.{IsPlain, both_plain, name_plain, plainly, command_says, command_within, first_statement_is}
-use Rattle.session_language.proofs.needed_records.Append.{needs_more}
 use Rattle.session_language.proofs.needed_records.Parts.{with_command, with_block, block_longer}
-use Rattle.session_language.proofs.canonical.StatementRoundTrip.{own, draft, going, plain_line, line_retaken}
+use Rattle.session_language.proofs.canonical.StatementRoundTrip.{own, draft, going, first_known, first_needs, first_done, opens, plain_line, line_retaken}
 use Rattle.session_language.proofs.session_measures.SizeBound.{text_is_short}
 
 -- the statements of a block
@@ -42,18 +42,22 @@ block_again Nothing = refl
 block_again (Then c rest) = ap (Then c) (block_again rest)
 
 -- no statement makes a variable unknown
-grows : (n : ℕ) (c : Command) → n ≤ known_after n c
-grows n (LetVar k e) = omega arith
-grows n (SetTo r e) = omega arith
-grows n (GiveOf e) = omega arith
-grows n (Requires t code) = omega arith
-grows n (When t b) = omega arith
-grows n (Choice t a b) = omega arith
-grows n (Loop m b) = omega arith
+mutual
+  grows : (n : ℕ) (c : Command) → n ≤ known_after n c
+  grows n (LetVar k e) = omega arith
+  grows n (SetTo r e) = omega arith
+  grows n (GiveOf e) = omega arith
+  grows n (Requires t code) = omega arith
+  grows n (When t b) = block_grows n b
+  grows n (Choice t a b) = let one = block_grows n a in let more = block_grows (known_after_block n a) b in omega arith
+  grows n (Loop m b) = block_grows n b
 
-known_before : (n : ℕ) (b : Block) (last : ℕ) → AreStatements n b last → n ≤ last
-known_before n Nothing last h = omega (arith, h)
-known_before n (Then c rest) last h = let one = grows n c in let more = known_before (known_after n c) rest last h.1 in omega arith
+  block_grows : (n : ℕ) (b : Block) → n ≤ known_after_block n b
+  block_grows n Nothing = omega arith
+  block_grows n (Then c rest) = let one = grows n c in let more = block_grows (known_after n c) rest in omega arith
+
+room_for : (n : ℕ) → n < 8 → nat_le 8 n ≡ false
+room_for n h = grind (arith, nat_tests)
 
 is_below : (k n : ℕ) → n ≤ k → nat_lt k n ≡ false
 is_below k n h = grind (arith, nat_tests)
@@ -69,44 +73,167 @@ module _ (p : PlanValue) (ok : IsConsistent p) (x : ProgramValue) (good : IsWell
   abbrev ours : ℕ → Bool
   ours = own p ok x good.declared
 
-  abbrev so_far : ℕ → List Command → Reading
-  so_far n cs = going p ok x good.declared [] n cs
+  abbrev so_far : List ℕ → List OpenBlock → ℕ → List Command → Reading
+  so_far named outer n cs = going p ok x good.declared (draft p ok x good.declared named outer n cs)
 
   abbrev count : ℕ
   count = length x.variables
 
-  -- one line, and what follows it
-  line_read : (n k : ℕ) (cs : List Command) (c : Command) (after : List ℕ) → n ≤ count → IsStatementOver n c → command_within ours c → known_after n c ≤ count → length (needs_of (block_from (cs ++ c ∷ []))) ≤ 16
-      → read_lines p (so_far n cs) (statements_from k (lines (command_text w c ++ after))) ≡ read_lines p (so_far (known_after n c) (cs ++ c ∷ [])) (statements_from (k + 1) (lines after))
-  line_read n k cs c after le h g room needs =
-      let t : List ℕ = text_of w c in
-      ap (λ bs. read_lines p (so_far n cs) (statements_from k (lines (bs ++ after)))) (one_line w n c h)
-      ∙ ap (λ bs. read_lines p (so_far n cs) (statements_from k (lines bs))) (append_assoc t (10 ∷ []) after)
-      ∙ ap (read_lines p (so_far n cs)) (first_statement_is k t after (plain_line p ok x good.declared n le c h g room) (command_says w n c h))
-      ∙ ap (λ r. at_line k r >>= λ y. read_lines p y (statements_from (k + 1) (lines after))) (line_retaken p ok x good.declared [] n cs c le h g room good.few_variables needs)
+  abbrev Ours : List ℕ → Type 0
+  Ours rs = list_all ours rs ≡ true
 
-  -- all lines of a block, and what follows them
-  body_read : (b : Block) (n k : ℕ) (cs : List Command) (after : List ℕ) → AreStatements n b count → list_all ours (block_needs b (needs_of (block_from cs))) ≡ true → length (block_needs b (needs_of (block_from cs))) ≤ 16
-      → (m : ℕ) × (read_lines p (so_far n cs) (statements_from k (lines (block_text w b ++ after))) ≡ read_lines p (so_far count (cs ++ commands_of b)) (statements_from m (lines after)))
-  body_read Nothing n k cs after h all few =
-      (k, ap (λ i. read_lines p (so_far i cs) (statements_from k (lines after))) h ∙ ap (λ ds. read_lines p (so_far count ds) (statements_from k (lines after))) (sym (append-nil cs)))
-  body_read (Then c rest) n k cs after h all few =
+  -- reading goes on from there, at some line
+  abbrev GoesOn : Reading → ℕ → List ℕ → Reading → List ℕ → Type 0
+  GoesOn y k bs z after = (m : ℕ) × (read_lines p y (statements_from k (lines bs)) ≡ read_lines p z (statements_from m (lines after)))
+
+  goes_on : (y z u : Reading) (k : ℕ) (bs cs ds : List ℕ) → GoesOn y k bs z cs → ((m : ℕ) → GoesOn z m cs u ds) → GoesOn y k bs u ds
+  goes_on y z u k bs cs ds one more = ((more one.0).0, one.1 ∙ (more one.0).1)
+
+  -- one plain line, and what follows it
+  taken_line : (y z : Reading) (k : ℕ) (t after : List ℕ) → IsPlain t → says_something t ≡ true → take_line p y t ≡ Ok z → GoesOn y k (line t ++ after) z after
+  taken_line y z k t after plain says is = (
+    k + 1,
+    ap (λ bs. read_lines p y (statements_from k (lines bs))) (append_assoc t (10 ∷ []) after)
+        ∙ ap (read_lines p y) (first_statement_is k t after plain says)
+        ∙ ap (λ r. at_line k r >>= λ u. read_lines p u (statements_from (k + 1) (lines after))) is,
+  )
+
+  -- the first line of a statement
+  line_read : (named : List ℕ) (outer : List OpenBlock) (n k : ℕ) (cs : List Command) (c : Command) (after : List ℕ) → n ≤ count → IsFirstOver n c → command_within ours c → first_known n c ≤ count → length (first_needs c named) ≤ 16
+      → (opens c && nat_le 8 (length outer)) ≡ false
+      → GoesOn (so_far named outer n cs) k (line (text_of w c) ++ after) (going p ok x good.declared (first_done (draft p ok x good.declared (first_needs c named) outer (first_known n c) cs) c)) after
+  line_read named outer n k cs c after le h g room needs shallow =
+      taken_line (so_far named outer n cs) _ k (text_of w c) after (plain_line p ok x good.declared n le c h g room) (command_says w c)
+      (line_retaken p ok x good.declared named outer n cs c le h g room good.few_variables needs shallow)
+
+  abbrev inside_of : List Command → Head → OpenBlock
+  inside_of cs head = record { before = cs; head = head }
+
+  -- the last line of a block, and the line between the parts of an `if`
+  end_read : (named : List ℕ) (outer : List OpenBlock) (n k : ℕ) (cs body : List Command) (head : Head) (after : List ℕ)
+      → GoesOn (so_far named (inside_of cs head ∷ outer) n body) k (line (codes "end") ++ after) (so_far named outer n (cs ++ whole head (block_from body) ∷ [])) after
+  end_read named outer n k cs body head after =
+      taken_line (so_far named (inside_of cs head ∷ outer) n body) _ k (codes "end") after (plainly (codes "end") refl) refl (ap (take_formed p (so_far named (inside_of cs head ∷ outer) n body)) end_form)
+
+  else_read : (named : List ℕ) (outer : List OpenBlock) (n k : ℕ) (cs body : List Command) (t : Test) (after : List ℕ)
+      → GoesOn (so_far named (inside_of cs (IfHead t) ∷ outer) n body) k (line (codes "else") ++ after) (so_far named (inside_of cs (ElseHead t (block_from body)) ∷ outer) n []) after
+  else_read named outer n k cs body t after =
+      taken_line (so_far named (inside_of cs (IfHead t) ∷ outer) n body) _ k (codes "else") after (plainly (codes "else") refl) refl (ap (take_formed p (so_far named (inside_of cs (IfHead t) ∷ outer) n body)) else_form)
+
+  regrouped : (y z : Reading) (k : ℕ) (bs cs after : List ℕ) → bs ≡ cs → GoesOn y k cs z after → GoesOn y k bs z after
+  regrouped y z k bs cs after is g = (g.0, ap (λ ds. read_lines p y (statements_from k (lines ds))) is ∙ g.1)
+
+  arrived : (y z u : Reading) (k : ℕ) (bs after : List ℕ) → z ≡ u → GoesOn y k bs z after → GoesOn y k bs u after
+  arrived y z u k bs after is g = (g.0, g.1 ∙ ap (λ (v : Reading). read_lines p v (statements_from g.0 (lines after))) is)
+
+  abbrev last_line : List ℕ
+  last_line = line (codes "end")
+
+  -- all lines of a statement, and of a block
+  abbrev IsRead : Command → Type 0
+  IsRead c =
+      (named : List ℕ) (outer : List OpenBlock) (n k : ℕ) (cs : List Command) (after : List ℕ) → IsStatementOver (length outer) n c → known_after n c ≤ count → Ours (command_needs c named) → length (command_needs c named) ≤ 16
+      → GoesOn (so_far named outer n cs) k (command_text w c ++ after) (so_far (command_needs c named) outer (known_after n c) (cs ++ c ∷ [])) after
+
+  abbrev IsBlockRead : Block → Type 0
+  IsBlockRead b =
+      (named : List ℕ) (outer : List OpenBlock) (n k : ℕ) (cs : List Command) (after : List ℕ) → AreStatements (length outer) n b → known_after_block n b ≤ count → Ours (block_needs b named) → length (block_needs b named) ≤ 16
+      → GoesOn (so_far named outer n cs) k (block_text w b ++ after) (so_far (block_needs b named) outer (known_after_block n b) (cs ++ commands_of b)) after
+
+  when_read : (t : Test) (b : Block) → IsBlockRead b → IsRead (When t b)
+  when_read t b body named outer n k cs after h top all few =
+      let rs : List ℕ = test_needs t named in
+      let parts = with_command ours (When t b) named all in
+      let le : n ≤ count = let g = block_grows n b in omega arith in
+      let small : length rs ≤ 16 = let l = block_longer b rs in omega arith in
+      let blocks : List OpenBlock = inside_of cs (IfHead t) ∷ outer in
+      let head : List ℕ = line (codes "if " ++ test_text w t) in
+      regrouped (so_far named outer n cs) (so_far (block_needs b rs) outer (known_after_block n b) (cs ++ When t b ∷ [])) k _ (head ++ (block_text w b ++ (last_line ++ after))) after
+      (append_assoc head (block_text w b ++ last_line) after ∙ ap (λ bs. head ++ bs) (append_assoc (block_text w b) last_line after))
+      (goes_on (so_far named outer n cs) (so_far rs blocks n []) (so_far (block_needs b rs) outer (known_after_block n b) (cs ++ When t b ∷ [])) k (head ++ (block_text w b ++ (last_line ++ after))) (block_text w b ++ (last_line ++ after)) after
+      (line_read named outer n k cs (When t b) (block_text w b ++ (last_line ++ after)) le h.1 parts.0 le small (room_for (length outer) h.0)) (λ i.
+      goes_on (so_far rs blocks n []) (so_far (block_needs b rs) blocks (known_after_block n b) (commands_of b)) (so_far (block_needs b rs) outer (known_after_block n b) (cs ++ When t b ∷ [])) i (block_text w b ++ (last_line ++ after)) (last_line ++ after) after
+      (body rs blocks n i [] (last_line ++ after) h.2 top all few) (λ j.
+      arrived _ (so_far (block_needs b rs) outer (known_after_block n b) (cs ++ When t (block_from (commands_of b)) ∷ [])) (so_far (block_needs b rs) outer (known_after_block n b) (cs ++ When t b ∷ [])) j (last_line ++ after) after
+      (ap (λ d. so_far (block_needs b rs) outer (known_after_block n b) (cs ++ When t d ∷ [])) (block_again b))
+      (end_read (block_needs b rs) outer (known_after_block n b) j cs (commands_of b) (IfHead t) after))))
+
+  loop_read : (turns : ℕ) (b : Block) → IsBlockRead b → IsRead (Loop turns b)
+  loop_read turns b body named outer n k cs after h top all few =
+      let le : n ≤ count = let g = block_grows n b in omega arith in
+      let small : length named ≤ 16 = let l = block_longer b named in omega arith in
+      let blocks : List OpenBlock = inside_of cs (RepeatHead turns) ∷ outer in
+      let head : List ℕ = line (codes "repeat " ++ decimal turns) in
+      regrouped (so_far named outer n cs) (so_far (block_needs b named) outer (known_after_block n b) (cs ++ Loop turns b ∷ [])) k _ (head ++ (block_text w b ++ (last_line ++ after))) after
+      (append_assoc head (block_text w b ++ last_line) after ∙ ap (λ bs. head ++ bs) (append_assoc (block_text w b) last_line after))
+      (goes_on (so_far named outer n cs) (so_far named blocks n []) (so_far (block_needs b named) outer (known_after_block n b) (cs ++ Loop turns b ∷ [])) k (head ++ (block_text w b ++ (last_line ++ after))) (block_text w b ++ (last_line ++ after)) after
+      (line_read named outer n k cs (Loop turns b) (block_text w b ++ (last_line ++ after)) le h.1 tt le small (room_for (length outer) h.0)) (λ i.
+      goes_on (so_far named blocks n []) (so_far (block_needs b named) blocks (known_after_block n b) (commands_of b)) (so_far (block_needs b named) outer (known_after_block n b) (cs ++ Loop turns b ∷ [])) i (block_text w b ++ (last_line ++ after)) (last_line ++ after) after
+      (body named blocks n i [] (last_line ++ after) h.2 top all few) (λ j.
+      arrived _ (so_far (block_needs b named) outer (known_after_block n b) (cs ++ Loop turns (block_from (commands_of b)) ∷ [])) (so_far (block_needs b named) outer (known_after_block n b) (cs ++ Loop turns b ∷ [])) j (last_line ++ after) after
+      (ap (λ d. so_far (block_needs b named) outer (known_after_block n b) (cs ++ Loop turns d ∷ [])) (block_again b))
+      (end_read (block_needs b named) outer (known_after_block n b) j cs (commands_of b) (RepeatHead turns) after))))
+
+  choice_read : (t : Test) (a b : Block) → IsBlockRead a → IsBlockRead b → IsRead (Choice t a b)
+  choice_read t a b first second named outer n k cs after h top all few =
+      let rs : List ℕ = test_needs t named in
+      let ra : List ℕ = block_needs a rs in
+      let na : ℕ = known_after_block n a in
+      let nb : ℕ = known_after_block na b in
+      let parts = with_command ours (Choice t a b) named all in
+      let top_a : na ≤ count = let g = block_grows na b in omega arith in
+      let le : n ≤ count = let g = block_grows n a in omega arith in
+      let few_a : length ra ≤ 16 = let l = block_longer b ra in omega arith in
+      let small : length rs ≤ 16 = let l = block_longer a rs in omega arith in
+      let blocks : List OpenBlock = inside_of cs (IfHead t) ∷ outer in
+      let turned : List OpenBlock = inside_of cs (ElseHead t (block_from (commands_of a))) ∷ outer in
+      let head : List ℕ = line (codes "if " ++ test_text w t) in
+      let middle : List ℕ = line (codes "else") in
+      let tail : List ℕ = block_text w b ++ (last_line ++ after) in
+      let end : Reading = so_far (block_needs b ra) outer nb (cs ++ Choice t a b ∷ []) in
+      regrouped (so_far named outer n cs) end k _ (head ++ (block_text w a ++ (middle ++ tail))) after
+      (append_assoc head (block_text w a ++ (middle ++ (block_text w b ++ last_line))) after
+      ∙ ap (λ bs. head ++ bs) (append_assoc (block_text w a) (middle ++ (block_text w b ++ last_line)) after
+      ∙ ap (λ bs. block_text w a ++ bs) (append_assoc middle (block_text w b ++ last_line) after ∙ ap (λ bs. middle ++ bs) (append_assoc (block_text w b) last_line after))))
+      (goes_on (so_far named outer n cs) (so_far rs blocks n []) end k (head ++ (block_text w a ++ (middle ++ tail))) (block_text w a ++ (middle ++ tail)) after
+      (line_read named outer n k cs (Choice t a b) (block_text w a ++ (middle ++ tail)) le h.1 parts.0 le small (room_for (length outer) h.0)) (λ i.
+      goes_on (so_far rs blocks n []) (so_far ra blocks na (commands_of a)) end i (block_text w a ++ (middle ++ tail)) (middle ++ tail) after
+      (first rs blocks n i [] (middle ++ tail) h.2 top_a (with_block ours b ra all) few_a) (λ j.
+      goes_on (so_far ra blocks na (commands_of a)) (so_far ra turned na []) end j (middle ++ tail) tail after
+      (else_read ra outer na j cs (commands_of a) t tail) (λ l.
+      goes_on (so_far ra turned na []) (so_far (block_needs b ra) turned nb (commands_of b)) end l tail (last_line ++ after) after
+      (second ra turned na l [] (last_line ++ after) h.3 top all few) (λ m.
+      arrived _ (so_far (block_needs b ra) outer nb (cs ++ Choice t (block_from (commands_of a)) (block_from (commands_of b)) ∷ [])) end m (last_line ++ after) after
+      (ap (λ d. so_far (block_needs b ra) outer nb (cs ++ Choice t d (block_from (commands_of b)) ∷ [])) (block_again a) ∙ ap (λ d. so_far (block_needs b ra) outer nb (cs ++ Choice t a d ∷ [])) (block_again b))
+      (end_read (block_needs b ra) outer nb m cs (commands_of b) (ElseHead t (block_from (commands_of a))) after))))))
+
+  then_read : (c : Command) (rest : Block) → IsRead c → IsBlockRead rest → IsBlockRead (Then c rest)
+  then_read c rest one more named outer n k cs after h top all few =
       let next : ℕ = known_after n c in
-      let needs : List ℕ = needs_of (block_from cs) in
-      let longer : needs_of (block_from (cs ++ c ∷ [])) ≡ command_needs c needs = needs_more cs c [] in
-      let room : next ≤ count = known_before next rest count h.1 in
-      let le : n ≤ count = let g = grows n c in omega arith in
-      let parts = with_command ours c needs (with_block ours rest (command_needs c needs) all) in
-      let small : length (needs_of (block_from (cs ++ c ∷ []))) ≤ 16 = let l = block_longer rest (command_needs c needs) in omega (arith, ap length longer) in
-      let one = line_read n k cs c (block_text w rest ++ after) le h.0 parts.0 room small in
-      let all' : list_all ours (block_needs rest (needs_of (block_from (cs ++ c ∷ [])))) ≡ true = rw longer all in
-      let few' : length (block_needs rest (needs_of (block_from (cs ++ c ∷ [])))) ≤ 16 = rw longer few in
-      let more = body_read rest next (k + 1) (cs ++ c ∷ []) after h.1 all' few' in (
-        more.0,
-        ap (λ bs. read_lines p (so_far n cs) (statements_from k (lines bs))) (append_assoc (command_text w c) (block_text w rest) after)
-            ∙ one ∙ more.1
-            ∙ ap (λ ds. read_lines p (so_far count ds) (statements_from more.0 (lines after))) (append_assoc cs (c ∷ []) (commands_of rest)),
-      )
+      let rs : List ℕ = command_needs c named in
+      let room : next ≤ count = let g = block_grows next rest in omega arith in
+      let small : length rs ≤ 16 = let l = block_longer rest rs in omega arith in
+      let end : Reading = so_far (block_needs rest rs) outer (known_after_block next rest) (cs ++ c ∷ commands_of rest) in
+      regrouped (so_far named outer n cs) end k _ (command_text w c ++ (block_text w rest ++ after)) after (append_assoc (command_text w c) (block_text w rest) after)
+      (goes_on (so_far named outer n cs) (so_far rs outer next (cs ++ c ∷ [])) end k (command_text w c ++ (block_text w rest ++ after)) (block_text w rest ++ after) after
+      (one named outer n k cs (block_text w rest ++ after) h.0 room (with_block ours rest rs all) small) (λ i.
+      arrived _ (so_far (block_needs rest rs) outer (known_after_block next rest) ((cs ++ c ∷ []) ++ commands_of rest)) end i (block_text w rest ++ after) after
+      (ap (λ ds. so_far (block_needs rest rs) outer (known_after_block next rest) ds) (append_assoc cs (c ∷ []) (commands_of rest)))
+      (more rs outer next i (cs ++ c ∷ []) after h.1 top all few)))
+
+  mutual
+    command_read : (c : Command) → IsRead c
+    command_read (LetVar i e) = λ named outer n k cs after h top all few. line_read named outer n k cs (LetVar i e) after (let g = grows n (LetVar i e) in omega arith) h (with_command ours (LetVar i e) named all).0 top few refl
+    command_read (SetTo r e) = λ named outer n k cs after h top all few. line_read named outer n k cs (SetTo r e) after top h (with_command ours (SetTo r e) named all).0 top few refl
+    command_read (GiveOf e) = λ named outer n k cs after h top all few. line_read named outer n k cs (GiveOf e) after top h (with_command ours (GiveOf e) named all).0 top few refl
+    command_read (Requires t code) = λ named outer n k cs after h top all few. line_read named outer n k cs (Requires t code) after top h (with_command ours (Requires t code) named all).0 top few refl
+    command_read (When t b) = when_read t b (block_read b)
+    command_read (Choice t a b) = choice_read t a b (block_read a) (block_read b)
+    command_read (Loop turns b) = loop_read turns b (block_read b)
+
+    block_read : (b : Block) → IsBlockRead b
+    block_read Nothing = λ named outer n k cs after h top all few. (k, ap (λ ds. read_lines p (so_far named outer n ds) (statements_from k (lines after))) (sym (append-nil cs)))
+    block_read (Then c rest) = then_read c rest (command_read c) (block_read rest)
 
   -- the program at its end
   abbrev closing : ProgramValue → Result ProgramValue SessionRule
@@ -118,7 +245,10 @@ module _ (p : PlanValue) (ok : IsConsistent p) (x : ProgramValue) (good : IsWell
   abbrev made : List (List ℕ) → Block → ProgramValue
   made vs b = record { office = x.office; variables = vs; body = b }
 
-  same : program_of (draft p ok x good.declared count (commands_of x.body)) ≡ x
+  abbrev whole_draft : Draft
+  whole_draft = draft p ok x good.declared (needs_of x.body) [] count (commands_of x.body)
+
+  same : program_of whole_draft ≡ x
   same =
       ap (λ vs. made vs (block_from (commands_of x.body))) (take_all count x.variables (omega arith))
       ∙ ap (made x.variables) (block_again x.body)
@@ -129,7 +259,7 @@ module _ (p : PlanValue) (ok : IsConsistent p) (x : ProgramValue) (good : IsWell
     refuse_if many TooManyGives
     Ok x
 
-  closes : closed (draft p ok x good.declared count (commands_of x.body)) ≡ Ok x
+  closes : closed whole_draft ≡ Ok x
   closes =
       ap closing same
       ∙ ap (λ b. judged b (nat_lt 64 (block_gives x.body))) good.short
@@ -138,15 +268,13 @@ module _ (p : PlanValue) (ok : IsConsistent p) (x : ProgramValue) (good : IsWell
   abbrev last : Reading
   last = record { done = x ∷ []; open_session = None }
 
-  end_taken : take_line p (so_far count (commands_of x.body)) (codes "end") ≡ Ok last
+  end_taken : take_line p (going p ok x good.declared whole_draft) (codes "end") ≡ Ok last
   end_taken =
-      ap (take_formed p (so_far count (commands_of x.body))) end_form
-      ∙ ap (λ r. r >>= λ q. Ok (with_closed (so_far count (commands_of x.body)) q)) closes
+      ap (take_formed p (going p ok x good.declared whole_draft)) end_form
+      ∙ ap (λ r. (r >>= λ q. Ok (Closed q)) >>= λ e. Ok (with_ended (going p ok x good.declared whole_draft) e)) closes
 
-  end_read : (k : ℕ) → read_lines p (so_far count (commands_of x.body)) (statements_from k (lines (line (codes "end")))) ≡ Ok last
-  end_read k =
-      ap (read_lines p (so_far count (commands_of x.body))) (first_statement_is k (codes "end") [] (plainly (codes "end") refl) refl)
-      ∙ ap (λ r. at_line k r >>= λ y. read_lines p y (statements_from (k + 1) (lines []))) end_taken
+  last_read : (k : ℕ) → read_lines p (going p ok x good.declared whole_draft) (statements_from k (lines (line (codes "end")))) ≡ Ok last
+  last_read k = (taken_line (going p ok x good.declared whole_draft) last k (codes "end") [] (plainly (codes "end") refl) refl end_taken).1
 
   module _ (fitting : fits p x ≡ true) where
     inside : x.office < length p.offices
@@ -170,7 +298,7 @@ module _ (p : PlanValue) (ok : IsConsistent p) (x : ProgramValue) (good : IsWell
     named : office_named p w.office ≡ Some x.office
     named = ap (office_named p) word_is ∙ office_found p ok x.office office.0 office.1
 
-    begins : take_line p nothing_read (codes "session " ++ w.office) ≡ Ok (so_far 0 [])
+    begins : take_line p nothing_read (codes "session " ++ w.office) ≡ Ok (so_far [] [] 0 [])
     begins =
         ap (take_formed p nothing_read) (session_form w.office is_named)
         ∙ ap (λ o. ok_or o UnknownName >>= λ office. refuse_if (nat_le 1024 0) TooLong >> Ok (with_open nothing_read (begun office))) named
@@ -183,12 +311,14 @@ module _ (p : PlanValue) (ok : IsConsistent p) (x : ProgramValue) (good : IsWell
 
     all_read : read_lines p nothing_read (statements (text_under p x)) ≡ Ok last
     all_read =
-        let body = body_read x.body 0 2 [] (line (codes "end")) good.declared.statements (and_parts (nat_lt x.office (length p.offices)) _ fitting).1 good.few_records in
+        let body = block_read x.body [] [] 0 2 [] (line (codes "end")) good.declared.statements (omega (arith, good.declared.all_let)) (and_parts (nat_lt x.office (length p.offices)) _ fitting).1 good.few_records in
+        let known : so_far (needs_of x.body) [] (known_after_block 0 x.body) (commands_of x.body) ≡ going p ok x good.declared whole_draft = ap (λ n. so_far (needs_of x.body) [] n (commands_of x.body)) good.declared.all_let in
         ap (λ bs. read_lines p nothing_read (statements bs)) (append_assoc (codes "session " ++ w.office) (10 ∷ []) later)
         ∙ ap (read_lines p nothing_read) (first_statement_is 1 (codes "session " ++ w.office) later first_plain refl)
         ∙ ap (λ r. at_line 1 r >>= λ y. read_lines p y (statements_from 2 (lines later))) begins
         ∙ body.1
-        ∙ end_read body.0
+        ∙ ap (λ (y : Reading). read_lines p y (statements_from body.0 (lines (line (codes "end"))))) known
+        ∙ last_read body.0
 
     short : nat_lt 1048576 (length (text_under p x)) ≡ false
     short =

@@ -15,11 +15,11 @@ use Rattle.session_language.specs.declared.rank.Rank.{Rank}
 use Rattle.session_language.specs.declared.rank.Rank.TheVariants.{Factor, Product, Sum}
 use Rattle.session_language.specs.Tree.{Term, Constant, Var, ReadOf, Neg, Bin, Test, Command, LetVar, SetTo, GiveOf, Requires, When, Choice, Loop}
 use Rattle.session_language.specs.Text.{Words, magnitude, variable_name, in_parentheses, factor_text, product_text, rank_of, operator_text, comparison_text, term_text, test_text}
-use Rattle.session_language.specs.WellFormed.{IsLiteral, IsOver, IsStatementOver}
+use Rattle.session_language.specs.WellFormed.{IsLiteral, IsOver, IsTestOver}
 use Rattle.session_language.proofs.canonical.Lexemes.{number_is_word, name_bytes, word_is_plain}
 use Rattle.session_language.proofs.session_reading.ProgramsFit.{term_within}
 use Rattle.session_language.proofs.canonical.LexerRoundTrip.{took}
-use Rattle.session_language.proofs.canonical.LineForms.{text_of}
+use Rattle.session_language.proofs.canonical.LineForms.{text_of, IsFirstOver}
 
 -- none of these bytes ends a line
 pub record IsPlain (bs : List ℕ) : Type 0 where
@@ -94,14 +94,14 @@ comparison_plain AtMost = plainly (comparison_text AtMost) refl
 comparison_plain Greater = plainly (comparison_text Greater) refl
 comparison_plain AtLeast = plainly (comparison_text AtLeast) refl
 
--- each record of a statement is one of these
+-- each record of the first line of a statement is one of these
 abbrev pub command_within : (ℕ → Bool) → Command → Type 0
 command_within ok (LetVar k e) = term_within ok e ≡ true
 command_within ok (SetTo r e) = (ok r ≡ true) × (term_within ok e ≡ true)
 command_within ok (GiveOf e) = term_within ok e ≡ true
 command_within ok (Requires t code) = (term_within ok t.left ≡ true) × (term_within ok t.right ≡ true)
-command_within ok (When t b) = Unit {0}
-command_within ok (Choice t a b) = Unit {0}
+command_within ok (When t b) = (term_within ok t.left ≡ true) × (term_within ok t.right ≡ true)
+command_within ok (Choice t a b) = (term_within ok t.left ≡ true) × (term_within ok t.right ≡ true)
 command_within ok (Loop n b) = Unit {0}
 
 module _ (w : Words) (known : ℕ) (ok : ℕ → Bool) (variables : (k : ℕ) → k < known → is_name (variable_name w k) ≡ true) (records : (r : ℕ) → ok r ≡ true → is_name (w.record_name r) ≡ true) where
@@ -136,22 +136,25 @@ module _ (w : Words) (known : ℕ) (ok : ℕ → Bool) (variables : (k : ℕ) �
   LetsName (Choice t a b) = Unit {0}
   LetsName (Loop n b) = Unit {0}
 
-  pub command_plain : (c : Command) → IsStatementOver known c → command_within ok c → LetsName c → IsPlain (text_of w c)
+  condition_plain : (t : Test) → IsTestOver known t → (term_within ok t.left ≡ true) × (term_within ok t.right ≡ true) → IsPlain (test_text w t)
+  condition_plain t h g = test_plain t h.0.0 h.1.0 g.0 g.1
+
+  pub command_plain : (c : Command) → IsFirstOver known c → command_within ok c → LetsName c → IsPlain (text_of w c)
   command_plain (LetVar k e) h g n = both_plain (codes "let ") _ (plainly (codes "let ") refl) (assigned_plain (variable_name w k) e n h.1.0 g)
   command_plain (SetTo r e) h g n = both_plain (codes "set ") _ (plainly (codes "set ") refl) (assigned_plain (w.record_name r) e (records r g.0) h.0 g.1)
   command_plain (GiveOf e) h g n = both_plain (codes "give ") _ (plainly (codes "give ") refl) (term_plain e h.0 g)
   command_plain (Requires t code) h g n =
-      both_plain (codes "require ") _ (plainly (codes "require ") refl) (both_plain (test_text w t) _ (test_plain t h.0.0 h.1.0 g.0 g.1) (both_plain (codes " else ") (fmt.decimal code) (plainly (codes " else ") refl) (number_plain code (let small = h.2 in omega arith))))
-  command_plain (When t b) h g n = absurd h
-  command_plain (Choice t a b) h g n = absurd h
-  command_plain (Loop m b) h g n = absurd h
+      both_plain (codes "require ") _ (plainly (codes "require ") refl) (both_plain (test_text w t) _ (condition_plain t h.0 g) (both_plain (codes " else ") (fmt.decimal code) (plainly (codes " else ") refl) (number_plain code (let small = h.1 in omega arith))))
+  command_plain (When t b) h g n = both_plain (codes "if ") _ (plainly (codes "if ") refl) (condition_plain t h g)
+  command_plain (Choice t a b) h g n = both_plain (codes "if ") _ (plainly (codes "if ") refl) (condition_plain t h g)
+  command_plain (Loop m b) h g n = both_plain (codes "repeat ") (fmt.decimal m) (plainly (codes "repeat ") refl) (number_plain m (omega arith))
 
 -- and say something
-pub command_says : (w : Words) (known : ℕ) (c : Command) → IsStatementOver known c → says_something (text_of w c) ≡ true
-command_says w known (LetVar k e) h = refl
-command_says w known (SetTo r e) h = refl
-command_says w known (GiveOf e) h = refl
-command_says w known (Requires t code) h = refl
-command_says w known (When t b) h = absurd h
-command_says w known (Choice t a b) h = absurd h
-command_says w known (Loop m b) h = absurd h
+pub command_says : (w : Words) (c : Command) → says_something (text_of w c) ≡ true
+command_says w (LetVar k e) = refl
+command_says w (SetTo r e) = refl
+command_says w (GiveOf e) = refl
+command_says w (Requires t code) = refl
+command_says w (When t b) = refl
+command_says w (Choice t a b) = refl
+command_says w (Loop m b) = refl

@@ -43,8 +43,8 @@ module _ (ok : ℕ → Bool) where
     with_command (SetTo r e) rs h = let m = with_term e (with_record r rs) h in let n = with_one r rs m.1 in ((n.0, m.0), n.1)
     with_command (GiveOf e) rs h = with_term e rs h
     with_command (Requires t code) rs h = let m = with_test t rs h in ((m.0, m.1), m.2)
-    with_command (When t b) rs h = (tt, (with_test t rs (with_block b (test_needs t rs) h)).2)
-    with_command (Choice t a b) rs h = (tt, (with_test t rs (with_block a (test_needs t rs) (with_block b (block_needs a (test_needs t rs)) h))).2)
+    with_command (When t b) rs h = let m = with_test t rs (with_block b (test_needs t rs) h) in ((m.0, m.1), m.2)
+    with_command (Choice t a b) rs h = let m = with_test t rs (with_block a (test_needs t rs) (with_block b (block_needs a (test_needs t rs)) h)) in ((m.0, m.1), m.2)
     with_command (Loop n b) rs h = (tt, with_block b rs h)
 
     pub with_block : (b : Block) (rs : List ℕ) → All (block_needs b rs) → All rs
@@ -71,7 +71,7 @@ test_longer : (t : Test) (rs : List ℕ) → length rs ≤ length (test_needs t 
 test_longer t rs = let left = term_longer t.left rs in let right = term_longer t.right (term_needs t.left rs) in omega arith
 
 mutual
-  command_longer : (c : Command) (rs : List ℕ) → length rs ≤ length (command_needs c rs)
+  pub command_longer : (c : Command) (rs : List ℕ) → length rs ≤ length (command_needs c rs)
   command_longer (LetVar k e) rs = term_longer e rs
   command_longer (SetTo r e) rs = let one = one_longer r rs in let more = term_longer e (with_record r rs) in omega arith
   command_longer (GiveOf e) rs = term_longer e rs

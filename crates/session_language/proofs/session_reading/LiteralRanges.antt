@@ -1,5 +1,5 @@
 -- The numbers, names and codes of a line are in their ranges.
-use Rattle.std.proofs.Common.{◌≡◌, ◌<◌, ◌^◌, ℕ, List, [], ◌∷◌, length, Bool, true, false, ◌&&◌, nat_lt, nat_le, Option, Some, None, IfSome, if◌then◌else◌, codes, refl, ap, ◌∙◌, arith}
+use Rattle.std.proofs.Common.{◌≡◌, ◌<◌, ◌≤◌, ◌^◌, ℕ, List, [], ◌∷◌, length, Bool, true, false, ◌&&◌, nat_lt, nat_le, Option, Some, None, IfSome, if◌then◌else◌, codes, refl, ap, ◌∙◌, arith}
 use Rattle.std.specs.List.{list_all}
 use Rattle.std.specs.Str.{bytes_eq}
 use Rattle.std.specs.Char.{is_ascii_digit}
@@ -11,7 +11,7 @@ use Rattle.session_language.specs.declared.lexer.Symbol.TheVariants as symbol
 use Rattle.session_language.specs.Lexer.{Piece, AWord, ASymbol, AStray}
 use Rattle.session_language.specs.Spelling.{Operand, ANumber, AVariable, ARecord, Token, Leaf, Plus, Minus, Times, Open, Close}
 use Rattle.session_language.specs.Phrase.{Run, run, is_read, with_token, with_symbol, with_operand, with_record, operand_in, or_variable, expression_symbol}
-use Rattle.session_language.specs.Form.{small_code, else_code}
+use Rattle.session_language.specs.Form.{small_code, else_code, few_turns, count_alone}
 
 -- a literal is a number of a text
 abbrev pub operand_fits : Operand → Bool
@@ -120,3 +120,22 @@ code_fits (AWord w ∷ ASymbol s ∷ ps) = tt
 code_fits (AWord w ∷ AStray ∷ ps) = tt
 code_fits (ASymbol s ∷ ps) = tt
 code_fits (AStray ∷ ps) = tt
+
+-- a count of turns is at most 10000
+abbrev CountFits : Option ℕ → Type 0
+CountFits o = IfSome o (λ n. n ≤ 10000)
+
+few_by : (b : Bool) (n : ℕ) → nat_le n 10000 ≡ b → CountFits (if b then Some n else None)
+few_by true n h = grind (h, arith, nat_tests)
+few_by false n h = tt
+
+few_fit : (o : Option ℕ) → CountFits (few_turns o)
+few_fit None = tt
+few_fit (Some n) = few_by (nat_le n 10000) n refl
+
+pub count_fits : (ps : List Piece) → CountFits (count_alone ps)
+count_fits [] = tt
+count_fits (AWord w ∷ []) = few_fit (number_of w)
+count_fits (AWord w ∷ p ∷ ps) = tt
+count_fits (ASymbol s ∷ ps) = tt
+count_fits (AStray ∷ ps) = tt

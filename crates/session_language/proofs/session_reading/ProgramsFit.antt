@@ -10,7 +10,7 @@ use Rattle.std.specs.Option.{ok_or}
 use Rattle.office_map.specs.PlanValue.{PlanValue, is_end, office_named, record_named}
 use Rattle.office_map.specs.Text.{is_name, name_of, lines, statements}
 use Rattle.office_map.specs.PlanText.{◌>>=◌, ◌>>◌, refuse_if}
-use Rattle.session_language.specs.Tree.{Term, Constant, Var, ReadOf, Neg, Bin}
+use Rattle.session_language.specs.Tree.{Term, Constant, Var, ReadOf, Neg, Bin, Command}
 use Rattle.session_language.specs.Spelling.{Operand, ANumber, AVariable, ARecord, Spelled, Plain, Token, Plus, Minus, Times, Close}
 use Rattle.session_language.specs.Grammar.{IsFactor, IsProduct, IsExpr, operand, negative, enclosed, one, star, alone, plus, minus}
 use Rattle.session_language.specs.Names.{Scope, if_of_office, record_of, knows_record, token_record, knows_records, placed}
@@ -18,21 +18,22 @@ use Rattle.session_language.specs.declared.lexer.Symbol.TheVariants as symbol
 use Rattle.session_language.specs.Lexer.{Piece, AWord, ASymbol, AStray, pieces_of}
 use Rattle.session_language.specs.Parse.{Part, read_part}
 use Rattle.session_language.specs.Phrase.{Phrase, Run, run, phrase_of, phrase_in, phrase_at}
-use Rattle.session_language.specs.Form.{Said, Lets, Sets, Gives, Demands, Form, Opens, Says, Closes, ends_there, if_named, phrase_alone, assigned, demand, compared, comparison_of, after_left, else_code, name_alone, if_empty, said_after, form_after, form_of, keyword_of}
+use Rattle.session_language.specs.Form.{Said, Lets, Sets, Gives, Demands, Asks, Repeats, Form, Opens, Says, Otherwise, Closes, ends_there, if_named, phrase_alone, assigned, Last, demand, question, compared, comparison_of, after_left, condition, else_code, count_alone, name_alone, if_empty, said_after, form_after, form_of, keyword_of}
 use Rattle.session_language.specs.declared.node.Comparison.{Comparison}
 use Rattle.session_language.specs.declared.keyword.Keyword.{Keyword}
-use Rattle.session_language.specs.declared.keyword.Keyword.TheVariants.{Session, Let, Set, Give, Require, End, Other}
+use Rattle.session_language.specs.declared.keyword.Keyword.TheVariants.{Session, Let, Set, Give, Require, If, Else, Repeat, End, Other}
 use Rattle.session_language.specs.declared.fault.SessionRule.{SessionRule}
 use Rattle.session_language.specs.declared.fault.SessionRule.TheVariants.{UnknownName, UnknownRecord, TooDeep, TooLong, TooManyRecords, TooManyGives, TooManyVariables}
 use Rattle.session_language.specs.refinement.TreeOfStatements.{block_from}
-use Rattle.session_language.specs.Reading.{Draft, Reading, Spoken, SpeaksLet, SpeaksSet, SpeaksGive, SpeaksDemand, spoken_of, are_variables_known, are_records_known, is_too_deep, speak, command_in, variables_after, with_command, within_limits, add, closed, program_of, is_too_long, begun, with_open, with_closed, scope_in, take_opening, take_statement, take_closing, take_form, take_formed, take_line, at_line, read_lines, nothing_read, unless_open, sessions_of}
+use Rattle.session_language.specs.Reading.{Head, IfHead, ElseHead, RepeatHead, OpenBlock, Draft, Reading, Spoken, SpeaksLet, SpeaksSet, SpeaksGive, SpeaksDemand, SpeaksIf, SpeaksRepeat, spoken_of, are_variables_known, are_records_known, is_too_deep, speak, named_after, with_line, with_names, opens_block, within_limits, add, turned, turned_in, Ended, Going, Closed, ended_in, ended, closed, program_of, is_too_long, begun, with_open, with_ended, scope_in, take_opening, take_statement, take_otherwise, take_closing, take_form, take_formed, take_line, at_line, read_lines, nothing_read, unless_open, sessions_of}
 use Rattle.session_language.specs.ProgramValue.{ProgramValue}
 use Rattle.session_language.specs.Measures.{block_gives}
 use Rattle.session_language.specs.Program.{fits}
-use Rattle.session_language.proofs.session_reading.LiteralRanges.{tokens_fit, run_fits, name_fits, code_fits}
-use Rattle.session_language.proofs.needed_records.Append.{needs_more}
+use Rattle.session_language.proofs.session_reading.LiteralRanges.{tokens_fit, run_fits, name_fits, code_fits, count_fits}
+use Rattle.session_language.specs.refinement.KeptDraft.{named_in, IsNamed}
+use Rattle.session_language.proofs.session_reading.NamedRecords.{line_named, turned_named, end_named}
 use Rattle.session_language.proofs.expressions.ParserSound.{read_spells}
-use Rattle.session_language.specs.Needs.{with_record, term_needs, command_needs, needs_of}
+use Rattle.session_language.specs.Needs.{with_record, term_needs, block_needs, needs_of}
 
 pub both_left : (a b : Bool) → (a && b) ≡ true → a ≡ true
 both_left true b h = refl
@@ -133,6 +134,8 @@ IsSaid (Lets name e) = (is_name name ≡ true) × IsRead e
 IsSaid (Sets name e) = IsRead e
 IsSaid (Gives e) = IsRead e
 IsSaid (Demands l c r code) = IsRead l × IsRead r × (code < 65536)
+IsSaid (Asks l c r) = IsRead l × IsRead r
+IsSaid (Repeats n) = n ≤ 10000
 
 ends : (y : Phrase × List Piece) → IsRead y.0 → IfSome (ends_there y) IsRead
 ends (e, []) h = h
@@ -177,27 +180,37 @@ demand_is left c (e, ps) l h = by_code (else_code ps) (code_fits ps)
     by_code None f = tt
     by_code (Some n) f = (l, h, f)
 
-demanded : (left : Phrase) (c : Comparison) (o : Option (Phrase × List Piece)) → IsRead left → IfSome o (λ y. IsRead y.0) → IfSome (option_and_then (demand left c) o) IsSaid
-demanded left c None l h = tt
-demanded left c (Some y) l h = demand_is left c y l h
+question_is : (left : Phrase) (c : Comparison) (y : Phrase × List Piece) → IsRead left → IsRead y.0 → IfSome (question left c y) IsSaid
+question_is left c (e, []) l h = (l, h)
+question_is left c (e, p ∷ ps) l h = tt
 
-compared_is : (left : Phrase) (o : Option Comparison) (ps : List Piece) → IsRead left → IfSome (compared left o ps) IsSaid
-compared_is left None ps l = tt
-compared_is left (Some c) ps l = demanded left c (phrase_at ps) l (phrases ps)
+-- a condition, and what comes last
+module _ (last : Last) (is : (left : Phrase) (c : Comparison) (y : Phrase × List Piece) → IsRead left → IsRead y.0 → IfSome (last left c y) IsSaid) where
+  last_is : (left : Phrase) (c : Comparison) (o : Option (Phrase × List Piece)) → IsRead left → IfSome o (λ y. IsRead y.0) → IfSome (option_and_then (last left c) o) IsSaid
+  last_is left c None l h = tt
+  last_is left c (Some y) l h = is left c y l h
 
-left_is : (y : Phrase × List Piece) → IsRead y.0 → IfSome (after_left y) IsSaid
-left_is (left, []) l = tt
-left_is (left, AWord w ∷ ps) l = tt
-left_is (left, AStray ∷ ps) l = tt
-left_is (left, ASymbol s ∷ ps) l = compared_is left (comparison_of s) ps l
+  compared_is : (left : Phrase) (o : Option Comparison) (ps : List Piece) → IsRead left → IfSome (compared last left o ps) IsSaid
+  compared_is left None ps l = tt
+  compared_is left (Some c) ps l = last_is left c (phrase_at ps) l (phrases ps)
 
-left_read : (o : Option (Phrase × List Piece)) → IfSome o (λ y. IsRead y.0) → IfSome (option_and_then after_left o) IsSaid
-left_read None h = tt
-left_read (Some y) h = left_is y h
+  left_is : (y : Phrase × List Piece) → IsRead y.0 → IfSome (after_left last y) IsSaid
+  left_is (left, []) l = tt
+  left_is (left, AWord w ∷ ps) l = tt
+  left_is (left, AStray ∷ ps) l = tt
+  left_is (left, ASymbol s ∷ ps) l = compared_is left (comparison_of s) ps l
+
+  left_read : (o : Option (Phrase × List Piece)) → IfSome o (λ y. IsRead y.0) → IfSome (option_and_then (after_left last) o) IsSaid
+  left_read None h = tt
+  left_read (Some y) h = left_is y h
+
+  condition_is : (ps : List Piece) → IfSome (condition last ps) IsSaid
+  condition_is ps = left_read (phrase_at ps) (phrases ps)
 
 abbrev IsFormed : Form → Type 0
 IsFormed (Opens name) = Unit {0}
 IsFormed (Says said) = IsSaid said
+IsFormed Otherwise = Unit {0}
 IsFormed Closes = Unit {0}
 
 says : (o : Option Said) → IfSome o IsSaid → IfSome (option_map Says o) IsFormed
@@ -208,9 +221,9 @@ opens : (o : Option (List ℕ)) → IfSome (option_map Opens o) IsFormed
 opens None = tt
 opens (Some name) = tt
 
-closes : (ps : List Piece) → IfSome (if_empty Closes ps) IsFormed
-closes [] = tt
-closes (p ∷ ps) = tt
+nothing_more : (f : Form) (ps : List Piece) → IsFormed f → IfSome (if_empty f ps) IsFormed
+nothing_more f [] h = h
+nothing_more f (p ∷ ps) h = tt
 
 lets : (o : Option (List ℕ × Phrase)) → IfSome o IsAssigned → IfSome (option_map (λ x. Lets x.0 x.1) o) IsSaid
 lets None h = tt
@@ -224,22 +237,32 @@ gives : (o : Option Phrase) → IfSome o IsRead → IfSome (option_map Gives o) 
 gives None h = tt
 gives (Some e) h = h
 
+repeats : (o : Option ℕ) → IfSome o (λ n. n ≤ 10000) → IfSome (option_map Repeats o) IsSaid
+repeats None h = tt
+repeats (Some n) h = h
+
 pub said_is : (k : Keyword) (ps : List Piece) → IfSome (said_after k ps) IsSaid
 said_is Let ps = lets (assigned ps) (assigned_is ps)
 said_is Set ps = sets (assigned ps) (assigned_is ps)
 said_is Give ps = gives (phrase_alone ps) (alone_of (phrase_at ps) (phrases ps))
-said_is Require ps = left_read (phrase_at ps) (phrases ps)
+said_is Require ps = condition_is demand demand_is ps
+said_is If ps = condition_is question question_is ps
+said_is Repeat ps = repeats (count_alone ps) (count_fits ps)
+said_is Else ps = tt
 said_is Session ps = tt
 said_is End ps = tt
 said_is Other ps = tt
 
 formed : (k : Keyword) (ps : List Piece) → IfSome (form_after k ps) IsFormed
 formed Session ps = opens (name_alone ps)
-formed End ps = closes ps
+formed End ps = nothing_more Closes ps tt
+formed Else ps = nothing_more Otherwise ps tt
 formed Let ps = says (said_after Let ps) (said_is Let ps)
 formed Set ps = says (said_after Set ps) (said_is Set ps)
 formed Give ps = says (said_after Give ps) (said_is Give ps)
 formed Require ps = says (said_after Require ps) (said_is Require ps)
+formed If ps = says (said_after If ps) (said_is If ps)
+formed Repeat ps = says (said_after Repeat ps) (said_is Repeat ps)
 formed Other ps = tt
 
 forms : (ps : List Piece) → IfSome (form_of ps) IsFormed
@@ -254,6 +277,15 @@ IsWithin ok (SpeaksLet name e) = term_within ok e ≡ true
 IsWithin ok (SpeaksSet r e) = (ok r ≡ true) × (term_within ok e ≡ true)
 IsWithin ok (SpeaksGive e) = term_within ok e ≡ true
 IsWithin ok (SpeaksDemand t code) = (term_within ok t.left ≡ true) × (term_within ok t.right ≡ true)
+IsWithin ok (SpeaksIf t) = (term_within ok t.left ≡ true) × (term_within ok t.right ≡ true)
+IsWithin ok (SpeaksRepeat n) = Unit {0}
+
+test_within : (s : Scope) (l m : Phrase) → IsRead l → IsRead m → (knows_records s l.tokens && knows_records s m.tokens) ≡ true
+    → (term_within (ends_of_office s) (placed s l.tree) ≡ true) × (term_within (ends_of_office s) (placed s m.tree) ≡ true)
+test_within s l m r q h = (
+  expr_within s l.tokens l.tree l.depth r.0 (both_left (knows_records s l.tokens) (knows_records s m.tokens) h),
+  expr_within s m.tokens m.tree m.depth q.0 (both_right (knows_records s l.tokens) (knows_records s m.tokens) h),
+)
 
 spoken_within : (s : Scope) (said : Said) → IsSaid said → are_records_known s said ≡ true → IsWithin (ends_of_office s) (spoken_of s said)
 spoken_within s (Lets name e) r h = expr_within s e.tokens e.tree e.depth r.1.0 h
@@ -262,10 +294,9 @@ spoken_within s (Sets name e) r h = (
   expr_within s e.tokens e.tree e.depth r.0 (both_right (is_some (record_of s name)) (knows_records s e.tokens) h),
 )
 spoken_within s (Gives e) r h = expr_within s e.tokens e.tree e.depth r.0 h
-spoken_within s (Demands l c m code) r h = (
-  expr_within s l.tokens l.tree l.depth r.0.0 (both_left (knows_records s l.tokens) (knows_records s m.tokens) h),
-  expr_within s m.tokens m.tree m.depth r.1.0 (both_right (knows_records s l.tokens) (knows_records s m.tokens) h),
-)
+spoken_within s (Demands l c m code) r h = test_within s l m r.0 r.1 h
+spoken_within s (Asks l c m) r h = test_within s l m r.0 r.1 h
+spoken_within s (Repeats n) r h = tt
 
 -- what holds behind a refusal that did not come
 pub past : {A E : Type 0} (b : Bool) (rule : E) (r : Result A E) (P : A → Type 0) → (b ≡ false → IfOk r P) → IfOk (refuse_if b rule >> r) P
@@ -286,37 +317,66 @@ spoken s said r =
     past (not (are_records_known s said)) UnknownRecord _ (IsWithin (ends_of_office s)) (λ b.
     past (is_too_deep said) TooDeep _ (IsWithin (ends_of_office s)) (λ d. spoken_within s said r (not_not (are_records_known s said) b))))
 
-command_kept : (ok : ℕ → Bool) (vs : List (List ℕ)) (x : Spoken) (rs : List ℕ) → IsWithin ok x → list_all ok rs ≡ true → list_all ok (command_needs (command_in vs x) rs) ≡ true
-command_kept ok vs (SpeaksLet name e) rs w h = term_kept ok e rs w h
-command_kept ok vs (SpeaksSet r e) rs w h = term_kept ok e (with_record r rs) w.1 (kept_with ok r rs w.0 h)
-command_kept ok vs (SpeaksGive e) rs w h = term_kept ok e rs w h
-command_kept ok vs (SpeaksDemand t code) rs w h = term_kept ok t.right (term_needs t.left rs) w.1 (term_kept ok t.left rs w.0 h)
+named_kept : (ok : ℕ → Bool) (x : Spoken) (rs : List ℕ) → IsWithin ok x → list_all ok rs ≡ true → list_all ok (named_after rs x) ≡ true
+named_kept ok (SpeaksLet name e) rs w h = term_kept ok e rs w h
+named_kept ok (SpeaksSet r e) rs w h = term_kept ok e (with_record r rs) w.1 (kept_with ok r rs w.0 h)
+named_kept ok (SpeaksGive e) rs w h = term_kept ok e rs w h
+named_kept ok (SpeaksDemand t code) rs w h = term_kept ok t.right (term_needs t.left rs) w.1 (term_kept ok t.left rs w.0 h)
+named_kept ok (SpeaksIf t) rs w h = term_kept ok t.right (term_needs t.left rs) w.1 (term_kept ok t.left rs w.0 h)
+named_kept ok (SpeaksRepeat n) rs w h = h
 
 -- a draft whose office is the plan's, and whose records are the office's
-abbrev IsFitting : PlanValue → Draft → Type 0
-IsFitting p d = (nat_lt d.office (length p.offices) ≡ true) × (list_all (λ r. is_end p r d.office) (needs_of (block_from d.body)) ≡ true)
+record IsFitting (p : PlanValue) (d : Draft) : Type 0 where
+  office : nat_lt d.office (length p.offices) ≡ true
+  records : list_all (λ r. is_end p r d.office) d.named ≡ true
+  named : IsNamed d
+
+line_fits : (p : PlanValue) (d : Draft) (x : Spoken) → IsFitting p d → IsWithin (λ r. is_end p r d.office) x → IsFitting p (with_line (with_names d x) x)
+line_fits p d (SpeaksLet name e) f w = record { office = f.office; records = named_kept _ (SpeaksLet name e) d.named w f.records; named = line_named d f.named (SpeaksLet name e) }
+line_fits p d (SpeaksSet r e) f w = record { office = f.office; records = named_kept _ (SpeaksSet r e) d.named w f.records; named = line_named d f.named (SpeaksSet r e) }
+line_fits p d (SpeaksGive e) f w = record { office = f.office; records = named_kept _ (SpeaksGive e) d.named w f.records; named = line_named d f.named (SpeaksGive e) }
+line_fits p d (SpeaksDemand t code) f w = record { office = f.office; records = named_kept _ (SpeaksDemand t code) d.named w f.records; named = line_named d f.named (SpeaksDemand t code) }
+line_fits p d (SpeaksIf t) f w = record { office = f.office; records = named_kept _ (SpeaksIf t) d.named w f.records; named = line_named d f.named (SpeaksIf t) }
+line_fits p d (SpeaksRepeat n) f w = record { office = f.office; records = f.records; named = line_named d f.named (SpeaksRepeat n) }
 
 limited : (p : PlanValue) (e : Draft) → IsFitting p e → IfOk (within_limits e) (IsFitting p)
 limited p e f =
-    past (nat_lt 16 (length (needs_of (block_from e.body)))) TooManyRecords _ (IsFitting p) (λ a.
+    past (nat_lt 16 (length e.named)) TooManyRecords _ (IsFitting p) (λ a.
     past (nat_lt 32 (length e.variables)) TooManyVariables _ (IsFitting p) (λ b. f))
 
 added_fits : (p : PlanValue) (d : Draft) (x : Spoken) → IsFitting p d → IsWithin (λ r. is_end p r d.office) x → IfOk (add d x) (IsFitting p)
 added_fits p d x f w =
-    limited p (with_command d (variables_after d.variables x) (command_in (variables_after d.variables x) x)) (
-      f.0,
-      subst (λ rs. list_all (λ r. is_end p r d.office) rs ≡ true) (sym (needs_more d.body (command_in (variables_after d.variables x) x) []))
-          (command_kept (λ r. is_end p r d.office) (variables_after d.variables x) x (needs_of (block_from d.body)) w f.1),
-    )
+    past (opens_block x && nat_le 8 (length d.outer)) TooDeep _ (IsFitting p) (λ a.
+    limited p (with_line (with_names d x) x) (line_fits p d x f w))
+
+abbrev IsNamedIn : Draft → List OpenBlock → Type 0
+IsNamedIn d outer = d.named ≡ block_needs (block_from d.body) (named_in outer)
+
+turned_fits_by : (p : PlanValue) (d : Draft) (before : List Command) (head : Head) (outer : List OpenBlock) → IsFitting p d → IfOk (turned d before head outer) IsNamed → IfOk (turned d before head outer) (IsFitting p)
+turned_fits_by p d before (IfHead t) outer f n = record { office = f.office; records = f.records; named = n }
+turned_fits_by p d before (ElseHead t first) outer f n = tt
+turned_fits_by p d before (RepeatHead turns) outer f n = tt
+
+turned_fits : (p : PlanValue) (d : Draft) (outer : List OpenBlock) → IsFitting p d → IsNamedIn d outer → IfOk (turned_in d outer) (IsFitting p)
+turned_fits p d [] f n = tt
+turned_fits p d (b ∷ outer) f n = turned_fits_by p d b.before b.head outer f (turned_named d b.before b.head outer n)
 
 abbrev Fits : PlanValue → ProgramValue → Type 0
 Fits p q = fits p q ≡ true
 
-closed_fits : (p : PlanValue) (d : Draft) → IsFitting p d → IfOk (closed d) (Fits p)
-closed_fits p d f =
+closed_fits : (p : PlanValue) (d : Draft) → IsFitting p d → IsNamedIn d [] → IfOk (closed d) (Fits p)
+closed_fits p d f n =
     past (is_too_long (program_of d)) TooLong _ (Fits p) (λ a.
     past (nat_lt 64 (block_gives (block_from d.body))) TooManyGives _ (Fits p) (λ b.
-    and_true (nat_lt d.office (length p.offices)) (list_all (λ r. is_end p r d.office) (needs_of (block_from d.body))) f.0 f.1))
+    and_true (nat_lt d.office (length p.offices)) (list_all (λ r. is_end p r d.office) (needs_of (block_from d.body))) f.office (subst (λ rs. list_all (λ r. is_end p r d.office) rs ≡ true) n f.records)))
+
+abbrev EndedFits : PlanValue → Ended → Type 0
+EndedFits p (Going d) = IsFitting p d
+EndedFits p (Closed q) = Fits p q
+
+ended_fits : (p : PlanValue) (d : Draft) (outer : List OpenBlock) → IsFitting p d → IsNamedIn d outer → IfOk (ended_in d outer) (EndedFits p)
+ended_fits p d [] f n = and_so (closed d) (λ q. Ok (Closed q)) (Fits p) (EndedFits p) (closed_fits p d f n) (λ q h. h)
+ended_fits p d (b ∷ outer) f n = record { office = f.office; records = f.records; named = end_named d b outer n }
 
 -- the open session fits so far, and there is room for it
 abbrev IsOpen : PlanValue → Reading → Draft → Type 0
@@ -342,7 +402,7 @@ opened p x None name h = by_office (office_named p name) refl
     by_office None e = tt
     by_office (Some office) e =
         past (nat_le 1024 (length x.done)) TooLong _ (IsSound p) (λ a.
-        (h.0, h.1, ((found (position_or_len (λ o. bytes_eq o.name name) p.offices) (length p.offices) office e, refl), grind (a, arith, nat_tests))))
+        (h.0, h.1, (record { office = found (position_or_len (λ o. bytes_eq o.name name) p.offices) (length p.offices) office e; records = refl; named = refl }, grind (a, arith, nat_tests))))
 
 stated : (p : PlanValue) (x : Reading) (o : Option Draft) (said : Said) → IsSaid said → IsSound p x → IfSome o (IsOpen p x) → IfOk (take_statement p x o said) (IsSound p)
 stated p x None said r h d = tt
@@ -350,19 +410,27 @@ stated p x (Some d) said r h k =
     and_so (speak (scope_in p d) said) _ (IsWithin (λ r. is_end p r d.office)) (IsSound p) (spoken (scope_in p d) said r) (λ y w.
     and_so (add d y) (λ next. Ok (with_open x next)) (IsFitting p) (IsSound p) (added_fits p d y k.0 w) (λ next f. (h.0, h.1, (f, k.1))))
 
-ended : (p : PlanValue) (x : Reading) (o : Option Draft) → IsSound p x → IfSome o (IsOpen p x) → IfOk (take_closing x o) (IsSound p)
-ended p x None h d = tt
-ended p x (Some d) h k =
-    and_so (closed d) (λ program. Ok (with_closed x program)) (Fits p) (IsSound p) (closed_fits p d k.0) (λ program f. (
-      list_all-append (fits p) x.done (program ∷ []) ∙ and_true (list_all (fits p) x.done) (fits p program && true) h.0 (and_true (fits p program) true f refl),
-      grind (length-append x.done (program ∷ []), k.1, arith),
-      tt,
-    ))
+closes_fit : (p : PlanValue) (x : Reading) (e : Ended) → IsSound p x → length x.done < 1024 → EndedFits p e → IsSound p (with_ended x e)
+closes_fit p x (Going d) h few f = (h.0, h.1, (f, few))
+closes_fit p x (Closed program) h few f = (
+  list_all-append (fits p) x.done (program ∷ []) ∙ and_true (list_all (fits p) x.done) (fits p program && true) h.0 (and_true (fits p program) true f refl),
+  grind (length-append x.done (program ∷ []), few, arith),
+  tt,
+)
+
+ends_sound : (p : PlanValue) (x : Reading) (o : Option Draft) → IsSound p x → IfSome o (IsOpen p x) → IfOk (take_closing x o) (IsSound p)
+ends_sound p x None h d = tt
+ends_sound p x (Some d) h k = and_so (ended d) (λ e. Ok (with_ended x e)) (EndedFits p) (IsSound p) (ended_fits p d d.outer k.0 k.0.named) (λ e f. closes_fit p x e h k.1 f)
+
+turns_sound : (p : PlanValue) (x : Reading) (o : Option Draft) → IsSound p x → IfSome o (IsOpen p x) → IfOk (take_otherwise x o) (IsSound p)
+turns_sound p x None h d = tt
+turns_sound p x (Some d) h k = and_so (turned_in d d.outer) (λ next. Ok (with_open x next)) (IsFitting p) (IsSound p) (turned_fits p d d.outer k.0 k.0.named) (λ next f. (h.0, h.1, (f, k.1)))
 
 taken : (p : PlanValue) (x : Reading) (f : Form) → IsFormed f → IsSound p x → IfOk (take_form p x f) (IsSound p)
 taken p x (Opens name) f h = opened p x x.open_session name h
 taken p x (Says said) f h = stated p x x.open_session said f h h.2
-taken p x Closes f h = ended p x x.open_session h h.2
+taken p x Otherwise f h = turns_sound p x x.open_session h h.2
+taken p x Closes f h = ends_sound p x x.open_session h h.2
 
 formed_taken : (p : PlanValue) (x : Reading) (o : Option Form) → IfSome o IsFormed → IsSound p x → IfOk (take_formed p x o) (IsSound p)
 formed_taken p x None f h = tt

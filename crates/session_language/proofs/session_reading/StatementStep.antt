@@ -8,7 +8,7 @@ use Rattle.session_language.specs.declared.fault.SessionRule.TheVariants.{Syntax
 use Rattle.session_language.specs.declared.fault.Stop.{Stop}
 use Rattle.session_language.specs.declared.fault.Stop.TheVariants.{Memory, Refused}
 use Rattle.session_language.specs.declared.keyword.Keyword.{Keyword}
-use Rattle.session_language.specs.declared.keyword.Keyword.TheVariants.{Session, Let, Set, Give, Require, End, Other}
+use Rattle.session_language.specs.declared.keyword.Keyword.TheVariants.{Session, Let, Set, Give, Require, If, Else, Repeat, End, Other}
 use Rattle.session_language.specs.Lexer.{Piece, AWord, pieces_of}
 use Rattle.session_language.specs.Names.{Scope}
 use Rattle.session_language.specs.Form.{Said, Says, said_after, form_of, keyword_of, IsStatement}
@@ -32,6 +32,9 @@ by_keyword p x d Let ps is h = by_said p x d (said_after Let ps) h
 by_keyword p x d Set ps is h = by_said p x d (said_after Set ps) h
 by_keyword p x d Give ps is h = by_said p x d (said_after Give ps) h
 by_keyword p x d Require ps is h = by_said p x d (said_after Require ps) h
+by_keyword p x d If ps is h = by_said p x d (said_after If ps) h
+by_keyword p x d Repeat ps is h = by_said p x d (said_after Repeat ps) h
+by_keyword p x d Else ps is h = absurd is
 by_keyword p x d Other ps is h = refl
 
 regroup : (p : PlanValue) (x : Reading) (d : Draft) (o : Option Said) → (ok_or o Syntax >>= take_statement p x (Some d)) ≡ then_added x d (ok_or o Syntax >>= speak (scope_in p d))

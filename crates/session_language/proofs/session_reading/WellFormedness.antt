@@ -1,5 +1,5 @@
 -- What is read of a line is well formed, and stays so in a session.
-use Rattle.std.proofs.Common.{◌≡◌, ◌≢◌, ◌<◌, ◌≤◌, ℕ, suc, max, List, [], ◌∷◌, ◌++◌, length, get_or, Bool, true, false, not, ◌||◌, nat_lt, cond, Option, Some, None, is_some, IfSome, IfOk, Ok, unwrap_or, refl, sym, ap, ◌∙◌, subst, arith, length-append}
+use Rattle.std.proofs.Common.{◌≡◌, ◌≢◌, ◌<◌, ◌≤◌, ℕ, suc, max, List, [], ◌∷◌, ◌++◌, length, get_or, Bool, true, false, not, ◌&&◌, ◌||◌, nat_lt, cond, Option, Some, None, is_some, IfSome, IfOk, Ok, unwrap_or, refl, sym, ◌∙◌, subst, arith, length-append}
 use Rattle.std.specs.Prelude.{All, AllPairs, IsTrue}
 use Rattle.std.specs.List.{list_all, position, position_or_len}
 use Rattle.std.specs.Option.{ok_or}
@@ -15,19 +15,15 @@ use Rattle.office_map.specs.PlanText.{◌>>=◌}
 use Rattle.office_map.specs.Text.{is_name}
 use Rattle.session_language.specs.declared.keyword.Keyword.{Keyword}
 use Rattle.session_language.specs.declared.fault.SessionRule.TheVariants.{Syntax, UnknownName, UnknownRecord, TooDeep}
-use Rattle.session_language.specs.Tree.{Command, LetVar, SetTo, GiveOf, Requires, Block, Nothing}
-use Rattle.session_language.specs.refinement.TreeOfStatements.{block_from}
 use Rattle.session_language.specs.Spelling.{Operand, ANumber, AVariable, ARecord, Spelled, Plain, Token, Plus, Minus, Times, Close}
 use Rattle.session_language.specs.Grammar.{IsFactor, IsProduct, IsExpr, operand, negative, enclosed, one, star, alone, plus, minus}
 use Rattle.session_language.specs.Lexer.{Piece}
 use Rattle.session_language.specs.Names.{Scope, variable_named, knows_variable, token_variable, knows_variables, placed}
 use Rattle.session_language.specs.Phrase.{Phrase}
-use Rattle.session_language.specs.Form.{Said, Lets, Sets, Gives, Demands, said_after}
-use Rattle.session_language.specs.Reading.{Spoken, SpeaksLet, SpeaksSet, SpeaksGive, SpeaksDemand, spoken_of, are_variables_known, are_records_known, is_too_deep, speak, with_variable, place_of, variables_after, command_in, is_too_long}
-use Rattle.session_language.specs.Needs.{needs_of}
-use Rattle.session_language.specs.Measures.{block_gives}
+use Rattle.session_language.specs.Form.{Said, Lets, Sets, Gives, Demands, Asks, Repeats, said_after}
+use Rattle.session_language.specs.Reading.{Spoken, spoken_of, are_variables_known, are_records_known, is_too_deep, speak, with_variable, place_of}
 use Rattle.session_language.specs.refinement.ResolvedStatements.{spoken_after}
-use Rattle.session_language.specs.WellFormed.{IsOver, IsExpressionOver, IsStatementOver, IsSpokenOver, known_after, AreStatements, IsDeclared, IsWellFormed}
+use Rattle.session_language.specs.WellFormed.{IsOver, IsExpressionOver, IsSpokenOver}
 use Rattle.session_language.proofs.session_reading.LiteralRanges.{operand_fits, token_fits, tokens_fit}
 use Rattle.session_language.proofs.canonical.Tokens.{expr_least}
 use Rattle.session_language.proofs.Places.{place_there, place_new}
@@ -97,14 +93,20 @@ module _ (s : Scope) where
   either true b h = absurd (both_ways true h refl)
   either false b h = (refl, h)
 
+  test_over : (l m : Phrase) → IsRead l → IsRead m → (knows_variables s l.tokens && knows_variables s m.tokens) ≡ true → (nat_lt 32 l.depth || nat_lt 32 m.depth) ≡ false
+      → IsExpressionOver known (placed s l.tree) × IsExpressionOver known (placed s m.tree)
+  test_over l m r q h d =
+      let parts = and_parts (knows_variables s l.tokens) (knows_variables s m.tokens) h in
+      let deep = either (nat_lt 32 l.depth) (nat_lt 32 m.depth) d in
+      (phrase_over l r parts.0 deep.0, phrase_over m q parts.1 deep.1)
+
   spoken_over : (said : Said) → IsSaid said → are_variables_known s said ≡ true → is_too_deep said ≡ false → IsSpokenOver known (spoken_of s said)
   spoken_over (Lets name e) r h d = (r.0, phrase_over e r.1 h d)
   spoken_over (Sets name e) r h d = phrase_over e r h d
   spoken_over (Gives e) r h d = phrase_over e r h d
-  spoken_over (Demands l c m code) r h d =
-      let parts = and_parts (knows_variables s l.tokens) (knows_variables s m.tokens) h in
-      let deep = either (nat_lt 32 l.depth) (nat_lt 32 m.depth) d in
-      (phrase_over l r.0 parts.0 deep.0, phrase_over m r.1 parts.1 deep.1, r.2)
+  spoken_over (Demands l c m code) r h d = (test_over l m r.0 r.1 h d, r.2)
+  spoken_over (Asks l c m) r h d = test_over l m r.0 r.1 h d
+  spoken_over (Repeats n) r h d = r
 
   speaks_over : (said : Said) → IsSaid said → IfOk (speak s said) (IsSpokenOver known)
   speaks_over said r =
@@ -119,21 +121,15 @@ module _ (s : Scope) where
   pub after_over : (k : Keyword) (ps : List Piece) (x : Spoken) → spoken_after s k ps ≡ Ok x → IsSpokenOver known x
   after_over k ps x e = subst (λ r. IfOk r (IsSpokenOver known)) e (said_over (said_after k ps) (said_is k ps))
 
--- one statement more
-statements_more : (cs : List Command) (c : Command) (n last : ℕ) → AreStatements n (block_from cs) last → IsStatementOver last c → AreStatements n (block_from (cs ++ c ∷ [])) (known_after last c)
-statements_more [] c n last h g =
-    let P : ℕ → Type 0 = λ m. IsStatementOver m c × (known_after m c ≡ known_after last c) in subst P (sym h) (g, refl)
-statements_more (d ∷ cs) c n last h g = (h.0, statements_more cs c (known_after n d) last h.1 g)
-
 abbrev is_named : List ℕ → List ℕ → Bool
 is_named name v = bytes_eq v name
 
 -- the variables, with one more unless it is there
-record IsKept (name : List ℕ) (vs later : List (List ℕ)) : Type 0 where
-  names : All (λ v. IsTrue (is_name v)) later
-  distinct : AllPairs (λ a b. a ≢ b) later
-  place : place_of name later ≤ length vs
-  count : length later ≡ max (length vs) (suc (place_of name later))
+pub record IsGrown (name : List ℕ) (vs later : List (List ℕ)) : Type 0 where
+  pub names : All (λ v. IsTrue (is_name v)) later
+  pub distinct : AllPairs (λ a b. a ≢ b) later
+  pub place : place_of name later ≤ length vs
+  pub count : length later ≡ max (length vs) (suc (place_of name later))
 
 past_the_end : (i n : ℕ) → cond (nat_lt i n) (Some i) None ≡ None → n ≤ i
 past_the_end i n h = grind (arith, nat_tests)
@@ -143,66 +139,23 @@ others name vs none k d lt same =
     let far = past_the_end (position_or_len (is_named name) vs) (length vs) none in
     both_ways (bytes_eq (get_or vs k d) name) (fails_before_first (is_named name) vs k d (omega arith)) ((bytes_eq-Decides (get_or vs k d) name).1 same)
 
-variable_kept : (name : List ℕ) (vs : List (List ℕ)) → is_name name ≡ true → All (λ v. IsTrue (is_name v)) vs → AllPairs (λ a b. a ≢ b) vs → IsKept name vs (with_variable name vs)
+pub variable_kept : (name : List ℕ) (vs : List (List ℕ)) → is_name name ≡ true → All (λ v. IsTrue (is_name v)) vs → AllPairs (λ a b. a ≢ b) vs → IsGrown name vs (with_variable name vs)
 variable_kept name vs is names distinct = by_place (position (is_named name) vs) refl
   where
-    by_place : (o : Option ℕ) → position (is_named name) vs ≡ o → IsKept name vs (with_variable name vs)
+    by_place : (o : Option ℕ) → position (is_named name) vs ≡ o → IsGrown name vs (with_variable name vs)
     by_place (Some k) e =
         let p = place_there name vs k e in
         let lt = inside (position_or_len (is_named name) vs) (length vs) k e in
-        subst (IsKept name vs) p.1 (record { names = names; distinct = distinct; place = omega (arith, p.0); count = omega (arith, p.0) })
+        subst (IsGrown name vs) p.1 (record { names = names; distinct = distinct; place = omega (arith, p.0); count = omega (arith, p.0) })
     by_place None e =
         let p = place_new name vs e in
         let longer = length-append vs (name ∷ []) in
-        subst (IsKept name vs) p.1 (record {
+        subst (IsGrown name vs) p.1 (record {
           names = All-push (λ v. IsTrue (is_name v)) vs name names is;
           distinct = all_pairs_push (λ a b. a ≢ b) vs name distinct (others name vs e);
           place = omega (arith, p.0);
           count = omega (arith, p.0);
         })
 
-module _ (vs : List (List ℕ)) (cs : List Command) (d : IsDeclared vs (block_from cs)) where
-  same_variables : (c : Command) → IsStatementOver (length vs) c → known_after (length vs) c ≡ length vs → IsDeclared vs (block_from (cs ++ c ∷ []))
-  same_variables c h e = record {
-    names = d.names;
-    distinct = d.distinct;
-    statements = subst (AreStatements 0 (block_from (cs ++ c ∷ []))) e (statements_more cs c 0 (length vs) d.statements h);
-  }
-
-  pub declared_more : (x : Spoken) → IsSpokenOver (length vs) x → IsDeclared (variables_after vs x) (block_from (cs ++ command_in (variables_after vs x) x ∷ []))
-  declared_more (SpeaksLet name e) h =
-      let later : List (List ℕ) = with_variable name vs in
-      let k : IsKept name vs later = variable_kept name vs h.0 d.names d.distinct in
-      record {
-        names = k.names;
-        distinct = k.distinct;
-        statements = subst (AreStatements 0 (block_from (cs ++ LetVar (place_of name later) e ∷ []))) (sym k.count) (statements_more cs (LetVar (place_of name later) e) 0 (length vs) d.statements (k.place, h.1));
-      }
-  declared_more (SpeaksSet r e) h = same_variables (SetTo r e) h refl
-  declared_more (SpeaksGive e) h = same_variables (GiveOf e) h refl
-  declared_more (SpeaksDemand t code) h = same_variables (Requires t code) h refl
-
--- a session with nothing in it
-pub nothing_declared : IsDeclared [] Nothing
-nothing_declared = record { names = λ k d lt. absurd (omega arith); distinct = λ i j d lt short. absurd (omega arith); statements = refl }
-
--- the same of what the code has of a session
-pub declared_added : (vs later : List (List ℕ)) (before after : List Command) (n : ℕ) (x : Spoken) → IsDeclared vs (block_from before) → n ≡ length vs → IsSpokenOver n x → later ≡ variables_after vs x → after ≡ before ++ command_in later x ∷ [] → IsDeclared later (block_from after)
-declared_added vs later before after n x d len h is_later is_after =
-    let over : IsSpokenOver (length vs) x = subst (λ m. IsSpokenOver m x) len h in
-    let P : List (List ℕ) → Type 0 = λ ws. IsDeclared ws (block_from (before ++ command_in ws x ∷ [])) in
-    subst (λ cs. IsDeclared later (block_from cs)) (sym is_after) (subst P (sym is_later) (declared_more vs before d x over))
-
 pub over_variables : (s : Scope) (k : Keyword) (ps : List Piece) (x : Spoken) (n : ℕ) → n ≡ length s.variables → spoken_after s k ps ≡ Ok x → IsSpokenOver n x
 over_variables s k ps x n len e = subst (λ m. IsSpokenOver m x) (sym len) (after_over s k ps x e)
-
--- a session that is closed within its limits
-pub well_formed : (office : ℕ) (vs : List (List ℕ)) (b : Block) (needs : List ℕ) → IsDeclared vs b → needs ≡ needs_of b → length needs ≤ 16 → length vs ≤ 32 → block_gives b ≤ 64 → is_too_long (record { office = office; variables = vs; body = b }) ≡ false
-    → IsWellFormed (record { office = office; variables = vs; body = b })
-well_formed office vs b needs d is few_needs few_variables few_gives short = record {
-  declared = d;
-  few_records = omega (arith, ap length is);
-  few_variables = few_variables;
-  few_gives = few_gives;
-  short = short;
-}

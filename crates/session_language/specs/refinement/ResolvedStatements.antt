@@ -15,7 +15,7 @@ use Rattle.session_language.specs.Lexer.{Piece}
 use Rattle.session_language.specs.Phrase.{Phrase, Keeps}
 use Rattle.session_language.specs.Names.{Scope}
 use Rattle.session_language.specs.Form.{said_after}
-use Rattle.session_language.specs.Reading.{Spoken, SpeaksLet, SpeaksSet, SpeaksGive, SpeaksDemand, speak}
+use Rattle.session_language.specs.Reading.{Spoken, SpeaksLet, SpeaksSet, SpeaksGive, SpeaksDemand, SpeaksIf, SpeaksRepeat, speak}
 
 -- an expression that is the rest of a line
 abbrev pub ReadsAlone : Option Summary → Scope → List Node → Option Phrase → Type 0
@@ -32,6 +32,8 @@ seen_spoken (spoken.Let name e) = SpeaksLet name.now e
 seen_spoken (spoken.Set r e) = SpeaksSet r e
 seen_spoken (spoken.Give e) = SpeaksGive e
 seen_spoken (spoken.Require c code) = SpeaksDemand (test_of c.value) code
+seen_spoken (spoken.If c) = SpeaksIf (test_of c.value)
+seen_spoken (spoken.Repeat turns) = SpeaksRepeat turns
 
 -- the statement after a keyword, with its names in their places
 abbrev pub spoken_after : Scope → Keyword → List Piece → Result Spoken SessionRule

@@ -119,16 +119,6 @@ fn a_faulty_line_is_told(rt: HostRuntime) -> Result<(), Fail> {
 }
 
 #[test]
-fn blocks_are_no_lines(rt: HostRuntime) -> Result<(), Fail> {
-    for line in ["if 1 < 2", "else", "repeat 2"] {
-        let text = format!(in rt.alloc(); "session a\n{line}\nend\nend\n")?;
-        let found = fault(rt.alloc(), text.as_bytes())?;
-        assert_eq!(rt; found.as_str(), "2 Syntax", "at {line:?}");
-    }
-    Ok(())
-}
-
-#[test]
 fn any_byte_may_stand_in_a_comment(rt: HostRuntime) -> Result<(), Fail> {
     let found = fault(rt.alloc(), b"# \xff\x00\r\nsession a\n\t# \x01\nend\n")?;
     assert_eq!(rt; found.as_str(), "accepted");

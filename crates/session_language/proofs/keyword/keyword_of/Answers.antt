@@ -12,3 +12,8 @@ pub returns-in-require : goal.returns-in-require
 returns-in-require c =
     let text : c.args.word.now ≡ codes "require" = text_from_reads c.args.word.now (codes "require") (omega arith) (omega arith, (omega arith, (omega arith, (omega arith, (omega arith, (omega arith, (omega arith, tt))))))) in
     sym (ap keyword_of text)
+
+pub returns-in-repeat : goal.returns-in-repeat
+returns-in-repeat c =
+    let text : c.args.word.now ≡ codes "repeat" = text_from_reads c.args.word.now (codes "repeat") (omega arith) (omega arith, (omega arith, (omega arith, (omega arith, (omega arith, (omega arith, tt)))))) in
+    sym (ap keyword_of text)

@@ -9,5 +9,5 @@ use Rattle.session_language.proofs.draft.Draft.take.Goals as goal
 
 pub add-requires : goal.add-requires
 add-requires c =
-    let len : vec_len c.args.self.now.variables ≡ length (map string_bytes c.deref.result.now) = search (rules, length-map) in
-    over_variables (record { plan = c.args.plan.now; office = c.args.self.now.office; variables = map string_bytes c.deref.result.now }) c.args.keyword (pieces_of c.args.pieces.rest.now) (seen_spoken c.in_ok-spoken.spoken) _ len c.in_ok-spoken.ensures
+    let len : vec_len c.args.self.now.parts.variables ≡ length (map string_bytes c.deref.result.now) = search (rules, length-map) in
+    over_variables (record { plan = c.args.plan.now; office = c.args.self.now.parts.office; variables = map string_bytes c.deref.result.now }) c.args.keyword (pieces_of c.args.pieces.rest.now) (seen_spoken c.in_ok-spoken.spoken) _ len c.in_ok-spoken.ensures

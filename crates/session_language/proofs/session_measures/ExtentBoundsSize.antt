@@ -1,4 +1,4 @@
--- A session that costs little is short: each node and each statement costs 1, and has a bounded text.
+-- A session with few nodes and statements is short, since each has a bounded text.
 use Rattle.std.proofs.Common.{◌≡◌, ◌≤◌, ◌<◌, ◌*◌, ℕ, ℤ, zero, suc, pos, negsuc, Bool, true, false, nat_lt, List, [], ◌∷◌, ◌++◌, length, All, IsTrue, codes, refl, arith, length-append, slice_index_or}
 use Rattle.std.specs.Fmt.{decimal}
 use Rattle.std.proofs.lemmas.Fmt.{length-decimal-le}
@@ -14,8 +14,9 @@ use Rattle.session_language.specs.declared.rank.Rank.TheVariants.{Factor, Produc
 use Rattle.session_language.specs.Tree.{Term, Constant, Var, ReadOf, Neg, Bin, Test, Command, LetVar, SetTo, GiveOf, Requires, When, Choice, Loop, Block, Nothing, Then}
 use Rattle.session_language.specs.ProgramValue.{ProgramValue}
 use Rattle.session_language.specs.Reading.{is_too_long}
-use Rattle.session_language.specs.Measures.{nodes, test_nodes, cost, block_cost, block_statements}
-use Rattle.session_language.specs.WellFormed.{IsLiteral, IsOver, IsStatementOver, known_after, AreStatements, IsDeclared}
+use Rattle.session_language.specs.Measures.{nodes, test_nodes, block_cost, block_statements}
+use Rattle.session_language.specs.refinement.Extent.{extent, block_extent}
+use Rattle.session_language.specs.WellFormed.{IsLiteral, IsOver, IsTestOver, IsStatementOver, known_after, known_after_block, AreStatements}
 use Rattle.session_language.specs.Text.{Words, magnitude, literal, variable_name, wide_words, rank_of, term_text, comparison_text, test_text, let_text, set_text, require_text, line, command_text, block_text, session_text}
 use Rattle.session_language.specs.refinement.TextSizes.{around_factor, around_product, around_both}
 use Rattle.session_language.proofs.canonical.Lexemes.{name_bytes}
@@ -77,44 +78,69 @@ module _ (vs : List (List ℕ)) (names : All (λ v. IsTrue (is_name v)) vs) wher
       let s = term known a h.0 in let t = term known b h.1 in
       let f = operation_bytes w o a b in let g = little_around_both o (rank_of a) (rank_of b) in omega arith
 
-  test : (known : ℕ) (t : Test) → IsOver known t.left → IsOver known t.right → length (test_text w t) ≤ 21 * test_nodes t
-  test known t h g =
-      let s = term known t.left h in let r = term known t.right g in let c = short_sign t.comparison in
+  test : (known : ℕ) (t : Test) → IsTestOver known t → length (test_text w t) ≤ 21 * test_nodes t
+  test known t h =
+      let s = term known t.left h.0.0 in let r = term known t.right h.1.0 in let c = short_sign t.comparison in
       omega (arith, length-append (term_text w t.left) (comparison_text t.comparison ++ term_text w t.right), length-append (comparison_text t.comparison) (term_text w t.right))
 
-  command : (known : ℕ) (c : Command) → IsStatementOver known c → length (command_text w c) ≤ 24 * cost c
-  command known (LetVar k e) h =
-      let s = term known e h.1.0 in let n : length (variable_name w k) ≤ 16 = short_name vs k names in
-      omega (arith, length-append (let_text (variable_name w k) (term_text w e)) (10 ∷ []), length-append (codes "let ") (variable_name w k ++ (codes " = " ++ term_text w e)), length-append (variable_name w k) (codes " = " ++ term_text w e), length-append (codes " = ") (term_text w e))
-  command known (SetTo r e) h =
-      let s = term known e h.0 in
-      omega (arith, length-append (set_text (w.record_name r) (term_text w e)) (10 ∷ []), length-append (codes "set ") (w.record_name r ++ (codes " = " ++ term_text w e)), length-append (w.record_name r) (codes " = " ++ term_text w e), length-append (codes " = ") (term_text w e))
-  command known (GiveOf e) h =
-      let s = term known e h.0 in
-      omega (arith, length-append (codes "give " ++ term_text w e) (10 ∷ []), length-append (codes "give ") (term_text w e))
-  command known (Requires t code) h =
-      let s = test known t h.0.0 h.1.0 in
-      let d = length-decimal-le 5 code (omega arith) (omega (arith, h.2)) (omega (arith, h.2)) in
-      omega (arith, length-append (require_text (test_text w t) code) (10 ∷ []), length-append (codes "require ") (test_text w t ++ (codes " else " ++ decimal code)), length-append (test_text w t) (codes " else " ++ decimal code), length-append (codes " else ") (decimal code))
-  command known (When t b) h = absurd h
-  command known (Choice t a b) h = absurd h
-  command known (Loop n b) h = absurd h
+  abbrev last_line : List ℕ
+  last_line = line (codes "end")
 
-  block : (known last : ℕ) (b : Block) → AreStatements known b last → length (block_text w b) ≤ 24 * block_cost b
-  block known last Nothing h = omega arith
-  block known last (Then c rest) h =
-      let s = command known c h.0 in let t = block (known_after known c) last rest h.1 in
-      omega (arith, length-append (command_text w c) (block_text w rest))
+  mutual
+    command : (around known : ℕ) (c : Command) → IsStatementOver around known c → length (command_text w c) ≤ 24 * extent c
+    command around known (LetVar k e) h =
+        let s = term known e h.1.0 in let n : length (variable_name w k) ≤ 16 = short_name vs k names in
+        omega (arith, length-append (let_text (variable_name w k) (term_text w e)) (10 ∷ []), length-append (codes "let ") (variable_name w k ++ (codes " = " ++ term_text w e)), length-append (variable_name w k) (codes " = " ++ term_text w e), length-append (codes " = ") (term_text w e))
+    command around known (SetTo r e) h =
+        let s = term known e h.0 in
+        omega (arith, length-append (set_text (w.record_name r) (term_text w e)) (10 ∷ []), length-append (codes "set ") (w.record_name r ++ (codes " = " ++ term_text w e)), length-append (w.record_name r) (codes " = " ++ term_text w e), length-append (codes " = ") (term_text w e))
+    command around known (GiveOf e) h =
+        let s = term known e h.0 in
+        omega (arith, length-append (codes "give " ++ term_text w e) (10 ∷ []), length-append (codes "give ") (term_text w e))
+    command around known (Requires t code) h =
+        let s = test known t h.0 in
+        let d = length-decimal-le 5 code (omega arith) (omega (arith, h.1)) (omega (arith, h.1)) in
+        omega (arith, length-append (require_text (test_text w t) code) (10 ∷ []), length-append (codes "require ") (test_text w t ++ (codes " else " ++ decimal code)), length-append (test_text w t) (codes " else " ++ decimal code), length-append (codes " else ") (decimal code))
+    command around known (When t b) h =
+        let s = test known t h.1 in
+        let inner = block (suc around) known b h.2 in
+        let head = length-append (codes "if " ++ test_text w t) (10 ∷ []) in let word = length-append (codes "if ") (test_text w t) in
+        omega (arith, head, word, length-append (line (codes "if " ++ test_text w t)) (block_text w b ++ last_line), length-append (block_text w b) last_line)
+    command around known (Choice t a b) h =
+        let s = test known t h.1 in
+        let first = block (suc around) known a h.2 in
+        let second = block (suc around) (known_after_block known a) b h.3 in
+        let head = length-append (codes "if " ++ test_text w t) (10 ∷ []) in let word = length-append (codes "if ") (test_text w t) in
+        omega (
+          arith,
+          head,
+          word,
+          length-append (line (codes "if " ++ test_text w t)) (block_text w a ++ (line (codes "else") ++ (block_text w b ++ last_line))),
+          length-append (block_text w a) (line (codes "else") ++ (block_text w b ++ last_line)),
+          length-append (line (codes "else")) (block_text w b ++ last_line),
+          length-append (block_text w b) last_line,
+        )
+    command around known (Loop n b) h =
+        let d = length-decimal-le 5 n (omega arith) (omega (arith, h.1)) (omega (arith, h.1)) in
+        let inner = block (suc around) known b h.2 in
+        let head = length-append (codes "repeat " ++ decimal n) (10 ∷ []) in let word = length-append (codes "repeat ") (decimal n) in
+        omega (arith, head, word, length-append (line (codes "repeat " ++ decimal n)) (block_text w b ++ last_line), length-append (block_text w b) last_line)
 
--- so one that costs up to 681 needn't be measured
-module _ (p : ProgramValue) (h : IsDeclared p.variables p.body) (few : block_statements p.body ≤ 256) (cheap : block_cost p.body ≤ 681) where
+    block : (around known : ℕ) (b : Block) → AreStatements around known b → length (block_text w b) ≤ 24 * block_extent b
+    block around known Nothing h = omega arith
+    block around known (Then c rest) h =
+        let s = command around known c h.0 in let t = block around (known_after known c) rest h.1 in
+        omega (arith, length-append (command_text w c) (block_text w rest))
+
+-- so one that has up to 681 needn't be measured
+module _ (p : ProgramValue) (names : All (λ v. IsTrue (is_name v)) p.variables) (h : AreStatements 0 0 p.body) (few : block_statements p.body ≤ 256) (cheap : block_cost p.body ≤ 10000) (little : block_extent p.body ≤ 681) where
   short : length (session_text (wide_words p.variables) p.body) ≤ 16384
   short =
-      let s = block p.variables h.names 0 (length p.variables) p.body h.statements in
+      let s = block p.variables names 0 0 p.body h in
       omega (arith, length-append (line (codes "session " ++ codes "0123456789abcdef")) (block_text (wide_words p.variables) p.body ++ line (codes "end")), length-append (block_text (wide_words p.variables) p.body) (line (codes "end")))
 
-  pub short_by_cost : is_too_long p ≡ false
-  short_by_cost =
+  pub short_by_extent : is_too_long p ≡ false
+  short_by_extent =
       let a : nat_lt 256 (block_statements p.body) ≡ false = grind (arith, nat_tests) in
       let b : nat_lt 10000 (block_cost p.body) ≡ false = grind (arith, nat_tests) in
       let c : nat_lt 16384 (length (session_text (wide_words p.variables) p.body)) ≡ false = let s = short in grind (arith, nat_tests) in

@@ -1,0 +1,199 @@
+//! Sessions with blocks.
+
+use super::refusals::fault;
+use super::texts;
+use std::alloc::{AllocError, Global};
+use std::test::Fail;
+
+/// Texts of one session with blocks, each with its canonical text.
+static TEXTS: [(&str, &str); 5] = [
+    (
+        "session a\nlet i=0\nrepeat 3\nlet i=i+1\nif i*2>3\ngive i\nelse\ngive -i\nend\nend\nend",
+        "session a\nlet i = 0\nrepeat 3\nlet i = i + 1\nif i * 2 > 3\ngive i\nelse\ngive -i\nend\nend\nend\n",
+    ),
+    (
+        "session a\n\trepeat 00010\n\n  if 1<2\n  # nothing\n  end\n\tend\nend\n",
+        "session a\nrepeat 10\nif 1 < 2\nend\nend\nend\n",
+    ),
+    (
+        "session b\nif read x!=(1+2)*3\nelse\nend\nif 1==1\ngive 1\nelse\nend\nif 1==1\nelse\ngive 1\nend\nend\n",
+        "session b\nif read x != (1 + 2) * 3\nelse\nend\nif 1 == 1\ngive 1\nelse\nend\nif 1 == 1\nelse\ngive 1\nend\nend\n",
+    ),
+    (
+        "session a\nif 1 < 2\nif 3 < 4\ngive 1\nelse\ngive 2\nend\nelse\nrepeat 0\ngive 3\nend\nend\ngive 4\nend\n",
+        "session a\nif 1 < 2\nif 3 < 4\ngive 1\nelse\ngive 2\nend\nelse\nrepeat 0\ngive 3\nend\nend\ngive 4\nend\n",
+    ),
+    (
+        "session a\nif 1<2\nlet u=1\nelse\nlet v=u\nend\nrepeat 2\nlet u=v\nlet w=u\nend\ngive w\nend\n",
+        "session a\nif 1 < 2\nlet u = 1\nelse\nlet v = u\nend\nrepeat 2\nlet u = v\nlet w = u\nend\ngive w\nend\n",
+    ),
+];
+
+/// Lines between `session a` and the last `end`, with bars between them, and what is said of them.
+static LINES: [(&str, &str); 53] = [
+    ("if 1 < 2|end", "accepted"),
+    ("if 1 < 2|else|end", "accepted"),
+    ("repeat 0|end", "accepted"),
+    ("if 1 < 2", "4 Syntax"),
+    ("repeat 2|give 1", "5 Syntax"),
+    ("if 1 < 2|else", "5 Syntax"),
+    ("end|if 1 < 2|end", "3 Syntax"),
+    ("if 1 < 2|end|end", "5 Syntax"),
+    ("else", "2 Syntax"),
+    ("else|end", "2 Syntax"),
+    ("repeat 2|else|end", "3 Syntax"),
+    ("if 1 < 2|else|else|end", "4 Syntax"),
+    ("if 1 < 2|repeat 2|else|end|end", "4 Syntax"),
+    ("if 1 < 2|repeat 2|end|else|end", "accepted"),
+    ("if 1 < 2|if 2 < 3|else|end|else|end", "accepted"),
+    ("if 1 < 2|if 2 < 3|else|else|end|end", "5 Syntax"),
+    ("if 1 < 2|else|if 2 < 3|else|end|else|end", "7 Syntax"),
+    ("if 1 < 2|else 1|end", "3 Syntax"),
+    ("if 1 < 2|end 1", "3 Syntax"),
+    ("if 1 < 2|session a|end|end", "3 Syntax"),
+    ("if", "2 Syntax"),
+    ("if 1|end", "2 Syntax"),
+    ("if 1 < |end", "2 Syntax"),
+    ("if 1 < 2 else 3|end", "2 Syntax"),
+    ("if 1 < 2 3|end", "2 Syntax"),
+    ("if 1 < 2 < 3|end", "2 Syntax"),
+    ("if 1 = 2|end", "2 Syntax"),
+    ("if < 2|end", "2 Syntax"),
+    ("if1 < 2|end", "2 Syntax"),
+    ("if(1)<(2)|end", "accepted"),
+    ("if 1 < 2 # no|end", "2 Syntax"),
+    ("if v < 2|end", "2 UnknownName"),
+    ("if read z < v|end", "2 UnknownName"),
+    ("if read w < 2|end", "2 UnknownRecord"),
+    ("if 1 < 2 end", "2 Syntax"),
+    ("repeat", "2 Syntax"),
+    ("repeat -1|end", "2 Syntax"),
+    ("repeat 1 2|end", "2 Syntax"),
+    ("repeat (1)|end", "2 Syntax"),
+    ("repeat v|end", "2 Syntax"),
+    ("repeat read x|end", "2 Syntax"),
+    ("repeat 10001|end", "2 Syntax"),
+    ("repeat 18446744073709551617|end", "2 Syntax"),
+    ("repeat 10000|end", "4 TooLong"),
+    ("repeat 9999|end", "accepted"),
+    ("repeat 00000000000000009999|end", "2 Syntax"),
+    ("repeat 0000000000000009999|end", "accepted"),
+    ("repeat 64|give 1|end", "accepted"),
+    ("repeat 65|give 1|end", "5 TooManyGives"),
+    ("repeat 0|repeat 10000|give 1|end|end", "accepted"),
+    (
+        "repeat 10000|repeat 10000|repeat 10000|give 1|end|end|foo",
+        "8 Syntax",
+    ),
+    ("if 1 < 2|let v = 1|end|give v", "accepted"),
+    ("if 1 < 2|give v|else|let v = 1|end", "3 UnknownName"),
+];
+
+#[test]
+fn canonical_texts_with_blocks_are_read_again(rt: HostRuntime) -> Result<(), Fail> {
+    for (source, canonical) in &TEXTS {
+        let printed = texts(rt.alloc(), source)?;
+        assert_eq!(rt; printed.as_str(), *canonical, "of {source:?}");
+        let again = texts(rt.alloc(), canonical)?;
+        assert_eq!(rt; again.as_str(), *canonical);
+    }
+    Ok(())
+}
+
+#[test]
+fn faults_of_blocks_are_told(rt: HostRuntime) -> Result<(), Fail> {
+    for (lines, expected) in &LINES {
+        let mut text = String::from_str(rt.alloc(), "session a\n")?;
+        for line in lines.split('|') {
+            text.push_str(line)?;
+            text.push('\n')?;
+        }
+        text.push_str("end\n")?;
+        let found = fault(rt.alloc(), text.as_bytes())?;
+        assert_eq!(rt; found.as_str(), *expected, "at {lines:?}");
+    }
+    Ok(())
+}
+
+#[test]
+fn at_most_eight_blocks_stand_in_one_another(rt: HostRuntime) -> Result<(), Fail> {
+    for (first, second) in [("if 1 < 2\n", "repeat 1\n"), ("repeat 1\n", "if 1 < 2\n")] {
+        let found = nested(rt.alloc(), first, 7, second, 1, "")?;
+        assert_eq!(rt; found.as_str(), "accepted");
+        let found = nested(rt.alloc(), first, 7, second, 2, "")?;
+        assert_eq!(rt; found.as_str(), "10 TooDeep");
+        let found = nested(rt.alloc(), first, 7, second, 1, "end\nif 1 < 2\nelse\n")?;
+        assert_eq!(rt; found.as_str(), "accepted");
+        let found = nested(rt.alloc(), first, 7, second, 1, "if v < 2\n")?;
+        assert_eq!(rt; found.as_str(), "10 UnknownName");
+        let found = nested(rt.alloc(), first, 7, second, 1, "if 1 <\n")?;
+        assert_eq!(rt; found.as_str(), "10 Syntax");
+    }
+    Ok(())
+}
+
+#[test]
+fn statements_in_blocks_count(rt: HostRuntime) -> Result<(), Fail> {
+    let block = "if 1 < 2\nlet v = 1\nend\n";
+    let found = repeated(rt.alloc(), block, 128, "")?;
+    assert_eq!(rt; found.as_str(), "accepted");
+    let found = repeated(rt.alloc(), block, 128, "give 1\n")?;
+    assert_eq!(rt; found.as_str(), "387 TooLong");
+    let found = repeated(rt.alloc(), block, 129, "give v\nfoo\n")?;
+    assert_eq!(rt; found.as_str(), "390 Syntax");
+    Ok(())
+}
+
+#[test]
+fn the_dearer_part_of_an_if_gives(rt: HostRuntime) -> Result<(), Fail> {
+    for (first, second, expected) in [
+        (64, 64, "accepted"),
+        (65, 0, "70 TooManyGives"),
+        (0, 65, "70 TooManyGives"),
+    ] {
+        let mut text = String::from_str(rt.alloc(), "session a\nif 1 < 2\n")?;
+        repeat(&mut text, "give 1\n", first)?;
+        text.push_str("else\n")?;
+        repeat(&mut text, "give 2\n", second)?;
+        text.push_str("end\nend\n")?;
+        let found = fault(rt.alloc(), text.as_bytes())?;
+        assert_eq!(rt; found.as_str(), expected);
+    }
+    Ok(())
+}
+
+/// So many lines of one kind, so many of another and these in a session, with an `end` for each
+/// of the first two.
+fn nested(
+    alloc: Global,
+    first: &str,
+    firsts: usize,
+    second: &str,
+    seconds: usize,
+    body: &str,
+) -> Result<String, Fail> {
+    let mut text = String::from_str(alloc, "session a\n")?;
+    repeat(&mut text, first, firsts)?;
+    repeat(&mut text, second, seconds)?;
+    text.push_str(body)?;
+    repeat(&mut text, "end\n", firsts)?;
+    repeat(&mut text, "end\n", seconds)?;
+    text.push_str("end\n")?;
+    fault(alloc, text.as_bytes())
+}
+
+/// A session of so many equal lines, and these.
+fn repeated(alloc: Global, lines: &str, count: usize, last: &str) -> Result<String, Fail> {
+    let mut text = String::from_str(alloc, "session a\n")?;
+    repeat(&mut text, lines, count)?;
+    text.push_str(last)?;
+    text.push_str("end\n")?;
+    fault(alloc, text.as_bytes())
+}
+
+fn repeat(text: &mut String, part: &str, count: usize) -> Result<(), AllocError> {
+    for _ in 0..count {
+        text.push_str(part)?;
+    }
+    Ok(())
+}
