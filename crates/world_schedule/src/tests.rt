@@ -195,6 +195,100 @@ fn drawn_schedules_are_serial(rt: HostRuntime) -> Result<(), Fail> {
     Ok(())
 }
 
+/// Steps of sessions that follow one another, how many messages these send, and the offices that have the two bottles.
+#[derive(Drop)]
+struct Schedule {
+    steps: Vec<Step>,
+    sent: u16,
+    at: [u8; 2],
+}
+
+impl Schedule {
+    /// A session fetches the bottles that it needs, and finishes. The last message is delivered once more.
+    fn turn(&mut self, me: u8, session: u16, needs: &[u16]) -> Result<(), Fail> {
+        self.steps.push(Step(What::Submit, me, session))?;
+        self.steps.push(Step(What::Start, me, 0))?;
+        for r in needs {
+            self.fetch(me, *r)?;
+        }
+        self.steps.push(Step(What::Drink, me, 0))?;
+        self.steps.push(Step(What::Work, me, 100))?;
+        self.steps.push(Step(What::Finish, me, 0))?;
+        self.steps.push(Step(What::Deliver, 0, self.sent))?;
+        Ok(())
+    }
+
+    fn fetch(&mut self, me: u8, r: u16) -> Result<(), Fail> {
+        let Some(at) = self.at.get_mut(r as usize) else {
+            return Ok(());
+        };
+        let from = *at;
+        if from == me {
+            return Ok(());
+        }
+        *at = me;
+        self.send(Step(What::Ask, me, r))?;
+        self.send(Step(What::Give, from, r))
+    }
+
+    /// A step that sends a message, which is delivered next.
+    fn send(&mut self, step: Step) -> Result<(), Fail> {
+        self.sent = self.sent.saturating_add(1);
+        self.steps.push(step)?;
+        self.steps.push(Step(What::Deliver, 0, self.sent))?;
+        Ok(())
+    }
+}
+
+/// Twenty thousand events.
+fn long_schedule(alloc: Global) -> Result<Vec<Step>, Fail> {
+    let mut schedule = Schedule {
+        steps: Vec::new(alloc),
+        sent: 0,
+        at: [0, 1],
+    };
+    for _ in 0..600 {
+        schedule.turn(0, 0, &[0, 1])?;
+        schedule.turn(1, 1, &[1])?;
+        schedule.turn(1, 2, &[0, 1])?;
+    }
+    let mut steps = schedule.steps;
+    steps.truncate(20_000);
+    Ok(steps)
+}
+
+/// The numbers beside the assertions are counted by a program in another language.
+#[test]
+fn a_long_run_is_serial(rt: HostRuntime) -> Result<(), Fail> {
+    let alloc = rt.alloc();
+    let mut world = opened(alloc)?;
+    let mut events = Vec::new(alloc);
+    for step in &long_schedule(alloc)? {
+        if let Some(event) = event_of(alloc, world.plan(), *step)? {
+            events.push(event)?;
+        }
+    }
+    assert_eq!(rt; events.len(), 20_000);
+    let run = world.run(&events);
+    let mut refused = 0u32;
+    if let Ok(replies) = &run {
+        assert_eq!(rt; replies.len(), 20_000);
+        for reply in replies {
+            if reply.is_err() {
+                refused = refused.saturating_add(1);
+            }
+        }
+    }
+    assert_eq!(rt; refused, 1764);
+    assert_eq!(rt; world.frames(), 4706);
+    assert_eq!(rt; world.finished().len(), 1764);
+    assert_eq!(rt; world.unfinished(), 1);
+    let told = finishing(alloc, &world)?;
+    let expected = alone_in_order(alloc, &world)?;
+    assert_eq!(rt; told.as_str(), expected.as_str());
+    Ok(())
+}
+
 /// The next of a row of numbers that look drawn.
 fn next(draw: u64) -> u64 {
     draw.wrapping_mul(6364136223846793005)
@@ -326,7 +420,7 @@ fn finishing(alloc: Global, world: &World) -> Result<String, AllocError> {
 fn alone_in_order(alloc: Global, world: &World) -> Result<String, AllocError> {
     let programs = programs_of(alloc, world.plan(), world.finished())?;
     let mut text = String::new(alloc);
-    if programs.len() > 1000 {
+    if programs.len() > 2000 {
         return Ok(text);
     }
     let Replay { outcomes, values } = serial(alloc, world.plan(), &programs)?;

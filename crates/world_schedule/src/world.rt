@@ -3,6 +3,7 @@
 ghost use Rattle.std.specs.Prelude.{◌≡◌, ◌<◌, ◌≤◌, ◌↔◌, Err, IsTrue, length, map, IfOk, OnOk, IfErr, take};
 ghost use Rattle.serial_replay.specs.Serial.{start_map, map_of, outcomes_of};
 ghost use Rattle.world_schedule.specs.Worlds.{opening, happens, run_of, replies_of, programs, outcomes, bottle_value, unfinished_in, OrMemory};
+ghost use Rattle.world_schedule.specs.declared.event.WorldEvent.TheVariants as events;
 ghost use Rattle.world_schedule.specs.declared.reply.Refusal.TheVariants as refusals;
 ghost use Rattle.world_schedule.specs.Headline.{HasSerialValues, HasSerialSessions, HasOnePlaceEach, IsReached};
 ghost use Rattle.world_schedule.specs.refinement.Tables.{state_of, world_in, office_table, IsWorld};
@@ -16,7 +17,8 @@ use crate::reply::{Refusal, Reply};
 use crate::tables::Office;
 use crate::values::bottle_value;
 use bottle_values::Value;
-use office_map::{Plan, RecordId};
+use office_map::{OfficeId, Plan, RecordId};
+use session_language::Program;
 use session_language::laws::writes_what_it_has;
 use std::alloc::{AllocError, Global};
 use std::marker::Model;
@@ -83,15 +85,7 @@ impl World {
         ensures step { OrMemory (state_of self.old) (happens self.old.plan (state_of self.old) event.now) result (state_of self.new) }
     {
         match event {
-            WorldEvent::Submit(at, program) => happening::submit(
-                self.alloc,
-                &self.plan,
-                &mut self.offices,
-                &self.messages,
-                &self.finished,
-                *at,
-                program,
-            ),
+            WorldEvent::Submit(at, program) => self.submit(*at, program),
             WorldEvent::Do(at, rule) => happening::do_rule(
                 self.alloc,
                 &self.plan,
@@ -109,6 +103,23 @@ impl World {
                 *k,
             ),
         }
+    }
+
+    /// The event that a session is submitted at an office. Its program is copied where it is taken, and not where it is
+    /// refused.
+    pub fn submit(&mut self, at: OfficeId, program: &Program) -> Result<Reply, Refusal>
+        ensures plan { self.new.plan ≡ self.old.plan }
+        ensures step { OrMemory (state_of self.old) (happens self.old.plan (state_of self.old) (events.Submit at program.now)) result (state_of self.new) }
+    {
+        happening::submit(
+            self.alloc,
+            &self.plan,
+            &mut self.offices,
+            &self.messages,
+            &self.finished,
+            at,
+            program,
+        )
     }
 
     /// Events in order. A refused one leaves the world as it was, and the run goes on, but where memory runs out: then
