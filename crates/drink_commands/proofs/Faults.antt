@@ -1,42 +1,191 @@
--- What a fault of a later input says of the earlier ones.
-use Rattle.std.proofs.Common.{◌≡◌, ℕ, List, Option, Some, None, IfSome, Ok, subst}
+-- What a fault says of the texts of a command's words, those that are known.
+use Rattle.std.proofs.Common.{◌≡◌, ◌≤◌, ◌<◌, ℕ, zero, suc, List, [], ◌∷◌, take, Contains, Option, Bool, true, false, nat_lt, Result, Ok, Err, IfErr, refl, sym, subst, ap, arith}
+use Rattle.std.proofs.lemmas.Bool.Decides.{nat_tests}
+use Rattle.input_texts.specs.Words.{HasText, HaveTexts, IsReadUpTo, Unread}
 use Rattle.office_map.specs.PlanValue.{PlanValue}
-use Rattle.drink_commands.specs.Plans.{IsAcceptedAs}
-use Rattle.drink_commands.specs.declared.input.Input.TheVariants as inputs
-use Rattle.drink_commands.specs.declared.fault.Fault.{Fault}
-use Rattle.drink_commands.specs.declared.fault.Fault.TheVariants.{Memory, Plan, Ring, Sessions, Script, TwoOffices, ReadFailed, WriteFailed}
-use Rattle.drink_commands.specs.Fault.{IsFaultOf}
 use Rattle.session_language.specs.ProgramValue.{ProgramValue}
 use Rattle.session_language.specs.Reading.{sessions_of}
 use Rattle.world_schedule.specs.declared.event.WorldEvent.{WorldEvent}
+use Rattle.drink_commands.specs.declared.input.Input.{Input}
+use Rattle.drink_commands.specs.declared.input.Input.TheVariants as inputs
+use Rattle.drink_commands.specs.declared.fault.Why.{Why}
+use Rattle.drink_commands.specs.declared.fault.Why.TheVariants.{Plan, Ring, TwoOffices, Sessions, Script}
+use Rattle.drink_commands.specs.declared.fault.Fault.{Fault}
+use Rattle.drink_commands.specs.declared.fault.Fault.TheVariants.{Memory, ReadFailed, Refused, WriteFailed}
+use Rattle.drink_commands.specs.Fault.{IsAmong, IsFaultAt, IsWriteFault, input_of, refused_input}
+use Rattle.drink_commands.specs.Input.{place_of}
+use Rattle.drink_commands.specs.Plans.{IsAcceptedAs}
 use Rattle.drink_commands.specs.Script.{IsScript}
-use Rattle.drink_commands.specs.Texts.{IsPlan, JudgesPlan, AreSessions, AreEventsOf}
+use Rattle.drink_commands.specs.Texts.{IsPlan, AreSessions, AreAccepted, IsRefused, Either, Judges}
+use Rattle.drink_commands.proofs.Limits.{script_refused}
 
-judged : (text : List ℕ) (f : Fault) → IsFaultOf inputs.Sessions f → IsPlan text → JudgesPlan text f
-judged text Memory h p = tt
-judged text (Plan r) h p = (cc)
-judged text (Ring r) h p = (cc)
-judged text (Sessions r) h p = p
-judged text (Script r) h p = (cc)
-judged text TwoOffices h p = h
-judged text (ReadFailed inputs.Plan) h p = tt
-judged text (ReadFailed inputs.Sessions) h p = p
-judged text (ReadFailed inputs.Script) h p = (cc)
-judged text WriteFailed h p = absurd h
+pub weaker : (input : Input) (P Q : Why → Type 0) (f : Fault) → ((why : Why) → P why → Q why) → IsFaultAt input P f → IsFaultAt input Q f
+weaker input P Q Memory k h = tt
+weaker input P Q (ReadFailed failed cause) k h = h
+weaker input P Q (Refused why) k (e, h) = (e, k why h)
+weaker input P Q (WriteFailed cause) k h = h
 
-pub plan_judged : (known : Option (List ℕ)) (p : PlanValue) (f : Fault) → IsFaultOf inputs.Sessions f → IfSome known (λ text. IsAcceptedAs text p) → IfSome known (λ text. JudgesPlan text f)
-plan_judged None p f h k = tt
-plan_judged (Some text) p f h k = judged text f h (p, k)
+pub err_weaker : {T : Type 0} (r : Result T Fault) (P Q : Fault → Type 0) → ((f : Fault) → P f → Q f) → IfErr r P → IfErr r Q
+err_weaker (Ok x) P Q k h = tt
+err_weaker (Err f) P Q k h = k f h
 
--- where the writing failed, the texts were read
-pub sessions_read : (plan sessions : Option (List ℕ)) (p : PlanValue) (programs : List ProgramValue) → IfSome plan (λ t. IsAcceptedAs t p) → IfSome sessions (λ t. sessions_of p t ≡ Ok programs) → IfSome plan (λ t. IfSome sessions (λ u. AreSessions t u))
-sessions_read None sessions p programs k l = tt
-sessions_read (Some t) None p programs k l = tt
-sessions_read (Some t) (Some u) p programs k l = (p, programs, k, l)
+-- a fault at an input of these
+pub among : (inputs : List Input) (input : Input) (P : Why → Type 0) (f : Fault) → Contains inputs input → IsFaultAt input P f → IsAmong inputs (input_of f)
+among inputs input P Memory at h = tt
+among inputs input P (ReadFailed failed cause) at h = subst (Contains inputs) (sym h) at
+among inputs input P (Refused why) at (e, h) = subst (Contains inputs) (sym e) at
+among inputs input P (WriteFailed cause) at h = absurd h
 
-pub events_read : (plan sessions script : Option (List ℕ)) (p : PlanValue) (programs seen : List ProgramValue) (events : List WorldEvent) → IfSome plan (λ t. IsAcceptedAs t p) → IfSome sessions (λ t. sessions_of p t ≡ Ok programs) → seen ≡ programs → IfSome script (λ t. IsScript p seen t events)
-    → IfSome plan (λ t. IfSome sessions (λ u. IfSome script (λ v. AreEventsOf t u v)))
-events_read None sessions script p programs seen events k l e m = tt
-events_read (Some t) None script p programs seen events k l e m = tt
-events_read (Some t) (Some u) None p programs seen events k l e m = tt
-events_read (Some t) (Some u) (Some v) p programs seen events k l e m = (p, programs, events, k, l, subst (λ ps. IsScript p ps v events) e m)
+either : (b : Bool) (A B : Type 0) → (b ≡ true → A) → (b ≡ false → B) → Either b A B
+either true A B f g = f refl
+either false A B f g = g refl
+
+-- the texts with another script
+abbrev pub with_script : (Input → List ℕ) → List ℕ → Input → List ℕ
+with_script texts script inputs.Plan = texts inputs.Plan
+with_script texts script inputs.Sessions = texts inputs.Sessions
+with_script texts script inputs.Script = script
+
+-- a refusal of what was read of the script
+pub read_refused : (takes : PlanValue → Bool) (texts : Input → List ℕ) (read : List ℕ) (why : Why) → IsReadUpTo 16777216 (texts inputs.Script) read
+    → IsRefused takes (with_script texts read) why → IsRefused takes texts why
+read_refused takes texts read (Plan r) was h = h
+read_refused takes texts read (Ring r) was h = h
+read_refused takes texts read TwoOffices was h = h
+read_refused takes texts read (Sessions r) was h = h
+read_refused takes texts read (Script r) was (p, programs, sessions, refused) =
+    (p, programs, sessions, script_refused p programs (texts inputs.Script) read r was refused)
+
+is_below : (m n : ℕ) → nat_lt m n ≡ true → m < n
+is_below m n e = grind (arith, nat_tests, e)
+
+is_not_below : (m n : ℕ) → nat_lt m n ≡ false → n ≤ m
+is_not_below m n e = grind (arith, nat_tests, e)
+
+module _ (takes : PlanValue → Bool) (texts : Input → List ℕ) where
+  none_known : (f : Fault) → Judges takes texts zero f
+  none_known Memory = tt
+  none_known (ReadFailed input cause) = either (nat_lt (place_of input) 0) _ _ (λ t. absurd (omega (arith, is_below (place_of input) 0 t))) (λ f. tt)
+  none_known (Refused why) =
+      either (nat_lt (place_of (refused_input why)) 0) _ _ (λ t. absurd (omega (arith, is_below (place_of (refused_input why)) 0 t))) (λ f. tt)
+  none_known (WriteFailed cause) = tt
+
+  -- a fault at this input, where so many texts are known: those before are accepted, and if it is known, what is said of it
+  at_input : (input : Input) (n : ℕ) (P : Why → Type 0) (f : Fault) → IsFaultAt input P f
+      → (place_of input < n → AreAccepted takes texts (place_of input)) → (n ≤ place_of input → AreAccepted takes texts n)
+      → ((why : Why) → place_of input < n → P why → IsRefused takes texts why) → Judges takes texts n f
+  at_input input n P Memory h before all refused = tt
+  at_input input n P (ReadFailed failed cause) h before all refused =
+      subst (λ i. Either (nat_lt (place_of i) n) (AreAccepted takes texts (place_of i)) (AreAccepted takes texts n)) (sym h)
+      (either (nat_lt (place_of input) n) _ _ (λ t. before (is_below (place_of input) n t)) (λ f. all (is_not_below (place_of input) n f)))
+  at_input input n P (Refused why) (e, h) before all refused =
+      let place_is : place_of (refused_input why) ≡ place_of input = ap place_of e in
+      either (nat_lt (place_of (refused_input why)) n) _ _
+      (λ t. refused why (omega (arith, is_below (place_of (refused_input why)) n t, place_is)) h)
+      (λ f. all (omega (arith, is_not_below (place_of (refused_input why)) n f, place_is)))
+  at_input input n P (WriteFailed cause) h before all refused = absurd h
+
+  -- ---- the plan
+
+  abbrev pub RefusesPlan : (List ℕ → Option (List ℕ)) → Unread → List ℕ → Why → Type 0
+  RefusesPlan files u word why = (texts : Input → List ℕ) (after : Unread) → HasText files u word (texts inputs.Plan) after → IsRefused takes texts why
+
+  pub plan_judged : (files : List ℕ → Option (List ℕ)) (u : Unread) (w : List ℕ) (ws ts : List (List ℕ)) (n : ℕ) (f : Fault)
+      → IsFaultAt inputs.Plan (RefusesPlan files u w) f → HaveTexts files u (take n (w ∷ ws)) (take n (texts inputs.Plan ∷ ts)) → Judges takes texts n f
+  plan_judged files u w ws ts zero f h k = none_known f
+  plan_judged files u w ws ts (suc n) f h (after, has, more) =
+      at_input inputs.Plan (suc n) (RefusesPlan files u w) f h (λ lt. tt) (λ le. absurd (omega (arith, le))) (λ why lt p. p texts after has)
+
+  -- ---- the sessions
+
+  abbrev pub Accepts : (List ℕ → Option (List ℕ)) → Unread → List ℕ → Unread → PlanValue → Type 0
+  Accepts files u word v p = (text : List ℕ) (after : Unread) → HasText files u word text after → IsAcceptedAs text p × (v ≡ after)
+
+  abbrev pub RefusesSessions : (List ℕ → Option (List ℕ)) → Unread → List ℕ → PlanValue → Why → Type 0
+  RefusesSessions files v word p why = (texts : Input → List ℕ) (after : Unread) → IsPlan takes texts p
+      → HasText files v word (texts inputs.Sessions) after → IsRefused takes texts why
+
+  pub sessions_judged : (files : List ℕ → Option (List ℕ)) (u v : Unread) (a b : List ℕ) (ws ts : List (List ℕ)) (p : PlanValue) (n : ℕ) (f : Fault)
+      → Accepts files u a v p → takes p ≡ true → IsFaultAt inputs.Sessions (RefusesSessions files v b p) f
+      → HaveTexts files u (take n (a ∷ b ∷ ws)) (take n (texts inputs.Plan ∷ texts inputs.Sessions ∷ ts)) → Judges takes texts n f
+  sessions_judged files u v a b ws ts p zero f plan t h k = none_known f
+  sessions_judged files u v a b ws ts p (suc zero) f plan t h (after, has, more) =
+      let it = plan (texts inputs.Plan) after has in
+      at_input inputs.Sessions 1 (RefusesSessions files v b p) f h (λ lt. absurd (omega (arith, lt))) (λ le. (p, (it.0, t)))
+      (λ why lt r. absurd (omega (arith, lt)))
+  sessions_judged files u v a b ws ts p (suc (suc n)) f plan t h (after, has, (next, has_next, more)) =
+      let it = plan (texts inputs.Plan) after has in
+      at_input inputs.Sessions (suc (suc n)) (RefusesSessions files v b p) f h (λ lt. (p, (it.0, t))) (λ le. absurd (omega (arith, le)))
+      (λ why lt r. r texts next (it.0, t) (subst (λ w. HasText files w b (texts inputs.Sessions) next) (sym it.1) has_next))
+
+  -- ---- the script
+
+  abbrev pub AcceptsSessions : (List ℕ → Option (List ℕ)) → Unread → List ℕ → Unread → PlanValue → List ProgramValue → Type 0
+  AcceptsSessions files v word w p programs = (text : List ℕ) (after : Unread) → HasText files v word text after
+      → (sessions_of p text ≡ Ok programs) × (w ≡ after)
+
+  abbrev pub RefusesScript : (List ℕ → Option (List ℕ)) → Unread → List ℕ → PlanValue → List ProgramValue → Why → Type 0
+  RefusesScript files w word p programs why = (texts : Input → List ℕ) (after : Unread) → AreSessions takes texts p programs
+      → HasText files w word (texts inputs.Script) after → IsRefused takes texts why
+
+  pub script_judged : (files : List ℕ → Option (List ℕ)) (u v w : Unread) (a b c : List ℕ) (ws ts : List (List ℕ)) (p : PlanValue)
+      (programs : List ProgramValue) (n : ℕ) (f : Fault) → Accepts files u a v p → takes p ≡ true → AcceptsSessions files v b w p programs
+      → IsFaultAt inputs.Script (RefusesScript files w c p programs) f
+      → HaveTexts files u (take n (a ∷ b ∷ c ∷ ws)) (take n (texts inputs.Plan ∷ texts inputs.Sessions ∷ texts inputs.Script ∷ ts))
+      → Judges takes texts n f
+  script_judged files u v w a b c ws ts p programs zero f plan t sessions h k = none_known f
+  script_judged files u v w a b c ws ts p programs (suc zero) f plan t sessions h (after, has, more) =
+      let it = plan (texts inputs.Plan) after has in
+      at_input inputs.Script 1 (RefusesScript files w c p programs) f h (λ lt. absurd (omega (arith, lt))) (λ le. (p, (it.0, t)))
+      (λ why lt r. absurd (omega (arith, lt)))
+  script_judged files u v w a b c ws ts p programs (suc (suc zero)) f plan t sessions h (after, has, (next, has_next, more)) =
+      let it = plan (texts inputs.Plan) after has in
+      let then_it = sessions (texts inputs.Sessions) next (subst (λ s. HasText files s b (texts inputs.Sessions) next) (sym it.1) has_next) in
+      at_input inputs.Script 2 (RefusesScript files w c p programs) f h (λ lt. absurd (omega (arith, lt))) (λ le. (p, programs, ((it.0, t), then_it.0)))
+      (λ why lt r. absurd (omega (arith, lt)))
+  script_judged files u v w a b c ws ts p programs (suc (suc (suc n))) f plan t sessions h (after, has, (next, has_next, (last, has_last, more))) =
+      let it = plan (texts inputs.Plan) after has in
+      let then_it = sessions (texts inputs.Sessions) next (subst (λ s. HasText files s b (texts inputs.Sessions) next) (sym it.1) has_next) in
+      at_input inputs.Script (suc (suc (suc n))) (RefusesScript files w c p programs) f h (λ lt. (p, programs, ((it.0, t), then_it.0)))
+      (λ le. absurd (omega (arith, le)))
+      (λ why lt r. r texts last ((it.0, t), then_it.0) (subst (λ s. HasText files s c (texts inputs.Script) last) (sym then_it.1) has_last))
+
+  -- ---- the output
+
+  pub two_accepted : (files : List ℕ → Option (List ℕ)) (u v w : Unread) (a b : List ℕ) (p : PlanValue) (programs : List ProgramValue) (n : ℕ)
+      → n ≤ 2 → Accepts files u a v p → takes p ≡ true → AcceptsSessions files v b w p programs
+      → HaveTexts files u (take n (a ∷ b ∷ [])) (take n (texts inputs.Plan ∷ texts inputs.Sessions ∷ [])) → AreAccepted takes texts n
+  two_accepted files u v w a b p programs zero le plan t sessions k = tt
+  two_accepted files u v w a b p programs (suc zero) le plan t sessions (after, has, more) = (p, ((plan (texts inputs.Plan) after has).0, t))
+  two_accepted files u v w a b p programs (suc (suc zero)) le plan t sessions (after, has, (next, has_next, more)) =
+      let it = plan (texts inputs.Plan) after has in
+      (p, programs, ((it.0, t), (sessions (texts inputs.Sessions) next (subst (λ s. HasText files s b (texts inputs.Sessions) next) (sym it.1) has_next)).0))
+  two_accepted files u v w a b p programs (suc (suc (suc n))) le plan t sessions k = absurd (omega (arith, le))
+
+  abbrev pub AcceptsScript : (List ℕ → Option (List ℕ)) → Unread → List ℕ → Unread → PlanValue → List ProgramValue → List WorldEvent → Type 0
+  AcceptsScript files w word x p programs events = (text : List ℕ) (after : Unread) → HasText files w word text after
+      → IsScript p programs text events × (x ≡ after)
+
+  pub three_accepted : (files : List ℕ → Option (List ℕ)) (u v w x : Unread) (a b c : List ℕ) (p : PlanValue) (programs : List ProgramValue)
+      (events : List WorldEvent) (n : ℕ) → n ≤ 3 → Accepts files u a v p → takes p ≡ true → AcceptsSessions files v b w p programs
+      → AcceptsScript files w c x p programs events
+      → HaveTexts files u (take n (a ∷ b ∷ c ∷ [])) (take n (texts inputs.Plan ∷ texts inputs.Sessions ∷ texts inputs.Script ∷ []))
+      → AreAccepted takes texts n
+  three_accepted files u v w x a b c p programs events zero le plan t sessions script k = tt
+  three_accepted files u v w x a b c p programs events (suc zero) le plan t sessions script (after, has, more) =
+      (p, ((plan (texts inputs.Plan) after has).0, t))
+  three_accepted files u v w x a b c p programs events (suc (suc zero)) le plan t sessions script (after, has, (next, has_next, more)) =
+      let it = plan (texts inputs.Plan) after has in
+      (p, programs, ((it.0, t), (sessions (texts inputs.Sessions) next (subst (λ s. HasText files s b (texts inputs.Sessions) next) (sym it.1) has_next)).0))
+  three_accepted files u v w x a b c p programs events (suc (suc (suc zero))) le plan t sessions script (after, has, (next, has_next, (last, has_last, more))) =
+      let it = plan (texts inputs.Plan) after has in
+      let then_it = sessions (texts inputs.Sessions) next (subst (λ s. HasText files s b (texts inputs.Sessions) next) (sym it.1) has_next) in
+      let at_last = script (texts inputs.Script) last (subst (λ s. HasText files s c (texts inputs.Script) last) (sym then_it.1) has_last) in
+      (p, programs, events, (((it.0, t), then_it.0), at_last.0))
+  three_accepted files u v w x a b c p programs events (suc (suc (suc (suc n)))) le plan t sessions script k = absurd (omega (arith, le))
+
+  pub write_judged : (n : ℕ) (f : Fault) → IsWriteFault f → AreAccepted takes texts n → Judges takes texts n f
+  write_judged n Memory h k = absurd h
+  write_judged n (ReadFailed input cause) h k = absurd h
+  write_judged n (Refused why) h k = absurd h
+  write_judged n (WriteFailed cause) h k = k

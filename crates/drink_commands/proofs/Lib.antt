@@ -1,6 +1,7 @@
-pub mod Cuts
 pub mod Rows
 pub mod Limits
 pub mod Faults
 pub mod Scripts
-pub mod Simulated
+pub mod Steps
+pub mod ScriptLines
+pub mod Reported

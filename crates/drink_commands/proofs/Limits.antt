@@ -1,50 +1,95 @@
--- A text that is cut one byte past its limit means what the whole text means.
-use Rattle.std.proofs.Common.{◌≡◌, ◌+◌, ◌≤◌, ◌<◌, ℕ, min, List, length, take, take_all, Option, Some, None, IfSome, true, false, nat_lt, Err, refl, sym, subst, ap, ◌∙◌, arith}
+-- A text of which only so much was read as shows that it is too long means what the whole text means.
+use Rattle.std.proofs.Common.{◌≡◌, ◌≤◌, ◌<◌, ℕ, List, length, Option, true, false, nat_lt, Result, Ok, Err, refl, sym, subst, ap, ◌∙◌, arith, inl, inr}
 use Rattle.std.proofs.lemmas.Bool.Decides.{nat_tests}
-use Rattle.std.proofs.lemmas.List.{length-take}
+use Rattle.input_texts.specs.Words.{HasText, IsReadUpTo, Unread}
 use Rattle.office_map.specs.PlanValue.{PlanValue}
 use Rattle.office_map.specs.PlanText.{plan_of}
+use Rattle.office_map.specs.Precedence.{HasOrder}
 use Rattle.office_map.specs.declared.fault.PlanRule.TheVariants as plan_rules
+use Rattle.session_language.specs.ProgramValue.{ProgramValue}
 use Rattle.session_language.specs.declared.fault.SessionRule.TheVariants as rules_of
 use Rattle.session_language.specs.Reading.{sessions_of}
+use Rattle.world_schedule.specs.declared.event.WorldEvent.{WorldEvent}
+use Rattle.drink_commands.specs.declared.fault.ScriptRefusal.{ScriptRefusal}
+use Rattle.drink_commands.specs.Plans.{IsAcceptedAs}
+use Rattle.drink_commands.specs.Script.{IsScript, RefusesScript}
 
--- past the limit nothing but the length counts
-by_length : {X : Type 0} (f : List ℕ → X) (limit : ℕ) (refused : X) → ((text : List ℕ) → limit < length text → f text ≡ refused)
-    → (text : List ℕ) → f (take (limit + 1) text) ≡ f text
-by_length f limit refused h text =
-    elim (nat_lt limit (length text)) as (λ b. nat_lt limit (length text) ≡ b → f (take (limit + 1) text) ≡ f text) [
-      | true ↦ λ e.
-          let long : limit < length text = grind (arith, nat_tests, e) in
-          let part : length (take (limit + 1) text) ≡ min (limit + 1) (length text) = length-take (limit + 1) text in
-          h (take (limit + 1) text) (omega (arith, part, long)) ∙ sym (h text long)
-      | false ↦ λ e. let short : length text ≤ limit = grind (arith, nat_tests, e) in ap f (take_all (limit + 1) text (omega (arith, short)))
+-- what was read of a word's text
+abbrev pub WasRead : (List ℕ → Option (List ℕ)) → Unread → List ℕ → Unread → ℕ → List ℕ → Type 0
+WasRead files old word new limit read = (text : List ℕ) (after : Unread) → HasText files old word text after
+    → IsReadUpTo limit text read × (length read ≤ limit → new ≡ after)
+
+same_by_length : {X : Type 0} (f : List ℕ → X) (limit : ℕ) (refused : X) → ((text : List ℕ) → limit < length text → f text ≡ refused)
+    → (text read : List ℕ) → IsReadUpTo limit text read → f read ≡ f text
+same_by_length f limit refused h text read (inl e) = ap f e
+same_by_length f limit refused h text read (inr (a, b)) = h read a ∙ sym (h text b)
+
+HasOk : {X E : Type 0} → Result X E → Type 0
+HasOk (Ok x) = Unit {0}
+HasOk (Err e) = ⊥
+
+ok_is_no_err : {X E : Type 0} (x : X) (e : E) → ◌≡◌ {A = Result X E} (Ok x) (Err e) → ⊥
+unfolding HasOk
+ok_is_no_err x e same = subst HasOk same tt
+
+short_by_ok : {X E : Type 0} (f : List ℕ → Result X E) (limit : ℕ) (refused : E) → ((text : List ℕ) → limit < length text → f text ≡ Err refused)
+    → (read : List ℕ) (x : X) → f read ≡ Ok x → length read ≤ limit
+short_by_ok f limit refused h read x e =
+    elim (nat_lt limit (length read)) as (λ b. nat_lt limit (length read) ≡ b → length read ≤ limit) [
+      | true ↦ λ t. let long : limit < length read = grind (arith, nat_tests, t) in absurd (ok_is_no_err x refused (sym e ∙ h read long))
+      | false ↦ λ t. grind (arith, nat_tests, t)
     ] refl
 
 above : (k n : ℕ) → k < n → nat_lt k n ≡ true
 above k n h = grind (arith, nat_tests)
 
+-- ---- plans
+
 long_plan : (text : List ℕ) → 262144 < length text → plan_of text ≡ Err (record { rule = plan_rules.Limit; line = 0 })
 unfolding plan_of
 long_plan text h = rw (above 262144 (length text) h) refl
 
-pub plan_of_part : (text : List ℕ) → plan_of (take 262145 text) ≡ plan_of text
-plan_of_part text = by_length plan_of 262144 _ long_plan text
+pub plan_read : (text read : List ℕ) → IsReadUpTo 262144 text read → plan_of read ≡ plan_of text
+plan_read text read h = same_by_length plan_of 262144 _ long_plan text read h
+
+pub plan_accepted : (files : List ℕ → Option (List ℕ)) (old : Unread) (word : List ℕ) (new : Unread) (read : List ℕ) (p : PlanValue)
+    → WasRead files old word new 262144 read → plan_of read ≡ Ok p → HasOrder p
+    → (text : List ℕ) (after : Unread) → HasText files old word text after → IsAcceptedAs text p × (new ≡ after)
+plan_accepted files old word new read p was e o text after has =
+    let it = was text after has in
+    ((sym (plan_read text read it.0) ∙ e, o), it.1 (short_by_ok plan_of 262144 _ long_plan read p e))
+
+-- ---- sessions
 
 long_sessions : (p : PlanValue) (text : List ℕ) → 1048576 < length text → sessions_of p text ≡ Err (record { rule = rules_of.TooLong; line = 0 })
 unfolding sessions_of
 long_sessions p text h = rw (above 1048576 (length text) h) refl
 
-pub sessions_of_part : (p : PlanValue) (text : List ℕ) → sessions_of p (take 1048577 text) ≡ sessions_of p text
-sessions_of_part p text = by_length (sessions_of p) 1048576 _ (long_sessions p) text
+pub sessions_read : (p : PlanValue) (text read : List ℕ) → IsReadUpTo 1048576 text read → sessions_of p read ≡ sessions_of p text
+sessions_read p text read h = same_by_length (sessions_of p) 1048576 _ (long_sessions p) text read h
 
--- what a text means that was read up to its limit
-pub kept : {X : Type 0} (f : List ℕ → X) (limit : ℕ) → ((text : List ℕ) → f (take limit text) ≡ f text) → (known : Option (List ℕ)) (n : ℕ) (v w : List ℕ) (r : X)
-    → n ≡ limit → w ≡ v → f w ≡ r → IfSome known (λ text. v ≡ take n text) → IfSome known (λ text. f text ≡ r)
-kept f limit same None n v w r en ew er h = tt
-kept f limit same (Some text) n v w r en ew er h = sym (same text) ∙ ap (λ k. f (take k text)) (sym en) ∙ ap f (sym h) ∙ ap f (sym ew) ∙ er
+pub sessions_accepted : (files : List ℕ → Option (List ℕ)) (old : Unread) (word : List ℕ) (new : Unread) (read : List ℕ) (p : PlanValue)
+    (programs : List ProgramValue) → WasRead files old word new 1048576 read → sessions_of p read ≡ Ok programs
+    → (text : List ℕ) (after : Unread) → HasText files old word text after → (sessions_of p text ≡ Ok programs) × (new ≡ after)
+sessions_accepted files old word new read p programs was e text after has =
+    let it = was text after has in
+    (sym (sessions_read p text read it.0) ∙ e, it.1 (short_by_ok (sessions_of p) 1048576 _ (long_sessions p) read programs e))
 
--- and a fact of what it means
-pub fact_kept : {X : Type 0} (P : X → Type 0) (f : List ℕ → X) (limit : ℕ) → ((text : List ℕ) → f (take limit text) ≡ f text) → (known : Option (List ℕ)) (n : ℕ) (v w : List ℕ)
-    → n ≡ limit → w ≡ v → P (f w) → IfSome known (λ text. v ≡ take n text) → IfSome known (λ text. P (f text))
-fact_kept P f limit same None n v w en ew fact h = tt
-fact_kept P f limit same (Some text) n v w en ew fact h = subst P (ap f ew ∙ ap f h ∙ ap (λ k. f (take k text)) en ∙ same text) fact
+-- ---- scripts
+
+same_text : (limit : ℕ) (text read : List ℕ) → length read ≤ limit → IsReadUpTo limit text read → read ≡ text
+same_text limit text read short (inl e) = e
+same_text limit text read short (inr (a, b)) = absurd (omega (arith, short, a))
+
+pub script_accepted : (files : List ℕ → Option (List ℕ)) (old : Unread) (word : List ℕ) (new : Unread) (read : List ℕ) (p : PlanValue)
+    (programs : List ProgramValue) (events : List WorldEvent) → WasRead files old word new 16777216 read → IsScript p programs read events
+    → (text : List ℕ) (after : Unread) → HasText files old word text after → IsScript p programs text events × (new ≡ after)
+script_accepted files old word new read p programs events was h text after has =
+    let it = was text after has in
+    (subst (λ t. IsScript p programs t events) (same_text 16777216 text read h.short it.0) h, it.1 h.short)
+
+pub script_refused : (p : PlanValue) (programs : List ProgramValue) (text read : List ℕ) (r : ScriptRefusal) → IsReadUpTo 16777216 text read
+    → RefusesScript p programs read r → RefusesScript p programs text r
+script_refused p programs text read r (inl e) h = subst (λ t. RefusesScript p programs t r) e h
+script_refused p programs text read r (inr (a, b)) (inl (long, line)) = inl (b, line)
+script_refused p programs text read r (inr (a, b)) (inr (short, first)) = absurd (omega (arith, a, short))

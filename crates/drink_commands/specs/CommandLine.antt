@@ -18,7 +18,7 @@ abbrev pub sim_command : App
 sim_command = with_rule (with_rule (with_rule (new_app (codes "sim")) (required (codes "PLAN"))) (required (codes "SESSIONS"))) (required (codes "SCRIPT"))
 
 abbrev pub some_command : App
-some_command = let a = new_app (codes "drink") in record a { top = record a.top { subcommand_required = true } }
+some_command = let a = new_app (codes "drink") in record a { top = record a.top { subcommand_required = true; has_version = true } }
 
 -- the program, one of whose commands must be there
 abbrev pub program : App

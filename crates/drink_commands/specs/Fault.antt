@@ -1,39 +1,42 @@
 -- What a fault says.
-use Rattle.std.specs.Prelude.{◌≡◌, Option, Some, None}
+use Rattle.std.specs.Prelude.{◌≡◌, List, Contains, Option, Some, None}
 use Rattle.drink_commands.specs.declared.input.Input.{Input}
 use Rattle.drink_commands.specs.declared.input.Input.TheVariants as inputs
+use Rattle.drink_commands.specs.declared.fault.Why.{Why}
+use Rattle.drink_commands.specs.declared.fault.Why.TheVariants.{Plan, Ring, TwoOffices, Sessions, Script}
 use Rattle.drink_commands.specs.declared.fault.Fault.{Fault}
-use Rattle.drink_commands.specs.declared.fault.Fault.TheVariants.{Memory, Plan, Ring, Sessions, Script, TwoOffices, ReadFailed, WriteFailed}
+use Rattle.drink_commands.specs.declared.fault.Fault.TheVariants.{Memory, ReadFailed, Refused, WriteFailed}
+
+-- the input whose text is refused so
+abbrev pub refused_input : Why → Input
+refused_input (Plan r) = inputs.Plan
+refused_input (Ring r) = inputs.Plan
+refused_input TwoOffices = inputs.Plan
+refused_input (Sessions r) = inputs.Sessions
+refused_input (Script r) = inputs.Script
 
 -- the input that is at fault
 abbrev pub input_of : Fault → Option Input
 input_of Memory = None
-input_of (Plan r) = Some inputs.Plan
-input_of (Ring r) = Some inputs.Plan
-input_of (Sessions r) = Some inputs.Sessions
-input_of (Script r) = Some inputs.Script
-input_of TwoOffices = Some inputs.Plan
-input_of (ReadFailed input) = Some input
-input_of WriteFailed = None
+input_of (ReadFailed input cause) = Some input
+input_of (Refused why) = Some (refused_input why)
+input_of (WriteFailed cause) = None
 
--- reading this input failed, or memory ran out
-abbrev pub IsReadFault : Input → Fault → Type 0
-IsReadFault input Memory = Unit {0}
-IsReadFault input (ReadFailed failed) = failed ≡ input
-IsReadFault input (Plan r) = ⊥
-IsReadFault input (Ring r) = ⊥
-IsReadFault input (Sessions r) = ⊥
-IsReadFault input (Script r) = ⊥
-IsReadFault input TwoOffices = ⊥
-IsReadFault input WriteFailed = ⊥
+-- an input wasn't read, or its text is refused for a reason of which P holds, or memory ran out
+abbrev pub IsFaultAt : Input → (Why → Type 0) → Fault → Type 0
+IsFaultAt input P Memory = Unit {0}
+IsFaultAt input P (ReadFailed failed cause) = failed ≡ input
+IsFaultAt input P (Refused why) = (refused_input why ≡ input) × P why
+IsFaultAt input P (WriteFailed cause) = ⊥
 
--- this input is at fault, or memory ran out
-abbrev pub IsFaultOf : Input → Fault → Type 0
-IsFaultOf input Memory = Unit {0}
-IsFaultOf input (Plan r) = input ≡ inputs.Plan
-IsFaultOf input (Ring r) = input ≡ inputs.Plan
-IsFaultOf input (Sessions r) = input ≡ inputs.Sessions
-IsFaultOf input (Script r) = input ≡ inputs.Script
-IsFaultOf input TwoOffices = ⊥
-IsFaultOf input (ReadFailed failed) = failed ≡ input
-IsFaultOf input WriteFailed = ⊥
+-- the writing failed
+abbrev pub IsWriteFault : Fault → Type 0
+IsWriteFault Memory = ⊥
+IsWriteFault (ReadFailed input cause) = ⊥
+IsWriteFault (Refused why) = ⊥
+IsWriteFault (WriteFailed cause) = Unit {0}
+
+-- where an input is at fault, it is one of these
+abbrev pub IsAmong : List Input → Option Input → Type 0
+IsAmong inputs None = Unit {0}
+IsAmong inputs (Some input) = Contains inputs input

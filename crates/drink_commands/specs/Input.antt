@@ -8,3 +8,9 @@ abbrev pub limit_of : Input → ℕ
 limit_of Plan = 262144
 limit_of Sessions = 1048576
 limit_of Script = 16777216
+
+-- which of a command's words each is, from 0
+abbrev pub place_of : Input → ℕ
+place_of Plan = 0
+place_of Sessions = 1
+place_of Script = 2

@@ -1,11 +1,13 @@
 pub mod Plans
 pub mod Input
 pub mod Fault
-pub mod Cut
 pub mod Report
 pub mod Texts
+pub mod Requests
+pub mod Status
 pub mod Serial
 pub mod CommandLine
 pub mod Script
+pub mod ScriptLines
 pub mod Transcript
-pub mod Sources
+pub mod refinement

@@ -1,6 +1,7 @@
 -- Which events the text of a script means, under a plan and the programs of a file of sessions, and which line is its
 -- first fault.
 use Rattle.std.specs.Prelude.{◌≡◌, ℕ, ◌-◌, ◌<◌, ◌≤◌, ◌⊎◌, List, [], ◌∷◌, ◌++◌, length, map, slice_get, ◌&&◌, ◌==◌, nat_le, Option, Some, None, option_map, if◌then◌else◌, codes}
+use Rattle.std.specs.List.{filter_map}
 use Rattle.std.specs.Str.{bytes_eq}
 use Rattle.office_map.specs.PlanValue.{PlanValue, office_named, record_named}
 use Rattle.office_map.specs.Text.{name_of, number_of, statements}
@@ -9,30 +10,25 @@ use Rattle.session_language.specs.ProgramValue.{ProgramValue}
 use Rattle.world_schedule.specs.declared.rule.Rule.{Rule}
 use Rattle.world_schedule.specs.declared.rule.Rule.TheVariants as rule
 use Rattle.world_schedule.specs.declared.event.WorldEvent.{WorldEvent}
-use Rattle.world_schedule.specs.declared.event.WorldEvent.TheVariants as event
+use Rattle.world_schedule.specs.declared.event.WorldEvent.TheVariants as happening
 use Rattle.drink_commands.specs.declared.fault.ScriptRefusal.{ScriptRefusal}
+use Rattle.drink_commands.specs.declared.script.ScriptEvent.{ScriptEvent}
+use Rattle.drink_commands.specs.declared.script.ScriptEvent.TheVariants as event
 
--- the n-th program of the file, from 1
-abbrev pub nth : List ProgramValue → ℕ → Option ProgramValue
-nth programs n = if n == 0 then None else slice_get programs (n - 1)
-
--- submit N: the N-th program at its office
-abbrev pub submission : ProgramValue → WorldEvent
-submission program = event.Submit program.office program
-
-abbrev pub submit_of : List ProgramValue → List ℕ → Option WorldEvent
-submit_of programs number = option_map submission (and_then (number_of number) (nth programs))
+-- submit N: a session, by its number in the file
+abbrev pub submit_of : List ℕ → Option ScriptEvent
+submit_of number = option_map event.Submit (number_of number)
 
 -- deliver K: the K-th message, from 1
-abbrev pub delivery : ℕ → Option WorldEvent
+abbrev pub delivery : ℕ → Option ScriptEvent
 delivery k = if k == 0 then None else Some (event.Deliver k)
 
-abbrev pub deliver_of : List ℕ → Option WorldEvent
+abbrev pub deliver_of : List ℕ → Option ScriptEvent
 deliver_of number = and_then (number_of number) delivery
 
-abbrev pub numbered_line : List ProgramValue → List ℕ → List ℕ → Option WorldEvent
-numbered_line programs keyword number =
-    if bytes_eq keyword (codes "submit") then submit_of programs number
+abbrev pub numbered_line : List ℕ → List ℕ → Option ScriptEvent
+numbered_line keyword number =
+    if bytes_eq keyword (codes "submit") then submit_of number
     else (if bytes_eq keyword (codes "deliver") then deliver_of number else None)
 
 -- the office and the record that a word names
@@ -61,23 +57,44 @@ rule_with p name argument =
     else (if bytes_eq name (codes "work") then and_then (number_of argument) work else None))
 
 -- do OFFICE RULE
-abbrev pub done_by : Option ℕ → Option Rule → Option WorldEvent
+abbrev pub done_by : Option ℕ → Option Rule → Option ScriptEvent
 done_by None r = None
 done_by (Some office) None = None
 done_by (Some office) (Some r) = Some (event.Do office r)
 
-abbrev pub do_line : PlanValue → List ℕ → List ℕ → Option Rule → Option WorldEvent
+abbrev pub do_line : PlanValue → List ℕ → List ℕ → Option Rule → Option ScriptEvent
 do_line p keyword office r = if bytes_eq keyword (codes "do") then done_by (office_by p office) r else None
 
-abbrev pub event_by : PlanValue → List ProgramValue → List (List ℕ) → Option WorldEvent
-event_by p programs (keyword ∷ number ∷ []) = numbered_line programs keyword number
-event_by p programs (keyword ∷ office ∷ name ∷ []) = do_line p keyword office (rule_named name)
-event_by p programs (keyword ∷ office ∷ name ∷ argument ∷ []) = do_line p keyword office (rule_with p name argument)
-event_by p programs words = None
+abbrev pub said_by : PlanValue → List (List ℕ) → Option ScriptEvent
+said_by p (keyword ∷ number ∷ []) = numbered_line keyword number
+said_by p (keyword ∷ office ∷ name ∷ []) = do_line p keyword office (rule_named name)
+said_by p (keyword ∷ office ∷ name ∷ argument ∷ []) = do_line p keyword office (rule_with p name argument)
+said_by p words = None
+
+-- what a line says: an event that names its session by its number in the file
+unfoldable pub said_of : PlanValue → List ℕ → Option ScriptEvent
+said_of p line = and_then (plain_words line) (said_by p)
+
+-- the n-th program of the file, from 1
+abbrev pub nth : List ProgramValue → ℕ → Option ProgramValue
+nth programs n = if n == 0 then None else slice_get programs (n - 1)
+
+-- a program is submitted at its office
+abbrev pub submission : ProgramValue → WorldEvent
+submission program = happening.Submit program.office program
+
+-- the event of the world, where the session is in the file
+abbrev pub event_with : List ProgramValue → ScriptEvent → Option WorldEvent
+event_with programs (event.Submit n) = option_map submission (nth programs n)
+event_with programs (event.Do office r) = Some (happening.Do office r)
+event_with programs (event.Deliver k) = Some (happening.Deliver k)
+
+abbrev pub events_with : List ProgramValue → List ScriptEvent → List WorldEvent
+events_with programs = filter_map (event_with programs)
 
 -- the event that a line means
-unfoldable pub event_of : PlanValue → List ProgramValue → List ℕ → Option WorldEvent
-event_of p programs line = and_then (plain_words line) (event_by p programs)
+abbrev pub event_of : PlanValue → List ProgramValue → List ℕ → Option WorldEvent
+event_of p programs line = and_then (said_of p line) (event_with programs)
 
 -- each line means an event, and these are they, in order
 abbrev pub AreEvents : PlanValue → List ProgramValue → List (ℕ × List ℕ) → List WorldEvent → Type 0

@@ -1,120 +1,62 @@
--- What the texts of the inputs mean, and what a fault says of them.
-use Rattle.std.specs.Prelude.{◌≡◌, List, ℕ, Bool, true, false, Ok, Err}
+-- What the texts of a command's inputs mean, and what a fault says of them. The inputs are judged in the order of the words,
+-- each under what those before it mean.
+use Rattle.std.specs.Prelude.{◌≡◌, List, ℕ, zero, suc, Bool, true, false, nat_lt, Ok, Err}
 use Rattle.office_map.specs.PlanValue.{PlanValue}
 use Rattle.office_map.specs.PlanText.{plan_of, HasRing}
 use Rattle.session_language.specs.ProgramValue.{ProgramValue}
 use Rattle.session_language.specs.Reading.{sessions_of}
 use Rattle.world_schedule.specs.declared.event.WorldEvent.{WorldEvent}
-use Rattle.drink_commands.specs.declared.fault.ScriptRefusal.{ScriptRefusal}
 use Rattle.drink_commands.specs.Plans.{IsAcceptedAs}
+use Rattle.drink_commands.specs.Input.{place_of}
 use Rattle.drink_commands.specs.Script.{IsScript, RefusesScript}
-use Rattle.drink_commands.specs.Transcript.{is_of_one_pair}
+use Rattle.drink_commands.specs.declared.input.Input.{Input}
 use Rattle.drink_commands.specs.declared.input.Input.TheVariants as inputs
+use Rattle.drink_commands.specs.declared.fault.Why.{Why}
+use Rattle.drink_commands.specs.declared.fault.Why.TheVariants.{Plan, Ring, TwoOffices, Sessions, Script}
 use Rattle.drink_commands.specs.declared.fault.Fault.{Fault}
-use Rattle.drink_commands.specs.declared.fault.Fault.TheVariants.{Memory, Plan, Ring, Sessions, Script, TwoOffices, ReadFailed, WriteFailed}
+use Rattle.drink_commands.specs.declared.fault.Fault.TheVariants.{Memory, ReadFailed, Refused, WriteFailed}
+use Rattle.drink_commands.specs.Fault.{refused_input}
 
-abbrev pub IsPlan : List ℕ → Type 0
-IsPlan text = (p : PlanValue) × (IsAcceptedAs text p)
+-- the plan's text is accepted as this plan, and the plan is one that the command takes
+abbrev pub IsPlan : (PlanValue → Bool) → (Input → List ℕ) → PlanValue → Type 0
+IsPlan takes texts p = IsAcceptedAs (texts inputs.Plan) p × (takes p ≡ true)
 
--- under the plan of the first text the second one means sessions
-abbrev pub AreSessions : List ℕ → List ℕ → Type 0
-AreSessions plan sessions = (p : PlanValue) × (programs : List ProgramValue) × (IsAcceptedAs plan p) × (sessions_of p sessions ≡ Ok programs)
+-- the next text means these sessions under it
+abbrev pub AreSessions : (PlanValue → Bool) → (Input → List ℕ) → PlanValue → List ProgramValue → Type 0
+AreSessions takes texts p programs = IsPlan takes texts p × (sessions_of p (texts inputs.Sessions) ≡ Ok programs)
 
--- What a fault of a command without a script says of the plan's text: it is refused so, or it is a plan. Where the text wasn't read to its end, or
--- memory ran out, nothing is said.
-abbrev pub JudgesPlan : List ℕ → Fault → Type 0
-JudgesPlan plan Memory = Unit {0}
-JudgesPlan plan (Plan r) = plan_of plan ≡ Err r
-JudgesPlan plan (Ring r) = HasRing r (plan_of plan)
-JudgesPlan plan (Sessions r) = IsPlan plan
-JudgesPlan plan (Script r) = ⊥
-JudgesPlan plan TwoOffices = ⊥
-JudgesPlan plan (ReadFailed inputs.Plan) = Unit {0}
-JudgesPlan plan (ReadFailed inputs.Sessions) = IsPlan plan
-JudgesPlan plan (ReadFailed inputs.Script) = ⊥
-JudgesPlan plan WriteFailed = IsPlan plan
+-- and the next one these events
+abbrev pub AreEvents : (PlanValue → Bool) → (Input → List ℕ) → PlanValue → List ProgramValue → List WorldEvent → Type 0
+AreEvents takes texts p programs events = AreSessions takes texts p programs × IsScript p programs (texts inputs.Script) events
 
--- What a fault of a simulation says of the plan's text: it is refused so, or it is a plan, and one of a pair unless that
--- is the fault.
-abbrev pub IsPlanOfOnePair : List ℕ → Bool → Type 0
-IsPlanOfOnePair text b = (p : PlanValue) × (IsAcceptedAs text p) × (is_of_one_pair p ≡ b)
+-- the first so many texts are accepted
+abbrev pub AreAccepted : (PlanValue → Bool) → (Input → List ℕ) → ℕ → Type 0
+AreAccepted takes texts zero = Unit {0}
+AreAccepted takes texts (suc zero) = (p : PlanValue) × IsPlan takes texts p
+AreAccepted takes texts (suc (suc zero)) = (p : PlanValue) × (programs : List ProgramValue) × AreSessions takes texts p programs
+AreAccepted takes texts (suc (suc (suc n))) =
+    (p : PlanValue) × (programs : List ProgramValue) × (events : List WorldEvent) × AreEvents takes texts p programs events
 
-abbrev pub JudgesPlanOfOnePair : List ℕ → Fault → Type 0
-JudgesPlanOfOnePair plan Memory = Unit {0}
-JudgesPlanOfOnePair plan (Plan r) = plan_of plan ≡ Err r
-JudgesPlanOfOnePair plan (Ring r) = HasRing r (plan_of plan)
-JudgesPlanOfOnePair plan (Sessions r) = IsPlanOfOnePair plan true
-JudgesPlanOfOnePair plan (Script r) = IsPlanOfOnePair plan true
-JudgesPlanOfOnePair plan TwoOffices = IsPlanOfOnePair plan false
-JudgesPlanOfOnePair plan (ReadFailed inputs.Plan) = Unit {0}
-JudgesPlanOfOnePair plan (ReadFailed inputs.Sessions) = IsPlanOfOnePair plan true
-JudgesPlanOfOnePair plan (ReadFailed inputs.Script) = IsPlanOfOnePair plan true
-JudgesPlanOfOnePair plan WriteFailed = IsPlanOfOnePair plan true
+-- the text of an input is refused so, and those before it are accepted
+abbrev pub IsRefused : (PlanValue → Bool) → (Input → List ℕ) → Why → Type 0
+IsRefused takes texts (Plan r) = plan_of (texts inputs.Plan) ≡ Err r
+IsRefused takes texts (Ring r) = HasRing r (plan_of (texts inputs.Plan))
+IsRefused takes texts TwoOffices = (p : PlanValue) × IsAcceptedAs (texts inputs.Plan) p × (takes p ≡ false)
+IsRefused takes texts (Sessions r) = (p : PlanValue) × IsPlan takes texts p × (sessions_of p (texts inputs.Sessions) ≡ Err r)
+IsRefused takes texts (Script r) =
+    (p : PlanValue) × (programs : List ProgramValue) × AreSessions takes texts p programs × RefusesScript p programs (texts inputs.Script) r
 
--- what a fault says of the sessions' text, under the plan of the first one
-abbrev pub JudgesSessions : List ℕ → List ℕ → Fault → Type 0
-JudgesSessions plan sessions Memory = Unit {0}
-JudgesSessions plan sessions (Plan r) = Unit {0}
-JudgesSessions plan sessions (Ring r) = Unit {0}
-JudgesSessions plan sessions (Sessions r) = (p : PlanValue) × (IsAcceptedAs plan p) × (sessions_of p sessions ≡ Err r)
-JudgesSessions plan sessions (Script r) = AreSessions plan sessions
-JudgesSessions plan sessions TwoOffices = Unit {0}
-JudgesSessions plan sessions (ReadFailed inputs.Plan) = Unit {0}
-JudgesSessions plan sessions (ReadFailed inputs.Sessions) = Unit {0}
-JudgesSessions plan sessions (ReadFailed inputs.Script) = AreSessions plan sessions
-JudgesSessions plan sessions WriteFailed = AreSessions plan sessions
+-- one thing where a test is true, another where it isn't
+abbrev pub Either : Bool → Type 0 → Type 0 → Type 0
+Either true A B = A
+Either false A B = B
 
--- under the plan of the first text and the sessions of the second one, the third one means events
-abbrev pub AreEventsOf : List ℕ → List ℕ → List ℕ → Type 0
-AreEventsOf plan sessions script =
-    (p : PlanValue) × (programs : List ProgramValue) × (events : List WorldEvent) × (IsAcceptedAs plan p) × (sessions_of p sessions ≡ Ok programs)
-    × IsScript p programs script events
-
--- the third text is refused so, under the first two
-abbrev pub IsRefusedScript : List ℕ → List ℕ → List ℕ → ScriptRefusal → Type 0
-IsRefusedScript plan sessions script r =
-    (p : PlanValue) × (programs : List ProgramValue) × (IsAcceptedAs plan p) × (sessions_of p sessions ≡ Ok programs) × RefusesScript p programs script r
-
--- what a fault says of the script's text, under the other two
-abbrev pub JudgesScript : List ℕ → List ℕ → List ℕ → Fault → Type 0
-JudgesScript plan sessions script Memory = Unit {0}
-JudgesScript plan sessions script (Plan r) = Unit {0}
-JudgesScript plan sessions script (Ring r) = Unit {0}
-JudgesScript plan sessions script (Sessions r) = Unit {0}
-JudgesScript plan sessions script (Script r) = IsRefusedScript plan sessions script r
-JudgesScript plan sessions script TwoOffices = Unit {0}
-JudgesScript plan sessions script (ReadFailed input) = Unit {0}
-JudgesScript plan sessions script WriteFailed = AreEventsOf plan sessions script
-
--- a refusal of the plan is this text's
-abbrev pub RefusesPlan : List ℕ → Fault → Type 0
-RefusesPlan plan Memory = Unit {0}
-RefusesPlan plan (Plan r) = plan_of plan ≡ Err r
-RefusesPlan plan (Ring r) = HasRing r (plan_of plan)
-RefusesPlan plan (Sessions r) = Unit {0}
-RefusesPlan plan (Script r) = Unit {0}
-RefusesPlan plan TwoOffices = Unit {0}
-RefusesPlan plan (ReadFailed input) = Unit {0}
-RefusesPlan plan WriteFailed = Unit {0}
-
--- a refusal of the sessions is this text's, under this plan
-abbrev pub RefusesSessions : PlanValue → List ℕ → Fault → Type 0
-RefusesSessions p sessions Memory = Unit {0}
-RefusesSessions p sessions (Plan r) = Unit {0}
-RefusesSessions p sessions (Ring r) = Unit {0}
-RefusesSessions p sessions (Sessions r) = sessions_of p sessions ≡ Err r
-RefusesSessions p sessions (Script r) = Unit {0}
-RefusesSessions p sessions TwoOffices = Unit {0}
-RefusesSessions p sessions (ReadFailed input) = Unit {0}
-RefusesSessions p sessions WriteFailed = Unit {0}
-
--- a refusal of the script is this text's, under this plan and these programs
-abbrev pub RefusesEvents : PlanValue → List ProgramValue → List ℕ → Fault → Type 0
-RefusesEvents p programs script Memory = Unit {0}
-RefusesEvents p programs script (Plan r) = Unit {0}
-RefusesEvents p programs script (Ring r) = Unit {0}
-RefusesEvents p programs script (Sessions r) = Unit {0}
-RefusesEvents p programs script (Script r) = RefusesScript p programs script r
-RefusesEvents p programs script TwoOffices = Unit {0}
-RefusesEvents p programs script (ReadFailed input) = Unit {0}
-RefusesEvents p programs script WriteFailed = Unit {0}
+-- What a fault says of the first so many texts: one of them is refused so, or those before the input at fault are accepted.
+-- Where memory ran out, nothing is said.
+abbrev pub Judges : (PlanValue → Bool) → (Input → List ℕ) → ℕ → Fault → Type 0
+Judges takes texts known Memory = Unit {0}
+Judges takes texts known (ReadFailed input cause) =
+    Either (nat_lt (place_of input) known) (AreAccepted takes texts (place_of input)) (AreAccepted takes texts known)
+Judges takes texts known (Refused why) =
+    Either (nat_lt (place_of (refused_input why)) known) (IsRefused takes texts why) (AreAccepted takes texts known)
+Judges takes texts known (WriteFailed cause) = AreAccepted takes texts known

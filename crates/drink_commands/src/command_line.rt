@@ -42,6 +42,14 @@ pub fn command_line<'a>(alloc: Global, words: &'a [String]) -> Result<Request<'a
     }
 }
 
+/// The help of the program.
+pub fn help(alloc: Global) -> Result<String, AllocError> {
+    match program(alloc)?.try_get_matches_from(["drink", "--help"].as_slice()) {
+        Ok(_) => Ok(String::new(alloc)),
+        Err(error) => error.to_string(alloc),
+    }
+}
+
 /// What the command of this name asks for, with what was found of its words.
 fn requested<'a>(name: &str, found: &ArgMatches<'a>) -> Request<'a>
     ensures { Requests name.now (Some (rows_of (found_of found.now))) result }
@@ -69,6 +77,8 @@ fn program<'a>(alloc: Global) -> Result<Command<'a>, AllocError>
 {
     let program = Command::new(alloc, "drink")
         .about("A broker for serial record sessions between neighbouring offices")
+        .after_help(STATUSES)
+        .version(VERSION)
         .subcommand_required(true);
     let program = with_serial(alloc, program)?;
     Ok(with_sim(alloc, program)?)
@@ -81,6 +91,7 @@ fn with_serial<'a>(alloc: Global, program: Command<'a>) -> Result<Command<'a>, A
     let sessions = required(alloc, "SESSIONS", SESSIONS);
     let serial = Command::new(alloc, "serial")
         .about("Runs the sessions alone, one after another, and prints what each did")
+        .after_help(INPUTS)
         .arg(plan)?
         .arg(sessions)?;
     let program = program.subcommand(serial)?;
@@ -95,6 +106,7 @@ fn with_sim<'a>(alloc: Global, program: Command<'a>) -> Result<Command<'a>, Allo
     let script = required(alloc, "SCRIPT", SCRIPT);
     let sim = Command::new(alloc, "sim")
         .about("Runs a script on two offices, and prints its replies and what the sessions did")
+        .after_help(INPUTS)
         .arg(plan)?
         .arg(sessions)?
         .arg(script)?;
@@ -110,9 +122,24 @@ fn required<'a>(alloc: Global, id: &'a str, help: &'a str) -> Arg<'a>
     Arg::new(alloc, id).help(help).required(true)
 }
 
+const VERSION: &str = "0.1";
+
 const PLAN: &str = "The file of the plan, or - for the standard input";
 
-const SESSIONS: &str =
-    "The file of the sessions, or - for the standard input; where several are -, it is cut at its first lines that are exactly ---";
+const SESSIONS: &str = "The file of the sessions, or - for the standard input";
 
 const SCRIPT: &str = "The file of the script, or - for the standard input";
+
+/// What stands below the help of a command.
+const INPUTS: &str =
+    "Where several of these are -, the standard input is cut at its first lines that are exactly ---:
+up to the first stands the text of the first -, and so on. Each text counts its lines from 1.
+A file whose name is - is written ./- instead.
+
+Exit status: 0 where it was done; 1 where an input is refused or can't be read, where the output
+can't be written, or where memory runs out; 2 where the command line is at fault.";
+
+/// What stands below the help of the program.
+const STATUSES: &str =
+    "Exit status: 0 where it was done; 1 where an input is refused or can't be read, where the output
+can't be written, or where memory runs out; 2 where the command line is at fault.";

@@ -1,46 +1,57 @@
 //! The commands.
 
-ghost use Rattle.std.specs.Prelude.{◌≡◌, ◌≢◌, ◌≤◌, All, IfErr, IfOk, IfSome, IsTrue, OnOk, length};
+ghost use Rattle.std.specs.Prelude.{◌≡◌, ◌≤◌, ◌⊎◌, [], ◌∷◌, All, IfErr, IfOk, IsTrue, List, OnOk, length, true, ℕ};
 ghost use Rattle.std.specs.Io.KnownBytes.{Appends};
 ghost use Rattle.std.specs.String.{string_bytes};
+ghost use Rattle.input_texts.specs.Words.{HaveFirstTexts, StandFor};
+ghost use Rattle.session_language.specs.Limits.{most_sessions};
 ghost use Rattle.session_language.specs.Program.{fits};
+ghost use Rattle.drink_commands.specs.Fault.{IsAmong, IsWriteFault, input_of};
 ghost use Rattle.drink_commands.specs.Serial.{Reports, serial_report};
-ghost use Rattle.drink_commands.specs.Texts.{JudgesPlan, JudgesPlanOfOnePair, JudgesScript, JudgesSessions};
-ghost use Rattle.drink_commands.specs.Transcript.{Simulates};
+ghost use Rattle.drink_commands.specs.Texts.{Judges};
+ghost use Rattle.drink_commands.specs.Transcript.{Simulates, is_of_one_pair};
+ghost use Rattle.drink_commands.specs.declared.input.Input.{Input};
 
 use crate::fault::Fault;
+use crate::input::Input;
 use crate::report::report;
 use crate::texts::{read_events, read_pair, read_plan, read_programs};
 use crate::transcript::transcript;
+use input_texts::{Sources, StandardInput};
 use office_map::Plan;
 use serial_replay::replay;
 use session_language::Program;
 use std::alloc::{AllocError, Global};
-use std::io::{Read, Write};
+use std::io::Write;
 
 /// The exit status of a command that did what it was asked for.
 const DONE: u8 = 0;
 
-/// Runs the sessions alone, one after another, and writes what each did and the values that they
-/// leave. The plan is read and judged before the sessions are read, and nothing is written before
-/// both are judged. The answer is the exit status.
-pub fn serial<P: Read, S: Read, W: Write>(
+/// Runs the sessions alone, one after another, and writes what each did and the values that they leave. The plan is read
+/// and judged before the sessions are read, and nothing is written before both are judged. The answer is the exit status.
+pub fn serial<S: Sources, W: Write>(
     alloc: Global,
-    plan: &mut P,
-    sessions: &mut S,
+    sources: &S,
+    plan: &str,
+    sessions: &str,
     out: &mut W,
 ) -> Result<u8, Fault>
-    ensures reports { OnOk result (IfSome (P.remaining plan.old) (λ p. IfSome (S.remaining sessions.old) (λ s.
-        Reports p s (W.contents out.old) (W.contents out.new)))) }
+    ensures reports { OnOk result ((texts : Input → List ℕ)
+        → StandFor (S.file_text sources.now) (S.standard_text sources.now) (plan.now ∷ sessions.now ∷ []) (texts Input.Plan ∷ texts Input.Sessions ∷ [])
+        → Reports (texts Input.Plan) (texts Input.Sessions) (W.contents out.old) (W.contents out.new)) }
     ensures status { IfOk result (λ status. status ≡ 0) }
 
-    ensures plan_judged { IfErr result (λ f. IfSome (P.remaining plan.old) (λ p. JudgesPlan p f)) }
-    ensures sessions_judged { IfErr result (λ f. IfSome (P.remaining plan.old) (λ p. IfSome (S.remaining sessions.old) (λ s.
-        JudgesSessions p s f))) }
-    ensures unwritten { IfErr result (λ f. f ≢ Fault.WriteFailed → out.new ≡ out.old) }
+    ensures judged { IfErr result (λ f. (texts : Input → List ℕ) (n : ℕ)
+        → HaveFirstTexts (S.file_text sources.now) (S.standard_text sources.now) (plan.now ∷ sessions.now ∷ [])
+        (texts Input.Plan ∷ texts Input.Sessions ∷ []) n
+        → Judges (λ p. true) texts n f) }
+    ensures input { IfErr result (λ f. IsAmong (Input.Plan ∷ Input.Sessions ∷ []) (input_of f)) }
+    ensures unwritten { IfErr result (λ f. IsWriteFault f ⊎ (out.new ≡ out.old)) }
 {
-    let plan = read_plan(alloc, plan)?;
-    let programs = read_programs(alloc, sessions, &plan)?;
+    let words = [plan, sessions];
+    let mut standard = StandardInput::new(alloc, sources.standard(), &words);
+    let plan = read_plan(alloc, sources, &mut standard, plan)?;
+    let programs = read_programs(alloc, sources, &mut standard, sessions, &plan)?;
     let text = serial_report(alloc, &plan, programs)?;
     write_whole(out, &text)?;
     Ok(DONE)
@@ -50,28 +61,32 @@ pub fn serial<P: Read, S: Read, W: Write>(
 /// finished sessions did, how many submitted ones haven't finished, and the values. Each input is read and judged before
 /// the next one is read, and nothing is run or written before all are judged. A refused event is told in its line, and
 /// is no fault. The answer is the exit status.
-pub fn sim<P: Read, S: Read, C: Read, W: Write>(
+pub fn sim<S: Sources, W: Write>(
     alloc: Global,
-    plan: &mut P,
-    sessions: &mut S,
-    script: &mut C,
+    sources: &S,
+    plan: &str,
+    sessions: &str,
+    script: &str,
     out: &mut W,
 ) -> Result<u8, Fault>
-    ensures simulates { OnOk result (IfSome (P.remaining plan.old) (λ p. IfSome (S.remaining sessions.old) (λ s.
-        IfSome (C.remaining script.old) (λ c. Simulates p s c (W.contents out.old) (W.contents out.new))))) }
+    ensures simulates { OnOk result ((texts : Input → List ℕ)
+        → StandFor (S.file_text sources.now) (S.standard_text sources.now) (plan.now ∷ sessions.now ∷ script.now ∷ [])
+        (texts Input.Plan ∷ texts Input.Sessions ∷ texts Input.Script ∷ [])
+        → Simulates (texts Input.Plan) (texts Input.Sessions) (texts Input.Script) (W.contents out.old) (W.contents out.new)) }
     ensures status { IfOk result (λ status. status ≡ 0) }
 
-    ensures plan_judged { IfErr result (λ f. IfSome (P.remaining plan.old) (λ p. JudgesPlanOfOnePair p f)) }
-    ensures sessions_judged { IfErr result (λ f. IfSome (P.remaining plan.old) (λ p. IfSome (S.remaining sessions.old) (λ s.
-        JudgesSessions p s f))) }
-    ensures script_judged { IfErr result (λ f. IfSome (P.remaining plan.old) (λ p. IfSome (S.remaining sessions.old) (λ s.
-        IfSome (C.remaining script.old) (λ c. JudgesScript p s c f)))) }
-    ensures unwritten { IfErr result (λ f. f ≢ Fault.WriteFailed → out.new ≡ out.old) }
+    ensures judged { IfErr result (λ f. (texts : Input → List ℕ) (n : ℕ)
+        → HaveFirstTexts (S.file_text sources.now) (S.standard_text sources.now) (plan.now ∷ sessions.now ∷ script.now ∷ [])
+        (texts Input.Plan ∷ texts Input.Sessions ∷ texts Input.Script ∷ []) n
+        → Judges is_of_one_pair texts n f) }
+    ensures unwritten { IfErr result (λ f. IsWriteFault f ⊎ (out.new ≡ out.old)) }
 {
-    let plan = read_pair(alloc, plan)?;
-    let programs = read_programs(alloc, sessions, &plan)?;
-    let events = read_events(alloc, script, &plan, &programs)?;
-    let printed = transcript(alloc, &plan, &events)?;
+    let words = [plan, sessions, script];
+    let mut standard = StandardInput::new(alloc, sources.standard(), &words);
+    let plan = read_pair(alloc, sources, &mut standard, plan)?;
+    let programs = read_programs(alloc, sources, &mut standard, sessions, &plan)?;
+    let events = read_events(alloc, sources, &mut standard, script, &plan, &programs)?;
+    let printed = transcript(alloc, &plan, &programs, &events)?;
     write_whole(out, &printed)?;
     Ok(DONE)
 }
@@ -79,7 +94,7 @@ pub fn sim<P: Read, S: Read, C: Read, W: Write>(
 /// The report of the serial run of sessions that fit a plan.
 fn serial_report(alloc: Global, plan: &Plan, programs: Vec<Program>) -> Result<String, AllocError>
     requires fit { All (λ p. IsTrue (fits plan.now p)) programs.items }
-    requires few { length programs.items ≤ 1024 }
+    requires few { length programs.items ≤ most_sessions }
     ensures { IfOk result (λ text. string_bytes text ≡ serial_report plan.now programs.items) }
 {
     let replay = replay::serial(alloc, plan, &programs)?;
@@ -89,12 +104,15 @@ fn serial_report(alloc: Global, plan: &Plan, programs: Vec<Program>) -> Result<S
     Ok(text)
 }
 
-fn write_whole<W: Write>(out: &mut W, text: &str) -> Result<(), Fault>
+pub(crate) fn write_whole<W: Write>(out: &mut W, text: &str) -> Result<(), Fault>
     ensures written { OnOk result (Appends (W.contents out.old) (W.contents out.new) text.now) }
-    ensures fault { IfErr result (λ f. f ≡ Fault.WriteFailed) }
+    ensures fault { IfErr result IsWriteFault }
 {
-    if out.write_all(text.as_bytes()).is_err() || out.flush().is_err() {
-        return Err(Fault::WriteFailed);
+    if let Err(error) = out.write_all(text.as_bytes()) {
+        return Err(Fault::WriteFailed(error.kind()));
+    }
+    if let Err(error) = out.flush() {
+        return Err(Fault::WriteFailed(error.kind()));
     }
     Ok(())
 }

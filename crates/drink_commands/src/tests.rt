@@ -1,14 +1,18 @@
 use crate::commands::serial;
-use crate::fault::Fault;
+use crate::fault::{Fault, Why};
 use crate::input::Input;
+use input_texts::Sources;
 use office_map as plans;
 use session_language as sessions;
 use std::alloc::Global;
+use std::io;
+use std::io::{ErrorKind, Read};
 use std::process::Abort;
 use std::test::Fail;
 
 mod devices;
 mod scripts;
+mod shell;
 mod words;
 
 const PLAN: &str =
@@ -23,15 +27,117 @@ const MOVE: &str =
 const MOVED: &str =
     "a.1 done reads x=100 y=0 writes x=70 y=30 gives 70 30\nvalue x 70\nvalue y 30\n";
 
+/// Inputs in memory: the files `p`, `s` and `c`, and the standard input. A plan's, sessions' or script's reads give so many
+/// bytes at a time, every second is interrupted, and each fails once so many are done. There are besides `folder`, `locked`
+/// and `endless`, and no other.
+#[derive(Drop)]
+pub struct Memory<'a> {
+    pub plan: &'a str,
+    pub sessions: &'a str,
+    pub script: &'a str,
+    pub standard: &'a str,
+    pub step: usize,
+    pub fails_after: u32,
+}
+
+impl<'a> Memory<'a> {
+    pub fn new(plan: &'a str, sessions: &'a str, script: &'a str) -> Memory<'a> {
+        Memory {
+            plan,
+            sessions,
+            script,
+            standard: "",
+            step: usize::MAX,
+            fails_after: u32::MAX,
+        }
+    }
+
+    fn reading(&self, text: &'a str) -> Reading<'a> {
+        Reading {
+            text: text.as_bytes(),
+            step: self.step,
+            reads: 0,
+            fails_after: self.fails_after,
+            is_folder: false,
+            is_endless: false,
+        }
+    }
+}
+
+impl<'a> Sources for Memory<'a> {
+    ghost use Rattle.std.specs.Prelude.{None};
+
+    type File = Reading<'a>;
+
+    type Standard = Reading<'a>;
+
+    ghost file_text = { λ _ _. None };
+
+    ghost standard_text = { λ _. None };
+
+    fn open(&self, name: &str) -> io::Result<Reading<'a>> {
+        match name {
+            "p" => Ok(self.reading(self.plan)),
+            "s" => Ok(self.reading(self.sessions)),
+            "c" => Ok(self.reading(self.script)),
+            "folder" => {
+                let mut reading = self.reading("");
+                reading.is_folder = true;
+                Ok(reading)
+            }
+            "endless" => {
+                let mut reading = self.reading("");
+                reading.is_endless = true;
+                Ok(reading)
+            }
+            "locked" => Err(io::Error::from(ErrorKind::PermissionDenied)),
+            _ => Err(io::Error::from(ErrorKind::NotFound)),
+        }
+    }
+
+    fn standard(&self) -> Reading<'a> {
+        self.reading(self.standard)
+    }
+}
+
+#[derive(Drop)]
+pub struct Reading<'a> {
+    text: &'a [u8],
+    step: usize,
+    reads: u32,
+    fails_after: u32,
+    is_folder: bool,
+    is_endless: bool,
+}
+
+impl Read for Reading<'_> {
+    fn read(&mut self, buf: &mut [u8]) -> io::Result<usize> {
+        if self.is_folder {
+            return Err(io::Error::from(ErrorKind::IsADirectory));
+        }
+        if self.is_endless {
+            for i in 0..buf.len() {
+                buf[i] = b'#';
+            }
+            return Ok(buf.len());
+        }
+        self.reads = self.reads.saturating_add(1);
+        if self.reads > self.fails_after {
+            return Err(io::Error::from(ErrorKind::BrokenPipe));
+        }
+        if self.reads % 2 == 0 {
+            return Err(io::Error::from(ErrorKind::Interrupted));
+        }
+        let most = self.step.min(buf.len());
+        self.text.read(&mut buf[..most])
+    }
+}
+
 /// What `serial` answers, and what it writes.
 fn ran(alloc: Global, plan: &str, sessions: &str) -> (Result<u8, Fault>, Vec<u8>) {
     let mut out = Vec::new(alloc);
-    let result = serial(
-        alloc,
-        &mut plan.as_bytes(),
-        &mut sessions.as_bytes(),
-        &mut out,
-    );
+    let memory = Memory::new(plan, sessions, "");
+    let result = serial(alloc, &memory, "p", "s", &mut out);
     (result, out)
 }
 
@@ -85,20 +191,20 @@ fn refused(rt: &(impl Abort + AllocGlobal), plan: &str, sessions: &str, fault: F
 
 #[test]
 fn refuses_texts_and_writes_nothing(rt: HostRuntime) {
-    let no_record = Fault::Sessions(sessions::SessionRefusal {
+    let no_record = Fault::Refused(Why::Sessions(sessions::SessionRefusal {
         rule: sessions::SessionRule::UnknownRecord,
         line: 2,
-    });
+    }));
     refused(&rt, PLAN, "session a\ngive read z\nend\n", no_record);
-    let no_name = Fault::Sessions(sessions::SessionRefusal {
+    let no_name = Fault::Refused(Why::Sessions(sessions::SessionRefusal {
         rule: sessions::SessionRule::UnknownName,
         line: 2,
-    });
+    }));
     refused(&rt, PLAN, "session a\ngive v\nlet v = 1\nend\n", no_name);
-    let no_header = Fault::Plan(plans::PlanRefusal {
+    let no_header = Fault::Refused(Why::Plan(plans::PlanRefusal {
         rule: plans::PlanRule::Header,
         line: 1,
-    });
+    }));
     refused(&rt, "office a -\n", "session a\ngive v\nend\n", no_header);
 }
 
@@ -146,16 +252,16 @@ fn reads_the_longest_texts(rt: HostRuntime) -> Result<(), Fail> {
 fn refuses_a_byte_more(rt: HostRuntime) -> Result<(), Fail> {
     let alloc = rt.alloc();
     let plan = stretched(alloc, PLAN, 262_145)?;
-    let limit = Fault::Plan(plans::PlanRefusal {
+    let limit = Fault::Refused(Why::Plan(plans::PlanRefusal {
         rule: plans::PlanRule::Limit,
         line: 0,
-    });
+    }));
     refused(&rt, plan.as_str(), MOVE, limit);
     let long = stretched(alloc, MOVE, 1_048_577)?;
-    let too_long = Fault::Sessions(sessions::SessionRefusal {
+    let too_long = Fault::Refused(Why::Sessions(sessions::SessionRefusal {
         rule: sessions::SessionRule::TooLong,
         line: 0,
-    });
+    }));
     refused(&rt, PLAN, long.as_str(), too_long);
     Ok(())
 }
@@ -170,21 +276,16 @@ fn faults_say_what_is_wrong_and_where(rt: HostRuntime) -> Result<(), Fail> {
     assert_eq!(rt; fault.input(), Some(Input::Plan));
     let text = fault.to_string(alloc)?;
     assert!(rt; text.as_str().starts_with("line 3: P3 NameTwice"));
-    let failed = Fault::ReadFailed(Input::Sessions);
+    let failed = Fault::ReadFailed(Input::Sessions, ErrorKind::NotFound);
     assert_eq!(rt; failed.input(), Some(Input::Sessions));
-    assert!(rt;
-        failed
-            .to_string(alloc)?
-            .as_str()
-            .starts_with("X4 ReadFailed")
+    let text = failed.to_string(alloc)?;
+    assert_eq!(rt;
+        text.as_str(),
+        "X4 ReadFailed: it cannot be read: no such file"
     );
-    let unwritten = Fault::WriteFailed;
+    let unwritten = Fault::WriteFailed(ErrorKind::StorageFull);
     assert_eq!(rt; unwritten.input(), None);
-    assert!(rt;
-        unwritten
-            .to_string(alloc)?
-            .as_str()
-            .starts_with("X5 WriteFailed")
-    );
+    let text = unwritten.to_string(alloc)?;
+    assert!(rt; text.as_str().starts_with("X5 WriteFailed"));
     Ok(())
 }

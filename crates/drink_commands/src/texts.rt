@@ -1,52 +1,85 @@
 //! The texts of the inputs, read and judged.
 
-ghost use Rattle.std.specs.Prelude.{◌≡◌, ◌≤◌, ◌⊎◌, All, IfErr, IfOk, IfSome, IsTrue, Ok, length, true};
-ghost use Rattle.drink_commands.specs.Plans.{IsAcceptedAs};
+ghost use Rattle.std.specs.Prelude.{◌≡◌, ◌≤◌, All, Bool, IfErr, IfOk, IsTrue, List, Ok, Option, length, true, ℕ};
+ghost use Rattle.input_texts.specs.Words.{HasText, IsReadUpTo, Unread};
+ghost use Rattle.office_map.specs.PlanValue.{PlanValue};
+ghost use Rattle.session_language.specs.Limits.{most_sessions};
 ghost use Rattle.session_language.specs.Program.{fits};
 ghost use Rattle.session_language.specs.Reading.{sessions_of};
-ghost use Rattle.drink_commands.specs.Fault.{IsFaultOf};
-ghost use Rattle.drink_commands.specs.Texts.{JudgesPlanOfOnePair, RefusesPlan, RefusesSessions, RefusesEvents};
-ghost use Rattle.drink_commands.specs.Script.{IsScript};
+ghost use Rattle.drink_commands.specs.Fault.{IsFaultAt};
+ghost use Rattle.drink_commands.specs.Input.{limit_of};
+ghost use Rattle.drink_commands.specs.Plans.{IsAcceptedAs};
+ghost use Rattle.drink_commands.specs.Script.{IsScript, events_with};
+ghost use Rattle.drink_commands.specs.Texts.{AreSessions, IsPlan, IsRefused};
 ghost use Rattle.drink_commands.specs.Transcript.{is_of_one_pair};
+ghost use Rattle.drink_commands.specs.declared.input.Input.{Input};
 
-use crate::fault::Fault;
+use crate::fault::{Fault, Why};
 use crate::input::Input;
-use crate::reading::read_at_most;
-use crate::script;
+use crate::script::{self, ScriptEvent};
+use input_texts::{InputFault, Sources, StandardInput};
 use office_map::{OfficeId, Plan, PlanFault};
 use session_language::{LangFault, Program, read_sessions};
 use std::alloc::Global;
-use std::io::Read;
-use world_schedule::WorldEvent;
+
+/// The text of an input.
+fn text<S: Sources>(
+    alloc: Global,
+    sources: &S,
+    standard: &mut StandardInput<S::Standard>,
+    word: &str,
+    input: Input,
+) -> Result<Vec<u8>, Fault>
+    ensures text { IfOk result (λ v. (text : List ℕ) (after : Unread) → HasText (S.file_text sources.now) standard.old word.now text after
+        → IsReadUpTo (limit_of input) text v.items × (length v.items ≤ limit_of input → standard.new ≡ after)) }
+    ensures fault { IfErr result (IsFaultAt input (λ _. ⊥)) }
+{
+    match input_texts::text(alloc, sources, standard, word, input.limit()) {
+        Ok(text) => Ok(text),
+        Err(InputFault::Memory) => Err(Fault::Memory),
+        Err(InputFault::Failed(kind)) => Err(Fault::ReadFailed(input, kind)),
+    }
+}
 
 /// The plan that an input means.
-pub fn read_plan<R: Read>(alloc: Global, reader: &mut R) -> Result<Plan, Fault>
-    ensures meaning { IfOk result (λ p. IfSome (R.remaining reader.old) (λ text. IsAcceptedAs text p)) }
-    ensures refused { IfErr result (λ f. IfSome (R.remaining reader.old) (λ text. RefusesPlan text f)) }
-    ensures fault { IfErr result (IsFaultOf Input.Plan) }
+pub fn read_plan<S: Sources>(
+    alloc: Global,
+    sources: &S,
+    standard: &mut StandardInput<S::Standard>,
+    word: &str,
+) -> Result<Plan, Fault>
+    ensures meaning { IfOk result (λ p. (text : List ℕ) (after : Unread) → HasText (S.file_text sources.now) standard.old word.now text after
+        → IsAcceptedAs text p × (standard.new ≡ after)) }
+    ensures fault { IfErr result (IsFaultAt Input.Plan (λ why. (takes : PlanValue → Bool) (texts : Input → List ℕ) (after : Unread)
+        → HasText (S.file_text sources.now) standard.old word.now (texts Input.Plan) after → IsRefused takes texts why)) }
 {
-    let input = Input::Plan;
-    let text = read_at_most(alloc, reader, input.limit() + 1, input)?;
+    let text = text(alloc, sources, standard, word, Input::Plan)?;
     match Plan::read(alloc, &text) {
         Ok(plan) => Ok(plan),
-        Err(PlanFault::Refused(refusal)) => Err(Fault::Plan(refusal)),
-        Err(PlanFault::Ring(ring)) => Err(Fault::Ring(ring)),
+        Err(PlanFault::Refused(refusal)) => Err(Fault::Refused(Why::Plan(refusal))),
+        Err(PlanFault::Ring(ring)) => Err(Fault::Refused(Why::Ring(ring))),
         Err(PlanFault::Memory) => Err(Fault::Memory),
     }
 }
 
 /// The plan of two offices that are a pair, that an input means.
-pub fn read_pair<R: Read>(alloc: Global, reader: &mut R) -> Result<Plan, Fault>
-    ensures meaning { IfOk result (λ p. IfSome (R.remaining reader.old) (λ text. IsAcceptedAs text p)) }
+pub fn read_pair<S: Sources>(
+    alloc: Global,
+    sources: &S,
+    standard: &mut StandardInput<S::Standard>,
+    word: &str,
+) -> Result<Plan, Fault>
+    ensures meaning { IfOk result (λ p. (text : List ℕ) (after : Unread) → HasText (S.file_text sources.now) standard.old word.now text after
+        → IsAcceptedAs text p × (standard.new ≡ after)) }
     ensures one_pair { IfOk result (λ p. is_of_one_pair p ≡ true) }
-    ensures judged { IfErr result (λ f. IfSome (R.remaining reader.old) (λ text. JudgesPlanOfOnePair text f)) }
-    ensures fault { IfErr result (λ f. (f ≡ Fault.TwoOffices) ⊎ IsFaultOf Input.Plan f) }
+    ensures fault { IfErr result (IsFaultAt Input.Plan (λ why. (texts : Input → List ℕ) (after : Unread)
+        → HasText (S.file_text sources.now) standard.old word.now (texts Input.Plan) after → IsRefused is_of_one_pair texts why)) }
 {
-    let plan = read_plan(alloc, reader)?;
+    let plan = read_plan(alloc, sources, standard, word)?;
     if is_of_one_pair(&plan) {
         Ok(plan)
     } else {
-        Err(Fault::TwoOffices)
+        Err(Fault::Refused(Why::TwoOffices))
     }
 }
 
@@ -56,40 +89,45 @@ fn is_of_one_pair(plan: &Plan) -> bool
     plan.offices() == 2 && plan.are_neighbours(OfficeId::new(0), OfficeId::new(1))
 }
 
-/// The programs of the sessions that an input means under a plan. Each fits the plan, and there are
-/// at most 1,024.
-pub fn read_programs<R: Read>(
+/// The programs of the sessions that an input means under a plan. Each fits the plan.
+pub fn read_programs<S: Sources>(
     alloc: Global,
-    reader: &mut R,
+    sources: &S,
+    standard: &mut StandardInput<S::Standard>,
+    word: &str,
     plan: &Plan,
 ) -> Result<Vec<Program>, Fault>
-    ensures meaning { IfOk result (λ v. IfSome (R.remaining reader.old) (λ text. sessions_of plan.now text ≡ Ok v.items)) }
+    ensures meaning { IfOk result (λ v. (text : List ℕ) (after : Unread) → HasText (S.file_text sources.now) standard.old word.now text after
+        → (sessions_of plan.now text ≡ Ok v.items) × (standard.new ≡ after)) }
     ensures fit { IfOk result (λ v. All (λ p. IsTrue (fits plan.now p)) v.items) }
-    ensures few { IfOk result (λ v. length v.items ≤ 1024) }
-    ensures refused { IfErr result (λ f. IfSome (R.remaining reader.old) (λ text. RefusesSessions plan.now text f)) }
-    ensures fault { IfErr result (IsFaultOf Input.Sessions) }
+    ensures few { IfOk result (λ v. length v.items ≤ most_sessions) }
+    ensures fault { IfErr result (IsFaultAt Input.Sessions (λ why. (takes : PlanValue → Bool) (texts : Input → List ℕ) (after : Unread)
+        → IsPlan takes texts plan.now → HasText (S.file_text sources.now) standard.old word.now (texts Input.Sessions) after
+        → IsRefused takes texts why)) }
 {
-    let input = Input::Sessions;
-    let text = read_at_most(alloc, reader, input.limit() + 1, input)?;
+    let text = text(alloc, sources, standard, word, Input::Sessions)?;
     match read_sessions(alloc, &text, plan) {
         Ok(programs) => Ok(programs),
-        Err(LangFault::Refused(refusal)) => Err(Fault::Sessions(refusal)),
+        Err(LangFault::Refused(refusal)) => Err(Fault::Refused(Why::Sessions(refusal))),
         Err(LangFault::Memory) => Err(Fault::Memory),
     }
 }
 
 /// The events of the script that an input means under a plan, where these are the programs of the file of sessions.
-pub fn read_events<R: Read>(
+pub fn read_events<S: Sources>(
     alloc: Global,
-    reader: &mut R,
+    sources: &S,
+    standard: &mut StandardInput<S::Standard>,
+    word: &str,
     plan: &Plan,
     programs: &[Program],
-) -> Result<Vec<WorldEvent>, Fault>
-    ensures meaning { IfOk result (λ v. IfSome (R.remaining reader.old) (λ text. IsScript plan.now programs.now text v.items)) }
-    ensures refused { IfErr result (λ f. IfSome (R.remaining reader.old) (λ text. RefusesEvents plan.now programs.now text f)) }
-    ensures fault { IfErr result (IsFaultOf Input.Script) }
+) -> Result<Vec<ScriptEvent>, Fault>
+    ensures meaning { IfOk result (λ v. (text : List ℕ) (after : Unread) → HasText (S.file_text sources.now) standard.old word.now text after
+        → IsScript plan.now programs.now text (events_with programs.now v.items) × (standard.new ≡ after)) }
+    ensures fault { IfErr result (IsFaultAt Input.Script (λ why. (takes : PlanValue → Bool) (texts : Input → List ℕ) (after : Unread)
+        → AreSessions takes texts plan.now programs.now → HasText (S.file_text sources.now) standard.old word.now (texts Input.Script) after
+        → IsRefused takes texts why)) }
 {
-    let input = Input::Script;
-    let text = read_at_most(alloc, reader, input.limit() + 1, input)?;
+    let text = text(alloc, sources, standard, word, Input::Script)?;
     script::events(alloc, &text, plan, programs)
 }

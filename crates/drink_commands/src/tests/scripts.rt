@@ -1,10 +1,9 @@
-use crate::commands::sim;
-use crate::cut::Parts;
-use crate::fault::{Fault, ScriptRefusal};
+use crate::commands::{serial, sim};
+use crate::fault::{Fault, ScriptRefusal, Why};
 use crate::input::Input;
-use crate::tests::devices::{Endless, Slow};
-use crate::tests::{MOVE, PLAN};
-use std::alloc::Global;
+use crate::tests::{MOVE, Memory, PLAN};
+use std::alloc::{AllocError, Global};
+use std::io;
 use std::process::Abort;
 use std::test::Fail;
 
@@ -22,13 +21,8 @@ const TWO: &str = "session a\ngive 1\nend\nsession b\ngive 2\nend\n";
 /// What `sim` answers, and what it writes.
 fn ran(alloc: Global, plan: &str, sessions: &str, script: &str) -> (Result<u8, Fault>, Vec<u8>) {
     let mut out = Vec::new(alloc);
-    let result = sim(
-        alloc,
-        &mut plan.as_bytes(),
-        &mut sessions.as_bytes(),
-        &mut script.as_bytes(),
-        &mut out,
-    );
+    let memory = Memory::new(plan, sessions, script);
+    let result = sim(alloc, &memory, "p", "s", "c", &mut out);
     (result, out)
 }
 
@@ -84,10 +78,136 @@ fn sixty_four_sessions_wait(rt: HostRuntime) -> Result<(), Fail> {
     Ok(())
 }
 
+/// Two sessions of the two offices on both records.
+const SUMS: &str =
+    "session a\nset x = read x + 7\nset y = read y - read x\ngive read x\ngive read y\nend\nsession b\nrequire read y < read x else 3\nset y = read y + read x * 2\ngive read y\nend\n";
+
+/// A script, what is replied, how many messages it sends, and the sessions that finish, in finishing order.
+#[derive(Drop)]
+struct Long {
+    script: String,
+    replies: String,
+    sent: u32,
+    finished: String,
+}
+
+impl Long {
+    /// A line, and its reply.
+    fn say(&mut self, line: &str, reply: &str) -> Result<(), AllocError> {
+        writeln!(self.script, "{line}")?;
+        writeln!(self.replies, "{reply}")
+    }
+
+    /// An office does a rule.
+    fn does(&mut self, me: &str, rule: &str, reply: &str) -> Result<(), AllocError> {
+        writeln!(self.script, "do {me} {rule}")?;
+        writeln!(self.replies, "{reply}")
+    }
+
+    /// The message that is sent next is delivered.
+    fn deliver(&mut self) -> Result<(), AllocError> {
+        self.sent = self.sent.saturating_add(1);
+        let sent = self.sent;
+        writeln!(self.script, "deliver {sent}")?;
+        writeln!(self.replies, "taken")
+    }
+
+    fn submit(&mut self, me: &str, number: u32, ticket: u32) -> Result<(), AllocError> {
+        writeln!(self.script, "submit {number}")?;
+        writeln!(self.replies, "ticket {ticket}")?;
+        self.does(me, "start", "done")
+    }
+
+    fn fetch(&mut self, me: &str, other: &str, record: &str) -> Result<(), AllocError> {
+        writeln!(self.script, "do {me} askbottle {record}")?;
+        writeln!(self.replies, "done")?;
+        self.deliver()?;
+        writeln!(self.script, "do {other} givebottle {record}")?;
+        writeln!(self.replies, "done")?;
+        self.deliver()
+    }
+
+    /// The session has its bottles and finishes, and seven lines are refused.
+    fn finish(&mut self, me: &str) -> Result<(), AllocError> {
+        for rule in ["drink", "work 1000", "finish"] {
+            self.does(me, rule, "done")?;
+        }
+        let sent = self.sent;
+        writeln!(self.script, "deliver {sent}")?;
+        writeln!(self.replies, "refused N1 NoFrame")?;
+        for rule in [
+            "start",
+            "drink",
+            "work 1",
+            "finish",
+            "askbottle x",
+            "givebottle y",
+        ] {
+            self.does(me, rule, "refused O1 NotNow")?;
+        }
+        Ok(())
+    }
+}
+
+/// Twenty thousand lines: a thousand sessions finish, an office's after the other's, and one has begun.
+fn long_script(alloc: Global) -> Result<Long, AllocError> {
+    let mut long = Long {
+        script: String::new(alloc),
+        replies: String::new(alloc),
+        sent: 0,
+        finished: String::new(alloc),
+    };
+    long.submit("a", 1, 1)?;
+    long.fetch("a", "b", "y")?;
+    long.finish("a")?;
+    for ticket in 1..501 {
+        long.submit("b", 2, ticket)?;
+        long.fetch("b", "a", "x")?;
+        long.fetch("b", "a", "y")?;
+        long.finish("b")?;
+        long.finished.push_str(SUMS)?;
+        long.submit("a", 1, ticket + 1)?;
+        if ticket < 500 {
+            long.fetch("a", "b", "x")?;
+            long.fetch("a", "b", "y")?;
+            long.finish("a")?;
+        }
+    }
+    long.does("a", "askbottle x", "done")?;
+    long.deliver()?;
+    Ok(long)
+}
+
+#[test]
+fn a_long_script_is_serial(rt: HostRuntime) -> Result<(), Fail> {
+    let alloc = rt.alloc();
+    let long = long_script(alloc)?;
+    let mut alone = Vec::new(alloc);
+    let memory = Memory::new(PLAN, long.finished.as_str(), "");
+    let status = serial(alloc, &memory, "p", "s", &mut alone);
+    assert_eq!(rt; status?, 0);
+    let report = String::from_utf8(alone)?;
+    let mut expected = long.replies;
+    for line in report.as_str().lines() {
+        if line.starts_with("value x") {
+            expected.push_str("unfinished 1\n")?;
+        }
+        writeln!(expected, "{line}")?;
+    }
+    let (result, out) = ran(alloc, PLAN, SUMS, long.script.as_str());
+    assert_eq!(rt; result?, 0);
+    assert_eq!(rt; long.script.as_str().lines().count(), 20_000);
+    assert!(rt; out.as_slice() == expected.as_bytes());
+    Ok(())
+}
+
 /// That the last of these lines is refused, and nothing is written.
 fn refused(rt: &(impl Abort + AllocGlobal), script: &str, line: u64) {
     let (result, out) = ran(rt.alloc(), PLAN, MOVE, script);
-    assert_eq!(rt; result, Err(Fault::Script(ScriptRefusal { line })));
+    assert_eq!(rt;
+        result,
+        Err(Fault::Refused(Why::Script(ScriptRefusal { line })))
+    );
     assert_eq!(rt; out.len(), 0);
 }
 
@@ -124,14 +244,12 @@ fn other_lines_are_refused(rt: HostRuntime) {
 fn a_script_has_a_longest_text(rt: HostRuntime) {
     let alloc = rt.alloc();
     let mut out = Vec::new(alloc);
-    let result = sim(
-        alloc,
-        &mut PLAN.as_bytes(),
-        &mut MOVE.as_bytes(),
-        &mut Endless,
-        &mut out,
+    let memory = Memory::new(PLAN, MOVE, "");
+    let result = sim(alloc, &memory, "p", "s", "endless", &mut out);
+    assert_eq!(rt;
+        result,
+        Err(Fault::Refused(Why::Script(ScriptRefusal { line: 0 })))
     );
-    assert_eq!(rt; result, Err(Fault::Script(ScriptRefusal { line: 0 })));
     assert_eq!(rt; out.len(), 0);
 }
 
@@ -142,83 +260,39 @@ fn other_plans_leave_the_sessions_unread(rt: HostRuntime) {
         "plan 1 run 42\noffice a -\noffice b -\noffice c -\npair a b fork a\n",
     ];
     for plan in rows {
-        let mut sessions = Slow::new(MOVE, 7, 0);
+        let memory = Memory::new(plan, MOVE, SCRIPT);
         let mut out = Vec::new(rt.alloc());
-        let result = sim(
-            rt.alloc(),
-            &mut plan.as_bytes(),
-            &mut sessions,
-            &mut SCRIPT.as_bytes(),
-            &mut out,
-        );
-        assert_eq!(rt; result, Err(Fault::TwoOffices));
-        assert_eq!(rt; sessions.reads, 0);
+        let result = sim(rt.alloc(), &memory, "p", "missing", "c", &mut out);
+        assert_eq!(rt; result, Err(Fault::Refused(Why::TwoOffices)));
         assert_eq!(rt; out.len(), 0);
     }
 }
 
 #[test]
 fn refused_sessions_leave_the_script_unread(rt: HostRuntime) {
-    let mut script = Slow::new(SCRIPT, 7, 0);
+    let memory = Memory::new(PLAN, "session c", SCRIPT);
     let mut out = Vec::new(rt.alloc());
-    let result = sim(
-        rt.alloc(),
-        &mut PLAN.as_bytes(),
-        &mut "session c".as_bytes(),
-        &mut script,
-        &mut out,
-    );
-    assert!(rt; matches!(&result, Err(Fault::Sessions(_))));
-    assert_eq!(rt; script.reads, 0);
-    let result = sim(
-        rt.alloc(),
-        &mut PLAN.as_bytes(),
-        &mut MOVE.as_bytes(),
-        &mut script,
-        &mut out,
-    );
-    assert_eq!(rt; result, Err(Fault::ReadFailed(Input::Script)));
+    let result = sim(rt.alloc(), &memory, "p", "s", "missing", &mut out);
+    assert!(rt; matches!(&result, Err(Fault::Refused(Why::Sessions(_)))));
+    let memory = Memory::new(PLAN, MOVE, SCRIPT);
+    let result = sim(rt.alloc(), &memory, "p", "s", "missing", &mut out);
+    let failed = Fault::ReadFailed(Input::Script, io::ErrorKind::NotFound);
+    assert_eq!(rt; result, Err(failed));
     assert_eq!(rt; out.len(), 0);
-}
-
-#[test]
-fn cuts_twice(rt: HostRuntime) {
-    let rows = [
-        ("a\n---\nb\n---\nc\n---\nd", "a\n", "b\n", "c\n---\nd"),
-        ("a\n---\n---\r\nc", "a\n", "", "c"),
-        ("a\n---\nb", "a\n", "b", ""),
-        ("a\n", "a\n", "", ""),
-    ];
-    for (text, first, second, third) in rows {
-        let mut parts = Parts {
-            rest: text.as_bytes(),
-            cuts: 2,
-        };
-        assert_eq!(rt; parts.next(), first.as_bytes());
-        assert_eq!(rt; parts.next(), second.as_bytes());
-        assert_eq!(rt; parts.next(), third.as_bytes());
-    }
 }
 
 #[test]
 fn faults_say_what_a_script_needs(rt: HostRuntime) -> Result<(), Fail> {
     let alloc = rt.alloc();
-    let fault = Fault::Script(ScriptRefusal { line: 3 });
+    let fault = Fault::Refused(Why::Script(ScriptRefusal { line: 3 }));
     assert_eq!(rt; fault.input(), Some(Input::Script));
-    assert!(rt;
-        fault
-            .to_string(alloc)?
-            .as_str()
-            .starts_with("line 3: X1 Script")
-    );
-    let long = Fault::Script(ScriptRefusal { line: 0 });
+    let text = fault.to_string(alloc)?;
+    assert!(rt; text.as_str().starts_with("line 3: X1 Script"));
+    let long = Fault::Refused(Why::Script(ScriptRefusal { line: 0 }));
     assert!(rt; long.to_string(alloc)?.as_str().starts_with("X1 Script"));
-    assert_eq!(rt; Fault::TwoOffices.input(), Some(Input::Plan));
-    assert!(rt;
-        Fault::TwoOffices
-            .to_string(alloc)?
-            .as_str()
-            .starts_with("X3 TwoOffices")
-    );
+    let other = Fault::Refused(Why::TwoOffices);
+    assert_eq!(rt; other.input(), Some(Input::Plan));
+    let text = other.to_string(alloc)?;
+    assert!(rt; text.as_str().starts_with("X3 TwoOffices"));
     Ok(())
 }

@@ -1,9 +1,8 @@
 use crate::command_line::{Request, command_line};
-use crate::cut::cut;
 use std::alloc::{AllocError, Global};
 use std::test::Fail;
 
-fn strings(alloc: Global, words: &[&str]) -> Result<Vec<String>, AllocError> {
+pub fn strings(alloc: Global, words: &[&str]) -> Result<Vec<String>, AllocError> {
     let mut strings = Vec::new(alloc);
     for word in words {
         strings.push(String::from_str(alloc, *word)?)?;
@@ -69,23 +68,4 @@ fn other_words_are_a_fault(rt: HostRuntime) -> Result<(), Fail> {
         assert_eq!(rt; error.exit_code(), status);
     }
     Ok(())
-}
-
-#[test]
-fn cuts_at_the_first_line_of_three_dashes(rt: HostRuntime) {
-    let rows = [
-        ("a\n---\nb\n", "a\n", "b\n"),
-        ("a\r\n---\r\nb", "a\r\n", "b"),
-        ("---\n---\nb", "", "---\nb"),
-        ("a\n---", "a\n", ""),
-        ("a\n---\r", "a\n---\r", ""),
-        ("a\n----\n --- \n---x\nb", "a\n----\n --- \n---x\nb", ""),
-        ("a---\n\n---\n\n", "a---\n\n", "\n"),
-        ("", "", ""),
-    ];
-    for (text, front, back) in rows {
-        let (before, after) = cut(text.as_bytes());
-        assert_eq!(rt; before, front.as_bytes());
-        assert_eq!(rt; after, back.as_bytes());
-    }
 }

@@ -5,7 +5,7 @@ use Rattle.drink_commands.proofs.command_line.with_serial.Goals as goal
 
 pub returns : goal.returns
 returns c =
-    let new_is : app_of c.about.result ≡ new_app (codes "serial") = search rules in
+    let new_is : app_of c.after_help.result ≡ new_app (codes "serial") = search rules in
     let serial_is : app_of c.in_ok-serial.serial ≡ serial_command =
     c.in_ok-serial.ensures.shape c.required-sessions.ensures.no_global
     ∙ ap₂ with_rule (c.in_ok-arg.ensures.shape c.required-plan.ensures.no_global ∙ ap₂ with_rule new_is c.required-plan.ensures.rule) c.required-sessions.ensures.rule in

@@ -1,20 +1,24 @@
-use Rattle.std.proofs.Common.{◌≡◌, Ok, arith, ◌+◌}
+use Rattle.std.proofs.Common.{◌≡◌, Ok, refl, sym, subst, ap, ◌∙◌}
 use Rattle.office_map.specs.PlanText.{plan_of, HasRing}
-use Rattle.office_map.specs.Precedence.{HasOrder}
-use Rattle.drink_commands.proofs.Limits.{plan_of_part, kept, fact_kept}
+use Rattle.drink_commands.specs.declared.input.Input.TheVariants as inputs
+use Rattle.drink_commands.proofs.Limits.{plan_accepted, plan_read}
 use Rattle.drink_commands.proofs.texts.read_plan.Goals as goal
 
 pub returns-in-Ok-clause-meaning : goal.returns-in-Ok-clause-meaning
 returns-in-Ok-clause-meaning g c =
-    fact_kept (λ read. (read ≡ Ok c.in-Ok.plan) × HasOrder c.in-Ok.plan) plan_of 262145 plan_of_part (g.R.Read.remaining c.args.reader.now) (c.limit.result + 1) c.in_ok-text.text.items c.deref.result.now
-    (omega (arith, c.limit.ensures)) c.deref.ensures.value c.in-Ok.ensures.meaning c.in_ok-text.ensures.bytes
+    let read : plan_of c.in_ok-text.text.items ≡ Ok c.in-Ok.plan = ap plan_of (sym c.deref.ensures.value) ∙ c.in-Ok.ensures.meaning.0 in
+    plan_accepted (g.S.Sources.file_text c.args.sources.now) c.args.standard.now c.args.word.now c.text.new.standard c.in_ok-text.text.items c.in-Ok.plan
+    c.in_ok-text.ensures.text read c.in-Ok.ensures.meaning.1
 
-pub returns-in-Err-Refused-clause-refused : goal.returns-in-Err-Refused-clause-refused
-returns-in-Err-Refused-clause-refused g c =
-    kept plan_of 262145 plan_of_part (g.R.Read.remaining c.args.reader.now) (c.limit.result + 1) c.in_ok-text.text.items c.deref.result.now _
-    (omega (arith, c.limit.ensures)) c.deref.ensures.value (rw c.in-Err-Refused.field-0-is at c.in-Err-Refused.ensures.meaning) c.in_ok-text.ensures.bytes
+pub returns-in-Err-Refused-clause-fault : goal.returns-in-Err-Refused-clause-fault
+returns-in-Err-Refused-clause-fault g c =
+    let read = ap plan_of (sym c.deref.ensures.value) ∙ (rw c.in-Err-Refused.field-0-is at c.in-Err-Refused.ensures.meaning) in
+    (refl, λ takes texts after has. sym (plan_read (texts inputs.Plan) c.in_ok-text.text.items (c.in_ok-text.ensures.text (texts inputs.Plan) after has).0) ∙ read)
 
-pub returns-in-Err-Ring-clause-refused : goal.returns-in-Err-Ring-clause-refused
-returns-in-Err-Ring-clause-refused g c =
-    fact_kept (HasRing c.in-Err-Ring.ring) plan_of 262145 plan_of_part (g.R.Read.remaining c.args.reader.now) (c.limit.result + 1) c.in_ok-text.text.items c.deref.result.now
-    (omega (arith, c.limit.ensures)) c.deref.ensures.value (rw c.in-Err-Ring.field-0-is at c.in-Err-Ring.ensures.meaning) c.in_ok-text.ensures.bytes
+pub returns-in-Err-Ring-clause-fault : goal.returns-in-Err-Ring-clause-fault
+returns-in-Err-Ring-clause-fault g c =
+    let ring = rw c.in-Err-Ring.field-0-is at c.in-Err-Ring.ensures.meaning in (
+      refl,
+      λ takes texts after has.
+          subst (HasRing c.in-Err-Ring.ring) (ap plan_of c.deref.ensures.value ∙ plan_read (texts inputs.Plan) c.in_ok-text.text.items (c.in_ok-text.ensures.text (texts inputs.Plan) after has).0) ring,
+    )

@@ -1,14 +1,19 @@
-use Rattle.std.proofs.Common.{arith, ◌+◌}
+use Rattle.std.proofs.Common.{◌≡◌, Ok, refl, sym, ap, ◌∙◌}
 use Rattle.session_language.specs.Reading.{sessions_of}
-use Rattle.drink_commands.proofs.Limits.{sessions_of_part, kept}
+use Rattle.drink_commands.specs.declared.input.Input.TheVariants as inputs
+use Rattle.drink_commands.proofs.Limits.{sessions_accepted, sessions_read}
 use Rattle.drink_commands.proofs.texts.read_programs.Goals as goal
 
 pub returns-in-Ok-clause-meaning : goal.returns-in-Ok-clause-meaning
 returns-in-Ok-clause-meaning g c =
-    kept (sessions_of c.args.plan.now) 1048577 (sessions_of_part c.args.plan.now) (g.R.Read.remaining c.args.reader.now) (c.limit.result + 1) c.in_ok-text.text.items c.deref.result.now _
-    (omega (arith, c.limit.ensures)) c.deref.ensures.value c.in-Ok.ensures.meaning c.in_ok-text.ensures.bytes
+    let read : sessions_of c.args.plan.now c.in_ok-text.text.items ≡ Ok c.in-Ok.programs.items = ap (sessions_of c.args.plan.now) (sym c.deref.ensures.value) ∙ c.in-Ok.ensures.meaning in
+    sessions_accepted (g.S.Sources.file_text c.args.sources.now) c.args.standard.now c.args.word.now c.text.new.standard c.in_ok-text.text.items c.args.plan.now c.in-Ok.programs.items
+    c.in_ok-text.ensures.text read
 
-pub returns-in-Err-Refused-clause-refused : goal.returns-in-Err-Refused-clause-refused
-returns-in-Err-Refused-clause-refused g c =
-    kept (sessions_of c.args.plan.now) 1048577 (sessions_of_part c.args.plan.now) (g.R.Read.remaining c.args.reader.now) (c.limit.result + 1) c.in_ok-text.text.items c.deref.result.now _
-    (omega (arith, c.limit.ensures)) c.deref.ensures.value (rw c.in-Err-Refused.field-0-is at c.in-Err-Refused.ensures.meaning) c.in_ok-text.ensures.bytes
+pub returns-in-Err-Refused-clause-fault : goal.returns-in-Err-Refused-clause-fault
+returns-in-Err-Refused-clause-fault g c =
+    let read = ap (sessions_of c.args.plan.now) (sym c.deref.ensures.value) ∙ (rw c.in-Err-Refused.field-0-is at c.in-Err-Refused.ensures.meaning) in (
+      refl,
+      λ takes texts after is_plan has.
+          (c.args.plan.now, is_plan, sym (sessions_read c.args.plan.now (texts inputs.Sessions) c.in_ok-text.text.items (c.in_ok-text.ensures.text (texts inputs.Sessions) after has).0) ∙ read),
+    )

@@ -1,0 +1,33 @@
+-- What a command line's request asks of the inputs, and what is done.
+use Rattle.std.specs.Prelude.{List, [], ◌∷◌, ℕ, Option}
+use Rattle.input_texts.specs.Words.{StandFor}
+use Rattle.drink_commands.specs.Serial.{Reports}
+use Rattle.drink_commands.specs.Transcript.{Simulates}
+use Rattle.drink_commands.specs.declared.input.Input.{Input}
+use Rattle.drink_commands.specs.declared.input.Input.TheVariants as inputs
+use Rattle.drink_commands.specs.declared.command_line.Request.{Request}
+use Rattle.drink_commands.specs.declared.command_line.Request.TheVariants.{Serial, Sim}
+
+-- the words of the request's inputs; the word of one
+abbrev pub words_of : Request → List (List ℕ)
+words_of (Serial plan sessions) = plan.now ∷ sessions.now ∷ []
+words_of (Sim plan sessions script) = plan.now ∷ sessions.now ∷ script.now ∷ []
+
+abbrev pub word_of : Request → Input → List ℕ
+word_of (Serial plan sessions) inputs.Plan = plan.now
+word_of (Serial plan sessions) inputs.Sessions = sessions.now
+word_of (Serial plan sessions) inputs.Script = []
+word_of (Sim plan sessions script) inputs.Plan = plan.now
+word_of (Sim plan sessions script) inputs.Sessions = sessions.now
+word_of (Sim plan sessions script) inputs.Script = script.now
+
+-- The request is carried out: from the texts that its words stand for, what its command prints was written after what the
+-- writer held.
+abbrev pub IsDone : (List ℕ → Option (List ℕ)) → Option (List ℕ) → Request → Option (List ℕ) → Option (List ℕ) → Type 0
+IsDone files standard (Serial plan sessions) old new = (texts : Input → List ℕ)
+    → StandFor files standard (plan.now ∷ sessions.now ∷ []) (texts inputs.Plan ∷ texts inputs.Sessions ∷ [])
+    → Reports (texts inputs.Plan) (texts inputs.Sessions) old new
+IsDone files standard (Sim plan sessions script) old new = (texts : Input → List ℕ)
+    → StandFor files standard (plan.now ∷ sessions.now ∷ script.now ∷ [])
+    (texts inputs.Plan ∷ texts inputs.Sessions ∷ texts inputs.Script ∷ [])
+    → Simulates (texts inputs.Plan) (texts inputs.Sessions) (texts inputs.Script) old new

@@ -1,0 +1,4 @@
+mod CutAtLine
+mod CutOfPrefix
+mod ReadOn
+mod WordText
