@@ -16,14 +16,14 @@ row() {
     none=$(instructions "$1" $rounds none)
     of=$((($(instructions "$1" $rounds of) - none) / rounds))
     begin=$((($(instructions "$1" $rounds begin) - none) / rounds))
-    work=$((($(instructions "$1" $rounds work) - none) / rounds - begin))
+    pieces=$((($(instructions "$1" $rounds work) - none) / rounds - begin))
     walk=$((($(instructions "$1" $rounds walk) - none) / rounds))
-    length=$("$work_program" "$1" 1 length)
-    awk -v kind="$1" -v nodes="$2" -v of="$of" -v begin="$begin" -v work="$work" -v walk="$walk" -v length_is="$length" 'BEGIN {
+    length=$("$built" "$1" 1 length)
+    awk -v kind="$1" -v nodes="$2" -v of="$of" -v begin="$begin" -v pieces="$pieces" -v walk="$walk" -v length_is="$length" 'BEGIN {
         printf "%s: length %d, %.1f for each counted instruction in pieces, %.1f by the walk; begin %d; Code::of %d, %.1f for each node\n",
-            kind, length_is, work / length_is, walk / length_is, begin, of, of / nodes }'
+            kind, length_is, pieces / length_is, walk / length_is, begin, of, of / nodes }'
 }
-work_program=$work/crates/$program/out/$program
+built=$work/crates/$program/out/$program
 row sums 7
 row deep 67
 row reads 39
