@@ -22,7 +22,7 @@ use Rattle.drink_commands.proofs.Limits.{script_refused}
 pub weaker : (input : Input) (P Q : Why → Type 0) (f : Fault) → ((why : Why) → P why → Q why) → IsFaultAt input P f → IsFaultAt input Q f
 weaker input P Q Memory k h = tt
 weaker input P Q (ReadFailed failed cause) k h = h
-weaker input P Q (Refused why) k (e, h) = (e, k why h)
+weaker input P Q (Refused why remark) k (e, h) = (e, k why h)
 weaker input P Q (WriteFailed cause) k h = h
 
 pub err_weaker : {T : Type 0} (r : Result T Fault) (P Q : Fault → Type 0) → ((f : Fault) → P f → Q f) → IfErr r P → IfErr r Q
@@ -33,7 +33,7 @@ err_weaker (Err f) P Q k h = k f h
 pub among : (inputs : List Input) (input : Input) (P : Why → Type 0) (f : Fault) → Contains inputs input → IsFaultAt input P f → IsAmong inputs (input_of f)
 among inputs input P Memory at h = tt
 among inputs input P (ReadFailed failed cause) at h = subst (Contains inputs) (sym h) at
-among inputs input P (Refused why) at (e, h) = subst (Contains inputs) (sym e) at
+among inputs input P (Refused why remark) at (e, h) = subst (Contains inputs) (sym e) at
 among inputs input P (WriteFailed cause) at h = absurd h
 
 either : (b : Bool) (A B : Type 0) → (b ≡ true → A) → (b ≡ false → B) → Either b A B
@@ -66,7 +66,7 @@ module _ (takes : PlanValue → Bool) (texts : Input → List ℕ) where
   none_known : (f : Fault) → Judges takes texts zero f
   none_known Memory = tt
   none_known (ReadFailed input cause) = either (nat_lt (place_of input) 0) _ _ (λ t. absurd (omega (arith, is_below (place_of input) 0 t))) (λ f. tt)
-  none_known (Refused why) =
+  none_known (Refused why remark) =
       either (nat_lt (place_of (refused_input why)) 0) _ _ (λ t. absurd (omega (arith, is_below (place_of (refused_input why)) 0 t))) (λ f. tt)
   none_known (WriteFailed cause) = tt
 
@@ -78,7 +78,7 @@ module _ (takes : PlanValue → Bool) (texts : Input → List ℕ) where
   at_input input n P (ReadFailed failed cause) h before all refused =
       subst (λ i. Either (nat_lt (place_of i) n) (AreAccepted takes texts (place_of i)) (AreAccepted takes texts n)) (sym h)
       (either (nat_lt (place_of input) n) _ _ (λ t. before (is_below (place_of input) n t)) (λ f. all (is_not_below (place_of input) n f)))
-  at_input input n P (Refused why) (e, h) before all refused =
+  at_input input n P (Refused why remark) (e, h) before all refused =
       let place_is : place_of (refused_input why) ≡ place_of input = ap place_of e in
       either (nat_lt (place_of (refused_input why)) n) _ _
       (λ t. refused why (omega (arith, is_below (place_of (refused_input why)) n t, place_is)) h)
@@ -187,5 +187,5 @@ module _ (takes : PlanValue → Bool) (texts : Input → List ℕ) where
   pub write_judged : (n : ℕ) (f : Fault) → IsWriteFault f → AreAccepted takes texts n → Judges takes texts n f
   write_judged n Memory h k = absurd h
   write_judged n (ReadFailed input cause) h k = absurd h
-  write_judged n (Refused why) h k = absurd h
+  write_judged n (Refused why remark) h k = absurd h
   write_judged n (WriteFailed cause) h k = k

@@ -19,21 +19,21 @@ refused_input (Script r) = inputs.Script
 abbrev pub input_of : Fault → Option Input
 input_of Memory = None
 input_of (ReadFailed input cause) = Some input
-input_of (Refused why) = Some (refused_input why)
+input_of (Refused why remark) = Some (refused_input why)
 input_of (WriteFailed cause) = None
 
 -- an input wasn't read, or its text is refused for a reason of which P holds, or memory ran out
 abbrev pub IsFaultAt : Input → (Why → Type 0) → Fault → Type 0
 IsFaultAt input P Memory = Unit {0}
 IsFaultAt input P (ReadFailed failed cause) = failed ≡ input
-IsFaultAt input P (Refused why) = (refused_input why ≡ input) × P why
+IsFaultAt input P (Refused why remark) = (refused_input why ≡ input) × P why
 IsFaultAt input P (WriteFailed cause) = ⊥
 
 -- the writing failed
 abbrev pub IsWriteFault : Fault → Type 0
 IsWriteFault Memory = ⊥
 IsWriteFault (ReadFailed input cause) = ⊥
-IsWriteFault (Refused why) = ⊥
+IsWriteFault (Refused why remark) = ⊥
 IsWriteFault (WriteFailed cause) = Unit {0}
 
 -- where an input is at fault, it is one of these

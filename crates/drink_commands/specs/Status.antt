@@ -1,8 +1,24 @@
 -- Exit statuses.
-use Rattle.std.specs.Prelude.{ℕ, Result, Ok, Err}
+use Rattle.std.specs.Prelude.{◌≡◌, ◌⊎◌, ℕ, List, Option, Result, Ok, Err}
+use Rattle.clap.specs.Words.{IsAmong, fault_of}
+use Rattle.clap.specs.declared.error.kind.ErrorKind.{ErrorKind}
+use Rattle.clap.specs.declared.error.kind.ErrorKind.TheVariants.{DisplayHelp, DisplayVersion}
+use Rattle.drink_commands.specs.CommandLine.{Asks, program}
+use Rattle.drink_commands.specs.Requests.{IsDone}
+use Rattle.drink_commands.specs.declared.command_line.Request.{Request}
 use Rattle.drink_commands.specs.declared.fault.Fault.{Fault}
 
 -- of a command that was done, what it answers; of one that failed, 1
 abbrev pub status_of : Result ℕ Fault → ℕ
 status_of (Ok status) = status
 status_of (Err fault) = 1
+
+-- what is printed for words that ask for help or for the version
+abbrev pub IsShown : ErrorKind → Type 0
+IsShown kind = (kind ≡ DisplayHelp) ⊎ (kind ≡ DisplayVersion)
+
+-- The words ask for something that was done, or for help or the version.
+abbrev pub IsAnswered : (List ℕ → Option (List ℕ)) → Option (List ℕ) → List (List ℕ) → Option (List ℕ) → Option (List ℕ) → Type 0
+IsAnswered files standard words old new =
+    ((request : Request) × Asks words request × IsDone files standard request old new)
+    ⊎ ((kind : ErrorKind) × IsShown kind × IsAmong kind (fault_of program words))

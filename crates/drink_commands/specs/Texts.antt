@@ -57,6 +57,6 @@ abbrev pub Judges : (PlanValue → Bool) → (Input → List ℕ) → ℕ → Fa
 Judges takes texts known Memory = Unit {0}
 Judges takes texts known (ReadFailed input cause) =
     Either (nat_lt (place_of input) known) (AreAccepted takes texts (place_of input)) (AreAccepted takes texts known)
-Judges takes texts known (Refused why) =
+Judges takes texts known (Refused why remark) =
     Either (nat_lt (place_of (refused_input why)) known) (IsRefused takes texts why) (AreAccepted takes texts known)
 Judges takes texts known (WriteFailed cause) = AreAccepted takes texts known

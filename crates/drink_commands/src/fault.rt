@@ -41,6 +41,24 @@ impl Why {
             Why::Script(_) => Input::Script,
         }
     }
+
+    /// The line that is refused, from 1, or 0 where no line is.
+    fn line(&self) -> u64 {
+        match self {
+            Why::Plan(refusal) => refusal.line,
+            Why::Ring(_) | Why::TwoOffices => 0,
+            Why::Sessions(refusal) => refusal.line,
+            Why::Script(refusal) => refusal.line,
+        }
+    }
+}
+
+/// What people are told of a refused text besides its rule and its line.
+#[derive(Debug, Drop, PartialEq, Eq)]
+pub struct Remark {
+    /// How many lines of the standard input stand above the text.
+    pub lines_above: u64,
+    pub text: String,
 }
 
 /// Why a command fails. Its text doesn't name the input: the user has a name for it, and [`Fault::input`] says which input
@@ -51,7 +69,7 @@ pub enum Fault {
     /// An input can't be opened, or a read fails, or there is no end to it (`FileTooLarge`).
     ReadFailed(Input, ErrorKind),
     /// The text of an input is refused.
-    Refused(Why),
+    Refused(Why, Remark),
     /// How much went out isn't known.
     WriteFailed(ErrorKind),
 }
@@ -64,50 +82,29 @@ impl Fault {
         match self {
             Fault::Memory | Fault::WriteFailed(_) => None,
             Fault::ReadFailed(input, _) => Some(*input),
-            Fault::Refused(why) => Some(why.input()),
+            Fault::Refused(why, _) => Some(why.input()),
         }
     }
 }
 
-impl fmt::Display for ScriptRefusal {
-    fn fmt<W: fmt::Write>(&self, f: &mut fmt::Formatter<W>) -> fmt::Result {
-        let line = self.line;
-        if line == 0 {
-            return write!(f, "X1 Script: a script has at most 16777216 bytes");
-        }
-        write!(f, "line {line}: X1 Script: {FORMS}")
-    }
-}
-
-impl Error for ScriptRefusal {}
-
-/// What a line of a script may be.
-const FORMS: &str =
-    "expected `submit N`, `do OFFICE RULE` or `deliver K`, with a session, an office and a record that are there";
-
+/// The code and the name of the rule.
 impl fmt::Display for Why {
     fn fmt<W: fmt::Write>(&self, f: &mut fmt::Formatter<W>) -> fmt::Result {
         match self {
-            Why::Plan(refusal) => write!(f, "{refusal}"),
-            Why::Ring(ring) => {
-                write!(
-                    f,
-                    "P8 Ring: {ring} (each precedes the next, and the last the first)"
-                )
+            Why::Plan(refusal) => {
+                let rule = refusal.rule;
+                write!(f, "{rule}")
             }
-            Why::TwoOffices => {
-                write!(
-                    f,
-                    "X3 TwoOffices: a simulation needs a plan of two offices that are a pair"
-                )
+            Why::Ring(_) => write!(f, "P8 Ring"),
+            Why::TwoOffices => write!(f, "X3 TwoOffices"),
+            Why::Sessions(refusal) => {
+                let rule = refusal.rule;
+                write!(f, "{rule}")
             }
-            Why::Sessions(refusal) => write!(f, "{refusal}"),
-            Why::Script(refusal) => write!(f, "{refusal}"),
+            Why::Script(_) => write!(f, "X1 Script"),
         }
     }
 }
-
-impl Error for Why {}
 
 impl fmt::Display for Fault {
     fn fmt<W: fmt::Write>(&self, f: &mut fmt::Formatter<W>) -> fmt::Result {
@@ -117,7 +114,11 @@ impl fmt::Display for Fault {
                 let cause = cause(*kind);
                 write!(f, "X4 ReadFailed: it cannot be read: {cause}")
             }
-            Fault::Refused(why) => write!(f, "{why}"),
+            Fault::Refused(why, remark) => {
+                let text = &remark.text;
+                write_line(f, why.line(), remark.lines_above)?;
+                write!(f, "{why}: {text}")
+            }
             Fault::WriteFailed(kind) => {
                 write!(f, "X5 WriteFailed: the output cannot be written: {kind}")
             }
@@ -126,6 +127,23 @@ impl fmt::Display for Fault {
 }
 
 impl Error for Fault {}
+
+/// Which line is refused, where one is: in its text, and in the standard input where that begins further up.
+fn write_line<W: fmt::Write>(
+    f: &mut fmt::Formatter<W>,
+    line: u64,
+    lines_above: u64,
+) -> fmt::Result {
+    if line == 0 {
+        return Ok(());
+    }
+    write!(f, "line {line}")?;
+    if lines_above > 0 {
+        let whole = line.saturating_add(lines_above);
+        write!(f, " (line {whole} of the standard input)")?;
+    }
+    write!(f, ": ")
+}
 
 /// Why an input can't be read, for people.
 fn cause(kind: ErrorKind) -> &'static str {

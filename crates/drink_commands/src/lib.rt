@@ -8,8 +8,8 @@
 //! - [`command_line::command_line`] reads the words of a command line as `clap` defines them
 //!   (clauses `request` and `faults`).
 //! - [`program::perform`] carries a request out, from the texts that its words stand for (clause `done`); [`program::answer`]
-//!   does what the words of a command line ask for, and [`run`] hands it the files, the standard input and the output that
-//!   the program was started with.
+//!   does what the words of a command line ask for, with status 0 only where that was done (clause `done`), and [`run`]
+//!   hands it the files, the standard input and the output that the program was started with.
 //! - [`laws`] says that the line which prints an event of a script reads back as that event.
 //!
 //! What is printed is in `specs/Report.antt` and `specs/Transcript.antt`, which events a script means in

@@ -1,8 +1,10 @@
 //! What the program does with its words, over what opens files, reads and prints.
 
-ghost use Rattle.std.specs.Prelude.{◌≡◌, OnOk};
+ghost use Rattle.std.specs.Prelude.{◌≡◌, ◌≤◌, IfOk, OnOk, map};
+ghost use Rattle.std.specs.String.{string_bytes};
+ghost use Rattle.clap.specs.Values.{kind_of};
 ghost use Rattle.drink_commands.specs.Requests.{IsDone, word_of};
-ghost use Rattle.drink_commands.specs.Status.{status_of};
+ghost use Rattle.drink_commands.specs.Status.{IsAnswered, IsShown, status_of};
 
 use crate::command_line::{Request, command_line, help};
 use crate::commands;
@@ -61,13 +63,17 @@ where
     answer.status
 }
 
-/// Does what these words ask for. The first of them is the program's name.
+/// Does what these words ask for. The first of them is the program's name. The status is 0 only where what they ask for was
+/// done, or help or the version went out, and nothing is written where it is 2.
 pub fn answer<S: Sources, W: Write>(
     alloc: Global,
     words: &[String],
     sources: &S,
     out: &mut W,
-) -> Exit {
+) -> Exit
+    ensures done { result.status ≡ 0 → IsAnswered (S.file_text sources.now) (S.standard_text sources.now) (map string_bytes words.now) (W.contents out.old) (W.contents out.new) }
+    ensures unwritten { result.status ≡ 2 → out.new ≡ out.old }
+{
     if words.len() < 2 {
         return Exit {
             status: MISUSED,
@@ -94,6 +100,7 @@ pub fn perform<S: Sources, W: Write>(
     out: &mut W,
 ) -> Result<u8, Fault>
     ensures done { OnOk result (IsDone (S.file_text sources.now) (S.standard_text sources.now) request.entry (W.contents out.old) (W.contents out.new)) }
+    ensures status { IfOk result (λ status. status ≡ 0) }
 {
     match request {
         Request::Serial { plan, sessions } => commands::serial(alloc, sources, plan, sessions, out),
@@ -158,32 +165,34 @@ fn word_of<'a>(request: Request<'a>, input: Input) -> &'a str
 
 /// What is answered where the words ask for nothing that is done: help and the version go out, all else is a fault of the
 /// command line.
-fn misused<W: Write>(alloc: Global, error: &clap::Error, out: &mut W) -> Exit {
-    if error.kind() == ErrorKind::OutOfMemory {
-        return Exit {
+fn misused<W: Write>(alloc: Global, error: &clap::Error, out: &mut W) -> Exit
+    ensures shown { result.status ≡ 0 → IsShown (kind_of error.now) }
+    ensures unwritten { result.status ≡ 2 → out.new ≡ out.old }
+{
+    match error.kind() {
+        ErrorKind::DisplayHelp | ErrorKind::DisplayVersion => shown(alloc, error, out),
+        ErrorKind::OutOfMemory => Exit {
             status: FAILED,
             said: None,
-        };
-    }
-    let text = error.to_string(alloc);
-    if error.use_stderr() {
-        return Exit {
+        },
+        _ => Exit {
             status: MISUSED,
-            said: text.ok(),
-        };
-    }
-    match text {
-        Ok(text) => shown(alloc, &text, out),
-        Err(_) => Exit {
-            status: FAILED,
-            said: None,
+            said: error.to_string(alloc).ok(),
         },
     }
 }
 
 /// Help or the version goes out.
-fn shown<W: Write>(alloc: Global, text: &str, out: &mut W) -> Exit {
-    match commands::write_whole(out, text) {
+fn shown<W: Write>(alloc: Global, error: &clap::Error, out: &mut W) -> Exit
+    ensures { result.status ≤ 1 }
+{
+    let Ok(text) = error.to_string(alloc) else {
+        return Exit {
+            status: FAILED,
+            said: None,
+        };
+    };
+    match commands::write_whole(out, &text) {
         Ok(()) => Exit {
             status: 0,
             said: None,

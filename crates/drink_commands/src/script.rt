@@ -10,8 +10,9 @@ ghost use Rattle.drink_commands.specs.Texts.{AreSessions, IsRefused};
 ghost use Rattle.drink_commands.specs.declared.input.Input.{Input};
 ghost use Rattle.office_map.specs.PlanValue.{PlanValue};
 
-use crate::fault::{Fault, ScriptRefusal, Why};
+use crate::fault::{Fault, Remark, ScriptRefusal, Why};
 use crate::input::Input;
+use diagnostics::of_script;
 use office_map::statements::Statements;
 use office_map::text::{is_plain, name, number, words};
 use office_map::{OfficeId, Plan, RecordId};
@@ -31,10 +32,11 @@ pub enum ScriptEvent {
 }
 
 /// The events that a script means under a plan, where these are the programs of the file of sessions. The first faulty
-/// line is refused.
+/// line is refused. So many lines of the standard input stand above the text.
 pub fn events(
     alloc: Global,
     text: &[u8],
+    lines_above: u64,
     plan: &Plan,
     programs: &[Program],
 ) -> Result<Vec<ScriptEvent>, Fault>
@@ -43,7 +45,11 @@ pub fn events(
         → AreSessions takes texts plan.now programs.now → IsRefused takes texts why)) }
 {
     if text.len() > Input::Script.limit() {
-        return Err(Fault::Refused(Why::Script(ScriptRefusal { line: 0 })));
+        let remark = Remark {
+            lines_above,
+            text: of_script(alloc, text, plan, programs.len(), 0)?,
+        };
+        return Err(Fault::Refused(Why::Script(ScriptRefusal { line: 0 }), remark));
     }
     // Events hold rules, and the check finds that type of another crate by a local of it.
     let _rule: Option<Rule> = None;
@@ -55,7 +61,13 @@ pub fn events(
     while let Some((line, statement)) = left.next() {
         match event(alloc, plan, programs, statement)? {
             Some(event) => events.push(event)?,
-            None => return Err(Fault::Refused(Why::Script(ScriptRefusal { line }))),
+            None => {
+                let remark = Remark {
+                    lines_above,
+                    text: of_script(alloc, text, plan, programs.len(), line)?,
+                };
+                return Err(Fault::Refused(Why::Script(ScriptRefusal { line }), remark));
+            }
         }
     }
     Ok(events)

@@ -182,47 +182,38 @@ fn counts_tickets_for_each_office(rt: HostRuntime) -> Result<(), Fail> {
     Ok(())
 }
 
+/// Why the text of an input is refused, where it is.
+pub fn why(answer: Result<u8, Fault>) -> Option<Why> {
+    match answer {
+        Err(Fault::Refused(why, _)) => Some(why),
+        _ => None,
+    }
+}
+
 /// That these texts are refused so, and nothing is written.
-fn refused(rt: &(impl Abort + AllocGlobal), plan: &str, sessions: &str, fault: Fault) {
+fn refused(rt: &(impl Abort + AllocGlobal), plan: &str, sessions: &str, expected: Why) {
     let (result, out) = ran(rt.alloc(), plan, sessions);
-    assert_eq!(rt; result, Err(fault));
+    assert_eq!(rt; why(result), Some(expected));
     assert_eq!(rt; out.len(), 0);
 }
 
 #[test]
 fn refuses_texts_and_writes_nothing(rt: HostRuntime) {
-    let no_record = Fault::Refused(Why::Sessions(sessions::SessionRefusal {
+    let no_record = Why::Sessions(sessions::SessionRefusal {
         rule: sessions::SessionRule::UnknownRecord,
         line: 2,
-    }));
+    });
     refused(&rt, PLAN, "session a\ngive read z\nend\n", no_record);
-    let no_name = Fault::Refused(Why::Sessions(sessions::SessionRefusal {
+    let no_name = Why::Sessions(sessions::SessionRefusal {
         rule: sessions::SessionRule::UnknownName,
         line: 2,
-    }));
+    });
     refused(&rt, PLAN, "session a\ngive v\nlet v = 1\nend\n", no_name);
-    let no_header = Fault::Refused(Why::Plan(plans::PlanRefusal {
+    let no_header = Why::Plan(plans::PlanRefusal {
         rule: plans::PlanRule::Header,
         line: 1,
-    }));
+    });
     refused(&rt, "office a -\n", "session a\ngive v\nend\n", no_header);
-}
-
-#[test]
-fn a_ring_is_told_by_its_offices(rt: HostRuntime) -> Result<(), Fail> {
-    let alloc = rt.alloc();
-    let plan =
-        "plan 1 run 1\noffice a -\noffice b -\noffice c -\npair a b fork a\npair b c fork b\npair a c fork c\n";
-    let (result, out) = ran(alloc, plan, "");
-    let Err(fault) = result else {
-        return Err(Fail::from("accepted"));
-    };
-    assert_eq!(rt; fault.input(), Some(Input::Plan));
-    assert_eq!(rt; out.len(), 0);
-    let text = fault.to_string(alloc)?;
-    let expected = "P8 Ring: a, c, b (each precedes the next, and the last the first)";
-    assert_eq!(rt; text.as_str(), expected);
-    Ok(())
 }
 
 /// `front`, a line of a comment, in all as long as this.
@@ -252,40 +243,16 @@ fn reads_the_longest_texts(rt: HostRuntime) -> Result<(), Fail> {
 fn refuses_a_byte_more(rt: HostRuntime) -> Result<(), Fail> {
     let alloc = rt.alloc();
     let plan = stretched(alloc, PLAN, 262_145)?;
-    let limit = Fault::Refused(Why::Plan(plans::PlanRefusal {
+    let limit = Why::Plan(plans::PlanRefusal {
         rule: plans::PlanRule::Limit,
         line: 0,
-    }));
+    });
     refused(&rt, plan.as_str(), MOVE, limit);
     let long = stretched(alloc, MOVE, 1_048_577)?;
-    let too_long = Fault::Refused(Why::Sessions(sessions::SessionRefusal {
+    let too_long = Why::Sessions(sessions::SessionRefusal {
         rule: sessions::SessionRule::TooLong,
         line: 0,
-    }));
+    });
     refused(&rt, PLAN, long.as_str(), too_long);
-    Ok(())
-}
-
-#[test]
-fn faults_say_what_is_wrong_and_where(rt: HostRuntime) -> Result<(), Fail> {
-    let alloc = rt.alloc();
-    let (result, _) = ran(alloc, "plan 1 run 42\noffice a -\noffice a -\n", "");
-    let Err(fault) = result else {
-        return Err(Fail::from("accepted"));
-    };
-    assert_eq!(rt; fault.input(), Some(Input::Plan));
-    let text = fault.to_string(alloc)?;
-    assert!(rt; text.as_str().starts_with("line 3: P3 NameTwice"));
-    let failed = Fault::ReadFailed(Input::Sessions, ErrorKind::NotFound);
-    assert_eq!(rt; failed.input(), Some(Input::Sessions));
-    let text = failed.to_string(alloc)?;
-    assert_eq!(rt;
-        text.as_str(),
-        "X4 ReadFailed: it cannot be read: no such file"
-    );
-    let unwritten = Fault::WriteFailed(ErrorKind::StorageFull);
-    assert_eq!(rt; unwritten.input(), None);
-    let text = unwritten.to_string(alloc)?;
-    assert!(rt; text.as_str().starts_with("X5 WriteFailed"));
     Ok(())
 }

@@ -14,13 +14,15 @@ ghost use Rattle.drink_commands.specs.Texts.{AreSessions, IsPlan, IsRefused};
 ghost use Rattle.drink_commands.specs.Transcript.{is_of_one_pair};
 ghost use Rattle.drink_commands.specs.declared.input.Input.{Input};
 
-use crate::fault::{Fault, Why};
+use crate::fault::{Fault, Remark, Why};
 use crate::input::Input;
 use crate::script::{self, ScriptEvent};
+use diagnostics::{of_no_pair, of_plan, of_sessions};
 use input_texts::{InputFault, Sources, StandardInput};
 use office_map::{OfficeId, Plan, PlanFault};
 use session_language::{LangFault, Program, read_sessions};
 use std::alloc::Global;
+use std::io::Read;
 
 /// The text of an input.
 fn text<S: Sources>(
@@ -41,6 +43,15 @@ fn text<S: Sources>(
     }
 }
 
+/// How many lines of the standard input stand above the text of this word, which was read last.
+fn lines_above<R: Read + Drop>(standard: &StandardInput<R>, word: &str) -> u64 {
+    if word == "-" {
+        standard.lines_above()
+    } else {
+        0
+    }
+}
+
 /// The plan that an input means.
 pub fn read_plan<S: Sources>(
     alloc: Global,
@@ -56,8 +67,20 @@ pub fn read_plan<S: Sources>(
     let text = text(alloc, sources, standard, word, Input::Plan)?;
     match Plan::read(alloc, &text) {
         Ok(plan) => Ok(plan),
-        Err(PlanFault::Refused(refusal)) => Err(Fault::Refused(Why::Plan(refusal))),
-        Err(PlanFault::Ring(ring)) => Err(Fault::Refused(Why::Ring(ring))),
+        Err(PlanFault::Refused(refusal)) => {
+            let remark = Remark {
+                lines_above: lines_above(standard, word),
+                text: of_plan(alloc, &text, refusal)?,
+            };
+            Err(Fault::Refused(Why::Plan(refusal), remark))
+        }
+        Err(PlanFault::Ring(ring)) => {
+            let remark = Remark {
+                lines_above: 0,
+                text: format!(in alloc; "{ring} (each precedes the next, and the last the first)")?,
+            };
+            Err(Fault::Refused(Why::Ring(ring), remark))
+        }
         Err(PlanFault::Memory) => Err(Fault::Memory),
     }
 }
@@ -79,7 +102,11 @@ pub fn read_pair<S: Sources>(
     if is_of_one_pair(&plan) {
         Ok(plan)
     } else {
-        Err(Fault::Refused(Why::TwoOffices))
+        let remark = Remark {
+            lines_above: 0,
+            text: of_no_pair(alloc, &plan)?,
+        };
+        Err(Fault::Refused(Why::TwoOffices, remark))
     }
 }
 
@@ -108,7 +135,13 @@ pub fn read_programs<S: Sources>(
     let text = text(alloc, sources, standard, word, Input::Sessions)?;
     match read_sessions(alloc, &text, plan) {
         Ok(programs) => Ok(programs),
-        Err(LangFault::Refused(refusal)) => Err(Fault::Refused(Why::Sessions(refusal))),
+        Err(LangFault::Refused(refusal)) => {
+            let remark = Remark {
+                lines_above: lines_above(standard, word),
+                text: of_sessions(alloc, &text, plan, refusal)?,
+            };
+            Err(Fault::Refused(Why::Sessions(refusal), remark))
+        }
         Err(LangFault::Memory) => Err(Fault::Memory),
     }
 }
@@ -129,5 +162,5 @@ pub fn read_events<S: Sources>(
         → IsRefused takes texts why)) }
 {
     let text = text(alloc, sources, standard, word, Input::Script)?;
-    script::events(alloc, &text, plan, programs)
+    script::events(alloc, &text, lines_above(standard, word), plan, programs)
 }

@@ -1,5 +1,8 @@
 -- Which of the ways to read a word's text was taken.
-use Rattle.std.proofs.Common.{◌≡◌, ◌≢◌, ◌≤◌, ◌<◌, ℕ, suc, List, [], length, codes, Option, Some, refl, sym, ◌∙◌, arith}
+use Rattle.std.proofs.Common.{◌≡◌, ◌≢◌, ◌≤◌, ◌<◌, ◌+◌, ◌⊎◌, ℕ, suc, List, [], length, take, codes, Option, Some, refl, sym, ap, subst, ◌∙◌, inl, inr, arith}
+use Rattle.std.proofs.Math.Nat.{min-le_left}
+use Rattle.std.proofs.lemmas.Bool.{cases_lt}
+use Rattle.std.proofs.lemmas.List.{take_all, length-take, length-take-le}
 use Rattle.input_texts.specs.Cut.{IsCut}
 use Rattle.input_texts.specs.Words.{Unread, HasText, IsReadUpTo, file, last, part}
 
@@ -32,3 +35,30 @@ pub file_of : (files : List ℕ → Option (List ℕ)) (u : Unread) (word text :
 file_of files u word text after limit read other h (file w e a) = (h text e, λ s. sym a)
 file_of files u word text after limit read other h (last w p e a) = absurd (other w)
 file_of files u word text after limit read other h (part n rest back w p e cut a) = absurd (other w)
+
+-- ---- one byte past the limit shows what all of it shows
+
+cut_is_read : (limit : ℕ) (text read : List ℕ) → (limit + 1 < length read) ⊎ (length read ≤ limit + 1) → IsReadUpTo limit text read
+    → IsReadUpTo limit text (take (limit + 1) read)
+cut_is_read limit text read (inr short) h = subst (IsReadUpTo limit text) (sym (take_all (limit + 1) read short)) h
+cut_is_read limit text read (inl long) (inl e) =
+    let size = length-take-le (limit + 1) read (omega (arith, long)) in
+    let whole : length read ≡ length text = ap length e in
+    inr (omega (arith, size), omega (arith, long, whole))
+cut_is_read limit text read (inl long) (inr h) =
+    let size = length-take-le (limit + 1) read (omega (arith, long)) in inr (omega (arith, size), h.1)
+
+cut_is_short : (limit : ℕ) (read : List ℕ) → (limit + 1 < length read) ⊎ (length read ≤ limit + 1) → length (take (limit + 1) read) ≤ limit
+    → length read ≤ limit
+cut_is_short limit read (inr short) h = subst (λ x. length x ≤ limit) (take_all (limit + 1) read short) h
+cut_is_short limit read (inl long) h =
+    let size = length-take-le (limit + 1) read (omega (arith, long)) in absurd (omega (arith, size, h))
+
+pub cut_of : (limit : ℕ) (text read : List ℕ) (now after : Unread) → IsRead limit text read now after
+    → IsRead limit text (take (limit + 1) read) now after
+cut_of limit text read now after h =
+    let cases = cases_lt (limit + 1) (length read) in
+    (cut_is_read limit text read cases h.0, λ short. h.1 (cut_is_short limit read cases short))
+
+pub cut_bounded : (limit : ℕ) (read : List ℕ) → length (take (limit + 1) read) ≤ limit + 1
+cut_bounded limit read = let size = length-take (limit + 1) read in omega (arith, size, min-le_left (limit + 1) (length read))

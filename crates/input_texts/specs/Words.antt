@@ -1,5 +1,5 @@
 -- Which texts the words of a command line have.
-use Rattle.std.specs.Prelude.{◌≡◌, ◌≢◌, ◌⊎◌, ℕ, suc, ◌<◌, ◌≤◌, Bool, List, [], ◌∷◌, length, take, codes, Option, Some}
+use Rattle.std.specs.Prelude.{◌≡◌, ◌≢◌, ◌⊎◌, ℕ, suc, ◌<◌, ◌≤◌, Bool, List, [], ◌∷◌, length, take, codes, Option, Some, None, if◌then◌else◌}
 use Rattle.std.specs.List.{count_by}
 use Rattle.std.specs.Str.{bytes_eq}
 use Rattle.input_texts.specs.Cut.{IsCut}
@@ -44,3 +44,8 @@ HaveFirstTexts files standard words texts n =
 -- all of them have
 abbrev pub StandFor : (List ℕ → Option (List ℕ)) → Option (List ℕ) → List (List ℕ) → List (List ℕ) → Type 0
 StandFor files standard words texts = HaveTexts files (unread standard words) words texts
+
+-- the text of the first file of this name, where there is one
+abbrev pub text_named : List ℕ → List (List ℕ × List ℕ) → Option (List ℕ)
+text_named name [] = None
+text_named name (f ∷ fs) = if bytes_eq f.0 name then Some f.1 else text_named name fs

@@ -1,10 +1,10 @@
 //! The texts that the words of a command line name: files, and for the word `-` the standard input. Where several words
 //! are `-`, the standard input is cut into as many texts, at its first lines that are exactly `---`.
 //!
-//! - [`text`] reads the next word's text, and of a text past a limit only what shows that (clause `text`): which text a word has is
-//!   in `specs/Words.antt`, and where a text is cut in `specs/Cut.antt`.
-//! - [`Sources`] is what a program reads from. A program's own has devices, of which nothing is known; one in memory
-//!   says what its files have, and then the clauses speak of these bytes.
+//! - [`text`] reads the next word's text (clause `text`), and of a text past a limit one byte more than the limit (clause
+//!   `bounded`): which text a word has is in `specs/Words.antt`, and where a text is cut in `specs/Cut.antt`.
+//! - [`Sources`] is what a program reads from. A program's own has [`Devices`], of which nothing is known; [`Texts`] are in
+//!   memory and say what they have, and then the clauses speak of these bytes.
 //!
 //! The standard input is read when its first part is asked for, and no further than that part's limit wants. A file is
 //! opened when its text is asked for.
@@ -18,8 +18,10 @@ mod sources;
 mod standard_input;
 #[cfg(test)]
 mod tests;
+mod texts;
 
 pub use devices::{Device, Devices};
 pub use fault::InputFault;
 pub use sources::Sources;
 pub use standard_input::{StandardInput, text};
+pub use texts::Texts;

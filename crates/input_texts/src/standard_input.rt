@@ -22,6 +22,9 @@ pub struct StandardInput<R: Read + Drop> {
     reader: R,
     ahead: Vec<u8>,
     parts: usize,
+    /// How many lines stand above what is left, and above the text that was read last.
+    lines_above_rest: u64,
+    lines_above: u64,
 }
 
 impl<R: Read + Drop> Model for StandardInput<R> {
@@ -42,7 +45,15 @@ impl<R: Read + Drop> StandardInput<R> {
             reader,
             ahead: Vec::new(alloc),
             parts: dashes(words),
+            lines_above_rest: 0,
+            lines_above: 0,
         }
+    }
+
+    /// How many lines of the standard input stand above the text that was read from it last, for people who count them
+    /// there.
+    pub fn lines_above(&self) -> u64 {
+        self.lines_above
     }
 
     /// The text of the next word that is `-`, or what is longer than the limit.
@@ -64,6 +75,7 @@ impl<R: Read + Drop> StandardInput<R> {
             × (length v.items ≤ limit → self.new ≡ record { parts = 0; bytes = Some [] })) }
     {
         fill(&mut self.reader, &mut self.ahead, limit + 1)?;
+        self.lines_above = self.lines_above_rest;
         self.parts = 0;
         Ok(std::mem::replace(&mut self.ahead, Vec::new(alloc)))
     }
@@ -79,13 +91,26 @@ impl<R: Read + Drop> StandardInput<R> {
         fill(&mut self.reader, &mut self.ahead, limit + 1 + CUT_LINE)?;
         let (front, back) = cut(&self.ahead);
         let size = front.len();
+        let lines = lines_in(&self.ahead[..self.ahead.len() - back.len()]);
         let mut rest = Vec::new(alloc);
         rest.extend_from_slice(back)?;
+        self.lines_above = self.lines_above_rest;
+        self.lines_above_rest = self.lines_above.saturating_add(lines);
         self.parts -= 1;
         let mut text = std::mem::replace(&mut self.ahead, rest);
         text.truncate(size);
         Ok(text)
     }
+}
+
+fn lines_in(text: &[u8]) -> u64 {
+    let mut lines: u64 = 0;
+    for b in text {
+        if *b == b'\n' {
+            lines = lines.saturating_add(1);
+        }
+    }
+    lines
 }
 
 /// How many of the words are `-`.
@@ -102,9 +127,26 @@ fn dashes(words: &[&str]) -> usize
     count
 }
 
-/// The text of the next word of a command. Of a text that is longer than the limit, in bytes, no more is read than shows
-/// it, and nothing is promised of the words after it, nor after a fault.
+/// The text of the next word of a command. Of a text that is longer than the limit, in bytes, one byte more than the limit
+/// is given, and nothing is promised of the words after it, nor after a fault.
 pub fn text<S: Sources>(
+    alloc: Global,
+    sources: &S,
+    standard: &mut StandardInput<S::Standard>,
+    word: &str,
+    limit: usize,
+) -> Result<Vec<u8>, InputFault>
+    requires { limit < 2 ^ 32 }
+    ensures text { IfOk result (λ v. (text : List ℕ) (after : Unread) → HasText (S.file_text sources.now) standard.old word.now text after
+        → IsReadUpTo limit text v.items × (length v.items ≤ limit → standard.new ≡ after)) }
+    ensures bounded { IfOk result (λ v. length v.items ≤ limit + 1) }
+{
+    let mut text = read_word(alloc, sources, standard, word, limit)?;
+    text.truncate(limit + 1);
+    Ok(text)
+}
+
+fn read_word<S: Sources>(
     alloc: Global,
     sources: &S,
     standard: &mut StandardInput<S::Standard>,

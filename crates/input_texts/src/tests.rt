@@ -1,7 +1,9 @@
 use crate::cut::cut;
+use crate::devices::Devices;
 use crate::fault::InputFault;
 use crate::sources::Sources;
 use crate::standard_input::{StandardInput, text};
+use crate::texts::Texts;
 use std::alloc::Global;
 use std::io;
 use std::io::{ErrorKind, Read};
@@ -96,24 +98,16 @@ fn cuts_at_the_first_line_of_three_dashes(rt: HostRuntime) {
 }
 
 /// The texts of three words, each of at most 9 bytes, where the files have `plan` and `sessions`.
-fn read(
+fn read<S: Sources>(
     rt: &(impl Abort + AllocGlobal),
+    sources: &S,
     words: [&str; 3],
-    standard: &str,
-    step: usize,
     expected: [&str; 3],
 ) -> Result<(), InputFault> {
     let alloc = rt.alloc();
-    let memory = Memory {
-        plan: "plan",
-        sessions: "sessions",
-        standard,
-        step,
-        fails_after: u32::MAX,
-    };
-    let mut input = StandardInput::new(alloc, memory.standard(), &words);
+    let mut input = StandardInput::new(alloc, sources.standard(), &words);
     for i in 0..3 {
-        let found = text(alloc, &memory, &mut input, words[i], 9)?;
+        let found = text(alloc, sources, &mut input, words[i], 9)?;
         assert_eq!(rt; found.as_slice(), expected[i].as_bytes());
     }
     Ok(())
@@ -147,8 +141,20 @@ fn reads_files_and_parts_of_the_standard_input(rt: HostRuntime) -> Result<(), In
         (["-", "-", "p"], "---\n123456789", ["", "123456789", "plan"]),
     ];
     for (words, standard, expected) in rows {
+        let texts = Texts {
+            files: &[("p", b"plan"), ("s", b"sessions")],
+            standard: standard.as_bytes(),
+        };
+        read(&rt, &texts, words, expected)?;
         for step in 1..12 {
-            read(&rt, words, standard, step, expected)?;
+            let memory = Memory {
+                plan: "plan",
+                sessions: "sessions",
+                standard,
+                step,
+                fails_after: u32::MAX,
+            };
+            read(&rt, &memory, words, expected)?;
         }
     }
     Ok(())
@@ -199,4 +205,40 @@ fn an_endless_input_is_left_at_its_limit(rt: HostRuntime) -> Result<(), Fail> {
     assert_eq!(rt; bytes.len(), 100_001);
     assert_eq!(rt; endless.given, 100_001);
     Ok(())
+}
+
+#[test]
+fn lines_above_a_part_are_counted(rt: HostRuntime) -> Result<(), InputFault> {
+    let alloc = rt.alloc();
+    let memory = Memory {
+        plan: "plan\n",
+        sessions: "",
+        standard: "---\r\na\nb\n---\nc",
+        step: 2,
+        fails_after: u32::MAX,
+    };
+    let words = ["-", "-", "p", "-"];
+    let mut input = StandardInput::new(alloc, memory.standard(), &words);
+    for (word, lines) in [("-", 0), ("-", 1), ("p", 1), ("-", 4)] {
+        let _text = text(alloc, &memory, &mut input, word, 9)?;
+        assert_eq!(rt; input.lines_above(), lines);
+    }
+    Ok(())
+}
+
+#[test]
+fn devices_are_opened_by_name(rt: HostRuntime) {
+    let alloc = rt.alloc();
+    let devices = Devices::new(&rt);
+    let mut input = StandardInput::new(alloc, devices.standard(), &["/dev/zero"]);
+    let rows = [
+        ("/dev/null", Ok(0)),
+        ("/dev/zero", Ok(10)),
+        (".", Err(InputFault::Failed(ErrorKind::IsADirectory))),
+        ("no_such_file", Err(InputFault::Failed(ErrorKind::NotFound))),
+    ];
+    for (name, expected) in rows {
+        let found = text(alloc, &devices, &mut input, name, 9);
+        assert_eq!(rt; found.map(|text| text.len()), expected);
+    }
 }

@@ -11,22 +11,42 @@ use thiserror::Error;
 /// The rule that a text of sessions breaks.
 #[derive(Clone, Copy, Debug, PartialEq, Eq, Error)]
 pub enum SessionRule {
-    #[error("S1 Syntax: the line is no line of a session, or cannot stand here")]
+    #[error("S1 Syntax")]
     Syntax,
-    #[error("S2 UnknownName: no such office, or no earlier line of the session lets this variable")]
+    #[error("S2 UnknownName")]
     UnknownName,
-    #[error("S3 UnknownRecord: no such record, or it is not of the session's office")]
+    #[error("S3 UnknownRecord")]
     UnknownRecord,
-    #[error("S4 TooDeep: an expression may be 32 deep, and blocks 8")]
+    #[error("S4 TooDeep")]
     TooDeep,
-    #[error("S5 TooLong: a session may have 256 statements, a cost of 10,000 and 16,384 bytes, and a text 1,024 sessions and 1,048,576 bytes")]
+    #[error("S5 TooLong")]
     TooLong,
-    #[error("S6 TooManyRecords: a session may name 16 records")]
+    #[error("S6 TooManyRecords")]
     TooManyRecords,
-    #[error("S7 TooManyGives: a session may give 64 values")]
+    #[error("S7 TooManyGives")]
     TooManyGives,
-    #[error("S8 TooManyVariables: a session may have 32 variables")]
+    #[error("S8 TooManyVariables")]
     TooManyVariables,
+}
+
+impl SessionRule {
+    /// What the rule asks for, in words for people.
+    pub fn explanation(self) -> &'static str {
+        match self {
+            SessionRule::Syntax => "the line is no line of a session, or cannot stand here",
+            SessionRule::UnknownName => {
+                "no such office, or no earlier line of the session lets this variable"
+            }
+            SessionRule::UnknownRecord => "no such record, or it is not of the session's office",
+            SessionRule::TooDeep => "an expression may be 32 deep, and blocks 8",
+            SessionRule::TooLong => {
+                "a session may have 256 statements, a cost of 10,000 and 16,384 bytes, and a text 1,024 sessions and 1,048,576 bytes"
+            }
+            SessionRule::TooManyRecords => "a session may name 16 records",
+            SessionRule::TooManyGives => "a session may give 64 values",
+            SessionRule::TooManyVariables => "a session may have 32 variables",
+        }
+    }
 }
 
 /// The first rule that is broken, and the line that breaks it: 0 where the text is too long, and
@@ -40,10 +60,11 @@ pub struct SessionRefusal {
 impl fmt::Display for SessionRefusal {
     fn fmt<W: fmt::Write>(&self, f: &mut fmt::Formatter<W>) -> fmt::Result {
         let SessionRefusal { rule, line } = *self;
+        let explanation = rule.explanation();
         if line > 0 {
             write!(f, "line {line}: ")?;
         }
-        write!(f, "{rule}")
+        write!(f, "{rule}: {explanation}")
     }
 }
 

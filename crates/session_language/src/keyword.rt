@@ -3,7 +3,7 @@
 ghost use Rattle.std.specs.Prelude.{◌≡◌};
 ghost use Rattle.session_language.specs.Form.{keyword_of};
 
-/// The first word of a line.
+/// What the first word of a line says that the line is.
 #[derive(Clone, Copy, Debug, PartialEq, Eq)]
 pub enum Keyword {
     Session,
@@ -18,6 +18,7 @@ pub enum Keyword {
     Other,
 }
 
+/// The keyword that a word is, if it is one that a line can begin with.
 pub fn keyword_of(word: &[u8]) -> Keyword
     ensures { result ≡ keyword_of word.now }
 {

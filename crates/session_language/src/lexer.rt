@@ -8,6 +8,7 @@ ghost use Rattle.session_language.specs.Phrase.{run, Tells, IsShorter};
 use crate::token::{Next, Operand, Token, expression_symbol, is_read, operand_in};
 use office_map::text::name;
 
+/// A symbol of the language.
 #[derive(Clone, Copy, Debug, PartialEq, Eq)]
 pub enum Symbol {
     Assign,
@@ -71,7 +72,7 @@ impl<'a> Pieces<'a> {
     }
 
     /// The next token of an expression, or where it stops.
-    pub fn next_token(&mut self) -> Next<'a>
+    pub(crate) fn next_token(&mut self) -> Next<'a>
         ensures gives { Tells result (run false (pieces_of self.old.rest.now)) (pieces_of self.new.rest.now) }
         ensures shorter { IsShorter result (length self.old.rest.now) (length self.new.rest.now) }
     {

@@ -10,8 +10,8 @@
 //!   `specs/Length.antt`; `proofs/WorkedExamples.antt` works out examples of both. How it ended is an
 //!   [`Ending`].
 //! - Expressions are kept in postfix order (`specs/refinement/Postfix.antt`), and reading them takes one pass and no recursion; the
-//!   grammar is in `specs/Grammar.antt`, the words of a line in `specs/Lexer.antt`, the limits in
-//!   `specs/Measures.antt`.
+//!   grammar is in `specs/Grammar.antt`, the words of a line in `specs/Lexer.antt` (their code is [`lexer`]), the limits
+//!   in `specs/Measures.antt`.
 #![tactic(auto)]
 
 mod adding;
@@ -22,9 +22,9 @@ mod ending;
 mod expression;
 mod fault;
 mod guesses;
-mod keyword;
+pub mod keyword;
 pub mod laws;
-mod lexer;
+pub mod lexer;
 mod limits;
 mod listing;
 pub mod measures;

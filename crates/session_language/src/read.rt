@@ -22,7 +22,7 @@ use std::alloc::Global;
 pub fn read_sessions(alloc: Global, text: &[u8], plan: &Plan) -> Result<Vec<Program>, LangFault>
     ensures meaning { UnlessMemory (λ v. v.items) Fails result (sessions_of plan.now text.now) }
     ensures fit { IfOk result (λ v. All (λ p. IsTrue (fits plan.now p)) v.items) }
-    ensures few { IfOk result (λ v. length v.items ≤ 1024) }
+    ensures few { IfOk result (λ v. length v.items ≤ most_sessions) }
 {
     if text.len() > TEXT_LIMIT {
         return Err(refused(SessionRule::TooLong, 0));

@@ -84,68 +84,136 @@ fn cuts_the_standard_input(rt: HostRuntime) -> Result<(), Fail> {
     Ok(())
 }
 
+/// That these words fail so, and nothing is written.
+fn fails(
+    rt: &(impl Abort + AllocGlobal),
+    memory: &Memory<'_>,
+    words: &[&str],
+    said: &str,
+) -> Result<(), Fail> {
+    let alloc = rt.alloc();
+    let words = strings(alloc, words)?;
+    let mut out = Vec::new(alloc);
+    let exit = answer(alloc, words.as_slice(), memory, &mut out);
+    assert_eq!(rt; exit.status, 1);
+    assert_eq!(rt; out.len(), 0);
+    let expected = format!(in alloc; "drink: {said}\n")?;
+    assert_eq!(rt; exit.said, Some(expected));
+    Ok(())
+}
+
 #[test]
 fn faults_name_their_input(rt: HostRuntime) -> Result<(), Fail> {
     let rows: [(&[&str], &str); 12] = [
         (
             &["drink", "serial", "missing", "s"],
-            "drink: missing: X4 ReadFailed: it cannot be read: no such file\n",
+            "missing: X4 ReadFailed: it cannot be read: no such file",
         ),
         (
             &["drink", "serial", "p", "folder"],
-            "drink: folder: X4 ReadFailed: it cannot be read: it is a folder\n",
+            "folder: X4 ReadFailed: it cannot be read: it is a folder",
         ),
         (
             &["drink", "sim", "p", "s", "locked"],
-            "drink: locked: X4 ReadFailed: it cannot be read: permission denied\n",
+            "locked: X4 ReadFailed: it cannot be read: permission denied",
         ),
         (
             &["drink", "serial", "endless", "missing"],
-            "drink: endless: P7 Limit: ",
+            "endless: P7 Limit: the text has more than 262144 bytes",
         ),
         (
             &["drink", "serial", "s", "missing"],
-            "drink: s: line 1: P1 Header: ",
+            "s: line 1: P1 Header: the first line has to be `plan 1 run N`, with N from 0 to 4294967295, and not `session a`",
         ),
-        (&["drink", "serial", "-", "s"], "drink: -: P1 Header: "),
+        (
+            &["drink", "serial", "-", "s"],
+            "-: P1 Header: no line says anything, and the first one has to be `plan 1 run N`",
+        ),
         (
             &["drink", "serial", "p", "p"],
-            "drink: p: line 1: S1 Syntax: ",
+            "p: line 1: S1 Syntax: `plan 1 run 42` stands outside of a session, and one begins with `session OFFICE`",
         ),
         (
             &["drink", "serial", "p", "endless"],
-            "drink: endless: S5 TooLong: ",
+            "endless: S5 TooLong: the text has more than 1048576 bytes",
         ),
         (
             &["drink", "sim", "p", "c", "missing"],
-            "drink: c: line 1: S1 Syntax: ",
+            "c: line 1: S1 Syntax: `submit 1` stands outside of a session, and one begins with `session OFFICE`",
         ),
         (
             &["drink", "sim", "p", "s", "s"],
-            "drink: s: line 1: X1 Script: ",
+            "s: line 1: X1 Script: `session` begins no line of a script; these are `submit N`, `do OFFICE RULE` and `deliver K`",
         ),
         (
             &["drink", "sim", "p", "s", "endless"],
-            "drink: endless: X1 Script: ",
+            "endless: X1 Script: the text has more than 16777216 bytes",
         ),
         (
             &["drink", "sim", "c", "p", "s"],
-            "drink: c: line 1: P1 Header: ",
+            "c: line 1: P1 Header: the first line has to be `plan 1 run N`, with N from 0 to 4294967295, and not `submit 1`",
+        ),
+    ];
+    for (words, said) in rows {
+        let memory = Memory::new(PLAN, MOVE, SCRIPT);
+        fails(&rt, &memory, words, said)?;
+    }
+    Ok(())
+}
+
+const RING: &str =
+    "plan 1 run 1\noffice a -\noffice b -\noffice c -\npair a b fork a\npair b c fork b\npair a c fork c\n";
+
+const THREE: &str = "plan 1 run 1\noffice a -\noffice b -\noffice c -\npair a b fork a\n";
+
+const APART: &str = "plan 1 run 1\noffice a -\noffice b -\n";
+
+#[test]
+fn faults_say_what_was_found_and_where(rt: HostRuntime) -> Result<(), Fail> {
+    let rows = [
+        (
+            RING,
+            "",
+            "",
+            "-: P8 Ring: a, c, b (each precedes the next, and the last the first)",
+        ),
+        (
+            THREE,
+            "",
+            "",
+            "-: X3 TwoOffices: a simulation needs a plan of two offices that are a pair, and this one has 3",
+        ),
+        (
+            APART,
+            "",
+            "",
+            "-: X3 TwoOffices: a simulation needs a plan of two offices that are a pair, and this one has 2, and these two are none",
+        ),
+        (
+            "plan 1 run 1\noffice a -\noffice a -\n",
+            "",
+            "",
+            "-: line 3: P3 NameTwice: the office `a` was declared on line 2",
+        ),
+        (
+            PLAN,
+            "session a\nset x = x + 1\nend\n",
+            "",
+            "-: line 2 (line 9 of the standard input): S2 UnknownName: no earlier line of the session lets the variable `x`; it is a record, and read by `read x`",
+        ),
+        (
+            PLAN,
+            MOVE,
+            "submit 1\nsubmit 2\n",
+            "-: line 2 (line 17 of the standard input): X1 Script: there is no session `2`: they are counted from 1, and the file has 1",
         ),
     ];
     let alloc = rt.alloc();
-    for (words, said) in rows {
-        let memory = Memory::new(PLAN, MOVE, SCRIPT);
-        let words = strings(alloc, words)?;
-        let mut out = Vec::new(alloc);
-        let exit = answer(alloc, words.as_slice(), &memory, &mut out);
-        assert_eq!(rt; exit.status, 1);
-        assert_eq!(rt; out.len(), 0);
-        let Some(text) = &exit.said else {
-            return Err(Fail::from("nothing was said"));
-        };
-        assert_eq!(rt; text.as_str().get(..said.len()), Some(said));
-        assert!(rt; text.as_str().ends_with("\n"));
+    for (plan, sessions, script, said) in rows {
+        let standard = format!(in alloc; "{plan}---\n{sessions}---\n{script}")?;
+        let mut memory = Memory::new("", "", "");
+        memory.standard = standard.as_str();
+        fails(&rt, &memory, &["drink", "sim", "-", "-", "-"], said)?;
     }
     Ok(())
 }

@@ -11,7 +11,7 @@ returns-in_err-plan-clause-fault g c =
     rw (e.1, e.2)
     (weaker inputs.Plan _ _ c.in_err-plan.field-0.0 (λ why h texts after has. h is_of_one_pair texts after has) c.in_err-plan.ensures.fault)
 
-pub returns-else-is_of_one_pair-clause-fault : goal.returns-else-is_of_one_pair-clause-fault
-returns-else-is_of_one_pair-clause-fault g c =
+pub returns-in_ok-of_no_pair-clause-fault : goal.returns-in_ok-of_no_pair-clause-fault
+returns-in_ok-of_no_pair-clause-fault g c =
     let other : is_of_one_pair c.in_ok-plan.plan ≡ false = search rules in
     (refl, λ texts after has. (c.in_ok-plan.plan, (c.in_ok-plan.ensures.meaning (texts inputs.Plan) after has).0, other))

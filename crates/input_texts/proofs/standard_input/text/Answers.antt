@@ -1,11 +1,12 @@
-use Rattle.std.proofs.Common.{rules, ◌≡◌, codes, subst}
-use Rattle.std.proofs.lemmas.Result.{IfOk-weaker}
-use Rattle.input_texts.specs.Words.{HasText}
+use Rattle.std.proofs.Common.{◌≤◌, ◌+◌, length, sym, subst}
+use Rattle.input_texts.proofs.WordText.{IsRead, cut_of, cut_bounded}
 use Rattle.input_texts.proofs.standard_input.text.Goals as goal
 
-pub returns-then-eq : goal.returns-then-eq
-returns-then-eq g c = record {
-  text =
-      let word_is : c.args.word.now ≡ codes "-" = search rules in
-      IfOk-weaker c.text.result _ _ (λ v h text after has. h (g.S.Sources.file_text c.args.sources.now) text after (subst (λ w. HasText (g.S.Sources.file_text c.args.sources.now) c.args.standard.now w text after) word_is has)) c.text.ensures;
-}
+pub returns-clause-text : goal.returns-clause-text
+returns-clause-text g c text after has =
+    subst (λ read. IsRead c.args.limit text read c.read_word.new.standard after) (sym c.truncate.ensures.items)
+    (cut_of c.args.limit text c.in_ok-text.text.items c.read_word.new.standard after (c.in_ok-text.ensures.text text after has))
+
+pub returns-clause-bounded : goal.returns-clause-bounded
+returns-clause-bounded g c =
+    subst (λ read. length read ≤ c.args.limit + 1) (sym c.truncate.ensures.items) (cut_bounded c.args.limit c.in_ok-text.text.items)

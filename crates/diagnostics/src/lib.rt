@@ -1,0 +1,22 @@
+//! Diagnostics: what people are told of a text that is refused, besides the code of the rule and the number of the line.
+//!
+//! [`of_plan`], [`of_sessions`] and [`of_script`] answer a sentence for a refusal that the reader of that text gave: what
+//! was found, what was expected, and where there is one the nearest thing to do. They look at the refused line and at the
+//! lines above it, which were accepted.
+//!
+//! Nothing is decided here, and no clause speaks of a sentence: tests pin them. What is proved is that nothing but memory
+//! stops a function.
+#![tactic(auto)]
+
+mod measures;
+mod place;
+mod plan;
+mod script;
+mod sessions;
+mod shown;
+#[cfg(test)]
+mod tests;
+
+pub use plan::{of_no_pair, of_plan};
+pub use script::of_script;
+pub use sessions::of_sessions;

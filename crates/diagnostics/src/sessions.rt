@@ -1,0 +1,472 @@
+//! What is said of a refused text of sessions.
+
+use crate::measures::measures_of;
+use crate::place::{Block, Place, first_word, keyword_in, pieces_in, second_word};
+use crate::shown::{quote, say_expected, say_no_name, say_strange_byte, say_word, shown, word_at};
+use office_map::Plan;
+use office_map::text::{is_name, name, number};
+use session_language::keyword::Keyword;
+use session_language::lexer::{Piece, Symbol};
+use session_language::{SessionRefusal, SessionRule};
+use std::alloc::{AllocError, Global};
+
+/// What is said of the refusal of a text of sessions under this plan.
+pub fn of_sessions(
+    alloc: Global,
+    text: &[u8],
+    plan: &Plan,
+    refusal: SessionRefusal,
+) -> Result<String, AllocError> {
+    let mut said = String::new(alloc);
+    if refusal.line == 0 {
+        said.push_str("the text has more than 1048576 bytes")?;
+        return Ok(said);
+    }
+    let place = Place::of(alloc, text, refusal.line)?;
+    say_rule(&mut said, alloc, plan, &place, refusal.rule)?;
+    Ok(said)
+}
+
+fn say_rule(
+    said: &mut String,
+    alloc: Global,
+    plan: &Plan,
+    place: &Place<'_>,
+    rule: SessionRule,
+) -> Result<(), AllocError> {
+    match rule {
+        SessionRule::Syntax => say_syntax(said, alloc, place),
+        SessionRule::UnknownName => say_unknown_name(said, alloc, plan, place),
+        SessionRule::UnknownRecord => say_unknown_record(said, alloc, plan, place),
+        SessionRule::TooDeep => say_too_deep(said, place),
+        SessionRule::TooLong => say_too_long(said, alloc, place),
+        SessionRule::TooManyGives => say_too_many_gives(said, alloc, place),
+        SessionRule::TooManyRecords => say_too_many(said, alloc, place, Named::Records),
+        SessionRule::TooManyVariables => say_too_many(said, alloc, place, Named::Variables),
+    }
+}
+
+// ---- lines of no form, and lines that can't stand where they stand
+
+fn say_syntax(said: &mut String, alloc: Global, place: &Place<'_>) -> Result<(), AllocError> {
+    let line = place.line;
+    if is_blank(line) {
+        return say_no_end(said, place);
+    }
+    if say_strange_byte(said, line)? {
+        return Ok(());
+    }
+    let keyword = keyword_in(line);
+    if keyword == Keyword::Session {
+        return say_session(said, place);
+    }
+    if place.begun == 0 {
+        return say_outside(said, line);
+    }
+    match keyword {
+        Keyword::Else => say_else(said, place),
+        Keyword::End => say_expected(said, line, "`end`, alone on its line"),
+        Keyword::Let => say_given(said, alloc, line, "`let VARIABLE = EXPRESSION`"),
+        Keyword::Set => say_given(said, alloc, line, "`set RECORD = EXPRESSION`"),
+        Keyword::Give => say_form(said, alloc, line, "`give EXPRESSION`"),
+        Keyword::Require => say_compared(
+            said,
+            alloc,
+            line,
+            "`require EXPRESSION COMPARISON EXPRESSION else CODE`, with CODE from 0 to 65535",
+        ),
+        Keyword::If => say_compared(said, alloc, line, "`if EXPRESSION COMPARISON EXPRESSION`"),
+        Keyword::Repeat => {
+            say_expected(said, line, "`repeat COUNT`, with COUNT from 0 to 10000")
+        }
+        Keyword::Session | Keyword::Other => say_other(said, line),
+    }
+}
+
+fn is_blank(line: &[u8]) -> bool {
+    line.iter().all(|b| *b == b' ' || *b == b'\t')
+}
+
+fn say_no_end(said: &mut String, place: &Place<'_>) -> Result<(), AllocError> {
+    let begun = place.begun;
+    write!(said, "the session of line {begun} has no `end`")?;
+    match place.blocks.last() {
+        None => Ok(()),
+        Some(block) => {
+            said.push_str(", nor has ")?;
+            say_block(said, *block)
+        }
+    }
+}
+
+fn say_block(said: &mut String, block: Block) -> Result<(), AllocError> {
+    let word = if block.keyword == Keyword::If {
+        "if"
+    } else {
+        "repeat"
+    };
+    let line = block.line;
+    write!(said, "the `{word}` of line {line}")
+}
+
+fn say_session(said: &mut String, place: &Place<'_>) -> Result<(), AllocError> {
+    if place.begun > 0 {
+        said.push_str("`session` stands inside a session: ")?;
+        return say_no_end(said, place);
+    }
+    say_expected(said, place.line, "`session OFFICE`")
+}
+
+fn say_outside(said: &mut String, line: &[u8]) -> Result<(), AllocError> {
+    say_word(
+        said,
+        "",
+        line,
+        " stands outside of a session, and one begins with `session OFFICE`",
+    )
+}
+
+fn say_else(said: &mut String, place: &Place<'_>) -> Result<(), AllocError> {
+    let Some(block) = place.blocks.last() else {
+        return said.push_str("`else` belongs to an `if`, and none is open here");
+    };
+    if block.keyword == Keyword::Repeat {
+        said.push_str("`else` belongs to an `if`, and it is ")?;
+        say_block(said, *block)?;
+        return said.push_str(" that is open here");
+    }
+    if block.has_else {
+        say_block(said, *block)?;
+        return said.push_str(" has an `else` already");
+    }
+    say_expected(said, place.line, "`else`, alone on its line")
+}
+
+fn say_other(said: &mut String, line: &[u8]) -> Result<(), AllocError> {
+    let word = first_word(line);
+    let shown = if word.is_empty() { line } else { word };
+    say_word(
+        said,
+        "",
+        shown,
+        " begins no line of a session: that is let, set, give, require, if, else, repeat or end",
+    )
+}
+
+/// Of a `let` or `set`.
+fn say_given(said: &mut String, alloc: Global, line: &[u8], form: &str) -> Result<(), AllocError> {
+    let target = second_word(line);
+    if !target.is_empty() && !is_name(target) {
+        return say_no_name(said, target);
+    }
+    for piece in pieces_in(alloc, line)? {
+        if is_comparison(piece) {
+            said.push_str("a value is given by `=`, and not compared: ")?;
+            return say_expected(said, line, form);
+        }
+    }
+    say_form(said, alloc, line, form)
+}
+
+/// Of a line with a condition.
+fn say_compared(
+    said: &mut String,
+    alloc: Global,
+    line: &[u8],
+    form: &str,
+) -> Result<(), AllocError> {
+    for piece in pieces_in(alloc, line)? {
+        if let Piece::Symbol(Symbol::Assign) = piece {
+            said.push_str("two values are compared by `==`, and not by `=`: ")?;
+            return say_expected(said, line, form);
+        }
+    }
+    say_form(said, alloc, line, form)
+}
+
+fn is_comparison(piece: Piece<'_>) -> bool {
+    match piece {
+        Piece::Symbol(symbol) => match symbol {
+            Symbol::Equal
+            | Symbol::NotEqual
+            | Symbol::Less
+            | Symbol::AtMost
+            | Symbol::Greater
+            | Symbol::AtLeast => true,
+            _ => false,
+        },
+        _ => false,
+    }
+}
+
+/// Of a line with an expression: what can't stand in one, else its form.
+fn say_form(said: &mut String, alloc: Global, line: &[u8], form: &str) -> Result<(), AllocError> {
+    let mut open: u32 = 0;
+    for piece in pieces_in(alloc, line)? {
+        match piece {
+            Piece::Stray => {
+                said.push_str("a symbol is none of the language: ")?;
+                return say_expected(said, line, form);
+            }
+            Piece::Word(word) => {
+                if is_long_number(word) {
+                    return say_word(said, "", word, " is past 9223372036854775807");
+                }
+                if is_long_name(word) {
+                    return say_no_name(said, word);
+                }
+            }
+            Piece::Symbol(Symbol::Open) => open = open.saturating_add(1),
+            Piece::Symbol(Symbol::Close) => {
+                if open == 0 {
+                    said.push_str("a `)` closes nothing: ")?;
+                    return say_expected(said, line, form);
+                }
+                open -= 1;
+            }
+            Piece::Symbol(_) => {}
+        }
+    }
+    if open > 0 {
+        said.push_str("a `(` is not closed: ")?;
+    }
+    say_expected(said, line, form)
+}
+
+fn is_long_number(word: &[u8]) -> bool {
+    word.iter().all(|b| b.is_ascii_digit()) && number(word).is_none()
+}
+
+/// Whether it is spelled as a name is, and no name because of its length.
+fn is_long_name(word: &[u8]) -> bool {
+    word.len() > 16 && !word.iter().all(|b| b.is_ascii_digit())
+}
+
+// ---- names
+
+fn say_unknown_name(
+    said: &mut String,
+    alloc: Global,
+    plan: &Plan,
+    place: &Place<'_>,
+) -> Result<(), AllocError> {
+    if keyword_in(place.line) == Keyword::Session {
+        return say_word(said, "the plan has no office ", second_word(place.line), "");
+    }
+    let Some(variable) = unknown_variable(alloc, place)? else {
+        return said.push_str(SessionRule::UnknownName.explanation());
+    };
+    say_word(
+        said,
+        "no earlier line of the session lets the variable ",
+        variable,
+        "",
+    )?;
+    if is_record(plan, variable) {
+        let record = shown(variable);
+        return write!(said, "; it is a record, and read by `read {record}`");
+    }
+    Ok(())
+}
+
+/// The first variable of a line that no line above it lets.
+fn unknown_variable<'a>(alloc: Global, place: &Place<'a>) -> Result<Option<&'a [u8]>, AllocError> {
+    let targets: usize = match keyword_in(place.line) {
+        Keyword::Let | Keyword::Set => 2,
+        _ => 1,
+    };
+    let mut is_read = false;
+    for (i, piece) in pieces_in(alloc, place.line)?.into_iter().enumerate() {
+        if let Piece::Word(word) = piece {
+            if i >= targets && !is_read && is_name(word) && !is_let(place, word) {
+                return Ok(Some(word));
+            }
+            is_read = word == b"read".as_slice();
+        } else {
+            is_read = false;
+        }
+    }
+    Ok(None)
+}
+
+/// Whether a line of the session above this place lets this variable.
+fn is_let(place: &Place<'_>, variable: &[u8]) -> bool {
+    place.body.iter().any(|line| keyword_in(*line) == Keyword::Let
+        && second_word(*line) == variable)
+}
+
+fn is_record(plan: &Plan, word: &[u8]) -> bool {
+    match name(word) {
+        Some(name) => plan.record_named(name).is_some(),
+        None => false,
+    }
+}
+
+fn say_unknown_record(
+    said: &mut String,
+    alloc: Global,
+    plan: &Plan,
+    place: &Place<'_>,
+) -> Result<(), AllocError> {
+    for record in records_in(alloc, place.line)? {
+        if !is_record(plan, record) {
+            say_word(said, "the plan has no record ", record, "")?;
+            if is_let(place, record) {
+                let variable = shown(record);
+                write!(
+                    said,
+                    "; a variable is given a value by `let {variable} = ..`"
+                )?;
+            }
+            return Ok(());
+        }
+        if !is_of_office(plan, record, place.office) {
+            say_word(
+                said,
+                "the record ",
+                record,
+                " is not of the session's office ",
+            )?;
+            return quote(said, place.office);
+        }
+    }
+    said.push_str(SessionRule::UnknownRecord.explanation())
+}
+
+/// The records that a line sets and reads.
+fn records_in<'a>(alloc: Global, line: &'a [u8]) -> Result<Vec<&'a [u8]>, AllocError> {
+    let mut records = Vec::new(alloc);
+    let mut is_record = false;
+    for (i, piece) in pieces_in(alloc, line)?.into_iter().enumerate() {
+        let mut is_next = false;
+        if let Piece::Word(word) = piece {
+            if is_record {
+                records.push(word)?;
+            }
+            is_next = word == b"read".as_slice() || i == 0 && word == b"set".as_slice();
+        }
+        is_record = is_next;
+    }
+    Ok(records)
+}
+
+fn is_of_office(plan: &Plan, record: &[u8], office: &[u8]) -> bool {
+    let Some(record) = name(record) else {
+        return false;
+    };
+    let Some(office) = name(office) else {
+        return false;
+    };
+    match (plan.record_named(record), plan.office_named(office)) {
+        (Some(id), Some(office)) => plan.has_end(id, office),
+        _ => false,
+    }
+}
+
+// ---- limits
+
+fn say_too_deep(said: &mut String, place: &Place<'_>) -> Result<(), AllocError> {
+    let opens = match keyword_in(place.line) {
+        Keyword::If | Keyword::Repeat => true,
+        _ => false,
+    };
+    if opens && place.blocks.len() >= 8 {
+        return said.push_str("it opens a ninth block, and at most 8 may be open");
+    }
+    said.push_str(
+        "an expression is more than 32 deep, where each operator, each leading minus and each pair of parentheses counts one",
+    )
+}
+
+fn say_too_long(said: &mut String, alloc: Global, place: &Place<'_>) -> Result<(), AllocError> {
+    if keyword_in(place.line) == Keyword::Session {
+        let count = place.sessions.saturating_add(1);
+        return write!(
+            said,
+            "it begins session {count} of the text, which may have 1024"
+        );
+    }
+    let begun = place.begun;
+    let measures = measures_of(alloc, &place.body)?;
+    let statements = measures.statements;
+    let cost = measures.cost;
+    write!(said, "the session of line {begun} has ")?;
+    if statements > 256 {
+        return write!(said, "{statements} statements, and may have 256");
+    }
+    if cost > 10_000 {
+        return write!(said, "a cost of {cost}, and may have 10000");
+    }
+    said.push_str("a canonical text of more than 16384 bytes")
+}
+
+fn say_too_many_gives(
+    said: &mut String,
+    alloc: Global,
+    place: &Place<'_>,
+) -> Result<(), AllocError> {
+    let begun = place.begun;
+    let gives = measures_of(alloc, &place.body)?.gives;
+    write!(
+        said,
+        "the session of line {begun} may come to {gives} values that it gives, and 64 are allowed"
+    )
+}
+
+/// What there may be too many of.
+#[derive(Clone, Copy, PartialEq, Eq)]
+enum Named {
+    Records,
+    Variables,
+}
+
+/// The first name past the limit.
+fn say_too_many(
+    said: &mut String,
+    alloc: Global,
+    place: &Place<'_>,
+    named: Named,
+) -> Result<(), AllocError> {
+    let mut names: Vec<&[u8]> = Vec::new(alloc);
+    for line in place.body.iter() {
+        add_names(alloc, &mut names, *line, named)?;
+    }
+    add_names(alloc, &mut names, place.line, named)?;
+    let (most, what) = match named {
+        Named::Records => (16, "record"),
+        Named::Variables => (32, "variable"),
+    };
+    let begun = place.begun;
+    let count = most + 1;
+    say_word(said, "", word_at(&names, most), "")?;
+    write!(
+        said,
+        " is {what} {count} of the session of line {begun}, which may have {most}"
+    )
+}
+
+/// Adds what a line names, each name once.
+fn add_names<'a>(
+    alloc: Global,
+    names: &mut Vec<&'a [u8]>,
+    line: &'a [u8],
+    named: Named,
+) -> Result<(), AllocError> {
+    for name in named_in(alloc, line, named)? {
+        if !names.contains(&name) {
+            names.push(name)?;
+        }
+    }
+    Ok(())
+}
+
+fn named_in<'a>(alloc: Global, line: &'a [u8], named: Named) -> Result<Vec<&'a [u8]>, AllocError> {
+    if named == Named::Records {
+        return records_in(alloc, line);
+    }
+    let mut names = Vec::new(alloc);
+    if keyword_in(line) == Keyword::Let {
+        names.push(second_word(line))?;
+    }
+    Ok(names)
+}
