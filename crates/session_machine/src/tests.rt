@@ -6,18 +6,24 @@ use crate::work::Work;
 use bottle_values::Value;
 use office_map::{Plan, RecordId};
 use session_language::{
-    Comparison, Condition, End, Ending, Expression, Node, Operator, Program, RecordValues,
-    Statement, read_sessions,
+    End, Ending, LangFault, Program, RecordValues, SessionRefusal, Statement, read_sessions,
 };
 use std::alloc::{AllocError, Global};
 use std::fmt::Write;
 use std::test::Fail;
 
+mod drawn;
+mod draws;
+mod walk;
+
 const PLAN: &str =
     "plan 1 run 42\noffice a -\noffice b -\npair a b fork a\nrecord x a b 100 at a\nrecord y a b 0 at b\n";
 
+/// More than the longest session.
+const MOST_PIECES: u32 = 100_000;
+
 /// Sessions, each with its length where x is 100 and y is 0, and how it ends.
-static SESSIONS: [(&str, u32, &str); 6] = [
+static SESSIONS: [(&str, u32, &str); 11] = [
     ("session a\nend\n", 1, "done reads writes gives"),
     (
         "session a\nlet v = read x\nset x = v - 30\nset y = read y + 30\ngive read x\ngive read y\nend\n",
@@ -44,7 +50,174 @@ static SESSIONS: [(&str, u32, &str); 6] = [
         9,
         "overflow reads writes gives",
     ),
+    (
+        "session a\nlet i = 0\nrepeat 3\nlet i = i + 1\nif i * 2 > 3\ngive i\nelse\ngive -i\nend\nend\nend\n",
+        44,
+        "done reads writes gives -1 2 3",
+    ),
+    (
+        "session a\nrepeat 2\nrepeat 3\ngive 1\nend\nend\nend\n",
+        24,
+        "done reads writes gives 1 1 1 1 1 1",
+    ),
+    (
+        "session a\nrepeat 3\nrepeat 0\ngive 1\nend\nend\nend\n",
+        8,
+        "done reads writes gives",
+    ),
+    (
+        "session a\nrepeat 0\nrepeat 3\ngive 1\nend\nend\nend\n",
+        2,
+        "done reads writes gives",
+    ),
+    (
+        "session a\nrepeat 2\nif 1 == 1\ngive 5\nrequire 1 == 2 else 7\nend\nend\nend\n",
+        11,
+        "refused 7 reads writes gives",
+    ),
 ];
+
+/// Sessions at their limits and past them: lines, a line that opens a block and how often, the lines within, and lines
+/// after its `end`s. Each with its length and its ending, or with no length and the line and the rule that it breaks.
+static LIMITS: [(&str, &str, usize, &str, &str, u32, &str); 22] = [
+    (
+        "",
+        "repeat 1\n",
+        8,
+        "give 1\n",
+        "",
+        19,
+        "done reads writes gives 1",
+    ),
+    ("", "repeat 1\n", 9, "give 1\n", "", 0, "10 TooDeep"),
+    (
+        "",
+        "if 1 < 2\n",
+        8,
+        "give 1\n",
+        "",
+        35,
+        "done reads writes gives 1",
+    ),
+    ("", "if 1 < 2\n", 9, "give 1\n", "", 0, "10 TooDeep"),
+    (
+        "let v = 0\n",
+        "repeat 2\n",
+        8,
+        "let v = v + 1\n",
+        "give v\n",
+        1_794,
+        "done reads writes gives 256",
+    ),
+    (
+        "",
+        "repeat 0\n",
+        1,
+        "give 1\n",
+        "",
+        2,
+        "done reads writes gives",
+    ),
+    (
+        "",
+        "repeat 1\n",
+        1,
+        "give 1\n",
+        "",
+        5,
+        "done reads writes gives 1",
+    ),
+    (
+        "",
+        "repeat 9999\n",
+        1,
+        "",
+        "",
+        10_001,
+        "done reads writes gives",
+    ),
+    ("", "repeat 10000\n", 1, "", "", 0, "4 TooLong"),
+    ("", "repeat 10001\n", 1, "", "", 0, "2 Syntax"),
+    (
+        "",
+        "repeat 99\n",
+        2,
+        "",
+        "",
+        10_001,
+        "done reads writes gives",
+    ),
+    ("", "repeat 100\n", 2, "", "", 0, "6 TooLong"),
+    (
+        "let i = 0\n",
+        "repeat 1999\n",
+        1,
+        "let i = i + 1\n",
+        "give i\n",
+        10_001,
+        "done reads writes gives 1999",
+    ),
+    (
+        "let i = 0\n",
+        "repeat 1999\n",
+        1,
+        "let i = i + 1\n",
+        "give -i\n",
+        0,
+        "7 TooLong",
+    ),
+    (
+        "set y = 1\n",
+        "repeat 62\n",
+        1,
+        "set y = read y * 2\n",
+        "give read y\n",
+        316,
+        "done reads 1=0 writes 1=4611686018427387904 gives 4611686018427387904",
+    ),
+    (
+        "set y = 1\n",
+        "repeat 63\n",
+        1,
+        "set y = read y * 2\n",
+        "give read y\n",
+        316,
+        "overflow reads 1=0 writes gives",
+    ),
+    (
+        "",
+        "repeat 64\n",
+        1,
+        "give 1\n",
+        "",
+        194,
+        "done reads writes gives 1 1 1 1 1 1 1 1 1 1 1 1 1 1 1 1 1 1 1 1 1 1 1 1 1 1 1 1 1 1 1 1 1 1 1 1 1 1 1 1 1 1 1 1 1 1 1 1 1 1 1 1 1 1 1 1 1 1 1 1 1 1 1 1",
+    ),
+    ("", "repeat 65\n", 1, "give 1\n", "", 0, "5 TooManyGives"),
+    ("", "repeat 10000\n", 8, "", "", 0, "18 TooLong"),
+    ("", "repeat 10000\n", 8, "give 1\n", "", 0, "19 TooLong"),
+    (
+        "repeat 0\n",
+        "repeat 10000\n",
+        7,
+        "give 1\n",
+        "end\n",
+        2,
+        "done reads writes gives",
+    ),
+    (
+        "if 1 > 2\n",
+        "repeat 0\n",
+        1,
+        "repeat 10000\nend\n",
+        "end\n",
+        5,
+        "done reads writes gives",
+    ),
+];
+
+/// Turns of a loop with nothing in it, as many as the code can count.
+static TURNS: [u16; 4] = [0, 10_000, 10_001, 65_535];
 
 #[test]
 fn sessions_end_at_their_lengths(rt: HostRuntime) -> Result<(), Fail> {
@@ -54,52 +227,69 @@ fn sessions_end_at_their_lengths(rt: HostRuntime) -> Result<(), Fail> {
         let expected = described(rt.alloc(), *length, ending)?;
         assert_eq!(rt; found.as_str(), expected.as_str(), "of {text:?}");
     }
-    Ok(())
-}
-
-#[test]
-fn blocks_end_at_their_lengths(rt: HostRuntime) -> Result<(), Fail> {
-    let sessions = [
-        (counting(rt.alloc())?, 44, "done reads writes gives -1 2 3"),
-        (
-            nested(rt.alloc(), 2, 3)?,
-            24,
-            "done reads writes gives 1 1 1 1 1 1",
-        ),
-        (nested(rt.alloc(), 3, 0)?, 8, "done reads writes gives"),
-        (nested(rt.alloc(), 0, 3)?, 2, "done reads writes gives"),
-        (refused(rt.alloc())?, 11, "refused 7 reads writes gives"),
-    ];
-    for (statements, length, ending) in &sessions {
-        let found = run_statements(rt.alloc(), statements)?;
+    for (before, opening, count, within, after, length, ending) in &LIMITS {
+        let text = nested(rt.alloc(), before, opening, *count, within, after)?;
+        let found = run_text(rt.alloc(), &plan, text.as_str())?;
         let expected = described(rt.alloc(), *length, ending)?;
-        assert_eq!(rt; found.as_str(), expected.as_str());
+        assert_eq!(rt; found.as_str(), expected.as_str(), "of {text}");
+    }
+    for turns in TURNS {
+        let found = run_turns(rt.alloc(), turns)?;
+        let length = u32::from(turns) + 2;
+        let expected = described(rt.alloc(), length, "done reads writes gives")?;
+        assert_eq!(rt; found.as_str(), expected.as_str(), "of {turns} turns");
     }
     Ok(())
 }
 
-fn run_statements(alloc: Global, statements: &[Statement]) -> Result<String, AllocError> {
-    let code = Code::of_statements(alloc, 1, statements)?;
-    let mut text = String::new(alloc);
-    run(&mut text, alloc, &code, &[])?;
+/// A session with so many blocks in one another.
+fn nested(
+    alloc: Global,
+    before: &str,
+    opening: &str,
+    count: usize,
+    within: &str,
+    after: &str,
+) -> Result<String, AllocError> {
+    let mut text = String::from_str(alloc, "session a\n")?;
+    text.push_str(before)?;
+    for _ in 0..count {
+        text.push_str(opening)?;
+    }
+    text.push_str(within)?;
+    for _ in 0..count {
+        text.push_str("end\n")?;
+    }
+    text.push_str(after)?;
+    text.push_str("end\n")?;
     Ok(text)
 }
 
+/// What is told of a session of this length: for pieces of 1, 2 and 1,000 how many there are, and the ending twice. Of no
+/// length, what is said of it.
 fn described(alloc: Global, length: u32, ending: &str) -> Result<String, AllocError> {
     let mut text = String::new(alloc);
-    let halves = length / 2 + length % 2;
-    write!(
-        text,
-        "{length} {ending}; {ending}; {halves} {ending}; {ending}; 1 {ending}; {ending}; "
-    )?;
+    if length == 0 {
+        text.push_str(ending)?;
+        return Ok(text);
+    }
+    for size in [1, 2, 1_000] {
+        let pieces = length.div_ceil(size);
+        write!(text, "{pieces} {ending}; {ending}; ")?;
+    }
     Ok(text)
 }
 
-fn run_text(alloc: Global, plan: &Plan, sessions: &str) -> Result<String, Fail> {
+fn run_text(alloc: Global, plan: &Plan, sessions: &str) -> Result<String, AllocError> {
     let mut text = String::new(alloc);
-    let programs = read_sessions(alloc, sessions.as_bytes(), plan)?;
-    for program in &programs {
-        run_program(&mut text, alloc, program)?;
+    match read_sessions(alloc, sessions.as_bytes(), plan) {
+        Ok(programs) => {
+            for program in &programs {
+                run_program(&mut text, alloc, program)?;
+            }
+        }
+        Err(LangFault::Refused(SessionRefusal { rule, line })) => write!(text, "{line} {rule:?}")?,
+        Err(LangFault::Memory) => return Err(AllocError),
     }
     Ok(text)
 }
@@ -108,6 +298,13 @@ fn run_program(text: &mut String, alloc: Global, program: &Program) -> Result<()
     let code = Code::of(alloc, program)?;
     let code = code.copy(alloc)?;
     run(text, alloc, &code, program.needs())
+}
+
+fn run_turns(alloc: Global, turns: u16) -> Result<String, AllocError> {
+    let code = Code::of_statements(alloc, 0, &[Statement::Repeat(turns, Vec::new(alloc))])?;
+    let mut text = String::new(alloc);
+    run(&mut text, alloc, &code, &[])?;
+    Ok(text)
 }
 
 /// How many pieces of 1, 2 and 1,000 there were until the end, and how it ended.
@@ -136,7 +333,7 @@ fn run_in_pieces(
         reads.push(*id, Value { number })?;
     }
     let mut work = Work::begin(alloc, code, reads)?;
-    for k in 0..100u32 {
+    for k in 0..MOST_PIECES {
         if let Progress::Ended = work.step(code, 0) {
             return text.push_str("ended by nothing");
         }
@@ -187,74 +384,4 @@ fn describe(text: &mut String, ending: &Ending) -> Result<(), AllocError> {
         write!(text, " {}", value.number)?;
     }
     text.push_str("; ")
-}
-
-fn number(alloc: Global, number: i64) -> Result<Expression, AllocError> {
-    Expression::of(alloc, &[Node::Literal(Value { number })])
-}
-
-fn one(alloc: Global, s: Statement) -> Result<Vec<Statement>, AllocError> {
-    let mut statements = Vec::new(alloc);
-    statements.push(s)?;
-    Ok(statements)
-}
-
-fn two(alloc: Global, s: Statement, t: Statement) -> Result<Vec<Statement>, AllocError> {
-    let mut statements = one(alloc, s)?;
-    statements.push(t)?;
-    Ok(statements)
-}
-
-/// let i = 0, repeat 3, let i = i + 1, if i * 2 > 3, give i, else, give -i, end, end
-fn counting(alloc: Global) -> Result<Vec<Statement>, AllocError> {
-    let next = with_number(alloc, 1, Operator::Plus)?;
-    let body = two(alloc, Statement::Let(0, next), choice(alloc)?)?;
-    let begun = Statement::Let(0, number(alloc, 0)?);
-    two(alloc, begun, Statement::Repeat(3, body))
-}
-
-fn choice(alloc: Global) -> Result<Statement, AllocError> {
-    let condition = Condition {
-        left: with_number(alloc, 2, Operator::Times)?,
-        comparison: Comparison::Greater,
-        right: number(alloc, 3)?,
-    };
-    let condition = Box::new(alloc, condition)?;
-    let yes = Expression::of(alloc, &[Node::Variable(0)])?;
-    let yes = one(alloc, Statement::Give(yes))?;
-    let no = Expression::of(alloc, &[Node::Variable(0), Node::Negate])?;
-    let no = one(alloc, Statement::Give(no))?;
-    Ok(Statement::IfElse(condition, yes, no))
-}
-
-fn with_number(alloc: Global, number: i64, operator: Operator) -> Result<Expression, AllocError> {
-    let literal = Node::Literal(Value { number });
-    Expression::of(alloc, &[Node::Variable(0), literal, Node::Apply(operator)])
-}
-
-/// repeat m, repeat n, give 1, end, end
-fn nested(alloc: Global, m: u16, n: u16) -> Result<Vec<Statement>, AllocError> {
-    let give = one(alloc, Statement::Give(number(alloc, 1)?))?;
-    let inner = one(alloc, Statement::Repeat(n, give))?;
-    one(alloc, Statement::Repeat(m, inner))
-}
-
-/// repeat 2, if 1 == 1, give 5, require 1 == 2 else 7, end, end
-fn refused(alloc: Global) -> Result<Vec<Statement>, AllocError> {
-    let give = Statement::Give(number(alloc, 5)?);
-    let require = Statement::Require(Box::new(alloc, equal(alloc, 1, 2)?)?, 7);
-    let body = two(alloc, give, require)?;
-    let inner = one(
-        alloc,
-        Statement::If(Box::new(alloc, equal(alloc, 1, 1)?)?, body),
-    )?;
-    one(alloc, Statement::Repeat(2, inner))
-}
-
-fn equal(alloc: Global, a: i64, b: i64) -> Result<Condition, AllocError> {
-    Ok(Condition {
-        left: number(alloc, a)?,
-        comparison: Comparison::Equal,
-        right: number(alloc, b)?,
-    })
 }

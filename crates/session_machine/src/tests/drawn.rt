@@ -1,0 +1,159 @@
+//! Two thousand drawn sessions, each in pieces of drawn sizes, beside a walk of its tree.
+
+use super::PLAN;
+use super::draws::{Draws, session};
+use super::walk::{Doing, Walk};
+use crate::code::Code;
+use crate::progress::Progress;
+use crate::work::Work;
+use bottle_values::Value;
+use office_map::Plan;
+use session_language::{End, Ending, Program, RecordValues, read_sessions};
+use std::alloc::{AllocError, Global};
+use std::process::Abort;
+use std::test::Fail;
+
+const SESSIONS: u32 = 2_000;
+
+/// More than the sum of any drawn session's cost.
+const MOST_PIECES: u32 = 100_000;
+
+/// How many of the sessions ended in each way.
+#[derive(Drop)]
+struct Seen {
+    done: u32,
+    refused: u32,
+    /// Overflows by the statement, at an operator and at a minus.
+    overflows: [u32; 10],
+    /// Sessions by the most blocks that were open at once.
+    deepest: [u32; 9],
+}
+
+#[test]
+fn drawn_sessions_end_as_their_walk(rt: HostRuntime) -> Result<(), Fail> {
+    let plan = Plan::read(rt.alloc(), PLAN.as_bytes())?;
+    let mut seen = Seen {
+        done: 0,
+        refused: 0,
+        overflows: [0; 10],
+        deepest: [0; 9],
+    };
+    for seed in 0..SESSIONS {
+        let mut draws = Draws::from_seed(u64::from(seed));
+        let text = session(rt.alloc(), &mut draws, seed % 4 * 2 + 1)?;
+        let programs = read_sessions(rt.alloc(), text.as_bytes(), &plan)?;
+        assert_eq!(rt; programs.len(), 1, "of {text}");
+        for program in &programs {
+            agrees(&rt, rt.alloc(), &mut draws, &mut seen, program)?;
+        }
+    }
+    assert!(rt; seen.done > 0 && seen.refused > 0);
+    assert!(rt;
+        seen.overflows.iter().all(|count| *count > 0),
+        "{:?}",
+        seen.overflows
+    );
+    assert!(rt;
+        seen.deepest.iter().all(|count| *count > 0),
+        "{:?}",
+        seen.deepest
+    );
+    Ok(())
+}
+
+/// A session in pieces ends after as many instructions as its walk counts, and as that ends.
+fn agrees(
+    rt: &impl Abort,
+    alloc: Global,
+    draws: &mut Draws,
+    seen: &mut Seen,
+    program: &Program,
+) -> Result<(), AllocError> {
+    let mut reads = RecordValues::new(alloc);
+    for id in program.needs() {
+        let number = draws.number();
+        reads.push(*id, Value { number })?;
+    }
+    let mut walk = Walk::of(alloc, program.variables().len(), &reads)?;
+    let end = walk.session(program.tree())?;
+    seen.note(&walk, end);
+    let code = Code::of(alloc, program)?;
+    let mut work = Work::begin(alloc, &code, reads.copy(alloc)?)?;
+    let most = [2, 10, 1_000][draws.below(3) as usize];
+    let mut sum = 0u32;
+    for _ in 0..MOST_PIECES {
+        let size = draws.below(most);
+        sum = sum.saturating_add(size);
+        let is_running = matches!(work.step(&code, size), Progress::Running);
+        assert_eq!(rt; is_running, sum < walk.count);
+        if !is_running {
+            return ends_as(rt, alloc, work, end, &reads, &walk);
+        }
+    }
+    assert!(rt; false, "not ended");
+    Ok(())
+}
+
+fn ends_as(
+    rt: &impl Abort,
+    alloc: Global,
+    work: Work,
+    end: End,
+    reads: &RecordValues,
+    walk: &Walk,
+) -> Result<(), AllocError> {
+    let Some(_) = work.ending() else {
+        assert!(rt; false, "no ending");
+        return Ok(());
+    };
+    let ending = work.into_ending(alloc)?;
+    assert_eq!(rt; ending.end, end);
+    assert_eq!(rt; ending.reads.as_slice(), reads.as_slice());
+    let mut writes = Vec::new(alloc);
+    let mut gives = Vec::new(alloc);
+    if end == End::Done {
+        for kept in &walk.kept {
+            if kept.is_set {
+                writes.push((
+                    kept.id,
+                    Value {
+                        number: kept.number,
+                    },
+                ))?;
+            }
+        }
+        for number in &walk.gives {
+            gives.push(Value { number: *number })?;
+        }
+    }
+    assert_eq!(rt; ending.writes.as_slice(), writes.as_slice());
+    assert_eq!(rt; ending.gives.as_slice(), gives.as_slice());
+    Ok(())
+}
+
+impl Seen {
+    fn note(&mut self, walk: &Walk, end: End) {
+        let statement = match walk.doing {
+            Doing::Let => 0,
+            Doing::Set => 1,
+            Doing::Give => 2,
+            Doing::Require => 3,
+            Doing::If => 4,
+        };
+        match end {
+            End::Done => self.done = self.done.saturating_add(1),
+            End::Refused(_) => self.refused = self.refused.saturating_add(1),
+            End::Overflow => {
+                let place = 2 * statement + usize::from(walk.at_minus);
+                one_more(&mut self.overflows, place);
+            }
+        }
+        one_more(&mut self.deepest, walk.deepest as usize);
+    }
+}
+
+fn one_more(counts: &mut [u32], place: usize) {
+    if let Some(count) = counts.get_mut(place) {
+        *count = count.saturating_add(1);
+    }
+}
