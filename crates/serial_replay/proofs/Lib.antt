@@ -1,4 +1,4 @@
 pub mod LoopTurns
 pub mod StackEvaluation
-pub mod RecordSlots
+pub mod ReadsInOrder
 pub mod ValueTables

@@ -1,17 +1,16 @@
 //! One session alone.
 
-ghost use Rattle.std.specs.Prelude.{◌≡◌, IfOk, length, zip, map};
-ghost use Rattle.std.specs.List.Sorted.{IsStrictlyIncreasing};
+ghost use Rattle.std.specs.Prelude.{◌≡◌, IfOk, length, zip};
 ghost use Rattle.session_language.specs.Needs.{needs_of};
-ghost use Rattle.session_language.specs.Meaning.{alone, begun, slot_of, writes_of, ending_of, Goes};
+ghost use Rattle.session_language.specs.Meaning.{alone, begun, ending_of, Goes};
 ghost use Rattle.serial_replay.specs.refinement.WalkRefinement as walk;
 
-use crate::environment::{Environment, Slot};
+use crate::environment::Environment;
 use crate::stop::Stop;
 use crate::walk::walk_all;
 use bottle_values::Value;
 use office_map::RecordId;
-use session_language::{End, Ending, Gives, Program, RecordValues};
+use session_language::{End, Ending, Gives, Program, RecordValues, Variables, WorkingCopy};
 use std::alloc::{AllocError, Global};
 
 #[tactic(auto, unfolding(session_language::specs::Meaning::alone))]
@@ -24,7 +23,7 @@ pub fn alone(alloc: Global, program: &Program, values: &[Value]) -> Result<Endin
     let mut environment = begun(alloc, program, &reads)?;
     let mut stack = Vec::new(alloc);
     match walk_all(&mut environment, &mut stack, program.tree()) {
-        Ok(()) => done(alloc, reads, environment),
+        Ok(()) => Ok(done(reads, environment)),
         Err(Stop::Ended(end)) => Ok(Ending {
             end,
             reads,
@@ -49,58 +48,29 @@ fn reads_of(alloc: Global, needs: &[RecordId], values: &[Value]) -> Result<Recor
 
 /// What a session has as it begins.
 fn begun(alloc: Global, program: &Program, reads: &RecordValues) -> Result<Environment, AllocError>
-    requires { IsStrictlyIncreasing (map (λ x. x.0) reads.now) }
     ensures { IfOk result (λ d. walk.environment_of d ≡ begun program.now reads.now) }
 {
-    let slots = slots_of(alloc, reads.as_slice())?;
-    let variables = vec![in alloc; Value { number: 0 }; program.variables().len()]?;
     Ok(Environment {
-        slots,
-        variables,
+        records: WorkingCopy::of(alloc, reads)?,
+        variables: Variables::of(alloc, program.variables().len())?,
         gives: Gives::new(alloc),
     })
 }
 
-fn slots_of(alloc: Global, reads: &[(RecordId, Value)]) -> Result<Vec<Slot>, AllocError>
-    ensures { IfOk result (λ v. map walk.slot_of v.items ≡ map slot_of reads.now) }
+/// How a session ended that wasn't ended early.
+fn done(reads: RecordValues, environment: Environment) -> Ending
+    ensures { result ≡ ending_of reads (Goes (walk.environment_of environment)) }
 {
-    let mut slots = Vec::with_capacity(alloc, reads.len())?;
-    for (id, value) in reads {
-        slots.push(Slot {
-            id: *id,
-            value: *value,
-            is_set: false,
-        })?;
-    }
-    Ok(slots)
-}
-
-fn done(alloc: Global, reads: RecordValues, environment: Environment) -> Result<Ending, AllocError>
-    ensures { IfOk result (λ e. e ≡ ending_of reads (Goes (walk.environment_of environment))) }
-{
-    let writes = writes_of(alloc, &environment.slots)?;
     let Environment {
-        slots: _,
+        records,
         variables: _,
         gives,
     } = environment;
-    Ok(Ending {
+    let writes = records.into_writes();
+    Ending {
         end: End::Done,
         reads,
         writes,
         gives,
-    })
-}
-
-/// The records that were set, with their last values.
-fn writes_of(alloc: Global, slots: &[Slot]) -> Result<RecordValues, AllocError>
-    ensures { IfOk result (λ w. w ≡ writes_of (map walk.slot_of slots.now)) }
-{
-    let mut writes = RecordValues::new(alloc);
-    for slot in slots {
-        if slot.is_set {
-            writes.push(slot.id, slot.value)?;
-        }
     }
-    Ok(writes)
 }

@@ -1,19 +1,14 @@
 //! Expressions worked out.
 
-ghost use Rattle.std.specs.Prelude.{◌≡◌, ◌<◌, ◌≤◌, ◌∷◌, ℕ, IfOk, map, length, get_or, reverse, if◌then◌else◌, Some, None, true};
-ghost use Rattle.std.specs.List.Sorted.{IsStrictlyIncreasing};
+ghost use Rattle.std.specs.Prelude.{◌≡◌, ◌∷◌, IfOk, reverse, if◌then◌else◌, Some, None, true};
 ghost use Rattle.std.specs.Result.{result_ok};
-ghost use Rattle.std.specs.List.{slice_index_or};
-ghost use Rattle.session_language.specs.Meaning.{value_in, apply, value_of};
-ghost use Rattle.bottle_values.specs.Arithmetic.{nought};
+ghost use Rattle.session_language.specs.Meaning.{value_of};
 ghost use Rattle.serial_replay.specs.refinement.PostfixEvaluation.{after_node, on_top};
-ghost use Rattle.serial_replay.specs.refinement.WalkRefinement.{slot_of, environment_of};
-ghost use Rattle.serial_replay.specs.declared.environment.Slot as code_slot;
+ghost use Rattle.serial_replay.specs.refinement.WalkRefinement.{environment_of};
 
-use crate::environment::{Environment, Slot};
+use crate::environment::Environment;
 use bottle_values::{Overflow, Value};
-use office_map::RecordId;
-use session_language::{Expression, Node, Operator};
+use session_language::{Expression, Node};
 use std::alloc::AllocError;
 
 /// The value of an expression, worked out on a stack that is handed in for its memory. None where
@@ -44,8 +39,8 @@ fn after_node(
 {
     match node {
         Node::Literal(value) => push(stack, value),
-        Node::Variable(place) => push(stack, value_at(&environment.variables, place)),
-        Node::Read(id) => push(stack, value_in(&environment.slots, id)),
+        Node::Variable(place) => push(stack, environment.variables.value(place)),
+        Node::Read(id) => push(stack, environment.records.value(id)),
         Node::Negate => {
             let Some(value) = stack.pop() else {
                 return Ok(false);
@@ -59,7 +54,7 @@ fn after_node(
             let Some(left) = stack.pop() else {
                 return Ok(false);
             };
-            push_result(stack, apply(operator, left, right))
+            push_result(stack, operator.apply(left, right))
         }
     }
 }
@@ -77,58 +72,5 @@ fn push_result(stack: &mut Vec<Value>, value: Result<Value, Overflow>) -> Result
     match value {
         Ok(value) => push(stack, value),
         Err(_) => Ok(false),
-    }
-}
-
-fn value_at(values: &[Value], place: u8) -> Value
-    ensures { result ≡ slice_index_or values.now place nought }
-{
-    let place = place as usize;
-    if place < values.len() {
-        values[place]
-    } else {
-        Value { number: 0 }
-    }
-}
-
-/// The value of a record in the session's copy.
-fn value_in(slots: &[Slot], id: RecordId) -> Value
-    requires { IsStrictlyIncreasing (map (λ s. s.id) slots.now) }
-    ensures { result ≡ value_in (map slot_of slots.now) id }
-{
-    let place = place_of(slots, id);
-    if place < slots.len() && slots[place].id == id {
-        slots[place].value
-    } else {
-        Value { number: 0 }
-    }
-}
-
-/// How many slots are of records before this one.
-fn place_of(slots: &[Slot], id: RecordId) -> usize
-    requires { IsStrictlyIncreasing (map (λ s. s.id) slots.now) }
-    ensures before { (k : ℕ) (d : code_slot.Slot) → k < result → (get_or slots.now k d).id < id }
-    ensures after { (k : ℕ) (d : code_slot.Slot) → result ≤ k → k < length slots.now → id ≤ (get_or slots.now k d).id }
-{
-    let mut low = 0;
-    let mut high = slots.len();
-    while low < high {
-        let middle = low + (high - low) / 2;
-        if slots[middle].id.index() < id.index() {
-            low = middle + 1;
-        } else {
-            high = middle;
-        }
-    }
-    low
-}
-
-fn apply(operator: Operator, a: Value, b: Value) -> Result<Value, Overflow>
-    ensures { result_ok result ≡ apply operator a b }
-{
-    match operator {
-        Operator::Plus => a.add(b),
-        Operator::Minus => a.sub(b),
-        Operator::Times => a.mul(b),
     }
 }

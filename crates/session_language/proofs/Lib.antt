@@ -11,3 +11,4 @@ pub mod session_reading
 pub mod needed_records
 pub mod LongestMatch
 pub mod LineGrammar
+pub mod working_copies

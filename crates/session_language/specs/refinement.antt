@@ -11,3 +11,4 @@ pub mod Postfix
 pub mod KeptDraft
 pub mod Extent
 pub mod PartsRefinement
+pub mod CopiedSlots

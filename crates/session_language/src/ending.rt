@@ -42,6 +42,13 @@ impl RecordValues {
         }
     }
 
+    /// These records with their values, in the same memory.
+    pub(crate) fn of(records: Vec<(RecordId, Value)>) -> RecordValues
+        ensures { result ≡ records.items }
+    {
+        RecordValues { records }
+    }
+
     /// Adds a record with its value at the end. Where memory runs out the list is as it was.
     pub fn push(&mut self, id: RecordId, value: Value) -> Result<(), AllocError>
         ensures pushed { OnOk result (self.new ≡ self.old ++ (id, value) ∷ []) }
@@ -91,6 +98,13 @@ impl Gives {
         Gives {
             values: Vec::new(alloc),
         }
+    }
+
+    /// These values, in the same memory.
+    pub fn of(values: Vec<Value>) -> Gives
+        ensures { result ≡ values.items }
+    {
+        Gives { values }
     }
 
     /// Adds a value at the end. Where memory runs out the list is as it was.

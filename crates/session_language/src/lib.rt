@@ -40,6 +40,7 @@ mod read;
 mod reader;
 mod scope;
 mod sizes;
+mod slots;
 mod spoken;
 mod summary;
 #[cfg(test)]
@@ -47,7 +48,9 @@ mod tests;
 mod text;
 mod token;
 mod tree;
+mod variables;
 mod words;
+mod working_copy;
 
 pub use crate::ending::{End, Ending, Gives, Outcome, RecordValues};
 pub use crate::expression::Expression;
@@ -56,3 +59,5 @@ pub use crate::node::{Comparison, Node, Operator};
 pub use crate::program::Program;
 pub use crate::read::read_sessions;
 pub use crate::tree::{Condition, Statement};
+pub use crate::variables::Variables;
+pub use crate::working_copy::WorkingCopy;

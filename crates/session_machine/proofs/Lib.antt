@@ -6,5 +6,4 @@ pub mod EndsAtLength
 pub mod WorkInPieces
 pub mod ProgramsHaveRoom
 pub mod InstructionCounts
-pub mod RecordLookup
 pub mod WorkPhases

@@ -2,6 +2,5 @@ pub mod Instructions
 pub mod Emission
 pub mod Session
 pub mod Work
-pub mod EnvironmentOfCode
 pub mod StateOfCode
 pub mod PhaseOfCode

@@ -12,8 +12,8 @@
 #![tactic(auto)]
 
 mod code;
+mod ended;
 mod environment;
-mod finished;
 mod instruction;
 pub mod laws;
 mod machine;
@@ -25,6 +25,5 @@ mod tests;
 mod work;
 
 pub use crate::code::Code;
-pub use crate::finished::Finished;
 pub use crate::progress::Progress;
 pub use crate::work::Work;

@@ -358,11 +358,11 @@ fn describe_work(
     let Progress::Ended = work.step(code, 5) else {
         return text.push_str("running again");
     };
-    let Some(finished) = work.ending() else {
+    let Some(ending) = work.ending() else {
         return text.push_str("no ending");
     };
-    describe(text, &finished.copy(alloc)?)?;
-    describe(text, &work.into_ending(alloc)?)
+    describe(text, ending)?;
+    describe(text, &work.into_ending())
 }
 
 fn describe(text: &mut String, ending: &Ending) -> Result<(), AllocError> {

@@ -11,7 +11,7 @@ ghost use Rattle.session_machine.specs.Progress.{progress_by};
 ghost use Rattle.session_machine.specs.refinement.Work.{code_of, begun_on, piece, work_of, ending_in, IsOver};
 
 use crate::code::Code;
-use crate::finished::Finished;
+use crate::ended::ended;
 use crate::machine::{opened, tick_all};
 use crate::phase::Phase;
 use crate::progress::Progress;
@@ -23,6 +23,7 @@ use std::mem;
 /// Work on a session.
 #[derive(Drop)]
 pub struct Work {
+    alloc: Global,
     phase: Phase,
 }
 
@@ -45,6 +46,7 @@ impl Work {
     {
         let state = opened(alloc, code, &reads)?;
         Ok(Work {
+            alloc,
             phase: Phase::AtWork(reads, state),
         })
     }
@@ -64,12 +66,12 @@ impl Work {
                     Progress::Running
                 }
                 Some(end) => {
-                    self.phase = Phase::Over(Finished::of(end, reads, state.environment));
+                    self.phase = Phase::Over(ended(self.alloc, end, reads, state.environment));
                     Progress::Ended
                 }
             },
-            Phase::Over(finished) => {
-                self.phase = Phase::Over(finished);
+            Phase::Over(ending) => {
+                self.phase = Phase::Over(ending);
                 Progress::Ended
             }
             Phase::Moved => Progress::Running,
@@ -77,25 +79,25 @@ impl Work {
     }
 
     /// How the session ended, if it has.
-    pub fn ending(&self) -> Option<&Finished>
+    pub fn ending(&self) -> Option<&Ending>
         ensures shown { option_copied result ≡ ending_in self.now }
         ensures ending { (p : ProgramValue) (reads : List (ℕ × bottle.Value)) (k : ℕ) → HasRoom p → self.now ≡ work_of p reads k → option_copied result ≡ ending_after p reads k }
         ensures over { IsSome result ↔ IsOver self.now }
     {
         match &self.phase {
-            Phase::Over(finished) => Some(finished),
+            Phase::Over(ending) => Some(ending),
             _ => None,
         }
     }
 
     /// How the session ended, once it has.
-    pub fn into_ending(self, alloc: Global) -> Result<Ending, AllocError>
+    pub fn into_ending(self) -> Ending
         requires { IsOver self }
-        ensures shown { IfOk result (λ e. Some e ≡ ending_in self) }
-        ensures ending { (p : ProgramValue) (reads : List (ℕ × bottle.Value)) (k : ℕ) → HasRoom p → self ≡ work_of p reads k → IfOk result (λ e. e ≡ alone p reads) }
+        ensures shown { Some result ≡ ending_in self }
+        ensures ending { (p : ProgramValue) (reads : List (ℕ × bottle.Value)) (k : ℕ) → HasRoom p → self ≡ work_of p reads k → result ≡ alone p reads }
     {
         match self.phase {
-            Phase::Over(finished) => finished.copy(alloc),
+            Phase::Over(ending) => ending,
             _ => unreachable!(),
         }
     }

@@ -1,18 +1,14 @@
 -- What a walk leaves, in the words of a session's meaning.
-use Rattle.std.specs.Prelude.{◌≡◌, map, Result, Ok, Err}
+use Rattle.std.specs.Prelude.{◌≡◌, Result, Ok, Err}
 use Rattle.session_language.specs.Meaning as meaning
 use Rattle.session_language.specs.Meaning.{Step, Goes, Ends}
-use Rattle.serial_replay.specs.declared.environment.Slot as code_slot
 use Rattle.serial_replay.specs.declared.environment.Environment.{Environment}
 use Rattle.serial_replay.specs.declared.stop.Stop.{Stop}
 use Rattle.serial_replay.specs.declared.stop.Stop.TheVariants.{Ended, Memory}
 
-abbrev pub slot_of : code_slot.Slot → meaning.Slot
-slot_of s = record { r = s.id; value = s.value; is_set = s.is_set }
-
--- a environment without where it lies in memory
+-- an environment without where it lies in memory
 abbrev pub environment_of : Environment → meaning.Environment
-environment_of d = record { slots = map slot_of d.slots.items; variables = d.variables.items; gives = d.gives }
+environment_of d = record { slots = d.records; variables = d.variables; gives = d.gives }
 
 -- the code did this step, unless memory ran out
 abbrev pub Leaves : {T : Type 0} → Result T Stop → Environment → Step → Type 0

@@ -106,7 +106,7 @@ fn ends_as(
         assert!(rt; false, "no ending");
         return Ok(());
     };
-    let ending = work.into_ending(alloc)?;
+    let ending = work.into_ending();
     assert_eq!(rt; ending.end, end);
     assert_eq!(rt; ending.reads.as_slice(), reads.as_slice());
     let mut writes = Vec::new(alloc);

@@ -1,9 +1,9 @@
 use Rattle.std.proofs.Common.{◌∙◌, sym}
 use Rattle.serial_replay.proofs.alone.reads_of.Goals as goal
-use Rattle.serial_replay.proofs.RecordSlots as slots
+use Rattle.serial_replay.proofs.ReadsInOrder.{zip_more}
 
 pub loop-i-preserved : goal.loop-i-preserved
 loop-i-preserved c =
     let p = rw c.loop-i.invariant at c.in_ok-push.ensures.pushed in
     let q = rw c.index-needs-i.is at p in
-    q ∙ sym (slots.zip_more c.args.needs.now c.args.values.now c.loop-i.i c.index-needs-i.result _ c.loop-i-test.true c.requires)
+    q ∙ sym (zip_more c.args.needs.now c.args.values.now c.loop-i.i c.index-needs-i.result _ c.loop-i-test.true c.requires)

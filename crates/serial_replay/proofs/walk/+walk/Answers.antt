@@ -6,7 +6,6 @@ use Rattle.session_language.specs.declared.tree.Statement.TheViews.{the_lemmas}
 use Rattle.session_language.proofs.TreeErasure.{row_block_is}
 use Rattle.serial_replay.specs.refinement.WalkRefinement.{environment_of}
 use Rattle.serial_replay.proofs.LoopTurns.{repeated_more, repeated_stops}
-use Rattle.serial_replay.proofs.RecordSlots.{order_kept}
 use Rattle.serial_replay.proofs.walk.+walk.Goals as goal
 
 pub walk-loop-init : goal.walk-loop-init
@@ -28,6 +27,3 @@ walk-returns-in_err-walk_all-in-Repeat t c =
 
 pub walk-loop-preserved : goal.walk-loop-preserved
 walk-loop-preserved t c = repeated_more c.in-Repeat.turns c.loop.counter (block (block_of c.in-Repeat.body.items)) (environment_of c.loop.environment) (environment_of c.walk_all-in-loop.new.environment) _ c.loop-test.true (rw c.deref-in-loop.ensures.value at c.in_ok-walk_all-in-Repeat.ensures) c.loop.invariant
-
-pub walk-invariant_of-environment-in-Set : goal.walk-invariant_of-environment-in-Set
-walk-invariant_of-environment-in-Set t c = record { in_order = order_kept c.args.environment.now.slots.items c.set_record.new.slots.items c.in-Set.id c.in-Some-2.value c.set_record.ensures c.args.environment.now.in_order }

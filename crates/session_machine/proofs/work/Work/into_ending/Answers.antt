@@ -1,10 +1,7 @@
 use Rattle.std.proofs.Common.{sym, ap, ◌∙◌}
 use Rattle.session_machine.specs.refinement.PhaseOfCode.{work_in}
-use Rattle.session_machine.proofs.WorkPhases.{ended_with, copied}
+use Rattle.session_machine.proofs.WorkPhases.{ended_with}
 use Rattle.session_machine.proofs.work.Work.into_ending.Goals as goal
 
 pub returns-clause-ending : goal.returns-clause-ending
-returns-clause-ending c p reads k room e =
-    let whole = ended_with p reads k c.in-Over.finished c.args.self room (ap work_in (sym c.in-Over.is) ∙ c.self.view_is) e in
-    let is = c.in-Over.finished-is in
-    copied c.copy.result _ _ c.copy.ensures (is ∙ whole)
+returns-clause-ending c p reads k room e = c.in-Over.ending-is ∙ ended_with p reads k c.in-Over.ending c.args.self room (ap work_in (sym c.in-Over.is) ∙ c.self.view_is) e

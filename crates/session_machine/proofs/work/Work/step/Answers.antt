@@ -20,7 +20,7 @@ returns-in-None-clause-progress c p reads k room ec eo = progress_is p reads k c
 pub returns-in-Some-clause-piece : goal.returns-in-Some-clause-piece
 returns-in-Some-clause-piece c =
     let old : AtWork c.in-AtWork.reads (state_of c.in-AtWork.state) ≡ c.args.self.now = ap work_in (sym c.in-AtWork.is ∙ c.replace.ensures.value) ∙ c.self.view_is in
-    ended_whole _ _ _ c.of.ensures (piece_is c.args.code.now c.args.n c.args.self.now c.lines.result.now c.in-AtWork.reads (state_of c.in-AtWork.state) _ c.lines.ensures old c.in-Some.ensures)
+    ended_whole _ _ _ c.ended.ensures (piece_is c.args.code.now c.args.n c.args.self.now c.lines.result.now c.in-AtWork.reads (state_of c.in-AtWork.state) _ c.lines.ensures old c.in-Some.ensures)
 
 pub returns-in-Some-clause-work : goal.returns-in-Some-clause-work
 returns-in-Some-clause-work c p reads k ec eo = work_adds p reads k c.args.n c.args.code.now c.args.self.now _ (returns-in-Some-clause-piece c) ec eo
@@ -30,8 +30,8 @@ returns-in-Some-clause-progress c p reads k room ec eo = progress_is p reads k c
 
 pub returns-in-Over-clause-piece : goal.returns-in-Over-clause-piece
 returns-in-Over-clause-piece c =
-    let old : HasEnded c.in-Over.finished ≡ c.args.self.now = ap work_in (sym c.in-Over.is ∙ c.replace.ensures.value) ∙ c.self.view_is in
-    ended_stays c.args.code.now c.args.n c.in-Over.finished c.args.self.now old
+    let old : HasEnded c.in-Over.ending ≡ c.args.self.now = ap work_in (sym c.in-Over.is ∙ c.replace.ensures.value) ∙ c.self.view_is in
+    ended_stays c.args.code.now c.args.n c.in-Over.ending c.args.self.now old
 
 pub returns-in-Over-clause-work : goal.returns-in-Over-clause-work
 returns-in-Over-clause-work c p reads k ec eo = work_adds p reads k c.args.n c.args.code.now c.args.self.now _ (returns-in-Over-clause-piece c) ec eo

@@ -1,0 +1,2 @@
+pub mod RecordLookup
+pub mod SortedSlots

@@ -1,0 +1,57 @@
+//! A session's variables.
+
+use bottle_values::Value;
+use std::alloc::{AllocError, Global};
+use std::marker::Model;
+
+/// The values of a session's variables, by place. Contracts see the list.
+#[derive(Debug, Drop)]
+pub struct Variables {
+    values: Vec<Value>,
+}
+
+impl Model for Variables {
+    ghost use Rattle.std.specs.Prelude.{List};
+    ghost use Rattle.bottle_values.specs.declared.Value as bottle;
+
+    ghost Value = { List bottle.Value };
+
+    ghost view = { λ v. v.values.items };
+}
+
+impl Variables {
+    ghost use Rattle.std.specs.Prelude.{◌≡◌, IfOk, replicate, slice_set};
+    ghost use Rattle.std.specs.List.{slice_index_or};
+    ghost use Rattle.bottle_values.specs.Arithmetic.{nought};
+
+    /// So many variables, each 0.
+    pub fn of(alloc: Global, count: usize) -> Result<Variables, AllocError>
+        ensures { IfOk result (λ v. v ≡ replicate count nought) }
+    {
+        Ok(Variables {
+            values: vec![in alloc; Value { number: 0 }; count]?,
+        })
+    }
+
+    /// The value of a variable, and 0 of one that isn't there.
+    pub fn value(&self, place: u8) -> Value
+        ensures { result ≡ slice_index_or self.now place nought }
+    {
+        let place = place as usize;
+        if place < self.values.len() {
+            self.values[place]
+        } else {
+            Value { number: 0 }
+        }
+    }
+
+    /// Sets a variable, if it is there.
+    pub fn set(&mut self, place: u8, value: Value)
+        ensures { self.new ≡ slice_set self.old place value }
+    {
+        let place = place as usize;
+        if place < self.values.len() {
+            self.values[place] = value;
+        }
+    }
+}
