@@ -4,38 +4,25 @@ ghost use Rattle.bottle_values.specs.Lists.{is_among};
 
 use super::*;
 use bottle_values::Value;
-use dining_core::{NotNow, Table};
+use dining_core::Table;
 use office_map::{OfficeId, Plan, RecordId};
 use std::alloc::{AllocError, Global};
 use std::fmt::Write;
 use std::process::Abort;
-use std::test::Fail;
 
 const TWO_OFFICES: &str =
     "plan 1 run 42\noffice a -\noffice b -\npair a b fork a\nrecord x a b 100 at a\nrecord y a b 0 at b\n";
 
-fn a() -> OfficeId
+fn office_a() -> OfficeId
     ensures { result ≡ 0 }
 {
     OfficeId::new(0)
 }
 
-fn b() -> OfficeId
+fn office_b() -> OfficeId
     ensures { result ≡ 1 }
 {
     OfficeId::new(1)
-}
-
-fn x() -> RecordId {
-    RecordId::new(0)
-}
-
-fn y() -> RecordId {
-    RecordId::new(1)
-}
-
-fn value(number: i64) -> Option<Value> {
-    Some(Value::from(number))
 }
 
 /// An office's bottles and forks.
@@ -45,18 +32,235 @@ struct Seat {
     table: Table,
 }
 
-fn seated(rt: &impl Abort, alloc: Global, plan: &Plan, id: OfficeId) -> Result<Seat, Fail> {
+fn seated(rt: &impl Abort, alloc: Global, plan: &Plan, id: OfficeId) -> Seat {
     assert!(rt; id.index() < plan.offices());
-    let bar = Bar::open(alloc, plan, id)?;
-    let table = Table::open(alloc, plan, id)?;
-    Ok(Seat { bar, table })
+    let bar = Bar::open(alloc, plan, id).expect(rt, "memory");
+    let table = Table::open(alloc, plan, id).expect(rt, "memory");
+    Seat { bar, table }
 }
 
-fn seats(rt: &impl Abort, alloc: Global) -> Result<(Seat, Seat), Fail> {
+/// The two offices of the plan.
+#[derive(Drop)]
+struct TwoSeats {
+    a: Seat,
+    b: Seat,
+}
+
+fn seats(rt: &impl Abort, alloc: Global) -> TwoSeats {
     let plan = Plan::read(alloc, TWO_OFFICES.as_bytes()).expect(rt, "the plan is accepted");
-    let at_a = seated(rt, alloc, &plan, a())?;
-    let at_b = seated(rt, alloc, &plan, b())?;
-    Ok((at_a, at_b))
+    let at_a = seated(rt, alloc, &plan, office_a());
+    let at_b = seated(rt, alloc, &plan, office_b());
+    TwoSeats { a: at_a, b: at_b }
+}
+
+#[derive(Clone, Copy)]
+enum Office {
+    A,
+    B,
+}
+
+/// A rule, something that comes, or a question. Records go by number: x is 0 and y is 1.
+#[derive(Clone, Copy)]
+enum Step {
+    /// Both offices are as the plan starts.
+    Opens,
+    /// The fork of a and b goes from a to b, which asks for it.
+    ForkGoesOver,
+    Does(Rule),
+    TokenComes(u16),
+    BottleComes(u16, i64),
+    Asks(Question),
+}
+
+#[derive(Clone, Copy)]
+enum Rule {
+    /// No session waits.
+    StartsNone,
+    /// A session starts that needs no record.
+    StartsEmpty,
+    /// A session starts that needs this record.
+    Starts(u16),
+    AsksBottle(u16),
+    GivesBottle(u16),
+    Drinks,
+    /// The session's work hasn't ended.
+    FinishesNone,
+    /// It ends with the first so many of these writes.
+    Finishes(usize, (u16, i64), (u16, i64), (u16, i64)),
+}
+
+#[derive(Clone, Copy)]
+enum Question {
+    Records,
+    Tranquil,
+    Needs(u16),
+    HasNeeded,
+    Holds(u16),
+    HasToken(u16),
+    HasValue(u16, i64),
+    HasNoValue(u16),
+}
+
+use Office::{A, B};
+use Question::{HasNeeded, HasNoValue, HasToken, HasValue, Holds, Needs, Records, Tranquil};
+use Rule::{
+    AsksBottle, Drinks, Finishes, FinishesNone, GivesBottle, Starts, StartsEmpty, StartsNone,
+};
+use Step::{Asks, BottleComes, Does, ForkGoesOver, Opens, TokenComes};
+
+/// Where a step is, and whether it is done, or the answer to the question.
+static STEPS: [(Office, Step, bool); 84] = [
+    // A bottle starts where the plan says.
+    (A, Opens, true),
+    (A, Asks(Records), true),
+    (A, Asks(HasValue(0, 100)), true),
+    (A, Asks(HasNoValue(1)), true),
+    (B, Asks(HasNoValue(0)), true),
+    (B, Asks(HasValue(1, 0)), true),
+    (A, Asks(HasToken(1)), true),
+    (A, Asks(HasToken(0)), false),
+    (A, Asks(Holds(0)), true),
+    (A, Asks(Holds(1)), false),
+    (A, Asks(Tranquil), true),
+    (A, Asks(Needs(0)), false),
+    // A session gets its bottle and writes.
+    (A, Opens, true),
+    (A, Does(Starts(1)), true),
+    (A, Does(AsksBottle(1)), true),
+    (B, TokenComes(1), true),
+    (B, Does(GivesBottle(1)), true),
+    (A, BottleComes(1, 0), true),
+    (A, Asks(HasValue(1, 0)), true),
+    (B, Asks(HasNoValue(1)), true),
+    (A, Asks(Needs(1)), true),
+    (A, Asks(HasNeeded), true),
+    (A, Does(Drinks), true),
+    (A, Does(Finishes(3, (0, 70), (1, 20), (1, 30))), true),
+    (A, Asks(HasValue(0, 70)), true),
+    (A, Asks(HasValue(1, 30)), true),
+    (A, Asks(Tranquil), true),
+    (A, Asks(Needs(1)), false),
+    // What is written without its bottle is lost.
+    (A, Opens, true),
+    (A, Does(StartsEmpty), true),
+    (A, Does(Drinks), true),
+    (A, Does(Finishes(2, (1, 7), (2, 8), (0, 0))), true),
+    (A, Asks(HasValue(0, 100)), true),
+    (A, Asks(HasNoValue(1)), true),
+    (A, Does(Starts(1)), true),
+    (A, Does(AsksBottle(1)), true),
+    (B, TokenComes(1), true),
+    (B, Does(GivesBottle(1)), true),
+    (A, BottleComes(1, 0), true),
+    (A, Asks(HasValue(1, 0)), true),
+    // A rule waits for its phase.
+    (A, Opens, true),
+    (A, Does(StartsNone), false),
+    (A, Does(AsksBottle(1)), false),
+    (A, Does(Drinks), false),
+    (A, Does(Finishes(0, (0, 0), (0, 0), (0, 0))), false),
+    (A, Does(Starts(0)), true),
+    (A, Does(StartsEmpty), false),
+    (A, Does(Finishes(0, (0, 0), (0, 0), (0, 0))), false),
+    (A, Does(Drinks), true),
+    (A, Does(Drinks), false),
+    (A, Does(FinishesNone), false),
+    // Only a missing bottle is asked for, and once.
+    (A, Opens, true),
+    (A, Does(Starts(1)), true),
+    (A, Does(Drinks), false),
+    (A, Does(AsksBottle(0)), false),
+    (A, Does(AsksBottle(1)), true),
+    (A, Does(AsksBottle(1)), false),
+    (B, Does(Starts(1)), true),
+    (B, Does(AsksBottle(0)), false),
+    (B, Does(AsksBottle(1)), false),
+    // A bottle is given once, and where it is asked for.
+    (A, Opens, true),
+    (A, Does(GivesBottle(0)), false),
+    (A, Does(GivesBottle(1)), false),
+    (A, TokenComes(0), true),
+    (A, Does(GivesBottle(0)), true),
+    (A, Does(GivesBottle(0)), false),
+    (A, Asks(HasToken(0)), true),
+    (B, Asks(Holds(0)), false),
+    // A needed bottle stays with the fork.
+    (A, Opens, true),
+    (A, TokenComes(0), true),
+    (A, Does(Starts(0)), true),
+    (A, Does(GivesBottle(0)), false),
+    (A, ForkGoesOver, true),
+    (A, Does(GivesBottle(0)), true),
+    (A, Does(Drinks), false),
+    // A bottle in use stays without the fork.
+    (A, Opens, true),
+    (A, TokenComes(0), true),
+    (A, Does(Starts(0)), true),
+    (A, Does(Drinks), true),
+    (A, ForkGoesOver, true),
+    (A, Does(GivesBottle(0)), false),
+    (A, Does(Finishes(1, (0, 9), (0, 0), (0, 0))), true),
+    (A, Asks(HasValue(0, 9)), true),
+    (A, Does(GivesBottle(0)), true),
+];
+
+#[test]
+fn each_step_does_what_its_row_says(rt: HostRuntime) {
+    let mut seats = seats(&rt, rt.alloc());
+    for (row, (at, step, expected)) in STEPS.iter().enumerate() {
+        let told = match *step {
+            Step::Opens => opens(&rt, rt.alloc(), &mut seats),
+            Step::ForkGoesOver => fork_goes_over(&rt, &mut seats.a.table, &mut seats.b.table),
+            _ => match *at {
+                Office::A => happens(&rt, &mut seats.a, *step),
+                Office::B => happens(&rt, &mut seats.b, *step),
+            },
+        };
+        assert!(rt; told == *expected, "row {row}");
+    }
+}
+
+fn opens(rt: &impl Abort, alloc: Global, seats: &mut TwoSeats) -> bool {
+    *seats = self::seats(rt, alloc);
+    true
+}
+
+// The fork of a and b goes from a to b.
+fn fork_goes_over(rt: &impl Abort, at_a: &mut Table, at_b: &mut Table) -> bool {
+    let b = office_b();
+    assert!(rt; at_b.hungry(true).is_ok() && at_b.ask_fork(office_a()).is_ok());
+    assert!(rt; at_a.neighbours().iter().any(|u| *u == b) && !at_a.has_token(b));
+    at_a.got_token(b);
+    at_a.give_fork(b).is_ok()
+}
+
+// Whether a step of one office is done, or the answer to its question.
+fn happens(rt: &impl Abort, seat: &mut Seat, step: Step) -> bool {
+    match step {
+        Step::Does(rule) => does(rt, seat, rule),
+        Step::TokenComes(r) => token_comes(rt, &mut seat.bar, RecordId::new(r)),
+        Step::BottleComes(r, number) => {
+            bottle_comes(rt, &mut seat.bar, RecordId::new(r), Value::from(number))
+        }
+        Step::Asks(question) => answer(&seat.bar, question),
+        _ => false,
+    }
+}
+
+fn does(rt: &impl Abort, seat: &mut Seat, rule: Rule) -> bool {
+    match rule {
+        Rule::StartsNone => seat.bar.start(None).is_ok(),
+        Rule::StartsEmpty => seat.bar.start(Some(&[])).is_ok(),
+        Rule::Starts(r) => starts(rt, &mut seat.bar, RecordId::new(r)),
+        Rule::AsksBottle(r) => seat.bar.ask_bottle(RecordId::new(r)).is_ok(),
+        Rule::GivesBottle(r) => seat.bar.give_bottle(RecordId::new(r), &seat.table).is_ok(),
+        Rule::Drinks => seat.bar.drink().is_ok(),
+        Rule::FinishesNone => seat.bar.finish(None).is_ok(),
+        Rule::Finishes(count, first, second, third) => {
+            let writes = [entry(first), entry(second), entry(third)];
+            finishes(rt, &mut seat.bar, count, &writes)
+        }
+    }
 }
 
 fn has_record(bar: &Bar, r: RecordId) -> bool
@@ -65,164 +269,43 @@ fn has_record(bar: &Bar, r: RecordId) -> bool
     bar.records().iter().any(|q| *q == r)
 }
 
-// A session starts that needs one record.
-fn starts(rt: &impl Abort, bar: &mut Bar, r: RecordId) {
+fn starts(rt: &impl Abort, bar: &mut Bar, r: RecordId) -> bool {
     assert!(rt; has_record(bar, r));
-    assert_eq!(rt; bar.start(Some(&[r])), Ok(()));
+    bar.start(Some(&[r])).is_ok()
 }
 
-fn token_comes(rt: &impl Abort, bar: &mut Bar, r: RecordId) {
+fn finishes(rt: &impl Abort, bar: &mut Bar, count: usize, writes: &[(RecordId, Value)]) -> bool {
+    assert!(rt; count <= writes.len());
+    bar.finish(Some(&writes[..count])).is_ok()
+}
+
+fn entry((r, number): (u16, i64)) -> (RecordId, Value) {
+    (RecordId::new(r), Value::from(number))
+}
+
+fn token_comes(rt: &impl Abort, bar: &mut Bar, r: RecordId) -> bool {
     assert!(rt; has_record(bar, r) && !bar.has_token(r));
     bar.got_token(r);
+    true
 }
 
-fn bottle_comes(rt: &impl Abort, bar: &mut Bar, r: RecordId, value: Value) {
+fn bottle_comes(rt: &impl Abort, bar: &mut Bar, r: RecordId, value: Value) -> bool {
     assert!(rt; has_record(bar, r) && !bar.holds(r));
     bar.got_bottle(r, value);
+    true
 }
 
-// The fork of a and b goes from a to b.
-fn fork_goes_over(rt: &impl Abort, at_a: &mut Seat, at_b: &mut Seat) {
-    assert_eq!(rt; at_b.table.hungry(true), Ok(()));
-    assert_eq!(rt; at_b.table.ask_fork(a()), Ok(()));
-    assert!(rt; at_a.table.neighbours().iter().any(|u| *u == b()) && !at_a.table.has_token(b()));
-    at_a.table.got_token(b());
-    assert_eq!(rt; at_a.table.give_fork(b()), Ok(()));
-}
-
-// A session of a's that needs y gets y's bottle from b.
-fn gets_y(rt: &impl Abort, at_a: &mut Seat, at_b: &mut Seat) {
-    starts(rt, &mut at_a.bar, y());
-    assert_eq!(rt; at_a.bar.ask_bottle(y()), Ok(()));
-    token_comes(rt, &mut at_b.bar, y());
-    assert_eq!(rt; at_b.bar.give_bottle(y(), &at_b.table), Ok(()));
-    bottle_comes(rt, &mut at_a.bar, y(), Value::from(0));
-}
-
-#[test]
-fn a_bottle_starts_where_the_plan_says(rt: HostRuntime) -> Result<(), Fail> {
-    let (at_a, at_b) = seats(&rt, rt.alloc())?;
-    assert_eq!(rt; at_a.bar.records(), [x(), y()].as_slice());
-    assert_eq!(rt;
-        (at_a.bar.value(x()), at_a.bar.value(y())),
-        (value(100), None)
-    );
-    assert_eq!(rt;
-        (at_b.bar.value(x()), at_b.bar.value(y())),
-        (None, value(0))
-    );
-    assert!(rt; at_a.bar.has_token(y()) && !at_a.bar.has_token(x()));
-    assert!(rt; at_a.bar.holds(x()) && !at_a.bar.holds(y()));
-    assert!(rt; matches!(at_a.bar.phase(), Phase::Tranquil) && !at_a.bar.needs(x()));
-    Ok(())
-}
-
-#[test]
-fn a_session_gets_its_bottle_and_writes(rt: HostRuntime) -> Result<(), Fail> {
-    let (mut at_a, mut at_b) = seats(&rt, rt.alloc())?;
-    gets_y(&rt, &mut at_a, &mut at_b);
-    assert_eq!(rt;
-        (at_a.bar.value(y()), at_b.bar.value(y())),
-        (value(0), None)
-    );
-    assert!(rt; at_a.bar.needs(y()) && at_a.bar.has_needed());
-    assert_eq!(rt; at_a.bar.drink(), Ok(()));
-    let writes = [
-        (x(), Value::from(70)),
-        (y(), Value::from(20)),
-        (y(), Value::from(30)),
-    ];
-    assert_eq!(rt; at_a.bar.finish(Some(&writes)), Ok(()));
-    assert_eq!(rt;
-        (at_a.bar.value(x()), at_a.bar.value(y())),
-        (value(70), value(30))
-    );
-    assert!(rt; matches!(at_a.bar.phase(), Phase::Tranquil) && !at_a.bar.needs(y()));
-    Ok(())
-}
-
-#[test]
-fn what_is_written_without_its_bottle_is_lost(rt: HostRuntime) -> Result<(), Fail> {
-    let (mut at_a, mut at_b) = seats(&rt, rt.alloc())?;
-    assert_eq!(rt; at_a.bar.start(Some(&[])), Ok(()));
-    assert_eq!(rt; at_a.bar.drink(), Ok(()));
-    let writes = [(y(), Value::from(7)), (RecordId::new(2), Value::from(8))];
-    assert_eq!(rt; at_a.bar.finish(Some(&writes)), Ok(()));
-    assert_eq!(rt;
-        (at_a.bar.value(x()), at_a.bar.value(y())),
-        (value(100), None)
-    );
-    gets_y(&rt, &mut at_a, &mut at_b);
-    assert_eq!(rt; at_a.bar.value(y()), value(0));
-    Ok(())
-}
-
-#[test]
-fn a_rule_waits_for_its_phase(rt: HostRuntime) -> Result<(), Fail> {
-    let (mut at_a, _at_b) = seats(&rt, rt.alloc())?;
-    assert_eq!(rt; at_a.bar.start(None), Err(NotNow));
-    assert_eq!(rt; at_a.bar.ask_bottle(y()), Err(NotNow));
-    assert_eq!(rt; at_a.bar.drink(), Err(NotNow));
-    assert_eq!(rt; at_a.bar.finish(Some(&[])), Err(NotNow));
-    starts(&rt, &mut at_a.bar, x());
-    assert_eq!(rt; at_a.bar.start(Some(&[])), Err(NotNow));
-    assert_eq!(rt; at_a.bar.finish(Some(&[])), Err(NotNow));
-    assert_eq!(rt; at_a.bar.drink(), Ok(()));
-    assert_eq!(rt; at_a.bar.drink(), Err(NotNow));
-    assert_eq!(rt; at_a.bar.finish(None), Err(NotNow));
-    Ok(())
-}
-
-#[test]
-fn only_a_missing_bottle_is_asked_for_and_once(rt: HostRuntime) -> Result<(), Fail> {
-    let (mut at_a, mut at_b) = seats(&rt, rt.alloc())?;
-    starts(&rt, &mut at_a.bar, y());
-    assert_eq!(rt; at_a.bar.drink(), Err(NotNow));
-    assert_eq!(rt; at_a.bar.ask_bottle(x()), Err(NotNow));
-    assert_eq!(rt; at_a.bar.ask_bottle(y()), Ok(()));
-    assert_eq!(rt; at_a.bar.ask_bottle(y()), Err(NotNow));
-    starts(&rt, &mut at_b.bar, y());
-    assert_eq!(rt; at_b.bar.ask_bottle(x()), Err(NotNow));
-    assert_eq!(rt; at_b.bar.ask_bottle(y()), Err(NotNow));
-    Ok(())
-}
-
-#[test]
-fn a_bottle_is_given_once_and_where_it_is_asked_for(rt: HostRuntime) -> Result<(), Fail> {
-    let (mut at_a, at_b) = seats(&rt, rt.alloc())?;
-    assert_eq!(rt; at_a.bar.give_bottle(x(), &at_a.table), Err(NotNow));
-    assert_eq!(rt; at_a.bar.give_bottle(y(), &at_a.table), Err(NotNow));
-    token_comes(&rt, &mut at_a.bar, x());
-    assert_eq!(rt; at_a.bar.give_bottle(x(), &at_a.table), Ok(()));
-    assert_eq!(rt; at_a.bar.give_bottle(x(), &at_a.table), Err(NotNow));
-    assert!(rt; at_a.bar.has_token(x()) && !at_b.bar.holds(x()));
-    Ok(())
-}
-
-#[test]
-fn a_needed_bottle_stays_with_the_fork(rt: HostRuntime) -> Result<(), Fail> {
-    let (mut at_a, mut at_b) = seats(&rt, rt.alloc())?;
-    token_comes(&rt, &mut at_a.bar, x());
-    starts(&rt, &mut at_a.bar, x());
-    assert_eq!(rt; at_a.bar.give_bottle(x(), &at_a.table), Err(NotNow));
-    fork_goes_over(&rt, &mut at_a, &mut at_b);
-    assert_eq!(rt; at_a.bar.give_bottle(x(), &at_a.table), Ok(()));
-    assert_eq!(rt; at_a.bar.drink(), Err(NotNow));
-    Ok(())
-}
-
-#[test]
-fn a_bottle_in_use_stays_without_the_fork(rt: HostRuntime) -> Result<(), Fail> {
-    let (mut at_a, mut at_b) = seats(&rt, rt.alloc())?;
-    token_comes(&rt, &mut at_a.bar, x());
-    starts(&rt, &mut at_a.bar, x());
-    assert_eq!(rt; at_a.bar.drink(), Ok(()));
-    fork_goes_over(&rt, &mut at_a, &mut at_b);
-    assert_eq!(rt; at_a.bar.give_bottle(x(), &at_a.table), Err(NotNow));
-    assert_eq!(rt; at_a.bar.finish(Some(&[(x(), Value::from(9))])), Ok(()));
-    assert_eq!(rt; at_a.bar.value(x()), value(9));
-    assert_eq!(rt; at_a.bar.give_bottle(x(), &at_a.table), Ok(()));
-    Ok(())
+fn answer(bar: &Bar, question: Question) -> bool {
+    match question {
+        Question::Records => bar.records() == [RecordId::new(0), RecordId::new(1)].as_slice(),
+        Question::Tranquil => bar.phase() == Phase::Tranquil,
+        Question::Needs(r) => bar.needs(RecordId::new(r)),
+        Question::HasNeeded => bar.has_needed(),
+        Question::Holds(r) => bar.holds(RecordId::new(r)),
+        Question::HasToken(r) => bar.has_token(RecordId::new(r)),
+        Question::HasValue(r, number) => bar.value(RecordId::new(r)) == Some(Value::from(number)),
+        Question::HasNoValue(r) => bar.value(RecordId::new(r)).is_none(),
+    }
 }
 
 // Sixteen offices that are all neighbours, with eight records each.
@@ -247,25 +330,25 @@ fn largest(alloc: Global) -> Result<String, AllocError> {
 }
 
 #[test]
-fn the_largest_plan(rt: HostRuntime) -> Result<(), Fail> {
-    let text = largest(rt.alloc())?;
-    let plan = Plan::read(rt.alloc(), text.as_str().as_bytes()).expect(&rt, "the plan is accepted");
-    assert_eq!(rt; plan.records(), 960);
-    let at_first = seated(&rt, rt.alloc(), &plan, OfficeId::new(0))?;
-    let mut at_last = seated(&rt, rt.alloc(), &plan, OfficeId::new(15))?;
-    assert_eq!(rt;
-        (at_first.bar.records().len(), at_last.bar.records().len()),
-        (120, 120)
-    );
+fn the_largest_plan(rt: HostRuntime) {
+    let text = largest(rt.alloc()).expect(&rt, "memory");
+    let plan = Plan::read(rt.alloc(), text.as_bytes()).expect(&rt, "the plan is accepted");
+    assert!(rt; plan.records() == 960);
+    let first = seated(&rt, rt.alloc(), &plan, OfficeId::new(0));
+    has_its_records(&rt, &first.bar);
+    let mut last = seated(&rt, rt.alloc(), &plan, OfficeId::new(15));
+    gets_the_last_bottle(&rt, &mut last.bar);
+}
+
+fn has_its_records(rt: &impl Abort, bar: &Bar) {
+    assert!(rt; bar.records().len() == 120);
+    assert!(rt; bar.value(RecordId::new(7)) == Some(Value::from(7)));
+}
+
+fn gets_the_last_bottle(rt: &impl Abort, bar: &mut Bar) {
     let last = RecordId::new(959);
-    assert_eq!(rt;
-        (at_last.bar.value(last), at_last.bar.has_token(last)),
-        (None, true)
-    );
-    assert_eq!(rt; at_first.bar.value(RecordId::new(7)), value(7));
-    starts(&rt, &mut at_last.bar, last);
-    assert_eq!(rt; at_last.bar.ask_bottle(last), Ok(()));
-    bottle_comes(&rt, &mut at_last.bar, last, Value::from(7));
-    assert_eq!(rt; at_last.bar.drink(), Ok(()));
-    Ok(())
+    assert!(rt; bar.records().len() == 120);
+    assert!(rt; bar.value(last).is_none() && bar.has_token(last));
+    assert!(rt; starts(rt, bar, last) && bar.ask_bottle(last).is_ok());
+    assert!(rt; bottle_comes(rt, bar, last, Value::from(7)) && bar.drink().is_ok());
 }
