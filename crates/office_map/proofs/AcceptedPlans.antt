@@ -18,7 +18,7 @@ use Rattle.std.specs.Str.{bytes_eq}
 use Rattle.office_map.specs.Address.{address_of_word}
 use Rattle.office_map.specs.Text.{is_name, name_of, lines, says_something, statements_from, statements}
 use Rattle.office_map.specs.Consistency.{IsConsistent, IsComplete, ReadsCompletePlans}
-use Rattle.office_map.proofs.ConsistencyKept.{none_found, office_consistent, pair_consistent, record_consistent}
+use Rattle.office_map.proofs.ConsistencyKept.{none_found, is_office, office_consistent, pair_consistent, record_consistent}
 use Rattle.office_map.specs.refinement.PlanReader.{Fails}
 
 -- an answer that is accepted is consistent
@@ -53,12 +53,6 @@ record_kept (Some x) (Some y) apart named full q h = by_tests (apart x y) named 
     by_tests false true f d e g = tt
     by_tests false false true d e g = tt
     by_tests false false false d e g = h x y d e g
-
-within : (i n x : ℕ) → cond (nat_lt i n) (Some i) None ≡ Some x → x < n
-within i n x h = grind (arith, nat_tests)
-
-is_office : (p : PlanValue) (name : List ℕ) (x : ℕ) → office_named p name ≡ Some x → x < length p.offices
-is_office p name x h = within _ (length p.offices) x h
 
 -- what a line declares has a name
 abbrev IsNamed : Declaration → Type 0

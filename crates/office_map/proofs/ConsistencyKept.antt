@@ -192,3 +192,16 @@ record_added p now r found pair count name ok is same looked joined named fresh 
     let room : records_between p r.first r.second < 8 = rw (same, ← counted) few in
     let good : is_name r.name ≡ true = rw n is in
     record_consistent p r ok good neighbours unnamed room
+
+within : (i n x : ℕ) → cond (nat_lt i n) (Some i) None ≡ Some x → x < n
+within i n x h = grind (arith, nat_tests)
+
+pub is_office : (p : PlanValue) (name : List ℕ) (x : ℕ) → office_named p name ≡ Some x → x < length p.offices
+is_office p name x h = within _ (length p.offices) x h
+
+pub pair_added : (p now : PlanValue) (pair : PairEntry) (joined : Bool) (a b : List ℕ) → IsConsistent p → p ≡ now → office_named now a ≡ Some pair.first → office_named now b ≡ Some pair.second → pair.first ≢ pair.second → joined ≡ are_neighbours now pair.first pair.second → joined ≡ false → IsConsistent (with_pair p pair) × (pair.first < 16) × (pair.second < 16)
+pair_added p now pair joined a b ok same one other apart looked free =
+    let first : pair.first < length p.offices = rw same (is_office now a pair.first one) in
+    let second : pair.second < length p.offices = rw same (is_office now b pair.second other) in
+    let fresh : are_neighbours p pair.first pair.second ≡ false = rw same (sym looked ∙ free) in
+    (pair_consistent p pair ok first second apart fresh, omega (arith, first, ok.offices_fit), omega (arith, second, ok.offices_fit))

@@ -1,7 +1,7 @@
 pub mod Digits
 pub mod FirstLine
+pub mod FirstWord
 pub mod AsciiNames
-pub mod DeclarationWords
 pub mod FirstFault
 pub mod AsciiAddresses
 pub mod ListBounds

@@ -2,13 +2,13 @@
 
 ghost use Rattle.std.specs.Prelude.{◌≡◌, map, option_map};
 ghost use Rattle.office_map.specs.PlanText.{declaration_of, office_line, pair_line, record_line, run_of, small_number, value_of, negative_of};
-ghost use Rattle.office_map.specs.Text.{number_of};
+ghost use Rattle.office_map.specs.Text.{number_of, words_of};
 ghost use Rattle.std.specs.Str.{bytes_eq};
 ghost use Rattle.office_map.specs.refinement.PlanReader.{seen};
 
 use crate::address::address;
 use crate::new_entries::{NewOffice, NewPair, NewRecord};
-use crate::text::{name, number};
+use crate::text::{first_word, name, number};
 
 /// What a line declares, with names as they stand in the text.
 #[derive(Clone, Copy)]
@@ -18,16 +18,24 @@ pub(crate) enum Declaration<'a> {
     Record(NewRecord<'a>),
 }
 
-pub(crate) fn declaration_in<'a>(words: &[&'a [u8]]) -> Option<Declaration<'a>>
-    ensures { option_map seen result ≡ declaration_of (map (λ w. w.now) words.now) }
+/// An office has three words, a pair five and a record seven.
+pub(crate) fn declaration_in(line: &[u8]) -> Option<Declaration<'_>>
+    ensures { option_map seen result ≡ declaration_of (words_of line.now) }
 {
-    match words.len() {
-        3 => office(words[0], words[1], words[2]),
-        5 => pair(words[0], words[1], words[2], words[3], words[4]),
-        7 => record(
-            words[0], words[1], words[2], words[3], words[4], words[5], words[6],
-        ),
-        _ => None,
+    let (keyword, left) = first_word(line)?;
+    let (a, left) = first_word(left)?;
+    let (b, left) = first_word(left)?;
+    let Some((c, left)) = first_word(left) else {
+        return office(keyword, a, b);
+    };
+    let (d, left) = first_word(left)?;
+    let Some((e, left)) = first_word(left) else {
+        return pair(keyword, a, b, c, d);
+    };
+    let (f, left) = first_word(left)?;
+    match first_word(left) {
+        Some(_) => None,
+        None => record(keyword, a, b, c, d, e, f),
     }
 }
 

@@ -25,18 +25,20 @@ pub(crate) struct PlanEntries {
     records: RecordTable,
     // Of any two offices, at the place of their numbers, how many records they share.
     counts: [u8; 256],
+    // And whether they are neighbours.
+    joined: [bool; 256],
 }
 
 impl Model for PlanEntries {
     ghost use Rattle.office_map.specs.PlanValue.{PlanValue};
     ghost use Rattle.office_map.specs.Consistency.{IsConsistent};
-    ghost use Rattle.office_map.specs.refinement.RecordCounts.{CountsRecords};
+    ghost use Rattle.office_map.specs.refinement.RecordCounts.{CountsRecords, MarksPairs};
 
     ghost Value = { PlanValue };
 
     ghost view = { λ t. record { run = t.run; offices = t.offices.items; pairs = t.pairs.items; records = t.records } };
 
-    ghost invariant = { λ t. IsConsistent (record { run = t.run; offices = t.offices.items; pairs = t.pairs.items; records = t.records }) × CountsRecords t.records t.counts };
+    ghost invariant = { λ t. IsConsistent (record { run = t.run; offices = t.offices.items; pairs = t.pairs.items; records = t.records }) × CountsRecords t.records t.counts × MarksPairs t.pairs.items t.joined };
 }
 
 impl PlanEntries {
@@ -57,6 +59,7 @@ impl PlanEntries {
             pairs: Vec::new(alloc),
             records: RecordTable::new(alloc),
             counts: [0; 256],
+            joined: [false; 256],
         }
     }
 
@@ -117,7 +120,11 @@ impl PlanEntries {
     pub fn are_neighbours(&self, a: OfficeId, b: OfficeId) -> bool
         ensures { result ≡ are_neighbours self.now a b }
     {
-        self.pairs.iter().any(|pair| pair.joins(a, b))
+        let offices = self.offices.len();
+        if a.index() >= offices || b.index() >= offices {
+            return false;
+        }
+        self.joined[place_of(a, b)]
     }
 
     /// Whether this office is an end of this record; false where the plan has no such record.
@@ -206,6 +213,7 @@ impl PlanEntries {
             second,
             fork_at_first: pair.fork_at_first,
         })?;
+        self.joined[place_of(first, second)] = true;
         Ok(())
     }
 
@@ -279,11 +287,12 @@ impl PlanEntries {
             pairs,
             records,
             counts: self.counts,
+            joined: self.joined,
         })
     }
 }
 
-/// Where the number of the records of two offices stands.
+/// Where what is kept of two offices stands.
 fn place_of(a: OfficeId, b: OfficeId) -> usize
     requires { (a < 16) × (b < 16) }
     ensures place { result ≡ place_of a b }

@@ -77,10 +77,10 @@ fn read_line(
 ) -> Result<(), PlanFault>
     ensures { UnlessMemory (λ _. tables.new) Fails result (read_line tables.old (number, line.now)) }
 {
-    let Some(words) = plain_words(alloc, line)? else {
+    if !is_plain(line) {
         return Err(refused(PlanRule::Line, number));
-    };
-    match declaration_in(&words) {
+    }
+    match declaration_in(line) {
         Some(declaration) => tables.declare(alloc, number, declaration),
         None => Err(refused(PlanRule::Line, number)),
     }

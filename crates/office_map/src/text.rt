@@ -1,10 +1,10 @@
 //! What all texts share: lines, words, names and numbers.
 
-ghost use Rattle.std.specs.Prelude.{◌≡◌, ◌∷◌, [], ◌<◌, length, map, IfOk, not, ◌&&◌, true, ◌≤◌, ◌==◌};
+ghost use Rattle.std.specs.Prelude.{◌≡◌, ◌∷◌, [], ◌<◌, length, map, IfOk, MatchOption, not, ◌&&◌, true, ◌≤◌, ◌==◌};
 ghost use Rattle.std.specs.Option.{option_copied};
 ghost use Rattle.std.specs.Str.Lines.{strip_carriage_return};
 ghost use Rattle.std.specs.List.{list_all, position_or_len};
-ghost use Rattle.office_map.specs.Text.{lines, words_of, is_name, name_of, is_keyword, is_name_byte, number_of, decimal, is_plain};
+ghost use Rattle.office_map.specs.Text.{lines, words_of, is_blank, is_name, name_of, is_keyword, is_name_byte, number_of, decimal, is_plain};
 ghost use Rattle.std.specs.Char.{is_ascii_digit};
 
 use memchr::memchr;
@@ -17,6 +17,40 @@ pub fn words(alloc: Global, line: &[u8]) -> Result<Vec<&[u8]>, AllocError>
     line.split(|b| *b == b' ' || *b == b'\t')
         .filter(|w| !w.is_empty())
         .collect(alloc)
+}
+
+/// The first word of a line, and what stands after it.
+pub(crate) fn first_word(line: &[u8]) -> Option<(&[u8], &[u8])>
+    ensures { MatchOption result
+        (words_of line.now ≡ [])
+        (λ p. words_of line.now ≡ p.0.now ∷ words_of p.1.now) }
+{
+    let mut left = line;
+    while let Some((first, next)) = left.split_first() {
+        if !is_blank(*first) {
+            return Some(left.split_at(blank_place(left)));
+        }
+        left = next;
+    }
+    None
+}
+
+/// The place of the first space or tab, or the length where there is none.
+fn blank_place(line: &[u8]) -> usize
+    ensures { result ≡ position_or_len is_blank line.now }
+{
+    for place in 0..line.len() {
+        if is_blank(line[place]) {
+            return place;
+        }
+    }
+    line.len()
+}
+
+pub(crate) fn is_blank(byte: u8) -> bool
+    ensures { result ≡ is_blank byte }
+{
+    byte == b' ' || byte == b'\t'
 }
 
 /// The first line of a text, and the text after it.
