@@ -103,10 +103,7 @@ impl PlanEntries {
     pub fn office_named(&self, name: &str) -> Option<OfficeId>
         ensures { result ≡ office_named self.now name.now }
     {
-        let place = self
-            .offices
-            .iter()
-            .position(|office| office.name.as_str() == name)?;
+        let place = self.offices.iter().position(|office| office.name.is(name))?;
         Some(OfficeId::new(place as u8))
     }
 
