@@ -3,3 +3,4 @@ pub mod SizeStep
 pub mod ExtentBoundsSize
 pub mod Saturation
 pub mod LengthWithinCost
+pub mod StepsAreCounted

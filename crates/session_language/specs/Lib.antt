@@ -10,6 +10,7 @@ pub mod ProgramValue
 pub mod Needs
 pub mod Meaning
 pub mod Length
+pub mod Stepwise
 pub mod Form
 pub mod Reading
 pub mod Measures

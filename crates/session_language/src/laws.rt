@@ -2,6 +2,7 @@
 
 ghost use Rattle.session_language.specs.LongestMatch.{CutsTheLongest};
 ghost use Rattle.session_language.specs.LineGrammar.{ReadsTheForms};
+ghost use Rattle.session_language.specs.Stepwise.{LengthCountsSteps};
 ghost use Rattle.session_language.specs.Laws.{
   ReadsInOrder,
   RefusesALine,
@@ -51,6 +52,11 @@ pub fn writes_what_it_has()
 /// However a session ends, it tells what it read.
 pub fn tells_what_it_read()
     ensures { TellsWhatItRead }
+{}
+
+/// A session that is read one step at a time takes as many steps as its length.
+pub fn length_counts_steps()
+    ensures { LengthCountsSteps }
 {}
 
 /// A session does something, and at most one more than its cost.
