@@ -39,7 +39,7 @@ fn drawn_sessions_end_as_their_walk(rt: HostRuntime) -> Result<(), Fail> {
         deepest: [0; 9],
     };
     for seed in 0..SESSIONS {
-        let mut draws = Draws::from_seed(u64::from(seed));
+        let mut draws = Draws::from_seed(seed);
         let text = session(rt.alloc(), &mut draws, seed % 4 * 2 + 1)?;
         let programs = read_sessions(rt.alloc(), text.as_bytes(), &plan)?;
         assert_eq!(rt; programs.len(), 1, "of {text}");
@@ -79,15 +79,16 @@ fn agrees(
     seen.note(&walk, end);
     let code = Code::of(alloc, program)?;
     let mut work = Work::begin(alloc, &code, reads.copy(alloc)?)?;
+    let seed = draws.seed;
     let most = [2, 10, 1_000][draws.below(3) as usize];
     let mut sum = 0u32;
     for _ in 0..MOST_PIECES {
         let size = draws.below(most);
         sum = sum.saturating_add(size);
         let is_running = matches!(work.step(&code, size), Progress::Running);
-        assert_eq!(rt; is_running, sum < walk.count);
+        assert_eq!(rt; is_running, sum < walk.count, "of seed {seed}");
         if !is_running {
-            return ends_as(rt, alloc, work, end, &reads, &walk);
+            return ends_as(rt, alloc, work, seed, end, &reads, &walk);
         }
     }
     assert!(rt; false, "not ended");
@@ -98,6 +99,7 @@ fn ends_as(
     rt: &impl Abort,
     alloc: Global,
     work: Work,
+    seed: u32,
     end: End,
     reads: &RecordValues,
     walk: &Walk,
@@ -107,8 +109,8 @@ fn ends_as(
         return Ok(());
     };
     let ending = work.into_ending();
-    assert_eq!(rt; ending.end, end);
-    assert_eq!(rt; ending.reads.as_slice(), reads.as_slice());
+    assert_eq!(rt; ending.end, end, "of seed {seed}");
+    assert_eq!(rt; ending.reads.as_slice(), reads.as_slice(), "of seed {seed}");
     let mut writes = Vec::new(alloc);
     let mut gives = Vec::new(alloc);
     if end == End::Done {
@@ -126,8 +128,12 @@ fn ends_as(
             gives.push(Value { number: *number })?;
         }
     }
-    assert_eq!(rt; ending.writes.as_slice(), writes.as_slice());
-    assert_eq!(rt; ending.gives.as_slice(), gives.as_slice());
+    assert_eq!(rt;
+        ending.writes.as_slice(),
+        writes.as_slice(),
+        "of seed {seed}"
+    );
+    assert_eq!(rt; ending.gives.as_slice(), gives.as_slice(), "of seed {seed}");
     Ok(())
 }
 

@@ -23,13 +23,15 @@ const LINES_TO_CLOSE: u32 = 40;
 /// Numbers that are drawn from a seed.
 #[derive(Drop)]
 pub struct Draws {
+    pub seed: u32,
     words: Pcg32,
 }
 
 impl Draws {
-    pub fn from_seed(seed: u64) -> Draws {
+    pub fn from_seed(seed: u32) -> Draws {
         Draws {
-            words: Pcg32::new(seed, 54),
+            seed,
+            words: Pcg32::new(u64::from(seed), 54),
         }
     }
 
