@@ -149,7 +149,7 @@ pub fn is_told(rt: &impl Abort, alloc: Global, text: &str, more: &str, expected:
     let mut whole = String::from_str(alloc, text).expect(rt, "memory");
     whole.push_str(more).expect(rt, "memory");
     let found = fault(alloc, whole.as_bytes()).expect(rt, "memory");
-    assert_eq!(rt; found.as_str(), expected, "after {more:?}");
+    assert_eq!(rt; found.as_str(), expected, "in {text:?} and {more:?}");
 }
 
 /// The line and the rule that a text breaks, or what is told of a ring.
