@@ -65,5 +65,15 @@ unrefused c count None (Some n) e m is = go (is_breach c count n) refl e
         let same : n ≡ m = cc in
         ap (λ x. shares c.places (thing_of x)) (sym same) ∙ (no_breach (shares c.places (thing_of n)) (holds c.places (thing_of n)) (waits (thing_of n) (left_by c.link count)) h).0
 
+-- and no breach
+pub unbreached : (c : ChannelState) (count : ℕ) (fault : Option LinkFault) (next : Option Msg) → link_fault_or fault (option_map_or (is_breach c count) next false) ≡ None → (m : Msg) → next ≡ Some m → is_breach c count m ≡ false
+unbreached c count (Some fault) next e m is = absurd cc
+unbreached c count None None e m is = absurd cc
+unbreached c count None (Some n) e m is = go (is_breach c count n) refl e
+  where
+    go : (b : Bool) → is_breach c count n ≡ b → breach_of b ≡ None → is_breach c count m ≡ false
+    go true h f = absurd cc
+    go false h f = let same : n ≡ m = cc in ap (is_breach c count) (sym same) ∙ h
+
 pub comes_held : WhatComesIsHeld
 comes_held c f t e = brought c.places t c.link.receiving.taken f.number f.msg (unrefused c f.count (fault_of c.link f) (next_of c.link f) e)

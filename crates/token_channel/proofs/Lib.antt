@@ -3,3 +3,5 @@ pub mod ThingsApart
 pub mod WaitingBound
 pub mod FrameArrival
 pub mod StartsOnce
+pub mod Opening
+pub mod FewWait

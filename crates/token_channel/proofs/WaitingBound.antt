@@ -16,7 +16,7 @@ use Rattle.token_channel.specs.Places.{bottle_places, places_of}
 
 -- ---- different ends
 
-both_true : (a b : Bool) → (a && b) ≡ true → (a ≡ true) × (b ≡ true)
+pub both_true : (a b : Bool) → (a && b) ≡ true → (a ≡ true) × (b ≡ true)
 both_true true true e = (refl, refl)
 both_true true false e = absurd cc
 both_true false b e = absurd cc
@@ -39,13 +39,13 @@ none_joined a (pair ∷ pairs) h e = go (joins a a pair) e (joined_twice a pair 
     go true h f g = f refl
     go false h f g = g h
 
-neighbours_differ : (p : PlanValue) (a b : ℕ) → IsConsistent p → IsTrue (are_neighbours p a b) → a ≢ b
+pub neighbours_differ : (p : PlanValue) (a b : ℕ) → IsConsistent p → IsTrue (are_neighbours p a b) → a ≢ b
 neighbours_differ p a b h n e = none_joined a p.pairs h.ends_differ (let t : are_neighbours p a b ≡ true = grind (n, arith) in ap (λ x. are_neighbours p a x) e ∙ t)
 
 -- ---- records between two offices
 
 -- a record with both ends lies between them
-between_from_ends : (a b : ℕ) (r : RecordEntry) → a ≢ b → has_end r a ≡ true → has_end r b ≡ true → lies_between a b r ≡ true
+pub between_from_ends : (a b : ℕ) (r : RecordEntry) → a ≢ b → has_end r a ≡ true → has_end r b ≡ true → lies_between a b r ≡ true
 between_from_ends a b r differ ha hb = go (r.first == a) (r.second == a) (r.first == b) (r.second == b) refl refl refl refl ha hb
   where
     go : (fa sa fb sb : Bool) → (r.first == a) ≡ fa → (r.second == a) ≡ sa → (r.first == b) ≡ fb → (r.second == b) ≡ sb → (fa || sa) ≡ true → (fb || sb) ≡ true → ((fa && sb) || (fb && sa)) ≡ true

@@ -70,7 +70,7 @@ abbrev pub after_frame : ChannelState → Fields → ChannelState
 after_frame c f =
     record { link = after_arrival c.link f; places = with_taken c.places (next_of c.link f) }
 
--- ---- a law
+-- ---- laws
 
 -- what is held after a frame that brought this
 abbrev pub held_after : (Thing → Bool) → Arrival → Thing → Bool
@@ -82,3 +82,7 @@ held_after held Early t = held t
 -- Of a frame that isn't refused, what it brings is held, and all else as before.
 abbrev pub WhatComesIsHeld : Type 0
 WhatComesIsHeld = (c : ChannelState) (f : Fields) (t : Thing) → channel_fault c f ≡ None → holds (after_frame c f).places t ≡ held_after (holds c.places) (arrival_at c.link f) t
+
+-- What the two share stays, whatever is sent and whatever frame comes.
+abbrev pub WhatIsSharedStays : Type 0
+WhatIsSharedStays = (c : ChannelState) (t : Thing) → ((m : Msg) → shares (sent c m).places t ≡ shares c.places t) × ((f : Fields) → shares (after_frame c f).places t ≡ shares c.places t)

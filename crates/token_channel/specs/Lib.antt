@@ -3,3 +3,5 @@ pub mod Places
 pub mod Channels
 pub mod Ends
 pub mod Sides
+pub mod Opening
+pub mod Waiting

@@ -1,6 +1,6 @@
 //! One end of the channel between two neighbours.
 
-ghost use Rattle.std.specs.Prelude.{◌≡◌, ◌+◌, ◌*◌, ◌<◌, ◌≤◌, ◌^◌, ◌↔◌, length, IsTrue, IsErr, IfOk, IfErr, OnOk, OnErr, true, false};
+ghost use Rattle.std.specs.Prelude.{◌≡◌, ◌+◌, ◌*◌, ◌<◌, ◌≤◌, ◌^◌, ◌↔◌, length, IsTrue, IsErr, IfOk, IfErr, OnOk, OnErr, None, true, false};
 ghost use Rattle.std.specs.Result.{result_err};
 ghost use Rattle.office_map.specs.PlanValue.{are_neighbours, records_between};
 ghost use Rattle.window_link.specs.Windows.{used};
@@ -137,14 +137,36 @@ impl Channel {
         ensures taken { OnOk result (self.new ≡ after_frame self.old frame.now) }
         ensures unchanged { OnErr result (self.new ≡ self.old) }
     {
+        self.check(frame)?;
+        Ok(self.accept(frame))
+    }
+
+    /// Whether a frame that comes can be taken in.
+    ///
+    /// # Errors
+    /// The link's faults, or else `Breach`.
+    pub fn check(&self, frame: &Frame) -> Result<(), ChannelFault>
+        ensures fault { result_err result ≡ channel_fault self.now frame.now }
+    {
         self.link.check(frame).map_err(ChannelFault::Link)?;
         if let Some(msg) = self.next(frame) {
             if self.is_breach(frame.count(), msg) {
                 return Err(ChannelFault::Breach);
             }
+        }
+        Ok(())
+    }
+
+    /// Takes in a frame that [`Channel::check`] passes. What it brings is held.
+    pub fn accept(&mut self, frame: &Frame) -> Arrival
+        requires { channel_fault self.old frame.now ≡ None }
+        ensures arrival { result ≡ arrival_at self.old.link frame.now }
+        ensures taken { self.new ≡ after_frame self.old frame.now }
+    {
+        if let Some(msg) = self.next(frame) {
             places::change(&mut self.places, Thing::of(msg), true);
         }
-        Ok(self.link.accept(frame))
+        self.link.accept(frame)
     }
 
     // The message that the frame would bring.

@@ -4,12 +4,13 @@
 //! - A [`Channel`] is one end: a numbered link, and what is held here. [`Channel::send`] moves one
 //!   thing from held to waiting; [`Channel::take`] makes held the one that it answers, or refuses the
 //!   whole frame ([`ChannelFault`]) where it brings what can't come (`is_breach`, in
-//!   `specs/Channels.antt`).
+//!   `specs/Channels.antt`). It is [`Channel::check`] and then [`Channel::accept`].
 //! - Whatever bytes came, each thing of the pair is held here, or waits here once, or neither
 //!   (`IsApart`, in the same file; clauses `apart` and `few` of [`Channel::waiting`]). So at most
-//!   `2 + 2B` messages wait where the two share B records, and with at most 8 of them the link's 18
-//!   places are enough.
-//! - [`laws`] says that of a frame that isn't refused what it brings is held, and all else as before.
+//!   `2 + 2B` messages wait where the two share B records ([`laws::few_wait`]), and with at most 8 of
+//!   them the link's 18 places are enough.
+//! - [`laws`] says what a channel opens with, that of a frame that isn't refused what it brings is
+//!   held, and all else as before, and that what is shared stays.
 //! - A [`Thing`] is what a message carries (`specs/Things.antt`).
 //!
 //! No call takes memory but [`Channel::open`]. It stands on `window_link`, `frame_codec`, `office_map`

@@ -183,8 +183,9 @@ fn acts(
 // One of the last frames comes to an end; it is never refused.
 fn arrives(rt: &impl Abort, draws: &mut Draws, end: &mut Channel, frames: &[Frame]) {
     if let Some(frame) = frames.get(frames.len().saturating_sub(1 + draws.below(20))) {
+        let passes = end.check(frame).is_ok();
         let told = end.take(frame);
-        assert!(rt; told.is_ok(), "{frame:?} is {told:?}");
+        assert!(rt; passes && told.is_ok(), "{frame:?} is {told:?}");
     }
 }
 
