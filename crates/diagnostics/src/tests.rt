@@ -7,6 +7,10 @@ use std::process::Abort;
 const PLAN: &str =
     "plan 1 run 42\noffice a -\noffice b -\noffice c 1.2.3.4:5\npair a b fork a\npair b c fork b\nrecord x a b 100 at a\nrecord y b c 0 at b\n";
 
+/// Offices of which the first has 18 records, and the others share one.
+const RECORDS: &str =
+    "plan 1 run 42\noffice a -\noffice b -\noffice c -\noffice d -\noffice e -\npair a b fork a\npair b c fork b\npair a c fork a\npair a d fork a\npair a e fork a\nrecord x a b 100 at a\nrecord y b c 0 at b\nrecord r0 a c 0 at a\nrecord r1 a c 0 at a\nrecord r2 a c 0 at a\nrecord r3 a c 0 at a\nrecord r4 a c 0 at a\nrecord r5 a c 0 at a\nrecord r6 a d 0 at a\nrecord r7 a d 0 at a\nrecord r8 a d 0 at a\nrecord r9 a d 0 at a\nrecord r10 a d 0 at a\nrecord r11 a d 0 at a\nrecord r12 a e 0 at a\nrecord r13 a e 0 at a\nrecord r14 a e 0 at a\nrecord r15 a e 0 at a\nrecord r16 a e 0 at a\n";
+
 const OFFICES: &str =
     "plan 1 run 42\noffice a -\noffice b -\noffice c -\noffice d -\noffice e -\noffice f -\noffice g -\noffice h -\noffice i -\noffice j -\noffice k -\noffice l -\noffice m -\noffice n -\noffice o -\noffice p -\n";
 
@@ -434,7 +438,15 @@ static LONG_PLANS: [Long; 3] = [
     ),
 ];
 
-static LONG_SESSIONS: [Long; 7] = [
+static LONG_SESSIONS: [Long; 8] = [
+    (
+        "session a\n",
+        17,
+        "set r",
+        " = 1",
+        "end\n",
+        "`r16` is record 17 of the session of line 1, which may have 16",
+    ),
     (
         "# one\nsession a\n",
         257,
@@ -511,9 +523,9 @@ fn said_of_plan(alloc: Global, text: &str) -> Result<String, AllocError> {
     }
 }
 
-/// What is said of a text of sessions under the plan above, or that it is not refused.
+/// What is said of a text of sessions under the plan of many records, or that it is not refused.
 fn said_of_sessions(alloc: Global, text: &str) -> Result<String, AllocError> {
-    match Plan::read(alloc, PLAN.as_bytes()) {
+    match Plan::read(alloc, RECORDS.as_bytes()) {
         Ok(plan) => said_under(alloc, &plan, text),
         Err(_) => String::from_str(alloc, "no plan"),
     }
