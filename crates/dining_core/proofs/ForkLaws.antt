@@ -1,5 +1,5 @@
--- The laws of all tables, event by event.
-use Rattle.std.proofs.Common.{◌≡◌, ℕ, ◌+◌, ◌<◌, Bool, true, false, not, ◌&&◌, ◌||◌, cond, List, [], ◌∷◌, length, Option, Some, refl, sym, ap, ◌∙◌, subst, arith, inl, inr, ◌⊎◌, ⊎_elim}
+-- Who precedes whom, event by event.
+use Rattle.std.proofs.Common.{◌≡◌, ℕ, zero, suc, ◌+◌, ◌<◌, Bool, true, false, not, ◌&&◌, ◌||◌, cond, List, [], ◌∷◌, ◌++◌, length, Some, refl, sym, ap, ◌∙◌, subst, arith, ⊎_elim}
 use Rattle.std.specs.Prelude.{◌==◌, nat_lt, find, option_map}
 use Rattle.std.specs.Option.{option_map_or}
 use Rattle.std.specs.List.{list_any, list_all}
@@ -10,174 +10,149 @@ use Rattle.office_map.specs.Precedence.{occurrences, comes_before, preceding_end
 use Rattle.office_map.specs.Precedence as plans
 use Rattle.office_map.specs.Consistency.{IsConsistent, IsAccepted}
 use Rattle.dining_core.specs.Diners.{Diner, ForkRule, BecomeHungry, AskFork, GiveFork, Eat, Leave, is_eating, may, act, with_token, with_fork}
-use Rattle.dining_core.specs.Worlds.{World, Event, Do, TokenComes, ForkComes, opening, with_way, way_after, happens, run, precedes, ForksArePlaced, IsOrder, HasNoRing, eats, with_last}
-use Rattle.office_map.proofs.RecordEnds.{near_within, neighbours_apart, near_both, joins_swap}
-use Rattle.dining_core.proofs.ForkPlaces.{way_from, way_else, way_other, one_changed, ahead, places_between, only_first, only_last, gave_ahead, gave_behind, gave_places, came_ahead, came_behind, came_places}
+use Rattle.dining_core.specs.Worlds.{World, Event, Do, TokenComes, ForkComes, opening, with_way, one_more, done, does, token_taken, fork_taken, happens, run, fork_places, precedes, HasOnePlaceEach, IsOrder, HasNoRing, eats, with_last}
+use Rattle.office_map.proofs.RecordEnds.{near_within, neighbours_apart, near_both}
+use Rattle.dining_core.proofs.OnTheWay.{way_at, way_off, sent_on_way}
+use Rattle.dining_core.proofs.ForkPlaces.{given, each_has_one_place, neighbours_stay}
 use Rattle.dining_core.proofs.EaterLast.{occurrences_of_last, occurrences_of_other, counted_among, others_stay, before_last, of_each}
 use Rattle.bottle_values.specs.Maps.{put}
 use Rattle.bottle_values.specs.Lists.{num}
-use Rattle.bottle_values.proofs.Maps.{put_cases, put_same}
+use Rattle.bottle_values.proofs.Maps.{put_cases}
 
--- to the office that changed, on the way
-way_to : (way : ℕ → ℕ → Bool) (x a : ℕ) (b : Bool) (v : ℕ) → with_way way x a b v a ≡ cond (v == x) b (way v a)
-way_to way x a b v = go (v == x) (λ e. eqb-true v x e)
-  where
-    go : (c : Bool) → (c ≡ true → v ≡ x) → cond c (put (way x) a b) (way v) a ≡ cond c b (way v a)
-    go true e = put_same (way x) a b
-    go false e = refl
+-- one office of a pair changed: as the one that is named first, or second, or neither
+one_changed : (P : ℕ → ℕ → Diner → Diner → Type 0) (f : ℕ → Diner) (a : ℕ) (d : Diner) →
+    ((v : ℕ) → (v ≡ a → ⊥) → P a v d (f v)) → ((u : ℕ) → (u ≡ a → ⊥) → P u a (f u) d) → ((u v : ℕ) → (u ≡ a → ⊥) → (v ≡ a → ⊥) → P u v (f u) (f v)) →
+    (u v : ℕ) → (u ≡ v → ⊥) → P u v (put f a d u) (put f a d v)
+one_changed P f a d mine theirs others u v apart =
+    put_cases f a d u (λ (du : Diner). P u v du (put f a d v))
+    (λ ua. put_cases f a d v (λ (dv : Diner). P u v d dv)
+    (λ va. absurd (apart (ua ∙ sym va)))
+    (λ va. subst (λ z. P z v d (f v)) (sym ua) (mine v va)))
+    (λ ua. put_cases f a d v (λ (dv : Diner). P u v (f u) dv)
+    (λ va. subst (λ z. P u z (f u) d) (sym va) (theirs u ua))
+    (λ va. others u v ua va))
 
--- ---- one place
+-- ---- a fork moves
 
-swapped : (du dv : Diner) (u v : ℕ) (there back : Bool) → places_between du dv u v there back ≡ places_between dv du v u back there
-swapped du dv u v there back = go (num (du.held v)) (num (dv.held u)) (num there) (num back)
-  where
-    go : (a b c d : ℕ) → a + (b + (c + d)) ≡ b + (a + (d + c))
-    go a b c d = omega arith
+-- of two offices, of which so many forks are on the way to the first
+abbrev ahead : Diner → Diner → ℕ → ℕ → ℕ → Bool
+ahead du dv u v back = (du.held v && du.clean v) || ((dv.held u && not (dv.clean u)) || nat_lt 0 back)
 
-laid_put : (plan : PlanValue) (w : World) (a : ℕ) (d : Diner) (way : ℕ → ℕ → Bool) → IsConsistent plan → ForksArePlaced plan w → d.neighbours ≡ (w.diner a).neighbours →
-    ((v : ℕ) → (v ≡ a → ⊥) → are_neighbours plan a v ≡ true → places_between d (w.diner v) a v (way a v) (way v a) ≡ 1) →
-    ((x y : ℕ) → (x ≡ a → ⊥) → (y ≡ a → ⊥) → way x y ≡ w.on_way x y) →
-    ForksArePlaced plan (record { diner = put w.diner a d; on_way = way })
-laid_put plan w a d way h l same mine others = record {
-  neighbours = λ x. put_cases w.diner a d x (λ (e : Diner). e.neighbours ≡ neighbours_of plan x) (λ e. same ∙ l.neighbours a ∙ ap (neighbours_of plan) (sym e)) (λ e. l.neighbours x);
-  one_fork = λ u v near. one_changed (λ x y dx dy. are_neighbours plan x y ≡ true → places_between dx dy x y (way x y) (way y x) ≡ 1) w.diner a d
-      (λ v ne n. mine v ne n)
-      (λ u ne n. swapped (w.diner u) d u a (way u a) (way a u) ∙ mine u ne (near_both plan a u ∙ n))
-      (λ x y nx ny n. ap (λ b. places_between (w.diner x) (w.diner y) x y b (way y x)) (others x y nx ny) ∙ ap (λ b. places_between (w.diner x) (w.diner y) x y (w.on_way x y) b) (others y x ny nx) ∙ l.one_fork x y n)
-      u v (neighbours_apart plan u v h near) near;
-}
+-- a fork is given: m where it is the one
+gave_ahead : (m h k x y : Bool) → (m ≡ true → (h ≡ true) × (k ≡ false)) → ((cond m false h && k) || (x || y)) ≡ ((h && k) || (x || y))
+gave_ahead false h k x y e = refl
+gave_ahead true h k x y e = ap (λ c. c || (x || y)) (sym (and_false h k (e refl).1))
+  where
+    and_false : (p q : Bool) → q ≡ false → (p && q) ≡ false
+    and_false true q s = s
+    and_false false q s = refl
 
--- what a fork that is given, or comes, was before
-given : (b t h c : Bool) → (not b && (t && (h && not c))) ≡ true → (h ≡ true) × (c ≡ false)
-given false true true false e = (refl, refl)
-given true t h c e = absurd (no e)
+gave_behind : (m h k x y : Bool) → (m ≡ true → (h ≡ true) × (k ≡ false)) → (x || ((cond m false h && not k) || cond m true y)) ≡ (x || ((h && not k) || y))
+gave_behind false h k x y e = refl
+gave_behind true h k x y e = sym (ap (λ c. x || ((c && not k) || y)) (e refl).0 ∙ ap (λ c. x || (not c || y)) (e refl).1)
+
+-- a fork comes: z where another is on the way behind it
+came_ahead : (m h k x y z : Bool) → (m ≡ true → y ≡ true) → ((cond m true h && cond m true k) || (x || cond m z y)) ≡ ((h && k) || (x || y))
+came_ahead false h k x y z e = refl
+came_ahead true h k x y z e = sym (ap (λ c. (h && k) || (x || c)) (e refl) ∙ ap (λ c. (h && k) || c) (or_true x) ∙ or_true (h && k))
   where
-    no : false ≡ true → ⊥
-    no s = absurd cc
-given false false h c e = absurd (no e)
-  where
-    no : false ≡ true → ⊥
-    no s = absurd cc
-given false true false c e = absurd (no e)
-  where
-    no : false ≡ true → ⊥
-    no s = absurd cc
-given false true true true e = absurd (no e)
-  where
-    no : false ≡ true → ⊥
-    no s = absurd cc
+    or_true : (p : Bool) → (p || true) ≡ true
+    or_true true = refl
+    or_true false = refl
+
+came_behind : (m h k x y : Bool) → (m ≡ true → h ≡ false) → (x || ((cond m true h && not (cond m true k)) || y)) ≡ (x || ((h && not k) || y))
+came_behind false h k x y e = refl
+came_behind true h k x y e = ap (λ c. x || ((c && not k) || y)) (sym (e refl))
+
+-- ---- who precedes whom
+
+turned : (w : World) (a : ℕ) (d : Diner) (way tokens : ℕ → ℕ → ℕ) →
+    ((v : ℕ) → (v ≡ a → ⊥) → ahead d (w.diner v) a v (way v a) ≡ ahead (w.diner a) (w.diner v) a v (w.forks_on_way v a)) →
+    ((u : ℕ) → (u ≡ a → ⊥) → fork_places w u a ≡ 1 → ahead (w.diner u) d u a (way a u) ≡ ahead (w.diner u) (w.diner a) u a (w.forks_on_way a u)) →
+    ((x y : ℕ) → (x ≡ a → ⊥) → (y ≡ a → ⊥) → way x y ≡ w.forks_on_way x y) →
+    (u v : ℕ) → (u ≡ v → ⊥) → fork_places w u v ≡ 1 → precedes (record { diner = put w.diner a d; forks_on_way = way; tokens_on_way = tokens }) u v ≡ precedes w u v
+turned w a d way tokens mine theirs others u v apart one =
+    one_changed (λ x y dx dy. fork_places w x y ≡ 1 → ahead dx dy x y (way y x) ≡ ahead (w.diner x) (w.diner y) x y (w.forks_on_way y x)) w.diner a d
+    (λ y ne k. mine y ne) theirs (λ x y nx ny k. ap (ahead (w.diner x) (w.diner y) x y) (others y x ny nx)) u v apart one
 
 at_other : (f : ℕ → Bool) (v x : ℕ) (b : Bool) → f x ≡ b → (v == x) ≡ true → f v ≡ b
 at_other f v x b e m = ap f (eqb-true v x m) ∙ e
 
-rule_laid : (plan : PlanValue) (w : World) (a : ℕ) (rule : ForkRule) → IsConsistent plan → ForksArePlaced plan w → may (w.diner a) rule ≡ true →
-    ForksArePlaced plan (record { diner = put w.diner a (act (w.diner a) rule); on_way = way_after w.on_way a rule })
-rule_laid plan w a (BecomeHungry thirsty) h l g = laid_put plan w a (act (w.diner a) (BecomeHungry thirsty)) w.on_way h l refl (λ v ne n. l.one_fork a v n) (λ x y nx ny. refl)
-rule_laid plan w a (AskFork x) h l g = laid_put plan w a (act (w.diner a) (AskFork x)) w.on_way h l refl (λ v ne n. l.one_fork a v n) (λ x y nx ny. refl)
-rule_laid plan w a Eat h l g = laid_put plan w a (act (w.diner a) Eat) w.on_way h l refl (λ v ne n. l.one_fork a v n) (λ x y nx ny. refl)
-rule_laid plan w a (Leave thirsty) h l g = laid_put plan w a (act (w.diner a) (Leave thirsty)) w.on_way h l refl (λ v ne n. l.one_fork a v n) (λ x y nx ny. refl)
-rule_laid plan w a (GiveFork x) h l g =
-    laid_put plan w a (act (w.diner a) (GiveFork x)) (with_way w.on_way a x true) h l refl
-    (λ v ne n.
+no_true : false ≡ true → ⊥
+no_true e = absurd cc
+
+quiet_turns : (w : World) (a : ℕ) (d : Diner) (tokens : ℕ → ℕ → ℕ) → d.held ≡ (w.diner a).held → d.clean ≡ (w.diner a).clean → (u v : ℕ) → (u ≡ v → ⊥) → fork_places w u v ≡ 1 →
+    precedes (record { diner = put w.diner a d; forks_on_way = w.forks_on_way; tokens_on_way = tokens }) u v ≡ precedes w u v
+quiet_turns w a d tokens same still =
+    turned w a d w.forks_on_way tokens
+    (λ v ne. ap (λ (h : ℕ → Bool). (h v && d.clean v) || (((w.diner v).held a && not ((w.diner v).clean a)) || nat_lt 0 (w.forks_on_way v a))) same
+    ∙ ap (λ (c : ℕ → Bool). ((w.diner a).held v && c v) || (((w.diner v).held a && not ((w.diner v).clean a)) || nat_lt 0 (w.forks_on_way v a))) still)
+    (λ u ne k. ap (λ (h : ℕ → Bool). ((w.diner u).held a && (w.diner u).clean a) || ((h u && not (d.clean u)) || nat_lt 0 (w.forks_on_way a u))) same
+    ∙ ap (λ (c : ℕ → Bool). ((w.diner u).held a && (w.diner u).clean a) || (((w.diner a).held u && not (c u)) || nat_lt 0 (w.forks_on_way a u))) still)
+    (λ x y nx ny. refl)
+
+given_turns : (w : World) (a x : ℕ) → may (w.diner a) (GiveFork x) ≡ true → (u v : ℕ) → (u ≡ v → ⊥) → fork_places w u v ≡ 1 → precedes (done w a (GiveFork x)) u v ≡ precedes w u v
+given_turns w a x g =
     let d : Diner = w.diner a in
     let was : (d.held x ≡ true) × (d.clean x ≡ false) = given (is_eating d.phase) (d.token x) (d.held x) (d.clean x) g in
-    ap (λ b. num (cond (v == x) false (d.held v)) + (num ((w.diner v).held a) + (num b + num (with_way w.on_way a x true v a)))) (way_from w.on_way a x true v)
-    ∙ ap (λ b. num (cond (v == x) false (d.held v)) + (num ((w.diner v).held a) + (num (cond (v == x) true (w.on_way a v)) + num b))) (way_else w.on_way a x true v a ne)
-    ∙ gave_places (v == x) (d.held v) ((w.diner v).held a) (w.on_way a v) (w.on_way v a)
-    (λ m. let here : d.held v ≡ true = at_other d.held v x true was.0 m in
-    (here, (only_first (d.held v) ((w.diner v).held a) (w.on_way a v) (w.on_way v a) (l.one_fork a v n) here).1.0))
-    ∙ l.one_fork a v n)
-    (λ u v nu nv. way_else w.on_way a x true u v nu)
+    turned w a (act d (GiveFork x)) (one_more w.forks_on_way a x) w.tokens_on_way
+    (λ v ne.
+    ap (λ n. (cond (v == x) false (d.held v) && d.clean v) || (((w.diner v).held a && not ((w.diner v).clean a)) || nat_lt 0 n)) (way_off w.forks_on_way a x (w.forks_on_way a x + 1) v a (λ e. ne e.0))
+    ∙ gave_ahead (v == x) (d.held v) (d.clean v) ((w.diner v).held a && not ((w.diner v).clean a)) (nat_lt 0 (w.forks_on_way v a))
+    (λ m. (at_other d.held v x true was.0 m, at_other d.clean v x false was.1 m)))
+    (λ u ne k.
+    ap (λ b. ((w.diner u).held a && (w.diner u).clean a) || ((cond (u == x) false (d.held u) && not (d.clean u)) || b)) (sent_on_way w.forks_on_way a x u)
+    ∙ gave_behind (u == x) (d.held u) (d.clean u) ((w.diner u).held a && (w.diner u).clean a) (nat_lt 0 (w.forks_on_way a u))
+    (λ m. (at_other d.held u x true was.0 m, at_other d.clean u x false was.1 m)))
+    (λ u v nu nv. way_off w.forks_on_way a x (w.forks_on_way a x + 1) u v (λ e. nu e.0))
 
-token_laid : (plan : PlanValue) (w : World) (a x : ℕ) → IsConsistent plan → ForksArePlaced plan w → ForksArePlaced plan (record { diner = put w.diner a (with_token (w.diner a) x); on_way = w.on_way })
-token_laid plan w a x h l = laid_put plan w a (with_token (w.diner a) x) w.on_way h l refl (λ v ne n. l.one_fork a v n) (λ u v nu nv. refl)
+rule_turns : (plan : PlanValue) (w : World) (a : ℕ) (rule : ForkRule) → does plan w a rule ≡ true → eats plan w (Do a rule) ≡ false → (u v : ℕ) → (u ≡ v → ⊥) → fork_places w u v ≡ 1 → precedes (done w a rule) u v ≡ precedes w u v
+rule_turns plan w a (BecomeHungry thirsty) k e = quiet_turns w a (act (w.diner a) (BecomeHungry thirsty)) w.tokens_on_way refl refl
+rule_turns plan w a (AskFork x) k e = quiet_turns w a (act (w.diner a) (AskFork x)) (one_more w.tokens_on_way a x) refl refl
+rule_turns plan w a (GiveFork x) k e = given_turns w a x (and_parts (nat_lt a (length plan.offices)) (may (w.diner a) (GiveFork x)) k).1
+rule_turns plan w a Eat k e = absurd (no_true (sym e ∙ k))
+rule_turns plan w a (Leave thirsty) k e = quiet_turns w a (act (w.diner a) (Leave thirsty)) w.tokens_on_way refl refl
+
+token_turns : (w : World) (a x n : ℕ) (u v : ℕ) → (u ≡ v → ⊥) → fork_places w u v ≡ 1 → precedes (token_taken w a x n) u v ≡ precedes w u v
+token_turns w a x zero u v apart one = refl
+token_turns w a x (suc left) u v apart one = quiet_turns w a (with_token (w.diner a) x) (with_way w.tokens_on_way x a left) refl refl u v apart one
 
 -- a fork that is on the way to an office isn't there
-coming : (plan : PlanValue) (w : World) (a v x : ℕ) → ForksArePlaced plan w → w.on_way x a ≡ true → are_neighbours plan a v ≡ true → (v == x) ≡ true → ((w.diner a).held v ≡ false) × (w.on_way v a ≡ true)
-coming plan w a v x l g n m =
-    let back : w.on_way v a ≡ true = ap (λ z. w.on_way z a) (eqb-true v x m) ∙ g in
-    ((only_last ((w.diner a).held v) ((w.diner v).held a) (w.on_way a v) (w.on_way v a) (l.one_fork a v n) back).0, back)
+away : (a b c left : ℕ) (h : Bool) → a + (num h + (b + c)) ≡ 1 → b ≡ suc left → h ≡ false
+away a b c left true e w = absurd (omega (arith, e, w))
+away a b c left false e w = refl
 
-fork_laid : (plan : PlanValue) (w : World) (a x : ℕ) → IsConsistent plan → ForksArePlaced plan w → w.on_way x a ≡ true → ForksArePlaced plan (record { diner = put w.diner a (with_fork (w.diner a) x); on_way = with_way w.on_way x a false })
-fork_laid plan w a x h l g =
-    laid_put plan w a (with_fork (w.diner a) x) (with_way w.on_way x a false) h l refl
-    (λ v ne n.
-    let d : Diner = w.diner a in
-    ap (λ b. num (cond (v == x) true (d.held v)) + (num ((w.diner v).held a) + (num b + num (with_way w.on_way x a false v a)))) (way_other w.on_way x a false a v ne)
-    ∙ ap (λ b. num (cond (v == x) true (d.held v)) + (num ((w.diner v).held a) + (num (w.on_way a v) + num b))) (way_to w.on_way x a false v)
-    ∙ came_places (v == x) (d.held v) ((w.diner v).held a) (w.on_way a v) (w.on_way v a) (coming plan w a v x l g n)
-    ∙ l.one_fork a v n)
-    (λ u v nu nv. way_other w.on_way x a false u v nv)
-
-laid_after : (plan : PlanValue) (w : World) (e : Event) → IsConsistent plan → ForksArePlaced plan w → ForksArePlaced plan (happens plan w e)
-laid_after plan w (Do a rule) h l =
-    cond_both (nat_lt a (length plan.offices) && may (w.diner a) rule) (record { diner = put w.diner a (act (w.diner a) rule); on_way = way_after w.on_way a rule }) w (ForksArePlaced plan)
-    (λ e. rule_laid plan w a rule h l (and_parts (nat_lt a (length plan.offices)) (may (w.diner a) rule) e).1)
-    (λ e. l)
-laid_after plan w (TokenComes a x) h l = token_laid plan w a x h l
-laid_after plan w (ForkComes a x) h l =
-    cond_both (w.on_way x a) (record { diner = put w.diner a (with_fork (w.diner a) x); on_way = with_way w.on_way x a false }) w (ForksArePlaced plan)
-    (λ e. fork_laid plan w a x h l e)
-    (λ e. l)
-
--- ---- who precedes whom
-
-turned : (plan : PlanValue) (w : World) (a : ℕ) (d : Diner) (way : ℕ → ℕ → Bool) → IsConsistent plan →
-    ((v : ℕ) → (v ≡ a → ⊥) → are_neighbours plan a v ≡ true → ahead d (w.diner v) a v (way v a) ≡ ahead (w.diner a) (w.diner v) a v (w.on_way v a)) →
-    ((u : ℕ) → (u ≡ a → ⊥) → are_neighbours plan u a ≡ true → ahead (w.diner u) d u a (way a u) ≡ ahead (w.diner u) (w.diner a) u a (w.on_way a u)) →
-    ((x y : ℕ) → (x ≡ a → ⊥) → (y ≡ a → ⊥) → way x y ≡ w.on_way x y) →
-    (u v : ℕ) → are_neighbours plan u v ≡ true → precedes (record { diner = put w.diner a d; on_way = way }) u v ≡ precedes w u v
-turned plan w a d way h mine theirs others u v near =
-    one_changed (λ x y dx dy. are_neighbours plan x y ≡ true → ahead dx dy x y (way y x) ≡ ahead (w.diner x) (w.diner y) x y (w.on_way y x)) w.diner a d
-    mine theirs (λ x y nx ny n. ap (λ b. ahead (w.diner x) (w.diner y) x y b) (others y x ny nx)) u v (neighbours_apart plan u v h near) near
-
-rule_turns : (plan : PlanValue) (w : World) (a : ℕ) (rule : ForkRule) (u v : ℕ) → IsConsistent plan → may (w.diner a) rule ≡ true → (nat_lt a (length plan.offices) && may (w.diner a) rule) ≡ true → eats plan w (Do a rule) ≡ false → are_neighbours plan u v ≡ true →
-    precedes (record { diner = put w.diner a (act (w.diner a) rule); on_way = way_after w.on_way a rule }) u v ≡ precedes w u v
-rule_turns plan w a (BecomeHungry thirsty) u v h g k e near = turned plan w a (act (w.diner a) (BecomeHungry thirsty)) w.on_way h (λ v ne n. refl) (λ u ne n. refl) (λ x y nx ny. refl) u v near
-rule_turns plan w a (AskFork x) u v h g k e near = turned plan w a (act (w.diner a) (AskFork x)) w.on_way h (λ v ne n. refl) (λ u ne n. refl) (λ x y nx ny. refl) u v near
-rule_turns plan w a (Leave thirsty) u v h g k e near = turned plan w a (act (w.diner a) (Leave thirsty)) w.on_way h (λ v ne n. refl) (λ u ne n. refl) (λ x y nx ny. refl) u v near
-rule_turns plan w a Eat u v h g k e near = absurd (both (nat_lt a (length plan.offices) && may (w.diner a) Eat) k e)
+fork_turns : (w : World) (a x n : ℕ) → w.forks_on_way x a ≡ n → (u v : ℕ) → (u ≡ v → ⊥) → fork_places w u v ≡ 1 → precedes (fork_taken w a x n) u v ≡ precedes w u v
+fork_turns w a x zero s u v apart one = refl
+fork_turns w a x (suc left) s u v apart one =
+    turned w a (with_fork d x) (with_way w.forks_on_way x a left) w.tokens_on_way
+    (λ v ne.
+    ap (λ b. (cond (v == x) true (d.held v) && cond (v == x) true (d.clean v)) || (((w.diner v).held a && not ((w.diner v).clean a)) || b)) (left_over v)
+    ∙ came_ahead (v == x) (d.held v) (d.clean v) ((w.diner v).held a && not ((w.diner v).clean a)) (nat_lt 0 (w.forks_on_way v a)) (nat_lt 0 left)
+    (λ m. lt-ltb 0 (w.forks_on_way v a) (omega (arith, s, ap (λ z. w.forks_on_way z a) (eqb-true v x m)))))
+    (λ u ne k.
+    ap (λ n. ((w.diner u).held a && (w.diner u).clean a) || ((cond (u == x) true (d.held u) && not (cond (u == x) true (d.clean u))) || nat_lt 0 n)) (way_off w.forks_on_way x a left a u (λ e. ne e.1))
+    ∙ came_behind (u == x) (d.held u) (d.clean u) ((w.diner u).held a && (w.diner u).clean a) (nat_lt 0 (w.forks_on_way a u))
+    (λ m. away (num ((w.diner u).held a)) (w.forks_on_way u a) (w.forks_on_way a u) left (d.held u) k (ap (λ z. w.forks_on_way z a) (eqb-true u x m) ∙ s)))
+    (λ y z ny nz. way_off w.forks_on_way x a left y z (λ e. nz e.1))
+    u v apart one
   where
-    both : (b : Bool) → b ≡ true → b ≡ false → ⊥
-    both true s t = absurd cc
-    both false s t = absurd cc
-rule_turns plan w a (GiveFork x) u v h g k e near =
-    let d : Diner = w.diner a in
-    let was : (d.held x ≡ true) × (d.clean x ≡ false) = given (is_eating d.phase) (d.token x) (d.held x) (d.clean x) g in
-    turned plan w a (act d (GiveFork x)) (with_way w.on_way a x true) h
-    (λ v ne n.
-    ap (λ b. (cond (v == x) false (d.held v) && d.clean v) || (((w.diner v).held a && not ((w.diner v).clean a)) || b)) (way_else w.on_way a x true v a ne)
-    ∙ gave_ahead (v == x) (d.held v) (d.clean v) ((w.diner v).held a && not ((w.diner v).clean a)) (w.on_way v a)
-    (λ m. (at_other d.held v x true was.0 m, at_other d.clean v x false was.1 m)))
-    (λ u ne n.
-    ap (λ b. ((w.diner u).held a && (w.diner u).clean a) || ((cond (u == x) false (d.held u) && not (d.clean u)) || b)) (way_from w.on_way a x true u)
-    ∙ gave_behind (u == x) (d.held u) (d.clean u) ((w.diner u).held a && (w.diner u).clean a) (w.on_way a u)
-    (λ m. (at_other d.held u x true was.0 m, at_other d.clean u x false was.1 m)))
-    (λ y z ny nz. way_else w.on_way a x true y z ny) u v near
+    d : Diner
+    d = w.diner a
 
-fork_turns : (plan : PlanValue) (w : World) (a x u v : ℕ) → IsConsistent plan → ForksArePlaced plan w → w.on_way x a ≡ true → are_neighbours plan u v ≡ true →
-    precedes (record { diner = put w.diner a (with_fork (w.diner a) x); on_way = with_way w.on_way x a false }) u v ≡ precedes w u v
-fork_turns plan w a x u v h l g near =
-    let d : Diner = w.diner a in
-    turned plan w a (with_fork d x) (with_way w.on_way x a false) h
-    (λ v ne n.
-    ap (λ b. (cond (v == x) true (d.held v) && cond (v == x) true (d.clean v)) || (((w.diner v).held a && not ((w.diner v).clean a)) || b)) (way_to w.on_way x a false v)
-    ∙ came_ahead (v == x) (d.held v) (d.clean v) ((w.diner v).held a && not ((w.diner v).clean a)) (w.on_way v a) (λ m. (coming plan w a v x l g n m).1))
-    (λ u ne n.
-    ap (λ b. ((w.diner u).held a && (w.diner u).clean a) || ((cond (u == x) true (d.held u) && not (cond (u == x) true (d.clean u))) || b)) (way_other w.on_way x a false a u ne)
-    ∙ came_behind (u == x) (d.held u) (d.clean u) ((w.diner u).held a && (w.diner u).clean a) (w.on_way a u) (λ m. (coming plan w a u x l g (near_both plan a u ∙ n) m).0))
-    (λ y z ny nz. way_other w.on_way x a false y z nz) u v near
+    left_over : (v : ℕ) → nat_lt 0 (with_way w.forks_on_way x a left v a) ≡ cond (v == x) (nat_lt 0 left) (nat_lt 0 (w.forks_on_way v a))
+    left_over v = ⊎_elim
+        (λ e. ap (nat_lt 0) (way_at w.forks_on_way x a left v a (e, refl)) ∙ sym (ap (λ b. cond b (nat_lt 0 left) (nat_lt 0 (w.forks_on_way v a))) (eq-eqb v x e)))
+        (λ ne. ap (nat_lt 0) (way_off w.forks_on_way x a left v a (λ e. ne e.0)) ∙ sym (ap (λ b. cond b (nat_lt 0 left) (nat_lt 0 (w.forks_on_way v a))) (ne_eqb v x ne)))
+        (cases_eq v x)
 
-pub only_eating_turns : (plan : PlanValue) (w : World) (e : Event) (u v : ℕ) → IsConsistent plan → ForksArePlaced plan w → eats plan w e ≡ false → are_neighbours plan u v ≡ true → precedes (happens plan w e) u v ≡ precedes w u v
-only_eating_turns plan w (Do a rule) u v h l e near =
-    cond_both (nat_lt a (length plan.offices) && may (w.diner a) rule) (record { diner = put w.diner a (act (w.diner a) rule); on_way = way_after w.on_way a rule }) w (λ (x : World). precedes x u v ≡ precedes w u v)
-    (λ g. rule_turns plan w a rule u v h (and_parts (nat_lt a (length plan.offices)) (may (w.diner a) rule) g).1 g e near)
-    (λ g. refl)
-only_eating_turns plan w (TokenComes a x) u v h l e near = turned plan w a (with_token (w.diner a) x) w.on_way h (λ v ne n. refl) (λ u ne n. refl) (λ y z ny nz. refl) u v near
-only_eating_turns plan w (ForkComes a x) u v h l e near =
-    cond_both (w.on_way x a) (record { diner = put w.diner a (with_fork (w.diner a) x); on_way = with_way w.on_way x a false }) w (λ (y : World). precedes y u v ≡ precedes w u v)
-    (λ g. fork_turns plan w a x u v h l g near)
-    (λ g. refl)
+pub only_eating_turns : (plan : PlanValue) (w : World) (e : Event) (u v : ℕ) → (u ≡ v → ⊥) → fork_places w u v ≡ 1 → eats plan w e ≡ false → precedes (happens plan w e) u v ≡ precedes w u v
+only_eating_turns plan w (Do a rule) u v apart one still =
+    cond_both (does plan w a rule) (done w a rule) w (λ (x : World). precedes x u v ≡ precedes w u v)
+    (λ k. rule_turns plan w a rule k still u v apart one)
+    (λ k. refl)
+only_eating_turns plan w (TokenComes a x) u v apart one still = token_turns w a x (w.tokens_on_way x a) u v apart one
+only_eating_turns plan w (ForkComes a x) u v apart one still = fork_turns w a x (w.forks_on_way x a) refl u v apart one
 
 -- ---- the order
 
@@ -185,29 +160,23 @@ order_kept : (plan : PlanValue) (w w' : World) (order : List ℕ) → ((u v : �
 order_kept plan w w' order same o = record { once = o.once; earlier = λ u v near p. o.earlier u v near (sym (same u v near) ∙ p) }
 
 -- an eater holds the fork of each neighbour, so no neighbour comes after it
-beaten : (h c b k y : Bool) → h ≡ true → (b ≡ false) × ((k ≡ false) × (y ≡ false)) → ((h && false) || ((b && not c) || y)) ≡ true → ⊥
-beaten true c b k y s t e = absurd (no (sym (ap (λ z. (z && not c) || y) t.0 ∙ t.1.1) ∙ e))
-  where
-    no : false ≡ true → ⊥
-    no f = absurd cc
-beaten false c b k y s t e = absurd (no s)
-  where
-    no : false ≡ true → ⊥
-    no f = absurd cc
+beaten : (h c b k : Bool) (there back : ℕ) → h ≡ true → num h + (num b + (there + back)) ≡ 1 → ((h && false) || ((b && not c) || nat_lt 0 back)) ≡ true → ⊥
+beaten false c b k there back s one e = no_true s
+beaten true c true k there back s one e = absurd (omega (arith, one))
+beaten true c false k there back s one e = absurd (omega (arith, one, ltb-true 0 back e))
 
 office_counts : (plan : PlanValue) (w : World) (order : List ℕ) (u : ℕ) → IsOrder plan w order → u < length plan.offices → list_any (λ x. x == u) order ≡ true
 office_counts plan w order u o lt = counted_among u order (omega (arith, o.once u, ap num (lt-ltb u (length plan.offices) lt)))
 
-eater_last : (plan : PlanValue) (w : World) (a : ℕ) (order : List ℕ) → IsConsistent plan → ForksArePlaced plan w → a < length plan.offices → may (w.diner a) Eat ≡ true → IsOrder plan w order →
-    IsOrder plan (record { diner = put w.diner a (act (w.diner a) Eat); on_way = w.on_way }) (with_last a order)
-eater_last plan w a order h l lt g o = record {
+eater_last : (plan : PlanValue) (w : World) (a : ℕ) (order : List ℕ) → IsConsistent plan → (w.diner a).neighbours ≡ neighbours_of plan a → ((v : ℕ) → are_neighbours plan a v ≡ true → fork_places w a v ≡ 1) →
+    a < length plan.offices → may (w.diner a) Eat ≡ true → IsOrder plan w order → IsOrder plan (done w a Eat) (with_last a order)
+eater_last plan w a order h sits one lt g o = record {
   once = λ y. ⊎_elim
       (λ e. subst (λ z. count_is z) (sym e) (occurrences_of_last a order ∙ sym (ap num (lt-ltb a (length plan.offices) lt))))
       (λ ne. occurrences_of_other a y order ne ∙ o.once y)
       (cases_eq y a);
-  earlier = λ u v near. one_changed (λ x y dx dy. are_neighbours plan x y ≡ true → ahead dx dy x y (w.on_way y x) ≡ true → comes_before (with_last a order) x y ≡ true) w.diner a (act (w.diner a) Eat)
-      (λ v ne n p. absurd (beaten ((w.diner a).held v) ((w.diner v).clean a) ((w.diner v).held a) (w.on_way a v) (w.on_way v a) (has v n)
-      (only_first ((w.diner a).held v) ((w.diner v).held a) (w.on_way a v) (w.on_way v a) (l.one_fork a v n) (has v n)) p))
+  earlier = λ u v near. one_changed (λ x y dx dy. are_neighbours plan x y ≡ true → ahead dx dy x y (w.forks_on_way y x) ≡ true → comes_before (with_last a order) x y ≡ true) w.diner a (act (w.diner a) Eat)
+      (λ v ne n p. absurd (beaten ((w.diner a).held v) ((w.diner v).clean a) ((w.diner v).held a) false (w.forks_on_way a v) (w.forks_on_way v a) (has v n) (one v n) p))
       (λ u ne n p. before_last a u order ne (office_counts plan w order u o (near_within plan a u h (near_both plan a u ∙ n))))
       (λ x y nx ny n p. others_stay a x y order nx ny (o.earlier x y n p))
       u v (neighbours_apart plan u v h near) near;
@@ -218,36 +187,20 @@ eater_last plan w a order h l lt g o = record {
 
     has : (v : ℕ) → are_neighbours plan a v ≡ true → (w.diner a).held v ≡ true
     has v n = of_each (w.diner a).held (are_neighbours plan a) (length plan.offices) v
-        (subst (λ (xs : List ℕ). list_all (w.diner a).held xs ≡ true) (l.neighbours a) (all_of (w.diner a) g))
+        (subst (λ (xs : List ℕ). list_all (w.diner a).held xs ≡ true) sits (all_of (w.diner a) g))
         (near_within plan a v h n) n
       where
         all_of : (d : Diner) → may d Eat ≡ true → list_all d.held d.neighbours ≡ true
         all_of d e = (and_parts _ (list_all d.held d.neighbours) e).1
 
-pub the_eater_comes_last : (plan : PlanValue) (w : World) (a : ℕ) (order : List ℕ) → IsConsistent plan → ForksArePlaced plan w → eats plan w (Do a Eat) ≡ true → IsOrder plan w order → IsOrder plan (happens plan w (Do a Eat)) (with_last a order)
-the_eater_comes_last plan w a order h l e o =
+pub the_eater_comes_last : (plan : PlanValue) (w : World) (a : ℕ) (order : List ℕ) → IsConsistent plan → (w.diner a).neighbours ≡ neighbours_of plan a → ((v : ℕ) → are_neighbours plan a v ≡ true → fork_places w a v ≡ 1) → eats plan w (Do a Eat) ≡ true →
+    IsOrder plan w order → IsOrder plan (happens plan w (Do a Eat)) (with_last a order)
+the_eater_comes_last plan w a order h sits one e o =
     let k : (nat_lt a (length plan.offices) ≡ true) × (may (w.diner a) Eat ≡ true) = and_parts (nat_lt a (length plan.offices)) (may (w.diner a) Eat) e in
-    subst (λ b. IsOrder plan (cond b (record { diner = put w.diner a (act (w.diner a) Eat); on_way = w.on_way }) w) (with_last a order)) (sym e)
-    (eater_last plan w a order h l (ltb-true a (length plan.offices) k.0) k.1 o)
-
-ring_after : (plan : PlanValue) (w : World) (e : Event) (b : Bool) → eats plan w e ≡ b → IsConsistent plan → ForksArePlaced plan w → HasNoRing plan w → HasNoRing plan (happens plan w e)
-ring_after plan w e false q h l r = record { order = r.order; is = order_kept plan w (happens plan w e) r.order (λ u v near. only_eating_turns plan w e u v h l q near) r.is }
-ring_after plan w (Do a Eat) true q h l r = record { order = with_last a r.order; is = the_eater_comes_last plan w a r.order h l q r.is }
-ring_after plan w (Do a (BecomeHungry thirsty)) true q h l r = absurd cc
-ring_after plan w (Do a (AskFork v)) true q h l r = absurd cc
-ring_after plan w (Do a (GiveFork v)) true q h l r = absurd cc
-ring_after plan w (Do a (Leave thirsty)) true q h l r = absurd cc
-ring_after plan w (TokenComes a v) true q h l r = absurd cc
-ring_after plan w (ForkComes a v) true q h l r = absurd cc
+    subst (λ b. IsOrder plan (cond b (done w a Eat) w) (with_last a order)) (sym e)
+    (eater_last plan w a order h sits one (ltb-true a (length plan.offices) k.0) k.1 o)
 
 -- ---- runs
-
-find_same : (f g : PairEntry → Bool) → ((x : PairEntry) → f x ≡ g x) → (xs : List PairEntry) → find f xs ≡ find g xs
-find_same f g h [] = refl
-find_same f g h (x ∷ xs) = ap (λ b. cond b (Some x) (find f xs)) (h x) ∙ ap (cond (g x) (Some x)) (find_same f g h xs)
-
-one_end : (plan : PlanValue) (u v x : ℕ) → fork_starts_at plan u v x ≡ fork_starts_at plan v u x
-one_end plan u v x = ap (λ (e : Option PairEntry). option_map_or (λ z. z == x) (option_map fork_end e) false) (find_same (joins u v) (joins v u) (joins_swap u v) plan.pairs)
 
 pub starts_dirty : (plan : PlanValue) (u v : ℕ) → are_neighbours plan u v ≡ true → precedes (opening plan) u v ≡ fork_starts_at plan v u v
 starts_dirty plan u v near =
@@ -260,61 +213,45 @@ starts_dirty plan u v near =
     plain false true = refl
     plain false false = refl
 
-run_laid : (plan : PlanValue) (w : World) (es : List Event) → IsConsistent plan → ForksArePlaced plan w → ForksArePlaced plan (run plan w es)
-run_laid plan w [] h l = l
-run_laid plan w (e ∷ es) h l = run_laid plan (happens plan w e) es h (laid_after plan w e h l)
+-- what holds of a world that events led to
+record IsPlaced (plan : PlanValue) (w : World) : Type 0 where
+  pub sits : (a : ℕ) → (w.diner a).neighbours ≡ neighbours_of plan a
+  pub places : HasOnePlaceEach plan w
 
-run_ring : (plan : PlanValue) (w : World) (es : List Event) → IsConsistent plan → ForksArePlaced plan w → HasNoRing plan w → HasNoRing plan (run plan w es)
-run_ring plan w [] h l r = r
-run_ring plan w (e ∷ es) h l r = run_ring plan (happens plan w e) es h (laid_after plan w e h l) (ring_after plan w e (eats plan w e) refl h l r)
+placed : (plan : PlanValue) (es : List Event) → IsConsistent plan → IsPlaced plan (run plan (opening plan) es)
+placed plan es h = record { sits = neighbours_stay plan es; places = each_has_one_place plan es h }
 
--- the fork starts at one of the two
-one_of : (e u v : ℕ) → (u ≡ v → ⊥) → (e ≡ u) ⊎ (e ≡ v) → num (e == u) + num (e == v) ≡ 1
-one_of e u v ne h = ⊎_elim
-    (λ s. omega (arith, ap num (eq-eqb e u s), ap num (ne_eqb e v (λ t. ne (sym s ∙ t)))))
-    (λ s. omega (arith, ap num (eq-eqb e v s), ap num (ne_eqb e u (λ t. ne (sym t ∙ s)))))
-    h
+fork_between : (plan : PlanValue) (w : World) (u v : ℕ) → IsPlaced plan w → are_neighbours plan u v ≡ true → fork_places w u v ≡ 1
+fork_between plan w u v p near = p.places.fork u v ∙ ap num near
 
-end_of_pair : (pair : PairEntry) (u v : ℕ) → joins u v pair ≡ true → (fork_end pair ≡ u) ⊎ (fork_end pair ≡ v)
-end_of_pair pair u v j = cond_both pair.fork_at_first pair.first pair.second (λ e. (e ≡ u) ⊎ (e ≡ v))
-    (λ _. ⊎_elim
-    (λ s. inl (eqb-true pair.first u (and_parts (pair.first == u) (pair.second == v) s).0))
-    (λ s. inr (eqb-true pair.first v (and_parts (pair.first == v) (pair.second == u) s).0))
-    (or_cases (pair.first == u && pair.second == v) (pair.first == v && pair.second == u) j))
-    (λ _. ⊎_elim
-    (λ s. inr (eqb-true pair.second v (and_parts (pair.first == u) (pair.second == v) s).1))
-    (λ s. inl (eqb-true pair.second u (and_parts (pair.first == v) (pair.second == u) s).1))
-    (or_cases (pair.first == u && pair.second == v) (pair.first == v && pair.second == u) j))
-
-abbrev ends_at : ℕ → Option PairEntry → ℕ
-ends_at x e = num (option_map_or (λ z. z == x) (option_map fork_end e) false)
-
-one_start : (pairs : List PairEntry) (u v : ℕ) → (u ≡ v → ⊥) → list_any (joins u v) pairs ≡ true → ends_at u (find (joins u v) pairs) + ends_at v (find (joins u v) pairs) ≡ 1
-one_start [] u v ne h = cc
-one_start (x ∷ xs) u v ne h = go (joins u v x) (λ e. e) (one_start xs u v ne) h
-  where
-    go : (b : Bool) → (b ≡ true → joins u v x ≡ true) → (list_any (joins u v) xs ≡ true → ends_at u (find (joins u v) xs) + ends_at v (find (joins u v) xs) ≡ 1) → (b || list_any (joins u v) xs) ≡ true → ends_at u (cond b (Some x) (find (joins u v) xs)) + ends_at v (cond b (Some x) (find (joins u v) xs)) ≡ 1
-    go true j r e = one_of (fork_end x) u v ne (end_of_pair x u v (j refl))
-    go false j r e = r e
-
-opening_laid : (plan : PlanValue) → IsConsistent plan → ForksArePlaced plan (opening plan)
-opening_laid plan h = record {
-  neighbours = λ a. refl;
-  one_fork = λ u v near.
-      omega (
-        arith,
-        ap (λ b. num (b && fork_starts_at plan u v u)) near,
-        ap (λ b. num (b && fork_starts_at plan v u v)) (near_both plan v u ∙ near),
-        ap num (one_end plan v u v),
-        one_start plan.pairs u v (neighbours_apart plan u v h near) near,
-      );
+ring_after : (plan : PlanValue) (w : World) (e : Event) (b : Bool) → eats plan w e ≡ b → IsConsistent plan → IsPlaced plan w → HasNoRing plan w → HasNoRing plan (happens plan w e)
+ring_after plan w e false q h p r = record {
+  order = r.order;
+  is = order_kept plan w (happens plan w e) r.order (λ u v near. only_eating_turns plan w e u v (neighbours_apart plan u v h near) (fork_between plan w u v p near) q) r.is;
 }
+ring_after plan w (Do a Eat) true q h p r = record { order = with_last a r.order; is = the_eater_comes_last plan w a r.order h (p.sits a) (λ v near. fork_between plan w a v p near) q r.is }
+ring_after plan w (Do a (BecomeHungry thirsty)) true q h p r = absurd (no_true q)
+ring_after plan w (Do a (AskFork v)) true q h p r = absurd (no_true q)
+ring_after plan w (Do a (GiveFork v)) true q h p r = absurd (no_true q)
+ring_after plan w (Do a (Leave thirsty)) true q h p r = absurd (no_true q)
+ring_after plan w (TokenComes a v) true q h p r = absurd (no_true q)
+ring_after plan w (ForkComes a v) true q h p r = absurd (no_true q)
 
-pub each_fork_has_one_place : (plan : PlanValue) (es : List Event) → IsConsistent plan → ForksArePlaced plan (run plan (opening plan) es)
-each_fork_has_one_place plan es h = run_laid plan (opening plan) es h (opening_laid plan h)
+-- the events so far, and those to come
+run_more : (plan : PlanValue) (w : World) (es : List Event) (e : Event) → run plan w (es ++ e ∷ []) ≡ happens plan (run plan w es) e
+run_more plan w [] e = refl
+run_more plan w (x ∷ es) e = run_more plan (happens plan w x) es e
+
+run_ring : (plan : PlanValue) (so_far es : List Event) → IsConsistent plan → HasNoRing plan (run plan (opening plan) so_far) → HasNoRing plan (run plan (run plan (opening plan) so_far) es)
+run_ring plan so_far [] h r = r
+run_ring plan so_far (e ∷ es) h r =
+    let w : World = run plan (opening plan) so_far in
+    let is : run plan (opening plan) (so_far ++ e ∷ []) ≡ happens plan w e = run_more plan (opening plan) so_far e in
+    subst (λ (x : World). HasNoRing plan (run plan x es)) is
+    (run_ring plan (so_far ++ e ∷ []) es h (subst (HasNoRing plan) (sym is) (ring_after plan w e (eats plan w e) refl h (placed plan so_far h) r)))
 
 pub never_a_ring : (plan : PlanValue) (es : List Event) → IsConsistent plan → HasNoRing plan (opening plan) → HasNoRing plan (run plan (opening plan) es)
-never_a_ring plan es h r = run_ring plan (opening plan) es h (opening_laid plan h) r
+never_a_ring plan es h r = run_ring plan [] es h r
 
 -- ---- from a plan
 

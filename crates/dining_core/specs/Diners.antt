@@ -1,5 +1,5 @@
 -- An office that shares a fork with each neighbour, and the guard and effect of each rule of the forks.
-use Rattle.std.specs.Prelude.{ℕ, Bool, true, false, not, ◌==◌, ◌&&◌, List, if◌then◌else◌}
+use Rattle.std.specs.Prelude.{ℕ, Bool, true, false, not, ◌&&◌, List}
 use Rattle.std.specs.List.{list_all}
 use Rattle.office_map.specs.PlanValue.{PlanValue, are_neighbours, neighbours_of, fork_starts_at}
 use Rattle.dining_core.specs.declared.phase.Phase.{Phase}

@@ -1,10 +1,15 @@
-//! Laws of all tables and the forks on the way.
+//! Laws of all tables with the forks and request tokens on the way.
 
-ghost use Rattle.dining_core.specs.Worlds.{EachForkHasOnePlace, ForksStartDirty, OnlyEatingTurns, TheEaterComesLast, NeverARing, StartsInThePlansOrder, NoRingFromAnAcceptedPlan};
+ghost use Rattle.dining_core.specs.Worlds.{EachHasOnePlace, NeighboursStay, ForksStartDirty, OnlyEatingTurns, TheEaterComesLast, NeverARing, StartsInThePlansOrder, NoRingFromAnAcceptedPlan};
 
-/// After every list of events the fork of two neighbours is at one of them, or on the way.
-pub fn each_fork_has_one_place()
-    ensures { EachForkHasOnePlace }
+/// After every list of events the fork of two neighbours is at one of them, or on the way, and so is its request token.
+pub fn each_has_one_place()
+    ensures { EachHasOnePlace }
+{}
+
+/// No event changes with whom an office sits.
+pub fn neighbours_stay()
+    ensures { NeighboursStay }
 {}
 
 /// At the start an office precedes the neighbour that has their fork.

@@ -1,0 +1,5 @@
+use Rattle.dining_core.proofs.ForkPlaces.{each_has_one_place}
+use Rattle.dining_core.proofs.laws.each_has_one_place.Goals as goal
+
+pub returns : goal.returns
+returns c = each_has_one_place
