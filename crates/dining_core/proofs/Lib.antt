@@ -4,3 +4,4 @@ pub mod OnTheWay
 pub mod ForkPlaces
 pub mod EaterLast
 pub mod ForkLaws
+pub mod EatersForks

@@ -1,10 +1,11 @@
 -- All offices of a plan at their tables with the forks and request tokens on the way, and who precedes whom.
 use Rattle.std.specs.Prelude.{◌≡◌, ◌≢◌, ℕ, zero, suc, ◌+◌, Bool, true, false, not, ◌==◌, nat_lt, ◌&&◌, ◌||◌, List, [], ◌∷◌, ◌++◌, length, filter, if◌then◌else◌}
+use Rattle.std.specs.List.{list_all}
 use Rattle.office_map.specs.PlanValue.{PlanValue, are_neighbours, neighbours_of, fork_starts_at}
 use Rattle.office_map.specs.Precedence.{occurrences, comes_before}
 use Rattle.office_map.specs.Precedence as plans
 use Rattle.office_map.specs.Consistency.{IsConsistent, IsAccepted}
-use Rattle.dining_core.specs.Diners.{Diner, ForkRule, BecomeHungry, AskFork, GiveFork, Eat, Leave, may, act, with_token, with_fork, diner_at_start}
+use Rattle.dining_core.specs.Diners.{Diner, ForkRule, BecomeHungry, AskFork, GiveFork, Eat, Leave, is_eating, may, act, with_token, with_fork, diner_at_start}
 use Rattle.bottle_values.specs.Maps.{put}
 use Rattle.bottle_values.specs.Lists.{num}
 
@@ -100,6 +101,14 @@ pub record HasOnePlaceEach (plan : PlanValue) (w : World) : Type 0 where
   pub fork : (u v : ℕ) → fork_places w u v ≡ num (are_neighbours plan u v)
   pub token : (u v : ℕ) → token_places w u v ≡ num (are_neighbours plan u v)
 
+-- these two have neither fork nor request token, at either or on the way
+abbrev pub ShareNothing : World → ℕ → ℕ → Type 0
+ShareNothing w u v = (fork_places w u v ≡ 0) × (token_places w u v ≡ 0)
+
+-- an office that eats has the fork of each of its neighbours
+abbrev pub HasItsForks : Diner → Type 0
+HasItsForks d = is_eating d.phase ≡ true → list_all d.held d.neighbours ≡ true
+
 -- u precedes v: u has their fork clean, or v has it dirty, or v sent it to u
 abbrev pub precedes : World → ℕ → ℕ → Bool
 precedes w u v =
@@ -136,8 +145,20 @@ with_last a order = filter (λ x. not (x == a)) order ++ a ∷ []
 abbrev pub EachHasOnePlace : Type 0
 EachHasOnePlace = (plan : PlanValue) (events : List Event) → IsConsistent plan → HasOnePlaceEach plan (run plan (opening plan) events)
 
+-- two offices that are no neighbours share nothing
+abbrev pub StrangersShareNothing : Type 0
+StrangersShareNothing = (plan : PlanValue) (events : List Event) (u v : ℕ) → are_neighbours plan u v ≡ false → ShareNothing (run plan (opening plan) events) u v
+
 abbrev pub NeighboursStay : Type 0
 NeighboursStay = (plan : PlanValue) (events : List Event) (a : ℕ) → ((run plan (opening plan) events).diner a).neighbours ≡ neighbours_of plan a
+
+abbrev pub EatersHaveTheirForks : Type 0
+EatersHaveTheirForks = (plan : PlanValue) (events : List Event) (a : ℕ) → HasItsForks ((run plan (opening plan) events).diner a)
+
+-- two neighbours never eat at once
+abbrev pub NeighboursEatApart : Type 0
+NeighboursEatApart = (plan : PlanValue) (events : List Event) (u v : ℕ) → IsConsistent plan → are_neighbours plan u v ≡ true →
+    (is_eating ((run plan (opening plan) events).diner u).phase && is_eating ((run plan (opening plan) events).diner v).phase) ≡ false
 
 -- at the start the other end of a dirty fork precedes
 abbrev pub ForksStartDirty : Type 0

@@ -1,15 +1,30 @@
 //! Laws of all tables with the forks and request tokens on the way.
 
-ghost use Rattle.dining_core.specs.Worlds.{EachHasOnePlace, NeighboursStay, ForksStartDirty, OnlyEatingTurns, TheEaterComesLast, NeverARing, StartsInThePlansOrder, NoRingFromAnAcceptedPlan};
+ghost use Rattle.dining_core.specs.Worlds.{EachHasOnePlace, StrangersShareNothing, NeighboursStay, EatersHaveTheirForks, NeighboursEatApart, ForksStartDirty, OnlyEatingTurns, TheEaterComesLast, NeverARing, StartsInThePlansOrder, NoRingFromAnAcceptedPlan};
 
 /// After every list of events the fork of two neighbours is at one of them, or on the way, and so is its request token.
 pub fn each_has_one_place()
     ensures { EachHasOnePlace }
 {}
 
+/// Two offices that are no neighbours never have a fork or a request token between them.
+pub fn strangers_share_nothing()
+    ensures { StrangersShareNothing }
+{}
+
 /// No event changes with whom an office sits.
 pub fn neighbours_stay()
     ensures { NeighboursStay }
+{}
+
+/// After every list of events an office that eats has the fork of each of its neighbours.
+pub fn eaters_have_their_forks()
+    ensures { EatersHaveTheirForks }
+{}
+
+/// Two neighbours never eat at once.
+pub fn neighbours_eat_apart()
+    ensures { NeighboursEatApart }
 {}
 
 /// At the start an office precedes the neighbour that has their fork.

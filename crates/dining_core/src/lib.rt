@@ -5,8 +5,8 @@
 //!   (clause `done`). The rows are `may` and `act` in `specs/Diners.antt`; `diner_of`, in `specs/refinement/Tables.antt`, says which
 //!   office a table means.
 //! - [`laws`] has all tables with the forks and request tokens on the way (`specs/Worlds.antt`): each fork and each token
-//!   has one place, from an accepted plan precedence never has a ring, and only eating turns it, which puts the eater
-//!   last.
+//!   has one place, two neighbours never eat at once, from an accepted plan precedence never has a ring, and only eating
+//!   turns it, which puts the eater last.
 //!
 //! No call takes memory but [`Table::open`]. It stands on `office_map` and `thiserror`.
 #![tactic(auto)]
