@@ -1,5 +1,5 @@
 -- An office that drinks has what it needs, event by event.
-use Rattle.std.proofs.Common.{◌≡◌, ℕ, Bool, true, false, not, ◌&&◌, ◌||◌, cond, List, [], ◌∷◌, length, Option, None, Some, is_some, refl, ap, ◌∙◌}
+use Rattle.std.proofs.Common.{◌≡◌, ℕ, zero, suc, Bool, true, false, not, ◌&&◌, ◌||◌, cond, List, [], ◌∷◌, length, Option, None, Some, is_some, refl, ap, ◌∙◌}
 use Rattle.std.specs.Prelude.{◌==◌, nat_lt}
 use Rattle.std.specs.List.{list_all}
 use Rattle.std.proofs.lemmas.Bool.{cond_both, eqb-true, and_parts, and_from}
@@ -53,20 +53,21 @@ needs_bottle d r x h = λ e. all_more (is_served d) (is_served (with_bottle d r 
 one_put : (f : ℕ → Drinker) (a : ℕ) (d : Drinker) → HasWhatItNeeds d → ((c : ℕ) → HasWhatItNeeds (f c)) → (c : ℕ) → HasWhatItNeeds (put f a d c)
 one_put f a d p h c = cond_both (c == a) d (f c) HasWhatItNeeds (λ e. p) (λ e. h c)
 
-all_taken : (w : World) (a r : ℕ) (o : Option Value) → ((c : ℕ) → HasWhatItNeeds (w.drinker c)) → (c : ℕ) → HasWhatItNeeds ((bottle_taken w a r o).drinker c)
-all_taken w a r None h c = h c
-all_taken w a r (Some x) h c = one_put w.drinker a (with_bottle (w.drinker a) r x) (needs_bottle (w.drinker a) r x (h a)) h c
+token_came : (w : World) (a v r n : ℕ) → ((c : ℕ) → HasWhatItNeeds (w.drinker c)) → (c : ℕ) → HasWhatItNeeds ((token_taken w a v r n).drinker c)
+token_came w a v r zero h c = h c
+token_came w a v r (suc left) h c = one_put w.drinker a (with_token (w.drinker a) r) (h a) h c
+
+bottle_came : (w : World) (a v r : ℕ) (sent : List Value) → ((c : ℕ) → HasWhatItNeeds (w.drinker c)) → (c : ℕ) → HasWhatItNeeds ((bottle_taken w a v r sent).drinker c)
+bottle_came w a v r [] h c = h c
+bottle_came w a v r (x ∷ later) h c = one_put w.drinker a (with_bottle (w.drinker a) r x) (needs_bottle (w.drinker a) r x (h a)) h c
 
 all_after : (plan : PlanValue) (w : World) (e : Event) → ((c : ℕ) → HasWhatItNeeds (w.drinker c)) → (c : ℕ) → HasWhatItNeeds ((happens plan w e).drinker c)
 all_after plan w (Do a rule) h c =
     cond_both (does plan w a rule) (done w a rule) w (λ (x : World). HasWhatItNeeds (x.drinker c))
     (λ e. one_put w.drinker a (act (w.drinker a) rule) (needs_after (w.drinker a) rule (and_parts (nat_lt a (length plan.offices)) (may (w.drinker a) rule) e).1 (h a)) h c)
     (λ e. h c)
-all_after plan w (TokenComes a r) h c =
-    cond_both (w.token_to r a) (token_taken w a r) w (λ (x : World). HasWhatItNeeds (x.drinker c))
-    (λ e. one_put w.drinker a (with_token (w.drinker a) r) (h a) h c)
-    (λ e. h c)
-all_after plan w (BottleComes a r) h c = all_taken w a r (w.bottle_to r a) h c
+all_after plan w (TokenComes a v r) h c = token_came w a v r (w.tokens_on_way r v a) h c
+all_after plan w (BottleComes a v r) h c = bottle_came w a v r (w.bottles_on_way r v a) h c
 
 run_needs : (plan : PlanValue) (w : World) (es : List Event) → ((c : ℕ) → HasWhatItNeeds (w.drinker c)) → (c : ℕ) → HasWhatItNeeds ((run plan w es).drinker c)
 run_needs plan w [] h c = h c

@@ -2,7 +2,10 @@ pub mod MissingCount
 pub mod BarUpdates
 pub mod OpeningRefines
 pub mod SessionUpdates
-pub mod UniquePlace
+pub mod UniqueSpot
+pub mod StayingParts
 pub mod BottleLaws
+pub mod UnknownRecords
+pub mod BottlePlaces
 pub mod DrinkersNeeds
 pub mod FreedRecords

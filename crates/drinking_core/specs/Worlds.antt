@@ -1,61 +1,77 @@
 -- All offices of a plan at their bars with the bottles and request tokens on the way, and where each bottle is.
-use Rattle.std.specs.Prelude.{◌≡◌, ℕ, ◌<◌, Bool, true, false, ◌==◌, ◌&&◌, nat_lt, List, [], ◌∷◌, length, Option, None, Some, slice_get, if◌then◌else◌}
+use Rattle.std.specs.Prelude.{◌≡◌, ℕ, zero, suc, ◌<◌, Bool, true, false, ◌==◌, ◌&&◌, nat_lt, List, [], ◌∷◌, ◌++◌, length, Option, None, Some, slice_get, if◌then◌else◌}
 use Rattle.std.specs.List.{list_all}
 use Rattle.bottle_values.specs.declared.Value.{Value}
 use Rattle.bottle_values.specs.Maps.{put}
+use Rattle.bottle_values.specs.Lists.{num}
 use Rattle.office_map.specs.declared.entries.RecordEntry.{RecordEntry}
-use Rattle.office_map.specs.PlanValue.{PlanValue, is_end, start_end}
-use Rattle.drinking_core.specs.Drinkers.{Drinker, BottleRule, Start, AskBottle, GiveBottle, Drink, Finish, is_drinking, is_served, may, act, with_token, with_bottle, value_after, opened}
+use Rattle.office_map.specs.PlanValue.{PlanValue, is_end, has_ends, start_end}
+use Rattle.office_map.specs.Consistency.{IsConsistent}
+use Rattle.dining_core.specs.Worlds.{with_way, one_more, places}
+use Rattle.drinking_core.specs.Drinkers.{Drinker, BottleRule, Start, AskBottle, GiveBottle, Drink, Finish, is_drinking, is_served, holds, may, act, with_token, with_bottle, value_after, opened}
 
--- each office; of each record the bottle that was sent to an office which hasn't taken it, with its value; and whether
--- its request token was sent to an office which hasn't taken it
+-- each office; and of each record the bottles, with their values and the first one first, and how many request tokens an
+-- office sent to another, who hasn't taken them
 pub record World : Type 0 where
   pub drinker : ℕ → Drinker
-  pub bottle_to : ℕ → ℕ → Option Value
-  pub token_to : ℕ → ℕ → Bool
+  pub bottles_on_way : ℕ → ℕ → ℕ → List Value
+  pub tokens_on_way : ℕ → ℕ → ℕ → ℕ
 
 -- at the start nothing is on the way
 abbrev pub opening : PlanValue → World
-opening plan = record { drinker = opened plan; bottle_to = λ r a. None; token_to = λ r a. false }
+opening plan = record { drinker = opened plan; bottles_on_way = λ r a v. []; tokens_on_way = λ r a v. 0 }
 
--- an office does a rule, or takes the request token or the bottle of a record
+-- an office does a rule, or takes the request token or the bottle of a record that v sent to it
 pub data Event : Type 0 where
   Do : (a : ℕ) (rule : BottleRule) → Event
-  TokenComes : (a r : ℕ) → Event
-  BottleComes : (a r : ℕ) → Event
+  TokenComes : (a v r : ℕ) → Event
+  BottleComes : (a v r : ℕ) → Event
 
-abbrev pub put_to : {A : Type 0} → (ℕ → ℕ → A) → ℕ → ℕ → A → ℕ → ℕ → A
-put_to way r a x = put way r (put (way r) a x)
+-- a bottle that is given is on the way, behind those that are
+abbrev pub bottle_sent : (ℕ → ℕ → ℕ → List Value) → ℕ → ℕ → ℕ → Option Value → ℕ → ℕ → ℕ → List Value
+bottle_sent way r a v None = way
+bottle_sent way r a v (Some x) = put way r (with_way (way r) a v (way r a v ++ x ∷ []))
 
--- a bottle that is given is on the way to the other end
-abbrev pub bottles_after : (ℕ → ℕ → Option Value) → Drinker → BottleRule → ℕ → ℕ → Option Value
-bottles_after way d (Start session) = way
-bottles_after way d (AskBottle r) = way
-bottles_after way d (GiveBottle r forks) = put_to way r (d.peer r) (d.bottle r)
-bottles_after way d Drink = way
-bottles_after way d (Finish writes) = way
+-- what is given goes to the other end
+abbrev pub bottles_after : (ℕ → ℕ → ℕ → List Value) → ℕ → Drinker → BottleRule → ℕ → ℕ → ℕ → List Value
+bottles_after way a d (Start session) = way
+bottles_after way a d (AskBottle r) = way
+bottles_after way a d (GiveBottle r forks) = bottle_sent way r a (d.peer r) (d.bottle r)
+bottles_after way a d Drink = way
+bottles_after way a d (Finish writes) = way
 
--- and so is the token of a bottle that is asked for
-abbrev pub tokens_after : (ℕ → ℕ → Bool) → Drinker → BottleRule → ℕ → ℕ → Bool
-tokens_after way d (Start session) = way
-tokens_after way d (AskBottle r) = put_to way r (d.peer r) true
-tokens_after way d (GiveBottle r forks) = way
-tokens_after way d Drink = way
-tokens_after way d (Finish writes) = way
+-- and so does the token of a bottle that is asked for
+abbrev pub tokens_after : (ℕ → ℕ → ℕ → ℕ) → ℕ → Drinker → BottleRule → ℕ → ℕ → ℕ → ℕ
+tokens_after way a d (Start session) = way
+tokens_after way a d (AskBottle r) = put way r (one_more (way r) a (d.peer r))
+tokens_after way a d (GiveBottle r forks) = way
+tokens_after way a d Drink = way
+tokens_after way a d (Finish writes) = way
 
 abbrev pub done : World → ℕ → BottleRule → World
 done w a rule = record {
   drinker = put w.drinker a (act (w.drinker a) rule);
-  bottle_to = bottles_after w.bottle_to (w.drinker a) rule;
-  token_to = tokens_after w.token_to (w.drinker a) rule;
+  bottles_on_way = bottles_after w.bottles_on_way a (w.drinker a) rule;
+  tokens_on_way = tokens_after w.tokens_on_way a (w.drinker a) rule;
 }
 
-abbrev pub bottle_taken : World → ℕ → ℕ → Option Value → World
-bottle_taken w a r None = w
-bottle_taken w a r (Some v) = record { drinker = put w.drinker a (with_bottle (w.drinker a) r v); bottle_to = put_to w.bottle_to r a None; token_to = w.token_to }
+-- of the tokens that v sent to a, so many, one is taken, if there is one
+abbrev pub token_taken : World → ℕ → ℕ → ℕ → ℕ → World
+token_taken w a v r zero = w
+token_taken w a v r (suc left) = record {
+  drinker = put w.drinker a (with_token (w.drinker a) r);
+  bottles_on_way = w.bottles_on_way;
+  tokens_on_way = put w.tokens_on_way r (with_way (w.tokens_on_way r) v a left);
+}
 
-abbrev pub token_taken : World → ℕ → ℕ → World
-token_taken w a r = record { drinker = put w.drinker a (with_token (w.drinker a) r); bottle_to = w.bottle_to; token_to = put_to w.token_to r a false }
+-- of these bottles the first
+abbrev pub bottle_taken : World → ℕ → ℕ → ℕ → List Value → World
+bottle_taken w a v r [] = w
+bottle_taken w a v r (x ∷ later) = record {
+  drinker = put w.drinker a (with_bottle (w.drinker a) r x);
+  bottles_on_way = put w.bottles_on_way r (with_way (w.bottles_on_way r) v a later);
+  tokens_on_way = w.tokens_on_way;
+}
 
 -- an office of the plan does a rule where the guard holds
 abbrev pub does : PlanValue → World → ℕ → BottleRule → Bool
@@ -64,51 +80,73 @@ does plan w a rule = nat_lt a (length plan.offices) && may (w.drinker a) rule
 -- what was sent comes
 abbrev pub happens : PlanValue → World → Event → World
 happens plan w (Do a rule) = if does plan w a rule then done w a rule else w
-happens plan w (TokenComes a r) = if w.token_to r a then token_taken w a r else w
-happens plan w (BottleComes a r) = bottle_taken w a r (w.bottle_to r a)
+happens plan w (TokenComes a v r) = token_taken w a v r (w.tokens_on_way r v a)
+happens plan w (BottleComes a v r) = bottle_taken w a v r (w.bottles_on_way r v a)
 
 abbrev pub run : PlanValue → World → List Event → World
 run plan w [] = w
 run plan w (e ∷ es) = run plan (happens plan w e) es
 
--- the place of a bottle or a request token: with an office, or on the way to one
+-- the spot of a bottle or a request token: with an office, or on the way from one to another
 pub data Spot : Type 0 where
   With : (a : ℕ) → Spot
-  Toward : (a : ℕ) → Spot
-
-abbrev pub office_of : Spot → ℕ
-office_of (With a) = a
-office_of (Toward a) = a
+  Toward : (a v : ℕ) → Spot
 
 abbrev pub is_with : Spot → ℕ → Bool
 is_with (With a) c = c == a
-is_with (Toward a) c = false
+is_with (Toward a v) c = false
 
-abbrev pub is_toward : Spot → ℕ → Bool
-is_toward (With a) c = false
-is_toward (Toward a) c = c == a
+abbrev pub is_toward : Spot → ℕ → ℕ → Bool
+is_toward (With a) b c = false
+is_toward (Toward a v) b c = b == a && c == v
 
--- this is at the spot, and nothing is anywhere else
-pub record IsAt {X : Type 0} (nowhere : X) (held sent : ℕ → X) (spot : Spot) (x : X) : Type 0 where
+-- with an end of the record, or on the way from an end to the other
+abbrev pub is_at_ends : PlanValue → ℕ → Spot → Bool
+is_at_ends plan r (With a) = is_end plan r a
+is_at_ends plan r (Toward a v) = has_ends plan r a v
+
+-- at the spot an office has x, or one x' is on the way, and there is nothing anywhere else
+pub record IsAt {X Y : Type 0} (nowhere : X) (nothing : Y) (held : ℕ → X) (on_way : ℕ → ℕ → Y) (spot : Spot) (x : X) (x' : Y) : Type 0 where
   pub here : (c : ℕ) → held c ≡ (if is_with spot c then x else nowhere)
-  pub on_way : (c : ℕ) → sent c ≡ (if is_toward spot c then x else nowhere)
+  pub sent : (b c : ℕ) → on_way b c ≡ (if is_toward spot b c then x' else nothing)
 
 -- the bottle of the record is there with this value, and nowhere else
 abbrev pub IsBottleAt : World → ℕ → Spot → Value → Type 0
-IsBottleAt w r spot v = IsAt None (λ c. (w.drinker c).bottle r) (w.bottle_to r) spot (Some v)
+IsBottleAt w r spot v = IsAt None [] (λ c. (w.drinker c).bottle r) (w.bottles_on_way r) spot (Some v) (v ∷ [])
 
 abbrev pub IsTokenAt : World → ℕ → Spot → Type 0
-IsTokenAt w r spot = IsAt false (λ c. (w.drinker c).token r) (w.token_to r) spot true
+IsTokenAt w r spot = IsAt false 0 (λ c. (w.drinker c).token r) (w.tokens_on_way r) spot true 1
 
--- the bottle of the record has one place, with an end of the record or on the way to one, and so has its request token
-pub record HasOnePlaceEach (plan : PlanValue) (w : World) (r : ℕ) : Type 0 where
+-- the bottle of the record is at a spot of its ends, and so is its request token
+pub record HasItsSpots (plan : PlanValue) (w : World) (r : ℕ) : Type 0 where
   pub spot : Spot
   pub value : Value
   pub bottle : IsBottleAt w r spot value
-  pub bottle_end : is_end plan r (office_of spot) ≡ true
+  pub bottle_end : is_at_ends plan r spot ≡ true
   pub token_spot : Spot
   pub token : IsTokenAt w r token_spot
-  pub token_at_end : is_end plan r (office_of token_spot) ≡ true
+  pub token_at_end : is_at_ends plan r token_spot ≡ true
+
+-- at how many places the bottle of a record is between two offices: held at one to which the other is the other end, or
+-- on the way
+abbrev pub bottle_places : World → ℕ → ℕ → ℕ → ℕ
+bottle_places w r u v = places (λ a b. (w.drinker a).peer r == b && holds (w.drinker a) r) (λ a b. length (w.bottles_on_way r a b)) u v
+
+abbrev pub token_places : World → ℕ → ℕ → ℕ → ℕ
+token_places w r u v = places (λ a b. (w.drinker a).peer r == b && (w.drinker a).token r) (w.tokens_on_way r) u v
+
+-- the bottle of a record is at one place between its two ends, and so is its request token; between two other offices,
+-- or of a record that the plan doesn't have, there is neither
+pub record HasOnePlaceEach (plan : PlanValue) (w : World) : Type 0 where
+  pub bottle : (r u v : ℕ) → bottle_places w r u v ≡ num (has_ends plan r u v)
+  pub token : (r u v : ℕ) → token_places w r u v ≡ num (has_ends plan r u v)
+
+-- of the record there is neither bottle nor request token, at any office or on the way
+pub record IsNowhere (w : World) (r : ℕ) : Type 0 where
+  pub bottle : (a : ℕ) → (w.drinker a).bottle r ≡ None
+  pub token : (a : ℕ) → (w.drinker a).token r ≡ false
+  pub bottles_on_way : (a v : ℕ) → w.bottles_on_way r a v ≡ []
+  pub tokens_on_way : (a v : ℕ) → w.tokens_on_way r a v ≡ 0
 
 -- an office of the plan finishes its session with these writes
 abbrev pub finishes : PlanValue → World → Event → Bool
@@ -117,8 +155,8 @@ finishes plan w (Do a (AskBottle r)) = false
 finishes plan w (Do a (GiveBottle r forks)) = false
 finishes plan w (Do a Drink) = false
 finishes plan w (Do a (Finish writes)) = does plan w a (Finish writes)
-finishes plan w (TokenComes a r) = false
-finishes plan w (BottleComes a r) = false
+finishes plan w (TokenComes a v r) = false
+finishes plan w (BottleComes a v r) = false
 
 -- the bottle of the record has this value, wherever it is
 pub record HasValue (w : World) (r : ℕ) (v : Value) : Type 0 where
@@ -131,12 +169,16 @@ HasWhatItNeeds d = is_drinking d.phase ≡ true → list_all (is_served d) d.rec
 
 -- ---- laws
 
-abbrev pub EachHasOnePlace : Type 0
-EachHasOnePlace = (plan : PlanValue) (events : List Event) (r : ℕ) → r < length plan.records → HasOnePlaceEach plan (run plan (opening plan) events) r
+-- after every list of events bottles and request tokens are where they belong
+abbrev pub EachHasItsSpots : Type 0
+EachHasItsSpots = (plan : PlanValue) (events : List Event) (r : ℕ) → r < length plan.records → HasItsSpots plan (run plan (opening plan) events) r
 
--- two places of a bottle are the same, with the same value
-abbrev pub NoOtherPlace : Type 0
-NoOtherPlace = (w : World) (r : ℕ) (spot other : Spot) (v x : Value) → IsBottleAt w r spot v → IsBottleAt w r other x → (spot ≡ other) × (v ≡ x)
+abbrev pub EachHasOnePlace : Type 0
+EachHasOnePlace = (plan : PlanValue) (events : List Event) → IsConsistent plan → HasOnePlaceEach plan (run plan (opening plan) events)
+
+-- two spots of a bottle are the same, with the same value
+abbrev pub NoOtherSpot : Type 0
+NoOtherSpot = (w : World) (r : ℕ) (spot other : Spot) (v x : Value) → IsBottleAt w r spot v → IsBottleAt w r other x → (spot ≡ other) × (v ≡ x)
 
 abbrev pub BottlesStartWithTheirValues : Type 0
 BottlesStartWithTheirValues = (plan : PlanValue) (r : ℕ) (e : RecordEntry) → slice_get plan.records r ≡ Some e → IsBottleAt (opening plan) r (With (start_end e)) (record { number = e.value })

@@ -1,16 +1,22 @@
 //! Laws of all bars with the bottles and request tokens on the way.
 
-ghost use Rattle.drinking_core.specs.Worlds.{EachHasOnePlace, NoOtherPlace, BottlesStartWithTheirValues, ValuesStay, FinishingWrites, DrinkersHaveWhatTheyNeed};
+ghost use Rattle.drinking_core.specs.Worlds.{EachHasItsSpots, EachHasOnePlace, NoOtherSpot, BottlesStartWithTheirValues, ValuesStay, FinishingWrites, DrinkersHaveWhatTheyNeed};
 
-/// After every list of events the bottle of each record is with one of its ends or on the way to one, and so is the
-/// bottle's request token.
+/// After every list of events the bottle of each record is with one of its ends or on the way from one to the other, and
+/// so is the bottle's request token.
+pub fn each_has_its_spots()
+    ensures { EachHasItsSpots }
+{}
+
+/// After every list of events the bottle of a record has one place between the record's ends, and so has its request
+/// token; between two other offices neither has one.
 pub fn each_has_one_place()
     ensures { EachHasOnePlace }
 {}
 
 /// A bottle that is somewhere is nowhere else, and has one value.
-pub fn no_other_place()
-    ensures { NoOtherPlace }
+pub fn no_other_spot()
+    ensures { NoOtherSpot }
 {}
 
 /// At the start each bottle is at the plan's end with the plan's value.

@@ -1,4 +1,4 @@
-use Rattle.drinking_core.proofs.BottleLaws.{each_has_one_place}
+use Rattle.drinking_core.proofs.BottlePlaces.{each_has_one_place}
 use Rattle.drinking_core.proofs.laws.each_has_one_place.Goals as goal
 
 pub returns : goal.returns
