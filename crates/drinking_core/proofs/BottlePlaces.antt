@@ -6,13 +6,13 @@ use Rattle.std.proofs.lemmas.Option.{slice_get_past}
 use Rattle.std.proofs.lemmas.Bool.{eq-eqb, ne_eqb, cases_eq, cases_Bool, cases_lt}
 use Rattle.bottle_values.specs.declared.Value.{Value}
 use Rattle.bottle_values.specs.Lists.{num}
-use Rattle.office_map.specs.PlanValue.{PlanValue, is_end, has_ends, lies_between, peer}
+use Rattle.office_map.specs.PlanValue.{PlanValue, are_neighbours, is_end, has_ends, lies_between, peer}
 use Rattle.office_map.specs.Consistency.{IsConsistent}
-use Rattle.office_map.proofs.RecordEnds.{has_ends_both, peer_is, peer_apart, has_peer, ends_are}
+use Rattle.office_map.proofs.RecordEnds.{has_ends_both, peer_is, peer_apart, peer_near, has_peer, ends_are}
 use Rattle.dining_core.specs.Worlds.{places}
-use Rattle.drinking_core.specs.Worlds.{World, Event, opening, run, Spot, With, Toward, is_with, is_toward, is_at_ends, IsBottleAt, IsTokenAt, HasItsSpots, bottle_places, token_places, HasOnePlaceEach, IsNowhere}
+use Rattle.drinking_core.specs.Worlds.{World, Event, opening, run, Spot, With, Toward, is_with, is_toward, is_at_ends, IsBottleAt, IsTokenAt, HasItsSpots, bottle_places, token_places, HasOnePlaceEach, ShareNothing, IsNowhere}
 use Rattle.drinking_core.proofs.BottleLaws.{is_first_end, each_has_its_spots}
-use Rattle.drinking_core.proofs.StayingParts.{peers_stay}
+use Rattle.drinking_core.proofs.StayingParts.{peers_run}
 use Rattle.drinking_core.proofs.UnknownRecords.{unknown_records_are_nowhere}
 
 no_true : false ≡ true → ⊥
@@ -175,9 +175,18 @@ of_spots plan w r h peers s u v = (bottle_once plan w r s.spot s.value h peers s
 each_at : (plan : PlanValue) (es : List Event) (r u v : ℕ) → IsConsistent plan →
     (bottle_places (run plan (opening plan) es) r u v ≡ num (has_ends plan r u v)) × (token_places (run plan (opening plan) es) r u v ≡ num (has_ends plan r u v))
 each_at plan es r u v h = ⊎_elim
-    (λ lt. of_spots plan (run plan (opening plan) es) r h (peers_stay plan es) (each_has_its_spots plan es r lt) u v)
+    (λ lt. of_spots plan (run plan (opening plan) es) r h (peers_run plan es) (each_has_its_spots plan es r lt) u v)
     (λ past. none_between plan (run plan (opening plan) es) r past (unknown_records_are_nowhere plan es r past) u v)
     (cases_lt r (length plan.records))
 
 pub each_has_one_place : (plan : PlanValue) (es : List Event) → IsConsistent plan → HasOnePlaceEach plan (run plan (opening plan) es)
 each_has_one_place plan es h = record { bottle = λ r u v. (each_at plan es r u v h).0; token = λ r u v. (each_at plan es r u v h).1 }
+
+-- the ends of a record are neighbours
+pub strangers_share_nothing : (plan : PlanValue) (es : List Event) (u v : ℕ) → IsConsistent plan → are_neighbours plan u v ≡ false → ShareNothing (run plan (opening plan) es) u v
+strangers_share_nothing plan es u v h far r =
+    let none : num (has_ends plan r u v) ≡ 0 = ap num (is_false (has_ends plan r u v) near) in
+    ((each_at plan es r u v h).0 ∙ none, (each_at plan es r u v h).1 ∙ none)
+  where
+    near : has_ends plan r u v ≡ true → ⊥
+    near e = no_true (sym far ∙ ap (are_neighbours plan u) (sym (peer_is plan r u v e)) ∙ peer_near plan r u h (is_first_end plan r u v e))

@@ -1,5 +1,5 @@
 -- What of an office no event changes: its records, and the other end of each.
-use Rattle.std.proofs.Common.{◌≡◌, ℕ, zero, suc, List, [], ◌∷◌, None, Some, refl, ◌∙◌}
+use Rattle.std.proofs.Common.{◌≡◌, ℕ, zero, suc, List, [], ◌∷◌, None, Some, refl, ap, ◌∙◌}
 use Rattle.std.proofs.lemmas.Bool.{cond_both}
 use Rattle.bottle_values.specs.declared.Value.{Value}
 use Rattle.office_map.specs.PlanValue.{PlanValue, records_of, peer}
@@ -60,8 +60,11 @@ records_stay_there = record { rule = of; token = λ d r. refl; bottle = λ d r x
 pub peers_after : (plan : PlanValue) (w : World) (e : Event) (a : ℕ) → ((happens plan w e).drinker a).peer ≡ (w.drinker a).peer
 peers_after = after_event (λ d. d.peer) peer_stays
 
-pub peers_stay : (plan : PlanValue) (es : List Event) (a : ℕ) → ((run plan (opening plan) es).drinker a).peer ≡ peer plan a
-peers_stay plan = after_run (λ d. d.peer) peer_stays plan (opening plan)
+pub peers_run : (plan : PlanValue) (es : List Event) (a : ℕ) → ((run plan (opening plan) es).drinker a).peer ≡ peer plan a
+peers_run plan = after_run (λ d. d.peer) peer_stays plan (opening plan)
+
+pub peers_stay : (plan : PlanValue) (es : List Event) (a r : ℕ) → ((run plan (opening plan) es).drinker a).peer r ≡ peer plan a r
+peers_stay plan es a r = ap (λ (f : ℕ → ℕ). f r) (peers_run plan es a)
 
 pub records_stay : (plan : PlanValue) (es : List Event) (a : ℕ) → ((run plan (opening plan) es).drinker a).records ≡ records_of plan a
 records_stay plan = after_run (λ d. d.records) records_stay_there plan (opening plan)

@@ -1,11 +1,11 @@
 -- All offices of a plan at their bars with the bottles and request tokens on the way, and where each bottle is.
-use Rattle.std.specs.Prelude.{◌≡◌, ℕ, zero, suc, ◌<◌, Bool, true, false, ◌==◌, ◌&&◌, nat_lt, List, [], ◌∷◌, ◌++◌, length, Option, None, Some, slice_get, if◌then◌else◌}
+use Rattle.std.specs.Prelude.{◌≡◌, ℕ, zero, suc, ◌<◌, ◌≤◌, Bool, true, false, ◌==◌, ◌&&◌, nat_lt, List, [], ◌∷◌, ◌++◌, length, Option, None, Some, slice_get, if◌then◌else◌}
 use Rattle.std.specs.List.{list_all}
 use Rattle.bottle_values.specs.declared.Value.{Value}
 use Rattle.bottle_values.specs.Maps.{put}
 use Rattle.bottle_values.specs.Lists.{num}
 use Rattle.office_map.specs.declared.entries.RecordEntry.{RecordEntry}
-use Rattle.office_map.specs.PlanValue.{PlanValue, is_end, has_ends, start_end}
+use Rattle.office_map.specs.PlanValue.{PlanValue, are_neighbours, records_of, is_end, has_ends, peer, start_end}
 use Rattle.office_map.specs.Consistency.{IsConsistent}
 use Rattle.dining_core.specs.Worlds.{with_way, one_more, places}
 use Rattle.drinking_core.specs.Drinkers.{Drinker, BottleRule, Start, AskBottle, GiveBottle, Drink, Finish, is_drinking, is_served, holds, may, act, with_token, with_bottle, value_after, opened}
@@ -141,6 +141,10 @@ pub record HasOnePlaceEach (plan : PlanValue) (w : World) : Type 0 where
   pub bottle : (r u v : ℕ) → bottle_places w r u v ≡ num (has_ends plan r u v)
   pub token : (r u v : ℕ) → token_places w r u v ≡ num (has_ends plan r u v)
 
+-- these two have no bottle and no request token between them
+abbrev pub ShareNothing : World → ℕ → ℕ → Type 0
+ShareNothing w u v = (r : ℕ) → (bottle_places w r u v ≡ 0) × (token_places w r u v ≡ 0)
+
 -- of the record there is neither bottle nor request token, at any office or on the way
 pub record IsNowhere (w : World) (r : ℕ) : Type 0 where
   pub bottle : (a : ℕ) → (w.drinker a).bottle r ≡ None
@@ -175,6 +179,19 @@ EachHasItsSpots = (plan : PlanValue) (events : List Event) (r : ℕ) → r < len
 
 abbrev pub EachHasOnePlace : Type 0
 EachHasOnePlace = (plan : PlanValue) (events : List Event) → IsConsistent plan → HasOnePlaceEach plan (run plan (opening plan) events)
+
+-- two offices that are no neighbours share nothing
+abbrev pub StrangersShareNothing : Type 0
+StrangersShareNothing = (plan : PlanValue) (events : List Event) (u v : ℕ) → IsConsistent plan → are_neighbours plan u v ≡ false → ShareNothing (run plan (opening plan) events) u v
+
+abbrev pub UnknownRecordsAreNowhere : Type 0
+UnknownRecordsAreNowhere = (plan : PlanValue) (events : List Event) (r : ℕ) → length plan.records ≤ r → IsNowhere (run plan (opening plan) events) r
+
+abbrev pub RecordsStay : Type 0
+RecordsStay = (plan : PlanValue) (events : List Event) (a : ℕ) → ((run plan (opening plan) events).drinker a).records ≡ records_of plan a
+
+abbrev pub PeersStay : Type 0
+PeersStay = (plan : PlanValue) (events : List Event) (a r : ℕ) → ((run plan (opening plan) events).drinker a).peer r ≡ peer plan a r
 
 -- two spots of a bottle are the same, with the same value
 abbrev pub NoOtherSpot : Type 0

@@ -1,6 +1,6 @@
 //! Laws of all bars with the bottles and request tokens on the way.
 
-ghost use Rattle.drinking_core.specs.Worlds.{EachHasItsSpots, EachHasOnePlace, NoOtherSpot, BottlesStartWithTheirValues, ValuesStay, FinishingWrites, DrinkersHaveWhatTheyNeed};
+ghost use Rattle.drinking_core.specs.Worlds.{EachHasItsSpots, EachHasOnePlace, StrangersShareNothing, UnknownRecordsAreNowhere, RecordsStay, PeersStay, NoOtherSpot, BottlesStartWithTheirValues, ValuesStay, FinishingWrites, DrinkersHaveWhatTheyNeed};
 
 /// After every list of events the bottle of each record is with one of its ends or on the way from one to the other, and
 /// so is the bottle's request token.
@@ -12,6 +12,26 @@ pub fn each_has_its_spots()
 /// token; between two other offices neither has one.
 pub fn each_has_one_place()
     ensures { EachHasOnePlace }
+{}
+
+/// Two offices that are no neighbours never have a bottle or a request token between them.
+pub fn strangers_share_nothing()
+    ensures { StrangersShareNothing }
+{}
+
+/// Of a record that the plan doesn't have there is never a bottle or a request token, at any office or on the way.
+pub fn unknown_records_are_nowhere()
+    ensures { UnknownRecordsAreNowhere }
+{}
+
+/// No event changes which records an office has.
+pub fn records_stay()
+    ensures { RecordsStay }
+{}
+
+/// No event changes whom an office asks for a record's bottle, and to whom it gives it.
+pub fn peers_stay()
+    ensures { PeersStay }
 {}
 
 /// A bottle that is somewhere is nowhere else, and has one value.
