@@ -100,6 +100,14 @@ impl Bar {
         places::at(&self.places, r).token
     }
 
+    /// The other end of a record of this office: whom it asks for the bottle, and to whom it gives it. Of another record
+    /// the answer means nothing.
+    pub fn peer(&self, r: RecordId) -> OfficeId
+        ensures { result ≡ (drinker_of self.now).peer r }
+    {
+        places::at(&self.places, r).peer
+    }
+
     /// A tranquil office begins with the first waiting session, which needs these records; none where no session waits.
     pub fn start(&mut self, session: Option<&[RecordId]>) -> Result<(), NotNow>
         requires { ForSome session (λ rs. All (λ r. is_among (drinker_of self.old).records r ≡ true) rs.now) }

@@ -99,17 +99,21 @@ enum Question {
     HasToken(u16),
     HasValue(u16, i64),
     HasNoValue(u16),
+    /// The record's other end is the office with this number.
+    SharesWith(u16, u8),
 }
 
 use Office::{A, B};
-use Question::{HasNeeded, HasNoValue, HasToken, HasValue, Holds, Needs, Records, Tranquil};
+use Question::{
+    HasNeeded, HasNoValue, HasToken, HasValue, Holds, Needs, Records, SharesWith, Tranquil,
+};
 use Rule::{
     AsksBottle, Drinks, Finishes, FinishesNone, GivesBottle, Starts, StartsEmpty, StartsNone,
 };
 use Step::{Asks, BottleComes, Does, ForkGoesOver, Opens, TokenComes};
 
 /// Where a step is, and whether it is done, or the answer to the question.
-static STEPS: [(Office, Step, bool); 84] = [
+static STEPS: [(Office, Step, bool); 86] = [
     // A bottle starts where the plan says.
     (A, Opens, true),
     (A, Asks(Records), true),
@@ -123,6 +127,8 @@ static STEPS: [(Office, Step, bool); 84] = [
     (A, Asks(Holds(1)), false),
     (A, Asks(Tranquil), true),
     (A, Asks(Needs(0)), false),
+    (A, Asks(SharesWith(0, 1)), true),
+    (B, Asks(SharesWith(0, 0)), true),
     // A session gets its bottle and writes.
     (A, Opens, true),
     (A, Does(Starts(1)), true),
@@ -305,6 +311,7 @@ fn answer(bar: &Bar, question: Question) -> bool {
         Question::HasToken(r) => bar.has_token(RecordId::new(r)),
         Question::HasValue(r, number) => bar.value(RecordId::new(r)) == Some(Value::from(number)),
         Question::HasNoValue(r) => bar.value(RecordId::new(r)).is_none(),
+        Question::SharesWith(r, v) => bar.peer(RecordId::new(r)) == OfficeId::new(v),
     }
 }
 
