@@ -33,22 +33,14 @@ after_run : {X : Type 0} (get : Drinker → X) → Stays get → (plan : PlanVal
 after_run get s plan w [] c = refl
 after_run get s plan w (e ∷ es) c = after_run get s plan (happens plan w e) es c ∙ after_event get s plan w e c
 
-peer_stays : Stays (λ d. d.peer)
-peer_stays = record { rule = of; token = λ d r. refl; bottle = λ d r x. refl }
-  where
-    of : (d : Drinker) (rule : BottleRule) → (act d rule).peer ≡ d.peer
-    of d (Start None) = refl
-    of d (Start (Some rs)) = refl
-    of d (AskBottle r) = refl
-    of d (GiveBottle r forks) = refl
-    of d Drink = refl
-    of d (Finish None) = refl
-    of d (Finish (Some ws)) = refl
+-- an office's records, and the other end of each
+abbrev ends_of : Drinker → List ℕ × (ℕ → ℕ)
+ends_of d = (d.records, d.peer)
 
-records_stay_there : Stays (λ d. d.records)
-records_stay_there = record { rule = of; token = λ d r. refl; bottle = λ d r x. refl }
+ends_stay : Stays ends_of
+ends_stay = record { rule = of; token = λ d r. refl; bottle = λ d r x. refl }
   where
-    of : (d : Drinker) (rule : BottleRule) → (act d rule).records ≡ d.records
+    of : (d : Drinker) (rule : BottleRule) → ends_of (act d rule) ≡ ends_of d
     of d (Start None) = refl
     of d (Start (Some rs)) = refl
     of d (AskBottle r) = refl
@@ -58,13 +50,13 @@ records_stay_there = record { rule = of; token = λ d r. refl; bottle = λ d r x
     of d (Finish (Some ws)) = refl
 
 pub peers_after : (plan : PlanValue) (w : World) (e : Event) (a : ℕ) → ((happens plan w e).drinker a).peer ≡ (w.drinker a).peer
-peers_after = after_event (λ d. d.peer) peer_stays
+peers_after plan w e a = ap (λ (p : List ℕ × (ℕ → ℕ)). p.1) (after_event ends_of ends_stay plan w e a)
 
 pub peers_run : (plan : PlanValue) (es : List Event) (a : ℕ) → ((run plan (opening plan) es).drinker a).peer ≡ peer plan a
-peers_run plan = after_run (λ d. d.peer) peer_stays plan (opening plan)
+peers_run plan es a = ap (λ (p : List ℕ × (ℕ → ℕ)). p.1) (after_run ends_of ends_stay plan (opening plan) es a)
 
 pub peers_stay : (plan : PlanValue) (es : List Event) (a r : ℕ) → ((run plan (opening plan) es).drinker a).peer r ≡ peer plan a r
 peers_stay plan es a r = ap (λ (f : ℕ → ℕ). f r) (peers_run plan es a)
 
 pub records_stay : (plan : PlanValue) (es : List Event) (a : ℕ) → ((run plan (opening plan) es).drinker a).records ≡ records_of plan a
-records_stay plan = after_run (λ d. d.records) records_stay_there plan (opening plan)
+records_stay plan es a = ap (λ (p : List ℕ × (ℕ → ℕ)). p.0) (after_run ends_of ends_stay plan (opening plan) es a)
