@@ -1,9 +1,9 @@
 //! How much a session costs and gives, counted on its lines.
 
-use crate::place::{keyword_in, pieces_in, second_word};
+use crate::place::{keyword_in, second_word};
 use office_map::text::number;
 use session_language::keyword::Keyword;
-use session_language::lexer::{Piece, Symbol};
+use session_language::lexer::{Piece, Pieces, Symbol};
 use std::alloc::{AllocError, Global};
 
 /// What a session or a part of it has.
@@ -36,7 +36,7 @@ pub(crate) fn measures_of(alloc: Global, body: &[&[u8]]) -> Result<Measures, All
     for line in body {
         match keyword_in(*line) {
             Keyword::If => {
-                let head = nodes(alloc, *line)?.saturating_add(1);
+                let head = nodes(*line).saturating_add(1);
                 blocks.push(opened(now, head, None))?;
                 now = NONE;
             }
@@ -58,7 +58,7 @@ pub(crate) fn measures_of(alloc: Global, body: &[&[u8]]) -> Result<Measures, All
                 }
             }
             keyword => {
-                let cost = nodes(alloc, *line)?.saturating_add(1);
+                let cost = nodes(*line).saturating_add(1);
                 let gives = if keyword == Keyword::Give { 1 } else { 0 };
                 now = sum(
                     now,
@@ -117,22 +117,27 @@ fn sum(a: Measures, b: Measures) -> Measures {
 }
 
 /// The nodes of a line's expressions and condition.
-fn nodes(alloc: Global, line: &[u8]) -> Result<u64, AllocError> {
+fn nodes(line: &[u8]) -> u64 {
     let mut count: u64 = 0;
-    let mut skipped: usize = match keyword_in(line) {
+    let first: usize = match keyword_in(line) {
         Keyword::Let | Keyword::Set => 2,
         _ => 1,
     };
-    for piece in pieces_in(alloc, line)? {
-        if skipped > 0 {
-            skipped -= 1;
-        } else if is_end(piece) {
+    let mut pieces = Pieces { rest: line };
+    for i in 0..line.len() {
+        let Some(piece) = pieces.next() else {
             break;
-        } else if is_node(piece) {
-            count = count.saturating_add(1);
+        };
+        if i >= first {
+            if is_end(piece) {
+                break;
+            }
+            if is_node(piece) {
+                count = count.saturating_add(1);
+            }
         }
     }
-    Ok(count)
+    count
 }
 
 /// Whether the condition of a `require` ends here.

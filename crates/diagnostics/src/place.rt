@@ -108,16 +108,3 @@ pub(crate) fn second_word(line: &[u8]) -> &[u8] {
         _ => &[],
     }
 }
-
-/// The words and symbols of a line.
-pub(crate) fn pieces_in<'a>(alloc: Global, line: &'a [u8]) -> Result<Vec<Piece<'a>>, AllocError> {
-    let mut found = Vec::new(alloc);
-    let mut pieces = Pieces { rest: line };
-    for _ in 0..line.len() {
-        match pieces.next() {
-            None => break,
-            Some(piece) => found.push(piece)?,
-        }
-    }
-    Ok(found)
-}

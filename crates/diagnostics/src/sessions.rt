@@ -1,12 +1,12 @@
 //! What is said of a refused text of sessions.
 
 use crate::measures::measures_of;
-use crate::place::{Block, Place, first_word, keyword_in, pieces_in, second_word};
+use crate::place::{Block, Place, first_word, keyword_in, second_word};
 use crate::shown::{quote, say_expected, say_no_name, say_strange_byte, say_word, shown, word_at};
 use office_map::Plan;
 use office_map::text::{is_name, name, number};
 use session_language::keyword::Keyword;
-use session_language::lexer::{Piece, Symbol};
+use session_language::lexer::{Piece, Pieces, Symbol};
 use session_language::{SessionRefusal, SessionRule};
 use std::alloc::{AllocError, Global};
 
@@ -35,8 +35,8 @@ fn say_rule(
     rule: SessionRule,
 ) -> Result<(), AllocError> {
     match rule {
-        SessionRule::Syntax => say_syntax(said, alloc, place),
-        SessionRule::UnknownName => say_unknown_name(said, alloc, plan, place),
+        SessionRule::Syntax => say_syntax(said, place),
+        SessionRule::UnknownName => say_unknown_name(said, plan, place),
         SessionRule::UnknownRecord => say_unknown_record(said, alloc, plan, place),
         SessionRule::TooDeep => say_too_deep(said, place),
         SessionRule::TooLong => say_too_long(said, alloc, place),
@@ -48,7 +48,7 @@ fn say_rule(
 
 // ---- lines of no form, and lines that can't stand where they stand
 
-fn say_syntax(said: &mut String, alloc: Global, place: &Place<'_>) -> Result<(), AllocError> {
+fn say_syntax(said: &mut String, place: &Place<'_>) -> Result<(), AllocError> {
     let line = place.line;
     if is_blank(line) {
         return say_no_end(said, place);
@@ -66,16 +66,15 @@ fn say_syntax(said: &mut String, alloc: Global, place: &Place<'_>) -> Result<(),
     match keyword {
         Keyword::Else => say_else(said, place),
         Keyword::End => say_expected(said, line, "`end`, alone on its line"),
-        Keyword::Let => say_given(said, alloc, line, "`let VARIABLE = EXPRESSION`"),
-        Keyword::Set => say_given(said, alloc, line, "`set RECORD = EXPRESSION`"),
-        Keyword::Give => say_form(said, alloc, line, "`give EXPRESSION`"),
+        Keyword::Let => say_given(said, line, "`let VARIABLE = EXPRESSION`"),
+        Keyword::Set => say_given(said, line, "`set RECORD = EXPRESSION`"),
+        Keyword::Give => say_form(said, line, "`give EXPRESSION`"),
         Keyword::Require => say_compared(
             said,
-            alloc,
             line,
             "`require EXPRESSION COMPARISON EXPRESSION else CODE`, with CODE from 0 to 65535",
         ),
-        Keyword::If => say_compared(said, alloc, line, "`if EXPRESSION COMPARISON EXPRESSION`"),
+        Keyword::If => say_compared(said, line, "`if EXPRESSION COMPARISON EXPRESSION`"),
         Keyword::Repeat => {
             say_expected(said, line, "`repeat COUNT`, with COUNT from 0 to 10000")
         }
@@ -154,55 +153,64 @@ fn say_other(said: &mut String, line: &[u8]) -> Result<(), AllocError> {
 }
 
 /// Of a `let` or `set`.
-fn say_given(said: &mut String, alloc: Global, line: &[u8], form: &str) -> Result<(), AllocError> {
+fn say_given(said: &mut String, line: &[u8], form: &str) -> Result<(), AllocError> {
     let target = second_word(line);
     if !target.is_empty() && !is_name(target) {
         return say_no_name(said, target);
     }
-    for piece in pieces_in(alloc, line)? {
-        if is_comparison(piece) {
-            said.push_str("a value is given by `=`, and not compared: ")?;
-            return say_expected(said, line, form);
-        }
+    if has_one(line, true) {
+        said.push_str("a value is given by `=`, and not compared: ")?;
+        return say_expected(said, line, form);
     }
-    say_form(said, alloc, line, form)
+    say_form(said, line, form)
 }
 
 /// Of a line with a condition.
-fn say_compared(
-    said: &mut String,
-    alloc: Global,
-    line: &[u8],
-    form: &str,
-) -> Result<(), AllocError> {
-    for piece in pieces_in(alloc, line)? {
-        if let Piece::Symbol(Symbol::Assign) = piece {
-            said.push_str("two values are compared by `==`, and not by `=`: ")?;
-            return say_expected(said, line, form);
-        }
+fn say_compared(said: &mut String, line: &[u8], form: &str) -> Result<(), AllocError> {
+    if has_one(line, false) {
+        said.push_str("two values are compared by `==`, and not by `=`: ")?;
+        return say_expected(said, line, form);
     }
-    say_form(said, alloc, line, form)
+    say_form(said, line, form)
 }
 
-fn is_comparison(piece: Piece<'_>) -> bool {
-    match piece {
-        Piece::Symbol(symbol) => match symbol {
-            Symbol::Equal
-            | Symbol::NotEqual
-            | Symbol::Less
-            | Symbol::AtMost
-            | Symbol::Greater
-            | Symbol::AtLeast => true,
-            _ => false,
-        },
+/// Whether a line has a comparison, or else a `=`.
+fn has_one(line: &[u8], comparison: bool) -> bool {
+    let mut pieces = Pieces { rest: line };
+    for _ in 0..line.len() {
+        match pieces.next() {
+            None => return false,
+            Some(Piece::Symbol(symbol)) => {
+                if is_comparison(symbol) == comparison && (comparison || symbol == Symbol::Assign) {
+                    return true;
+                }
+            }
+            Some(_) => {}
+        }
+    }
+    false
+}
+
+fn is_comparison(symbol: Symbol) -> bool {
+    match symbol {
+        Symbol::Equal
+        | Symbol::NotEqual
+        | Symbol::Less
+        | Symbol::AtMost
+        | Symbol::Greater
+        | Symbol::AtLeast => true,
         _ => false,
     }
 }
 
 /// Of a line with an expression: what can't stand in one, else its form.
-fn say_form(said: &mut String, alloc: Global, line: &[u8], form: &str) -> Result<(), AllocError> {
+fn say_form(said: &mut String, line: &[u8], form: &str) -> Result<(), AllocError> {
     let mut open: u32 = 0;
-    for piece in pieces_in(alloc, line)? {
+    let mut pieces = Pieces { rest: line };
+    for _ in 0..line.len() {
+        let Some(piece) = pieces.next() else {
+            break;
+        };
         match piece {
             Piece::Stray => {
                 said.push_str("a symbol is none of the language: ")?;
@@ -244,16 +252,11 @@ fn is_long_name(word: &[u8]) -> bool {
 
 // ---- names
 
-fn say_unknown_name(
-    said: &mut String,
-    alloc: Global,
-    plan: &Plan,
-    place: &Place<'_>,
-) -> Result<(), AllocError> {
+fn say_unknown_name(said: &mut String, plan: &Plan, place: &Place<'_>) -> Result<(), AllocError> {
     if keyword_in(place.line) == Keyword::Session {
         return say_word(said, "the plan has no office ", second_word(place.line), "");
     }
-    let Some(variable) = unknown_variable(alloc, place)? else {
+    let Some(variable) = unknown_variable(place) else {
         return said.push_str(SessionRule::UnknownName.explanation());
     };
     say_word(
@@ -270,23 +273,28 @@ fn say_unknown_name(
 }
 
 /// The first variable of a line that no line above it lets.
-fn unknown_variable<'a>(alloc: Global, place: &Place<'a>) -> Result<Option<&'a [u8]>, AllocError> {
+fn unknown_variable<'a>(place: &Place<'a>) -> Option<&'a [u8]> {
     let targets: usize = match keyword_in(place.line) {
         Keyword::Let | Keyword::Set => 2,
         _ => 1,
     };
     let mut is_read = false;
-    for (i, piece) in pieces_in(alloc, place.line)?.into_iter().enumerate() {
-        if let Piece::Word(word) = piece {
-            if i >= targets && !is_read && is_name(word) && !is_let(place, word) {
-                return Ok(Some(word));
+    let mut pieces = Pieces { rest: place.line };
+    for i in 0..place.line.len() {
+        let mut is_next = false;
+        match pieces.next() {
+            None => return None,
+            Some(Piece::Word(word)) => {
+                if i >= targets && !is_read && is_name(word) && !is_let(place, word) {
+                    return Some(word);
+                }
+                is_next = word == b"read".as_slice();
             }
-            is_read = word == b"read".as_slice();
-        } else {
-            is_read = false;
+            Some(_) => {}
         }
+        is_read = is_next;
     }
-    Ok(None)
+    None
 }
 
 /// Whether a line of the session above this place lets this variable.
@@ -337,7 +345,11 @@ fn say_unknown_record(
 fn records_in<'a>(alloc: Global, line: &'a [u8]) -> Result<Vec<&'a [u8]>, AllocError> {
     let mut records = Vec::new(alloc);
     let mut is_record = false;
-    for (i, piece) in pieces_in(alloc, line)?.into_iter().enumerate() {
+    let mut pieces = Pieces { rest: line };
+    for i in 0..line.len() {
+        let Some(piece) = pieces.next() else {
+            break;
+        };
         let mut is_next = false;
         if let Piece::Word(word) = piece {
             if is_record {
