@@ -148,6 +148,11 @@ fn prints_sessions_and_values(rt: HostRuntime) -> Result<(), Fail> {
         (PLAN, "", "value x 100\nvalue y 0\n"),
         (
             PLAN,
+            "session a\nlet i = 0\nrepeat 3\nlet i = i + 1\nif i * 2 > 3\ngive i\nelse\ngive -i\nend\nend\nend\n",
+            "a.1 done reads - writes - gives -1 2 3\nvalue x 100\nvalue y 0\n",
+        ),
+        (
+            PLAN,
             "session a\nset x = 1\nset x = 9223372036854775807 + 1\nend\n",
             "a.1 overflow reads x=100 writes - gives -\nvalue x 100\nvalue y 0\n",
         ),
