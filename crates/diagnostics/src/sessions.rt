@@ -36,7 +36,7 @@ fn say_rule(
 ) -> Result<(), AllocError> {
     match rule {
         SessionRule::Syntax => say_syntax(said, place),
-        SessionRule::UnknownName => say_unknown_name(said, plan, place),
+        SessionRule::UnknownName => say_unknown_name(said, alloc, plan, place),
         SessionRule::UnknownRecord => say_unknown_record(said, alloc, plan, place),
         SessionRule::TooDeep => say_too_deep(said, place),
         SessionRule::TooLong => say_too_long(said, alloc, place),
@@ -252,11 +252,17 @@ fn is_long_name(word: &[u8]) -> bool {
 
 // ---- names
 
-fn say_unknown_name(said: &mut String, plan: &Plan, place: &Place<'_>) -> Result<(), AllocError> {
+fn say_unknown_name(
+    said: &mut String,
+    alloc: Global,
+    plan: &Plan,
+    place: &Place<'_>,
+) -> Result<(), AllocError> {
     if keyword_in(place.line) == Keyword::Session {
         return say_word(said, "the plan has no office ", second_word(place.line), "");
     }
-    let Some(variable) = unknown_variable(place) else {
+    let known = variables_of(alloc, place)?;
+    let Some(variable) = unknown_variable(place.line, &known) else {
         return said.push_str(SessionRule::UnknownName.explanation());
     };
     say_word(
@@ -272,20 +278,29 @@ fn say_unknown_name(said: &mut String, plan: &Plan, place: &Place<'_>) -> Result
     Ok(())
 }
 
-/// The first variable of a line that no line above it lets.
-fn unknown_variable<'a>(place: &Place<'a>) -> Option<&'a [u8]> {
-    let targets: usize = match keyword_in(place.line) {
+/// The variables that the session lets above this place, each once: at most 32, however long it is.
+fn variables_of<'a>(alloc: Global, place: &Place<'a>) -> Result<Vec<&'a [u8]>, AllocError> {
+    let mut names: Vec<&[u8]> = Vec::new(alloc);
+    for line in place.body.iter() {
+        add_names(alloc, &mut names, *line, Named::Variables)?;
+    }
+    Ok(names)
+}
+
+/// The first variable of a line that isn't one of these.
+fn unknown_variable<'a>(line: &'a [u8], known: &[&[u8]]) -> Option<&'a [u8]> {
+    let targets: usize = match keyword_in(line) {
         Keyword::Let | Keyword::Set => 2,
         _ => 1,
     };
     let mut is_read = false;
-    let mut pieces = Pieces { rest: place.line };
-    for i in 0..place.line.len() {
+    let mut pieces = Pieces { rest: line };
+    for i in 0..line.len() {
         let mut is_next = false;
         match pieces.next() {
             None => return None,
             Some(Piece::Word(word)) => {
-                if i >= targets && !is_read && is_name(word) && !is_let(place, word) {
+                if i >= targets && !is_read && is_name(word) && !(&*known).contains(&word) {
                     return Some(word);
                 }
                 is_next = word == b"read".as_slice();
