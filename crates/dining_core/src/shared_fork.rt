@@ -46,6 +46,13 @@ pub struct SharedFork {
 }
 
 impl SharedFork {
+    /// Whether the fork is elsewhere, and may be asked for.
+    pub fn is_askable(self) -> bool
+        ensures { result ≡ (not (is_held self.fork) && self.token) }
+    {
+        !self.fork.is_held() && self.token
+    }
+
     /// Whether the fork is here, was used, and is asked for.
     pub fn is_owed(self) -> bool
         ensures { result ≡ (self.token && (is_held self.fork && not (is_clean self.fork))) }

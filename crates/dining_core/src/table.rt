@@ -81,13 +81,49 @@ impl Table {
         places::at(&self.places, v).token
     }
 
+    /// Whether [`Table::hungry`] would be done now.
+    pub fn may_be_hungry(&self, thirsty: bool) -> bool
+        ensures { result ≡ may (diner_of self.now) (BecomeHungry thirsty) }
+    {
+        matches!(self.phase, Phase::Thinking) && thirsty
+    }
+
+    /// Whether [`Table::ask_fork`] would be done now.
+    pub fn may_ask_fork(&self, v: OfficeId) -> bool
+        ensures { result ≡ may (diner_of self.now) (AskFork v) }
+    {
+        matches!(self.phase, Phase::Hungry) && places::at(&self.places, v).is_askable()
+    }
+
+    /// Whether [`Table::give_fork`] would be done now.
+    pub fn may_give_fork(&self, v: OfficeId) -> bool
+        ensures { result ≡ may (diner_of self.now) (GiveFork v) }
+    {
+        !matches!(self.phase, Phase::Eating) && places::at(&self.places, v).is_owed()
+    }
+
+    /// Whether [`Table::eat`] would be done now.
+    pub fn may_eat(&self) -> bool
+        ensures { result ≡ may (diner_of self.now) Eat }
+    {
+        let has_all = places::hold_all(&self.places, self.neighbours());
+        matches!(self.phase, Phase::Hungry) && has_all
+    }
+
+    /// Whether [`Table::leave`] would be done now.
+    pub fn may_leave(&self, thirsty: bool) -> bool
+        ensures { result ≡ may (diner_of self.now) (Leave thirsty) }
+    {
+        matches!(self.phase, Phase::Eating) && !thirsty
+    }
+
     /// A thinking office that is thirsty becomes hungry.
     pub fn hungry(&mut self, thirsty: bool) -> Result<(), NotNow>
         ensures not_now { IsErr result ↔ (may (diner_of self.old) (BecomeHungry thirsty) ≡ false) }
         ensures done { OnOk result (diner_of self.new ≡ act (diner_of self.old) (BecomeHungry thirsty)) }
         ensures unchanged { OnErr result (self.new ≡ self.old) }
     {
-        if !(matches!(self.phase, Phase::Thinking) && thirsty) {
+        if !self.may_be_hungry(thirsty) {
             return Err(NotNow);
         }
         self.phase = Phase::Hungry;
@@ -101,7 +137,7 @@ impl Table {
         ensures unchanged { OnErr result (self.new ≡ self.old) }
     {
         let place = places::at(&self.places, v);
-        if !(matches!(self.phase, Phase::Hungry) && !place.fork.is_held() && place.token) {
+        if !(matches!(self.phase, Phase::Hungry) && place.is_askable()) {
             return Err(NotNow);
         }
         self.places[v.index()] = SharedFork {
@@ -133,8 +169,7 @@ impl Table {
         ensures done { OnOk result (diner_of self.new ≡ act (diner_of self.old) Eat) }
         ensures unchanged { OnErr result (self.new ≡ self.old) }
     {
-        let has_all = places::hold_all(&self.places, self.neighbours());
-        if !(matches!(self.phase, Phase::Hungry) && has_all) {
+        if !self.may_eat() {
             return Err(NotNow);
         }
         self.phase = Phase::Eating;
@@ -148,7 +183,7 @@ impl Table {
         ensures done { OnOk result (diner_of self.new ≡ act (diner_of self.old) (Leave thirsty)) }
         ensures unchanged { OnErr result (self.new ≡ self.old) }
     {
-        if !(matches!(self.phase, Phase::Eating) && !thirsty) {
+        if !self.may_leave(thirsty) {
             return Err(NotNow);
         }
         self.phase = Phase::Thinking;

@@ -108,6 +108,27 @@ impl Bar {
         places::at(&self.places, r).peer
     }
 
+    /// Whether [`Bar::ask_bottle`] would be done now.
+    pub fn may_ask_bottle(&self, r: RecordId) -> bool
+        ensures { result ≡ may (drinker_of self.now) (AskBottle r) }
+    {
+        self.phase.is_thirsty() && places::at(&self.places, r).is_askable()
+    }
+
+    /// Whether [`Bar::give_bottle`] would be done now.
+    pub fn may_give_bottle(&self, r: RecordId, table: &Table) -> bool
+        ensures { result ≡ may (drinker_of self.now) (GiveBottle r (diner_of table.now).held) }
+    {
+        places::at(&self.places, r).is_owed() && !self.keeps(r, table)
+    }
+
+    /// Whether [`Bar::drink`] would be done now.
+    pub fn may_drink(&self) -> bool
+        ensures { result ≡ may (drinker_of self.now) Drink }
+    {
+        self.phase.is_thirsty() && self.has_needed()
+    }
+
     /// A tranquil office begins with the first waiting session, which needs these records; none where no session waits.
     pub fn start(&mut self, session: Option<&[RecordId]>) -> Result<(), NotNow>
         requires { ForSome session (λ rs. All (λ r. is_among (drinker_of self.old).records r ≡ true) rs.now) }
@@ -184,7 +205,7 @@ impl Bar {
         ensures done { OnOk result (drinker_of self.new ≡ act (drinker_of self.old) Drink) }
         ensures unchanged { OnErr result (self.new ≡ self.old) }
     {
-        if !(self.phase.is_thirsty() && self.has_needed()) {
+        if !self.may_drink() {
             return Err(NotNow);
         }
         self.phase = Phase::Drinking;
