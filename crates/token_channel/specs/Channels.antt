@@ -44,10 +44,13 @@ next_of l f = if f.number == l.receiving.taken + 1 then f.msg else None
 abbrev pub left_by : LinkState → ℕ → List Msg
 left_by l count = drop (count - l.sending.acked) l.sending.waiting
 
--- the thing isn't the pair's, or is held here, or still waits
+-- the thing isn't one of those that are shared, or is held here, or still waits
+abbrev pub breach_among : (shared held : Thing → Bool) → LinkState → ℕ → Msg → Bool
+breach_among shared held l count msg =
+    not (shared (thing_of msg)) || held (thing_of msg) || waits (thing_of msg) (left_by l count)
+
 abbrev pub is_breach : ChannelState → ℕ → Msg → Bool
-is_breach c count msg =
-    not (shares c.places (thing_of msg)) || holds c.places (thing_of msg) || waits (thing_of msg) (left_by c.link count)
+is_breach c = breach_among (shares c.places) (holds c.places) c.link
 
 abbrev pub breach_of : Bool → Option ChannelFault
 breach_of b = if b then Some Breach else None
@@ -56,10 +59,13 @@ abbrev pub link_fault_or : Option LinkFault → Bool → Option ChannelFault
 link_fault_or None b = breach_of b
 link_fault_or (Some fault) b = Some (Link fault)
 
--- what is wrong with a frame, the first that applies
+-- what is wrong with a frame, the first that applies, where these things are shared and these are held
+abbrev pub fault_among : (shared held : Thing → Bool) → LinkState → Fields → Option ChannelFault
+fault_among shared held l f =
+    link_fault_or (fault_of l f) (option_map_or (breach_among shared held l f.count) (next_of l f) false)
+
 abbrev pub channel_fault : ChannelState → Fields → Option ChannelFault
-channel_fault c f =
-    link_fault_or (fault_of c.link f) (option_map_or (is_breach c f.count) (next_of c.link f) false)
+channel_fault c = fault_among (shares c.places) (holds c.places) c.link
 
 abbrev pub with_taken : List SharedThing → Option Msg → List SharedThing
 with_taken places None = places
