@@ -1,7 +1,7 @@
 -- What a frame brings is held after it.
 use Rattle.std.proofs.Common.{◌≡◌, ℕ, ◌+◌, Bool, true, false, cond, List, Option, Some, None, refl, sym, ap, ◌∙◌, arith}
 use Rattle.std.proofs.lemmas.Bool.Decides.{nat_tests}
-use Rattle.std.specs.Prelude.{◌==◌, nat_le}
+use Rattle.std.specs.Prelude.{◌==◌, nat_le, not, ◌||◌}
 use Rattle.std.specs.Option.{option_map_or}
 use Rattle.std.proofs.lemmas.Bool.{eqb-true}
 use Rattle.frame_codec.specs.declared.message.Msg.{Msg}
@@ -13,7 +13,7 @@ use Rattle.token_channel.specs.declared.thing.Thing.{Thing}
 use Rattle.token_channel.specs.declared.thing.SharedThing.{SharedThing}
 use Rattle.token_channel.specs.Things.{thing_of}
 use Rattle.token_channel.specs.Places.{holds, shares, waits}
-use Rattle.token_channel.specs.Channels.{ChannelState, with_taken, next_of, left_by, is_breach, breach_of, link_fault_or, held_after, WhatComesIsHeld}
+use Rattle.token_channel.specs.Channels.{ChannelState, with_taken, next_of, left_by, is_breach, breach_of, link_fault_or, held_after, breach_among, WhatComesIsHeld, WhatComesWasAway}
 use Rattle.token_channel.proofs.ThingsApart.{no_breach, held-changed}
 
 not_below : (taken : ℕ) → nat_le (taken + 1) taken ≡ false
@@ -77,3 +77,32 @@ unbreached c count None (Some n) e m is = go (is_breach c count n) refl e
 
 pub comes_held : WhatComesIsHeld
 comes_held c f t e = brought c.places t c.link.receiving.taken f.number f.msg (unrefused c f.count (fault_of c.link f) (next_of c.link f) e)
+
+-- a message that is fresh is the next one
+fresh_is : (taken number : ℕ) (msg : Option Msg) (m : Msg) → brings taken number msg ≡ Fresh m → cond (number == taken + 1) msg None ≡ Some m
+fresh_is taken number None m e = absurd cc
+fresh_is taken number (Some n) m e = go (nat_le number taken) (number == taken + 1) e
+  where
+    go : (a b : Bool) → cond a Repeat (cond b (Fresh n) Early) ≡ Fresh m → cond b (Some n) None ≡ Some m
+    go true b h = absurd cc
+    go false true h = let same : n ≡ m = cc in ap Some same
+    go false false h = absurd cc
+
+unbroken : (b : Bool) → breach_of b ≡ None → b ≡ false
+unbroken true e = absurd cc
+unbroken false e = refl
+
+pub came_from_away : WhatComesWasAway
+came_from_away shared held l f m none fresh =
+    let next : next_of l f ≡ Some m = fresh_is l.receiving.taken f.number f.msg m fresh in
+    let parts = go (fault_of l f) (ap (λ o. link_fault_or (fault_of l f) (option_map_or (breach_among shared held l f.count) o false)) (sym next) ∙ none) in
+    away (shared (thing_of m)) (held (thing_of m)) (waits (thing_of m) (left_by l f.count)) (unbroken _ parts)
+  where
+    go : (fault : Option LinkFault) → link_fault_or fault (breach_among shared held l f.count m) ≡ None → breach_of (breach_among shared held l f.count m) ≡ None
+    go None e = e
+    go (Some x) e = absurd cc
+
+    away : (a b w : Bool) → (not a || b || w) ≡ false → (a ≡ true) × (b ≡ false)
+    away true true w e = absurd cc
+    away true false w e = (refl, refl)
+    away false b w e = absurd cc

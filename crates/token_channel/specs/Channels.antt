@@ -92,3 +92,8 @@ WhatComesIsHeld = (c : ChannelState) (f : Fields) (t : Thing) → channel_fault 
 -- What the two share stays, whatever is sent and whatever frame comes.
 abbrev pub WhatIsSharedStays : Type 0
 WhatIsSharedStays = (c : ChannelState) (t : Thing) → ((m : Msg) → shares (sent c m).places t ≡ shares c.places t) × ((f : Fields) → shares (after_frame c f).places t ≡ shares c.places t)
+
+-- What a frame brings that isn't refused is one of the things that are shared, and wasn't held.
+abbrev pub WhatComesWasAway : Type 0
+WhatComesWasAway = (shared held : Thing → Bool) (l : LinkState) (f : Fields) (m : Msg) → fault_among shared held l f ≡ None → arrival_at l f ≡ Fresh m →
+    (shared (thing_of m) ≡ true) × (held (thing_of m) ≡ false)

@@ -1,12 +1,17 @@
 //! Laws of what a channel begins with, and of what frames do to it.
 
-ghost use Rattle.token_channel.specs.Channels.{WhatComesIsHeld, WhatIsSharedStays};
+ghost use Rattle.token_channel.specs.Channels.{WhatComesIsHeld, WhatComesWasAway, WhatIsSharedStays};
 ghost use Rattle.token_channel.specs.Waiting.{FewWait};
 ghost use Rattle.token_channel.specs.Opening.{OpensAsThePlanStarts};
 
 /// Of a frame that isn't refused, what it brings is held afterwards, and all else as before.
 pub fn what_comes_is_held()
     ensures { WhatComesIsHeld }
+{}
+
+/// What a frame brings that isn't refused is shared, and wasn't held before.
+pub fn what_comes_was_away()
+    ensures { WhatComesWasAway }
 {}
 
 /// What the two offices share doesn't change.
