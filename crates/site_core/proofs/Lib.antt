@@ -1,0 +1,10 @@
+pub mod SlotUpdates
+pub mod HeldUpdates
+pub mod PairUpdates
+pub mod PlanFacts
+pub mod PairsOpening
+pub mod FramesComing
+pub mod SessionsAreOurs
+pub mod OfficeLimits
+pub mod OfficeSteps
+pub mod FirstRule

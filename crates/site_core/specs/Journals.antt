@@ -1,0 +1,72 @@
+-- An office as its journal tells it: the list of all that it accepted, with its replies.
+use Rattle.std.specs.Prelude.{◌≡◌, ℕ, ◌<◌, nat_le, if◌then◌else◌, List, [], ◌∷◌, ◌++◌, length, Some, Result, Ok, Err, IsOk, ◌⊎◌}
+use Rattle.frame_codec.specs.Frame.{Fields}
+use Rattle.frame_codec.specs.Version01.{Spells, first_fault}
+use Rattle.frame_codec.specs.declared.fault.FrameFault.{FrameFault}
+use Rattle.office_map.specs.PlanValue.{PlanValue}
+use Rattle.site_core.specs.declared.event.Event.{Event}
+use Rattle.site_core.specs.declared.event.Event.TheVariants as event
+use Rattle.site_core.specs.declared.event.Entry.{Entry}
+use Rattle.site_core.specs.declared.reply.Reply.{Reply}
+use Rattle.site_core.specs.declared.reply.Refusal.{Refusal}
+use Rattle.site_core.specs.declared.reply.Refusal.TheVariants as refusal
+use Rattle.site_core.specs.Limits.{most_entries}
+use Rattle.site_core.specs.Offices.{Office, Answer, opened, answer}
+
+-- the plan, the number of the office, and its entries, the oldest first
+pub record Site : Type 0 where
+  pub plan : PlanValue
+  pub me : ℕ
+  pub entries : List Entry
+
+abbrev pub next_or : Office → Answer → Office
+next_or o (Ok x) = x.1
+next_or o (Err e) = o
+
+-- the office after an event; a refused one changes nothing
+abbrev pub after : PlanValue → ℕ → Office → Event → Office
+after plan me o e = next_or o (answer plan me o e)
+
+abbrev pub run_of : PlanValue → ℕ → Office → List Entry → Office
+run_of plan me o [] = o
+run_of plan me o (x ∷ xs) = run_of plan me (after plan me o x.event) xs
+
+-- the office at the end of its journal
+unfoldable pub office_of : Site → Office
+office_of s = run_of s.plan s.me (opened s.plan s.me) s.entries
+
+-- Each event is accepted where it stands, with the entry's reply, and each tag is below 16.
+abbrev pub AreAccepted : PlanValue → ℕ → Office → List Entry → Type 0
+AreAccepted plan me o [] = Unit {0}
+AreAccepted plan me o (x ∷ xs) = (answer plan me o x.event ≡ Ok (x.reply, after plan me o x.event)) × (x.tag < 16) × AreAccepted plan me (after plan me o x.event) xs
+
+abbrev pub IsLegal : Site → Type 0
+IsLegal s = AreAccepted s.plan s.me (opened s.plan s.me) s.entries
+
+-- ---- steps
+
+abbrev pub noted : Site → ℕ → Event → Reply → Site
+noted s tag e r = record { plan = s.plan; me = s.me; entries = s.entries ++ record { tag = tag; event = e; reply = r } ∷ [] }
+
+-- what an office's answer is to who handed the event in, and the office then: a full journal takes no entry
+abbrev pub recorded : Site → ℕ → Event → Answer → Result Reply Refusal × Site
+recorded s tag e (Ok x) = if nat_le most_entries (length s.entries) then (Err refusal.JournalFull, s) else (Ok x.0, noted s tag e x.0)
+recorded s tag e (Err r) = (Err r, s)
+
+-- an event that is handed in with a tag
+abbrev pub step : Site → ℕ → Event → Result Reply Refusal × Site
+step s tag e = recorded s tag e (answer s.plan s.me (office_of s) e)
+
+-- the answer and the office after it; or memory ran out where the event is accepted, and nothing changed
+abbrev pub OrMemory : Site → Result Reply Refusal × Site → Result Reply Refusal → Site → Type 0
+OrMemory s expected result s' =
+    ((result ≡ Err refusal.Memory) × (s' ≡ s) × IsOk expected.0)
+    ⊎ ((result ≡ expected.0) × (s' ≡ expected.1))
+
+abbrev pub Steps : Site → ℕ → Event → Result Reply Refusal → Site → Type 0
+Steps s tag e result s' = OrMemory s (step s tag e) result s'
+
+-- bytes that come: those that spell a frame are that frame, and others are refused for what is wrong with them
+pub record Receives (s : Site) (tag : ℕ) (bytes : List ℕ) (result : Result Reply Refusal) (s' : Site) : Type 0 where
+  pub frame : (f : Fields) → Spells bytes f → Steps s tag (event.Took f) result s'
+  pub fault : (fault : FrameFault) → first_fault bytes ≡ Some fault → (result ≡ Err (refusal.Frame fault)) × (s' ≡ s)

@@ -1,0 +1,9 @@
+pub mod Limits
+pub mod Pairs
+pub mod Agenda
+pub mod Replies
+pub mod Offices
+pub mod Journals
+pub mod RuleOrder
+pub mod Readers
+pub mod refinement

@@ -1,0 +1,116 @@
+-- An office, the guard and the effect of each of its rules, and what it answers to an event.
+use Rattle.std.specs.Prelude.{ℕ, zero, suc, ◌+◌, Bool, ◌==◌, nat_le, ◌&&◌, if◌then◌else◌, length, Option, None, Some, Result, Ok, Err, unwrap_or}
+use Rattle.bottle_values.specs.declared.Value.{Value}
+use Rattle.bottle_values.specs.Arithmetic.{nought}
+use Rattle.frame_codec.specs.Frame.{Fields}
+use Rattle.office_map.specs.PlanValue.{PlanValue, are_neighbours, is_end}
+use Rattle.session_language.specs.ProgramValue.{ProgramValue}
+use Rattle.session_language.specs.Program.{fits}
+use Rattle.window_link.specs.Links.{LinkState, frame_of, ack_frame_of}
+use Rattle.token_channel.specs.declared.fault.ChannelFault.{ChannelFault}
+use Rattle.dining_core.specs.Diners as forks
+use Rattle.drinking_core.specs.Drinkers.{Drinker}
+use Rattle.drinking_core.specs.Drinkers as bottles
+use Rattle.site_core.specs.declared.rule.Rule.{Rule}
+use Rattle.site_core.specs.declared.rule.Rule.TheVariants as rule
+use Rattle.site_core.specs.declared.event.Event.{Event}
+use Rattle.site_core.specs.declared.event.Event.TheVariants as event
+use Rattle.site_core.specs.declared.reply.Reply.{Reply}
+use Rattle.site_core.specs.declared.reply.Reply.TheVariants as reply
+use Rattle.site_core.specs.declared.reply.Refusal.{Refusal}
+use Rattle.site_core.specs.declared.reply.Refusal.TheVariants as refusal
+use Rattle.site_core.specs.Replies.{reply_to}
+use Rattle.site_core.specs.Pairs.{Pairs, is_thirsty, after_fork_rule, after_bottle_rule, frame_fault, arrival_of, after_frame}
+use Rattle.site_core.specs.Pairs as pairs
+use Rattle.site_core.specs.Agenda.{Agenda, is_full, submitted, first_needs, started, begun, may_work, worked, writes_of, with_current, finished}
+use Rattle.site_core.specs.Agenda as agenda
+
+-- what it shares with its neighbours, and its sessions
+pub record Office : Type 0 where
+  pub pairs : Pairs
+  pub agenda : Agenda
+
+abbrev pub opened : PlanValue → ℕ → Office
+opened plan me = record { pairs = pairs.opened plan me; agenda = agenda.empty }
+
+-- ---- rules
+
+-- the values of the bottles that are here
+abbrev pub value_in : Drinker → ℕ → Value
+value_in d r = unwrap_or (d.bottle r) nought
+
+-- whether the rule may be done now
+abbrev pub may : PlanValue → ℕ → Office → Rule → Bool
+may plan me o rule.Start = bottles.may o.pairs.drinker (bottles.Start (first_needs o.agenda.queue))
+may plan me o rule.Hungry = forks.may o.pairs.diner (forks.BecomeHungry (is_thirsty o.pairs))
+may plan me o (rule.AskFork v) = are_neighbours plan me v && forks.may o.pairs.diner (forks.AskFork v)
+may plan me o (rule.GiveFork v) = are_neighbours plan me v && forks.may o.pairs.diner (forks.GiveFork v)
+may plan me o rule.Eat = forks.may o.pairs.diner forks.Eat
+may plan me o rule.Leave = forks.may o.pairs.diner (forks.Leave (is_thirsty o.pairs))
+may plan me o (rule.AskBottle r) = is_end plan r me && bottles.may o.pairs.drinker (bottles.AskBottle r)
+may plan me o (rule.GiveBottle r) = is_end plan r me && bottles.may o.pairs.drinker (bottles.GiveBottle r o.pairs.diner.held)
+may plan me o rule.Drink = bottles.may o.pairs.drinker bottles.Drink
+may plan me o (rule.Work n) = may_work o.agenda.current n
+may plan me o rule.Finish = bottles.may o.pairs.drinker (bottles.Finish (writes_of o.agenda.current))
+
+abbrev pub with_pairs : Office → Pairs → Office
+with_pairs o p = record { pairs = p; agenda = o.agenda }
+
+-- what it does then
+abbrev pub act : ℕ → Office → Rule → Office
+act me o rule.Start = record { pairs = after_bottle_rule o.pairs (bottles.Start (first_needs o.agenda.queue)); agenda = started o.agenda o.agenda.queue }
+act me o rule.Hungry = with_pairs o (after_fork_rule o.pairs (forks.BecomeHungry (is_thirsty o.pairs)))
+act me o (rule.AskFork v) = with_pairs o (after_fork_rule o.pairs (forks.AskFork v))
+act me o (rule.GiveFork v) = with_pairs o (after_fork_rule o.pairs (forks.GiveFork v))
+act me o rule.Eat = with_pairs o (after_fork_rule o.pairs forks.Eat)
+act me o rule.Leave = with_pairs o (after_fork_rule o.pairs (forks.Leave (is_thirsty o.pairs)))
+act me o (rule.AskBottle r) = with_pairs o (after_bottle_rule o.pairs (bottles.AskBottle r))
+act me o (rule.GiveBottle r) = with_pairs o (after_bottle_rule o.pairs (bottles.GiveBottle r o.pairs.diner.held))
+act me o rule.Drink = record { pairs = after_bottle_rule o.pairs bottles.Drink; agenda = with_current o.agenda (begun (value_in o.pairs.drinker) o.agenda.current) }
+act me o (rule.Work n) = record { pairs = o.pairs; agenda = with_current o.agenda (worked n o.agenda.current) }
+act me o rule.Finish = record { pairs = after_bottle_rule o.pairs (bottles.Finish (writes_of o.agenda.current)); agenda = finished me o.agenda }
+
+-- ---- events
+
+-- the reply to an accepted event and the office after it, or why the event is refused
+abbrev pub Answer : Type 0
+Answer = Result (Reply × Office) Refusal
+
+-- the program is of this office, and needs no record of another
+abbrev pub is_ours : PlanValue → ℕ → ProgramValue → Bool
+is_ours plan me p = p.office == me && fits plan p
+
+abbrev pub submit : PlanValue → ℕ → Office → ProgramValue → Answer
+submit plan me o p =
+    if is_ours plan me p then (if is_full o.agenda then Err refusal.QueueFull
+    else Ok (reply.Ticket (o.agenda.tickets + 1), record { pairs = o.pairs; agenda = submitted o.agenda p }))
+    else Err refusal.NotOurs
+
+abbrev pub do_rule : PlanValue → ℕ → Office → Rule → Answer
+do_rule plan me o rule = if may plan me o rule then Ok (reply.Done, act me o rule) else Err refusal.NotNow
+
+-- the frame of the i-th message that waits on a link, from 1, or one with the count alone
+abbrev pub frame_on : LinkState → ℕ → Option Fields
+frame_on l zero = Some (ack_frame_of l)
+frame_on l (suc i) = if nat_le (suc i) (length l.sending.waiting) then Some (frame_of l (suc i)) else None
+
+-- sending a frame changes nothing
+abbrev pub framed : Office → Option Fields → Answer
+framed o None = Err refusal.NotNow
+framed o (Some f) = Ok (reply.Frame f, o)
+
+abbrev pub send : PlanValue → ℕ → Office → ℕ → ℕ → Answer
+send plan me o v i = if are_neighbours plan me v then framed o (frame_on (o.pairs.link v) i) else Err refusal.NotNow
+
+abbrev pub unless_faulty : Office → Fields → Option ChannelFault → Answer
+unless_faulty o f None = Ok (reply_to (arrival_of o.pairs f), with_pairs o (after_frame o.pairs f))
+unless_faulty o f (Some fault) = Err (refusal.Channel fault)
+
+abbrev pub take : PlanValue → ℕ → Office → Fields → Answer
+take plan me o f = unless_faulty o f (frame_fault plan me o.pairs f)
+
+abbrev pub answer : PlanValue → ℕ → Office → Event → Answer
+answer plan me o (event.Submit p) = submit plan me o p
+answer plan me o (event.Do rule) = do_rule plan me o rule
+answer plan me o (event.Send v i) = send plan me o v i
+answer plan me o (event.Took f) = take plan me o f

@@ -1,0 +1,11 @@
+-- What an office replies to what a frame was.
+use Rattle.window_link.specs.declared.arrival.Arrival.{Arrival}
+use Rattle.window_link.specs.declared.arrival.Arrival.TheVariants as arrival
+use Rattle.site_core.specs.declared.reply.Reply.{Reply}
+use Rattle.site_core.specs.declared.reply.Reply.TheVariants as reply
+
+abbrev pub reply_to : Arrival → Reply
+reply_to arrival.Acked = reply.Acked
+reply_to (arrival.Fresh m) = reply.Taken
+reply_to arrival.Repeat = reply.Repeat
+reply_to arrival.Early = reply.Early

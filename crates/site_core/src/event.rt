@@ -1,0 +1,80 @@
+//! What happens at an office.
+
+ghost use Rattle.std.specs.Prelude.{◌≡◌};
+ghost use Rattle.site_core.specs.Replies.{reply_to};
+ghost use Rattle.site_core.specs.declared.event.Event.TheVariants as events;
+ghost use Rattle.site_core.specs.declared.reply.Reply.TheVariants as replies;
+
+use crate::reply::Reply;
+use crate::rule::Rule;
+use frame_codec::Frame;
+use office_map::OfficeId;
+use session_language::Program;
+use window_link::Arrival;
+
+/// An event of an office.
+#[derive(Debug, Drop)]
+pub enum Event {
+    /// A session is submitted.
+    Submit(Program),
+    /// A rule is done.
+    Do(Rule),
+    /// A frame is made for a neighbour: of the i-th message that waits for it, from 1, or with 0 of the count alone.
+    Send(OfficeId, usize),
+    /// A frame comes.
+    Took(Frame),
+}
+
+/// An event that an office accepted: who handed it in, and the reply.
+#[derive(Debug, Drop)]
+pub struct Entry {
+    pub tag: u8,
+    pub event: Event,
+    pub reply: Reply,
+}
+
+impl Entry {
+    /// A session was submitted.
+    pub(crate) fn of_session(tag: u8, program: Program, ticket: u32) -> Entry
+        ensures { result ≡ record { tag = tag; event = events.Submit program; reply = replies.Ticket ticket } }
+    {
+        Entry {
+            tag,
+            event: Event::Submit(program),
+            reply: Reply::Ticket(ticket),
+        }
+    }
+
+    /// A rule was done.
+    pub(crate) fn of_rule(tag: u8, rule: Rule) -> Entry
+        ensures { result ≡ record { tag = tag; event = events.Do rule; reply = replies.Done } }
+    {
+        Entry {
+            tag,
+            event: Event::Do(rule),
+            reply: Reply::Done,
+        }
+    }
+
+    /// A frame was made.
+    pub(crate) fn of_frame(tag: u8, v: OfficeId, i: usize, frame: Frame) -> Entry
+        ensures { result ≡ record { tag = tag; event = events.Send v i; reply = replies.Frame frame } }
+    {
+        Entry {
+            tag,
+            event: Event::Send(v, i),
+            reply: Reply::Frame(frame),
+        }
+    }
+
+    /// A frame came.
+    pub(crate) fn of_arrival(tag: u8, frame: Frame, arrival: &Arrival) -> Entry
+        ensures { result ≡ record { tag = tag; event = events.Took frame; reply = reply_to arrival.now } }
+    {
+        Entry {
+            tag,
+            event: Event::Took(frame),
+            reply: Reply::to(arrival),
+        }
+    }
+}

@@ -1,0 +1,252 @@
+//! An office.
+
+ghost use Rattle.std.specs.Prelude.{◌≡◌, ◌<◌, ◌≤◌, Some, None, [], length, IfOk, if◌then◌else◌};
+ghost use Rattle.site_core.specs.declared.event.Event.TheVariants as events;
+ghost use Rattle.office_map.specs.PlanValue.{are_neighbours};
+ghost use Rattle.site_core.specs.Limits.{most_entries};
+ghost use Rattle.site_core.specs.Offices.{may};
+ghost use Rattle.site_core.specs.RuleOrder.{next_rule};
+ghost use Rattle.site_core.specs.Readers.{waiting_on};
+ghost use Rattle.site_core.specs.Journals.{office_of, IsLegal, Steps, Receives};
+
+use crate::agenda::Agenda;
+use crate::event::{Entry, Event};
+use crate::journal::Journal;
+use crate::pairs::Pairs;
+use crate::reply::{Refusal, Reply};
+use crate::rule::Rule;
+use crate::{order, rules};
+use bottle_values::Value;
+use frame_codec::{Frame, decode};
+use office_map::{OfficeId, Plan, RecordId};
+use session_language::{Outcome, Program};
+use std::alloc::{AllocError, Global};
+use std::marker::Model;
+
+/// An office of a plan: its pairs, its sessions, and all that it accepted.
+#[derive(Drop)]
+pub struct Office {
+    alloc: Global,
+    pairs: Pairs,
+    agenda: Agenda,
+    journal: Journal,
+}
+
+impl Model for Office {
+    ghost use Rattle.std.specs.Coded.{Coded, codes};
+    ghost use Rattle.session_language.specs.declared.node.Node.{Node};
+    ghost use Rattle.session_language.specs.refinement.TreeEncoding.{Mark, term_code, block_code};
+    ghost use Rattle.site_core.specs.Journals.{Site};
+    ghost use Rattle.site_core.specs.refinement.OfficeOfCode.{site_of, IsAtEnd};
+
+    ghost Value = { Site };
+
+    ghost coded = { let nodes : Coded Node = Prim.hlevel codes in let marks : Coded Mark = Prim.hlevel (codes, term_code nodes) in Prim.hlevel (codes, block_code marks) };
+
+    ghost view = { λ o. site_of o.pairs o.journal.entries };
+
+    ghost invariant = { λ o. IsAtEnd o.pairs o.agenda o.journal.entries };
+}
+
+impl Office {
+    /// The office with that number as the plan starts it. It keeps a copy of the plan.
+    pub fn open(alloc: Global, plan: &Plan, me: OfficeId) -> Result<Office, AllocError>
+        requires { me < length plan.now.offices }
+        ensures plan { IfOk result (λ o. o.plan ≡ plan.now) }
+        ensures number { IfOk result (λ o. o.me ≡ me) }
+        ensures empty { IfOk result (λ o. o.entries ≡ []) }
+    {
+        let pairs = Pairs::open(alloc, plan, me)?;
+        Ok(Office {
+            alloc,
+            pairs,
+            agenda: Agenda::new(alloc),
+            journal: Journal::new(alloc),
+        })
+    }
+
+    /// Does a rule.
+    ///
+    /// # Errors
+    /// `NotNow` where its guard is false, then `JournalFull`, then `Memory`. Nothing changed.
+    pub fn act(&mut self, tag: u8, rule: Rule) -> Result<Reply, Refusal>
+        requires { tag < 16 }
+        ensures { Steps self.old tag (events.Do rule) result self.new }
+    {
+        let room = self.journal.make_room();
+        if let Err(refusal) = room {
+            let refused = rules::unless_enabled(&self.pairs, &self.agenda, &rule, refusal);
+            return Err(refused);
+        }
+        rules::do_rule(self.alloc, &mut self.pairs, &mut self.agenda, &rule)?;
+        let entry = Entry::of_rule(tag, rule);
+        self.journal.push(entry);
+        Ok(Reply::Done)
+    }
+
+    /// Whether a rule may be done now.
+    pub fn enabled(&self, rule: Rule) -> bool
+        ensures { result ≡ may self.now.plan self.now.me (office_of self.now) rule }
+    {
+        rules::may(&self.pairs, &self.agenda, &rule)
+    }
+
+    /// Submits a session.
+    ///
+    /// # Errors
+    /// `NotOurs`, then `QueueFull`, then `JournalFull`, then `Memory`. Nothing changed.
+    pub fn submit(&mut self, tag: u8, program: &Program) -> Result<Reply, Refusal>
+        requires { tag < 16 }
+        ensures { Steps self.old tag (events.Submit program.now) result self.new }
+    {
+        if !rules::is_ours(&self.pairs, program) {
+            return Err(Refusal::NotOurs);
+        }
+        if self.agenda.is_full() {
+            return Err(Refusal::QueueFull);
+        }
+        self.journal.make_room()?;
+        let copy = program.copy(self.alloc)?;
+        let ticket = self.agenda.submit(self.alloc, program)?;
+        let entry = Entry::of_session(tag, copy, ticket);
+        self.journal.push(entry);
+        Ok(Reply::Ticket(ticket))
+    }
+
+    /// Makes a frame for a neighbour: of the `i`-th message that waits for it, from 1, or with 0 of the count alone.
+    ///
+    /// # Errors
+    /// `NotNow` where there is no such neighbour or message, then `JournalFull`, then `Memory`. Nothing changed.
+    pub fn send(&mut self, tag: u8, v: OfficeId, i: usize) -> Result<Reply, Refusal>
+        requires { tag < 16 }
+        ensures { Steps self.old tag (events.Send v i) result self.new }
+    {
+        let Some(frame) = self.pairs.frame(v, i) else {
+            return Err(Refusal::NotNow);
+        };
+        self.journal.make_room()?;
+        let entry = Entry::of_frame(tag, v, i, frame);
+        self.journal.push(entry);
+        Ok(Reply::Frame(frame))
+    }
+
+    /// Takes in a frame that comes.
+    ///
+    /// # Errors
+    /// What the channel to its sender refuses, or `Stranger` where that is no neighbour; then `JournalFull`, then
+    /// `Memory`. Nothing changed.
+    pub fn take(&mut self, tag: u8, frame: &Frame) -> Result<Reply, Refusal>
+        requires { tag < 16 }
+        ensures { Steps self.old tag (events.Took frame.now) result self.new }
+    {
+        let checked = self.pairs.check(frame);
+        if let Err(fault) = checked {
+            return Err(Refusal::Channel(fault));
+        }
+        self.journal.make_room()?;
+        let arrival = self.pairs.accept(frame);
+        let entry = Entry::of_arrival(tag, *frame, &arrival);
+        self.journal.push(entry);
+        Ok(Reply::to(&arrival))
+    }
+
+    /// Takes in bytes that come.
+    ///
+    /// # Errors
+    /// What is wrong with bytes that are no frame; else as [`Office::take`].
+    pub fn receive(&mut self, tag: u8, bytes: &[u8]) -> Result<Reply, Refusal>
+        requires { tag < 16 }
+        ensures { Receives self.old tag bytes.now result self.new }
+    {
+        match decode(bytes) {
+            Ok(frame) => self.take(tag, &frame),
+            Err(fault) => Err(Refusal::Frame(fault)),
+        }
+    }
+
+    /// Any event.
+    ///
+    /// # Errors
+    /// As [`Office::submit`], [`Office::act`], [`Office::send`] and [`Office::take`].
+    pub fn step(&mut self, tag: u8, event: &Event) -> Result<Reply, Refusal>
+        requires { tag < 16 }
+        ensures { Steps self.old tag event.now result self.new }
+    {
+        match event {
+            Event::Submit(program) => self.submit(tag, program),
+            Event::Do(rule) => self.act(tag, *rule),
+            Event::Send(v, i) => self.send(tag, *v, *i),
+            Event::Took(frame) => self.take(tag, frame),
+        }
+    }
+
+    /// The plan.
+    pub fn plan(&self) -> &Plan
+        ensures { result.now ≡ self.now.plan }
+    {
+        self.pairs.plan()
+    }
+
+    /// The office's number.
+    pub fn number(&self) -> OfficeId
+        ensures { result ≡ self.now.me }
+    {
+        self.pairs.me()
+    }
+
+    /// All that it accepted.
+    pub fn journal(&self) -> &Journal
+        ensures entries { result.now.entries ≡ self.now.entries }
+        ensures legal { IsLegal self.now }
+        ensures few { length result.now.entries ≤ most_entries }
+    {
+        let _ = &self.pairs;
+        &self.journal
+    }
+
+    /// How the sessions ended that finished, in finishing order.
+    pub fn outcomes(&self) -> &[Outcome]
+        ensures { result.now ≡ (office_of self.now).agenda.outcomes }
+    {
+        self.agenda.outcomes()
+    }
+
+    /// How many sessions were submitted.
+    pub fn tickets(&self) -> u32
+        ensures { result ≡ (office_of self.now).agenda.tickets }
+    {
+        self.agenda.tickets()
+    }
+
+    /// The number of the first message that waits for a neighbour, if one waits, which is one more than the count that is
+    /// known to be taken; and how many wait.
+    pub fn waiting(&self, v: OfficeId) -> Option<(u64, usize)>
+        ensures { result ≡ (if are_neighbours self.now.plan self.now.me v then Some (waiting_on ((office_of self.now).pairs.link v)) else None) }
+    {
+        let channel = self.pairs.channel(v)?;
+        Some((channel.acked() + 1, channel.waiting().len()))
+    }
+
+    /// How many messages of a neighbour were taken.
+    pub fn taken(&self, v: OfficeId) -> Option<u64>
+        ensures { result ≡ (if are_neighbours self.now.plan self.now.me v then Some ((office_of self.now).pairs.link v).receiving.taken else None) }
+    {
+        let channel = self.pairs.channel(v)?;
+        Some(channel.taken())
+    }
+
+    /// The value of a record's bottle, if that is here.
+    pub fn held_value(&self, r: RecordId) -> Option<Value>
+        ensures { result ≡ (office_of self.now).pairs.drinker.bottle r }
+    {
+        self.pairs.bar().value(r)
+    }
+
+    /// The rule that the office does next, left to itself: the first that may be done, in the order of `rules_in_order`.
+    /// None only where none of them may.
+    pub fn next_rule(&self) -> Option<Rule>
+        ensures { result ≡ next_rule self.now.plan self.now.me (office_of self.now) }
+    {
+        order::next_rule(&self.pairs, &self.agenda)
+    }
+}

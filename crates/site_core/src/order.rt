@@ -1,0 +1,107 @@
+//! Which rule an office does next, left to itself.
+
+ghost use Rattle.std.specs.Prelude.{◌≡◌, ◌++◌, map, find, [], ◌∷◌};
+ghost use Rattle.office_map.specs.PlanValue.{records_of, neighbours_of};
+ghost use Rattle.site_core.specs.declared.rule.Rule.TheVariants as rules;
+ghost use Rattle.site_core.specs.Limits.{usual_piece};
+ghost use Rattle.site_core.specs.Agenda as sessions;
+ghost use Rattle.site_core.specs.Offices as offices;
+ghost use Rattle.site_core.specs.RuleOrder.{rules_in_order};
+ghost use Rattle.site_core.specs.refinement.AgendaOfCode.{Means};
+ghost use Rattle.site_core.specs.refinement.OfficeOfCode.{office_at};
+
+use crate::agenda::Agenda;
+use crate::limits::USUAL_PIECE;
+use crate::pairs::Pairs;
+use crate::rule::Rule;
+use crate::rules::may;
+
+/// The first rule that may be done, in the order in which an office looks at them.
+pub fn next_rule(pairs: &Pairs, agenda: &Agenda) -> Option<Rule>
+    ensures { (a : sessions.Agenda) → Means agenda.now a → result ≡ find (offices.may pairs.now.plan pairs.now.me (office_at pairs.now a)) (rules_in_order pairs.now.plan pairs.now.me) }
+{
+    if let Some(rule) = give_bottle(pairs, agenda) {
+        return Some(rule);
+    }
+    if let Some(rule) = give_fork(pairs, agenda) {
+        return Some(rule);
+    }
+    if let Some(rule) = of_no_pair(pairs, agenda) {
+        return Some(rule);
+    }
+    if let Some(rule) = ask_bottle(pairs, agenda) {
+        return Some(rule);
+    }
+    ask_fork(pairs, agenda)
+}
+
+/// The first of the rules that are of no neighbour and no record.
+fn of_no_pair(pairs: &Pairs, agenda: &Agenda) -> Option<Rule>
+    ensures { (a : sessions.Agenda) → Means agenda.now a → result ≡ find (offices.may pairs.now.plan pairs.now.me (office_at pairs.now a)) (rules.Finish ∷ rules.Work usual_piece ∷ rules.Drink ∷ rules.Eat ∷ rules.Leave ∷ rules.Start ∷ rules.Hungry ∷ []) }
+{
+    if may(pairs, agenda, &Rule::Finish) {
+        Some(Rule::Finish)
+    } else if may(pairs, agenda, &Rule::Work(USUAL_PIECE)) {
+        Some(Rule::Work(USUAL_PIECE))
+    } else if may(pairs, agenda, &Rule::Drink) {
+        Some(Rule::Drink)
+    } else if may(pairs, agenda, &Rule::Eat) {
+        Some(Rule::Eat)
+    } else if may(pairs, agenda, &Rule::Leave) {
+        Some(Rule::Leave)
+    } else if may(pairs, agenda, &Rule::Start) {
+        Some(Rule::Start)
+    } else if may(pairs, agenda, &Rule::Hungry) {
+        Some(Rule::Hungry)
+    } else {
+        None
+    }
+}
+
+/// A bottle that is given, of the least record.
+fn give_bottle(pairs: &Pairs, agenda: &Agenda) -> Option<Rule>
+    ensures { (a : sessions.Agenda) → Means agenda.now a → result ≡ find (offices.may pairs.now.plan pairs.now.me (office_at pairs.now a)) (map rules.GiveBottle (records_of pairs.now.plan pairs.now.me)) }
+{
+    for r in pairs.records() {
+        if may(pairs, agenda, &Rule::GiveBottle(*r)) {
+            return Some(Rule::GiveBottle(*r));
+        }
+    }
+    None
+}
+
+/// A fork that is given, to the least neighbour.
+fn give_fork(pairs: &Pairs, agenda: &Agenda) -> Option<Rule>
+    ensures { (a : sessions.Agenda) → Means agenda.now a → result ≡ find (offices.may pairs.now.plan pairs.now.me (office_at pairs.now a)) (map rules.GiveFork (neighbours_of pairs.now.plan pairs.now.me)) }
+{
+    for v in pairs.neighbours() {
+        if may(pairs, agenda, &Rule::GiveFork(*v)) {
+            return Some(Rule::GiveFork(*v));
+        }
+    }
+    None
+}
+
+/// A bottle that is asked for, of the least record.
+fn ask_bottle(pairs: &Pairs, agenda: &Agenda) -> Option<Rule>
+    ensures { (a : sessions.Agenda) → Means agenda.now a → result ≡ find (offices.may pairs.now.plan pairs.now.me (office_at pairs.now a)) (map rules.AskBottle (records_of pairs.now.plan pairs.now.me)) }
+{
+    for r in pairs.records() {
+        if may(pairs, agenda, &Rule::AskBottle(*r)) {
+            return Some(Rule::AskBottle(*r));
+        }
+    }
+    None
+}
+
+/// A fork that is asked for, of the least neighbour.
+fn ask_fork(pairs: &Pairs, agenda: &Agenda) -> Option<Rule>
+    ensures { (a : sessions.Agenda) → Means agenda.now a → result ≡ find (offices.may pairs.now.plan pairs.now.me (office_at pairs.now a)) (map rules.AskFork (neighbours_of pairs.now.plan pairs.now.me)) }
+{
+    for v in pairs.neighbours() {
+        if may(pairs, agenda, &Rule::AskFork(*v)) {
+            return Some(Rule::AskFork(*v));
+        }
+    }
+    None
+}
