@@ -6,7 +6,7 @@ use Rattle.office_map.specs.PlanValue.{PlanValue}
 use Rattle.office_map.specs.PlanText.{plan_of}
 use Rattle.office_map.specs.Precedence.{HasOrder}
 use Rattle.office_map.specs.declared.fault.PlanRule.TheVariants as plan_rules
-use Rattle.session_language.specs.ProgramValue.{ProgramValue}
+use Rattle.session_meaning.specs.ProgramValue.{ProgramValue}
 use Rattle.session_language.specs.declared.fault.SessionRule.TheVariants as rules_of
 use Rattle.session_language.specs.Reading.{sessions_of}
 use Rattle.world_schedule.specs.declared.event.WorldEvent.{WorldEvent}

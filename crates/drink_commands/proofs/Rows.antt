@@ -5,7 +5,7 @@ use Rattle.std.proofs.lemmas.List.{append-nil}
 use Rattle.std.proofs.lemmas.Option.{get_or_from_slice_get}
 use Rattle.bottle_values.specs.declared.Value.{Value}
 use Rattle.office_map.specs.PlanValue.{PlanValue}
-use Rattle.session_language.specs.declared.ending.Outcome.{Outcome}
+use Rattle.session_meaning.specs.declared.ending.Outcome.{Outcome}
 use Rattle.serial_replay.specs.Serial.{ListsValues}
 use Rattle.drink_commands.specs.Report.{outcome_line, value_line, value_lines, value_at, report_of}
 

@@ -15,7 +15,7 @@ use Rattle.office_map.specs.PlanValue.{PlanValue, office_named, record_named}
 use Rattle.office_map.specs.Consistency.{IsConsistent}
 use Rattle.office_map.specs.PlanText.{and_then}
 use Rattle.office_map.specs.Text.{is_blank, is_plain, is_name, is_name_byte, number_of, words_of, lines, says_something, statements_from}
-use Rattle.session_language.specs.ProgramValue.{ProgramValue}
+use Rattle.session_meaning.specs.ProgramValue.{ProgramValue}
 use Rattle.session_language.proofs.canonical.Lexemes.{IsWord, number_is_word, number_again, name_bytes, name_again, word_is_plain}
 use Rattle.session_language.proofs.canonical.NameResolution.{office_found, record_found, office_is_named, record_is_named}
 use Rattle.session_language.proofs.canonical.TextLines.{plainly, first_statement_is}

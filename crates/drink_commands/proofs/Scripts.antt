@@ -4,7 +4,7 @@ use Rattle.std.specs.List.{cons_option}
 use Rattle.std.proofs.lemmas.List.{map-append}
 use Rattle.std.proofs.lemmas.List.Elements.{filter_map-append}
 use Rattle.office_map.specs.PlanValue.{PlanValue}
-use Rattle.session_language.specs.ProgramValue.{ProgramValue}
+use Rattle.session_meaning.specs.ProgramValue.{ProgramValue}
 use Rattle.world_schedule.specs.declared.event.WorldEvent.{WorldEvent}
 use Rattle.drink_commands.specs.declared.script.ScriptEvent.{ScriptEvent}
 use Rattle.drink_commands.specs.Script.{event_of, event_with, events_with, said_by, AreEvents}

@@ -5,7 +5,7 @@ use Rattle.std.proofs.lemmas.List.{take_more}
 use Rattle.std.proofs.lemmas.List.Concat.{flat_map-append}
 use Rattle.std.proofs.lemmas.List.Elements.{filter_map-append}
 use Rattle.office_map.specs.PlanValue.{PlanValue}
-use Rattle.session_language.specs.ProgramValue.{ProgramValue}
+use Rattle.session_meaning.specs.ProgramValue.{ProgramValue}
 use Rattle.world_schedule.specs.declared.event.WorldEvent.{WorldEvent}
 use Rattle.world_schedule.specs.Worlds.{World, happens, run_of, replies_of}
 use Rattle.drink_commands.specs.declared.script.ScriptEvent.{ScriptEvent}

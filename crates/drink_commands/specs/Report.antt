@@ -4,9 +4,9 @@ use Rattle.std.specs.List.{flat_map, range_with_len, slice_index_or}
 use Rattle.std.specs.Fmt.{decimal, signed_decimal}
 use Rattle.bottle_values.specs.declared.Value.{Value}
 use Rattle.office_map.specs.PlanValue.{PlanValue, office_name_of, record_name_of}
-use Rattle.session_language.specs.declared.ending.End.{End}
-use Rattle.session_language.specs.declared.ending.End.TheVariants.{Done, Refused, Overflow}
-use Rattle.session_language.specs.declared.ending.Outcome.{Outcome}
+use Rattle.session_meaning.specs.declared.ending.End.{End}
+use Rattle.session_meaning.specs.declared.ending.End.TheVariants.{Done, Refused, Overflow}
+use Rattle.session_meaning.specs.declared.ending.Outcome.{Outcome}
 
 -- the plan's names; nothing for a number that the plan doesn't have
 abbrev pub office_name : PlanValue → ℕ → List ℕ

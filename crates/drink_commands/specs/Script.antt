@@ -6,7 +6,7 @@ use Rattle.std.specs.Str.{bytes_eq}
 use Rattle.office_map.specs.PlanValue.{PlanValue, office_named, record_named}
 use Rattle.office_map.specs.Text.{name_of, number_of, statements}
 use Rattle.office_map.specs.PlanText.{and_then, plain_words}
-use Rattle.session_language.specs.ProgramValue.{ProgramValue}
+use Rattle.session_meaning.specs.ProgramValue.{ProgramValue}
 use Rattle.world_schedule.specs.declared.rule.Rule.{Rule}
 use Rattle.world_schedule.specs.declared.rule.Rule.TheVariants as rule
 use Rattle.world_schedule.specs.declared.event.WorldEvent.{WorldEvent}

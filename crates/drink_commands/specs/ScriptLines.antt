@@ -4,7 +4,7 @@ use Rattle.std.specs.List.{flat_map, join_with_byte}
 use Rattle.std.specs.Fmt.{decimal}
 use Rattle.office_map.specs.PlanValue.{PlanValue}
 use Rattle.office_map.specs.Consistency.{IsConsistent}
-use Rattle.session_language.specs.ProgramValue.{ProgramValue}
+use Rattle.session_meaning.specs.ProgramValue.{ProgramValue}
 use Rattle.world_schedule.specs.declared.rule.Rule.{Rule}
 use Rattle.world_schedule.specs.declared.rule.Rule.TheVariants as rule
 use Rattle.drink_commands.specs.declared.script.ScriptEvent.{ScriptEvent}

@@ -3,7 +3,7 @@ use Rattle.std.specs.Prelude.{◌≡◌, ℕ, List, Option, Ok}
 use Rattle.std.specs.Io.KnownBytes.{Appends}
 use Rattle.office_map.specs.PlanValue.{PlanValue}
 use Rattle.drink_commands.specs.Plans.{IsAcceptedAs}
-use Rattle.session_language.specs.ProgramValue.{ProgramValue}
+use Rattle.session_meaning.specs.ProgramValue.{ProgramValue}
 use Rattle.session_language.specs.Reading.{sessions_of}
 use Rattle.serial_replay.specs.Serial.{outcomes_of, map_of, start_map}
 use Rattle.drink_commands.specs.Report.{report_of}

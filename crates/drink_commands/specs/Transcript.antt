@@ -5,7 +5,7 @@ use Rattle.std.specs.Fmt.{decimal}
 use Rattle.std.specs.Io.KnownBytes.{Appends}
 use Rattle.office_map.specs.PlanValue.{PlanValue, are_neighbours}
 use Rattle.drink_commands.specs.Plans.{IsAcceptedAs}
-use Rattle.session_language.specs.ProgramValue.{ProgramValue}
+use Rattle.session_meaning.specs.ProgramValue.{ProgramValue}
 use Rattle.session_language.specs.Reading.{sessions_of}
 use Rattle.world_schedule.specs.declared.finished.Finished.{Finished}
 use Rattle.world_schedule.specs.declared.event.WorldEvent.{WorldEvent}

@@ -1,6 +1,6 @@
 -- Turns of a loop, one after the other.
 use Rattle.std.proofs.Common.{◌≡◌, ℕ, suc, ◌+◌, ◌-◌, ◌<◌, Err, refl, sym, ◌∙◌, arith}
-use Rattle.session_language.specs.Meaning.{Environment, Step, Goes, Ends, repeated}
+use Rattle.session_meaning.specs.Meaning.{Environment, Step, Goes, Ends, repeated}
 use Rattle.serial_replay.specs.declared.environment.Environment as code
 use Rattle.serial_replay.specs.declared.stop.Stop.{Stop}
 use Rattle.serial_replay.specs.declared.stop.Stop.TheVariants.{Ended, Memory}

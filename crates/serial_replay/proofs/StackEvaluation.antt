@@ -2,12 +2,12 @@
 use Rattle.std.proofs.Common.{◌≡◌, List, [], ◌∷◌, ◌++◌, length, reverse, Option, Some, None, option_to_list, refl, sym, ap, ◌∙◌, arith}
 use Rattle.std.proofs.lemmas.List.{reverse-append, length-reverse}
 use Rattle.bottle_values.specs.declared.Value.{Value}
-use Rattle.session_language.specs.declared.node.Node.{Node}
-use Rattle.session_language.specs.declared.node.Node.TheVariants.{Negate, Apply}
-use Rattle.session_language.specs.declared.node.Operator.{Operator}
-use Rattle.session_language.specs.Tree.{Term, Constant, Var, ReadOf, Neg, Bin}
-use Rattle.session_language.specs.refinement.Postfix.{postfix}
-use Rattle.session_language.specs.Meaning.{Environment, value_of, apply, negated, both}
+use Rattle.session_meaning.specs.declared.node.Node.{Node}
+use Rattle.session_meaning.specs.declared.node.Node.TheVariants.{Negate, Apply}
+use Rattle.session_meaning.specs.declared.node.Operator.{Operator}
+use Rattle.session_meaning.specs.Tree.{Term, Constant, Var, ReadOf, Neg, Bin}
+use Rattle.session_meaning.specs.refinement.Postfix.{postfix}
+use Rattle.session_meaning.specs.Meaning.{Environment, value_of, apply, negated, both}
 use Rattle.serial_replay.specs.refinement.PostfixEvaluation.{after_node, after_nodes, and_after, on_top}
 
 and_after-alike : (o : Option (List Value)) (f g : List Value → Option (List Value)) → ((u : List Value) → f u ≡ g u) → and_after o f ≡ and_after o g

@@ -5,11 +5,11 @@ use Rattle.std.specs.List.{slice_index_or}
 use Rattle.bottle_values.specs.declared.Value.{Value}
 use Rattle.bottle_values.specs.Maps.{reads_of, write_all}
 use Rattle.office_map.specs.PlanValue.{PlanValue, start_values}
-use Rattle.session_language.specs.declared.ending.Ending.{Ending}
-use Rattle.session_language.specs.declared.ending.Outcome.{Outcome}
-use Rattle.session_language.specs.ProgramValue.{ProgramValue}
-use Rattle.session_language.specs.Needs.{needs_of}
-use Rattle.session_language.specs.Meaning.{alone}
+use Rattle.session_meaning.specs.declared.ending.Ending.{Ending}
+use Rattle.session_meaning.specs.declared.ending.Outcome.{Outcome}
+use Rattle.session_meaning.specs.ProgramValue.{ProgramValue}
+use Rattle.session_meaning.specs.Needs.{needs_of}
+use Rattle.session_meaning.specs.Meaning.{alone}
 
 -- how a session ends where these are the records' values
 abbrev pub ending_on : ProgramValue → (ℕ → Value) → Ending

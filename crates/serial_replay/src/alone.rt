@@ -1,8 +1,8 @@
 //! One session alone.
 
 ghost use Rattle.std.specs.Prelude.{◌≡◌, IfOk, length, zip};
-ghost use Rattle.session_language.specs.Needs.{needs_of};
-ghost use Rattle.session_language.specs.Meaning.{alone, begun, ending_of, Goes};
+ghost use Rattle.session_meaning.specs.Needs.{needs_of};
+ghost use Rattle.session_meaning.specs.Meaning.{alone, begun, ending_of, Goes};
 ghost use Rattle.serial_replay.specs.refinement.WalkRefinement as walk;
 
 use crate::environment::Environment;
@@ -13,7 +13,7 @@ use office_map::RecordId;
 use session_language::{End, Ending, Gives, Program, RecordValues, Variables, WorkingCopy};
 use std::alloc::{AllocError, Global};
 
-#[tactic(auto, unfolding(session_language::specs::Meaning::alone))]
+#[tactic(auto, unfolding(session_meaning::specs::Meaning::alone))]
 /// What a session does alone, where these are the values of the records that it needs.
 pub fn alone(alloc: Global, program: &Program, values: &[Value]) -> Result<Ending, AllocError>
     requires { length values.now ≡ length (needs_of program.now.body) }

@@ -2,7 +2,7 @@
 
 ghost use Rattle.std.specs.Prelude.{◌≡◌, ◌∷◌, IfOk, reverse, if◌then◌else◌, Some, None, true};
 ghost use Rattle.std.specs.Result.{result_ok};
-ghost use Rattle.session_language.specs.Meaning.{value_of};
+ghost use Rattle.session_meaning.specs.Meaning.{value_of};
 ghost use Rattle.serial_replay.specs.refinement.PostfixEvaluation.{after_node, on_top};
 ghost use Rattle.serial_replay.specs.refinement.WalkRefinement.{environment_of};
 

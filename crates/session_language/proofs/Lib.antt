@@ -1,14 +1,10 @@
 pub mod Pieces
 pub mod Places
-pub mod TreeErasure
 pub mod Texts
 pub mod LawProofs
-pub mod WorkedExamples
 pub mod canonical
 pub mod expressions
 pub mod session_measures
 pub mod session_reading
-pub mod needed_records
 pub mod LongestMatch
 pub mod LineGrammar
-pub mod working_copies

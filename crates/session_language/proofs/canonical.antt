@@ -6,3 +6,4 @@ pub mod LexerRoundTrip
 pub mod Lexemes
 pub mod Tokens
 pub mod RoundTrip
+pub mod NeededRecords

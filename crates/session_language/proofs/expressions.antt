@@ -1,6 +1,6 @@
 pub mod ParserSound
 pub mod ParserComplete
 pub mod BuilderRefinesParser
-pub mod PostfixSplit
+pub mod LastNode
 pub mod CounterBounds
 pub mod PhraseLoop

@@ -2,8 +2,8 @@
 use Rattle.std.specs.Prelude.{ℕ, List, [], ◌∷◌, Option, Some, None, if◌then◌else◌, nat_lt, nat_le, option_map, option_and_then, codes}
 use Rattle.std.specs.Str.{bytes_eq}
 use Rattle.office_map.specs.Text.{name_of, number_of}
-use Rattle.session_language.specs.declared.node.Comparison.{Comparison}
-use Rattle.session_language.specs.declared.node.Comparison.TheVariants.{Equal, NotEqual, Less, AtMost, Greater, AtLeast}
+use Rattle.session_meaning.specs.declared.node.Comparison.{Comparison}
+use Rattle.session_meaning.specs.declared.node.Comparison.TheVariants.{Equal, NotEqual, Less, AtMost, Greater, AtLeast}
 use Rattle.session_language.specs.declared.lexer.Symbol.{Symbol}
 use Rattle.session_language.specs.declared.lexer.Symbol.TheVariants as symbol
 use Rattle.session_language.specs.declared.keyword.Keyword.{Keyword}

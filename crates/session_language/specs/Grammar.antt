@@ -1,7 +1,7 @@
 -- The grammar of expressions: which tokens spell which tree, and how deep. There is no limit here. An operand is 1
 -- deep; an operator or a leading minus 1 more than its deepest operand; parentheses 1 more than what they hold.
 use Rattle.std.specs.Prelude.{ℕ, suc, max, List, [], ◌∷◌, ◌++◌}
-use Rattle.session_language.specs.declared.node.Operator.TheVariants as op
+use Rattle.session_meaning.specs.declared.node.Operator.TheVariants as op
 use Rattle.session_language.specs.Spelling.{Operand, Spelled, Plain, Negative, Binary, Token, Leaf, Plus, Minus, Times, Open, Close}
 
 mutual

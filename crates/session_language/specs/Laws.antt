@@ -1,20 +1,16 @@
 -- Laws of the definitions that contracts cite.
-use Rattle.std.specs.Prelude.{◌≡◌, ◌≤◌, ◌<◌, ◌+◌, ℕ, List, [], ◌∷◌, ◌++◌, length, map, All, Contains, Some, None, Ok, Err}
+use Rattle.std.specs.Prelude.{◌≡◌, ◌≤◌, ◌<◌, ◌+◌, ℕ, List, [], ◌∷◌, ◌++◌, length, Some, None, Ok, Err}
 use Rattle.std.specs.Result.{MatchResult}
-use Rattle.bottle_values.specs.declared.Value.{Value}
 use Rattle.office_map.specs.PlanValue.{PlanValue}
 use Rattle.office_map.specs.Text.{lines, statements}
 use Rattle.office_map.specs.RefusedLines.{SaysSomethingAt}
 use Rattle.session_language.specs.declared.fault.SessionRule.TheVariants.{TooLong, Syntax}
 use Rattle.session_language.specs.declared.fault.SessionRefusal.{SessionRefusal}
-use Rattle.session_language.specs.ProgramValue.{ProgramValue}
+use Rattle.session_meaning.specs.ProgramValue.{ProgramValue}
 use Rattle.session_language.specs.Spelling.{Spelled, Token}
 use Rattle.session_language.specs.Parse.{read_part}
 use Rattle.session_language.specs.Grammar.{IsExpr}
 use Rattle.session_language.specs.Reading.{Draft, Reading, take_line, at_line, read_lines, nothing_read, sessions_of}
-use Rattle.session_language.specs.Meaning.{alone}
-use Rattle.session_language.specs.Measures.{block_cost}
-use Rattle.session_language.specs.Length.{length_on}
 use Rattle.session_language.specs.Limits.{most_text}
 
 -- these lines are accepted one after the other, from x on, and leave y
@@ -62,15 +58,3 @@ ReadsTheGrammar = (ts : List Token) (e : Spelled) (d : ℕ) → IsReadBy ts e d
 -- no tokens spell two trees
 abbrev pub IsUnambiguous : Type 0
 IsUnambiguous = (ts : List Token) (e f : Spelled) (c d : ℕ) → IsExpr ts e c → IsExpr ts f d → (e ≡ f) × (c ≡ d)
-
--- a session writes records whose values it was given, and no others
-abbrev pub WritesWhatItHas : Type 0
-WritesWhatItHas = (p : ProgramValue) (reads : List (ℕ × Value)) → All (λ w. Contains (map (λ x. x.0) reads) w.0) (alone p reads).writes
-
--- however it ends, it tells the values that it was given
-abbrev pub TellsWhatItRead : Type 0
-TellsWhatItRead = (p : ProgramValue) (reads : List (ℕ × Value)) → (alone p reads).reads ≡ reads
-
--- a session does something, and at most one more than its cost
-abbrev pub EndsWithinItsCost : Type 0
-EndsWithinItsCost = (p : ProgramValue) (reads : List (ℕ × Value)) → (1 ≤ length_on p reads) × (length_on p reads ≤ block_cost p.body + 1)

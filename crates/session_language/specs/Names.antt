@@ -4,13 +4,13 @@ use Rattle.std.specs.List.{list_all}
 use Rattle.std.specs.Str.{bytes_eq}
 use Rattle.std.specs.String.{string_bytes}
 use Rattle.office_map.specs.PlanValue.{PlanValue, record_named, is_end}
-use Rattle.session_language.specs.declared.node.Node.{Node}
-use Rattle.session_language.specs.declared.node.Node.TheVariants.{Literal, Variable, Read}
+use Rattle.session_meaning.specs.declared.node.Node.{Node}
+use Rattle.session_meaning.specs.declared.node.Node.TheVariants.{Literal, Variable, Read}
 use Rattle.session_language.specs.declared.builder.Element.{Element}
 use Rattle.session_language.specs.declared.builder.Element.TheVariants as element
 use Rattle.session_language.specs.declared.scope.Scope as code
 use Rattle.session_language.specs.declared.names.Placed.{Placed}
-use Rattle.session_language.specs.Tree.{Term, Constant, Var, ReadOf, Neg, Bin}
+use Rattle.session_meaning.specs.Tree.{Term, Constant, Var, ReadOf, Neg, Bin}
 use Rattle.session_language.specs.Spelling.{Operand, ANumber, AVariable, ARecord, Spelled, Plain, Negative, Binary, Token, Leaf, Plus, Minus, Times, Open, Close}
 
 -- the plan, the session's office, and the variables that earlier lines name

@@ -1,7 +1,7 @@
 -- Reading an expression token by token, with a stack of the parentheses that are open.
 use Rattle.std.specs.Prelude.{ℕ, zero, suc, max, List, [], ◌∷◌, Option, Some, None}
-use Rattle.session_language.specs.declared.node.Operator.{Operator}
-use Rattle.session_language.specs.declared.node.Operator.TheVariants as op
+use Rattle.session_meaning.specs.declared.node.Operator.{Operator}
+use Rattle.session_meaning.specs.declared.node.Operator.TheVariants as op
 use Rattle.session_language.specs.Spelling.{Operand, Spelled, Plain, Negative, Binary, Token, Leaf, Plus, Minus, Times, Open, Close}
 
 -- a tree, and how deep its text is

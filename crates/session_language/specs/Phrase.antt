@@ -11,10 +11,10 @@ use Rattle.session_language.specs.declared.token.Token as code_token
 use Rattle.session_language.specs.declared.token.Token.TheVariants as tokens
 use Rattle.session_language.specs.declared.token.Next.{Next}
 use Rattle.session_language.specs.declared.token.Next.TheVariants as nexts
-use Rattle.session_language.specs.declared.node.Node.{Node}
+use Rattle.session_meaning.specs.declared.node.Node.{Node}
 use Rattle.session_language.specs.declared.summary.Summary.{Summary}
 use Rattle.session_language.specs.Lexer.{Piece, AWord, ASymbol, AStray, seen}
-use Rattle.session_language.specs.refinement.Postfix.{postfix}
+use Rattle.session_meaning.specs.refinement.Postfix.{postfix}
 use Rattle.session_language.specs.Spelling.{Operand, ANumber, AVariable, ARecord, Spelled, Token, Leaf, Plus, Minus, Times, Open, Close}
 use Rattle.session_language.specs.Parse.{Part, read_part}
 use Rattle.session_language.specs.Names.{Scope, placed, knows_variables, knows_records}

@@ -2,8 +2,8 @@
 use Rattle.std.specs.Prelude.{ℕ, List, [], length, Bool, ◌&&◌, nat_lt, unwrap_or}
 use Rattle.std.specs.List.{list_all}
 use Rattle.office_map.specs.PlanValue.{PlanValue, is_end, office_name_of, record_name_of}
-use Rattle.session_language.specs.ProgramValue.{ProgramValue}
-use Rattle.session_language.specs.Needs.{needs_of}
+use Rattle.session_meaning.specs.ProgramValue.{ProgramValue}
+use Rattle.session_meaning.specs.Needs.{needs_of}
 use Rattle.session_language.specs.Text.{Words, session_text}
 
 -- its office is the plan's, and each record that it needs is of that office

@@ -8,12 +8,12 @@ use Rattle.office_map.specs.Text.{lines, statements}
 use Rattle.session_language.specs.declared.fault.SessionRule.{SessionRule}
 use Rattle.session_language.specs.declared.fault.SessionRule.TheVariants.{Syntax, UnknownName, UnknownRecord, TooDeep, TooLong, TooManyRecords, TooManyGives, TooManyVariables}
 use Rattle.session_language.specs.declared.fault.SessionRefusal.{SessionRefusal}
-use Rattle.session_language.specs.Tree.{Term, Test, Command, LetVar, SetTo, GiveOf, Requires, When, Choice, Loop, Block}
-use Rattle.session_language.specs.refinement.TreeOfStatements.{block_from}
-use Rattle.session_language.specs.ProgramValue.{ProgramValue}
+use Rattle.session_meaning.specs.Tree.{Term, Test, Command, LetVar, SetTo, GiveOf, Requires, When, Choice, Loop, Block}
+use Rattle.session_meaning.specs.refinement.TreeOfStatements.{block_from}
+use Rattle.session_meaning.specs.ProgramValue.{ProgramValue}
 use Rattle.session_language.specs.Names.{Scope, placed, record_of, knows_variables, knows_records}
-use Rattle.session_language.specs.Needs.{with_record, term_needs, test_needs}
-use Rattle.session_language.specs.Measures.{block_statements, block_cost, block_gives}
+use Rattle.session_meaning.specs.Needs.{with_record, term_needs, test_needs}
+use Rattle.session_meaning.specs.Measures.{block_statements, block_cost, block_gives}
 use Rattle.session_language.specs.Text.{session_text, wide_words}
 use Rattle.session_language.specs.declared.keyword.Keyword.{Keyword}
 use Rattle.session_language.specs.Lexer.{Piece, pieces_of}

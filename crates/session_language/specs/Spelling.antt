@@ -1,6 +1,6 @@
 -- An expression as it is spelled: its names are still text.
 use Rattle.std.specs.Prelude.{ℕ, List}
-use Rattle.session_language.specs.declared.node.Operator.{Operator}
+use Rattle.session_meaning.specs.declared.node.Operator.{Operator}
 
 pub data Operand : Type 0 where
   ANumber : (n : ℕ) → Operand

@@ -9,13 +9,13 @@ use Rattle.session_language.specs.declared.words.RecordNames.{RecordNames}
 use Rattle.session_language.specs.declared.words.RecordNames.TheVariants.{Of, Wide}
 use Rattle.std.specs.List.{slice_index_or}
 use Rattle.bottle_values.specs.declared.Value.{Value}
-use Rattle.session_language.specs.declared.node.Operator.{Operator}
-use Rattle.session_language.specs.declared.node.Operator.TheVariants as op
-use Rattle.session_language.specs.declared.node.Comparison.{Comparison}
-use Rattle.session_language.specs.declared.node.Comparison.TheVariants.{Equal, NotEqual, Less, AtMost, Greater, AtLeast}
+use Rattle.session_meaning.specs.declared.node.Operator.{Operator}
+use Rattle.session_meaning.specs.declared.node.Operator.TheVariants as op
+use Rattle.session_meaning.specs.declared.node.Comparison.{Comparison}
+use Rattle.session_meaning.specs.declared.node.Comparison.TheVariants.{Equal, NotEqual, Less, AtMost, Greater, AtLeast}
 use Rattle.session_language.specs.declared.rank.Rank.{Rank}
 use Rattle.session_language.specs.declared.rank.Rank.TheVariants.{Factor, Product, Sum}
-use Rattle.session_language.specs.Tree.{Term, Constant, Var, ReadOf, Neg, Bin, Test, Command, LetVar, SetTo, GiveOf, Requires, When, Choice, Loop, Block, Nothing, Then}
+use Rattle.session_meaning.specs.Tree.{Term, Constant, Var, ReadOf, Neg, Bin, Test, Command, LetVar, SetTo, GiveOf, Requires, When, Choice, Loop, Block, Nothing, Then}
 
 -- the words that stand for an office, variables and records
 pub record Words : Type 0 where

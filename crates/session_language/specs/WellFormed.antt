@@ -1,13 +1,13 @@
 -- What holds of every program: all that a reader can have read, and no more.
 use Rattle.std.specs.Prelude.{◌≡◌, ◌≢◌, ◌<◌, ◌≤◌, ◌^◌, ℕ, suc, max, ℤ, pos, negsuc, List, length, All, AllPairs, IsTrue, false}
 use Rattle.office_map.specs.Text.{is_name}
-use Rattle.session_language.specs.declared.node.Operator.TheVariants as op
+use Rattle.session_meaning.specs.declared.node.Operator.TheVariants as op
 use Rattle.session_language.specs.declared.rank.Rank.{Rank}
 use Rattle.session_language.specs.declared.rank.Rank.TheVariants.{Factor, Product, Sum}
-use Rattle.session_language.specs.Tree.{Term, Constant, Var, ReadOf, Neg, Bin, Test, Command, LetVar, SetTo, GiveOf, Requires, When, Choice, Loop, Block, Nothing, Then}
-use Rattle.session_language.specs.ProgramValue.{ProgramValue}
-use Rattle.session_language.specs.Needs.{needs_of}
-use Rattle.session_language.specs.Measures.{block_gives}
+use Rattle.session_meaning.specs.Tree.{Term, Constant, Var, ReadOf, Neg, Bin, Test, Command, LetVar, SetTo, GiveOf, Requires, When, Choice, Loop, Block, Nothing, Then}
+use Rattle.session_meaning.specs.ProgramValue.{ProgramValue}
+use Rattle.session_meaning.specs.Needs.{needs_of}
+use Rattle.session_meaning.specs.Measures.{block_gives}
 use Rattle.session_language.specs.Text.{rank_of}
 use Rattle.session_language.specs.Reading.{Spoken, SpeaksLet, SpeaksSet, SpeaksGive, SpeaksDemand, SpeaksIf, SpeaksRepeat, is_too_long}
 use Rattle.session_language.specs.Limits.{most_depth, most_blocks, most_turns, codes_end, most_records, most_variables, most_gives}

@@ -2,13 +2,6 @@ pub mod ResolvedStatements
 pub mod ReaderRefinement
 pub mod PostfixBuilder
 pub mod UniqueProofs
-pub mod TreeEncoding
-pub mod PostfixSplit
-pub mod TreeOfStatements
-pub mod ExpressionNodes
 pub mod TextSizes
-pub mod Postfix
 pub mod KeptDraft
-pub mod Extent
 pub mod PartsRefinement
-pub mod CopiedSlots

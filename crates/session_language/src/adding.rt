@@ -6,16 +6,17 @@ ghost use Rattle.session_language.specs.refinement.ResolvedStatements.{seen_spok
 ghost use Rattle.session_language.specs.refinement.PartsRefinement.{parts_of, with_variables};
 ghost use Rattle.session_language.specs.refinement.ReaderRefinement.{Stops};
 ghost use Rattle.bottle_values.specs.Memory.{UnlessMemory};
-ghost use Rattle.session_language.specs.Reading.{add, place_of, with_variable, with_line, opens_block};
+ghost use Rattle.session_language.specs.Reading.{add, place_of, with_variable, with_line, opens_block, named_after};
 ghost use Rattle.session_language.specs.Limits.{most_variables};
 
 use crate::fault::{SessionRule, Stop};
 use crate::limits::{MOST_BLOCKS, MOST_RECORDS, MOST_VARIABLES};
 use crate::names::position_of;
-use crate::needs::add_needs;
 use crate::parts::{Head, Parts};
 use crate::spoken::Spoken;
-use crate::tree::Statement;
+use office_map::RecordId;
+use session_meaning::Statement;
+use session_meaning::needs::{add_reads, add_record};
 use std::alloc::{AllocError, Global};
 
 /// Adds the first line of a statement to the parts of a session.
@@ -35,6 +36,25 @@ pub(crate) fn add_to(alloc: Global, parts: &mut Parts, spoken: Spoken<'_>) -> Re
         return Err(Stop::Refused(SessionRule::TooManyVariables));
     }
     Ok(())
+}
+
+/// Adds the records of the first line of a statement.
+fn add_needs(needs: &mut Vec<RecordId>, spoken: &Spoken<'_>) -> Result<(), AllocError>
+    ensures { OnOk result (needs.new.items ≡ named_after needs.old.items (seen_spoken spoken.now)) }
+{
+    match spoken {
+        Spoken::Let(_, e) => add_reads(needs, e),
+        Spoken::Set(id, e) => {
+            add_record(needs, *id)?;
+            add_reads(needs, e)
+        }
+        Spoken::Give(e) => add_reads(needs, e),
+        Spoken::Repeat(_) => Ok(()),
+        Spoken::Require(c, _) | Spoken::If(c) => {
+            add_reads(needs, &c.left)?;
+            add_reads(needs, &c.right)
+        }
+    }
 }
 
 fn opens_block(spoken: &Spoken<'_>) -> bool

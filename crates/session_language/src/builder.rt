@@ -2,20 +2,19 @@
 
 ghost use Rattle.std.specs.Prelude.{◌≡◌, ◌+◌, ◌<◌, ◌≤◌, ◌^◌, ◌++◌, ◌∷◌, ◌&&◌, [], IfOk, OnOk, min, max, suc, length, option_map, replicate, if◌then◌else◌, Some};
 ghost use Rattle.session_language.specs.refinement.PostfixBuilder.{build_of, fresh_build, ended, emit, emit_wanting, emit_having, after_sign, joined_depth, sum_depth, sum_end, completed, HasRoom};
-ghost use Rattle.session_language.specs.refinement.Postfix.{IsPostfix, tree_of};
+ghost use Rattle.session_meaning.specs.refinement.Postfix.{IsPostfix, tree_of};
 ghost use Rattle.session_language.specs.Limits.{past_depth};
 ghost use Rattle.session_language.specs.Lexer.{pieces_of};
 ghost use Rattle.session_language.specs.Names.{scope_of};
 ghost use Rattle.session_language.specs.Phrase.{phrase_at, Reads};
 
-use crate::expression::Expression;
 use crate::guesses::Guesses;
 use crate::lexer::{Piece, Pieces};
 use crate::limits::PAST_DEPTH;
-use crate::node::{Node, Operator};
 use crate::scope::Scope;
 use crate::summary::Summary;
 use crate::token::Next;
+use session_meaning::{Expression, Node, Operator};
 use std::alloc::{AllocError, Global};
 
 /// A token whose names are known.

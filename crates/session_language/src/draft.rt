@@ -10,13 +10,13 @@ use crate::fault::{SessionRule, Stop};
 use crate::keyword::Keyword;
 use crate::lexer::Pieces;
 use crate::limits::{MOST_BYTES, MOST_COST, MOST_GIVES, MOST_STATEMENTS, SHORT_EXTENT};
-use crate::measures::{block_cost, block_extent, block_gives, block_statements};
 use crate::parts::Parts;
 use crate::program::Program;
 use crate::scope::Scope;
 use crate::sizes::session_size;
 use crate::spoken::{Spoken, speak};
 use office_map::{OfficeId, Plan};
+use session_meaning::measures::{block_cost, block_extent, block_gives, block_statements};
 use std::alloc::{AllocError, Global};
 
 /// A session that is open, after each of its lines.

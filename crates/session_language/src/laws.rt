@@ -2,16 +2,7 @@
 
 ghost use Rattle.session_language.specs.LongestMatch.{CutsTheLongest};
 ghost use Rattle.session_language.specs.LineGrammar.{ReadsTheForms};
-ghost use Rattle.session_language.specs.Stepwise.{LengthCountsSteps};
-ghost use Rattle.session_language.specs.Laws.{
-  ReadsInOrder,
-  RefusesALine,
-  ReadsTheGrammar,
-  IsUnambiguous,
-  WritesWhatItHas,
-  TellsWhatItRead,
-  EndsWithinItsCost,
-};
+ghost use Rattle.session_language.specs.Laws.{ReadsInOrder, RefusesALine, ReadsTheGrammar, IsUnambiguous};
 
 /// Reading accepts all lines, one after the other, or stops at the first that is refused.
 pub fn reads_in_order()
@@ -42,24 +33,4 @@ pub fn reads_the_grammar()
 /// An expression is one tree.
 pub fn expressions_are_unambiguous()
     ensures { IsUnambiguous }
-{}
-
-/// A session writes only records that it needs.
-pub fn writes_what_it_has()
-    ensures { WritesWhatItHas }
-{}
-
-/// However a session ends, it tells what it read.
-pub fn tells_what_it_read()
-    ensures { TellsWhatItRead }
-{}
-
-/// A session that is read one step at a time takes as many steps as its length.
-pub fn length_counts_steps()
-    ensures { LengthCountsSteps }
-{}
-
-/// A session does something, and at most one more than its cost.
-pub fn ends_within_its_cost()
-    ensures { EndsWithinItsCost }
 {}

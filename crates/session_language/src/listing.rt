@@ -3,17 +3,15 @@
 ghost use Rattle.std.specs.Prelude.{◌≡◌, ◌∷◌, [], ◌++◌, OnOk, IfOk, codes};
 ghost use Rattle.std.specs.String.{string_bytes};
 ghost use Rattle.std.specs.Fmt.{decimal};
-ghost use Rattle.session_language.specs.refinement.TreeOfStatements.{test_of, command_of, block_of};
-ghost use Rattle.session_language.specs.Tree.{LetVar, SetTo, GiveOf, Requires};
+ghost use Rattle.session_meaning.specs.refinement.TreeOfStatements.{test_of, command_of, block_of};
+ghost use Rattle.session_meaning.specs.Tree.{LetVar, SetTo, GiveOf, Requires};
 ghost use Rattle.session_language.specs.Text.{words_of, term_text, test_text, comparison_text, command_text, block_text, session_text, line};
 
-use crate::expression::Expression;
-use crate::node::Comparison;
 use crate::text::{write_record, write_term, write_variable};
-use crate::tree::{Condition, Statement};
 use crate::words::Words;
 use itoa::Buffer;
 use office_map::RecordId;
+use session_meaning::{Comparison, Condition, Expression, Statement};
 use std::alloc::{AllocError, Global};
 
 /// The canonical text of a session with these statements.
@@ -48,7 +46,7 @@ fn write_block(
 }
 
 #[cycle(listing)]
-#[tactic(auto, using(crate::proofs::TreeErasure::row_block_is))]
+#[tactic(auto, using(session_meaning::proofs::TreeErasure::row_block_is))]
 fn write_statement(
     out: &mut String,
     words: &Words<'_>,

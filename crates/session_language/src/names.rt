@@ -5,7 +5,7 @@ ghost use Rattle.std.specs.Str.{bytes_eq};
 ghost use Rattle.std.specs.String.{string_bytes};
 
 use crate::builder::Element;
-use crate::node::Node;
+use session_meaning::Node;
 
 /// A token whose names are in their places, and whether they are known as a variable and as a record.
 #[derive(Clone, Copy)]

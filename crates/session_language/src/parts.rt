@@ -1,15 +1,15 @@
 //! The parts of a session that is open.
 
 ghost use Rattle.std.specs.Prelude.{◌≡◌, ◌<◌, OnOk, IfOk, Ok, vec_len};
-ghost use Rattle.session_language.specs.refinement.TreeOfStatements.{command_of, block_of};
+ghost use Rattle.session_meaning.specs.refinement.TreeOfStatements.{command_of, block_of};
 ghost use Rattle.session_language.specs.refinement.PartsRefinement.{head_of, parts_of};
 ghost use Rattle.session_language.specs.refinement.ReaderRefinement.{Stops};
 ghost use Rattle.bottle_values.specs.Memory.{UnlessMemory};
 ghost use Rattle.session_language.specs.Reading.{begun, with_command, with_block, turned_in, whole, ended, Going};
 
 use crate::fault::{SessionRule, Stop};
-use crate::tree::{Condition, Statement};
 use office_map::{OfficeId, RecordId};
+use session_meaning::{Condition, Statement};
 use std::alloc::{AllocError, Global};
 use std::mem;
 

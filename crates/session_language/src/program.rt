@@ -5,18 +5,19 @@ ghost use Rattle.std.specs.List.Sorted.{IsStrictlyIncreasing};
 ghost use Rattle.std.specs.List.{list_all};
 ghost use Rattle.std.specs.String.{string_bytes};
 ghost use Rattle.office_map.specs.PlanValue.{is_end};
-ghost use Rattle.session_language.specs.refinement.TreeOfStatements.{block_of};
-ghost use Rattle.session_language.specs.Needs.{needs_of};
-ghost use Rattle.session_language.specs.Naming.{BlockNames};
+ghost use Rattle.session_meaning.specs.refinement.TreeOfStatements.{block_of};
+ghost use Rattle.session_meaning.specs.Needs.{needs_of};
+ghost use Rattle.session_meaning.specs.Naming.{BlockNames};
 ghost use Rattle.session_language.specs.WellFormed.{IsWellFormed};
 
-use crate::copying::{copy_block, copy_texts};
 use crate::draft::Draft;
 use crate::listing::session_text;
 use crate::parts::Parts;
-use crate::tree::Statement;
 use crate::words::{RecordNames, Words};
 use office_map::{OfficeId, Plan, RecordId};
+use session_meaning::Statement;
+use session_meaning::copying::copy_block;
+use session_meaning::laws::needs_what_it_names;
 use std::alloc::{AllocError, Global};
 use std::marker::Model;
 
@@ -33,11 +34,11 @@ impl Model for Program {
     ghost use Rattle.std.specs.Prelude.{◌≡◌, map};
     ghost use Rattle.std.specs.String.{string_bytes};
     ghost use Rattle.std.specs.Coded.{Coded, codes};
-    ghost use Rattle.session_language.specs.ProgramValue.{ProgramValue};
-    ghost use Rattle.session_language.specs.declared.node.Node.{Node};
-    ghost use Rattle.session_language.specs.refinement.TreeEncoding.{Mark, term_code, block_code};
-    ghost use Rattle.session_language.specs.refinement.TreeOfStatements.{block_of};
-    ghost use Rattle.session_language.specs.Needs.{needs_of};
+    ghost use Rattle.session_meaning.specs.ProgramValue.{ProgramValue};
+    ghost use Rattle.session_meaning.specs.declared.node.Node.{Node};
+    ghost use Rattle.session_meaning.specs.refinement.TreeEncoding.{Mark, term_code, block_code};
+    ghost use Rattle.session_meaning.specs.refinement.TreeOfStatements.{block_of};
+    ghost use Rattle.session_meaning.specs.Needs.{needs_of};
     ghost use Rattle.session_language.specs.WellFormed.{IsWellFormed};
 
     ghost Value = { ProgramValue };
@@ -53,7 +54,7 @@ impl Program {
     ghost use Rattle.session_language.specs.refinement.ReaderRefinement.{draft_of};
     ghost use Rattle.session_language.specs.Program.{fits, text_under};
     ghost use Rattle.session_language.specs.Limits.{most_gives};
-    ghost use Rattle.session_language.specs.Measures.{block_gives};
+    ghost use Rattle.session_meaning.specs.Measures.{block_gives};
     ghost use Rattle.session_language.specs.Reading.{program_of, is_too_long, sessions_of};
 
     /// The program of a session that is closed.
@@ -88,12 +89,12 @@ impl Program {
     }
 
     /// The records that it reads or sets anywhere, each once, in order of number.
-    #[tactic(auto, using(crate::proofs::needed_records::Sorted::needs_increase, crate::proofs::needed_records::Sorted::needs_are_named))]
     pub fn needs(&self) -> &[RecordId]
         ensures all { result.now ≡ needs_of self.now.body }
         ensures in_order { IsStrictlyIncreasing result.now }
         ensures named { (r : ℕ) → Contains result.now r ↔ BlockNames r self.now.body }
     {
+        needs_what_it_names();
         &self.needs
     }
 
@@ -161,4 +162,15 @@ fn are_of_office(plan: &Plan, records: &[RecordId], office: OfficeId) -> bool
         }
     }
     true
+}
+
+/// The same texts, in memory of their own.
+fn copy_texts(alloc: Global, texts: &[String]) -> Result<Vec<String>, AllocError>
+    ensures { IfOk result (λ v. map string_bytes v.items ≡ map string_bytes texts.now) }
+{
+    let mut copies = Vec::with_capacity(alloc, texts.len())?;
+    for text in texts {
+        copies.push(String::from_str(alloc, text.as_str())?)?;
+    }
+    Ok(copies)
 }

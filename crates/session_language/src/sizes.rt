@@ -4,20 +4,18 @@
 ghost use Rattle.std.specs.Prelude.{◌≡◌, ◌≤◌, ◌++◌, ◌∷◌, [], IfOk, List, min, ◌+◌, length, map};
 ghost use Rattle.std.specs.String.{string_bytes};
 ghost use Rattle.std.specs.Fmt.{decimal};
-ghost use Rattle.session_language.specs.refinement.TreeOfStatements.{test_of, command_of, block_of};
+ghost use Rattle.session_meaning.specs.refinement.TreeOfStatements.{test_of, command_of, block_of};
 ghost use Rattle.session_language.specs.Limits.{past_bytes};
-ghost use Rattle.session_language.specs.Tree.{Term, Bin};
-ghost use Rattle.session_language.specs.refinement.Postfix.{push_node, push_nodes};
+ghost use Rattle.session_meaning.specs.Tree.{Term, Bin};
+ghost use Rattle.session_meaning.specs.refinement.Postfix.{push_node, push_nodes};
 ghost use Rattle.session_language.specs.Text.{Words, wide_words, variable_name, rank_of, term_text, test_text, command_text, block_text, session_text};
 ghost use Rattle.session_language.specs.refinement.TextSizes.{ranks_of, bytes_of, around_factor, around_product, around_both};
 
-use crate::expression::Expression;
 use crate::limits::PAST_BYTES;
 use crate::listing::comparison_text;
-use crate::node::{Node, Operator};
 use crate::rank::Rank;
 use crate::text::magnitude;
-use crate::tree::{Condition, Statement};
+use session_meaning::{Condition, Expression, Node, Operator, Statement};
 use std::alloc::{AllocError, Global};
 
 /// The size of a session.
@@ -48,7 +46,7 @@ fn block_size(
 }
 
 #[cycle(size)]
-#[tactic(auto, using(crate::proofs::TreeErasure::row_block_is))]
+#[tactic(auto, using(session_meaning::proofs::TreeErasure::row_block_is))]
 fn statement_size(
     ranks: &mut Vec<Rank>,
     variables: &[String],

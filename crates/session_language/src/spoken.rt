@@ -11,17 +11,15 @@ ghost use Rattle.session_language.specs.Form.{phrase_alone, assigned, else_code,
 ghost use Rattle.session_language.specs.refinement.ResolvedStatements.{ReadsAlone, ReadsAssigned, seen_spoken, spoken_after, judged};
 
 use crate::builder::Builder;
-use crate::expression::Expression;
 use crate::fault::{SessionRule, Stop};
 use crate::keyword::Keyword;
 use crate::lexer::{Piece, Pieces, Symbol};
 use crate::limits::{CODES_END, MOST_DEPTH, MOST_TURNS};
-use crate::node::Comparison;
 use crate::scope::Scope;
 use crate::summary::Summary;
-use crate::tree::Condition;
 use office_map::RecordId;
 use office_map::text::{name, number};
+use session_meaning::{Comparison, Condition, Expression};
 use std::alloc::{AllocError, Global};
 
 /// The first line of a statement; a variable that is let is still text.

@@ -2,17 +2,17 @@
 
 ghost use Rattle.std.specs.Prelude.{◌≡◌, ◌∷◌, [], ◌++◌, OnOk, codes};
 ghost use Rattle.std.specs.String.{string_bytes};
-ghost use Rattle.session_language.specs.Tree.{Term};
-ghost use Rattle.session_language.specs.refinement.Postfix.{postfix};
+ghost use Rattle.session_meaning.specs.Tree.{Term};
+ghost use Rattle.session_meaning.specs.refinement.Postfix.{postfix};
 ghost use Rattle.session_language.specs.Text.{words_of, literal, magnitude, variable_name, record_names, rank_of, term_text, factor_text, product_text, operation_text, read_text};
 
-use crate::node::{Node, Operator};
-use crate::operands::operands;
 use crate::rank::Rank;
 use crate::words::{RecordNames, Words};
 use bottle_values::Value;
 use itoa::Buffer;
 use office_map::RecordId;
+use session_meaning::operands::operands;
+use session_meaning::{Node, Operator};
 use std::alloc::AllocError;
 
 /// What an expression may stand as without parentheses.

@@ -1,7 +1,7 @@
 //! How work ended.
 
 ghost use Rattle.std.specs.Prelude.{◌≡◌};
-ghost use Rattle.session_language.specs.Meaning.{ending_of};
+ghost use Rattle.session_meaning.specs.Meaning.{ending_of};
 ghost use Rattle.session_machine.specs.refinement.Session.{step_of};
 ghost use Rattle.session_machine.specs.refinement.StateOfCode.{environment_of};
 

@@ -1,7 +1,7 @@
 //! Flat code of sessions, and their work in pieces.
 //!
 //! - [`Code::of`] makes the code of a program: lines that each say what to do and which line comes next. One line is
-//!   one count of a session's length (`length_on`, in `session_language`'s `specs/Length.antt`).
+//!   one count of a session's length (`length_on`, in `session_meaning`'s `specs/Length.antt`).
 //! - [`Work`] is a session on its way through that code. `begin` takes all the memory that it needs, `step` does so many
 //!   lines, and `ending` and `into_ending` tell how the session ended; they take none.
 //! - Whatever the sizes of the pieces, the work has ended exactly when together they are at least as long as the session

@@ -3,8 +3,8 @@
 ghost use Rattle.std.specs.Prelude.{◌≡◌, ◌+◌, ◌↔◌, ℕ, List, IfOk, IsSome, Some};
 ghost use Rattle.std.specs.Option.{option_copied};
 ghost use Rattle.bottle_values.specs.declared.Value as bottle;
-ghost use Rattle.session_language.specs.ProgramValue.{ProgramValue};
-ghost use Rattle.session_language.specs.Meaning.{alone};
+ghost use Rattle.session_meaning.specs.ProgramValue.{ProgramValue};
+ghost use Rattle.session_meaning.specs.Meaning.{alone};
 ghost use Rattle.session_machine.specs.Room.{HasRoom};
 ghost use Rattle.session_machine.specs.Pieces.{ending_after};
 ghost use Rattle.session_machine.specs.Progress.{progress_by};

@@ -8,7 +8,7 @@ use Rattle.bottle_values.specs.declared.Value.{Value}
 use Rattle.office_map.specs.declared.entries.RecordEntry.{RecordEntry}
 use Rattle.office_map.specs.PlanValue.{PlanValue, ends_of, lies_between, start_values, has_ends}
 use Rattle.serial_replay.specs.Serial.{start_map, map_of}
-use Rattle.session_language.specs.Laws.{WritesWhatItHas}
+use Rattle.session_meaning.specs.Laws.{WritesWhatItHas}
 use Rattle.world_schedule.specs.declared.message.Message.{Message}
 use Rattle.world_schedule.specs.declared.finished.Finished.{Finished}
 use Rattle.world_schedule.specs.declared.tables.Office as code_office

@@ -10,8 +10,8 @@ use Rattle.frame_codec.specs.declared.message.Msg.{Msg}
 use Rattle.frame_codec.specs.declared.message.Msg.TheVariants as msg
 use Rattle.office_map.specs.declared.entries.RecordEntry.{RecordEntry}
 use Rattle.office_map.specs.PlanValue.{PlanValue, is_end, lies_between, has_ends}
-use Rattle.session_language.specs.Meaning.{alone}
-use Rattle.session_language.specs.Laws.{WritesWhatItHas}
+use Rattle.session_meaning.specs.Meaning.{alone}
+use Rattle.session_meaning.specs.Laws.{WritesWhatItHas}
 use Rattle.serial_replay.specs.Serial.{start_map, map_of}
 use Rattle.world_schedule.specs.declared.message.Message.{Message}
 use Rattle.world_schedule.specs.declared.tables.BottlePlace.{BottlePlace}

@@ -10,10 +10,10 @@ use Rattle.frame_codec.specs.declared.message.Msg.{Msg}
 use Rattle.frame_codec.specs.declared.message.Msg.TheVariants as msg
 use Rattle.office_map.specs.PlanValue.{PlanValue, is_end, peer}
 use Rattle.office_map.specs.Consistency.{IsConsistent}
-use Rattle.session_language.specs.ProgramValue.{ProgramValue}
+use Rattle.session_meaning.specs.ProgramValue.{ProgramValue}
 use Rattle.session_language.specs.Program.{fits}
-use Rattle.session_language.specs.Needs.{needs_of}
-use Rattle.session_language.specs.Laws.{WritesWhatItHas}
+use Rattle.session_meaning.specs.Needs.{needs_of}
+use Rattle.session_meaning.specs.Laws.{WritesWhatItHas}
 use Rattle.serial_replay.specs.Serial.{start_map, map_of}
 use Rattle.world_schedule.specs.declared.rule.Rule.{Rule}
 use Rattle.world_schedule.specs.declared.rule.Rule.TheVariants as rule

@@ -10,12 +10,12 @@ use Rattle.bottle_values.specs.declared.Value.{Value}
 use Rattle.bottle_values.specs.Maps.{put, reads_of, write_all}
 use Rattle.office_map.specs.PlanValue.{PlanValue, is_end, has_ends, peer}
 use Rattle.office_map.specs.Consistency.{IsConsistent}
-use Rattle.session_language.specs.declared.ending.Ending.{Ending}
-use Rattle.session_language.specs.declared.ending.Outcome.{Outcome}
-use Rattle.session_language.specs.ProgramValue.{ProgramValue}
-use Rattle.session_language.specs.Needs.{needs_of}
-use Rattle.session_language.specs.Meaning.{alone}
-use Rattle.session_language.specs.Laws.{WritesWhatItHas}
+use Rattle.session_meaning.specs.declared.ending.Ending.{Ending}
+use Rattle.session_meaning.specs.declared.ending.Outcome.{Outcome}
+use Rattle.session_meaning.specs.ProgramValue.{ProgramValue}
+use Rattle.session_meaning.specs.Needs.{needs_of}
+use Rattle.session_meaning.specs.Meaning.{alone}
+use Rattle.session_meaning.specs.Laws.{WritesWhatItHas}
 use Rattle.serial_replay.specs.Serial.{start_map, ending_on, map_after, map_of, ticket_of, outcomes_after, outcomes_of}
 use Rattle.world_schedule.specs.declared.finished.Finished.{Finished}
 use Rattle.world_schedule.specs.Offices.{Phase, Tranquil, Thirsty, Drinking, Office, has_bottle, is_listed, is_drinking, finished_of, values_finished}

@@ -6,8 +6,8 @@ use Rattle.bottle_values.specs.declared.Value.{Value}
 use Rattle.bottle_values.specs.Maps.{put, reads_of}
 use Rattle.frame_codec.specs.declared.message.Msg.{Msg}
 use Rattle.office_map.specs.PlanValue.{PlanValue}
-use Rattle.session_language.specs.ProgramValue.{ProgramValue}
-use Rattle.session_language.specs.Needs.{needs_of}
+use Rattle.session_meaning.specs.ProgramValue.{ProgramValue}
+use Rattle.session_meaning.specs.Needs.{needs_of}
 use Rattle.serial_replay.specs.Serial.{start_map, map_of, outcomes_of}
 use Rattle.world_schedule.specs.declared.message.Message.{Message}
 use Rattle.world_schedule.specs.declared.finished.Finished.{Finished}

@@ -10,7 +10,7 @@ use Rattle.frame_codec.specs.declared.message.Msg.TheVariants as msg
 use Rattle.office_map.specs.declared.entries.RecordEntry.{RecordEntry}
 use Rattle.office_map.specs.PlanValue.{PlanValue, ends_of, lies_between, has_ends}
 use Rattle.office_map.specs.Consistency.{IsConsistent}
-use Rattle.session_language.specs.Laws.{WritesWhatItHas}
+use Rattle.session_meaning.specs.Laws.{WritesWhatItHas}
 use Rattle.serial_replay.specs.Serial.{start_map, map_of}
 use Rattle.world_schedule.specs.declared.event.WorldEvent.{WorldEvent}
 use Rattle.world_schedule.specs.Offices.{holds}

@@ -7,7 +7,7 @@ use Rattle.std.proofs.lemmas.List.{take_more}
 use Rattle.std.proofs.lemmas.List.FromFn.{sum_by-map-range_with_len_more}
 use Rattle.bottle_values.specs.Maps.{put}
 use Rattle.office_map.specs.PlanValue.{PlanValue}
-use Rattle.session_language.specs.Laws.{WritesWhatItHas}
+use Rattle.session_meaning.specs.Laws.{WritesWhatItHas}
 use Rattle.serial_replay.specs.Serial.{start_map, outcomes_of}
 use Rattle.world_schedule.specs.declared.message.Message.{Message}
 use Rattle.world_schedule.specs.declared.finished.Finished.{Finished}

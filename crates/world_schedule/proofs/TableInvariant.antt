@@ -7,8 +7,8 @@ use Rattle.std.proofs.lemmas.List.Elements.{All-append, All-set, All-push}
 use Rattle.bottle_values.specs.Maps.{put}
 use Rattle.office_map.specs.PlanValue.{PlanValue, is_end, peer}
 use Rattle.office_map.specs.Consistency.{IsConsistent}
-use Rattle.session_language.specs.ProgramValue.{ProgramValue}
-use Rattle.session_language.specs.Laws.{WritesWhatItHas}
+use Rattle.session_meaning.specs.ProgramValue.{ProgramValue}
+use Rattle.session_meaning.specs.Laws.{WritesWhatItHas}
 use Rattle.world_schedule.specs.declared.rule.Rule.{Rule}
 use Rattle.world_schedule.specs.declared.rule.Rule.TheVariants as rule
 use Rattle.world_schedule.specs.declared.message.Message.{Message}

@@ -6,10 +6,10 @@ use Rattle.bottle_values.specs.Maps.{reads_of, write_all}
 use Rattle.frame_codec.specs.declared.message.Msg.{Msg}
 use Rattle.frame_codec.specs.declared.message.Msg.TheVariants as msg
 use Rattle.office_map.specs.PlanValue.{PlanValue, is_end, peer}
-use Rattle.session_language.specs.ProgramValue.{ProgramValue}
+use Rattle.session_meaning.specs.ProgramValue.{ProgramValue}
 use Rattle.session_language.specs.Program.{fits}
-use Rattle.session_language.specs.Needs.{needs_of}
-use Rattle.session_language.specs.Meaning.{alone}
+use Rattle.session_meaning.specs.Needs.{needs_of}
+use Rattle.session_meaning.specs.Meaning.{alone}
 use Rattle.serial_replay.specs.Serial.{start_map}
 use Rattle.world_schedule.specs.declared.rule.Rule.{Rule}
 use Rattle.world_schedule.specs.declared.rule.Rule.TheVariants as rule

@@ -6,8 +6,8 @@ use Rattle.bottle_values.specs.Maps.{put}
 use Rattle.frame_codec.specs.declared.message.Msg.{Msg}
 use Rattle.frame_codec.specs.declared.message.Msg.TheVariants as msg
 use Rattle.office_map.specs.PlanValue.{PlanValue, ends_of}
-use Rattle.session_language.specs.declared.ending.Outcome.{Outcome}
-use Rattle.session_language.specs.ProgramValue.{ProgramValue}
+use Rattle.session_meaning.specs.declared.ending.Outcome.{Outcome}
+use Rattle.session_meaning.specs.ProgramValue.{ProgramValue}
 use Rattle.serial_replay.specs.Serial.{start_map}
 use Rattle.world_schedule.specs.declared.rule.Rule.{Rule}
 use Rattle.world_schedule.specs.declared.message.Message.{Message}

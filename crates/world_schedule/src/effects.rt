@@ -19,8 +19,8 @@ use bottle_values::Value;
 use frame_codec::Msg;
 use office_map::{OfficeId, Plan, RecordId};
 use serial_replay::alone::alone;
-use session_language::laws::tells_what_it_read;
 use session_language::{Ending, Outcome};
+use session_meaning::laws::tells_what_it_read;
 use std::alloc::{AllocError, Global};
 use std::mem;
 

@@ -14,7 +14,7 @@ use crate::steps;
 use crate::tables::Office;
 use office_map::{OfficeId, Plan};
 use session_language::Program;
-use session_language::laws::writes_what_it_has;
+use session_meaning::laws::writes_what_it_has;
 use std::alloc::Global;
 
 /// A session is submitted at an office.

@@ -2,7 +2,7 @@
 
 ghost use Rattle.world_schedule.specs.Headline.{BottlesAreSerial, SessionsAreSerial, ThingsHaveOnePlace};
 
-use session_language::laws::writes_what_it_has;
+use session_meaning::laws::writes_what_it_has;
 
 /// Each record's bottle has the value of the finished sessions' serial run, in finishing order.
 pub fn bottles_are_serial()

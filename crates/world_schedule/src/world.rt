@@ -19,7 +19,7 @@ use crate::values::bottle_value;
 use bottle_values::Value;
 use office_map::{OfficeId, Plan, RecordId};
 use session_language::Program;
-use session_language::laws::writes_what_it_has;
+use session_meaning::laws::writes_what_it_has;
 use std::alloc::{AllocError, Global};
 use std::marker::Model;
 
@@ -43,8 +43,8 @@ pub struct World {
 impl Model for World {
     ghost use Rattle.std.specs.Prelude.{map};
     ghost use Rattle.std.specs.Coded.{Coded, codes};
-    ghost use Rattle.session_language.specs.declared.node.Node.{Node};
-    ghost use Rattle.session_language.specs.refinement.TreeEncoding.{Mark, term_code, block_code};
+    ghost use Rattle.session_meaning.specs.declared.node.Node.{Node};
+    ghost use Rattle.session_meaning.specs.refinement.TreeEncoding.{Mark, term_code, block_code};
     ghost use Rattle.world_schedule.specs.refinement.Tables.{WorldTable, office_table, IsWorld};
 
     ghost Value = { WorldTable };

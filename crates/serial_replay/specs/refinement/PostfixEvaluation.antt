@@ -2,9 +2,9 @@
 use Rattle.std.specs.Prelude.{List, [], ◌∷◌, Option, Some, None, option_map}
 use Rattle.std.specs.List.{slice_index_or}
 use Rattle.bottle_values.specs.declared.Value.{Value}
-use Rattle.session_language.specs.declared.node.Node.{Node}
-use Rattle.session_language.specs.declared.node.Node.TheVariants.{Literal, Variable, Read, Negate, Apply}
-use Rattle.session_language.specs.Meaning.{Environment, value_in, apply, negated}
+use Rattle.session_meaning.specs.declared.node.Node.{Node}
+use Rattle.session_meaning.specs.declared.node.Node.TheVariants.{Literal, Variable, Read, Negate, Apply}
+use Rattle.session_meaning.specs.Meaning.{Environment, value_in, apply, negated}
 use Rattle.bottle_values.specs.Arithmetic.{nought}
 
 abbrev pub on_top : List Value → Option Value → Option (List Value)

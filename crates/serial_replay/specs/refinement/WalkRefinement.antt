@@ -1,7 +1,7 @@
 -- What a walk leaves, in the words of a session's meaning.
 use Rattle.std.specs.Prelude.{◌≡◌, Result, Ok, Err}
-use Rattle.session_language.specs.Meaning as meaning
-use Rattle.session_language.specs.Meaning.{Step, Goes, Ends}
+use Rattle.session_meaning.specs.Meaning as meaning
+use Rattle.session_meaning.specs.Meaning.{Step, Goes, Ends}
 use Rattle.serial_replay.specs.declared.environment.Environment.{Environment}
 use Rattle.serial_replay.specs.declared.stop.Stop.{Stop}
 use Rattle.serial_replay.specs.declared.stop.Stop.TheVariants.{Ended, Memory}

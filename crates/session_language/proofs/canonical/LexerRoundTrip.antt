@@ -7,12 +7,12 @@ use Rattle.std.proofs.lemmas.Bool.Decides.{nat_tests}
 use Rattle.std.specs.Fmt as fmt
 use Rattle.office_map.specs.Text.{is_blank, is_name, is_name_byte}
 use Rattle.bottle_values.specs.declared.Value.{Value}
-use Rattle.session_language.specs.declared.node.Operator.TheVariants as op
+use Rattle.session_meaning.specs.declared.node.Operator.TheVariants as op
 use Rattle.session_language.specs.declared.rank.Rank.{Rank}
 use Rattle.session_language.specs.declared.rank.Rank.TheVariants.{Factor, Product, Sum}
 use Rattle.session_language.specs.declared.lexer.Symbol.{Symbol}
 use Rattle.session_language.specs.declared.lexer.Symbol.TheVariants as symbol
-use Rattle.session_language.specs.Tree.{Term, Constant, Var, ReadOf, Neg, Bin}
+use Rattle.session_meaning.specs.Tree.{Term, Constant, Var, ReadOf, Neg, Bin}
 use Rattle.session_language.specs.Spelling.{Operand, ANumber, AVariable, ARecord, Token, Leaf, Plus, Minus, Times, Open, Close}
 use Rattle.session_language.specs.Lexer.{Piece, AWord, ASymbol, word_len, begins_equals, two_bytes, long_symbol, symbol_at, piece_at, pieces_of}
 use Rattle.session_language.specs.Phrase.{Run, run, stop_at, with_token, with_operand, with_record, operand_in, is_read, phrase_of, phrase_in, phrase_at}

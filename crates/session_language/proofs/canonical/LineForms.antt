@@ -4,11 +4,11 @@ use Rattle.std.proofs.lemmas.List.{append-nil}
 use Rattle.std.proofs.lemmas.Bool.Decides.{nat_tests}
 use Rattle.std.specs.Fmt as fmt
 use Rattle.office_map.specs.Text.{is_name}
-use Rattle.session_language.specs.declared.node.Comparison.{Comparison}
-use Rattle.session_language.specs.declared.node.Comparison.TheVariants.{Equal, NotEqual, Less, AtMost, Greater, AtLeast}
+use Rattle.session_meaning.specs.declared.node.Comparison.{Comparison}
+use Rattle.session_meaning.specs.declared.node.Comparison.TheVariants.{Equal, NotEqual, Less, AtMost, Greater, AtLeast}
 use Rattle.session_language.specs.declared.lexer.Symbol.{Symbol}
 use Rattle.session_language.specs.declared.lexer.Symbol.TheVariants as symbol
-use Rattle.session_language.specs.Tree.{Term, Command, LetVar, SetTo, GiveOf, Requires, When, Choice, Loop}
+use Rattle.session_meaning.specs.Tree.{Term, Command, LetVar, SetTo, GiveOf, Requires, When, Choice, Loop}
 use Rattle.session_language.specs.Lexer.{Piece, AWord, ASymbol, pieces_of}
 use Rattle.session_language.specs.Phrase.{Phrase, run, stop_at, phrase_at}
 use Rattle.session_language.specs.Form.{Lets, Sets, Gives, Demands, Asks, Repeats, Opens, Says, Otherwise, Closes, form_of, name_alone, ends_there, phrase_alone, if_named, assigned, small_code, else_code, few_turns, count_alone, comparison_of, demand, question, compared, after_left, condition}

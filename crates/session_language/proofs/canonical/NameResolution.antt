@@ -16,10 +16,10 @@ use Rattle.office_map.specs.declared.entries.RecordEntry.{RecordEntry}
 use Rattle.office_map.specs.PlanValue.{PlanValue, office_named, record_named, record_name_of, is_end, has_end}
 use Rattle.office_map.specs.Consistency.{IsConsistent}
 use Rattle.office_map.specs.Text.{is_name}
-use Rattle.session_language.specs.declared.node.Operator.TheVariants as op
+use Rattle.session_meaning.specs.declared.node.Operator.TheVariants as op
 use Rattle.session_language.specs.declared.rank.Rank.{Rank}
 use Rattle.session_language.specs.declared.rank.Rank.TheVariants.{Factor, Product, Sum}
-use Rattle.session_language.specs.Tree.{Term, Constant, Var, ReadOf, Neg, Bin}
+use Rattle.session_meaning.specs.Tree.{Term, Constant, Var, ReadOf, Neg, Bin}
 use Rattle.session_language.specs.Spelling.{ANumber, AVariable, ARecord, Token, Leaf, Plus, Minus, Times, Open, Close}
 use Rattle.session_language.specs.Names.{Scope, variable_named, if_of_office, record_of, placed, token_variable, token_record, knows_variables, knows_records}
 use Rattle.session_language.specs.Text.{Words, magnitude, variable_name, rank_of}

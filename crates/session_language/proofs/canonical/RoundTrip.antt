@@ -16,11 +16,11 @@ use Rattle.office_map.specs.Text.{is_name, lines, statements, statements_from, s
 use Rattle.session_language.specs.declared.fault.SessionRule.{SessionRule}
 use Rattle.session_language.specs.declared.fault.SessionRule.TheVariants.{UnknownName, TooLong, TooManyGives}
 use Rattle.session_language.specs.declared.fault.SessionRefusal.{SessionRefusal}
-use Rattle.session_language.specs.Tree.{Test, Command, LetVar, SetTo, GiveOf, Requires, When, Choice, Loop, Block, Nothing, Then}
-use Rattle.session_language.specs.ProgramValue.{ProgramValue}
-use Rattle.session_language.specs.refinement.TreeOfStatements.{block_from}
-use Rattle.session_language.specs.Needs.{test_needs, command_needs, block_needs, needs_of}
-use Rattle.session_language.specs.Measures.{block_statements, block_cost, block_gives}
+use Rattle.session_meaning.specs.Tree.{Test, Command, LetVar, SetTo, GiveOf, Requires, When, Choice, Loop, Block, Nothing, Then}
+use Rattle.session_meaning.specs.ProgramValue.{ProgramValue}
+use Rattle.session_meaning.specs.refinement.TreeOfStatements.{block_from}
+use Rattle.session_meaning.specs.Needs.{test_needs, command_needs, block_needs, needs_of}
+use Rattle.session_meaning.specs.Measures.{block_statements, block_cost, block_gives}
 use Rattle.session_language.specs.Program.{fits, words_under, text_under}
 use Rattle.session_language.specs.Text.{Words, line, test_text, command_text, block_text, session_text, wide_words}
 use Rattle.session_language.specs.Reading.{Head, IfHead, ElseHead, RepeatHead, OpenBlock, Draft, Reading, program_of, is_too_long, closed, whole, Closed, begun, with_open, with_ended, take_line, take_formed, at_line, read_lines, nothing_read, all_closed, sessions_of}
@@ -28,7 +28,7 @@ use Rattle.session_language.specs.WellFormed.{IsStatementOver, known_after, know
 use Rattle.session_language.proofs.canonical.NameResolution.{office_found, office_is_named}
 use Rattle.session_language.proofs.canonical.LineForms.{text_of, IsFirstOver, session_form, else_form, end_form}
 use Rattle.session_language.proofs.canonical.TextLines.{IsPlain, both_plain, name_plain, plainly, command_says, command_within, first_statement_is}
-use Rattle.session_language.proofs.needed_records.Parts.{with_command, with_block, block_longer}
+use Rattle.session_language.proofs.canonical.NeededRecords.{with_command, with_block, block_longer}
 use Rattle.session_language.proofs.canonical.StatementRoundTrip.{own, draft, going, first_known, first_needs, first_done, opens, plain_line, line_retaken}
 use Rattle.session_language.proofs.session_measures.SizeBound.{text_is_short}
 

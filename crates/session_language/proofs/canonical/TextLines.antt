@@ -8,12 +8,12 @@ use Rattle.std.specs.Str.Lines.{strip_carriage_return}
 use Rattle.std.proofs.lemmas.List.Folds.{list_all-append}
 use Rattle.office_map.specs.Text.{is_newline, is_name, is_plain, lines, says_something, statements_from}
 use Rattle.office_map.proofs.FirstLine.{lines_cut}
-use Rattle.session_language.specs.declared.node.Operator.TheVariants as op
-use Rattle.session_language.specs.declared.node.Comparison.{Comparison}
-use Rattle.session_language.specs.declared.node.Comparison.TheVariants.{Equal, NotEqual, Less, AtMost, Greater, AtLeast}
+use Rattle.session_meaning.specs.declared.node.Operator.TheVariants as op
+use Rattle.session_meaning.specs.declared.node.Comparison.{Comparison}
+use Rattle.session_meaning.specs.declared.node.Comparison.TheVariants.{Equal, NotEqual, Less, AtMost, Greater, AtLeast}
 use Rattle.session_language.specs.declared.rank.Rank.{Rank}
 use Rattle.session_language.specs.declared.rank.Rank.TheVariants.{Factor, Product, Sum}
-use Rattle.session_language.specs.Tree.{Term, Constant, Var, ReadOf, Neg, Bin, Test, Command, LetVar, SetTo, GiveOf, Requires, When, Choice, Loop}
+use Rattle.session_meaning.specs.Tree.{Term, Constant, Var, ReadOf, Neg, Bin, Test, Command, LetVar, SetTo, GiveOf, Requires, When, Choice, Loop}
 use Rattle.session_language.specs.Text.{Words, magnitude, variable_name, in_parentheses, factor_text, product_text, rank_of, operator_text, comparison_text, term_text, test_text}
 use Rattle.session_language.specs.WellFormed.{IsLiteral, IsOver, IsTestOver}
 use Rattle.session_language.proofs.canonical.Lexemes.{number_is_word, name_bytes, word_is_plain}

@@ -1,15 +1,15 @@
 -- What is built of an expression follows what is read of it: the nodes of each part that waits, and how deep it is.
 use Rattle.std.proofs.Common.{◌≡◌, ℕ, zero, suc, ◌+◌, min, List, [], ◌∷◌, ◌++◌, map, replicate, Option, Some, None, option_map, refl, sym, ap, ◌∙◌, append_assoc, arith}
 use Rattle.std.proofs.lemmas.List.{append-nil}
-use Rattle.session_language.specs.declared.node.Node.{Node}
-use Rattle.session_language.specs.declared.node.Node.TheVariants.{Negate, Apply}
-use Rattle.session_language.specs.declared.node.Operator.TheVariants as op
+use Rattle.session_meaning.specs.declared.node.Node.{Node}
+use Rattle.session_meaning.specs.declared.node.Node.TheVariants.{Negate, Apply}
+use Rattle.session_meaning.specs.declared.node.Operator.TheVariants as op
 use Rattle.session_language.specs.declared.builder.Level as code_level
 use Rattle.session_language.specs.declared.builder.Sum as code_sum
 use Rattle.session_language.specs.declared.builder.Sum.TheVariants as sums
 use Rattle.session_language.specs.declared.builder.Stage.TheVariants as stages
 use Rattle.session_language.specs.Spelling.{Operand, ANumber, AVariable, ARecord, Token, Leaf, Plus, Minus, Times, Open, Close}
-use Rattle.session_language.specs.refinement.Postfix.{postfix}
+use Rattle.session_meaning.specs.refinement.Postfix.{postfix}
 use Rattle.session_language.specs.Parse.{Part, leaf, leading_minus, in_parentheses, Sum, NoSum, Added, Taken, Level, State, Wants, Has, negated, multiplied, summed, take_operand, take, finished}
 use Rattle.session_language.specs.Names.{Scope, operand_of, node_of, element_of, placed}
 use Rattle.session_language.specs.refinement.PostfixBuilder.{Build, completed, emit, product_depth, product_end, sum_depth, sum_end, ended}

@@ -2,13 +2,13 @@
 use Rattle.std.proofs.Common.{◌≡◌, ℕ, List, [], ◌∷◌, ◌++◌, Bool, true, false, ◌&&◌, if◌then◌else◌, Option, Some, None, option_map, refl, sym, ap, ◌∙◌, append_assoc}
 use Rattle.std.proofs.lemmas.List.{append-nil}
 use Rattle.std.specs.List.{list_all}
-use Rattle.session_language.specs.declared.node.Node.{Node}
+use Rattle.session_meaning.specs.declared.node.Node.{Node}
 use Rattle.session_language.specs.declared.lexer.Piece as code_piece
 use Rattle.session_language.specs.declared.summary.Summary.{Summary}
 use Rattle.session_language.specs.declared.names.Placed.{Placed}
 use Rattle.session_language.specs.Lexer.{Piece}
 use Rattle.session_language.specs.Spelling.{Token}
-use Rattle.session_language.specs.refinement.Postfix.{postfix}
+use Rattle.session_meaning.specs.refinement.Postfix.{postfix}
 use Rattle.session_language.specs.Parse.{Part, State, take, take_all, and_take, finished, start}
 use Rattle.session_language.specs.Names.{Scope, element_of, placed, token_variable, token_record, knows_variables, knows_records, placed_of}
 use Rattle.session_language.specs.refinement.PostfixBuilder.{Build, emit, ended, fresh_build}

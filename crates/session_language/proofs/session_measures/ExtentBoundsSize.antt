@@ -5,17 +5,17 @@ use Rattle.std.proofs.lemmas.Fmt.{length-decimal-le}
 use Rattle.std.proofs.lemmas.Bool.Decides.{nat_tests}
 use Rattle.bottle_values.specs.declared.Value.{Value}
 use Rattle.office_map.specs.Text.{is_name}
-use Rattle.session_language.specs.declared.node.Operator.{Operator}
-use Rattle.session_language.specs.declared.node.Operator.TheVariants as op
-use Rattle.session_language.specs.declared.node.Comparison.{Comparison}
-use Rattle.session_language.specs.declared.node.Comparison.TheVariants.{Equal, NotEqual, Less, AtMost, Greater, AtLeast}
+use Rattle.session_meaning.specs.declared.node.Operator.{Operator}
+use Rattle.session_meaning.specs.declared.node.Operator.TheVariants as op
+use Rattle.session_meaning.specs.declared.node.Comparison.{Comparison}
+use Rattle.session_meaning.specs.declared.node.Comparison.TheVariants.{Equal, NotEqual, Less, AtMost, Greater, AtLeast}
 use Rattle.session_language.specs.declared.rank.Rank.{Rank}
 use Rattle.session_language.specs.declared.rank.Rank.TheVariants.{Factor, Product, Sum}
-use Rattle.session_language.specs.Tree.{Term, Constant, Var, ReadOf, Neg, Bin, Test, Command, LetVar, SetTo, GiveOf, Requires, When, Choice, Loop, Block, Nothing, Then}
-use Rattle.session_language.specs.ProgramValue.{ProgramValue}
+use Rattle.session_meaning.specs.Tree.{Term, Constant, Var, ReadOf, Neg, Bin, Test, Command, LetVar, SetTo, GiveOf, Requires, When, Choice, Loop, Block, Nothing, Then}
+use Rattle.session_meaning.specs.ProgramValue.{ProgramValue}
 use Rattle.session_language.specs.Reading.{is_too_long}
-use Rattle.session_language.specs.Measures.{nodes, test_nodes, block_cost, block_statements}
-use Rattle.session_language.specs.refinement.Extent.{extent, block_extent}
+use Rattle.session_meaning.specs.Measures.{nodes, test_nodes, block_cost, block_statements}
+use Rattle.session_meaning.specs.refinement.Extent.{extent, block_extent}
 use Rattle.session_language.specs.WellFormed.{IsLiteral, IsOver, IsTestOver, IsStatementOver, known_after, known_after_block, AreStatements}
 use Rattle.session_language.specs.Text.{Words, magnitude, literal, variable_name, wide_words, rank_of, term_text, comparison_text, test_text, let_text, set_text, require_text, line, command_text, block_text, session_text}
 use Rattle.session_language.specs.refinement.TextSizes.{around_factor, around_product, around_both}

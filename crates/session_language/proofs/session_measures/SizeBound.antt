@@ -6,11 +6,11 @@ use Rattle.office_map.specs.declared.entries.OfficeEntry.{OfficeEntry}
 use Rattle.office_map.specs.declared.entries.RecordEntry.{RecordEntry}
 use Rattle.office_map.specs.PlanValue.{PlanValue}
 use Rattle.office_map.specs.Consistency.{IsConsistent}
-use Rattle.session_language.specs.declared.node.Operator.TheVariants as op
+use Rattle.session_meaning.specs.declared.node.Operator.TheVariants as op
 use Rattle.session_language.specs.declared.rank.Rank.{Rank}
 use Rattle.session_language.specs.declared.rank.Rank.TheVariants.{Factor, Product, Sum}
-use Rattle.session_language.specs.Tree.{Term, Constant, Var, ReadOf, Neg, Bin, Test, Command, LetVar, SetTo, GiveOf, Requires, When, Choice, Loop, Block, Nothing, Then}
-use Rattle.session_language.specs.ProgramValue.{ProgramValue}
+use Rattle.session_meaning.specs.Tree.{Term, Constant, Var, ReadOf, Neg, Bin, Test, Command, LetVar, SetTo, GiveOf, Requires, When, Choice, Loop, Block, Nothing, Then}
+use Rattle.session_meaning.specs.ProgramValue.{ProgramValue}
 use Rattle.session_language.specs.Program.{words_under, text_under}
 use Rattle.session_language.specs.Text.{Words, literal, variable_name, in_parentheses, factor_text, product_text, rank_of, operator_text, comparison_text, term_text, test_text, line, command_text, block_text, session_text, wide_words}
 use Rattle.session_language.proofs.canonical.Lexemes.{name_bytes}

@@ -2,17 +2,17 @@
 use Rattle.std.proofs.Common.{◌≡◌, ◌≤◌, ℕ, ◌+◌, min, List, [], ◌∷◌, ◌++◌, length, sym, ap, ◌∙◌, arith, length-append, codes, ◌<◌, take, get_or}
 use Rattle.std.proofs.lemmas.List.{take_more}
 use Rattle.std.specs.Fmt.{decimal}
-use Rattle.session_language.specs.declared.node.Operator.{Operator}
-use Rattle.session_language.specs.declared.node.Operator.TheVariants as op
-use Rattle.session_language.specs.declared.node.Node.TheVariants.{Apply}
+use Rattle.session_meaning.specs.declared.node.Operator.{Operator}
+use Rattle.session_meaning.specs.declared.node.Operator.TheVariants as op
+use Rattle.session_meaning.specs.declared.node.Node.TheVariants.{Apply}
 use Rattle.session_language.specs.declared.rank.Rank.{Rank}
 use Rattle.session_language.specs.declared.rank.Rank.TheVariants.{Factor, Product, Sum}
-use Rattle.session_language.specs.Tree.{Term, Bin, Test, When, Choice, Loop, Block}
-use Rattle.session_language.specs.declared.node.Node.{Node}
-use Rattle.session_language.specs.refinement.Postfix.{push_node, push_nodes, postfix, push_nodes-append, push_nodes-postfix}
+use Rattle.session_meaning.specs.Tree.{Term, Bin, Test, When, Choice, Loop, Block}
+use Rattle.session_meaning.specs.declared.node.Node.{Node}
+use Rattle.session_meaning.specs.refinement.Postfix.{push_node, push_nodes, postfix, push_nodes-append, push_nodes-postfix}
 use Rattle.session_language.specs.Text.{Words, rank_of, term_text, factor_text, product_text, operator_text, test_text, line, command_text, block_text}
 use Rattle.session_language.specs.refinement.TextSizes.{ranks_of, bytes_of, around_factor, around_product, around_both}
-use Rattle.session_language.proofs.expressions.PostfixSplit.{same_last}
+use Rattle.session_language.proofs.expressions.LastNode.{same_last}
 
 pub factor_bytes : (r : Rank) (text : List ℕ) → length (factor_text r text) ≡ around_factor r + length text
 factor_bytes Factor text = omega arith

@@ -3,9 +3,9 @@ use Rattle.std.proofs.Common.{◌≡◌, ◌<◌, ◌≤◌, ℕ, suc, List, [],
 use Rattle.std.proofs.lemmas.Bool.Decides.{nat_tests}
 use Rattle.session_language.specs.declared.fault.SessionRule.{SessionRule}
 use Rattle.session_language.specs.declared.fault.SessionRule.TheVariants.{TooDeep, TooManyRecords, TooManyVariables}
-use Rattle.session_language.specs.Tree.{Command, LetVar, SetTo, GiveOf, Requires, Block}
-use Rattle.session_language.specs.ProgramValue.{ProgramValue}
-use Rattle.session_language.specs.refinement.TreeOfStatements.{block_from}
+use Rattle.session_meaning.specs.Tree.{Command, LetVar, SetTo, GiveOf, Requires, Block}
+use Rattle.session_meaning.specs.ProgramValue.{ProgramValue}
+use Rattle.session_meaning.specs.refinement.TreeOfStatements.{block_from}
 use Rattle.session_language.specs.Reading.{Head, IfHead, ElseHead, RepeatHead, OpenBlock, Draft, Spoken, SpeaksLet, SpeaksSet, SpeaksGive, SpeaksDemand, SpeaksIf, SpeaksRepeat, with_variable, place_of, variables_after, named_after, with_line, with_names, opens_block, add, turned, turned_in, whole, with_end, Ended, Going, Closed, ended_in, ended, closed, begun}
 use Rattle.session_language.specs.WellFormed.{IsTestOver, IsStatementOver, IsSpokenOver, known_after, known_after_block, AreStatements, IsDeclared}
 use Rattle.session_language.specs.refinement.KeptDraft.{known_past, known_in, IsHeadOver, IsNamed, IsKept}

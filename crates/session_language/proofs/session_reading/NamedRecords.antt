@@ -1,13 +1,16 @@
 -- The records named so far are those that the statements so far need.
 use Rattle.std.proofs.Common.{◌≡◌, ℕ, List, [], ◌∷◌, ◌++◌, IfOk, refl, sym, ap, ◌∙◌}
-use Rattle.session_language.specs.Tree.{Command, LetVar, SetTo, GiveOf, Requires, Block}
-use Rattle.session_language.specs.refinement.TreeOfStatements.{block_from}
-use Rattle.session_language.specs.Needs.{test_needs, command_needs, block_needs}
+use Rattle.session_meaning.specs.Tree.{Command, LetVar, SetTo, GiveOf, Requires, Block}
+use Rattle.session_meaning.specs.refinement.TreeOfStatements.{block_from}
+use Rattle.session_meaning.specs.Needs.{test_needs, command_needs, block_needs}
 use Rattle.session_language.specs.Reading.{Head, IfHead, ElseHead, RepeatHead, OpenBlock, Draft, Spoken, SpeaksLet, SpeaksSet, SpeaksGive, SpeaksDemand, SpeaksIf, SpeaksRepeat, place_of, with_variable, with_line, with_names, turned, whole, with_end}
 use Rattle.session_language.specs.refinement.KeptDraft.{named_past, named_in, IsNamed}
-use Rattle.session_language.proofs.needed_records.Append.{needs_more}
 
 -- one more statement
+needs_more : (cs : List Command) (c : Command) (rs : List ℕ) → block_needs (block_from (cs ++ c ∷ [])) rs ≡ command_needs c (block_needs (block_from cs) rs)
+needs_more [] c rs = refl
+needs_more (d ∷ cs) c rs = needs_more cs c (command_needs d rs)
+
 module _ (d : Draft) (h : IsNamed d) where
   one_more : (c : Command) → command_needs c d.named ≡ block_needs (block_from (d.body ++ c ∷ [])) (named_in d.outer)
   one_more c = ap (command_needs c) h ∙ sym (needs_more d.body c (named_in d.outer))

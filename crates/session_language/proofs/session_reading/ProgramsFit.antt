@@ -10,7 +10,7 @@ use Rattle.std.specs.Option.{ok_or}
 use Rattle.office_map.specs.PlanValue.{PlanValue, is_end, office_named, record_named}
 use Rattle.office_map.specs.Text.{is_name, name_of, lines, statements}
 use Rattle.office_map.specs.PlanText.{◌>>=◌, ◌>>◌, refuse_if}
-use Rattle.session_language.specs.Tree.{Term, Constant, Var, ReadOf, Neg, Bin, Command}
+use Rattle.session_meaning.specs.Tree.{Term, Constant, Var, ReadOf, Neg, Bin, Command}
 use Rattle.session_language.specs.Spelling.{Operand, ANumber, AVariable, ARecord, Spelled, Plain, Token, Plus, Minus, Times, Close}
 use Rattle.session_language.specs.Grammar.{IsFactor, IsProduct, IsExpr, operand, negative, enclosed, one, star, alone, plus, minus}
 use Rattle.session_language.specs.Names.{Scope, if_of_office, record_of, knows_record, token_record, knows_records, placed}
@@ -19,21 +19,21 @@ use Rattle.session_language.specs.Lexer.{Piece, AWord, ASymbol, AStray, pieces_o
 use Rattle.session_language.specs.Parse.{Part, read_part}
 use Rattle.session_language.specs.Phrase.{Phrase, Run, run, phrase_of, phrase_in, phrase_at}
 use Rattle.session_language.specs.Form.{Said, Lets, Sets, Gives, Demands, Asks, Repeats, Form, Opens, Says, Otherwise, Closes, ends_there, if_named, phrase_alone, assigned, Last, demand, question, compared, comparison_of, after_left, condition, else_code, count_alone, name_alone, if_empty, said_after, form_after, form_of, keyword_of}
-use Rattle.session_language.specs.declared.node.Comparison.{Comparison}
+use Rattle.session_meaning.specs.declared.node.Comparison.{Comparison}
 use Rattle.session_language.specs.declared.keyword.Keyword.{Keyword}
 use Rattle.session_language.specs.declared.keyword.Keyword.TheVariants.{Session, Let, Set, Give, Require, If, Else, Repeat, End, Other}
 use Rattle.session_language.specs.declared.fault.SessionRule.{SessionRule}
 use Rattle.session_language.specs.declared.fault.SessionRule.TheVariants.{UnknownName, UnknownRecord, TooDeep, TooLong, TooManyRecords, TooManyGives, TooManyVariables}
-use Rattle.session_language.specs.refinement.TreeOfStatements.{block_from}
+use Rattle.session_meaning.specs.refinement.TreeOfStatements.{block_from}
 use Rattle.session_language.specs.Reading.{Head, IfHead, ElseHead, RepeatHead, OpenBlock, Draft, Reading, Spoken, SpeaksLet, SpeaksSet, SpeaksGive, SpeaksDemand, SpeaksIf, SpeaksRepeat, spoken_of, are_variables_known, are_records_known, is_too_deep, speak, named_after, with_line, with_names, opens_block, within_limits, add, turned, turned_in, Ended, Going, Closed, ended_in, ended, closed, program_of, is_too_long, begun, with_open, with_ended, scope_in, take_opening, take_statement, take_otherwise, take_closing, take_form, take_formed, take_line, at_line, read_lines, nothing_read, unless_open, sessions_of}
-use Rattle.session_language.specs.ProgramValue.{ProgramValue}
-use Rattle.session_language.specs.Measures.{block_gives}
+use Rattle.session_meaning.specs.ProgramValue.{ProgramValue}
+use Rattle.session_meaning.specs.Measures.{block_gives}
 use Rattle.session_language.specs.Program.{fits}
 use Rattle.session_language.proofs.session_reading.LiteralRanges.{tokens_fit, run_fits, name_fits, code_fits, count_fits}
 use Rattle.session_language.specs.refinement.KeptDraft.{named_in, IsNamed}
 use Rattle.session_language.proofs.session_reading.NamedRecords.{line_named, turned_named, end_named}
 use Rattle.session_language.proofs.expressions.ParserSound.{read_spells}
-use Rattle.session_language.specs.Needs.{with_record, term_needs, block_needs, needs_of}
+use Rattle.session_meaning.specs.Needs.{with_record, term_needs, block_needs, needs_of}
 
 pub both_left : (a b : Bool) → (a && b) ≡ true → a ≡ true
 both_left true b h = refl

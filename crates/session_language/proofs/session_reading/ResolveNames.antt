@@ -3,13 +3,13 @@ use Rattle.std.proofs.Common.{◌≡◌, ℕ, min, max, List, ◌∷◌, Bool, t
 use Rattle.std.proofs.lemmas.Bool.Decides.{nat_tests}
 use Rattle.std.specs.Option.{ok_or}
 use Rattle.office_map.specs.PlanText.{◌>>=◌, ◌>>◌, refuse_if}
-use Rattle.session_language.specs.declared.node.Node.{Node}
-use Rattle.session_language.specs.declared.node.Comparison.{Comparison}
+use Rattle.session_meaning.specs.declared.node.Node.{Node}
+use Rattle.session_meaning.specs.declared.node.Comparison.{Comparison}
 use Rattle.session_language.specs.declared.summary.Summary.{Summary}
 use Rattle.session_language.specs.declared.fault.SessionRule.{SessionRule}
 use Rattle.session_language.specs.declared.fault.SessionRule.TheVariants.{Syntax, UnknownName, UnknownRecord, TooDeep}
-use Rattle.session_language.specs.Tree.{Term, Test}
-use Rattle.session_language.specs.refinement.Postfix.{postfix, tree_of, tree_of-postfix, IsPostfix}
+use Rattle.session_meaning.specs.Tree.{Term, Test}
+use Rattle.session_meaning.specs.refinement.Postfix.{postfix, tree_of, tree_of-postfix, IsPostfix}
 use Rattle.session_language.specs.declared.lexer.Symbol.{Symbol}
 use Rattle.session_language.specs.declared.keyword.Keyword.TheVariants.{Require, If}
 use Rattle.session_language.specs.Lexer.{Piece, AWord, ASymbol}

@@ -1,8 +1,8 @@
 -- What holds of a session that is open, after each line.
 use Rattle.std.specs.Prelude.{◌≡◌, ◌≢◌, ◌<◌, ◌≤◌, ℕ, suc, List, [], ◌∷◌, length, All, AllPairs, IsTrue}
 use Rattle.office_map.specs.Text.{is_name}
-use Rattle.session_language.specs.refinement.TreeOfStatements.{block_from}
-use Rattle.session_language.specs.Needs.{test_needs, block_needs}
+use Rattle.session_meaning.specs.refinement.TreeOfStatements.{block_from}
+use Rattle.session_meaning.specs.Needs.{test_needs, block_needs}
 use Rattle.session_language.specs.Reading.{Head, IfHead, ElseHead, RepeatHead, OpenBlock, Draft}
 use Rattle.session_language.specs.WellFormed.{IsTestOver, AreStatements, known_after_block}
 use Rattle.session_language.specs.Limits.{most_blocks, most_turns, most_records, most_variables}

@@ -5,7 +5,7 @@ use Rattle.session_language.specs.declared.parts.Head as code
 use Rattle.session_language.specs.declared.parts.Head.TheVariants as heads
 use Rattle.session_language.specs.declared.parts.OpenBlock as code_block
 use Rattle.session_language.specs.declared.parts.Parts as code_parts
-use Rattle.session_language.specs.refinement.TreeOfStatements.{test_of, command_of, block_of}
+use Rattle.session_meaning.specs.refinement.TreeOfStatements.{test_of, command_of, block_of}
 use Rattle.session_language.specs.Reading.{Head, IfHead, ElseHead, RepeatHead, OpenBlock, Draft, Spoken, variables_after}
 
 abbrev pub head_of : code.Head → Head

@@ -1,9 +1,9 @@
 -- An expression in postfix order, built from its tokens: an operator's node comes after its right operand. Of what
 -- waits only the depth is kept, exact up to 32, and 33 past it.
 use Rattle.std.specs.Prelude.{ℕ, suc, ◌+◌, ◌<◌, ◌^◌, min, max, List, [], ◌∷◌, ◌++◌, reverse, replicate, Option, Some, None}
-use Rattle.session_language.specs.declared.node.Node.{Node}
-use Rattle.session_language.specs.declared.node.Node.TheVariants.{Negate, Apply}
-use Rattle.session_language.specs.declared.node.Operator.TheVariants as op
+use Rattle.session_meaning.specs.declared.node.Node.{Node}
+use Rattle.session_meaning.specs.declared.node.Node.TheVariants.{Negate, Apply}
+use Rattle.session_meaning.specs.declared.node.Operator.TheVariants as op
 use Rattle.session_language.specs.declared.builder.Element.{Element}
 use Rattle.session_language.specs.declared.builder.Element.TheVariants.{Operand, Plus, Minus, Times, Open, Close}
 use Rattle.session_language.specs.declared.builder.Sum.{Sum}

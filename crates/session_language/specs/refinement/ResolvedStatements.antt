@@ -3,14 +3,14 @@ use Rattle.std.specs.Prelude.{◌≡◌, ℕ, List, Option, Some, None, Result, 
 use Rattle.std.specs.Option.{ok_or}
 use Rattle.std.specs.Borrow.{Bor}
 use Rattle.office_map.specs.PlanText.{◌>>=◌, ◌>>◌, refuse_if}
-use Rattle.session_language.specs.declared.node.Node.{Node}
+use Rattle.session_meaning.specs.declared.node.Node.{Node}
 use Rattle.session_language.specs.declared.summary.Summary.{Summary}
 use Rattle.session_language.specs.declared.fault.SessionRule.{SessionRule}
 use Rattle.session_language.specs.declared.fault.SessionRule.TheVariants.{Syntax, UnknownName, UnknownRecord, TooDeep}
 use Rattle.session_language.specs.declared.keyword.Keyword.{Keyword}
 use Rattle.session_language.specs.declared.spoken.Spoken as code
 use Rattle.session_language.specs.declared.spoken.Spoken.TheVariants as spoken
-use Rattle.session_language.specs.refinement.TreeOfStatements.{test_of}
+use Rattle.session_meaning.specs.refinement.TreeOfStatements.{test_of}
 use Rattle.session_language.specs.Lexer.{Piece}
 use Rattle.session_language.specs.Phrase.{Phrase, Keeps}
 use Rattle.session_language.specs.Names.{Scope}

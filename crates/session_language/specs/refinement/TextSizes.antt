@@ -1,10 +1,10 @@
 -- How many bytes the texts of expressions have that wait for the operator over them, and how tightly each binds.
 use Rattle.std.specs.Prelude.{ℕ, ◌+◌, List, [], ◌∷◌, ◌++◌, length}
-use Rattle.session_language.specs.declared.node.Operator.{Operator}
-use Rattle.session_language.specs.declared.node.Operator.TheVariants as op
+use Rattle.session_meaning.specs.declared.node.Operator.{Operator}
+use Rattle.session_meaning.specs.declared.node.Operator.TheVariants as op
 use Rattle.session_language.specs.declared.rank.Rank.{Rank}
 use Rattle.session_language.specs.declared.rank.Rank.TheVariants.{Factor, Product, Sum}
-use Rattle.session_language.specs.Tree.{Term}
+use Rattle.session_meaning.specs.Tree.{Term}
 use Rattle.session_language.specs.Text.{Words, rank_of, term_text}
 
 -- the last one at the end

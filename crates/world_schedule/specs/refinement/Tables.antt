@@ -5,8 +5,8 @@ use Rattle.bottle_values.specs.declared.Value.{Value}
 use Rattle.frame_codec.specs.declared.message.Msg.{Msg}
 use Rattle.office_map.specs.PlanValue.{PlanValue, are_neighbours, has_ends}
 use Rattle.office_map.specs.Consistency.{IsConsistent}
-use Rattle.session_language.specs.Needs.{needs_of}
-use Rattle.session_language.specs.Meaning.{alone}
+use Rattle.session_meaning.specs.Needs.{needs_of}
+use Rattle.session_meaning.specs.Meaning.{alone}
 use Rattle.world_schedule.specs.declared.tables.BottlePlace.{BottlePlace}
 use Rattle.world_schedule.specs.declared.tables.Lane as code_line
 use Rattle.world_schedule.specs.declared.tables.Phase as code_phase

@@ -1,5 +1,5 @@
 use Rattle.std.proofs.Common.{◌≡◌, drop, reverse, []}
-use Rattle.session_language.specs.refinement.Postfix.{postfix}
+use Rattle.session_meaning.specs.refinement.Postfix.{postfix}
 use Rattle.serial_replay.specs.refinement.PostfixEvaluation.{after_nodes}
 use Rattle.serial_replay.specs.refinement.WalkRefinement.{environment_of}
 use Rattle.serial_replay.proofs.evaluate.evaluate.Given as goal

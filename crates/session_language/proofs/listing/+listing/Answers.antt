@@ -1,11 +1,11 @@
 use Rattle.std.proofs.Common.{rules, ◌≡◌, ◌++◌, codes}
 use Rattle.std.specs.String.{string_bytes}
 use Rattle.std.specs.Fmt.{decimal}
-use Rattle.session_language.specs.Tree.{When, Choice, Loop}
-use Rattle.session_language.specs.refinement.TreeOfStatements.{test_of, command_of, block_of}
+use Rattle.session_meaning.specs.Tree.{When, Choice, Loop}
+use Rattle.session_meaning.specs.refinement.TreeOfStatements.{test_of, command_of, block_of}
 use Rattle.session_language.specs.Text.{words_of, test_text, block_text, line}
-use Rattle.session_language.specs.declared.tree.Statement.TheViews.{the_lemmas}
-use Rattle.session_language.proofs.TreeErasure.{row_block_is}
+use Rattle.session_meaning.specs.declared.tree.Statement.TheViews.{the_lemmas}
+use Rattle.session_meaning.proofs.TreeErasure.{row_block_is}
 use Rattle.session_language.proofs.Texts.{written_3, written_5}
 use Rattle.session_language.proofs.listing.+listing.Goals as goal
 

@@ -1,6 +1,6 @@
 use Rattle.std.proofs.Common.{◌≡◌, ◌++◌, drop}
 use Rattle.std.specs.String.{string_bytes}
-use Rattle.session_language.specs.refinement.TreeOfStatements.{block_of}
+use Rattle.session_meaning.specs.refinement.TreeOfStatements.{block_of}
 use Rattle.session_language.specs.Text.{words_of, block_text}
 use Rattle.session_language.proofs.listing.+listing.Given as goal
 

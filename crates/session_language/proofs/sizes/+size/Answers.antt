@@ -1,10 +1,10 @@
 use Rattle.std.proofs.Common.{◌≡◌, rules, arith, map}
 use Rattle.std.specs.String.{string_bytes}
-use Rattle.session_language.specs.Tree.{When, Choice, Loop}
+use Rattle.session_meaning.specs.Tree.{When, Choice, Loop}
 use Rattle.session_language.specs.Text.{wide_words}
-use Rattle.session_language.specs.refinement.TreeOfStatements.{test_of, command_of, block_of}
-use Rattle.session_language.specs.declared.tree.Statement.TheViews.{the_lemmas}
-use Rattle.session_language.proofs.TreeErasure.{row_block_is}
+use Rattle.session_meaning.specs.refinement.TreeOfStatements.{test_of, command_of, block_of}
+use Rattle.session_meaning.specs.declared.tree.Statement.TheViews.{the_lemmas}
+use Rattle.session_meaning.proofs.TreeErasure.{row_block_is}
 use Rattle.session_language.proofs.session_measures.SizeStep.{when_bytes, choice_bytes, loop_bytes}
 use Rattle.session_language.proofs.sizes.+size.Goals as goal
 

@@ -1,6 +1,6 @@
 use Rattle.std.proofs.Common.{◌≡◌, ◌≤◌, ◌+◌, min, drop, length, map}
 use Rattle.std.specs.String.{string_bytes}
-use Rattle.session_language.specs.refinement.TreeOfStatements.{block_of}
+use Rattle.session_meaning.specs.refinement.TreeOfStatements.{block_of}
 use Rattle.session_language.specs.Text.{wide_words, block_text}
 use Rattle.session_language.proofs.sizes.+size.Given as goal
 

@@ -1,6 +1,6 @@
 use Rattle.std.proofs.Common.{[], map, take}
 use Rattle.std.specs.String.{string_bytes}
-use Rattle.session_language.specs.refinement.Postfix.{push_nodes}
+use Rattle.session_meaning.specs.refinement.Postfix.{push_nodes}
 use Rattle.session_language.specs.Text.{wide_words}
 use Rattle.session_language.proofs.session_measures.SizeStep.{one_more}
 use Rattle.session_language.proofs.sizes.nodes_size.Goals as goal

@@ -1,6 +1,6 @@
 use Rattle.std.proofs.Common.{rules, ◌≡◌, ◌∙◌, sym, ◌∷◌, [], ◌++◌}
-use Rattle.session_language.specs.declared.node.Node.TheVariants.{Literal, Variable, Read, Negate, Apply}
-use Rattle.session_language.proofs.expressions.PostfixSplit.{before_minus, before_operator, only_literal, only_variable, only_read, no_nodes}
+use Rattle.session_meaning.specs.declared.node.Node.TheVariants.{Literal, Variable, Read, Negate, Apply}
+use Rattle.session_language.proofs.expressions.LastNode.{before_minus, before_operator, only_literal, only_variable, only_read, no_nodes}
 use Rattle.session_language.proofs.Texts.{written}
 use Rattle.session_language.proofs.text.+text.Goals as goal
 

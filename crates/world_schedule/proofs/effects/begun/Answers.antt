@@ -1,6 +1,6 @@
 use Rattle.std.proofs.Common.{map, ap, ◌∙◌, sym}
 use Rattle.std.specs.Prelude.{zip}
-use Rattle.session_language.specs.Needs.{needs_of}
+use Rattle.session_meaning.specs.Needs.{needs_of}
 use Rattle.world_schedule.specs.Offices as offices
 use Rattle.world_schedule.specs.refinement.Tables.{phase_of}
 use Rattle.world_schedule.proofs.EffectsRefine.{reads_zip}

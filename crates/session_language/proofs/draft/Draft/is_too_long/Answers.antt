@@ -1,7 +1,7 @@
 use Rattle.std.proofs.Common.{◌≤◌, rules, sym}
-use Rattle.session_language.specs.Measures.{block_statements, block_cost}
-use Rattle.session_language.specs.refinement.TreeOfStatements.{block_of}
-use Rattle.session_language.specs.refinement.Extent.{block_extent}
+use Rattle.session_meaning.specs.Measures.{block_statements, block_cost}
+use Rattle.session_meaning.specs.refinement.TreeOfStatements.{block_of}
+use Rattle.session_meaning.specs.refinement.Extent.{block_extent}
 use Rattle.session_language.specs.refinement.PartsRefinement.{parts_of}
 use Rattle.session_language.specs.refinement.ReaderRefinement.{draft_of}
 use Rattle.session_language.specs.Reading.{program_of}

@@ -1,5 +1,0 @@
-use Rattle.session_language.proofs.session_measures.StepsAreCounted.{counted}
-use Rattle.session_language.proofs.laws.length_counts_steps.Goals as goal
-
-pub returns : goal.returns
-returns c = counted

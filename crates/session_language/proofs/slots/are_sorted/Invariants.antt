@@ -1,8 +1,0 @@
-use Rattle.std.proofs.Common.{ℕ, ◌<◌, ◌+◌, map}
-use Rattle.std.specs.List.{slice_index}
-use Rattle.session_language.proofs.working_copies.SortedSlots.{ids}
-use Rattle.session_language.proofs.slots.are_sorted.Given as goal
-
--- the slots before this one are in order
-abbrev pub invariant-loop-i : goal.invariant-loop-i
-invariant-loop-i l = (k : ℕ) → k + 1 < l.i → slice_index (ids l.slots) k < slice_index (ids l.slots) (k + 1)

@@ -1,7 +1,0 @@
-use Rattle.std.proofs.Common.{arith}
-use Rattle.session_language.proofs.working_copies.SortedSlots.{order_kept}
-use Rattle.session_language.proofs.working_copy.WorkingCopy.set.Goals as goal
-
-pub invariant_of-self : goal.invariant_of-self
-invariant_of-self c =
-    (λ is_sorted. order_kept c.self.inside.slots.items c.set_slot.new.slots.items c.args.id c.args.value c.set_slot.ensures.set (c.self.invariant.0 is_sorted), c.self.invariant.1, omega (arith, c.self.invariant.2, c.set_slot.ensures.len))

@@ -1,9 +1,0 @@
--- A program as contracts see it: its office, the names of its variables in the order in which lines first name them,
--- and its statements.
-use Rattle.std.specs.Prelude.{ℕ, List}
-use Rattle.session_language.specs.Tree.{Block}
-
-pub record ProgramValue : Type 0 where
-  pub office : ℕ
-  pub variables : List (List ℕ)
-  pub body : Block

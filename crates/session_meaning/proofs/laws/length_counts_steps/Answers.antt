@@ -1,0 +1,5 @@
+use Rattle.session_meaning.proofs.session_measures.StepsAreCounted.{counted}
+use Rattle.session_meaning.proofs.laws.length_counts_steps.Goals as goal
+
+pub returns : goal.returns
+returns c = counted

@@ -1,0 +1,3 @@
+pub mod Saturation
+pub mod LengthWithinCost
+pub mod StepsAreCounted

@@ -1,0 +1,7 @@
+pub mod TreeEncoding
+pub mod PostfixSplit
+pub mod TreeOfStatements
+pub mod ExpressionNodes
+pub mod Postfix
+pub mod Extent
+pub mod CopiedSlots

@@ -1,0 +1,37 @@
+//! The tree of a session: what it does alone, how long that takes, what it costs, and which records it needs.
+//!
+//! - A session is a list of [`Statement`]s over [`Expression`]s. Contracts see them as trees (`specs/Tree.antt`), and a
+//!   whole program with its office and its variables' names as a `ProgramValue` (`specs/ProgramValue.antt`).
+//! - What a session does alone is `alone`, in `specs/Meaning.antt`, and how much it does `length_on`, in
+//!   `specs/Length.antt`; `proofs/WorkedExamples.antt` works out examples of both. How it ended is an [`Ending`], and an
+//!   [`Outcome`] with its office and its ticket there.
+//! - A running session has a [`WorkingCopy`] of its records and its [`Variables`]; their calls, [`Operator::apply`] and
+//!   [`Comparison::holds`] are those of `specs/Meaning.antt`.
+//! - [`measures`] are what a session costs, gives and has of statements (`specs/Measures.antt`), exact up to 10,000.
+//! - [`needs`] are the records that a session needs, in order (`needs_of`, in `specs/Needs.antt`).
+//! - [`laws`]: a session writes only what it needs, tells what it read, needs just the records that it names, and takes
+//!   as many steps as its length, which is at most its cost and 1.
+//! - Expressions are kept in postfix order (`specs/refinement/Postfix.antt`); [`operands`] takes them apart.
+#![tactic(auto)]
+
+pub mod copying;
+mod ending;
+mod expression;
+pub mod laws;
+pub mod measures;
+pub mod needs;
+mod node;
+pub mod operands;
+mod slots;
+#[cfg(test)]
+mod tests;
+mod tree;
+mod variables;
+mod working_copy;
+
+pub use crate::ending::{End, Ending, Gives, Outcome, RecordValues};
+pub use crate::expression::Expression;
+pub use crate::node::{Comparison, Node, Operator};
+pub use crate::tree::{Condition, Statement};
+pub use crate::variables::Variables;
+pub use crate::working_copy::WorkingCopy;

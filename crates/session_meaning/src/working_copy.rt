@@ -1,0 +1,82 @@
+//! A session's working copy of records.
+
+use crate::ending::RecordValues;
+use crate::slots::{Slot, are_sorted, first_value, put_writes, set_slot, slots_of, sorted_value};
+use bottle_values::Value;
+use office_map::RecordId;
+use std::alloc::{AllocError, Global};
+use std::marker::Model;
+
+/// A session's working copy of the records that it needs, with the memory that its writes need. Contracts see the list
+/// of its slots. Where the records are in order of number, one is found by halving.
+#[derive(Debug, Drop)]
+pub struct WorkingCopy {
+    slots: Vec<Slot>,
+    is_sorted: bool,
+    writes: Vec<(RecordId, Value)>,
+}
+
+impl Model for WorkingCopy {
+    ghost use Rattle.std.specs.Prelude.{◌≡◌, ◌≤◌, List, [], IsTrue, length, map};
+    ghost use Rattle.std.specs.List.Sorted.{IsStrictlyIncreasing};
+    ghost use Rattle.std.specs.Vec.{vec_capacity};
+    ghost use Rattle.session_meaning.specs.Meaning as meaning;
+    ghost use Rattle.session_meaning.specs.refinement.CopiedSlots.{slot_of};
+
+    ghost Value = { List meaning.Slot };
+
+    ghost view = { λ w. map slot_of w.slots.items };
+
+    ghost invariant = { λ w. (IsTrue w.is_sorted → IsStrictlyIncreasing (map (λ s. s.id) w.slots.items)) × (w.writes.items ≡ []) × (length w.slots.items ≤ vec_capacity w.writes) };
+}
+
+impl WorkingCopy {
+    ghost use Rattle.std.specs.Prelude.{◌≡◌, IfOk, map};
+    ghost use Rattle.session_meaning.specs.Meaning.{slot_of, value_in, set_in, writes_of};
+
+    /// The copy as the session begins.
+    pub fn of(alloc: Global, reads: &RecordValues) -> Result<WorkingCopy, AllocError>
+        ensures { IfOk result (λ w. w ≡ map slot_of reads.now) }
+    {
+        let slots = slots_of(alloc, reads.as_slice())?;
+        let writes = Vec::with_capacity(alloc, slots.len())?;
+        let is_sorted = are_sorted(&slots);
+        Ok(WorkingCopy {
+            slots,
+            is_sorted,
+            writes,
+        })
+    }
+
+    /// The value of a record, and 0 of one that isn't there.
+    pub fn value(&self, id: RecordId) -> Value
+        ensures { result ≡ value_in self.now id }
+    {
+        if self.is_sorted {
+            sorted_value(&self.slots, id)
+        } else {
+            first_value(&self.slots, id)
+        }
+    }
+
+    /// Sets a record, if it is there.
+    pub fn set(&mut self, id: RecordId, value: Value)
+        ensures { self.new ≡ set_in id value self.old }
+    {
+        set_slot(&mut self.slots, id, value);
+    }
+
+    /// The records that were set, with their last values.
+    pub fn into_writes(self) -> RecordValues
+        ensures { result ≡ writes_of self }
+    {
+        let WorkingCopy {
+            slots,
+            is_sorted: _,
+            mut writes,
+        } = self;
+        put_writes(&slots, &mut writes);
+        writes.shrink_to_fit();
+        RecordValues::of(writes)
+    }
+}
