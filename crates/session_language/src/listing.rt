@@ -46,7 +46,6 @@ fn write_block(
 }
 
 #[cycle(listing)]
-#[tactic(auto, using(session_meaning::proofs::TreeErasure::row_block_is))]
 fn write_statement(
     out: &mut String,
     words: &Words<'_>,

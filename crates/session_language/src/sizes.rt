@@ -46,7 +46,6 @@ fn block_size(
 }
 
 #[cycle(size)]
-#[tactic(auto, using(session_meaning::proofs::TreeErasure::row_block_is))]
 fn statement_size(
     ranks: &mut Vec<Rank>,
     variables: &[String],

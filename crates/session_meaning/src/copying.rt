@@ -19,7 +19,6 @@ pub fn copy_block(alloc: Global, statements: &[Statement]) -> Result<Vec<Stateme
 }
 
 #[cycle(copy)]
-#[tactic(auto, using(crate::proofs::TreeErasure::row_block_is))]
 fn copy_statement(alloc: Global, statement: &Statement) -> Result<Statement, AllocError>
     ensures { IfOk result (λ s. command_of s ≡ command_of statement.now) }
 {
