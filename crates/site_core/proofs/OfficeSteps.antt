@@ -15,7 +15,7 @@ use Rattle.site_core.specs.declared.reply.Reply.TheVariants as reply
 use Rattle.site_core.specs.declared.reply.Refusal.{Refusal}
 use Rattle.site_core.specs.declared.reply.Refusal.TheVariants as refusal
 use Rattle.frame_codec.specs.Frame.{Fields}
-use Rattle.session_language.specs.ProgramValue.{ProgramValue}
+use Rattle.session_meaning.specs.ProgramValue.{ProgramValue}
 use Rattle.window_link.specs.declared.arrival.Arrival.{Arrival}
 use Rattle.site_core.specs.Replies.{reply_to}
 use Rattle.site_core.specs.Pairs.{Pairs, frame_fault, arrival_of, after_frame}

@@ -7,9 +7,9 @@ use Rattle.std.proofs.lemmas.List.{take_more}
 use Rattle.std.proofs.lemmas.List.Elements.{All-head, All-cons}
 use Rattle.bottle_values.specs.Maps.{reads_of}
 use Rattle.office_map.specs.PlanValue.{PlanValue, is_end}
-use Rattle.session_language.specs.ProgramValue.{ProgramValue}
+use Rattle.session_meaning.specs.ProgramValue.{ProgramValue}
 use Rattle.session_language.specs.Program.{fits}
-use Rattle.session_language.specs.Needs.{needs_of}
+use Rattle.session_meaning.specs.Needs.{needs_of}
 use Rattle.site_core.specs.declared.session.Session.{Session}
 use Rattle.bottle_values.specs.declared.Value.{Value}
 use Rattle.site_core.specs.Agenda.{Agenda, Current, Idle, Gathering, Working, first_needs, gathering, begun, with_current}

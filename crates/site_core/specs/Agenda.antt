@@ -2,10 +2,10 @@
 use Rattle.std.specs.Prelude.{ℕ, ◌+◌, Bool, true, false, not, nat_le, ◌&&◌, is_some, List, [], ◌∷◌, ◌++◌, length, Option, None, Some, option_map}
 use Rattle.bottle_values.specs.declared.Value.{Value}
 use Rattle.bottle_values.specs.Maps.{reads_of}
-use Rattle.session_language.specs.declared.ending.Ending.{Ending}
-use Rattle.session_language.specs.declared.ending.Outcome.{Outcome}
-use Rattle.session_language.specs.ProgramValue.{ProgramValue}
-use Rattle.session_language.specs.Needs.{needs_of}
+use Rattle.session_meaning.specs.declared.ending.Ending.{Ending}
+use Rattle.session_meaning.specs.declared.ending.Outcome.{Outcome}
+use Rattle.session_meaning.specs.ProgramValue.{ProgramValue}
+use Rattle.session_meaning.specs.Needs.{needs_of}
 use Rattle.session_machine.specs.Pieces.{ending_after}
 use Rattle.site_core.specs.declared.session.Session.{Session}
 use Rattle.site_core.specs.Limits.{most_unfinished, longest_piece}

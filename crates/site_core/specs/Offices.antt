@@ -4,7 +4,7 @@ use Rattle.bottle_values.specs.declared.Value.{Value}
 use Rattle.bottle_values.specs.Arithmetic.{nought}
 use Rattle.frame_codec.specs.Frame.{Fields}
 use Rattle.office_map.specs.PlanValue.{PlanValue, are_neighbours, is_end}
-use Rattle.session_language.specs.ProgramValue.{ProgramValue}
+use Rattle.session_meaning.specs.ProgramValue.{ProgramValue}
 use Rattle.session_language.specs.Program.{fits}
 use Rattle.window_link.specs.Links.{LinkState, frame_of, ack_frame_of}
 use Rattle.token_channel.specs.declared.fault.ChannelFault.{ChannelFault}

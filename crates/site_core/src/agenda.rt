@@ -3,10 +3,10 @@
 ghost use Rattle.std.specs.Prelude.{◌≡◌, ◌<◌, ◌+◌, ◌^◌, ◌↔◌, ℕ, List, Some, None, true, false, length, map, is_some, option_map, unwrap_or, IsSome, OnOk, OnErr, IfOk};
 ghost use Rattle.std.specs.Option.{option_copied};
 ghost use Rattle.bottle_values.specs.declared.Value as bottle;
-ghost use Rattle.session_language.specs.ProgramValue.{ProgramValue};
+ghost use Rattle.session_meaning.specs.ProgramValue.{ProgramValue};
 ghost use Rattle.site_core.specs.Agenda as sessions;
 ghost use Rattle.site_core.specs.Agenda.{empty, is_full, submitted, first_needs, started, gathering, begun, may_work, worked, ending_of, writes_of, with_current, finished};
-ghost use Rattle.session_language.specs.Needs.{needs_of};
+ghost use Rattle.session_meaning.specs.Needs.{needs_of};
 ghost use Rattle.bottle_values.specs.Maps.{reads_of};
 ghost use Rattle.site_core.specs.refinement.AgendaOfCode.{Means};
 
@@ -45,8 +45,8 @@ impl Model for Agenda {
     ghost use Rattle.std.specs.Prelude.{◌-◌, vec_len};
     ghost use Rattle.std.specs.Vec.{vec_capacity};
     ghost use Rattle.std.specs.Coded.{Coded, codes};
-    ghost use Rattle.session_language.specs.declared.node.Node.{Node};
-    ghost use Rattle.session_language.specs.refinement.TreeEncoding.{Mark, term_code, block_code};
+    ghost use Rattle.session_meaning.specs.declared.node.Node.{Node};
+    ghost use Rattle.session_meaning.specs.refinement.TreeEncoding.{Mark, term_code, block_code};
     ghost use Rattle.site_core.specs.refinement.AgendaOfCode.{AgendaValue};
 
     ghost Value = { AgendaValue };

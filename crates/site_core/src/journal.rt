@@ -22,8 +22,8 @@ impl Model for Journal {
     ghost use Rattle.std.specs.Prelude.{◌-◌, vec_len};
     ghost use Rattle.std.specs.Vec.{vec_capacity};
     ghost use Rattle.std.specs.Coded.{Coded, codes};
-    ghost use Rattle.session_language.specs.declared.node.Node.{Node};
-    ghost use Rattle.session_language.specs.refinement.TreeEncoding.{Mark, term_code, block_code};
+    ghost use Rattle.session_meaning.specs.declared.node.Node.{Node};
+    ghost use Rattle.session_meaning.specs.refinement.TreeEncoding.{Mark, term_code, block_code};
     ghost use Rattle.site_core.specs.refinement.JournalOfCode.{JournalValue};
 
     ghost Value = { JournalValue };

@@ -34,8 +34,8 @@ pub struct Office {
 
 impl Model for Office {
     ghost use Rattle.std.specs.Coded.{Coded, codes};
-    ghost use Rattle.session_language.specs.declared.node.Node.{Node};
-    ghost use Rattle.session_language.specs.refinement.TreeEncoding.{Mark, term_code, block_code};
+    ghost use Rattle.session_meaning.specs.declared.node.Node.{Node};
+    ghost use Rattle.session_meaning.specs.refinement.TreeEncoding.{Mark, term_code, block_code};
     ghost use Rattle.site_core.specs.Journals.{Site};
     ghost use Rattle.site_core.specs.refinement.OfficeOfCode.{site_of, IsAtEnd};
 

@@ -1,7 +1,7 @@
 -- The sessions that the code keeps, and what they mean.
 use Rattle.std.specs.Prelude.{◌≡◌, ℕ, List}
 use Rattle.bottle_values.specs.declared.Value.{Value}
-use Rattle.session_language.specs.declared.ending.Outcome.{Outcome}
+use Rattle.session_meaning.specs.declared.ending.Outcome.{Outcome}
 use Rattle.session_machine.specs.Room.{HasRoom}
 use Rattle.session_machine.specs.refinement.Session.{CodeValue}
 use Rattle.session_machine.specs.refinement.Work.{WorkValue, code_of, work_of}
