@@ -1,5 +1,8 @@
 pub mod CodeStands
 pub mod EmittedCodeStands
+pub mod NodesOfTerm
+pub mod ClosedCode
+pub mod NearRecords
 pub mod ExpressionDepth
 pub mod RunsMeaning
 pub mod EndsAtLength

@@ -19,6 +19,7 @@ pub mod laws;
 mod machine;
 mod phase;
 mod progress;
+mod records;
 mod state;
 #[cfg(test)]
 mod tests;

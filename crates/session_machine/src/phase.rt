@@ -1,7 +1,13 @@
 //! What work keeps.
 
+use crate::code::Code;
+use crate::ended::ended;
+use crate::machine::tick_all;
+use crate::progress::Progress;
 use crate::state::State;
-use session_language::{Ending, RecordValues};
+use session_language::{End, Ending, RecordValues};
+use std::alloc::Global;
+use std::mem;
 
 /// A session that runs, with what it read, or how it ended. `Moved` stands only while a call is at
 /// work on it.
@@ -10,4 +16,52 @@ pub enum Phase {
     AtWork(RecordValues, State),
     Over(Ending),
     Moved,
+}
+
+impl Phase {
+    ghost use Rattle.std.specs.Prelude.{◌≡◌, Some};
+    ghost use Rattle.session_machine.specs.Progress.{progress_by};
+    ghost use Rattle.session_machine.specs.refinement.Work.{piece, ending_in};
+    ghost use Rattle.session_machine.specs.refinement.PhaseOfCode.{work_in, work_with};
+
+    /// Does n instructions where a session runs, and tells how it ended with the last of them.
+    pub fn advance(&mut self, code: &Code, n: u32) -> Option<End>
+        ensures { work_with result self.new ≡ piece code.now n (work_in self.old) }
+    {
+        match mem::replace(self, Phase::Moved) {
+            Phase::AtWork(reads, mut state) => {
+                let end = tick_all(&mut state, code.lines(), n);
+                match mem::replace(self, Phase::AtWork(reads, state)) {
+                    Phase::Moved => end,
+                    _ => unreachable!(),
+                }
+            }
+            other => {
+                *self = other;
+                None
+            }
+        }
+    }
+
+    /// The session that runs has ended like this.
+    pub fn close(&mut self, alloc: Global, end: End)
+        ensures { work_in self.new ≡ work_with (Some end) self.old }
+    {
+        *self = match mem::replace(self, Phase::Moved) {
+            Phase::AtWork(reads, state) => {
+                Phase::Over(ended(alloc, end, reads, state.environment))
+            }
+            other => other,
+        };
+    }
+
+    /// Whether the session's work goes on.
+    pub fn progress(&self) -> Progress
+        ensures { result ≡ progress_by (ending_in (work_in self.now)) }
+    {
+        match self {
+            Phase::Over(_) => Progress::Ended,
+            _ => Progress::Running,
+        }
+    }
 }

@@ -10,6 +10,7 @@ use session_language::{
 };
 use std::alloc::{AllocError, Global};
 use std::fmt::Write;
+use std::process::Abort;
 use std::test::Fail;
 
 mod drawn;
@@ -223,22 +224,37 @@ static TURNS: [u16; 4] = [0, 10_000, 10_001, 65_535];
 fn sessions_end_at_their_lengths(rt: HostRuntime) -> Result<(), Fail> {
     let plan = Plan::read(rt.alloc(), PLAN.as_bytes())?;
     for (text, length, ending) in &SESSIONS {
-        let found = run_text(rt.alloc(), &plan, text)?;
-        let expected = described(rt.alloc(), *length, ending)?;
-        assert_eq!(rt; found.as_str(), expected.as_str(), "of {text:?}");
+        ends(&rt, rt.alloc(), &plan, text, *length, ending)?;
     }
     for (before, opening, count, within, after, length, ending) in &LIMITS {
         let text = nested(rt.alloc(), before, opening, *count, within, after)?;
-        let found = run_text(rt.alloc(), &plan, text.as_str())?;
-        let expected = described(rt.alloc(), *length, ending)?;
-        assert_eq!(rt; found.as_str(), expected.as_str(), "of {text}");
+        ends(&rt, rt.alloc(), &plan, text.as_str(), *length, ending)?;
     }
-    for turns in TURNS {
-        let found = run_turns(rt.alloc(), turns)?;
-        let length = u32::from(turns) + 2;
-        let expected = described(rt.alloc(), length, "done reads writes gives")?;
-        assert_eq!(rt; found.as_str(), expected.as_str(), "of {turns} turns");
+    for turns in &TURNS {
+        turns_end(&rt, rt.alloc(), *turns)?;
     }
+    Ok(())
+}
+
+fn ends(
+    rt: &impl Abort,
+    alloc: Global,
+    plan: &Plan,
+    text: &str,
+    length: u32,
+    ending: &str,
+) -> Result<(), AllocError> {
+    let found = run_text(alloc, plan, text)?;
+    let expected = described(alloc, length, ending)?;
+    assert_eq!(rt; found.as_str(), expected.as_str(), "of {text}");
+    Ok(())
+}
+
+fn turns_end(rt: &impl Abort, alloc: Global, turns: u16) -> Result<(), AllocError> {
+    let found = run_turns(alloc, turns)?;
+    let length = u32::from(turns) + 2;
+    let expected = described(alloc, length, "done reads writes gives")?;
+    assert_eq!(rt; found.as_str(), expected.as_str(), "of {turns} turns");
     Ok(())
 }
 
@@ -327,25 +343,47 @@ fn run_in_pieces(
     needs: &[RecordId],
     n: u32,
 ) -> Result<(), AllocError> {
+    let reads = first_values(alloc, needs)?;
+    let mut work = Work::begin(alloc, code, reads)?;
+    let Some(pieces) = pieces_to_end(text, &mut work, code, n)? else {
+        return Ok(());
+    };
+    write!(text, "{pieces} ")?;
+    describe_work(text, alloc, code, work)
+}
+
+/// The values of records as they are at first: 100 of x and 0 of y.
+fn first_values(alloc: Global, needs: &[RecordId]) -> Result<RecordValues, AllocError> {
     let mut reads = RecordValues::new(alloc);
     for id in needs {
         let number = if id.number() == 0 { 100 } else { 0 };
         reads.push(*id, Value { number })?;
     }
-    let mut work = Work::begin(alloc, code, reads)?;
+    Ok(reads)
+}
+
+/// How many pieces of n there are until the end. Where it doesn't come as it should, that is told.
+fn pieces_to_end(
+    text: &mut String,
+    work: &mut Work,
+    code: &Code,
+    n: u32,
+) -> Result<Option<u32>, AllocError> {
     for k in 0..MOST_PIECES {
         if let Progress::Ended = work.step(code, 0) {
-            return text.push_str("ended by nothing");
+            text.push_str("ended by nothing")?;
+            return Ok(None);
         }
         if let Progress::Ended = work.step(code, n) {
-            write!(text, "{} ", k + 1)?;
-            return describe_work(text, alloc, code, work);
+            return Ok(Some(k + 1));
         }
         if let Some(_) = work.ending() {
-            return text.push_str("ended too soon");
+            text.push_str("ended too soon")?;
+            return Ok(None);
         }
     }
-    text.push_str("not ended")
+    text.push_str("not ended")?;
+    Ok(None)
 }
 
 /// Work that has ended stays as it is, and shows its ending.
@@ -372,16 +410,19 @@ fn describe(text: &mut String, ending: &Ending) -> Result<(), AllocError> {
         End::Overflow => text.push_str("overflow")?,
     }
     text.push_str(" reads")?;
-    for (id, value) in ending.reads.as_slice() {
-        write!(text, " {}={}", id.number(), value.number)?;
-    }
+    describe_values(text, ending.reads.as_slice())?;
     text.push_str(" writes")?;
-    for (id, value) in ending.writes.as_slice() {
-        write!(text, " {}={}", id.number(), value.number)?;
-    }
+    describe_values(text, ending.writes.as_slice())?;
     text.push_str(" gives")?;
     for value in ending.gives.as_slice() {
         write!(text, " {}", value.number)?;
     }
     text.push_str("; ")
+}
+
+fn describe_values(text: &mut String, values: &[(RecordId, Value)]) -> Result<(), AllocError> {
+    for (id, value) in values {
+        write!(text, " {}={}", id.number(), value.number)?;
+    }
+    Ok(())
 }

@@ -11,14 +11,12 @@ ghost use Rattle.session_machine.specs.Progress.{progress_by};
 ghost use Rattle.session_machine.specs.refinement.Work.{code_of, begun_on, piece, work_of, ending_in, IsOver};
 
 use crate::code::Code;
-use crate::ended::ended;
-use crate::machine::{opened, tick_all};
+use crate::machine::opened;
 use crate::phase::Phase;
 use crate::progress::Progress;
 use session_language::{Ending, RecordValues};
 use std::alloc::{AllocError, Global};
 use std::marker::Model;
-use std::mem;
 
 /// Work on a session.
 #[derive(Drop)]
@@ -59,22 +57,12 @@ impl Work {
         ensures work { (p : ProgramValue) (reads : List (ℕ × bottle.Value)) (k : ℕ) → code.now ≡ code_of p → self.old ≡ work_of p reads k → self.new ≡ work_of p reads (k + n) }
         ensures progress { (p : ProgramValue) (reads : List (ℕ × bottle.Value)) (k : ℕ) → HasRoom p → code.now ≡ code_of p → self.old ≡ work_of p reads k → result ≡ progress_by (ending_after p reads (k + n)) }
     {
-        match mem::replace(&mut self.phase, Phase::Moved) {
-            Phase::AtWork(reads, mut state) => match tick_all(&mut state, code.lines(), n) {
-                None => {
-                    self.phase = Phase::AtWork(reads, state);
-                    Progress::Running
-                }
-                Some(end) => {
-                    self.phase = Phase::Over(ended(self.alloc, end, reads, state.environment));
-                    Progress::Ended
-                }
-            },
-            Phase::Over(ending) => {
-                self.phase = Phase::Over(ending);
-                Progress::Ended
+        match self.phase.advance(code, n) {
+            None => self.phase.progress(),
+            Some(end) => {
+                self.phase.close(self.alloc, end);
+                self.phase.progress()
             }
-            Phase::Moved => Progress::Running,
         }
     }
 

@@ -18,6 +18,9 @@ const SESSIONS: u32 = 2_000;
 /// More than the sum of any drawn session's cost.
 const MOST_PIECES: u32 = 100_000;
 
+/// Sizes of pieces are below one of these.
+static MOST_AT_ONCE: [u32; 3] = [2, 10, 1_000];
+
 /// How many of the sessions ended in each way.
 #[derive(Drop)]
 struct Seen {
@@ -32,32 +35,28 @@ struct Seen {
 #[test]
 fn drawn_sessions_end_as_their_walk(rt: HostRuntime) -> Result<(), Fail> {
     let plan = Plan::read(rt.alloc(), PLAN.as_bytes())?;
-    let mut seen = Seen {
-        done: 0,
-        refused: 0,
-        overflows: [0; 10],
-        deepest: [0; 9],
-    };
+    let mut seen = Seen::nothing();
     for seed in 0..SESSIONS {
-        let mut draws = Draws::from_seed(seed);
-        let text = session(rt.alloc(), &mut draws, seed % 4 * 2 + 1)?;
-        let programs = read_sessions(rt.alloc(), text.as_bytes(), &plan)?;
-        assert_eq!(rt; programs.len(), 1, "of {text}");
-        for program in &programs {
-            agrees(&rt, rt.alloc(), &mut draws, &mut seen, program)?;
-        }
+        drawn_session_agrees(&rt, rt.alloc(), &plan, &mut seen, seed)?;
     }
-    assert!(rt; seen.done > 0 && seen.refused > 0);
-    assert!(rt;
-        seen.overflows.iter().all(|count| *count > 0),
-        "{:?}",
-        seen.overflows
-    );
-    assert!(rt;
-        seen.deepest.iter().all(|count| *count > 0),
-        "{:?}",
-        seen.deepest
-    );
+    seen.each_way(&rt);
+    Ok(())
+}
+
+fn drawn_session_agrees(
+    rt: &impl Abort,
+    alloc: Global,
+    plan: &Plan,
+    seen: &mut Seen,
+    seed: u32,
+) -> Result<(), Fail> {
+    let mut draws = Draws::from_seed(seed);
+    let text = session(alloc, &mut draws, seed % 4 * 2 + 1)?;
+    let programs = read_sessions(alloc, text.as_bytes(), plan)?;
+    assert_eq!(rt; programs.len(), 1, "of {text}");
+    for program in &programs {
+        agrees(rt, alloc, &mut draws, seen, program)?;
+    }
     Ok(())
 }
 
@@ -69,30 +68,44 @@ fn agrees(
     seen: &mut Seen,
     program: &Program,
 ) -> Result<(), AllocError> {
-    let mut reads = RecordValues::new(alloc);
-    for id in program.needs() {
-        let number = draws.number();
-        reads.push(*id, Value { number })?;
-    }
+    let reads = drawn_reads(alloc, draws, program)?;
     let mut walk = Walk::of(alloc, program.variables().len(), &reads)?;
     let end = walk.session(program.tree())?;
     seen.note(&walk, end);
     let code = Code::of(alloc, program)?;
     let mut work = Work::begin(alloc, &code, reads.copy(alloc)?)?;
-    let seed = draws.seed;
-    let most = [2, 10, 1_000][draws.below(3) as usize];
+    in_pieces(rt, draws, &mut work, &code, walk.count);
+    ends_as(rt, alloc, work, draws.seed, end, &reads, &walk)
+}
+
+/// Drawn values of the records that a program needs.
+fn drawn_reads(
+    alloc: Global,
+    draws: &mut Draws,
+    program: &Program,
+) -> Result<RecordValues, AllocError> {
+    let mut reads = RecordValues::new(alloc);
+    for id in program.needs() {
+        let number = draws.number();
+        reads.push(*id, Value { number })?;
+    }
+    Ok(reads)
+}
+
+/// Work runs as long as its pieces are less than this together.
+fn in_pieces(rt: &impl Abort, draws: &mut Draws, work: &mut Work, code: &Code, length: u32) {
+    let most = MOST_AT_ONCE[draws.below(3) as usize];
     let mut sum = 0u32;
     for _ in 0..MOST_PIECES {
         let size = draws.below(most);
         sum = sum.saturating_add(size);
-        let is_running = matches!(work.step(&code, size), Progress::Running);
-        assert_eq!(rt; is_running, sum < walk.count, "of seed {seed}");
+        let is_running = matches!(work.step(code, size), Progress::Running);
+        assert_eq!(rt; is_running, sum < length, "of seed {}", draws.seed);
         if !is_running {
-            return ends_as(rt, alloc, work, seed, end, &reads, &walk);
+            return;
         }
     }
     assert!(rt; false, "not ended");
-    Ok(())
 }
 
 fn ends_as(
@@ -124,7 +137,7 @@ fn ends_as(
                 ))?;
             }
         }
-        for number in &walk.gives {
+        for number in &walk.given {
             gives.push(Value { number: *number })?;
         }
     }
@@ -138,6 +151,30 @@ fn ends_as(
 }
 
 impl Seen {
+    fn nothing() -> Seen {
+        Seen {
+            done: 0,
+            refused: 0,
+            overflows: [0; 10],
+            deepest: [0; 9],
+        }
+    }
+
+    /// Each way to end was seen, and each number of blocks that are open at once.
+    fn each_way(&self, rt: &impl Abort) {
+        assert!(rt; self.done > 0 && self.refused > 0);
+        assert!(rt;
+            self.overflows.iter().all(|count| *count > 0),
+            "{:?}",
+            self.overflows
+        );
+        assert!(rt;
+            self.deepest.iter().all(|count| *count > 0),
+            "{:?}",
+            self.deepest
+        );
+    }
+
     fn note(&mut self, walk: &Walk, end: End) {
         let statement = match walk.doing {
             Doing::Let => 0,

@@ -20,6 +20,12 @@ const COST_TO_CLOSE: u32 = 4_000;
 
 const LINES_TO_CLOSE: u32 = 40;
 
+static RECORDS: [&str; 2] = ["x", "y"];
+
+static COMPARISONS: [&str; 6] = ["==", "!=", "<", "<=", ">", ">="];
+
+static OPERATORS: [&str; 3] = ["+", "-", "*"];
+
 /// Numbers that are drawn from a seed.
 #[derive(Drop)]
 pub struct Draws {
@@ -108,20 +114,24 @@ impl Sketch {
         match kind {
             15 => self.closes(),
             14 => self.turns_over(),
-            12 | 13 => {
-                write!(self.text, "require ")?;
-                self.condition(draws)?;
-                write!(self.text, " else {}\n", draws.below(65_536))
-            }
+            12 | 13 => self.asks(draws),
             10 | 11 => self.gives(draws),
-            8 | 9 => {
-                let record = ["x", "y"][draws.below(2) as usize];
-                write!(self.text, "set {record} = ")?;
-                self.expression(draws)?;
-                self.text.push('\n')
-            }
+            8 | 9 => self.sets(draws),
             _ => self.lets(draws),
         }
+    }
+
+    fn asks(&mut self, draws: &mut Draws) -> Result<(), AllocError> {
+        self.text.push_str("require ")?;
+        self.condition(draws)?;
+        write!(self.text, " else {}\n", draws.below(65_536))
+    }
+
+    fn sets(&mut self, draws: &mut Draws) -> Result<(), AllocError> {
+        let record = RECORDS[draws.below(2) as usize];
+        write!(self.text, "set {record} = ")?;
+        self.expression(draws)?;
+        self.text.push('\n')
     }
 
     fn lets(&mut self, draws: &mut Draws) -> Result<(), AllocError> {
@@ -193,7 +203,7 @@ impl Sketch {
 
     fn condition(&mut self, draws: &mut Draws) -> Result<(), AllocError> {
         self.expression(draws)?;
-        let comparison = ["==", "!=", "<", "<=", ">", ">="][draws.below(6) as usize];
+        let comparison = COMPARISONS[draws.below(6) as usize];
         write!(self.text, " {comparison} ")?;
         self.expression(draws)
     }
@@ -207,7 +217,7 @@ impl Sketch {
     }
 
     fn operator(&mut self, draws: &mut Draws) -> Result<(), AllocError> {
-        let operator = ["+", "-", "*"][draws.below(3) as usize];
+        let operator = OPERATORS[draws.below(3) as usize];
         write!(self.text, " {operator} ")
     }
 

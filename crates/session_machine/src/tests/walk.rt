@@ -22,7 +22,7 @@ pub struct Walk {
     alloc: Global,
     pub kept: Vec<Kept>,
     variables: Vec<i64>,
-    pub gives: Vec<i64>,
+    pub given: Vec<i64>,
     pub count: u32,
     /// Blocks that are open, and the most that ever were.
     pub open: u32,
@@ -75,7 +75,7 @@ impl Walk {
             alloc,
             kept,
             variables: vec![in alloc; 0i64; variables]?,
-            gives: Vec::new(alloc),
+            given: Vec::new(alloc),
             count: 0,
             open: 0,
             deepest: 0,
@@ -120,64 +120,80 @@ impl Walk {
     #[cycle(walk)]
     fn statement(&mut self, statement: &Statement) -> Result<(), Halt> {
         match statement {
-            Statement::Let(place, e) => {
-                self.doing = Doing::Let;
-                let number = self.value(e)?;
-                self.counts();
-                if let Some(variable) = self.variables.get_mut(usize::from(*place)) {
-                    *variable = number;
-                }
-                Ok(())
-            }
-            Statement::Set(id, e) => {
-                self.doing = Doing::Set;
-                let number = self.value(e)?;
-                self.counts();
-                self.set(*id, number);
-                Ok(())
-            }
-            Statement::Give(e) => {
-                self.doing = Doing::Give;
-                let number = self.value(e)?;
-                self.counts();
-                self.gives.push(number)?;
-                Ok(())
-            }
-            Statement::Require(c, code) => {
-                self.doing = Doing::Require;
-                let holds = self.holds(c)?;
-                self.counts();
-                if holds {
-                    Ok(())
-                } else {
-                    Err(Halt::Ended(End::Refused(*code)))
-                }
-            }
+            Statement::Let(place, e) => self.lets(*place, e),
+            Statement::Set(id, e) => self.sets(*id, e),
+            Statement::Give(e) => self.gives(e),
+            Statement::Require(c, code) => self.asks(c, *code),
             Statement::If(c, body) => {
-                self.doing = Doing::If;
-                let holds = self.holds(c)?;
-                self.counts();
-                if holds { self.inner(body) } else { Ok(()) }
+                if self.tests(Doing::If, c)? {
+                    self.inner(body)
+                } else {
+                    Ok(())
+                }
             }
             Statement::IfElse(c, first, second) => {
-                self.doing = Doing::If;
-                let holds = self.holds(c)?;
-                self.counts();
-                if holds {
+                if self.tests(Doing::If, c)? {
                     self.inner(first)
                 } else {
                     self.inner(second)
                 }
             }
-            Statement::Repeat(turns, body) => {
-                for _ in 0..*turns {
-                    self.counts();
-                    self.inner(body)?;
-                }
-                self.counts();
-                Ok(())
-            }
+            Statement::Repeat(turns, body) => self.turns(*turns, body),
         }
+    }
+
+    #[cycle(walk)]
+    fn turns(&mut self, turns: u16, body: &[Statement]) -> Result<(), Halt> {
+        for _ in 0..turns {
+            self.counts();
+            self.inner(body)?;
+        }
+        self.counts();
+        Ok(())
+    }
+
+    fn lets(&mut self, place: u8, e: &Expression) -> Result<(), Halt> {
+        let number = self.uses(Doing::Let, e)?;
+        if let Some(variable) = self.variables.get_mut(usize::from(place)) {
+            *variable = number;
+        }
+        Ok(())
+    }
+
+    fn sets(&mut self, id: RecordId, e: &Expression) -> Result<(), Halt> {
+        let number = self.uses(Doing::Set, e)?;
+        self.set(id, number);
+        Ok(())
+    }
+
+    fn gives(&mut self, e: &Expression) -> Result<(), Halt> {
+        let number = self.uses(Doing::Give, e)?;
+        self.given.push(number)?;
+        Ok(())
+    }
+
+    fn asks(&mut self, c: &Condition, code: u16) -> Result<(), Halt> {
+        if self.tests(Doing::Require, c)? {
+            Ok(())
+        } else {
+            Err(Halt::Ended(End::Refused(code)))
+        }
+    }
+
+    /// The value that a statement uses.
+    fn uses(&mut self, doing: Doing, e: &Expression) -> Result<i64, Halt> {
+        self.doing = doing;
+        let number = self.value(e)?;
+        self.counts();
+        Ok(number)
+    }
+
+    /// Whether a statement's condition holds.
+    fn tests(&mut self, doing: Doing, c: &Condition) -> Result<bool, Halt> {
+        self.doing = doing;
+        let holds = self.holds(c)?;
+        self.counts();
+        Ok(holds)
     }
 
     fn set(&mut self, id: RecordId, number: i64) {
@@ -213,28 +229,29 @@ impl Walk {
         })
     }
 
+    /// What a node makes of the numbers before it.
+    fn result(&self, node: &Node, numbers: &mut Vec<i64>) -> i128 {
+        match *node {
+            Node::Literal(value) => i128::from(value.number),
+            Node::Variable(place) => {
+                let number = self.variables.get(usize::from(place)).copied();
+                i128::from(number.unwrap_or(0))
+            }
+            Node::Read(id) => i128::from(self.number_of(id)),
+            Node::Negate => 0i128.wrapping_sub(last(numbers)),
+            Node::Apply(operator) => {
+                let right = last(numbers);
+                let left = last(numbers);
+                applied(operator, left, right)
+            }
+        }
+    }
+
     fn value(&mut self, e: &Expression) -> Result<i64, Halt> {
         let mut numbers: Vec<i64> = Vec::new(self.alloc);
         for node in e.nodes() {
             self.counts();
-            let number = match node {
-                Node::Literal(value) => i128::from(value.number),
-                Node::Variable(place) => {
-                    let number = self.variables.get(usize::from(*place)).copied();
-                    i128::from(number.unwrap_or(0))
-                }
-                Node::Read(id) => i128::from(self.number_of(*id)),
-                Node::Negate => 0i128.wrapping_sub(last(&mut numbers)),
-                Node::Apply(operator) => {
-                    let right = last(&mut numbers);
-                    let left = last(&mut numbers);
-                    match operator {
-                        Operator::Plus => left.wrapping_add(right),
-                        Operator::Minus => left.wrapping_sub(right),
-                        Operator::Times => left.wrapping_mul(right),
-                    }
-                }
-            };
+            let number = self.result(node, &mut numbers);
             self.at_minus = matches!(node, Node::Negate);
             let Ok(number) = i64::try_from(number) else {
                 return Err(Halt::Ended(End::Overflow));
@@ -242,6 +259,14 @@ impl Walk {
             numbers.push(number)?;
         }
         Ok(numbers.pop().unwrap_or(0))
+    }
+}
+
+fn applied(operator: Operator, left: i128, right: i128) -> i128 {
+    match operator {
+        Operator::Plus => left.wrapping_add(right),
+        Operator::Minus => left.wrapping_sub(right),
+        Operator::Times => left.wrapping_mul(right),
     }
 }
 
