@@ -4,6 +4,7 @@ ghost use Rattle.std.specs.Prelude.{◌≡◌, ◌<◌, ◌+◌, ◌^◌, ◌↔
 ghost use Rattle.std.specs.Option.{option_copied};
 ghost use Rattle.bottle_values.specs.declared.Value as bottle;
 ghost use Rattle.session_meaning.specs.ProgramValue.{ProgramValue};
+ghost use Rattle.site_core.specs.declared.agenda.Phase.TheVariants as phases;
 ghost use Rattle.site_core.specs.Agenda as sessions;
 ghost use Rattle.site_core.specs.Agenda.{empty, is_full, submitted, first_needs, started, gathering, begun, may_work, worked, ending_of, writes_of, with_current, finished};
 ghost use Rattle.session_meaning.specs.Needs.{needs_of};
@@ -147,9 +148,8 @@ impl Agenda {
         };
         let code = Code::of(alloc, &session.program)?;
         let work = Work::begin(alloc, &code, reads)?;
-        if let Phase::Gathering(session) = mem::replace(&mut self.current, Phase::Idle) {
-            self.current = Phase::Working(session, code, work);
-        }
+        let gathering = mem::replace(&mut self.current, Phase::Idle);
+        self.current = working(gathering, code, work);
         Ok(())
     }
 
@@ -217,5 +217,15 @@ impl Agenda {
                 });
             }
         }
+    }
+}
+
+/// A session that waited for its bottles works, by this code.
+fn working(phase: Phase, code: Code, work: Work) -> Phase
+    ensures { (s : Session) → phase ≡ phases.Gathering s → result ≡ phases.Working s code work }
+{
+    match phase {
+        Phase::Gathering(session) => Phase::Working(session, code, work),
+        other => other,
     }
 }
