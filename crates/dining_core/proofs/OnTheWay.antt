@@ -9,7 +9,7 @@ use Rattle.bottle_values.specs.Lists.{num}
 use Rattle.bottle_values.proofs.Maps.{put_cases, put_at, put_other, put_same}
 
 -- both are the same, or not
-cases_two : (x a y v : ℕ) → ((x ≡ a) × (y ≡ v)) ⊎ ((x ≡ a) × (y ≡ v) → ⊥)
+pub cases_two : (x a y v : ℕ) → ((x ≡ a) × (y ≡ v)) ⊎ ((x ≡ a) × (y ≡ v) → ⊥)
 cases_two x a y v = ⊎_elim
     (λ e. ⊎_elim (λ i. inl (e, i)) (λ ne. inr (λ h. ne h.1)) (cases_eq y v))
     (λ ne. inr (λ h. ne h.0))

@@ -96,7 +96,7 @@ length_left zero ms h = omega arith
 length_left (suc k) [] h = absurd (omega (arith, h))
 length_left (suc k) (m ∷ ms) h = omega (arith, length_left k ms (omega (arith, h)))
 
-known_used : (s : Sending) (count : ℕ) → count ≤ used s → used (acknowledged s count) ≡ used s
+pub known_used : (s : Sending) (count : ℕ) → count ≤ used s → used (acknowledged s count) ≡ used s
 known_used s count h = ⊎_elim
     (λ lt. grind (arith, length_left (count - s.acked) s.waiting (omega (arith, h)), lt))
     (λ ge. grind (arith, ge))

@@ -23,8 +23,8 @@ among_those p n k lt e =
     let same : 0 + k ≡ k = omega arith in
     any-filter_same (λ x. x == k) p true (λ x h. ap p (eqb-true x k h) ∙ e) (range_with_len 0 n) ∙ ap (λ j. list_any (λ x. x == j) (range_with_len 0 n)) (sym same) ∙ in_range 0 n k lt
 
-there : (p : PlanValue) (r office : ℕ) → is_end p r office ≡ true → r < length p.records
-there p r office e = go p.records r e
+pub end_within : (p : PlanValue) (r office : ℕ) → is_end p r office ≡ true → r < length p.records
+end_within p r office e = go p.records r e
   where
     go : (xs : List RecordEntry) (k : ℕ) → option_map_or (λ e. has_end e office) (slice_get xs k) false ≡ true → k < length xs
     go [] k h = absurd cc
@@ -32,7 +32,7 @@ there p r office e = go p.records r e
     go (x ∷ xs) (suc k) h = omega (arith, go xs k h)
 
 pub among_records : (p : PlanValue) (me r : ℕ) → is_end p r me ≡ true → is_among (records_of p me) r ≡ true
-among_records p me r e = among_those (λ q. is_end p q me) (length p.records) r (there p r me e) e
+among_records p me r e = among_those (λ q. is_end p q me) (length p.records) r (end_within p r me e) e
 
 pub among_neighbours : (p : PlanValue) (me v : ℕ) → IsConsistent p → are_neighbours p me v ≡ true → is_among (neighbours_of p me) v ≡ true
 among_neighbours p me v h e = among_those (are_neighbours p me) (length p.offices) v (near_within p me v h e) e

@@ -31,7 +31,7 @@ get-push [] x y (suc k) e = absurd cc
 get-push (z ∷ xs) x y zero e = inl e
 get-push (z ∷ xs) x y (suc k) e = get-push xs x y k e
 
-get-drop : {X : Type 0} (xs : List X) (n k : ℕ) → slice_get (drop n xs) k ≡ slice_get xs (n + k)
+pub get-drop : {X : Type 0} (xs : List X) (n k : ℕ) → slice_get (drop n xs) k ≡ slice_get xs (n + k)
 get-drop xs zero k = let e : k ≡ 0 + k = omega arith in ap (slice_get xs) e
 get-drop [] (suc n) k = refl
 get-drop (x ∷ xs) (suc n) k = let e : suc (n + k) ≡ suc n + k = omega arith in get-drop xs n k ∙ ap (slice_get (x ∷ xs)) e

@@ -1,0 +1,13 @@
+mod Steps
+mod Answers
+mod OneLink
+mod Links
+mod WaysBetween
+mod TablesFollow
+mod BarsFollow
+mod Following
+mod PlacesAndForks
+mod Sessions
+mod SerialRun
+mod SerialSessions
+mod HeadlineLaws

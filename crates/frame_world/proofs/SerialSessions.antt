@@ -1,0 +1,343 @@
+-- Over every list of events the finished sessions are a serial run, and each bottle has its value.
+use Rattle.std.proofs.Common.{◌≡◌, ℕ, ◌+◌, ◌<◌, Bool, true, false, cond, List, [], ◌∷◌, ◌++◌, length, map, Option, None, Some, Ok, refl, sym, ap, subst, ◌∙◌, ⊎_elim, append_assoc, append-nil}
+use Rattle.std.specs.Prelude.{nat_lt, slice_get, ◌==◌, ◌&&◌, is_some, unwrap_or, option_map, pos}
+use Rattle.std.proofs.lemmas.Bool.{and_parts, eqb-true}
+use Rattle.std.proofs.lemmas.List.{map_push}
+use Rattle.std.proofs.lemmas.Option.{get_or_from_slice_get, slice_get-map}
+use Rattle.bottle_values.specs.declared.Value.{Value}
+use Rattle.bottle_values.specs.Arithmetic.{nought}
+use Rattle.bottle_values.specs.Lists.{is_among}
+use Rattle.bottle_values.specs.Maps.{put, write_all}
+use Rattle.bottle_values.proofs.Maps.{put_cases}
+use Rattle.office_map.specs.declared.entries.RecordEntry.{RecordEntry}
+use Rattle.office_map.specs.PlanValue.{PlanValue, peer, records_of, start_end, start_values}
+use Rattle.office_map.proofs.RecordEnds.{entry_of}
+use Rattle.session_meaning.specs.declared.ending.Ending.{Ending}
+use Rattle.session_meaning.specs.declared.ending.Outcome.{Outcome}
+use Rattle.session_meaning.specs.ProgramValue.{ProgramValue}
+use Rattle.session_meaning.specs.Meaning.{alone}
+use Rattle.session_meaning.specs.Length.{length_on}
+use Rattle.session_meaning.specs.Laws.{WritesWhatItHas}
+use Rattle.session_machine.specs.Pieces.{ending_after}
+use Rattle.serial_replay.specs.Serial.{start_map, ending_on, map_after, map_of, ticket_of, outcomes_of}
+use Rattle.drinking_core.specs.Drinkers.{Drinker, is_drinking, holds, value_after}
+use Rattle.drinking_core.specs.Drinkers as bottles
+use Rattle.drinking_core.specs.Worlds as bars
+use Rattle.frame_codec.specs.declared.message.Msg.{Msg}
+use Rattle.frame_codec.specs.declared.message.Msg.TheVariants as msg
+use Rattle.site_core.specs.declared.session.Session.{Session}
+use Rattle.site_core.specs.declared.rule.Rule.{Rule}
+use Rattle.site_core.specs.declared.rule.Rule.TheVariants as rule
+use Rattle.site_core.specs.declared.event.Event as office
+use Rattle.site_core.specs.declared.event.Event.TheVariants as event
+use Rattle.site_core.specs.declared.reply.Reply.{Reply}
+use Rattle.site_core.specs.Pairs.{arrival_of}
+use Rattle.site_core.specs.Agenda.{Agenda, Current, Idle, Gathering, Working, first_needs, started, begun, worked, writes_of}
+use Rattle.site_core.specs.Offices.{Office, may, act, value_in, answer}
+use Rattle.site_core.proofs.PlanFacts.{end_within}
+use Rattle.frame_world.specs.declared.event.WorldEvent.{WorldEvent}
+use Rattle.frame_world.specs.Worlds.{Finished, opening, run_of, ended_as, ended, finished_by}
+use Rattle.frame_world.specs.Ways.{bars_of}
+use Rattle.frame_world.specs.refinement.PartsLaws.{PartsLaws}
+use Rattle.frame_world.proofs.Steps.{State, state_of, starting, after_reply, IsAccepted, through}
+use Rattle.frame_world.proofs.Answers.{rule_step, step_of, was_submitted, was_done, was_sent, was_taken}
+use Rattle.frame_world.proofs.OneLink.{brought}
+use Rattle.frame_world.proofs.BarsFollow.{bottle_coming, bottle_event, bars_then}
+use Rattle.frame_world.proofs.Following.{pairs_in, Follows, pairs_after, moves_on, follows_on, starts}
+use Rattle.frame_world.proofs.PlacesAndForks.{all_at}
+use Rattle.frame_world.proofs.Sessions.{IsCurrent, IsAtWork, IsSane, needs, sane_on, sane_at_start, agree_reads, needs_are_ours, not_true}
+use Rattle.frame_world.proofs.SerialRun as serial
+
+abbrev pub programs_of : List Finished → List ProgramValue
+programs_of fs = map (λ (f : Finished). f.program) fs
+
+abbrev pub outcomes_in : List Finished → List Outcome
+outcomes_in fs = map (λ (f : Finished). f.outcome) fs
+
+-- the values after the finished sessions
+abbrev pub values_after : PlanValue → List Finished → ℕ → Value
+values_after plan fs = map_of (start_map plan) (programs_of fs)
+
+-- the current session and those that wait
+abbrev at_hand : Current → List Session
+at_hand Idle = []
+at_hand (Gathering s) = s ∷ []
+at_hand (Working s reads done) = s ∷ []
+
+abbrev pub sessions_in : Agenda → List Session
+sessions_in a = at_hand a.current ++ a.queue
+
+abbrev HasTickets : ℕ → ℕ → Agenda → Type 0
+HasTickets a n g = serial.Ticketed a n (sessions_in g) g.tickets
+
+pub record IsSerial (plan : PlanValue) (s : State) : Type 0 where
+  pub values : (r : ℕ) → r < length plan.records → bars.HasValue (bars_of (pairs_in s)) r (values_after plan s.finished r)
+  pub outcomes : outcomes_in s.finished ≡ outcomes_of (start_map plan) (programs_of s.finished)
+  pub tickets : (a : ℕ) → HasTickets a (serial.count_at a (programs_of s.finished)) (s.office a).agenda
+
+-- ---- events that finish nothing
+
+-- no end of a session
+abbrev IsNoEnd : Option bars.Event → Type 0
+IsNoEnd None = Unit {0}
+IsNoEnd (Some e) = (plan : PlanValue) (w : bars.World) → bars.finishes plan w e ≡ false
+
+values_stay : (plan : PlanValue) (w w' : bars.World) (e : Option bars.Event) (r : ℕ) (v : Value) → bars.ValuesStay → IsNoEnd e → w' ≡ bars_then plan w e → bars.HasValue w r v → bars.HasValue w' r v
+values_stay plan w w' None r v law none is h = subst (λ k. bars.HasValue k r v) (sym is) h
+values_stay plan w w' (Some e) r v law none is h = subst (λ k. bars.HasValue k r v) (sym is) (law plan w e r v (none plan w) h)
+
+nothing_ends : (a u : ℕ) (m : Option Msg) → IsNoEnd (bottle_coming a u m)
+nothing_ends a u None = tt
+nothing_ends a u (Some msg.AskFork) = tt
+nothing_ends a u (Some msg.Fork) = tt
+nothing_ends a u (Some (msg.AskBottle r)) = λ plan w. refl
+nothing_ends a u (Some (msg.Bottle r x)) = λ plan w. refl
+
+-- the world goes on, where nothing finished and an office's sessions stay in order
+goes_on : (plan : PlanValue) (s s' : State) (a : ℕ) (e : office.Event) (r : Reply) (o : Office) (ev : Option bars.Event) → bars.ValuesStay → s' ≡ after_reply s a e r o → finished_by a (s.office a).agenda.current e ≡ [] →
+    ((n : ℕ) → HasTickets a n (s.office a).agenda → HasTickets a n o.agenda) → IsNoEnd ev → bars_of (pairs_in s') ≡ bars_then plan (bars_of (pairs_in s)) ev → IsSerial plan s → IsSerial plan s'
+goes_on plan s s' a e r o ev law led none tickets no_end bar_is h = record {
+  values = λ q lt. subst (λ fs. bars.HasValue (bars_of (pairs_in s')) q (values_after plan fs q)) (sym same) (values_stay plan (bars_of (pairs_in s)) (bars_of (pairs_in s')) ev q (values_after plan s.finished q) law no_end bar_is (h.values q lt));
+  outcomes = subst (λ fs. outcomes_in fs ≡ outcomes_of (start_map plan) (programs_of fs)) (sym same) h.outcomes;
+  tickets = λ x. subst (λ fs. HasTickets x (serial.count_at x (programs_of fs)) (s'.office x).agenda) (sym same)
+      (subst (λ (f : ℕ → Office). HasTickets x (serial.count_at x (programs_of s.finished)) (f x).agenda) (sym (ap (λ (k : State). k.office) led))
+      (put_cases s.office a o x (λ (k : Office). HasTickets x (serial.count_at x (programs_of s.finished)) k.agenda)
+      (λ i. subst (λ k. HasTickets k (serial.count_at k (programs_of s.finished)) o.agenda) (sym i) (tickets (serial.count_at a (programs_of s.finished)) (h.tickets a)))
+      (λ ne. h.tickets x)));
+}
+  where
+    same : s'.finished ≡ s.finished
+    same = ap (λ (k : State). k.finished) led ∙ ap (λ l. s.finished ++ l) none ∙ append-nil s.finished
+
+-- ---- the end of a session
+
+-- what an office has held, whoever has a value there
+held_value : (w : bars.World) (a r : ℕ) (v : Value) → bars.HasValue w r v → holds (w.drinker a) r ≡ true → (w.drinker a).bottle r ≡ Some v
+held_value w a r v h e = go (bars.is_with h.spot a) (h.at.here a)
+  where
+    go : (b : Bool) → (w.drinker a).bottle r ≡ cond b (Some v) None → (w.drinker a).bottle r ≡ Some v
+    go true is = is
+    go false is = absurd (not_true (holds (w.drinker a) r) e (ap is_some is))
+
+-- whose bottle the office has not
+not_here : (w : bars.World) (a r : ℕ) (v : Value) (h : bars.HasValue w r v) → bars.is_with h.spot a ≡ false → holds (w.drinker a) r ≡ false
+not_here w a r v h e = ap is_some (h.at.here a) ∙ ap (λ b. is_some (cond b (Some v) None)) e
+
+-- the serial run's next program is the one that an office finishes
+record IsNext (plan : PlanValue) (s : State) (a : ℕ) (x : Session) (reads : List (ℕ × Value)) (e : Ending) : Type 0 where
+  ending : e ≡ ending_on x.program (values_after plan s.finished)
+  needs_held : (r : ℕ) → is_among (needs x) r ≡ true → holds (pairs_in s a).drinker r ≡ true
+  office : x.program.office ≡ a
+
+is_next : (plan : PlanValue) (s : State) (a : ℕ) (x : Session) (reads : List (ℕ × Value)) (done : ℕ) (e : Ending) → IsSerial plan s → IsAtWork plan a x reads (pairs_in s a).drinker → ending_after x.program reads done ≡ Some e → IsNext plan s a x reads e
+is_next plan s a x reads done e h w is = record {
+  ending = told (nat_lt done (length_on x.program reads)) is ∙ ap (alone x.program) (w.values ∙ agree_reads (value_in (pairs_in s a).drinker) (values_after plan s.finished) (needs x) (λ r i. ap (λ o. unwrap_or o nought) (held_value (bars_of (pairs_in s)) a r (values_after plan s.finished r) (h.values r (inside r i)) (all_at (holds (pairs_in s a).drinker) (needs x) r w.held i))));
+  needs_held = λ r i. all_at (holds (pairs_in s a).drinker) (needs x) r w.held i;
+  office = eqb-true x.program.office a (and_parts (x.program.office == a) _ w.ours).0;
+}
+  where
+    inside : (r : ℕ) → is_among (needs x) r ≡ true → r < length plan.records
+    inside r i = end_within plan r a (needs_are_ours plan a x.program r w.ours i)
+
+    told : (b : Bool) → cond b None (Some (alone x.program reads)) ≡ Some e → e ≡ alone x.program reads
+    told true k = absurd cc
+    told false k = cc
+
+-- each bottle has the value of the serial run with that program
+values_written : (plan : PlanValue) (s : State) (a : ℕ) (x : Session) (reads : List (ℕ × Value)) (e : Ending) (w' : bars.World) (r : ℕ) → WritesWhatItHas → bars.FinishingWrites → IsNext plan s a x reads e →
+    bars.finishes plan (bars_of (pairs_in s)) (bars.Do a (bottles.Finish (Some e.writes))) ≡ true → w' ≡ bars.happens plan (bars_of (pairs_in s)) (bars.Do a (bottles.Finish (Some e.writes))) →
+    bars.HasValue (bars_of (pairs_in s)) r (values_after plan s.finished r) → bars.HasValue w' r (map_after x.program (values_after plan s.finished) r)
+values_written plan s a x reads e w' r wlaw flaw next fin is h =
+    record { spot = h.spot; at = subst (λ k. bars.IsBottleAt k r h.spot (map_after x.program m r)) (sym is) (subst (bars.IsBottleAt (bars.happens plan (bars_of (pairs_in s)) (bars.Do a (bottles.Finish (Some e.writes)))) r h.spot) (written (bars.is_with h.spot a) refl) (flaw plan (bars_of (pairs_in s)) a e.writes r h.spot (m r) fin h.at)) }
+  where
+    m : ℕ → Value
+    m = values_after plan s.finished
+
+    as_alone : write_all e.writes m r ≡ map_after x.program m r
+    as_alone = ap (λ (k : Ending). write_all k.writes m r) next.ending
+
+    written : (b : Bool) → bars.is_with h.spot a ≡ b → cond b (value_after e.writes r (m r)) (m r) ≡ map_after x.program m r
+    written true i = serial.write_same e.writes (λ q. m r) m r refl ∙ as_alone
+    written false i = ⊎_elim
+        (λ k. absurd (not_true (holds (pairs_in s a).drinker r) (next.needs_held r (serial.written_needed wlaw x.program m r k)) (not_here (bars_of (pairs_in s)) a r (m r) h i)))
+        sym
+        (serial.unwritten (ending_on x.program m).writes m r)
+
+-- what an office does by finishing
+module _ (plan : PlanValue) (s s' : State) (a : ℕ) (x : Session) (reads : List (ℕ × Value)) (done : ℕ) (e : Ending) (o : Office)
+    (laws : PartsLaws)
+    (h : IsSerial plan s)
+    (current : (s.office a).agenda.current ≡ Working x reads done)
+    (next : IsNext plan s a x reads e)
+    (offices : s'.office ≡ put s.office a o)
+    (finishes : s'.finished ≡ s.finished ++ record { program = x.program; outcome = record { office = a; ticket = x.ticket; ending = e } } ∷ [])
+    (agenda : (o.agenda.queue ≡ (s.office a).agenda.queue) × (o.agenda.tickets ≡ (s.office a).agenda.tickets) × (o.agenda.current ≡ Idle))
+    (fin : bars.finishes plan (bars_of (pairs_in s)) (bars.Do a (bottles.Finish (Some e.writes))) ≡ true)
+    (bar_is : bars_of (pairs_in s') ≡ bars.happens plan (bars_of (pairs_in s)) (bars.Do a (bottles.Finish (Some e.writes))))
+  where
+    abbrev f : Finished
+    f = record { program = x.program; outcome = record { office = a; ticket = x.ticket; ending = e } }
+
+    abbrev ps : List ProgramValue
+    ps = programs_of s.finished
+
+    order : programs_of s'.finished ≡ ps ++ x.program ∷ []
+    order = ap programs_of finishes ∙ map_push (λ (g : Finished). g.program) s.finished f
+
+    new_map : values_after plan s'.finished ≡ map_after x.program (values_after plan s.finished)
+    new_map = ap (map_of (start_map plan)) order ∙ serial.map_push_one (start_map plan) ps x.program
+
+    -- its ticket is the next one
+    ticketed : serial.Ticketed a (serial.count_at a ps) (x ∷ (s.office a).agenda.queue) (s.office a).agenda.tickets
+    ticketed = subst (λ c. serial.Ticketed a (serial.count_at a ps) (at_hand c ++ (s.office a).agenda.queue) (s.office a).agenda.tickets) current (h.tickets a)
+
+    outcome : f.outcome ≡ serial.outcome_of ps x.program (values_after plan s.finished)
+    outcome =
+        ap (λ k. record { office = k; ticket = x.ticket; ending = e }) (sym next.office)
+        ∙ ap (λ k. record { office = x.program.office; ticket = k; ending = e }) (ticketed.0 ∙ ap (λ k. serial.count_at k ps + 1) (sym next.office))
+        ∙ ap (λ k. record { office = x.program.office; ticket = ticket_of ps x.program; ending = k }) next.ending
+
+    finished_tickets : (y : ℕ) → HasTickets y (serial.count_at y (programs_of s'.finished)) (s'.office y).agenda
+    finished_tickets y =
+        subst (λ l. HasTickets y (serial.count_at y l) (s'.office y).agenda) (sym order)
+        (subst (λ (g : ℕ → Office). HasTickets y (serial.count_at y (ps ++ x.program ∷ [])) (g y).agenda) (sym offices)
+        (put_cases s.office a o y (λ (k : Office). HasTickets y (serial.count_at y (ps ++ x.program ∷ [])) k.agenda)
+        (λ i. subst (λ k. HasTickets k (serial.count_at k (ps ++ x.program ∷ [])) o.agenda) (sym i)
+        (subst (λ n. HasTickets a n o.agenda) (sym (serial.counted_here a ps x.program next.office))
+        (subst (λ c. serial.Ticketed a (serial.count_at a ps + 1) (at_hand c ++ o.agenda.queue) o.agenda.tickets) (sym agenda.2)
+        (subst (λ q. serial.Ticketed a (serial.count_at a ps + 1) q o.agenda.tickets) (sym agenda.0)
+        (subst (λ t. serial.Ticketed a (serial.count_at a ps + 1) (s.office a).agenda.queue t) (sym agenda.1) ticketed.2)))))
+        (λ ne. subst (λ n. HasTickets y n (s.office y).agenda) (sym (serial.counted_elsewhere y ps x.program (λ k. ne (sym k ∙ next.office)))) (h.tickets y))))
+
+    ends_session : IsSerial plan s'
+    ends_session = record {
+      values = λ r lt. subst (λ (m : ℕ → Value). bars.HasValue (bars_of (pairs_in s')) r (m r)) (sym new_map) (values_written plan s a x reads e (bars_of (pairs_in s')) r laws.written laws.finishing next fin bar_is (h.values r lt));
+      outcomes = ap outcomes_in finishes ∙ map_push (λ (g : Finished). g.outcome) s.finished f ∙ ap (λ l. l ++ f.outcome ∷ []) h.outcomes ∙ ap (λ k. outcomes_of (start_map plan) ps ++ k ∷ []) outcome
+          ∙ sym (serial.outcomes_push [] (start_map plan) ps x.program) ∙ ap (outcomes_of (start_map plan)) (sym order);
+      tickets = finished_tickets;
+    }
+
+-- ---- any event
+
+pub record IsKept (plan : PlanValue) (s : State) : Type 0 where
+  pub follows : Follows plan s
+  pub sane : (a : ℕ) → IsSane plan a (s.office a)
+  pub serial : IsSerial plan s
+
+-- an office's bar has the plan's records and other ends
+bar_records : (plan : PlanValue) (s : State) (a : ℕ) → bars.RecordsStay → Follows plan s → (pairs_in s a).drinker.records ≡ records_of plan a
+bar_records plan s a law h = subst (λ (w : bars.World). (w.drinker a).records ≡ records_of plan a) (sym h.bars.led) (law plan h.bars.events a)
+
+bar_peers : (plan : PlanValue) (s : State) (a : ℕ) → bars.PeersStay → Follows plan s → (r : ℕ) → (pairs_in s a).drinker.peer r ≡ peer plan a r
+bar_peers plan s a law h r = subst (λ (w : bars.World). (w.drinker a).peer r ≡ peer plan a r) (sym h.bars.led) (law plan h.bars.events a r)
+
+-- Start takes the first waiting session where none is current
+started_tickets : (plan : PlanValue) (a n : ℕ) (g : Agenda) (queue : List Session) (d : Drinker) → g.queue ≡ queue → (bottles.is_tranquil d.phase && is_some (first_needs queue)) ≡ true → IsCurrent plan a g.current d → HasTickets a n g → HasTickets a n (started g queue)
+started_tickets plan a n g [] d e may c h = h
+started_tickets plan a n g (x ∷ rest) d e may c h = subst (λ q. serial.Ticketed a n q g.tickets) (idle g.current c ∙ e) h
+  where
+    calm : bottles.is_tranquil d.phase ≡ true
+    calm = (and_parts (bottles.is_tranquil d.phase) true may).0
+
+    idle : (k : Current) → IsCurrent plan a k d → at_hand k ++ g.queue ≡ g.queue
+    idle Idle c = refl
+    idle (Gathering y) c = absurd (not_true (bottles.is_tranquil d.phase) calm (ap bottles.is_tranquil c.phase))
+    idle (Working y reads done) c = absurd (not_true (bottles.is_tranquil d.phase) calm (ap bottles.is_tranquil c.phase))
+
+begun_tickets : (a n : ℕ) (values : ℕ → Value) (c : Current) (queue : List Session) (t : ℕ) → serial.Ticketed a n (at_hand c ++ queue) t → serial.Ticketed a n (at_hand (begun values c) ++ queue) t
+begun_tickets a n values Idle queue t h = h
+begun_tickets a n values (Gathering x) queue t h = h
+begun_tickets a n values (Working x reads done) queue t h = h
+
+worked_tickets : (a n k : ℕ) (c : Current) (queue : List Session) (t : ℕ) → serial.Ticketed a n (at_hand c ++ queue) t → serial.Ticketed a n (at_hand (worked k c) ++ queue) t
+worked_tickets a n k Idle queue t h = h
+worked_tickets a n k (Gathering x) queue t h = h
+worked_tickets a n k (Working x reads done) queue t h = h
+
+-- an accepted Finish
+finishes_one : (plan : PlanValue) (s s' : State) (a : ℕ) (c : Current) (r : Reply) → PartsLaws → nat_lt a (length plan.offices) ≡ true → IsSerial plan s → (s.office a).agenda.current ≡ c → IsCurrent plan a c (pairs_in s a).drinker →
+    bottles.may (pairs_in s a).drinker (bottles.Finish (writes_of c)) ≡ true → s'.office ≡ put s.office a (act a (s.office a) rule.Finish) → s'.finished ≡ s.finished ++ ended a c →
+    bars_of (pairs_in s') ≡ bars.happens plan (bars_of (pairs_in s)) (bars.Do a (bottles.Finish (writes_of c))) → IsSerial plan s'
+finishes_one plan s s' a Idle r laws inside h current is may offices fin bar_is = absurd (not_true false (and_parts (is_drinking (pairs_in s a).drinker.phase) false may).1 refl)
+finishes_one plan s s' a (Gathering x) r laws inside h current is may offices fin bar_is = absurd (not_true false (and_parts (is_drinking (pairs_in s a).drinker.phase) false may).1 refl)
+finishes_one plan s s' a (Working x reads done) r laws inside h current is may offices fin bar_is = by (ending_after x.program reads done) refl may fin bar_is
+  where
+    writes : Option Ending → Option (List (ℕ × Value))
+    writes o = option_map (λ (e : Ending). e.writes) o
+
+    by : (o : Option Ending) → ending_after x.program reads done ≡ o → bottles.may (pairs_in s a).drinker (bottles.Finish (writes o)) ≡ true → s'.finished ≡ s.finished ++ ended_as a x o →
+        bars_of (pairs_in s') ≡ bars.happens plan (bars_of (pairs_in s)) (bars.Do a (bottles.Finish (writes o))) → IsSerial plan s'
+    by None is_o may fin bar_is = absurd (not_true false (and_parts (is_drinking (pairs_in s a).drinker.phase) false may).1 refl)
+    by (Some e) is_o may fin bar_is =
+        ends_session plan s s' a x reads done e (act a (s.office a) rule.Finish) laws h current (is_next plan s a x reads done e h is is_o) offices fin (refl, refl, refl)
+        (ap (λ b. b && bottles.may (pairs_in s a).drinker (bottles.Finish (Some e.writes))) inside ∙ may) bar_is
+
+-- of any accepted event
+serial_on : (plan : PlanValue) (s s' : State) → PartsLaws → IsKept plan s → IsAccepted plan s s' → IsSerial plan s'
+serial_on plan s s' laws k i = by i.event i.answered i.led (ap bars_of (pairs_after plan s s' i) ∙ (moves_on plan s s' i k.follows).bars)
+  where
+    a : ℕ
+    a = i.place
+
+    by : (e : office.Event) → answer plan i.place (s.office i.place) e ≡ Ok (i.reply, i.new) → s' ≡ after_reply s i.place e i.reply i.new → bars_of (pairs_in s') ≡ bars_then plan (bars_of (pairs_in s)) (bottle_event i.place (pairs_in s i.place) (step_of (s.office i.place) e)) → IsSerial plan s'
+    by (event.Submit p) ans led bar_is =
+        let t = was_submitted plan i.place (s.office i.place) p i.reply i.new ans in
+        goes_on plan s s' i.place (event.Submit p) i.reply i.new None laws.stay led refl
+        (λ n h. subst (λ (o : Office). HasTickets i.place n o.agenda) (sym t.after)
+        (subst (λ l. serial.Ticketed i.place n l ((s.office i.place).agenda.tickets + 1)) (append_assoc (at_hand (s.office i.place).agenda.current) (s.office i.place).agenda.queue (record { ticket = (s.office i.place).agenda.tickets + 1; program = p } ∷ []))
+        (serial.one_ticket_more i.place n (s.office i.place).agenda.tickets (sessions_in (s.office i.place).agenda) p (eqb-true p.office i.place (and_parts (p.office == i.place) _ t.ours).0) h)))
+        tt bar_is k.serial
+    by (event.Send v j) ans led bar_is =
+        let t = was_sent plan i.place (s.office i.place) v j i.reply i.new ans in
+        goes_on plan s s' i.place (event.Send v j) i.reply i.new None laws.stay led refl (λ n h. subst (λ (o : Office). HasTickets i.place n o.agenda) (sym t.after) h) tt bar_is k.serial
+    by (event.Took f) ans led bar_is =
+        let t = was_taken plan i.place (s.office i.place) f i.reply i.new ans in
+        goes_on plan s s' i.place (event.Took f) i.reply i.new (bottle_coming i.place f.from (brought (arrival_of (pairs_in s i.place) f))) laws.stay led refl
+        (λ n h. subst (λ (o : Office). HasTickets i.place n o.agenda) (sym t.after) h) (nothing_ends i.place f.from (brought (arrival_of (pairs_in s i.place) f))) bar_is k.serial
+    by (event.Do r) ans led bar_is = of r (was_done plan i.place (s.office i.place) r i.reply i.new ans).guard (was_done plan i.place (s.office i.place) r i.reply i.new ans).after led bar_is
+      where
+        quiet : (r : Rule) (ev : Option bars.Event) → i.new ≡ act i.place (s.office i.place) r → s' ≡ after_reply s i.place (event.Do r) i.reply i.new → finished_by i.place (s.office i.place).agenda.current (event.Do r) ≡ [] →
+            ((n : ℕ) → HasTickets i.place n (s.office i.place).agenda → HasTickets i.place n (act i.place (s.office i.place) r).agenda) → IsNoEnd ev → bars_of (pairs_in s') ≡ bars_then plan (bars_of (pairs_in s)) ev → IsSerial plan s'
+        quiet r ev after led none tickets no_end bar_is = goes_on plan s s' i.place (event.Do r) i.reply i.new ev laws.stay led none (λ n h. subst (λ (o : Office). HasTickets i.place n o.agenda) (sym after) (tickets n h)) no_end bar_is k.serial
+
+        of : (r : Rule) → may plan i.place (s.office i.place) r ≡ true → i.new ≡ act i.place (s.office i.place) r → s' ≡ after_reply s i.place (event.Do r) i.reply i.new → bars_of (pairs_in s') ≡ bars_then plan (bars_of (pairs_in s)) (bottle_event i.place (pairs_in s i.place) (rule_step (s.office i.place) r)) → IsSerial plan s'
+        of rule.Start g after led b = quiet rule.Start (Some (bars.Do i.place (bottles.Start (first_needs (s.office i.place).agenda.queue)))) after led refl (λ n h. started_tickets plan i.place n (s.office i.place).agenda (s.office i.place).agenda.queue (pairs_in s i.place).drinker refl g (k.sane i.place).current h) (λ p w. refl) b
+        of rule.Hungry g after led b = quiet rule.Hungry None after led refl (λ n h. h) tt b
+        of (rule.AskFork v) g after led b = quiet (rule.AskFork v) None after led refl (λ n h. h) tt b
+        of (rule.GiveFork v) g after led b = quiet (rule.GiveFork v) None after led refl (λ n h. h) tt b
+        of rule.Eat g after led b = quiet rule.Eat None after led refl (λ n h. h) tt b
+        of rule.Leave g after led b = quiet rule.Leave None after led refl (λ n h. h) tt b
+        of (rule.AskBottle r) g after led b = quiet (rule.AskBottle r) (Some (bars.Do i.place (bottles.AskBottle r))) after led refl (λ n h. h) (λ p w. refl) b
+        of (rule.GiveBottle r) g after led b = quiet (rule.GiveBottle r) (Some (bars.Do i.place (bottles.GiveBottle r (pairs_in s i.place).diner.held))) after led refl (λ n h. h) (λ p w. refl) b
+        of rule.Drink g after led b = quiet rule.Drink (Some (bars.Do i.place bottles.Drink)) after led refl (λ n h. begun_tickets i.place n (value_in (pairs_in s i.place).drinker) (s.office i.place).agenda.current (s.office i.place).agenda.queue (s.office i.place).agenda.tickets h) (λ p w. refl) b
+        of (rule.Work n) g after led b = quiet (rule.Work n) None after led refl (λ m h. worked_tickets i.place m n (s.office i.place).agenda.current (s.office i.place).agenda.queue (s.office i.place).agenda.tickets h) tt b
+        of rule.Finish g after led b =
+            finishes_one plan s s' i.place (s.office i.place).agenda.current i.reply laws i.inside k.serial refl (k.sane i.place).current g
+            (ap (λ (x : State). x.office) led ∙ ap (put s.office i.place) after) (ap (λ (x : State). x.finished) led) b
+
+kept_on : (plan : PlanValue) → PartsLaws → (s s' : State) → IsKept plan s → IsAccepted plan s s' → IsKept plan s'
+kept_on plan laws s s' k i = record {
+  follows = follows_on plan s s' k.follows i;
+  sane = λ x. subst (λ (f : ℕ → Office). IsSane plan x (f x)) (sym (ap (λ (y : State). y.office) i.led))
+      (put_cases s.office i.place i.new x (λ (o : Office). IsSane plan x o)
+      (λ e. subst (λ y. IsSane plan y i.new) (sym e) (sane_on plan i.place (s.office i.place) i.event i.reply i.new laws.away (bar_records plan s i.place laws.records k.follows) (bar_peers plan s i.place laws.peers k.follows) i.answered (k.sane i.place)))
+      (λ ne. k.sane x));
+  serial = serial_on plan s s' laws k i;
+}
+
+-- the bottles start with the plan's values
+first_values : (plan : PlanValue) (r : ℕ) → bars.BottlesStartWithTheirValues → r < length plan.records → bars.HasValue (bars.opening plan) r (start_map plan r)
+first_values plan r law lt =
+    let e = entry_of plan r lt in
+    let there : slice_get (start_values plan) r ≡ Some e.0.value = slice_get-map (λ (x : RecordEntry). x.value) plan.records r ∙ ap (option_map (λ (x : RecordEntry). x.value)) e.1 in
+    record { spot = bars.With (start_end e.0); at = subst (bars.IsBottleAt (bars.opening plan) r (bars.With (start_end e.0))) (ap (λ z. record { number = z }) (sym (get_or_from_slice_get (start_values plan) r e.0.value (pos 0) there))) (law plan r e.0 e.1) }
+
+kept_at_start : (plan : PlanValue) → PartsLaws → IsKept plan (starting plan)
+kept_at_start plan laws = record {
+  follows = starts plan;
+  sane = λ a. sane_at_start plan a;
+  serial = record { values = λ r lt. first_values plan r laws.begin lt; outcomes = refl; tickets = λ a. refl };
+}
+
+pub kept : (plan : PlanValue) → PartsLaws → (es : List WorldEvent) → IsKept plan (state_of (run_of (opening plan) es))
+kept plan laws es = through plan (IsKept plan) (kept_at_start plan laws) (kept_on plan laws) es

@@ -1,0 +1,197 @@
+-- A world as functions, and what an accepted event changes there: one office, by its own answer.
+use Rattle.std.proofs.Common.{◌≡◌, ℕ, zero, suc, ◌<◌, Bool, true, false, cond, List, [], ◌∷◌, ◌++◌, length, map, Option, None, Some, Ok, Err, refl, sym, ap, subst, ◌∙◌, arith, inl, inr, ◌⊎◌, ⊎_elim, get_or, set}
+use Rattle.std.specs.Prelude.{nat_lt, nat_le, slice_get, ◌==◌}
+use Rattle.std.specs.List.{range_with_len}
+use Rattle.std.proofs.lemmas.Bool.{cases_eq, cases_lt}
+use Rattle.std.proofs.lemmas.Bool.Decides.{nat_tests}
+use Rattle.std.proofs.lemmas.List.{get_or-set_same, get_or-set_other, length-set, get_or_past}
+use Rattle.std.proofs.lemmas.List.FromFn.{get_or-map-range_with_len, length-map-range_with_len}
+use mathlib.Core.Path.{fun_ext}
+use Rattle.bottle_values.specs.Maps.{put}
+use Rattle.bottle_values.proofs.Maps.{put_at, put_other}
+use Rattle.frame_codec.specs.Frame.{Fields}
+use Rattle.office_map.specs.PlanValue.{PlanValue}
+use Rattle.site_core.specs.declared.event.Event as office
+use Rattle.site_core.specs.declared.event.Event.TheVariants as event
+use Rattle.site_core.specs.declared.reply.Reply.{Reply}
+use Rattle.site_core.specs.declared.reply.Refusal.TheVariants as refused
+use Rattle.site_core.specs.Limits.{most_entries}
+use Rattle.site_core.specs.Offices.{Office, Answer, answer}
+use Rattle.site_core.specs.Offices as site
+use Rattle.site_core.specs.Journals.{Site, office_of, noted, recorded, step, next_or}
+use Rattle.site_core.proofs.OfficeLimits.{office_noted, office_empty}
+use Rattle.frame_world.specs.declared.event.WorldEvent.{WorldEvent}
+use Rattle.frame_world.specs.declared.event.WorldEvent.TheVariants as happening
+use Rattle.frame_world.specs.declared.refusal.Refusal.TheVariants as refusal
+use Rattle.frame_world.specs.Worlds.{World, Finished, silent, opening, site_at, office_at, frames_of, finished_by, told, handed, delivered, happens, run_of}
+
+pub record State : Type 0 where
+  pub office : ℕ → Office
+  pub frames : List Fields
+  pub finished : List Finished
+
+abbrev pub state_of : World → State
+state_of w = record { office = office_at w; frames = w.frames; finished = w.finished }
+
+abbrev pub starting : PlanValue → State
+starting plan = record { office = site.opened plan; frames = []; finished = [] }
+
+-- what can be handed to an office: of frames those that were sent to it
+abbrev pub MayCome : List Fields → ℕ → office.Event → Type 0
+MayCome frames a (event.Submit p) = Unit {0}
+MayCome frames a (event.Do rule) = Unit {0}
+MayCome frames a (event.Send v i) = Unit {0}
+MayCome frames a (event.Took f) = (f.to ≡ a) × (k : ℕ) × (slice_get frames k ≡ Some f)
+
+abbrev pub after_reply : State → ℕ → office.Event → Reply → Office → State
+after_reply s a e r o = record { office = put s.office a o; frames = s.frames ++ frames_of r; finished = s.finished ++ finished_by a (s.office a).agenda.current e }
+
+-- an accepted event
+pub record IsAccepted (plan : PlanValue) (s s' : State) : Type 0 where
+  pub place : ℕ
+  pub event : office.Event
+  pub reply : Reply
+  pub new : Office
+  pub inside : nat_lt place (length plan.offices) ≡ true
+  pub comes : MayCome s.frames place event
+  pub answered : answer plan place (s.office place) event ≡ Ok (reply, new)
+  pub led : s' ≡ after_reply s place event reply new
+
+-- each office has the plan and its number
+pub record IsSeated (plan : PlanValue) (w : World) : Type 0 where
+  pub planned : w.plan ≡ plan
+  pub size : length w.sites ≡ length plan.offices
+  pub plans : (a : ℕ) → (site_at w a).plan ≡ plan
+  pub numbers : (a : ℕ) → (site_at w a).me ≡ a
+
+-- ---- at the start
+
+silent_at : (plan : PlanValue) (a : ℕ) → site_at (opening plan) a ≡ silent plan a
+silent_at plan a = ⊎_elim
+    (λ lt. get_or-map-range_with_len (silent plan) 0 (length plan.offices) a a (silent plan a) lt (omega arith))
+    (λ ge. get_or_past (map (silent plan) (range_with_len 0 (length plan.offices))) a (silent plan a) (omega (arith, ge, length-map-range_with_len (silent plan) 0 (length plan.offices))))
+    (cases_lt a (length plan.offices))
+
+pub seated_opening : (plan : PlanValue) → IsSeated plan (opening plan)
+seated_opening plan = record {
+  planned = refl;
+  size = length-map-range_with_len (silent plan) 0 (length plan.offices);
+  plans = λ a. ap (λ (s : Site). s.plan) (silent_at plan a);
+  numbers = λ a. ap (λ (s : Site). s.me) (silent_at plan a);
+}
+
+abbrev with_office : (ℕ → Office) → State
+with_office o = record { office = o; frames = []; finished = [] }
+
+pub state_opening : (plan : PlanValue) → state_of (opening plan) ≡ starting plan
+state_opening plan = ap with_office (fun_ext (λ a. ap office_of (silent_at plan a) ∙ office_empty plan a))
+
+-- ---- one event
+
+-- the site of an office, where one changed
+site_set : (w w' : World) (a : ℕ) (s : Site) → w'.sites ≡ set w.sites a s → w'.plan ≡ w.plan → a < length w.sites → (x : ℕ) → site_at w' x ≡ put (site_at w) a s x
+site_set w w' a s e p lt x = ⊎_elim
+    (λ is. ap (λ l. get_or l x (silent w'.plan x)) e ∙ ap (λ k. get_or (set w.sites a s) k (silent w'.plan x)) is ∙ get_or-set_same w.sites a s (silent w'.plan x) lt ∙ sym (put_at (site_at w) a s x is))
+    (λ ne. ap (λ l. get_or l x (silent w'.plan x)) e ∙ get_or-set_other w.sites a x s (silent w'.plan x) ne ∙ ap (λ q. get_or w.sites x (silent q x)) p ∙ sym (put_other (site_at w) a s x ne))
+    (cases_eq x a)
+
+put_kept_as : {X Y : Type 0} (g : X → Y) (f : ℕ → X) (a : ℕ) (x : X) (y : Y) → g x ≡ y → (j : ℕ) → g (put f a x j) ≡ put (λ k. g (f k)) a y j
+put_kept_as g f a x y e j = at (j == a)
+  where
+    at : (b : Bool) → g (cond b x (f j)) ≡ cond b y (g (f j))
+    at true = e
+    at false = refl
+
+-- what an event leaves: the world as it was, or an accepted event's
+pub record Left (plan : PlanValue) (w w' : World) : Type 0 where
+  pub seated : IsSeated plan w'
+  pub led : (state_of w' ≡ state_of w) ⊎ IsAccepted plan (state_of w) (state_of w')
+
+left_as_it_was : (plan : PlanValue) (w w' : World) → IsSeated plan w → w' ≡ w → Left plan w w'
+left_as_it_was plan w w' h e = record { seated = subst (IsSeated plan) (sym e) h; led = inl (ap state_of e) }
+
+accepted : (plan : PlanValue) (w : World) (a : ℕ) (e : office.Event) (r : Reply) (o : Office) → IsSeated plan w → MayCome w.frames a e → nat_lt a (length w.sites) ≡ true →
+    answer (site_at w a).plan (site_at w a).me (office_at w a) e ≡ Ok (r, o) → Left plan w (told w a e (Ok r, noted (site_at w a) 0 e r)).1
+accepted plan w a e r o h come inside ans = record {
+  seated = record {
+    planned = h.planned;
+    size = length-set w.sites a new ∙ h.size;
+    plans = λ x. ap (λ (s : Site). s.plan) (sites x) ∙ put_kept_as (λ (s : Site). s.plan) (site_at w) a new plan (h.plans a) x ∙ const (x == a) (h.plans x);
+    numbers = λ x. ap (λ (s : Site). s.me) (sites x) ∙ numbered x;
+  };
+  led = inr (record {
+    place = a;
+    event = e;
+    reply = r;
+    new = o;
+    inside = ap (nat_lt a) (sym h.size) ∙ inside;
+    comes = come;
+    answered = ap (λ p. answer p a (office_at w a) e) (sym (h.plans a)) ∙ ap (λ m. answer (site_at w a).plan m (office_at w a) e) (sym (h.numbers a)) ∙ ans;
+    led = ap (λ f. made f) (fun_ext (λ x. ap office_of (sites x) ∙ put_kept_as office_of (site_at w) a new o there x));
+  });
+}
+  where
+    new : Site
+    new = noted (site_at w a) 0 e r
+
+    w' : World
+    w' = (told w a e (Ok r, new)).1
+
+    sites : (x : ℕ) → site_at w' x ≡ put (site_at w) a new x
+    sites = site_set w w' a new refl refl (grind (arith, nat_tests, inside))
+
+    const : (b : Bool) → {y : PlanValue} → y ≡ plan → cond b plan y ≡ plan
+    const true e = refl
+    const false e = e
+
+    numbered : (x : ℕ) → (put (site_at w) a new x).me ≡ x
+    numbered x = ⊎_elim (λ is. ap (λ (s : Site). s.me) (put_at (site_at w) a new x is) ∙ h.numbers a ∙ sym is) (λ ne. ap (λ (s : Site). s.me) (put_other (site_at w) a new x ne) ∙ h.numbers x) (cases_eq x a)
+
+    there : office_of new ≡ o
+    there = office_noted (site_at w a) 0 e r ∙ ap (next_or (office_at w a)) ans
+
+    made : (ℕ → Office) → State
+    made f = record { office = f; frames = w.frames ++ frames_of r; finished = w.finished ++ finished_by a (office_at w a).agenda.current e }
+
+pub handed_leaves : (plan : PlanValue) (w : World) (a : ℕ) (e : office.Event) → IsSeated plan w → MayCome w.frames a e → Left plan w (handed w a e).1
+handed_leaves plan w a e h come = by_place (nat_lt a (length w.sites)) refl
+  where
+    s : Site
+    s = site_at w a
+
+    by_room : (r : Reply) (o : Office) → answer s.plan s.me (office_of s) e ≡ Ok (r, o) → nat_lt a (length w.sites) ≡ true → (full : Bool) → Left plan w (told w a e (cond full (Err refused.JournalFull, s) (Ok r, noted s 0 e r))).1
+    by_room r o ans inside true = left_as_it_was plan w w h refl
+    by_room r o ans inside false = accepted plan w a e r o h come inside ans
+
+    by_answer : (x : Answer) → answer s.plan s.me (office_of s) e ≡ x → nat_lt a (length w.sites) ≡ true → Left plan w (told w a e (recorded s 0 e x)).1
+    by_answer (Ok x) ans inside = by_room x.0 x.1 ans inside (nat_le most_entries (length s.entries))
+    by_answer (Err r) ans inside = left_as_it_was plan w w h refl
+
+    by_place : (b : Bool) → nat_lt a (length w.sites) ≡ b → Left plan w (cond b (told w a e (step s 0 e)) (Err refusal.NoOffice, w)).1
+    by_place true inside = by_answer (answer s.plan s.me (office_of s) e) refl inside
+    by_place false inside = left_as_it_was plan w w h refl
+
+pub happens_leaves : (plan : PlanValue) (w : World) (e : WorldEvent) → IsSeated plan w → Left plan w (happens w e).1
+happens_leaves plan w (happening.Submit a p) h = handed_leaves plan w a (event.Submit p) h tt
+happens_leaves plan w (happening.Do a rule) h = handed_leaves plan w a (event.Do rule) h tt
+happens_leaves plan w (happening.Send a v i) h = handed_leaves plan w a (event.Send v i) h tt
+happens_leaves plan w (happening.Deliver zero) h = left_as_it_was plan w w h refl
+happens_leaves plan w (happening.Deliver (suc k)) h = of (slice_get w.frames k) refl
+  where
+    of : (f : Option Fields) → slice_get w.frames k ≡ f → Left plan w (delivered w f).1
+    of None e = left_as_it_was plan w w h refl
+    of (Some f) e = handed_leaves plan w f.to (event.Took f) h (refl, k, e)
+
+-- ---- all of them
+
+go_on : (plan : PlanValue) (P : State → Type 0) → ((s s' : State) → P s → IsAccepted plan s s' → P s') → (w : World) (es : List WorldEvent) → IsSeated plan w → P (state_of w) → IsSeated plan (run_of w es) × P (state_of (run_of w es))
+go_on plan P keeps w [] h p = (h, p)
+go_on plan P keeps w (e ∷ es) h p =
+    let l = happens_leaves plan w e h in
+    go_on plan P keeps (happens w e).1 es l.seated (⊎_elim (λ same. subst P (sym same) p) (λ s. keeps (state_of w) (state_of (happens w e).1) p s) l.led)
+
+pub through : (plan : PlanValue) (P : State → Type 0) → P (starting plan) → ((s s' : State) → P s → IsAccepted plan s s' → P s') → (es : List WorldEvent) → P (state_of (run_of (opening plan) es))
+through plan P first keeps es = (go_on plan P keeps (opening plan) es (seated_opening plan) (subst P (sym (state_opening plan)) first)).1
+
+pub seated : (plan : PlanValue) (es : List WorldEvent) → IsSeated plan (run_of (opening plan) es)
+seated plan es = (go_on plan (λ s. Unit {0}) (λ s s' p i. tt) (opening plan) es (seated_opening plan) tt).0

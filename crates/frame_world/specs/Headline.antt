@@ -1,0 +1,89 @@
+-- What holds of every world that a list of events leads to, good events or refused.
+use Rattle.std.specs.Prelude.{◌≡◌, ◌<◌, ℕ, true, false, ◌&&◌, List, [], ◌∷◌, length, map}
+use Rattle.std.specs.List.{list_all}
+use Rattle.bottle_values.specs.declared.Value.{Value}
+use Rattle.bottle_values.specs.Lists.{num}
+use Rattle.bottle_values.specs.Maps.{reads_of}
+use Rattle.office_map.specs.PlanValue.{PlanValue, are_neighbours}
+use Rattle.office_map.specs.Consistency.{IsConsistent, IsAccepted}
+use Rattle.session_meaning.specs.declared.ending.Outcome.{Outcome}
+use Rattle.session_meaning.specs.ProgramValue.{ProgramValue}
+use Rattle.session_meaning.specs.Needs.{needs_of}
+use Rattle.serial_replay.specs.Serial.{start_map, map_of, outcomes_of}
+use Rattle.token_channel.specs.declared.thing.Thing.{Thing}
+use Rattle.token_channel.specs.Ends.{is_shared}
+use Rattle.dining_core.specs.Diners.{is_eating}
+use Rattle.dining_core.specs.Worlds.{HasNoRing}
+use Rattle.drinking_core.specs.Drinkers.{is_drinking, holds}
+use Rattle.site_core.specs.declared.session.Session.{Session}
+use Rattle.site_core.specs.Agenda.{Working, is_working}
+use Rattle.site_core.specs.Offices.{Office, value_in}
+use Rattle.frame_world.specs.declared.event.WorldEvent.{WorldEvent}
+use Rattle.frame_world.specs.Worlds.{World, Finished, opening, run_of, office_at}
+use Rattle.frame_world.specs.Ways.{pairs_at, places, bottles_of, tables_of}
+
+-- the programs of the finished sessions, and what is told of them, in finishing order
+abbrev pub programs : World → List ProgramValue
+programs w = map (λ (f : Finished). f.program) w.finished
+
+abbrev pub outcomes : World → List Outcome
+outcomes w = map (λ (f : Finished). f.outcome) w.finished
+
+-- the finished sessions read, gave and wrote what they do when they run alone, one after the other in that order
+abbrev pub HasSerialSessions : World → Type 0
+HasSerialSessions w = outcomes w ≡ outcomes_of (start_map w.plan) (programs w)
+
+-- each record has one bottle, with the value that the record has after that serial run
+abbrev pub HasSerialValues : World → Type 0
+HasSerialValues w = (r : ℕ) → r < length w.plan.records → bottles_of w r ≡ map_of (start_map w.plan) (programs w) r ∷ []
+
+-- each fork, bottle and request token that two offices share is at one place, and they have no other
+abbrev pub HasOnePlaceEach : World → Type 0
+HasOnePlaceEach w = (a b : ℕ) → (t : Thing) → places w a b t ≡ num (is_shared w.plan a b t)
+
+-- two neighbours never eat at once
+abbrev pub NeighboursEatApart : World → Type 0
+NeighboursEatApart w = (a b : ℕ) → are_neighbours w.plan a b ≡ true →
+    (is_eating (pairs_at w a).diner.phase && is_eating (pairs_at w b).diner.phase) ≡ false
+
+-- an office that eats has the fork of each neighbour
+abbrev pub EatersHaveTheirForks : World → Type 0
+EatersHaveTheirForks w = (a b : ℕ) → is_eating (pairs_at w a).diner.phase ≡ true → are_neighbours w.plan a b ≡ true → (pairs_at w a).diner.held b ≡ true
+
+-- an office that works has the bottles that its session needs, with the values that its work began with
+pub record HasItsBottles (o : Office) (s : Session) (reads : List (ℕ × Value)) : Type 0 where
+  pub held : list_all (holds o.pairs.drinker) (needs_of s.program.body) ≡ true
+  pub values : reads ≡ reads_of (needs_of s.program.body) (value_in o.pairs.drinker)
+
+-- an office drinks where it works, and has the bottles for it
+pub record DrinkersHaveTheirBottles (w : World) : Type 0 where
+  pub drinks : (a : ℕ) → is_drinking (pairs_at w a).drinker.phase ≡ is_working (office_at w a).agenda.current
+  pub bottles : (a : ℕ) (s : Session) (reads : List (ℕ × Value)) (done : ℕ) → (office_at w a).agenda.current ≡ Working s reads done → HasItsBottles (office_at w a) s reads
+
+-- which events led to a world
+pub record IsReached (w : World) : Type 0 where
+  pub events : List WorldEvent
+  pub leads : run_of (opening w.plan) events ≡ w
+
+-- ---- laws
+
+abbrev pub SessionsAreSerial : Type 0
+SessionsAreSerial = (plan : PlanValue) (events : List WorldEvent) → IsConsistent plan → HasSerialSessions (run_of (opening plan) events)
+
+abbrev pub BottlesAreSerial : Type 0
+BottlesAreSerial = (plan : PlanValue) (events : List WorldEvent) → IsConsistent plan → HasSerialValues (run_of (opening plan) events)
+
+abbrev pub ThingsHaveOnePlace : Type 0
+ThingsHaveOnePlace = (plan : PlanValue) (events : List WorldEvent) → IsConsistent plan → HasOnePlaceEach (run_of (opening plan) events)
+
+abbrev pub NeighboursNeverEatAtOnce : Type 0
+NeighboursNeverEatAtOnce = (plan : PlanValue) (events : List WorldEvent) → IsConsistent plan → NeighboursEatApart (run_of (opening plan) events)
+
+abbrev pub WhoEatsHasItsForks : Type 0
+WhoEatsHasItsForks = (plan : PlanValue) (events : List WorldEvent) → IsConsistent plan → EatersHaveTheirForks (run_of (opening plan) events)
+
+abbrev pub WhoDrinksHasItsBottles : Type 0
+WhoDrinksHasItsBottles = (plan : PlanValue) (events : List WorldEvent) → IsConsistent plan → DrinkersHaveTheirBottles (run_of (opening plan) events)
+
+abbrev pub PrecedenceHasNoRing : Type 0
+PrecedenceHasNoRing = (plan : PlanValue) (events : List WorldEvent) → IsAccepted plan → HasNoRing plan (tables_of (pairs_at (run_of (opening plan) events)))

@@ -1,0 +1,4 @@
+pub mod Worlds
+pub mod Ways
+pub mod Headline
+pub mod refinement

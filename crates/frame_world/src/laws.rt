@@ -1,0 +1,76 @@
+//! The headline, over definitions: what holds of every world that a list of events leads to.
+
+ghost use Rattle.frame_world.specs.Headline.{SessionsAreSerial, BottlesAreSerial, ThingsHaveOnePlace, NeighboursNeverEatAtOnce, WhoEatsHasItsForks, WhoDrinksHasItsBottles, PrecedenceHasNoRing};
+ghost use Rattle.frame_world.specs.refinement.PartsLaws.{PartsLaws};
+
+use dining_core::laws as tables;
+use drinking_core::laws as bars;
+use session_meaning::laws::writes_what_it_has;
+use token_channel::laws::what_comes_was_away;
+
+/// The finished sessions read, gave and wrote what they do when they run alone, one after another in finishing order.
+pub fn sessions_are_serial()
+    ensures { SessionsAreSerial }
+{
+    parts_hold();
+}
+
+/// Each record has one bottle, which has the value of that serial run.
+pub fn bottles_are_serial()
+    ensures { BottlesAreSerial }
+{
+    parts_hold();
+    bars::each_has_its_spots();
+    bars::no_other_spot();
+}
+
+/// Each fork, bottle and request token of two offices is at one place, and two offices have no other.
+pub fn things_have_one_place()
+    ensures { ThingsHaveOnePlace }
+{
+    tables::each_has_one_place();
+    bars::each_has_one_place();
+}
+
+/// Two neighbours never eat at once.
+pub fn neighbours_never_eat_at_once()
+    ensures { NeighboursNeverEatAtOnce }
+{
+    tables::neighbours_eat_apart();
+}
+
+/// An office that eats has the fork of each of its neighbours.
+pub fn who_eats_has_its_forks()
+    ensures { WhoEatsHasItsForks }
+{
+    tables::neighbours_stay();
+    tables::eaters_have_their_forks();
+}
+
+/// An office drinks just where it works, and has the bottles that its session needs with the values that its work began
+/// with.
+pub fn who_drinks_has_its_bottles()
+    ensures { WhoDrinksHasItsBottles }
+{
+    parts_hold();
+}
+
+/// From every accepted plan precedence never has a ring.
+pub fn precedence_has_no_ring()
+    ensures { PrecedenceHasNoRing }
+{
+    tables::no_ring_from_an_accepted_plan();
+}
+
+/// What the parts promise by themselves.
+fn parts_hold()
+    ensures { PartsLaws }
+{
+    what_comes_was_away();
+    writes_what_it_has();
+    bars::records_stay();
+    bars::peers_stay();
+    bars::bottles_start_with_their_values();
+    bars::values_stay();
+    bars::finishing_writes();
+}

@@ -1,0 +1,26 @@
+//! The world of offices and frames, as definitions, and the headline: over every list of events, good or refused, with
+//! frames lost, repeated and reordered, each finished session read, gave and wrote exactly what it does when the finished
+//! sessions run alone, one after another in finishing order, from the plan's values; and each record has one bottle,
+//! which carries that serial run's value.
+//!
+//! There is no code here but the events' type and their refusals; what runs such a world keeps to `happens`.
+//!
+//! - `specs/Worlds.antt`: the offices with their journals, all frames that were ever sent, the finished sessions; what an
+//!   event answers and leaves. An event is an office's own (`site_core`), or a frame of the list that comes to its
+//!   addressee, any of them, at any time, as often as it likes. A frame that never comes is lost.
+//! - `specs/Ways.antt`: what is on the way from one office to another, at how many places a thing is, and all bottles of
+//!   a record; the tables (`dining_core`) and the bars (`drinking_core`) that the offices are.
+//! - `specs/Headline.antt`: what holds of every world; [`laws`] has it proved.
+//!
+//! How it is proved: what happens to an office is, to tables and bars, an event of theirs or nothing
+//! (`proofs/TablesFollow.antt`, `proofs/BarsFollow.antt`), which needs of the links that each frame says the truth
+//! (`proofs/Links.antt`). So the laws of tables and bars hold of the offices (`proofs/Following.antt`), and with them the
+//! serial run is an invariant of few lines (`proofs/SerialSessions.antt`). No frame is looked at above the links.
+#![tactic(auto)]
+
+mod event;
+pub mod laws;
+mod refusal;
+
+pub use crate::event::WorldEvent;
+pub use crate::refusal::Refusal;
