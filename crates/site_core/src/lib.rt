@@ -30,6 +30,8 @@ mod reply;
 mod rule;
 mod rules;
 mod session;
+#[cfg(test)]
+mod tests;
 
 pub use crate::event::{Entry, Event};
 pub use crate::journal::Journal;

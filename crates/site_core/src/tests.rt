@@ -1,0 +1,514 @@
+use crate::event::Event;
+use crate::limits::{MAX_ENTRIES, MAX_UNFINISHED};
+use crate::office::Office;
+use crate::reply::{Refusal, Reply};
+use crate::rule::Rule;
+use frame_codec::{Frame, FrameFault, MAX_LENGTH, Msg, encode};
+use office_map::{OfficeId, Plan, RecordId};
+use session_language::{Outcome, Program, read_sessions};
+use std::alloc::{AllocError, Global};
+use std::fmt::Write;
+use std::process::Abort;
+use std::test::Fail;
+use token_channel::ChannelFault;
+
+/// Two offices, and two records of theirs.
+const PAIR: &str =
+    "plan 1 run 42\noffice a -\noffice b -\npair a b fork a\nrecord x a b 100 at a\nrecord y a b 0 at b\n";
+
+/// The same, with the fork at the other.
+const FORK_AT_B: &str =
+    "plan 1 run 42\noffice a -\noffice b -\npair a b fork b\nrecord x a b 100 at a\nrecord y a b 0 at b\n";
+
+/// Three records, all of them at the other office.
+const ALL_AT_B: &str =
+    "plan 1 run 42\noffice a -\noffice b -\npair a b fork a\nrecord x a b 1 at b\nrecord y a b 2 at b\nrecord z a b 3 at b\n";
+
+/// Two offices that share nothing.
+const ALONE: &str = "plan 1 run 7\noffice a -\noffice b -\n";
+
+/// A session that moves 30 from one record to the other.
+const MOVE: &str =
+    "session a\nlet v = read x\nset x = v - 30\nset y = read y + 30\ngive read x\ngive read y\nend\n";
+
+const GIVES: &str = "session a\ngive 1\nend\nsession b\ngive 2\nend\n";
+
+const READS_ALL: &str = "session a\ngive read x + read y + read z\nend\n";
+
+/// The two offices of each plan.
+const A: usize = 0;
+
+const B: usize = 1;
+
+/// What a step is: a session is submitted, by its place in the text; a rule, with its record or its size; the message of that
+/// place is framed for the other office; the frame of that place is taken by its addressee; the next rule.
+#[derive(Clone, Copy)]
+enum What {
+    Submit,
+    Start,
+    Hungry,
+    AskFork,
+    GiveFork,
+    Eat,
+    Leave,
+    AskBottle,
+    GiveBottle,
+    Drink,
+    Work,
+    Finish,
+    Send,
+    Deliver,
+    Next,
+}
+
+/// What is done, at which office, and a number.
+#[derive(Clone, Copy)]
+struct Step(What, usize, u16);
+
+/// A plan, sessions, steps, and what is answered. A frame is told by its number and its count.
+static ROWS: [(&str, &str, &[Step], &str); 6] = [
+    (
+        PAIR,
+        MOVE,
+        &[
+            Step(What::Submit, A, 0),
+            Step(What::Start, A, 0),
+            Step(What::Hungry, A, 0),
+            Step(What::Eat, A, 0),
+            Step(What::AskBottle, A, 1),
+            Step(What::Send, A, 1),
+            Step(What::Deliver, 0, 1),
+            Step(What::GiveBottle, B, 1),
+            Step(What::Send, B, 1),
+            Step(What::Deliver, 0, 2),
+            Step(What::Drink, A, 0),
+            Step(What::Leave, A, 0),
+            Step(What::Work, A, 100),
+            Step(What::Finish, A, 0),
+            Step(What::Deliver, 0, 2),
+        ],
+        "ticket 1; done; done; done; done; frame 1 0; taken; done; frame 1 1; taken; done; done; done; done; repeat; 0.1 Done reads 0=100 1=0 writes 0=70 1=30 gives 70 30; ",
+    ),
+    (
+        ALL_AT_B,
+        READS_ALL,
+        &[
+            Step(What::Submit, A, 0),
+            Step(What::Start, A, 0),
+            Step(What::AskBottle, A, 0),
+            Step(What::AskBottle, A, 1),
+            Step(What::AskBottle, A, 2),
+            Step(What::Send, A, 1),
+            Step(What::Send, A, 2),
+            Step(What::Send, A, 3),
+            Step(What::Deliver, 0, 3),
+            Step(What::Deliver, 0, 1),
+            Step(What::Deliver, 0, 2),
+            Step(What::Send, A, 3),
+            Step(What::Deliver, 0, 4),
+            Step(What::Deliver, 0, 4),
+            Step(What::Send, A, 4),
+            Step(What::Send, A, 0),
+            Step(What::Deliver, 0, 5),
+        ],
+        "ticket 1; done; done; done; done; frame 1 0; frame 2 0; frame 3 0; early; taken; taken; frame 3 0; taken; repeat; refused O1 NotNow; frame 0 0; acked; ",
+    ),
+    (
+        PAIR,
+        GIVES,
+        &[
+            Step(What::Submit, B, 1),
+            Step(What::Start, B, 0),
+            Step(What::Hungry, B, 0),
+            Step(What::AskFork, B, 0),
+            Step(What::Send, B, 1),
+            Step(What::Deliver, 0, 1),
+            Step(What::GiveFork, A, 0),
+            Step(What::Send, A, 1),
+            Step(What::Deliver, 0, 2),
+            Step(What::Submit, A, 0),
+            Step(What::Start, A, 0),
+            Step(What::Hungry, A, 0),
+            Step(What::AskFork, A, 0),
+            Step(What::Send, A, 2),
+            Step(What::Deliver, 0, 3),
+            Step(What::GiveFork, B, 0),
+            Step(What::Eat, B, 0),
+            Step(What::GiveFork, B, 0),
+            Step(What::Drink, B, 0),
+            Step(What::Leave, B, 0),
+            Step(What::GiveFork, B, 0),
+            Step(What::Send, B, 1),
+            Step(What::Deliver, 0, 4),
+            Step(What::Eat, A, 0),
+        ],
+        "ticket 1; done; done; done; frame 1 0; taken; done; frame 1 1; taken; ticket 1; done; done; done; frame 2 1; taken; refused O1 NotNow; done; refused O1 NotNow; done; done; done; frame 2 2; taken; done; ",
+    ),
+    (
+        FORK_AT_B,
+        GIVES,
+        &[
+            Step(What::Submit, A, 0),
+            Step(What::Next, A, 0),
+            Step(What::Hungry, A, 0),
+            Step(What::Next, A, 0),
+            Step(What::Next, A, 0),
+            Step(What::Next, A, 0),
+            Step(What::Next, A, 0),
+            Step(What::Next, A, 0),
+            Step(What::Send, A, 1),
+            Step(What::Deliver, 0, 1),
+            Step(What::Next, B, 0),
+            Step(What::Next, B, 0),
+            Step(What::Send, B, 1),
+            Step(What::Deliver, 0, 2),
+            Step(What::Next, A, 0),
+            Step(What::Next, A, 0),
+            Step(What::Next, A, 0),
+        ],
+        "ticket 1; Start done; done; Drink done; Work(256) done; Finish done; AskFork(OfficeId { number: 1 }) done; none; frame 1 0; taken; GiveFork(OfficeId { number: 0 }) done; none; frame 1 1; taken; Eat done; Leave done; none; 0.1 Done reads writes gives 1; ",
+    ),
+    (
+        PAIR,
+        MOVE,
+        &[
+            Step(What::Submit, A, 0),
+            Step(What::Next, A, 0),
+            Step(What::Next, A, 0),
+            Step(What::Next, A, 0),
+            Step(What::Next, A, 0),
+            Step(What::Next, A, 0),
+            Step(What::Send, A, 1),
+            Step(What::Deliver, 0, 1),
+            Step(What::Next, B, 0),
+            Step(What::Send, B, 1),
+            Step(What::Deliver, 0, 2),
+            Step(What::Next, A, 0),
+            Step(What::Next, A, 0),
+            Step(What::Next, A, 0),
+            Step(What::Next, A, 0),
+            Step(What::Next, A, 0),
+        ],
+        "ticket 1; Start done; Hungry done; Eat done; AskBottle(RecordId { number: 1 }) done; none; frame 1 0; taken; GiveBottle(RecordId { number: 1 }) done; frame 1 1; taken; Drink done; Work(256) done; Finish done; Leave done; none; 0.1 Done reads 0=100 1=0 writes 0=70 1=30 gives 70 30; ",
+    ),
+    (
+        ALONE,
+        GIVES,
+        &[
+            Step(What::Submit, B, 0),
+            Step(What::Submit, A, 0),
+            Step(What::Start, A, 0),
+            Step(What::Hungry, A, 0),
+            Step(What::Eat, A, 0),
+            Step(What::Drink, A, 0),
+            Step(What::Leave, A, 0),
+            Step(What::Work, A, 0),
+            Step(What::Work, A, 1001),
+            Step(What::Work, A, 9),
+            Step(What::Work, A, 9),
+            Step(What::AskFork, A, 0),
+            Step(What::GiveBottle, A, 0),
+            Step(What::Send, A, 0),
+            Step(What::Finish, A, 0),
+            Step(What::Finish, A, 0),
+        ],
+        "refused O2 NotOurs; ticket 1; done; done; done; done; done; refused O1 NotNow; refused O1 NotNow; done; refused O1 NotNow; refused O1 NotNow; refused O1 NotNow; refused O1 NotNow; done; refused O1 NotNow; 0.1 Done reads writes gives 1; ",
+    ),
+];
+
+#[test]
+fn offices_do_as_the_rows_say(rt: HostRuntime) -> Result<(), Fail> {
+    let alloc = rt.alloc();
+    for (plan, sessions, steps, expected) in &ROWS {
+        let plan = Plan::read(alloc, plan.as_bytes())?;
+        let programs = read_sessions(alloc, sessions.as_bytes(), &plan)?;
+        let told = played(alloc, &plan, &programs, steps)?;
+        assert_eq!(rt; told.as_str(), *expected);
+    }
+    Ok(())
+}
+
+/// What the offices of the plan answer to these steps, and how their sessions end.
+fn played(
+    alloc: Global,
+    plan: &Plan,
+    programs: &[Program],
+    steps: &[Step],
+) -> Result<String, Fail> {
+    let mut offices = opened(alloc, plan)?;
+    let mut frames = Vec::new(alloc);
+    let mut text = String::new(alloc);
+    for step in steps {
+        take_step(alloc, &mut text, &mut offices, &mut frames, programs, *step)?;
+    }
+    for office in &offices {
+        describe(&mut text, office.outcomes())?;
+    }
+    Ok(text)
+}
+
+/// All offices of the plan.
+fn opened(alloc: Global, plan: &Plan) -> Result<Vec<Office>, AllocError> {
+    let mut offices = Vec::new(alloc);
+    for v in 0..plan.offices() {
+        offices.push(Office::open(alloc, plan, OfficeId::new(v as u8))?)?;
+    }
+    Ok(offices)
+}
+
+/// Takes a step, tells what is answered, and keeps the frame that is made.
+fn take_step(
+    alloc: Global,
+    text: &mut String,
+    offices: &mut Vec<Office>,
+    frames: &mut Vec<Frame>,
+    programs: &[Program],
+    step: Step,
+) -> Result<(), Fail> {
+    let Step(what, at, n) = step;
+    let reply = match what {
+        What::Deliver => delivered(offices, frames, n as usize),
+        What::Next => return next(text, offices, at),
+        _ => match event_of(alloc, programs, step)? {
+            Some(event) => handed(offices, at, &event),
+            None => return Err(Fail::from("an event")),
+        },
+    };
+    if let Ok(Reply::Frame(frame)) = &reply {
+        frames.push(*frame)?;
+    }
+    tell(text, &reply)
+}
+
+/// An event is handed to an office; once more, if memory ran out, which leaves the office as it was.
+fn handed(offices: &mut Vec<Office>, at: usize, event: &Event) -> Result<Reply, Refusal> {
+    let Some(office) = offices.get_mut(at) else {
+        return Err(Refusal::NotNow);
+    };
+    let entries = office.journal().len();
+    match office.step(0, event) {
+        Err(Refusal::Memory) if office.journal().len() == entries => office.step(0, event),
+        reply => reply,
+    }
+}
+
+/// A frame goes over the wire to its addressee.
+fn delivered(offices: &mut Vec<Office>, frames: &[Frame], k: usize) -> Result<Reply, Refusal> {
+    let Some(frame) = frames.get(k.saturating_sub(1)) else {
+        return Err(Refusal::NotNow);
+    };
+    let mut bytes = [0; MAX_LENGTH];
+    let length = encode(frame, &mut bytes);
+    let Some(office) = offices.get_mut(frame.to() as usize) else {
+        return Err(Refusal::NotNow);
+    };
+    let entries = office.journal().len();
+    match office.receive(0, &bytes[..length]) {
+        Err(Refusal::Memory) if office.journal().len() == entries => {
+            office.receive(0, &bytes[..length])
+        }
+        reply => reply,
+    }
+}
+
+/// The office does the rule that comes next, which is told.
+fn next(text: &mut String, offices: &mut Vec<Office>, at: usize) -> Result<(), Fail> {
+    let next = match offices.get(at) {
+        Some(office) => office.next_rule(),
+        None => None,
+    };
+    let Some(rule) = next else {
+        text.push_str("none; ")?;
+        return Ok(());
+    };
+    write!(text, "{rule:?} ")?;
+    tell(text, &handed(offices, at, &Event::Do(rule)))
+}
+
+fn event_of(alloc: Global, programs: &[Program], step: Step) -> Result<Option<Event>, AllocError> {
+    let Step(what, at, n) = step;
+    match what {
+        What::Submit => match programs.get(n as usize) {
+            Some(program) => Ok(Some(Event::Submit(program.copy(alloc)?))),
+            None => Ok(None),
+        },
+        What::Send => Ok(Some(Event::Send(other(at), n as usize))),
+        _ => Ok(rule_of(step).map(Event::Do)),
+    }
+}
+
+fn rule_of(step: Step) -> Option<Rule> {
+    let Step(what, at, n) = step;
+    match what {
+        What::Start => Some(Rule::Start),
+        What::Hungry => Some(Rule::Hungry),
+        What::AskFork => Some(Rule::AskFork(other(at))),
+        What::GiveFork => Some(Rule::GiveFork(other(at))),
+        What::Eat => Some(Rule::Eat),
+        What::Leave => Some(Rule::Leave),
+        What::AskBottle => Some(Rule::AskBottle(RecordId::new(n))),
+        What::GiveBottle => Some(Rule::GiveBottle(RecordId::new(n))),
+        What::Drink => Some(Rule::Drink),
+        What::Work => Some(Rule::Work(n)),
+        What::Finish => Some(Rule::Finish),
+        _ => None,
+    }
+}
+
+fn other(at: usize) -> OfficeId {
+    OfficeId::new(if at == A { 1 } else { 0 })
+}
+
+fn tell(text: &mut String, reply: &Result<Reply, Refusal>) -> Result<(), Fail> {
+    match reply {
+        Ok(Reply::Ticket(ticket)) => write!(text, "ticket {ticket}; ")?,
+        Ok(Reply::Done) => text.push_str("done; ")?,
+        Ok(Reply::Frame(frame)) => {
+            let number = frame.number();
+            let count = frame.count();
+            write!(text, "frame {number} {count}; ")?;
+        }
+        Ok(Reply::Acked) => text.push_str("acked; ")?,
+        Ok(Reply::Taken) => text.push_str("taken; ")?,
+        Ok(Reply::Repeat) => text.push_str("repeat; ")?,
+        Ok(Reply::Early) => text.push_str("early; ")?,
+        Err(refusal) => write!(text, "refused {refusal}; ")?,
+    }
+    Ok(())
+}
+
+fn describe(text: &mut String, outcomes: &[Outcome]) -> Result<(), AllocError> {
+    for outcome in outcomes {
+        let office = outcome.office.number();
+        let ticket = outcome.ticket;
+        let end = outcome.ending.end;
+        write!(text, "{office}.{ticket} {end:?} reads")?;
+        for (r, value) in outcome.ending.reads.as_slice() {
+            write!(text, " {}={}", r.number(), value.number)?;
+        }
+        text.push_str(" writes")?;
+        for (r, value) in outcome.ending.writes.as_slice() {
+            write!(text, " {}={}", r.number(), value.number)?;
+        }
+        text.push_str(" gives")?;
+        for value in outcome.ending.gives.as_slice() {
+            write!(text, " {}", value.number)?;
+        }
+        text.push_str("; ")?;
+    }
+    Ok(())
+}
+
+/// What a queue takes: 64 sessions that haven't finished, the current one among them.
+#[test]
+fn sixty_four_sessions_are_unfinished_at_most(rt: HostRuntime) -> Result<(), Fail> {
+    let alloc = rt.alloc();
+    let plan = Plan::read(alloc, PAIR.as_bytes())?;
+    let programs = read_sessions(alloc, GIVES.as_bytes(), &plan)?;
+    let mut offices = opened(alloc, &plan)?;
+    let (Some(office), Some(program)) = (offices.get_mut(A), programs.get(0)) else {
+        return Err(Fail::from("an office and a session"));
+    };
+    fill_queue(&rt, office, program);
+    Ok(())
+}
+
+fn fill_queue<R: Abort>(rt: &R, office: &mut Office, program: &Program) {
+    for i in 0..MAX_UNFINISHED {
+        let ticket = i as u32 + 1;
+        assert_eq!(rt; submit(office, program), Ok(Reply::Ticket(ticket)));
+    }
+    assert_eq!(rt; submit(office, program), Err(Refusal::QueueFull));
+    assert_eq!(rt; office.journal().len(), MAX_UNFINISHED);
+    assert_eq!(rt; act(office, Rule::Start), Ok(Reply::Done));
+    assert_eq!(rt; submit(office, program), Err(Refusal::QueueFull));
+    for rule in [Rule::Drink, Rule::Work(100), Rule::Finish] {
+        assert_eq!(rt; act(office, rule), Ok(Reply::Done));
+    }
+    assert_eq!(rt; submit(office, program), Ok(Reply::Ticket(65)));
+    assert_eq!(rt; office.tickets(), 65);
+    assert_eq!(rt; office.journal().len(), MAX_UNFINISHED + 5);
+}
+
+fn submit(office: &mut Office, program: &Program) -> Result<Reply, Refusal> {
+    office.submit(3, program)
+}
+
+fn act(office: &mut Office, rule: Rule) -> Result<Reply, Refusal> {
+    office.act(3, rule)
+}
+
+fn hand_in(office: &mut Office, tag: u8, event: &Event) -> Result<Reply, Refusal> {
+    office.step(tag % 16, event)
+}
+
+/// A fork that is held can't come; its request token can. What can be asked of an office, and what its journal tells.
+#[test]
+fn an_office_tells_where_it_is(rt: HostRuntime) -> Result<(), Fail> {
+    let alloc = rt.alloc();
+    let plan = Plan::read(alloc, PAIR.as_bytes())?;
+    let mut offices = opened(alloc, &plan)?;
+    let Some(office) = offices.get_mut(A) else {
+        return Err(Fail::from("an office"));
+    };
+    give_the_fork(&rt, office);
+    tell_all(&rt, office);
+    Ok(())
+}
+
+fn give_the_fork<R: Abort>(rt: &R, office: &mut Office) {
+    let b = OfficeId::new(1);
+    let fork = Event::Took(Frame::data(42, 1, 0, 1, 0, Msg::Fork));
+    let refused = Err(Refusal::Channel(ChannelFault::Breach));
+    assert_eq!(rt; hand_in(office, 5, &fork), refused);
+    assert_eq!(rt; office.journal().len(), 0);
+    let token = Event::Took(Frame::data(42, 1, 0, 1, 0, Msg::AskFork));
+    assert_eq!(rt; hand_in(office, 5, &token), Ok(Reply::Taken));
+    let give = Event::Do(Rule::GiveFork(b));
+    assert_eq!(rt; hand_in(office, 5, &give), Ok(Reply::Done));
+    let sent = Frame::data(42, 0, 1, 1, 1, Msg::Fork);
+    assert_eq!(rt;
+        hand_in(office, 6, &Event::Send(b, 1)),
+        Ok(Reply::Frame(sent))
+    );
+}
+
+fn tell_all<R: Abort>(rt: &R, office: &Office) {
+    let b = OfficeId::new(1);
+    assert_eq!(rt; office.waiting(b), Some((1, 1)));
+    assert_eq!(rt; office.taken(b), Some(1));
+    assert_eq!(rt; office.waiting(office.number()), None);
+    let values = [0, 1].map(|r| office.held_value(RecordId::new(r)).map(|v| v.number));
+    assert_eq!(rt; values, [Some(100), None]);
+    assert_eq!(rt; office.enabled(Rule::Start), false);
+    assert_eq!(rt; office.plan().offices(), 2);
+    let journal = office.journal();
+    assert_eq!(rt; journal.len(), 3);
+    let tags = [0, 1, 2, 3].map(|i| journal.get(i).map(|entry| entry.tag));
+    assert_eq!(rt; tags, [Some(5), Some(5), Some(6), None]);
+}
+
+/// A journal that is full takes no entry; a guard that is false is told before that, and what is no frame.
+#[test]
+fn a_full_journal_takes_no_entry(rt: HostRuntime) -> Result<(), Fail> {
+    let alloc = rt.alloc();
+    let plan = Plan::read(alloc, PAIR.as_bytes())?;
+    let mut offices = opened(alloc, &plan)?;
+    let Some(office) = offices.get_mut(A) else {
+        return Err(Fail::from("an office"));
+    };
+    fill_journal(&rt, office);
+    Ok(())
+}
+
+fn fill_journal<R: Abort>(rt: &R, office: &mut Office) {
+    let count = Event::Send(OfficeId::new(1), 0);
+    for _ in 0..MAX_ENTRIES {
+        assert!(rt; hand_in(office, 0, &count).is_ok());
+    }
+    assert_eq!(rt; hand_in(office, 0, &count), Err(Refusal::JournalFull));
+    assert_eq!(rt; act(office, Rule::Start), Err(Refusal::NotNow));
+    assert_eq!(rt; office.journal().len(), MAX_ENTRIES);
+    let short = office.receive(0, b"DP");
+    assert_eq!(rt; short, Err(Refusal::Frame(FrameFault::Short)));
+}
