@@ -32,6 +32,7 @@ mod rules;
 mod session;
 #[cfg(test)]
 mod tests;
+mod waiting;
 
 pub use crate::event::{Entry, Event};
 pub use crate::journal::Journal;

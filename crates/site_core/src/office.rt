@@ -1,12 +1,12 @@
 //! An office.
 
-ghost use Rattle.std.specs.Prelude.{◌≡◌, ◌<◌, ◌≤◌, Some, None, [], length, IfOk, if◌then◌else◌};
+ghost use Rattle.std.specs.Prelude.{◌≡◌, ◌<◌, ◌≤◌, Some, None, true, false, [], length, IfOk, if◌then◌else◌};
 ghost use Rattle.site_core.specs.declared.event.Event.TheVariants as events;
-ghost use Rattle.office_map.specs.PlanValue.{are_neighbours};
+ghost use Rattle.office_map.specs.PlanValue.{are_neighbours, is_end, peer};
 ghost use Rattle.site_core.specs.Limits.{most_entries};
 ghost use Rattle.site_core.specs.Offices.{may};
 ghost use Rattle.site_core.specs.RuleOrder.{next_rule};
-ghost use Rattle.site_core.specs.Readers.{waiting_on};
+ghost use Rattle.site_core.specs.Readers.{waiting_on, TellsBottle};
 ghost use Rattle.site_core.specs.Journals.{office_of, IsLegal, Steps, Receives};
 
 use crate::agenda::Agenda;
@@ -15,6 +15,7 @@ use crate::journal::Journal;
 use crate::pairs::Pairs;
 use crate::reply::{Refusal, Reply};
 use crate::rule::Rule;
+use crate::waiting::waiting_bottle;
 use crate::{order, rules};
 use bottle_values::Value;
 use frame_codec::{Frame, decode};
@@ -240,6 +241,14 @@ impl Office {
         ensures { result ≡ (office_of self.now).pairs.drinker.bottle r }
     {
         self.pairs.bar().value(r)
+    }
+
+    /// The number and the value of the message with a record's bottle that waits for the record's other end, if one waits.
+    pub fn waiting_value(&self, r: RecordId) -> Option<(u64, Value)>
+        ensures told { is_end self.now.plan r self.now.me ≡ true → TellsBottle ((office_of self.now).pairs.link (peer self.now.plan self.now.me r)) r result }
+        ensures of_others { is_end self.now.plan r self.now.me ≡ false → result ≡ None }
+    {
+        waiting_bottle(self.pairs.channel_of(r)?, r)
     }
 
     /// The rule that the office does next, left to itself: the first that may be done, in the order of `rules_in_order`.

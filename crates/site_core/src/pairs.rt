@@ -3,7 +3,7 @@
 ghost use Rattle.std.specs.Prelude.{◌≡◌, ◌<◌, ◌&&◌, ◌↔◌, ℕ, Some, None, true, false, length, option_map, is_some, IsSome, IsErr, IfOk, OnOk, OnErr, All, if◌then◌else◌};
 ghost use Rattle.std.specs.Option.{ForSome, option_copied};
 ghost use Rattle.std.specs.Result.{result_err};
-ghost use Rattle.office_map.specs.PlanValue.{are_neighbours, is_end, records_of, neighbours_of};
+ghost use Rattle.office_map.specs.PlanValue.{are_neighbours, is_end, peer, records_of, neighbours_of};
 ghost use Rattle.bottle_values.specs.Lists.{is_among};
 ghost use Rattle.window_link.specs.Windows.{used};
 ghost use Rattle.window_link.specs.Limits.{greatest};
@@ -257,6 +257,18 @@ impl Pairs {
         ensures link { ForSome result (λ c. c.now.link ≡ (pairs_of self.now).link v) }
     {
         self.channels.get(v)
+    }
+
+    /// The channel to the other end of a record, if the office is one of its ends.
+    pub fn channel_of(&self, r: RecordId) -> Option<&Channel>
+        ensures near { IsSome result ↔ (is_end self.now.plan r self.now.me ≡ true) }
+        ensures link { ForSome result (λ c. c.now.link ≡ (pairs_of self.now).link (peer self.now.plan self.now.me r)) }
+    {
+        if !self.plan.has_end(r, self.me) {
+            return None;
+        }
+        let v = self.plan.other_end(r, self.me);
+        self.channel(v)
     }
 
     /// The frame of the `i`-th message that waits for an office, from 1, or with 0 one of the count alone; none where there

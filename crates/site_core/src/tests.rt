@@ -453,6 +453,7 @@ fn an_office_tells_where_it_is(rt: HostRuntime) -> Result<(), Fail> {
     };
     give_the_fork(&rt, office);
     tell_all(&rt, office);
+    give_a_bottle(&rt, office);
     Ok(())
 }
 
@@ -486,6 +487,18 @@ fn tell_all<R: Abort>(rt: &R, office: &Office) {
     assert_eq!(rt; journal.len(), 3);
     let tags = [0, 1, 2, 3].map(|i| journal.get(i).map(|entry| entry.tag));
     assert_eq!(rt; tags, [Some(5), Some(5), Some(6), None]);
+}
+
+/// The bottle waits behind the fork.
+fn give_a_bottle<R: Abort>(rt: &R, office: &mut Office) {
+    let token = Event::Took(Frame::data(42, 1, 0, 2, 0, Msg::AskBottle(0)));
+    assert_eq!(rt; hand_in(office, 7, &token), Ok(Reply::Taken));
+    let give = Event::Do(Rule::GiveBottle(RecordId::new(0)));
+    assert_eq!(rt; hand_in(office, 7, &give), Ok(Reply::Done));
+    let waiting = [0, 1].map(|r| office
+        .waiting_value(RecordId::new(r))
+        .map(|(n, v)| (n, v.number)));
+    assert_eq!(rt; waiting, [Some((2, 100)), None]);
 }
 
 /// A journal that is full takes no entry; a guard that is false is told before that, and what is no frame.

@@ -1,0 +1,14 @@
+use Rattle.std.proofs.Common.{◌≡◌, true, refl, ap, subst, ◌∙◌}
+use Rattle.window_link.specs.Links.{LinkState}
+use Rattle.office_map.specs.PlanValue.{is_end, peer}
+use Rattle.site_core.specs.Pairs.{Pairs}
+use Rattle.site_core.specs.Journals.{Site, office_of}
+use Rattle.site_core.specs.Readers.{TellsBottle}
+use Rattle.site_core.proofs.office.Office.waiting_value.Goals as goal
+
+pub returns-clause-told : goal.returns-clause-told
+returns-clause-told c =
+    let s = c.self.inside in
+    let same = c.in_ok-channel_of.ensures.link c.in_ok-channel_of.field-0 refl ∙ ap (λ (p : Pairs). p.link (peer s.pairs.plan s.pairs.me c.args.r)) c.self.invariant.stands.0 in
+    let told = subst (λ (l : LinkState). TellsBottle l c.args.r c.waiting_bottle.result) same c.waiting_bottle.ensures in
+    subst (λ (x : Site). is_end x.plan c.args.r x.me ≡ true → TellsBottle ((office_of x).pairs.link (peer x.plan x.me c.args.r)) c.args.r c.waiting_bottle.result) c.self.view_is (λ _. told)
