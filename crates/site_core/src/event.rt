@@ -1,6 +1,6 @@
 //! What happens at an office.
 
-ghost use Rattle.std.specs.Prelude.{◌≡◌};
+ghost use Rattle.std.specs.Prelude.{◌≡◌, IfOk};
 ghost use Rattle.site_core.specs.Replies.{reply_to};
 ghost use Rattle.site_core.specs.declared.event.Event.TheVariants as events;
 ghost use Rattle.site_core.specs.declared.reply.Reply.TheVariants as replies;
@@ -10,6 +10,7 @@ use crate::rule::Rule;
 use frame_codec::Frame;
 use office_map::OfficeId;
 use session_language::Program;
+use std::alloc::{AllocError, Global};
 use window_link::Arrival;
 
 /// An event of an office.
@@ -25,6 +26,20 @@ pub enum Event {
     Took(Frame),
 }
 
+impl Event {
+    /// The same event, in memory of its own.
+    pub fn copy(&self, alloc: Global) -> Result<Event, AllocError>
+        ensures { IfOk result (λ e. e ≡ self.now) }
+    {
+        match self {
+            Event::Submit(program) => Ok(Event::Submit(program.copy(alloc)?)),
+            Event::Do(rule) => Ok(Event::Do(*rule)),
+            Event::Send(v, i) => Ok(Event::Send(*v, *i)),
+            Event::Took(frame) => Ok(Event::Took(*frame)),
+        }
+    }
+}
+
 /// An event that an office accepted: who handed it in, and the reply.
 #[derive(Debug, Drop)]
 pub struct Entry {
@@ -34,6 +49,17 @@ pub struct Entry {
 }
 
 impl Entry {
+    /// The same entry, in memory of its own.
+    pub fn copy(&self, alloc: Global) -> Result<Entry, AllocError>
+        ensures { IfOk result (λ e. e ≡ self.now) }
+    {
+        Ok(Entry {
+            tag: self.tag,
+            event: self.event.copy(alloc)?,
+            reply: self.reply,
+        })
+    }
+
     /// A session was submitted.
     pub(crate) fn of_session(tag: u8, program: Program, ticket: u32) -> Entry
         ensures { result ≡ record { tag = tag; event = events.Submit program; reply = replies.Ticket ticket } }

@@ -1,6 +1,6 @@
 //! What an office accepted.
 
-ghost use Rattle.std.specs.Prelude.{◌≡◌, ◌<◌, ◌↔◌, ◌⊎◌, ◌++◌, ◌∷◌, [], length, true, Err, IfErr, OnOk, nat_le};
+ghost use Rattle.std.specs.Prelude.{◌≡◌, ◌<◌, ◌↔◌, ◌⊎◌, ◌++◌, ◌∷◌, [], length, take, drop, true, Err, IfOk, IfErr, OnOk, nat_le};
 ghost use Rattle.std.specs.List.{slice_get};
 ghost use Rattle.std.specs.Option.{option_copied};
 ghost use Rattle.site_core.specs.Limits.{most_entries};
@@ -9,7 +9,7 @@ ghost use Rattle.site_core.specs.declared.reply.Refusal.TheVariants as refusals;
 use crate::event::Entry;
 use crate::limits::MAX_ENTRIES;
 use crate::reply::Refusal;
-use std::alloc::Global;
+use std::alloc::{AllocError, Global};
 use std::marker::Model;
 
 /// The entries of an office, the oldest first.
@@ -57,6 +57,15 @@ impl Journal {
         self.entries.get(i)
     }
 
+    /// Copies of the first so many entries from this place on, from 0; of fewer where the journal ends before.
+    pub fn part(&self, alloc: Global, from: usize, most: usize) -> Result<Vec<Entry>, AllocError>
+        ensures { IfOk result (λ v. v.items ≡ take most (drop from self.now.entries)) }
+    {
+        let all = self.entries.as_slice();
+        let rest = &all[from.min(all.len())..];
+        copied(alloc, &rest[..most.min(rest.len())])
+    }
+
     /// Makes room for one entry more.
     ///
     /// # Errors
@@ -81,4 +90,15 @@ impl Journal {
     {
         self.entries.push_reserved(entry);
     }
+}
+
+/// The same entries, in memory of their own.
+fn copied(alloc: Global, entries: &[Entry]) -> Result<Vec<Entry>, AllocError>
+    ensures { IfOk result (λ v. v.items ≡ entries.now) }
+{
+    let mut copies = Vec::with_capacity(alloc, entries.len())?;
+    for entry in entries {
+        copies.push(entry.copy(alloc)?)?;
+    }
+    Ok(copies)
 }

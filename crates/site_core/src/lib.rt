@@ -12,6 +12,7 @@
 //! - The journal is legal ([`Office::journal`]): each entry has the reply that the office gives there. [`Office::enabled`]
 //!   tells a rule's guard, [`Office::next_rule`] the first rule that may be done in the order of `specs/RuleOrder.antt`,
 //!   and each reader what the office at the end of its journal has.
+//! - An office is `own_lock`'s `Kept`: it can be shared under that crate's lock.
 //! - [`Office::receive`] takes bytes; those that are no frame are refused for what is wrong with them.
 //!
 //! `Memory` is answered only where an event would be accepted, and then nothing changed. `proofs/OfficeLimits.antt` has that
@@ -22,6 +23,7 @@ mod agenda;
 mod channels;
 mod event;
 mod journal;
+mod kept;
 mod limits;
 mod office;
 mod order;

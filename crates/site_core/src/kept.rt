@@ -1,0 +1,24 @@
+//! An office as a state with a history.
+
+ghost use Rattle.site_core.specs.Journals.{IsLegal};
+
+use crate::event::Entry;
+use crate::office::Office;
+use office_map::{OfficeId, Plan};
+use own_lock::Kept;
+
+/// Its key is its plan and its number, and its entries are those of its journal. It fits where the journal is legal; that it
+/// is the office at the end of that journal holds of every office.
+impl Kept for Office {
+    type Key = (Plan, OfficeId);
+
+    type Entry = Entry;
+
+    ghost key = { λ o. (o.plan, o.me) };
+
+    ghost entries = { λ o. o.entries };
+
+    ghost tag_of = { λ e. e.tag };
+
+    ghost fits = { IsLegal };
+}
