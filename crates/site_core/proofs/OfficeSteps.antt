@@ -1,6 +1,6 @@
 -- The office that the code keeps, at the end of its journal.
 use Rattle.std.proofs.Common.{◌≡◌, ℕ, ◌+◌, ◌≤◌, ◌<◌, ◌⊎◌, inl, inr, Bool, true, false, cond, List, [], ◌∷◌, ◌++◌, length, None, Some, Result, Ok, Err, refl, sym, ap, subst, ◌∙◌, arith, length-append}
-use Rattle.std.specs.Prelude.{nat_le, All, IsOk}
+use Rattle.std.specs.Prelude.{nat_le, All, IsOk, OnErr}
 use Rattle.std.proofs.lemmas.Bool.Decides.{nat_tests}
 use Rattle.office_map.specs.PlanValue.{PlanValue, are_neighbours}
 use Rattle.window_link.specs.Windows.{used}
@@ -23,7 +23,7 @@ use Rattle.site_core.specs.Pairs as pairs
 use Rattle.site_core.specs.Agenda.{Agenda}
 use Rattle.site_core.specs.Agenda as agenda
 use Rattle.site_core.specs.Offices.{Office, Answer, may, act, is_ours, frame_on, framed, unless_faulty, with_pairs, answer, opened}
-use Rattle.site_core.specs.Journals.{Site, office_of, noted, after, next_or, step, Steps, IsLegal, recorded}
+use Rattle.site_core.specs.Journals.{Site, office_of, noted, after, next_or, step, Steps, Adds, IsLegal, recorded}
 use Rattle.site_core.specs.refinement.PairsOfCode.{PairsValue, pairs_of, IsOf, HaveRoom}
 use Rattle.site_core.specs.refinement.AgendaOfCode.{AgendaValue, Means}
 use Rattle.site_core.specs.refinement.OfficeOfCode.{office_at, Stands, AreOurs, site_of, IsAtEnd}
@@ -209,3 +209,21 @@ pub taken_frame : (p p' : PairsValue) (v : AgendaValue) (entries entries' : List
 taken_frame p p' v entries entries' tag f a h of none is after_is lt journal grown =
     let o = office_of (site_of p entries) in
     goes_on p p' v v entries entries' tag (event.Took f) (reply_to a) (with_pairs o (after_frame o.pairs f)) h of (take_answer p v entries f a h none is) (after_is ∙ ap (λ x. after_frame x f) h.stands.0, h.stands.1) lt (not_full _ journal) grown
+
+-- ---- what a step adds
+
+unless_full : (s : Site) (tag : ℕ) (e : Event) (r : Reply) (b : Bool) (x : Result Reply Refusal × Site) → x ≡ cond b (Err refusal.JournalFull, s) (Ok r, noted s tag e r) → Adds s tag e x.0 x.1
+unless_full s tag e r true x h = subst (λ (y : Result Reply Refusal × Site). Adds s tag e y.0 y.1) (sym h) refl
+unless_full s tag e r false x h = subst (λ (y : Result Reply Refusal × Site). Adds s tag e y.0 y.1) (sym h) refl
+
+recorded_adds : (s : Site) (tag : ℕ) (e : Event) (x : Answer) → Adds s tag e (recorded s tag e x).0 (recorded s tag e x).1
+recorded_adds s tag e (Ok x) = unless_full s tag e x.0 (nat_le most_entries (length s.entries)) (recorded s tag e (Ok x)) refl
+recorded_adds s tag e (Err r) = refl
+
+pub steps_add : (s : Site) (tag : ℕ) (e : Event) (result : Result Reply Refusal) (s' : Site) → Steps s tag e result s' → Adds s tag e result s'
+steps_add s tag e result s' (inl m) = subst (λ (r : Result Reply Refusal). Adds s tag e r s') (sym m.0) m.1
+steps_add s tag e result s' (inr h) = subst (λ (r : Result Reply Refusal). Adds s tag e r s') (sym h.0) (subst (Adds s tag e (step s tag e).0) (sym h.1) (recorded_adds s tag e (answer s.plan s.me (office_of s) e)))
+
+pub unchanged : (s : Site) (tag : ℕ) (e : Event) (result : Result Reply Refusal) (s' : Site) → Adds s tag e result s' → OnErr result (s' ≡ s)
+unchanged s tag e (Ok r) s' a = tt
+unchanged s tag e (Err r) s' a = a

@@ -66,6 +66,14 @@ OrMemory s expected result s' =
 abbrev pub Steps : Site → ℕ → Event → Result Reply Refusal → Site → Type 0
 Steps s tag e result s' = OrMemory s (step s tag e) result s'
 
+-- an accepted event adds its one entry, with its reply, and a refused one adds nothing
+abbrev pub Adds : Site → ℕ → Event → Result Reply Refusal → Site → Type 0
+Adds s tag e (Ok r) s' = s' ≡ noted s tag e r
+Adds s tag e (Err r) s' = s' ≡ s
+
+abbrev pub StepsAddTheirEntry : Type 0
+StepsAddTheirEntry = (s : Site) (tag : ℕ) (e : Event) (result : Result Reply Refusal) (s' : Site) → Steps s tag e result s' → Adds s tag e result s'
+
 -- bytes that come: those that spell a frame are that frame, and others are refused for what is wrong with them
 pub record Receives (s : Site) (tag : ℕ) (bytes : List ℕ) (result : Result Reply Refusal) (s' : Site) : Type 0 where
   pub frame : (f : Fields) → Spells bytes f → Steps s tag (event.Took f) result s'

@@ -24,6 +24,7 @@ mod channels;
 mod event;
 mod journal;
 mod kept;
+pub mod laws;
 mod limits;
 mod office;
 mod order;

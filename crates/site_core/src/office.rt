@@ -1,17 +1,19 @@
 //! An office.
 
-ghost use Rattle.std.specs.Prelude.{◌≡◌, ◌<◌, ◌≤◌, Some, None, true, false, [], length, IfOk, if◌then◌else◌};
+ghost use Rattle.std.specs.Prelude.{◌≡◌, ◌<◌, ◌≤◌, Some, None, true, false, [], length, IfOk, OnErr, if◌then◌else◌};
+ghost use Rattle.frame_codec.specs.Frame.{Fields};
 ghost use Rattle.site_core.specs.declared.event.Event.TheVariants as events;
 ghost use Rattle.office_map.specs.PlanValue.{are_neighbours, is_end, peer};
 ghost use Rattle.site_core.specs.Limits.{most_entries};
 ghost use Rattle.site_core.specs.Offices.{may};
 ghost use Rattle.site_core.specs.RuleOrder.{next_rule};
 ghost use Rattle.site_core.specs.Readers.{waiting_on, TellsBottle};
-ghost use Rattle.site_core.specs.Journals.{office_of, IsLegal, Steps, Receives};
+ghost use Rattle.site_core.specs.Journals.{office_of, noted, IsLegal, Steps, Receives};
 
 use crate::agenda::Agenda;
 use crate::event::{Entry, Event};
 use crate::journal::Journal;
+use crate::laws::steps_add_their_entry;
 use crate::pairs::Pairs;
 use crate::reply::{Refusal, Reply};
 use crate::rule::Rule;
@@ -157,8 +159,11 @@ impl Office {
     /// What is wrong with bytes that are no frame; else as [`Office::take`].
     pub fn receive(&mut self, tag: u8, bytes: &[u8]) -> Result<Reply, Refusal>
         requires { tag < 16 }
-        ensures { Receives self.old tag bytes.now result self.new }
+        ensures answer { Receives self.old tag bytes.now result self.new }
+        ensures entry { IfOk result (λ reply. (f : Fields) × (self.new ≡ noted self.old tag (events.Took f) reply)) }
+        ensures unchanged { OnErr result (self.new ≡ self.old) }
     {
+        steps_add_their_entry();
         match decode(bytes) {
             Ok(frame) => self.take(tag, &frame),
             Err(fault) => Err(Refusal::Frame(fault)),
