@@ -1,0 +1,4 @@
+pub mod Calls
+pub mod Advance
+pub mod Outcomes
+pub mod refinement

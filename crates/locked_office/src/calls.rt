@@ -1,0 +1,184 @@
+//! What each call does with the office that its pass holds. It gives the office back.
+
+ghost use Rattle.std.specs.Prelude.{◌≡◌, ◌==◌, ◌++◌, List, true, IfOk, take, drop, find};
+ghost use Rattle.std.specs.Option.{option_copied};
+ghost use Rattle.session_meaning.specs.declared.ending.Outcome.{Outcome as Ended};
+ghost use Rattle.own_lock.specs.Entries.{AddsOnly};
+ghost use Rattle.own_lock.specs.Passes.{IsOf};
+ghost use Rattle.site_core.specs.declared.event.Entry.{Entry as Entries};
+ghost use Rattle.site_core.specs.declared.event.Event.TheVariants as events;
+ghost use Rattle.site_core.specs.Journals.{IsLegal, Steps, Receives};
+ghost use Rattle.locked_office.specs.Calls.{Stays, Did, tag_of, office_with};
+ghost use Rattle.locked_office.specs.Advance.{Advances};
+ghost use Rattle.locked_office.specs.Outcomes.{outcome_of, waiting_for};
+ghost use Rattle.locked_office.specs.refinement.Holding.{Holds};
+
+use crate::advance::{Stopped, do_rules};
+use office_map::OfficeId;
+use own_lock::{Held, OwnLock, Pass};
+use session_language::{Outcome, Program};
+use site_core::laws::steps_add_their_entry;
+use site_core::{Entry, Office, Refusal, Reply};
+use std::alloc::{AllocError, Global};
+
+/// The office goes back into the lock.
+fn give_back(lock: &OwnLock<Office>, pass: &mut Pass<Office>, held: Held<Office>)
+    requires of { IsOf lock.now pass.old }
+    requires holds { pass.old.holds ≡ true }
+    requires key { (held.plan, held.me) ≡ lock.now.key }
+    requires adds { AddsOnly tag_of pass.old.tag pass.old.seen held.entries }
+    ensures stays { Stays lock.now pass.old pass.new }
+    ensures seen { pass.new.seen ≡ held.entries }
+    ensures legal { IsLegal held }
+    ensures own { (added : List Entries) → pass.old.seen ++ added ≡ held.entries → pass.new.mine ≡ pass.old.mine ++ added }
+{
+    // Its journal is legal.
+    let _ = held.get().journal();
+    lock.give(pass, held);
+}
+
+/// A session is submitted.
+pub fn submit(
+    lock: &OwnLock<Office>,
+    pass: &mut Pass<Office>,
+    mut held: Held<Office>,
+    program: &Program,
+) -> Result<Reply, Refusal>
+    requires { Holds lock.now pass.old held }
+    ensures stays { Stays lock.now pass.old pass.new }
+    ensures did { Did (λ s s'. Steps s pass.old.tag (events.Submit program.now) result s') lock.now.key pass.old pass.new }
+{
+    steps_add_their_entry();
+    let reply = held.state().submit(pass.tag(), program);
+    give_back(lock, pass, held);
+    reply
+}
+
+/// A frame is taken, or bytes that are none are refused.
+pub fn took(
+    lock: &OwnLock<Office>,
+    pass: &mut Pass<Office>,
+    mut held: Held<Office>,
+    bytes: &[u8],
+) -> Result<Reply, Refusal>
+    requires { Holds lock.now pass.old held }
+    ensures stays { Stays lock.now pass.old pass.new }
+    ensures did { Did (λ s s'. Receives s pass.old.tag bytes.now result s') lock.now.key pass.old pass.new }
+{
+    let reply = held.state().receive(pass.tag(), bytes);
+    give_back(lock, pass, held);
+    reply
+}
+
+/// A frame is made.
+pub fn send(
+    lock: &OwnLock<Office>,
+    pass: &mut Pass<Office>,
+    mut held: Held<Office>,
+    v: OfficeId,
+    i: usize,
+) -> Result<Reply, Refusal>
+    requires { Holds lock.now pass.old held }
+    ensures stays { Stays lock.now pass.old pass.new }
+    ensures did { Did (λ s s'. Steps s pass.old.tag (events.Send v i) result s') lock.now.key pass.old pass.new }
+{
+    steps_add_their_entry();
+    let reply = held.state().send(pass.tag(), v, i);
+    give_back(lock, pass, held);
+    reply
+}
+
+/// The rules that come next are done.
+pub fn advance(
+    lock: &OwnLock<Office>,
+    pass: &mut Pass<Office>,
+    mut held: Held<Office>,
+    most: u32,
+) -> Result<u32, Stopped>
+    requires { Holds lock.now pass.old held }
+    ensures stays { Stays lock.now pass.old pass.new }
+    ensures did { Did (λ s s'. Advances pass.old.tag most result s s') lock.now.key pass.old pass.new }
+{
+    let done = do_rules(held.state(), pass.tag(), most);
+    give_back(lock, pass, held);
+    done
+}
+
+/// The outcome of a ticket is looked up.
+pub fn outcome(
+    lock: &OwnLock<Office>,
+    pass: &mut Pass<Office>,
+    held: Held<Office>,
+    alloc: Global,
+    ticket: u32,
+) -> Result<Option<Outcome>, AllocError>
+    requires { Holds lock.now pass.old held }
+    ensures stays { Stays lock.now pass.old pass.new }
+    ensures looked { Did (λ s s'. s' ≡ s) lock.now.key pass.old pass.new }
+    ensures outcome { IfOk result (λ o. o ≡ outcome_of (office_with lock.now.key pass.new.seen) ticket) }
+{
+    let outcome = copied_outcome(alloc, held.get(), ticket);
+    give_back(lock, pass, held);
+    outcome
+}
+
+fn copied_outcome(
+    alloc: Global,
+    office: &Office,
+    ticket: u32,
+) -> Result<Option<Outcome>, AllocError>
+    ensures { IfOk result (λ o. o ≡ outcome_of office.now ticket) }
+{
+    match with_ticket(office.outcomes(), ticket) {
+        Some(outcome) => Ok(Some(outcome.copy(alloc)?)),
+        None => Ok(None),
+    }
+}
+
+fn with_ticket(outcomes: &[Outcome], ticket: u32) -> Option<&Outcome>
+    ensures { option_copied result ≡ find (λ (o : Ended). o.ticket == ticket) outcomes.now }
+{
+    outcomes.iter().find(|o| o.ticket == ticket)
+}
+
+/// What waits for a neighbour is looked up.
+pub fn waiting(
+    lock: &OwnLock<Office>,
+    pass: &mut Pass<Office>,
+    held: Held<Office>,
+    v: OfficeId,
+) -> Result<(u64, usize), Refusal>
+    requires { Holds lock.now pass.old held }
+    ensures stays { Stays lock.now pass.old pass.new }
+    ensures looked { Did (λ s s'. s' ≡ s) lock.now.key pass.old pass.new }
+    ensures waiting { result ≡ waiting_for (office_with lock.now.key pass.new.seen) v }
+{
+    let waiting = waits(held.get(), v);
+    give_back(lock, pass, held);
+    waiting
+}
+
+fn waits(office: &Office, v: OfficeId) -> Result<(u64, usize), Refusal>
+    ensures { result ≡ waiting_for office.now v }
+{
+    office.waiting(v).ok_or(Refusal::NotNow)
+}
+
+/// A part of the journal is copied.
+pub fn journal_part(
+    lock: &OwnLock<Office>,
+    pass: &mut Pass<Office>,
+    held: Held<Office>,
+    alloc: Global,
+    from: usize,
+    most: usize,
+) -> Result<Vec<Entry>, AllocError>
+    requires { Holds lock.now pass.old held }
+    ensures stays { Stays lock.now pass.old pass.new }
+    ensures looked { Did (λ s s'. s' ≡ s) lock.now.key pass.old pass.new }
+    ensures part { IfOk result (λ v. v.items ≡ take most (drop from pass.new.seen)) }
+{
+    let part = held.get().journal().part(alloc, from, most);
+    give_back(lock, pass, held);
+    part
+}

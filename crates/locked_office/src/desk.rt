@@ -1,0 +1,307 @@
+//! The desk of an office.
+
+ghost use Rattle.std.specs.Prelude.{◌≡◌, ◌<◌, ◌≤◌, false, IfOk, IfErr, IfSome, take, drop};
+ghost use mathlib.Core.List.{IsPrefix};
+ghost use Rattle.own_lock.specs.Entries.{tagged};
+ghost use Rattle.own_lock.specs.Passes.{IsOf, AreFresh, AreIdle};
+ghost use Rattle.site_core.specs.declared.event.Event.TheVariants as events;
+ghost use Rattle.site_core.specs.Journals.{IsLegal, Steps, Receives};
+ghost use Rattle.locked_office.specs.Calls.{Stays, Does, Looks, tag_of, office_with};
+ghost use Rattle.locked_office.specs.Advance.{Advances};
+ghost use Rattle.locked_office.specs.Outcomes.{outcome_of, waiting_for};
+ghost use Rattle.locked_office.specs.refinement.Holding.{Holds, Came};
+
+use crate::advance::Stopped;
+use crate::calls;
+use office_map::OfficeId;
+use own_lock::{Busy, Held, OwnLock, Pass};
+use session_language::{Outcome, Program};
+use site_core::{Entry, Office, Refusal, Reply};
+use std::alloc::{AllocError, Global};
+use std::marker::Model;
+use std::sync::Wait;
+
+/// An office that several passes share. Contracts see which lock it is under, and the office's plan and number.
+#[derive(Drop)]
+pub struct Desk {
+    alloc: Global,
+    lock: OwnLock<Office>,
+}
+
+impl Model for Desk {
+    ghost use Rattle.own_lock.specs.Passes.{LockView};
+    ghost use Rattle.locked_office.specs.Calls.{Key};
+
+    ghost Value = { LockView Key };
+
+    ghost view = { λ d. d.lock };
+}
+
+impl Desk {
+    /// A desk of this office, and 1 to 16 passes with the tags from 0 on, which have seen the office's journal.
+    ///
+    /// # Errors
+    /// Where memory runs out, the office is dropped.
+    pub fn open(
+        alloc: Global,
+        office: Office,
+        passes: u8,
+    ) -> Result<(Desk, Vec<Pass<Office>>), AllocError>
+        requires some { 0 < passes }
+        requires few { passes ≤ 16 }
+        ensures key { IfOk result (λ r. r.0.key ≡ (office.plan, office.me)) }
+        ensures fresh { IfOk result (λ r. AreFresh r.0 tag_of office.entries passes r.1.items) }
+        ensures idle { IfOk result (λ r. AreIdle r.0 r.1.items) }
+    {
+        // Its journal is legal.
+        let _ = office.journal();
+        let (lock, all) = OwnLock::open(alloc, office, passes)?;
+        Ok((Desk { alloc, lock }, all))
+    }
+
+    /// The lock, to take the office oneself.
+    pub fn lock(&self) -> &OwnLock<Office>
+        ensures { result.now ≡ self.now }
+    {
+        &self.lock
+    }
+
+    /// Ends the desk, and gives its office. There is none where a pass holds it.
+    pub fn close(self, pass: Pass<Office>) -> Option<Office>
+        requires of { IsOf self pass }
+        ensures legal { IfSome result IsLegal }
+        ensures key { IfSome result (λ o. (o.plan, o.me) ≡ self.key) }
+        ensures begins { IfSome result (λ o. IsPrefix pass.seen o.entries) }
+        ensures mine { IfSome result (λ o. tagged tag_of pass.tag o.entries ≡ pass.mine) }
+    {
+        let Desk { alloc: _, lock } = self;
+        lock.close(pass)
+    }
+
+    /// The second pass learns what the first one has seen. The first one is given up.
+    pub fn meet(&self, first: Pass<Office>, second: &mut Pass<Office>)
+        requires first_of { IsOf self.now first }
+        requires second_of { IsOf self.now second.old }
+        requires first_idle { first.holds ≡ false }
+        requires second_idle { second.old.holds ≡ false }
+        ensures same { second.new ≡ record second.old { seen = second.new.seen } }
+        ensures stays { Stays self.now second.old second.new }
+        ensures first { IsPrefix first.seen second.new.seen }
+        ensures second { IsPrefix second.old.seen second.new.seen }
+        ensures first_mine { tagged tag_of first.tag second.new.seen ≡ first.mine }
+        ensures mine { tagged tag_of second.old.tag second.new.seen ≡ second.old.mine }
+    {
+        self.lock.meet(first, second);
+    }
+
+    fn hold<R: Wait>(&self, rt: &R, pass: &mut Pass<Office>) -> Held<Office>
+        requires of { IsOf self.now pass.old }
+        requires idle { pass.old.holds ≡ false }
+        ensures holds { Holds self.now pass.new result }
+        ensures came { Came pass.old pass.new }
+    {
+        self.lock.take(rt, pass)
+    }
+
+    fn try_hold(&self, pass: &mut Pass<Office>) -> Result<Held<Office>, Busy>
+        requires of { IsOf self.now pass.old }
+        requires idle { pass.old.holds ≡ false }
+        ensures holds { IfOk result (λ held. Holds self.now pass.new held) }
+        ensures came { IfOk result (λ _. Came pass.old pass.new) }
+        ensures busy { IfErr result (λ _. pass.new ≡ pass.old) }
+    {
+        self.lock.try_take(pass)
+    }
+
+    /// Submits a session.
+    ///
+    /// # Errors
+    /// As [`Office::submit`].
+    pub fn submit<R: Wait>(
+        &self,
+        rt: &R,
+        pass: &mut Pass<Office>,
+        program: &Program,
+    ) -> Result<Reply, Refusal>
+        requires of { IsOf self.now pass.old }
+        requires idle { pass.old.holds ≡ false }
+        ensures stays { Stays self.now pass.old pass.new }
+        ensures submitted { Does (λ s s'. Steps s pass.old.tag (events.Submit program.now) result s') self.now.key pass.old pass.new }
+    {
+        let held = self.hold(rt, pass);
+        calls::submit(&self.lock, pass, held, program)
+    }
+
+    /// Submits a session, if no other pass has the office.
+    ///
+    /// # Errors
+    /// `Busy` where another pass has it. Nothing changed.
+    pub fn try_submit(
+        &self,
+        pass: &mut Pass<Office>,
+        program: &Program,
+    ) -> Result<Result<Reply, Refusal>, Busy>
+        requires of { IsOf self.now pass.old }
+        requires idle { pass.old.holds ≡ false }
+        ensures stays { Stays self.now pass.old pass.new }
+        ensures submitted { IfOk result (λ answer. Does (λ s s'. Steps s pass.old.tag (events.Submit program.now) answer s') self.now.key pass.old pass.new) }
+        ensures busy { IfErr result (λ _. pass.new ≡ pass.old) }
+    {
+        let held = self.try_hold(pass)?;
+        Ok(calls::submit(&self.lock, pass, held, program))
+    }
+
+    /// Takes in bytes that come.
+    ///
+    /// # Errors
+    /// As [`Office::receive`].
+    pub fn took<R: Wait>(
+        &self,
+        rt: &R,
+        pass: &mut Pass<Office>,
+        bytes: &[u8],
+    ) -> Result<Reply, Refusal>
+        requires of { IsOf self.now pass.old }
+        requires idle { pass.old.holds ≡ false }
+        ensures stays { Stays self.now pass.old pass.new }
+        ensures taken { Does (λ s s'. Receives s pass.old.tag bytes.now result s') self.now.key pass.old pass.new }
+    {
+        let held = self.hold(rt, pass);
+        calls::took(&self.lock, pass, held, bytes)
+    }
+
+    /// Takes in bytes that come, if no other pass has the office.
+    ///
+    /// # Errors
+    /// `Busy` where another pass has it. Nothing changed.
+    pub fn try_took(
+        &self,
+        pass: &mut Pass<Office>,
+        bytes: &[u8],
+    ) -> Result<Result<Reply, Refusal>, Busy>
+        requires of { IsOf self.now pass.old }
+        requires idle { pass.old.holds ≡ false }
+        ensures stays { Stays self.now pass.old pass.new }
+        ensures taken { IfOk result (λ answer. Does (λ s s'. Receives s pass.old.tag bytes.now answer s') self.now.key pass.old pass.new) }
+        ensures busy { IfErr result (λ _. pass.new ≡ pass.old) }
+    {
+        let held = self.try_hold(pass)?;
+        Ok(calls::took(&self.lock, pass, held, bytes))
+    }
+
+    /// Makes a frame for a neighbour: of the `i`-th message that waits for it, from 1, or with 0 of the count alone.
+    ///
+    /// # Errors
+    /// As [`Office::send`].
+    pub fn send<R: Wait>(
+        &self,
+        rt: &R,
+        pass: &mut Pass<Office>,
+        v: OfficeId,
+        i: usize,
+    ) -> Result<Reply, Refusal>
+        requires of { IsOf self.now pass.old }
+        requires idle { pass.old.holds ≡ false }
+        ensures stays { Stays self.now pass.old pass.new }
+        ensures sent { Does (λ s s'. Steps s pass.old.tag (events.Send v i) result s') self.now.key pass.old pass.new }
+    {
+        let held = self.hold(rt, pass);
+        calls::send(&self.lock, pass, held, v, i)
+    }
+
+    /// At most so many rules, each the one that comes next, beside each other; and how many they were. Fewer only where no rule
+    /// comes next any more.
+    ///
+    /// # Errors
+    /// Where the rule that comes next is refused: what was done before stands.
+    pub fn advance<R: Wait>(
+        &self,
+        rt: &R,
+        pass: &mut Pass<Office>,
+        most: u32,
+    ) -> Result<u32, Stopped>
+        requires of { IsOf self.now pass.old }
+        requires idle { pass.old.holds ≡ false }
+        ensures stays { Stays self.now pass.old pass.new }
+        ensures advanced { Does (λ s s'. Advances pass.old.tag most result s s') self.now.key pass.old pass.new }
+    {
+        let held = self.hold(rt, pass);
+        calls::advance(&self.lock, pass, held, most)
+    }
+
+    /// How the session with that ticket ended; none where it hasn't finished.
+    pub fn outcome<R: Wait>(
+        &self,
+        rt: &R,
+        pass: &mut Pass<Office>,
+        ticket: u32,
+    ) -> Result<Option<Outcome>, AllocError>
+        requires of { IsOf self.now pass.old }
+        requires idle { pass.old.holds ≡ false }
+        ensures stays { Stays self.now pass.old pass.new }
+        ensures looked { Looks self.now.key pass.old pass.new }
+        ensures outcome { IfOk result (λ o. o ≡ outcome_of (office_with self.now.key pass.new.seen) ticket) }
+    {
+        let held = self.hold(rt, pass);
+        calls::outcome(&self.lock, pass, held, self.alloc, ticket)
+    }
+
+    /// How the session with that ticket ended, if no other pass has the office.
+    ///
+    /// # Errors
+    /// `Busy` where another pass has it. Nothing changed.
+    pub fn try_outcome(
+        &self,
+        pass: &mut Pass<Office>,
+        ticket: u32,
+    ) -> Result<Result<Option<Outcome>, AllocError>, Busy>
+        requires of { IsOf self.now pass.old }
+        requires idle { pass.old.holds ≡ false }
+        ensures stays { Stays self.now pass.old pass.new }
+        ensures looked { IfOk result (λ _. Looks self.now.key pass.old pass.new) }
+        ensures outcome { IfOk result (λ answer. IfOk answer (λ o. o ≡ outcome_of (office_with self.now.key pass.new.seen) ticket)) }
+        ensures busy { IfErr result (λ _. pass.new ≡ pass.old) }
+    {
+        let held = self.try_hold(pass)?;
+        Ok(calls::outcome(&self.lock, pass, held, self.alloc, ticket))
+    }
+
+    /// The number of the first message that waits for a neighbour, if one waits, which is one more than the count that is known
+    /// to be taken; and how many wait.
+    ///
+    /// # Errors
+    /// `NotNow` where it is no neighbour.
+    pub fn waiting<R: Wait>(
+        &self,
+        rt: &R,
+        pass: &mut Pass<Office>,
+        v: OfficeId,
+    ) -> Result<(u64, usize), Refusal>
+        requires of { IsOf self.now pass.old }
+        requires idle { pass.old.holds ≡ false }
+        ensures stays { Stays self.now pass.old pass.new }
+        ensures looked { Looks self.now.key pass.old pass.new }
+        ensures waiting { result ≡ waiting_for (office_with self.now.key pass.new.seen) v }
+    {
+        let held = self.hold(rt, pass);
+        calls::waiting(&self.lock, pass, held, v)
+    }
+
+    /// Copies of the first so many entries of the journal from this place on, from 0; of fewer where it ends before.
+    pub fn journal_part<R: Wait>(
+        &self,
+        rt: &R,
+        pass: &mut Pass<Office>,
+        from: usize,
+        most: usize,
+    ) -> Result<Vec<Entry>, AllocError>
+        requires of { IsOf self.now pass.old }
+        requires idle { pass.old.holds ≡ false }
+        ensures stays { Stays self.now pass.old pass.new }
+        ensures looked { Looks self.now.key pass.old pass.new }
+        ensures part { IfOk result (λ v. v.items ≡ take most (drop from pass.new.seen)) }
+    {
+        let held = self.hold(rt, pass);
+        calls::journal_part(&self.lock, pass, held, self.alloc, from, most)
+    }
+}
