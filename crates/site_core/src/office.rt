@@ -4,6 +4,8 @@ ghost use Rattle.std.specs.Prelude.{◌≡◌, ◌<◌, ◌≤◌, Some, None, t
 ghost use Rattle.frame_codec.specs.Frame.{Fields};
 ghost use Rattle.site_core.specs.declared.event.Event.TheVariants as events;
 ghost use Rattle.office_map.specs.PlanValue.{are_neighbours, is_end, peer};
+ghost use Rattle.token_channel.specs.declared.thing.Thing.TheVariants as things;
+ghost use Rattle.token_channel.specs.Things.{count_carrying};
 ghost use Rattle.site_core.specs.Limits.{most_entries};
 ghost use Rattle.site_core.specs.Offices.{may};
 ghost use Rattle.site_core.specs.RuleOrder.{next_rule};
@@ -251,6 +253,7 @@ impl Office {
     /// The number and the value of the message with a record's bottle that waits for the record's other end, if one waits.
     pub fn waiting_value(&self, r: RecordId) -> Option<(u64, Value)>
         ensures told { is_end self.now.plan r self.now.me ≡ true → TellsBottle ((office_of self.now).pairs.link (peer self.now.plan self.now.me r)) r result }
+        ensures once { is_end self.now.plan r self.now.me ≡ true → count_carrying (things.Bottle r) ((office_of self.now).pairs.link (peer self.now.plan self.now.me r)).sending.waiting ≤ 1 }
         ensures of_others { is_end self.now.plan r self.now.me ≡ false → result ≡ None }
     {
         waiting_bottle(self.pairs.channel_of(r)?, r)

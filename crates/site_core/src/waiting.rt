@@ -1,8 +1,10 @@
 //! What waits on a channel.
 
-ghost use Rattle.std.specs.Prelude.{◌≡◌, ℕ, Some, IfSome, IfNone, slice_get};
+ghost use Rattle.std.specs.Prelude.{◌≡◌, ◌≤◌, ℕ, Some, IfSome, IfNone, slice_get};
 ghost use Rattle.bottle_values.specs.declared.Value as bottle;
 ghost use Rattle.frame_codec.specs.declared.message.Msg.TheVariants as msg;
+ghost use Rattle.token_channel.specs.declared.thing.Thing.TheVariants as things;
+ghost use Rattle.token_channel.specs.Things.{count_carrying};
 ghost use Rattle.site_core.specs.Readers.{TellsBottle};
 
 use bottle_values::Value;
@@ -12,7 +14,8 @@ use token_channel::Channel;
 
 /// The number and the value of the message that waits with that bottle.
 pub fn waiting_bottle(channel: &Channel, r: RecordId) -> Option<(u64, Value)>
-    ensures { TellsBottle channel.now.link r result }
+    ensures told { TellsBottle channel.now.link r result }
+    ensures once { count_carrying (things.Bottle r) channel.now.link.sending.waiting ≤ 1 }
 {
     let (i, value) = bottle_among(channel.waiting(), r)?;
     Some((channel.acked() + 1 + i as u64, value))
