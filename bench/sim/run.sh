@@ -1,6 +1,6 @@
 #!/bin/sh
 # What `drink sim` takes for a line of a long script: a bottle goes to and fro between two offices, with a session at
-# each end, ten lines a session; and for a line that submits a heavy session, nearly always where there is no room for
+# each end, twelve lines a session; and for a line that submits a heavy session, nearly always where there is no room for
 # it. `docs/BENCHMARKS.md` has the figures. It needs a program that is built, awk, and GNU time; for the counts of
 # instructions valgrind. It fails only where the program doesn't run on a script as it is to.
 #
@@ -13,10 +13,15 @@ printf '%s\n' 'plan 1 run 1' 'office a -' 'office b -' 'pair a b fork a' 'record
 printf '%s\n' 'session a' 'set x = read x + 1' 'end' 'session b' 'set x = read x + 1' 'give read x' 'end' > "$work/sessions"
 
 # LINES lines: an office submits its session, starts it, asks for the bottle, gets it, drinks, works and finishes, and
-# then the other one.
+# then the other one. Each message is sent once and comes at once, so what its receiver sent before is acknowledged.
 script() {
     awk -v lines="$1" '
         function put(line) { if (n < lines) { print line; n++ } }
+        function go(from, to) {
+            put("send " from " " to " " ++waiting[from])
+            waiting[to] = 0
+            put("deliver " ++sent)
+        }
         BEGIN {
             for (turn = 0; n < lines; turn++) {
                 me = turn % 2 ? "a" : "b"
@@ -24,9 +29,9 @@ script() {
                 put("submit " (turn % 2 ? 1 : 2))
                 put("do " me " start")
                 put("do " me " askbottle x")
-                put("deliver " ++sent)
+                go(me, other)
                 put("do " other " givebottle x")
-                put("deliver " ++sent)
+                go(other, me)
                 put("do " me " drink")
                 put("do " me " work 100")
                 put("do " me " finish")

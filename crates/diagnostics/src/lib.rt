@@ -17,6 +17,6 @@ mod shown;
 #[cfg(test)]
 mod tests;
 
-pub use plan::{of_no_pair, of_plan};
+pub use plan::of_plan;
 pub use script::of_script;
 pub use sessions::of_sessions;

@@ -4,7 +4,7 @@ use crate::shown::{
     line_at, quote, say_expected, say_no_name, say_strange_byte, say_word, without_return, word_at,
 };
 use office_map::text::{is_name, words};
-use office_map::{Plan, PlanRefusal, PlanRule};
+use office_map::{PlanRefusal, PlanRule};
 use std::alloc::{AllocError, Global};
 
 const OFFICE: &str = "`office NAME ADDR`";
@@ -21,19 +21,6 @@ pub fn of_plan(alloc: Global, text: &[u8], refusal: PlanRefusal) -> Result<Strin
         Some(line) => say_line(&mut said, alloc, text, line, refusal)?,
     }
     Ok(said)
-}
-
-/// What is said of a plan that isn't of two offices and one pair.
-pub fn of_no_pair(alloc: Global, plan: &Plan) -> Result<String, AllocError> {
-    let offices = plan.offices();
-    let found = if offices == 2 {
-        ", and these two are none"
-    } else {
-        ""
-    };
-    format!(in alloc;
-        "a simulation needs a plan of two offices that are a pair, and this one has {offices}{found}"
-    )
 }
 
 fn say_line(

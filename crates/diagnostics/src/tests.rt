@@ -335,7 +335,7 @@ static SESSIONS: [Row; 40] = [
 ];
 
 /// The second line of a script of two sessions.
-static SCRIPTS: [Row; 14] = [
+static SCRIPTS: [Row; 23] = [
     (
         "submit 3",
         "there is no session `3`: they are counted from 1, and the file has 2",
@@ -358,12 +358,12 @@ static SCRIPTS: [Row; 14] = [
     ),
     (
         "deliver 0",
-        "messages are counted from 1, in the order of their sending",
+        "frames are counted from 1, in the order of their sending",
         "",
     ),
     (
         "deliver 1 2",
-        "expected `deliver K`, with the number of a message, and found ",
+        "expected `deliver K`, with the number of a frame, and found ",
         "`deliver 1 2`",
     ),
     ("do a", "expected `do OFFICE RULE`, and found ", "`do a`"),
@@ -371,11 +371,21 @@ static SCRIPTS: [Row; 14] = [
     (
         "do a brew",
         "`brew` is no rule; the rules are ",
-        "start, askbottle RECORD, givebottle RECORD, drink, work N and finish",
+        "start, hungry, askfork OFFICE, givefork OFFICE, eat, leave, askbottle RECORD, givebottle RECORD, drink, work N and finish",
     ),
     (
         "do a start x",
         "nothing may follow the rule, and not `x`",
+        "",
+    ),
+    (
+        "do a hungry b",
+        "nothing may follow the rule, and not `b`",
+        "",
+    ),
+    (
+        "do a askfork q",
+        "`q` is no office of the plan, and the rule needs one",
         "",
     ),
     (
@@ -389,9 +399,32 @@ static SCRIPTS: [Row; 14] = [
         "",
     ),
     (
+        "advance a",
+        "expected `advance OFFICE N`, and found ",
+        "`advance a`",
+    ),
+    ("advance q 1", "the plan has no office `q`", ""),
+    (
+        "advance a 1001",
+        "`1001` is no number of rules, which is 1 to 1000",
+        "",
+    ),
+    (
+        "send a b",
+        "expected `send OFFICE NEIGHBOUR I`, and found ",
+        "`send a b`",
+    ),
+    ("send q b 1", "the plan has no office `q`", ""),
+    ("send a q 1", "the plan has no office `q`", ""),
+    (
+        "send a b first",
+        "`first` is no number of a message that waits, which is counted from 1, or 0 for the count alone",
+        "",
+    ),
+    (
         "go on",
         "`go` begins no line of a script; these are ",
-        "`submit N`, `do OFFICE RULE` and `deliver K`",
+        "`submit N`, `do OFFICE RULE`, `advance OFFICE N`, `send OFFICE NEIGHBOUR I` and `deliver K`",
     ),
     (
         "do a\u{7f}",

@@ -5,19 +5,17 @@ use Rattle.input_texts.specs.Words.{HasText, HaveTexts, IsReadUpTo, Unread}
 use Rattle.office_map.specs.PlanValue.{PlanValue}
 use Rattle.session_meaning.specs.ProgramValue.{ProgramValue}
 use Rattle.session_language.specs.Reading.{sessions_of}
-use Rattle.world_schedule.specs.declared.event.WorldEvent.{WorldEvent}
 use Rattle.drink_commands.specs.declared.input.Input.{Input}
 use Rattle.drink_commands.specs.declared.input.Input.TheVariants as inputs
 use Rattle.drink_commands.specs.declared.fault.Why.{Why}
-use Rattle.drink_commands.specs.declared.fault.Why.TheVariants.{Plan, Ring, TwoOffices, Sessions, Script}
+use Rattle.drink_commands.specs.declared.fault.Why.TheVariants.{Plan, Ring, Sessions, Script}
 use Rattle.drink_commands.specs.declared.fault.Fault.{Fault}
 use Rattle.drink_commands.specs.declared.fault.Fault.TheVariants.{Memory, ReadFailed, Refused, WriteFailed}
 use Rattle.drink_commands.specs.Fault.{IsAmong, IsFaultAt, IsWriteFault, input_of, refused_input}
 use Rattle.drink_commands.specs.Input.{place_of}
 use Rattle.drink_commands.specs.Plans.{IsAcceptedAs}
-use Rattle.drink_commands.specs.Script.{IsScript}
+use Rattle.script_runs.specs.Script.{Act, IsScript}
 use Rattle.drink_commands.specs.Texts.{IsPlan, AreSessions, AreAccepted, IsRefused, Either, Judges}
-use Rattle.drink_commands.proofs.Limits.{script_refused}
 
 pub weaker : (input : Input) (P Q : Why → Type 0) (f : Fault) → ((why : Why) → P why → Q why) → IsFaultAt input P f → IsFaultAt input Q f
 weaker input P Q Memory k h = tt
@@ -40,30 +38,14 @@ either : (b : Bool) (A B : Type 0) → (b ≡ true → A) → (b ≡ false → B
 either true A B f g = f refl
 either false A B f g = g refl
 
--- the texts with another script
-abbrev pub with_script : (Input → List ℕ) → List ℕ → Input → List ℕ
-with_script texts script inputs.Plan = texts inputs.Plan
-with_script texts script inputs.Sessions = texts inputs.Sessions
-with_script texts script inputs.Script = script
-
--- a refusal of what was read of the script
-pub read_refused : (takes : PlanValue → Bool) (texts : Input → List ℕ) (read : List ℕ) (why : Why) → IsReadUpTo 16777216 (texts inputs.Script) read
-    → IsRefused takes (with_script texts read) why → IsRefused takes texts why
-read_refused takes texts read (Plan r) was h = h
-read_refused takes texts read (Ring r) was h = h
-read_refused takes texts read TwoOffices was h = h
-read_refused takes texts read (Sessions r) was h = h
-read_refused takes texts read (Script r) was (p, programs, sessions, refused) =
-    (p, programs, sessions, script_refused p programs (texts inputs.Script) read r was refused)
-
 is_below : (m n : ℕ) → nat_lt m n ≡ true → m < n
 is_below m n e = grind (arith, nat_tests, e)
 
 is_not_below : (m n : ℕ) → nat_lt m n ≡ false → n ≤ m
 is_not_below m n e = grind (arith, nat_tests, e)
 
-module _ (takes : PlanValue → Bool) (texts : Input → List ℕ) where
-  none_known : (f : Fault) → Judges takes texts zero f
+module _ (texts : Input → List ℕ) where
+  none_known : (f : Fault) → Judges texts zero f
   none_known Memory = tt
   none_known (ReadFailed input cause) = either (nat_lt (place_of input) 0) _ _ (λ t. absurd (omega (arith, is_below (place_of input) 0 t))) (λ f. tt)
   none_known (Refused why remark) =
@@ -72,11 +54,11 @@ module _ (takes : PlanValue → Bool) (texts : Input → List ℕ) where
 
   -- a fault at this input, where so many texts are known: those before are accepted, and if it is known, what is said of it
   at_input : (input : Input) (n : ℕ) (P : Why → Type 0) (f : Fault) → IsFaultAt input P f
-      → (place_of input < n → AreAccepted takes texts (place_of input)) → (n ≤ place_of input → AreAccepted takes texts n)
-      → ((why : Why) → place_of input < n → P why → IsRefused takes texts why) → Judges takes texts n f
+      → (place_of input < n → AreAccepted texts (place_of input)) → (n ≤ place_of input → AreAccepted texts n)
+      → ((why : Why) → place_of input < n → P why → IsRefused texts why) → Judges texts n f
   at_input input n P Memory h before all refused = tt
   at_input input n P (ReadFailed failed cause) h before all refused =
-      subst (λ i. Either (nat_lt (place_of i) n) (AreAccepted takes texts (place_of i)) (AreAccepted takes texts n)) (sym h)
+      subst (λ i. Either (nat_lt (place_of i) n) (AreAccepted texts (place_of i)) (AreAccepted texts n)) (sym h)
       (either (nat_lt (place_of input) n) _ _ (λ t. before (is_below (place_of input) n t)) (λ f. all (is_not_below (place_of input) n f)))
   at_input input n P (Refused why remark) (e, h) before all refused =
       let place_is : place_of (refused_input why) ≡ place_of input = ap place_of e in
@@ -88,10 +70,10 @@ module _ (takes : PlanValue → Bool) (texts : Input → List ℕ) where
   -- ---- the plan
 
   abbrev pub RefusesPlan : (List ℕ → Option (List ℕ)) → Unread → List ℕ → Why → Type 0
-  RefusesPlan files u word why = (texts : Input → List ℕ) (after : Unread) → HasText files u word (texts inputs.Plan) after → IsRefused takes texts why
+  RefusesPlan files u word why = (texts : Input → List ℕ) (after : Unread) → HasText files u word (texts inputs.Plan) after → IsRefused texts why
 
   pub plan_judged : (files : List ℕ → Option (List ℕ)) (u : Unread) (w : List ℕ) (ws ts : List (List ℕ)) (n : ℕ) (f : Fault)
-      → IsFaultAt inputs.Plan (RefusesPlan files u w) f → HaveTexts files u (take n (w ∷ ws)) (take n (texts inputs.Plan ∷ ts)) → Judges takes texts n f
+      → IsFaultAt inputs.Plan (RefusesPlan files u w) f → HaveTexts files u (take n (w ∷ ws)) (take n (texts inputs.Plan ∷ ts)) → Judges texts n f
   plan_judged files u w ws ts zero f h k = none_known f
   plan_judged files u w ws ts (suc n) f h (after, has, more) =
       at_input inputs.Plan (suc n) (RefusesPlan files u w) f h (λ lt. tt) (λ le. absurd (omega (arith, le))) (λ why lt p. p texts after has)
@@ -102,21 +84,21 @@ module _ (takes : PlanValue → Bool) (texts : Input → List ℕ) where
   Accepts files u word v p = (text : List ℕ) (after : Unread) → HasText files u word text after → IsAcceptedAs text p × (v ≡ after)
 
   abbrev pub RefusesSessions : (List ℕ → Option (List ℕ)) → Unread → List ℕ → PlanValue → Why → Type 0
-  RefusesSessions files v word p why = (texts : Input → List ℕ) (after : Unread) → IsPlan takes texts p
-      → HasText files v word (texts inputs.Sessions) after → IsRefused takes texts why
+  RefusesSessions files v word p why = (texts : Input → List ℕ) (after : Unread) → IsPlan texts p
+      → HasText files v word (texts inputs.Sessions) after → IsRefused texts why
 
   pub sessions_judged : (files : List ℕ → Option (List ℕ)) (u v : Unread) (a b : List ℕ) (ws ts : List (List ℕ)) (p : PlanValue) (n : ℕ) (f : Fault)
-      → Accepts files u a v p → takes p ≡ true → IsFaultAt inputs.Sessions (RefusesSessions files v b p) f
-      → HaveTexts files u (take n (a ∷ b ∷ ws)) (take n (texts inputs.Plan ∷ texts inputs.Sessions ∷ ts)) → Judges takes texts n f
-  sessions_judged files u v a b ws ts p zero f plan t h k = none_known f
-  sessions_judged files u v a b ws ts p (suc zero) f plan t h (after, has, more) =
+      → Accepts files u a v p → IsFaultAt inputs.Sessions (RefusesSessions files v b p) f
+      → HaveTexts files u (take n (a ∷ b ∷ ws)) (take n (texts inputs.Plan ∷ texts inputs.Sessions ∷ ts)) → Judges texts n f
+  sessions_judged files u v a b ws ts p zero f plan h k = none_known f
+  sessions_judged files u v a b ws ts p (suc zero) f plan h (after, has, more) =
       let it = plan (texts inputs.Plan) after has in
-      at_input inputs.Sessions 1 (RefusesSessions files v b p) f h (λ lt. absurd (omega (arith, lt))) (λ le. (p, (it.0, t)))
+      at_input inputs.Sessions 1 (RefusesSessions files v b p) f h (λ lt. absurd (omega (arith, lt))) (λ le. (p, it.0))
       (λ why lt r. absurd (omega (arith, lt)))
-  sessions_judged files u v a b ws ts p (suc (suc n)) f plan t h (after, has, (next, has_next, more)) =
+  sessions_judged files u v a b ws ts p (suc (suc n)) f plan h (after, has, (next, has_next, more)) =
       let it = plan (texts inputs.Plan) after has in
-      at_input inputs.Sessions (suc (suc n)) (RefusesSessions files v b p) f h (λ lt. (p, (it.0, t))) (λ le. absurd (omega (arith, le)))
-      (λ why lt r. r texts next (it.0, t) (subst (λ w. HasText files w b (texts inputs.Sessions) next) (sym it.1) has_next))
+      at_input inputs.Sessions (suc (suc n)) (RefusesSessions files v b p) f h (λ lt. (p, it.0)) (λ le. absurd (omega (arith, le)))
+      (λ why lt r. r texts next it.0 (subst (λ w. HasText files w b (texts inputs.Sessions) next) (sym it.1) has_next))
 
   -- ---- the script
 
@@ -125,66 +107,66 @@ module _ (takes : PlanValue → Bool) (texts : Input → List ℕ) where
       → (sessions_of p text ≡ Ok programs) × (w ≡ after)
 
   abbrev pub RefusesScript : (List ℕ → Option (List ℕ)) → Unread → List ℕ → PlanValue → List ProgramValue → Why → Type 0
-  RefusesScript files w word p programs why = (texts : Input → List ℕ) (after : Unread) → AreSessions takes texts p programs
-      → HasText files w word (texts inputs.Script) after → IsRefused takes texts why
+  RefusesScript files w word p programs why = (texts : Input → List ℕ) (after : Unread) → AreSessions texts p programs
+      → HasText files w word (texts inputs.Script) after → IsRefused texts why
 
   pub script_judged : (files : List ℕ → Option (List ℕ)) (u v w : Unread) (a b c : List ℕ) (ws ts : List (List ℕ)) (p : PlanValue)
-      (programs : List ProgramValue) (n : ℕ) (f : Fault) → Accepts files u a v p → takes p ≡ true → AcceptsSessions files v b w p programs
+      (programs : List ProgramValue) (n : ℕ) (f : Fault) → Accepts files u a v p → AcceptsSessions files v b w p programs
       → IsFaultAt inputs.Script (RefusesScript files w c p programs) f
       → HaveTexts files u (take n (a ∷ b ∷ c ∷ ws)) (take n (texts inputs.Plan ∷ texts inputs.Sessions ∷ texts inputs.Script ∷ ts))
-      → Judges takes texts n f
-  script_judged files u v w a b c ws ts p programs zero f plan t sessions h k = none_known f
-  script_judged files u v w a b c ws ts p programs (suc zero) f plan t sessions h (after, has, more) =
+      → Judges texts n f
+  script_judged files u v w a b c ws ts p programs zero f plan sessions h k = none_known f
+  script_judged files u v w a b c ws ts p programs (suc zero) f plan sessions h (after, has, more) =
       let it = plan (texts inputs.Plan) after has in
-      at_input inputs.Script 1 (RefusesScript files w c p programs) f h (λ lt. absurd (omega (arith, lt))) (λ le. (p, (it.0, t)))
+      at_input inputs.Script 1 (RefusesScript files w c p programs) f h (λ lt. absurd (omega (arith, lt))) (λ le. (p, it.0))
       (λ why lt r. absurd (omega (arith, lt)))
-  script_judged files u v w a b c ws ts p programs (suc (suc zero)) f plan t sessions h (after, has, (next, has_next, more)) =
+  script_judged files u v w a b c ws ts p programs (suc (suc zero)) f plan sessions h (after, has, (next, has_next, more)) =
       let it = plan (texts inputs.Plan) after has in
       let then_it = sessions (texts inputs.Sessions) next (subst (λ s. HasText files s b (texts inputs.Sessions) next) (sym it.1) has_next) in
-      at_input inputs.Script 2 (RefusesScript files w c p programs) f h (λ lt. absurd (omega (arith, lt))) (λ le. (p, programs, ((it.0, t), then_it.0)))
+      at_input inputs.Script 2 (RefusesScript files w c p programs) f h (λ lt. absurd (omega (arith, lt))) (λ le. (p, programs, (it.0, then_it.0)))
       (λ why lt r. absurd (omega (arith, lt)))
-  script_judged files u v w a b c ws ts p programs (suc (suc (suc n))) f plan t sessions h (after, has, (next, has_next, (last, has_last, more))) =
+  script_judged files u v w a b c ws ts p programs (suc (suc (suc n))) f plan sessions h (after, has, (next, has_next, (last, has_last, more))) =
       let it = plan (texts inputs.Plan) after has in
       let then_it = sessions (texts inputs.Sessions) next (subst (λ s. HasText files s b (texts inputs.Sessions) next) (sym it.1) has_next) in
-      at_input inputs.Script (suc (suc (suc n))) (RefusesScript files w c p programs) f h (λ lt. (p, programs, ((it.0, t), then_it.0)))
+      at_input inputs.Script (suc (suc (suc n))) (RefusesScript files w c p programs) f h (λ lt. (p, programs, (it.0, then_it.0)))
       (λ le. absurd (omega (arith, le)))
-      (λ why lt r. r texts last ((it.0, t), then_it.0) (subst (λ s. HasText files s c (texts inputs.Script) last) (sym then_it.1) has_last))
+      (λ why lt r. r texts last (it.0, then_it.0) (subst (λ s. HasText files s c (texts inputs.Script) last) (sym then_it.1) has_last))
 
   -- ---- the output
 
   pub two_accepted : (files : List ℕ → Option (List ℕ)) (u v w : Unread) (a b : List ℕ) (p : PlanValue) (programs : List ProgramValue) (n : ℕ)
-      → n ≤ 2 → Accepts files u a v p → takes p ≡ true → AcceptsSessions files v b w p programs
-      → HaveTexts files u (take n (a ∷ b ∷ [])) (take n (texts inputs.Plan ∷ texts inputs.Sessions ∷ [])) → AreAccepted takes texts n
-  two_accepted files u v w a b p programs zero le plan t sessions k = tt
-  two_accepted files u v w a b p programs (suc zero) le plan t sessions (after, has, more) = (p, ((plan (texts inputs.Plan) after has).0, t))
-  two_accepted files u v w a b p programs (suc (suc zero)) le plan t sessions (after, has, (next, has_next, more)) =
+      → n ≤ 2 → Accepts files u a v p → AcceptsSessions files v b w p programs
+      → HaveTexts files u (take n (a ∷ b ∷ [])) (take n (texts inputs.Plan ∷ texts inputs.Sessions ∷ [])) → AreAccepted texts n
+  two_accepted files u v w a b p programs zero le plan sessions k = tt
+  two_accepted files u v w a b p programs (suc zero) le plan sessions (after, has, more) = (p, (plan (texts inputs.Plan) after has).0)
+  two_accepted files u v w a b p programs (suc (suc zero)) le plan sessions (after, has, (next, has_next, more)) =
       let it = plan (texts inputs.Plan) after has in
-      (p, programs, ((it.0, t), (sessions (texts inputs.Sessions) next (subst (λ s. HasText files s b (texts inputs.Sessions) next) (sym it.1) has_next)).0))
-  two_accepted files u v w a b p programs (suc (suc (suc n))) le plan t sessions k = absurd (omega (arith, le))
+      (p, programs, (it.0, (sessions (texts inputs.Sessions) next (subst (λ s. HasText files s b (texts inputs.Sessions) next) (sym it.1) has_next)).0))
+  two_accepted files u v w a b p programs (suc (suc (suc n))) le plan sessions k = absurd (omega (arith, le))
 
-  abbrev pub AcceptsScript : (List ℕ → Option (List ℕ)) → Unread → List ℕ → Unread → PlanValue → List ProgramValue → List WorldEvent → Type 0
+  abbrev pub AcceptsScript : (List ℕ → Option (List ℕ)) → Unread → List ℕ → Unread → PlanValue → List ProgramValue → List Act → Type 0
   AcceptsScript files w word x p programs events = (text : List ℕ) (after : Unread) → HasText files w word text after
       → IsScript p programs text events × (x ≡ after)
 
   pub three_accepted : (files : List ℕ → Option (List ℕ)) (u v w x : Unread) (a b c : List ℕ) (p : PlanValue) (programs : List ProgramValue)
-      (events : List WorldEvent) (n : ℕ) → n ≤ 3 → Accepts files u a v p → takes p ≡ true → AcceptsSessions files v b w p programs
+      (events : List Act) (n : ℕ) → n ≤ 3 → Accepts files u a v p → AcceptsSessions files v b w p programs
       → AcceptsScript files w c x p programs events
       → HaveTexts files u (take n (a ∷ b ∷ c ∷ [])) (take n (texts inputs.Plan ∷ texts inputs.Sessions ∷ texts inputs.Script ∷ []))
-      → AreAccepted takes texts n
-  three_accepted files u v w x a b c p programs events zero le plan t sessions script k = tt
-  three_accepted files u v w x a b c p programs events (suc zero) le plan t sessions script (after, has, more) =
-      (p, ((plan (texts inputs.Plan) after has).0, t))
-  three_accepted files u v w x a b c p programs events (suc (suc zero)) le plan t sessions script (after, has, (next, has_next, more)) =
+      → AreAccepted texts n
+  three_accepted files u v w x a b c p programs events zero le plan sessions script k = tt
+  three_accepted files u v w x a b c p programs events (suc zero) le plan sessions script (after, has, more) =
+      (p, (plan (texts inputs.Plan) after has).0)
+  three_accepted files u v w x a b c p programs events (suc (suc zero)) le plan sessions script (after, has, (next, has_next, more)) =
       let it = plan (texts inputs.Plan) after has in
-      (p, programs, ((it.0, t), (sessions (texts inputs.Sessions) next (subst (λ s. HasText files s b (texts inputs.Sessions) next) (sym it.1) has_next)).0))
-  three_accepted files u v w x a b c p programs events (suc (suc (suc zero))) le plan t sessions script (after, has, (next, has_next, (last, has_last, more))) =
+      (p, programs, (it.0, (sessions (texts inputs.Sessions) next (subst (λ s. HasText files s b (texts inputs.Sessions) next) (sym it.1) has_next)).0))
+  three_accepted files u v w x a b c p programs events (suc (suc (suc zero))) le plan sessions script (after, has, (next, has_next, (last, has_last, more))) =
       let it = plan (texts inputs.Plan) after has in
       let then_it = sessions (texts inputs.Sessions) next (subst (λ s. HasText files s b (texts inputs.Sessions) next) (sym it.1) has_next) in
       let at_last = script (texts inputs.Script) last (subst (λ s. HasText files s c (texts inputs.Script) last) (sym then_it.1) has_last) in
-      (p, programs, events, (((it.0, t), then_it.0), at_last.0))
-  three_accepted files u v w x a b c p programs events (suc (suc (suc (suc n)))) le plan t sessions script k = absurd (omega (arith, le))
+      (p, programs, events, ((it.0, then_it.0), at_last.0))
+  three_accepted files u v w x a b c p programs events (suc (suc (suc (suc n)))) le plan sessions script k = absurd (omega (arith, le))
 
-  pub write_judged : (n : ℕ) (f : Fault) → IsWriteFault f → AreAccepted takes texts n → Judges takes texts n f
+  pub write_judged : (n : ℕ) (f : Fault) → IsWriteFault f → AreAccepted texts n → Judges texts n f
   write_judged n Memory h k = absurd h
   write_judged n (ReadFailed input cause) h k = absurd h
   write_judged n (Refused why remark) h k = absurd h

@@ -9,10 +9,9 @@ use Rattle.office_map.specs.declared.fault.PlanRule.TheVariants as plan_rules
 use Rattle.session_meaning.specs.ProgramValue.{ProgramValue}
 use Rattle.session_language.specs.declared.fault.SessionRule.TheVariants as rules_of
 use Rattle.session_language.specs.Reading.{sessions_of}
-use Rattle.world_schedule.specs.declared.event.WorldEvent.{WorldEvent}
-use Rattle.drink_commands.specs.declared.fault.ScriptRefusal.{ScriptRefusal}
+use Rattle.script_runs.specs.declared.fault.ScriptRefusal.{ScriptRefusal}
 use Rattle.drink_commands.specs.Plans.{IsAcceptedAs}
-use Rattle.drink_commands.specs.Script.{IsScript, RefusesScript}
+use Rattle.script_runs.specs.Script.{Act, IsScript, RefusesScript}
 
 -- what was read of a word's text
 abbrev pub WasRead : (List ℕ → Option (List ℕ)) → Unread → List ℕ → Unread → ℕ → List ℕ → Type 0
@@ -82,7 +81,7 @@ same_text limit text read short (inl e) = e
 same_text limit text read short (inr (a, b)) = absurd (omega (arith, short, a))
 
 pub script_accepted : (files : List ℕ → Option (List ℕ)) (old : Unread) (word : List ℕ) (new : Unread) (read : List ℕ) (p : PlanValue)
-    (programs : List ProgramValue) (events : List WorldEvent) → WasRead files old word new 16777216 read → IsScript p programs read events
+    (programs : List ProgramValue) (events : List Act) → WasRead files old word new 16777216 read → IsScript p programs read events
     → (text : List ℕ) (after : Unread) → HasText files old word text after → IsScript p programs text events × (new ≡ after)
 script_accepted files old word new read p programs events was h text after has =
     let it = was text after has in

@@ -1,20 +1,12 @@
--- Rows for each number below another, and the rows of a table's values.
-use Rattle.std.proofs.Common.{◌≡◌, ◌+◌, ◌<◌, ℕ, zero, suc, List, ◌++◌, length, pos, refl, sym, ap, ◌∙◌, append_assoc, arith}
+-- The rows of a table's values.
+use Rattle.std.proofs.Common.{◌≡◌, ◌+◌, ◌<◌, ℕ, zero, suc, List, ◌++◌, length, pos, refl, ap, ◌∙◌, arith}
 use Rattle.std.specs.List.{flat_map, range_with_len}
-use Rattle.std.proofs.lemmas.List.{append-nil}
 use Rattle.std.proofs.lemmas.Option.{get_or_from_slice_get}
 use Rattle.bottle_values.specs.declared.Value.{Value}
 use Rattle.office_map.specs.PlanValue.{PlanValue}
 use Rattle.session_meaning.specs.declared.ending.Outcome.{Outcome}
 use Rattle.serial_replay.specs.Serial.{ListsValues}
-use Rattle.drink_commands.specs.Report.{outcome_line, value_line, value_lines, value_at, report_of}
-
-last : (f : ℕ → List ℕ) (a n j : ℕ) → a + n ≡ j → flat_map f (range_with_len a (suc n)) ≡ flat_map f (range_with_len a n) ++ f j
-last f a zero j e = let here : a ≡ j = omega (arith, e) in append-nil (f a) ∙ ap f here
-last f a (suc n) j e = ap (λ rows. f a ++ rows) (last f (a + 1) n j (omega (arith, e))) ∙ sym (append_assoc (f a) _ (f j))
-
-pub rows_more : (f : ℕ → List ℕ) (n : ℕ) → flat_map f (range_with_len 0 (n + 1)) ≡ flat_map f (range_with_len 0 n) ++ f n
-rows_more f n = let more : n + 1 ≡ suc n = omega arith in ap (λ k. flat_map f (range_with_len 0 k)) more ∙ last f 0 n n (omega arith)
+use Rattle.script_runs.specs.Report.{outcome_line, value_line, value_lines, value_at, report_of}
 
 same_rows : (f g : ℕ → List ℕ) (a n : ℕ) → ((r : ℕ) → r < a + n → f r ≡ g r) → flat_map f (range_with_len a n) ≡ flat_map g (range_with_len a n)
 same_rows f g a zero h = refl
@@ -33,9 +25,3 @@ report_is p shown meant values kept m e k t =
     ∙ ap (λ os. flat_map (outcome_line p) os ++ value_lines p (value_at kept)) e
     ∙ ap (λ rows. flat_map (outcome_line p) meant ++ rows)
     (same_rows (λ r. value_line p r (value_at kept r)) (λ r. value_line p r (m r)) 0 (length p.records) (λ r lt. ap (value_line p r) (value_is kept _ m t r (omega (arith, lt)))))
-
--- three parts, added one after the other
-pub three_added : (old a b c first second third : List ℕ) → first ≡ old ++ a → second ≡ first ++ b → third ≡ second ++ c → third ≡ old ++ (a ++ (b ++ c))
-three_added old a b c first second third e f g =
-    let two : second ≡ old ++ (a ++ b) = f ∙ ap (λ t. t ++ b) e ∙ append_assoc old a b in
-    g ∙ ap (λ t. t ++ c) two ∙ append_assoc old (a ++ b) c ∙ ap (λ t. old ++ t) (append_assoc a b c)

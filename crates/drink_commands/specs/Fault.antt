@@ -3,7 +3,7 @@ use Rattle.std.specs.Prelude.{◌≡◌, List, Contains, Option, Some, None}
 use Rattle.drink_commands.specs.declared.input.Input.{Input}
 use Rattle.drink_commands.specs.declared.input.Input.TheVariants as inputs
 use Rattle.drink_commands.specs.declared.fault.Why.{Why}
-use Rattle.drink_commands.specs.declared.fault.Why.TheVariants.{Plan, Ring, TwoOffices, Sessions, Script}
+use Rattle.drink_commands.specs.declared.fault.Why.TheVariants.{Plan, Ring, Sessions, Script}
 use Rattle.drink_commands.specs.declared.fault.Fault.{Fault}
 use Rattle.drink_commands.specs.declared.fault.Fault.TheVariants.{Memory, ReadFailed, Refused, WriteFailed}
 
@@ -11,7 +11,6 @@ use Rattle.drink_commands.specs.declared.fault.Fault.TheVariants.{Memory, ReadFa
 abbrev pub refused_input : Why → Input
 refused_input (Plan r) = inputs.Plan
 refused_input (Ring r) = inputs.Plan
-refused_input TwoOffices = inputs.Plan
 refused_input (Sessions r) = inputs.Sessions
 refused_input (Script r) = inputs.Script
 

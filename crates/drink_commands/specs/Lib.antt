@@ -1,13 +1,9 @@
 pub mod Plans
 pub mod Input
 pub mod Fault
-pub mod Report
 pub mod Texts
 pub mod Requests
 pub mod Status
 pub mod Serial
 pub mod CommandLine
-pub mod Script
-pub mod ScriptLines
-pub mod Transcript
-pub mod refinement
+pub mod Simulation

@@ -2,7 +2,7 @@
 use Rattle.std.specs.Prelude.{List, [], ◌∷◌, ℕ, Option}
 use Rattle.input_texts.specs.Words.{StandFor}
 use Rattle.drink_commands.specs.Serial.{Reports}
-use Rattle.drink_commands.specs.Transcript.{Simulates}
+use Rattle.drink_commands.specs.Simulation.{Simulates}
 use Rattle.drink_commands.specs.declared.input.Input.{Input}
 use Rattle.drink_commands.specs.declared.input.Input.TheVariants as inputs
 use Rattle.drink_commands.specs.declared.command_line.Request.{Request}

@@ -9,16 +9,16 @@ ghost use Rattle.session_language.specs.Program.{fits};
 ghost use Rattle.drink_commands.specs.Fault.{IsAmong, IsWriteFault, input_of};
 ghost use Rattle.drink_commands.specs.Serial.{Reports, serial_report};
 ghost use Rattle.drink_commands.specs.Texts.{Judges};
-ghost use Rattle.drink_commands.specs.Transcript.{Simulates, is_of_one_pair};
+ghost use Rattle.drink_commands.specs.Simulation.{Simulates};
 ghost use Rattle.drink_commands.specs.declared.input.Input.{Input};
 
 use crate::fault::Fault;
 use crate::input::Input;
-use crate::report::report;
-use crate::texts::{read_events, read_pair, read_plan, read_programs};
-use crate::transcript::transcript;
+use crate::texts::{read_events, read_plan, read_programs};
 use input_texts::{Sources, StandardInput};
 use office_map::Plan;
+use script_runs::report::report;
+use script_runs::transcript::transcript;
 use serial_replay::replay;
 use session_language::Program;
 use std::alloc::{AllocError, Global};
@@ -44,7 +44,7 @@ pub fn serial<S: Sources, W: Write>(
     ensures judged { IfErr result (λ f. (texts : Input → List ℕ) (n : ℕ)
         → HaveFirstTexts (S.file_text sources.now) (S.standard_text sources.now) (plan.now ∷ sessions.now ∷ [])
         (texts Input.Plan ∷ texts Input.Sessions ∷ []) n
-        → Judges (λ p. true) texts n f) }
+        → Judges texts n f) }
     ensures input { IfErr result (λ f. IsAmong (Input.Plan ∷ Input.Sessions ∷ []) (input_of f)) }
     ensures unwritten { IfErr result (λ f. IsWriteFault f ⊎ (out.new ≡ out.old)) }
 {
@@ -57,8 +57,7 @@ pub fn serial<S: Sources, W: Write>(
     Ok(DONE)
 }
 
-/// Runs a script on the world of a plan of two offices and one pair, and writes a line for each event and then what the
-/// finished sessions did, how many submitted ones haven't finished, and the values. Each input is read and judged before
+/// Runs a script on the world of a plan, and writes a line for each event and then what the finished sessions did, how many submitted ones haven't finished, and the values. Each input is read and judged before
 /// the next one is read, and nothing is run or written before all are judged. A refused event is told in its line, and
 /// is no fault. The answer is the exit status.
 pub fn sim<S: Sources, W: Write>(
@@ -78,12 +77,12 @@ pub fn sim<S: Sources, W: Write>(
     ensures judged { IfErr result (λ f. (texts : Input → List ℕ) (n : ℕ)
         → HaveFirstTexts (S.file_text sources.now) (S.standard_text sources.now) (plan.now ∷ sessions.now ∷ script.now ∷ [])
         (texts Input.Plan ∷ texts Input.Sessions ∷ texts Input.Script ∷ []) n
-        → Judges is_of_one_pair texts n f) }
+        → Judges texts n f) }
     ensures unwritten { IfErr result (λ f. IsWriteFault f ⊎ (out.new ≡ out.old)) }
 {
     let words = [plan, sessions, script];
     let mut standard = StandardInput::new(alloc, sources.standard(), &words);
-    let plan = read_pair(alloc, sources, &mut standard, plan)?;
+    let plan = read_plan(alloc, sources, &mut standard, plan)?;
     let programs = read_programs(alloc, sources, &mut standard, sessions, &plan)?;
     let events = read_events(alloc, sources, &mut standard, script, &plan, &programs)?;
     let printed = transcript(alloc, &plan, &programs, &events)?;

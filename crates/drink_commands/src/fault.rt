@@ -6,17 +6,12 @@ ghost use Rattle.drink_commands.specs.Fault.{input_of, refused_input};
 
 use crate::input::Input;
 use office_map::{PlanRefusal, Ring};
+use script_runs::ScriptRefusal;
 use session_language::SessionRefusal;
 use std::alloc::{AllocError, AllocFailed};
 use std::error::Error;
 use std::fmt;
 use std::io::ErrorKind;
-
-/// The first faulty line of a script: from 1, or 0 where the text is too long.
-#[derive(Clone, Copy, Debug, PartialEq, Eq)]
-pub struct ScriptRefusal {
-    pub line: u64,
-}
 
 /// Why the text of an input is refused.
 #[derive(Debug, Drop, PartialEq, Eq)]
@@ -24,8 +19,6 @@ pub enum Why {
     Plan(PlanRefusal),
     /// The plan's offices precede one another in a ring.
     Ring(Ring),
-    /// The plan of a simulation isn't of two offices and one pair.
-    TwoOffices,
     Sessions(SessionRefusal),
     Script(ScriptRefusal),
 }
@@ -36,7 +29,7 @@ impl Why {
         ensures { result ≡ refused_input self.now }
     {
         match *self {
-            Why::Plan(_) | Why::Ring(_) | Why::TwoOffices => Input::Plan,
+            Why::Plan(_) | Why::Ring(_) => Input::Plan,
             Why::Sessions(_) => Input::Sessions,
             Why::Script(_) => Input::Script,
         }
@@ -46,7 +39,7 @@ impl Why {
     fn line(&self) -> u64 {
         match self {
             Why::Plan(refusal) => refusal.line,
-            Why::Ring(_) | Why::TwoOffices => 0,
+            Why::Ring(_) => 0,
             Why::Sessions(refusal) => refusal.line,
             Why::Script(refusal) => refusal.line,
         }
@@ -96,7 +89,6 @@ impl fmt::Display for Why {
                 write!(f, "{rule}")
             }
             Why::Ring(_) => write!(f, "P8 Ring"),
-            Why::TwoOffices => write!(f, "X3 TwoOffices"),
             Why::Sessions(refusal) => {
                 let rule = refusal.rule;
                 write!(f, "{rule}")

@@ -19,7 +19,7 @@ impl Input {
         match self {
             Input::Plan => 262_144,
             Input::Sessions => 1_048_576,
-            Input::Script => 16_777_216,
+            Input::Script => script_runs::MAX_BYTES,
         }
     }
 }

@@ -10,24 +10,18 @@
 //! - [`program::perform`] carries a request out, from the texts that its words stand for (clause `done`); [`program::answer`]
 //!   does what the words of a command line ask for, with status 0 only where that was done (clause `done`), and [`run`]
 //!   hands it the files, the standard input and the output that the program was started with.
-//! - [`laws`] says that the line which prints an event of a script reads back as that event.
 //!
-//! What is printed is in `specs/Report.antt` and `specs/Transcript.antt`, which events a script means in
-//! `specs/Script.antt`, what a fault says of the texts in `specs/Texts.antt`, and which texts words stand for in the crate
-//! `input_texts`. Which bytes a file, the standard input or a terminal gives or takes is outside what is proved.
+//! What is printed, and which events a script means, is in the crate `script_runs`, what a fault says of the texts in
+//! `specs/Texts.antt`, and which texts words stand for in the crate `input_texts`. Which bytes a file, the standard input or a terminal gives or takes is outside what is proved.
 #![tactic(auto)]
 
 pub mod command_line;
 pub mod commands;
 pub mod fault;
 pub mod input;
-pub mod laws;
 pub mod program;
-pub mod report;
-pub mod script;
 #[cfg(test)]
 mod tests;
 pub mod texts;
-pub mod transcript;
 
 pub use program::run;

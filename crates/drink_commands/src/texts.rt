@@ -1,6 +1,6 @@
 //! The texts of the inputs, read and judged.
 
-ghost use Rattle.std.specs.Prelude.{◌≡◌, ◌≤◌, All, Bool, IfErr, IfOk, IsTrue, List, Ok, Option, length, true, ℕ};
+ghost use Rattle.std.specs.Prelude.{◌≡◌, ◌≤◌, All, IfErr, IfOk, IsTrue, List, Ok, Option, length, true, ℕ};
 ghost use Rattle.input_texts.specs.Words.{HasText, IsReadUpTo, Unread};
 ghost use Rattle.office_map.specs.PlanValue.{PlanValue};
 ghost use Rattle.session_language.specs.Limits.{most_sessions};
@@ -9,17 +9,16 @@ ghost use Rattle.session_language.specs.Reading.{sessions_of};
 ghost use Rattle.drink_commands.specs.Fault.{IsFaultAt};
 ghost use Rattle.drink_commands.specs.Input.{limit_of};
 ghost use Rattle.drink_commands.specs.Plans.{IsAcceptedAs};
-ghost use Rattle.drink_commands.specs.Script.{IsScript, events_with};
+ghost use Rattle.script_runs.specs.Script.{IsScript, acts_with};
 ghost use Rattle.drink_commands.specs.Texts.{AreSessions, IsPlan, IsRefused};
-ghost use Rattle.drink_commands.specs.Transcript.{is_of_one_pair};
 ghost use Rattle.drink_commands.specs.declared.input.Input.{Input};
 
 use crate::fault::{Fault, Remark, Why};
 use crate::input::Input;
-use crate::script::{self, ScriptEvent};
-use diagnostics::{of_no_pair, of_plan, of_sessions};
+use diagnostics::{of_plan, of_script, of_sessions};
 use input_texts::{InputFault, Sources, StandardInput};
-use office_map::{OfficeId, Plan, PlanFault};
+use office_map::{Plan, PlanFault};
+use script_runs::{ScriptEvent, ScriptFault, script};
 use session_language::{LangFault, Program, read_sessions};
 use std::alloc::Global;
 use std::io::Read;
@@ -61,8 +60,8 @@ pub fn read_plan<S: Sources>(
 ) -> Result<Plan, Fault>
     ensures meaning { IfOk result (λ p. (text : List ℕ) (after : Unread) → HasText (S.file_text sources.now) standard.old word.now text after
         → IsAcceptedAs text p × (standard.new ≡ after)) }
-    ensures fault { IfErr result (IsFaultAt Input.Plan (λ why. (takes : PlanValue → Bool) (texts : Input → List ℕ) (after : Unread)
-        → HasText (S.file_text sources.now) standard.old word.now (texts Input.Plan) after → IsRefused takes texts why)) }
+    ensures fault { IfErr result (IsFaultAt Input.Plan (λ why. (texts : Input → List ℕ) (after : Unread)
+        → HasText (S.file_text sources.now) standard.old word.now (texts Input.Plan) after → IsRefused texts why)) }
 {
     let text = text(alloc, sources, standard, word, Input::Plan)?;
     match Plan::read(alloc, &text) {
@@ -85,37 +84,6 @@ pub fn read_plan<S: Sources>(
     }
 }
 
-/// The plan of two offices that are a pair, that an input means.
-pub fn read_pair<S: Sources>(
-    alloc: Global,
-    sources: &S,
-    standard: &mut StandardInput<S::Standard>,
-    word: &str,
-) -> Result<Plan, Fault>
-    ensures meaning { IfOk result (λ p. (text : List ℕ) (after : Unread) → HasText (S.file_text sources.now) standard.old word.now text after
-        → IsAcceptedAs text p × (standard.new ≡ after)) }
-    ensures one_pair { IfOk result (λ p. is_of_one_pair p ≡ true) }
-    ensures fault { IfErr result (IsFaultAt Input.Plan (λ why. (texts : Input → List ℕ) (after : Unread)
-        → HasText (S.file_text sources.now) standard.old word.now (texts Input.Plan) after → IsRefused is_of_one_pair texts why)) }
-{
-    let plan = read_plan(alloc, sources, standard, word)?;
-    if is_of_one_pair(&plan) {
-        Ok(plan)
-    } else {
-        let remark = Remark {
-            lines_above: 0,
-            text: of_no_pair(alloc, &plan)?,
-        };
-        Err(Fault::Refused(Why::TwoOffices, remark))
-    }
-}
-
-fn is_of_one_pair(plan: &Plan) -> bool
-    ensures { result ≡ is_of_one_pair plan.now }
-{
-    plan.offices() == 2 && plan.are_neighbours(OfficeId::new(0), OfficeId::new(1))
-}
-
 /// The programs of the sessions that an input means under a plan. Each fits the plan.
 pub fn read_programs<S: Sources>(
     alloc: Global,
@@ -128,9 +96,9 @@ pub fn read_programs<S: Sources>(
         → (sessions_of plan.now text ≡ Ok v.items) × (standard.new ≡ after)) }
     ensures fit { IfOk result (λ v. All (λ p. IsTrue (fits plan.now p)) v.items) }
     ensures few { IfOk result (λ v. length v.items ≤ most_sessions) }
-    ensures fault { IfErr result (IsFaultAt Input.Sessions (λ why. (takes : PlanValue → Bool) (texts : Input → List ℕ) (after : Unread)
-        → IsPlan takes texts plan.now → HasText (S.file_text sources.now) standard.old word.now (texts Input.Sessions) after
-        → IsRefused takes texts why)) }
+    ensures fault { IfErr result (IsFaultAt Input.Sessions (λ why. (texts : Input → List ℕ) (after : Unread)
+        → IsPlan texts plan.now → HasText (S.file_text sources.now) standard.old word.now (texts Input.Sessions) after
+        → IsRefused texts why)) }
 {
     let text = text(alloc, sources, standard, word, Input::Sessions)?;
     match read_sessions(alloc, &text, plan) {
@@ -156,11 +124,21 @@ pub fn read_events<S: Sources>(
     programs: &[Program],
 ) -> Result<Vec<ScriptEvent>, Fault>
     ensures meaning { IfOk result (λ v. (text : List ℕ) (after : Unread) → HasText (S.file_text sources.now) standard.old word.now text after
-        → IsScript plan.now programs.now text (events_with programs.now v.items) × (standard.new ≡ after)) }
-    ensures fault { IfErr result (IsFaultAt Input.Script (λ why. (takes : PlanValue → Bool) (texts : Input → List ℕ) (after : Unread)
-        → AreSessions takes texts plan.now programs.now → HasText (S.file_text sources.now) standard.old word.now (texts Input.Script) after
-        → IsRefused takes texts why)) }
+        → IsScript plan.now programs.now text (acts_with programs.now v.items) × (standard.new ≡ after)) }
+    ensures fault { IfErr result (IsFaultAt Input.Script (λ why. (texts : Input → List ℕ) (after : Unread)
+        → AreSessions texts plan.now programs.now → HasText (S.file_text sources.now) standard.old word.now (texts Input.Script) after
+        → IsRefused texts why)) }
 {
     let text = text(alloc, sources, standard, word, Input::Script)?;
-    script::events(alloc, &text, lines_above(standard, word), plan, programs)
+    match script::events(alloc, &text, plan, programs) {
+        Ok(events) => Ok(events),
+        Err(ScriptFault::Refused(refusal)) => {
+            let remark = Remark {
+                lines_above: lines_above(standard, word),
+                text: of_script(alloc, &text, plan, programs.len(), refusal.line)?,
+            };
+            Err(Fault::Refused(Why::Script(refusal), remark))
+        }
+        Err(ScriptFault::Memory) => Err(Fault::Memory),
+    }
 }

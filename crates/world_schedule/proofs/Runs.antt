@@ -1,85 +1,96 @@
--- Runs, and what the readers of a world tell.
-use Rattle.std.proofs.Common.{◌≡◌, ℕ, ◌+◌, ◌<◌, cond, Option, None, Some, List, [], ◌∷◌, ◌++◌, length, map, take, Result, Ok, Err, refl, sym, ap, ◌∙◌, arith, ⊎_elim, get_or}
-use Rattle.std.specs.Prelude.{nat_lt}
-use Rattle.std.specs.List.{sum_by, range_with_len}
+-- Runs of events.
+use Rattle.std.proofs.Common.{◌≡◌, ℕ, ◌+◌, ◌<◌, cond, List, [], ◌∷◌, ◌++◌, length, take, get_or, Option, None, Some, Ok, Err, refl, sym, ap, ◌∙◌, ⊎_elim}
+use Rattle.std.specs.Prelude.{Result, nat_lt, nat_le}
 use Rattle.std.proofs.lemmas.Bool.{cond_both}
 use Rattle.std.proofs.lemmas.List.{take_more}
-use Rattle.std.proofs.lemmas.List.FromFn.{sum_by-map-range_with_len_more}
-use Rattle.bottle_values.specs.Maps.{put}
-use Rattle.office_map.specs.PlanValue.{PlanValue}
-use Rattle.session_meaning.specs.Laws.{WritesWhatItHas}
-use Rattle.serial_replay.specs.Serial.{start_map, outcomes_of}
-use Rattle.world_schedule.specs.declared.message.Message.{Message}
-use Rattle.world_schedule.specs.declared.finished.Finished.{Finished}
-use Rattle.world_schedule.specs.declared.event.WorldEvent.{WorldEvent}
-use Rattle.world_schedule.specs.declared.event.WorldEvent.TheVariants as event
-use Rattle.world_schedule.specs.declared.reply.Reply.{Reply}
-use Rattle.world_schedule.specs.declared.reply.Reply.TheVariants as reply
-use Rattle.world_schedule.specs.declared.reply.Refusal.{Refusal}
-use Rattle.world_schedule.specs.declared.reply.Refusal.TheVariants as refusal
-use Rattle.world_schedule.specs.declared.tables.Office as code_office
-use Rattle.world_schedule.specs.Offices.{Office, may, is_ours, is_full, submitted}
-use Rattle.world_schedule.specs.Worlds.{World, Answer, submit, done, try_rule, taken, is_next, deliver, sent_as, at_office, happens, run_of, replies_of, programs, outcomes, OrMemory}
-use Rattle.world_schedule.specs.refinement.Tables.{office_table, office_at, world_in, IsWorld}
-use Rattle.world_schedule.proofs.StepRefines.{run_push, inv_of, office_there}
+use Rattle.frame_codec.specs.Frame.{Fields}
+use Rattle.office_map.specs.PlanValue.{PlanValue, are_neighbours}
+use Rattle.token_channel.specs.declared.fault.ChannelFault.{ChannelFault}
+use Rattle.site_core.specs.Limits.{most_entries}
+use Rattle.site_core.specs.declared.event.Event.{Event}
+use Rattle.site_core.specs.declared.event.Event.TheVariants as event
+use Rattle.site_core.specs.declared.reply.Reply.{Reply}
+use Rattle.site_core.specs.declared.reply.Reply.TheVariants as reply
+use Rattle.site_core.specs.declared.reply.Refusal as offices
+use Rattle.site_core.specs.declared.reply.Refusal.TheVariants as refused
+use Rattle.site_core.specs.Pairs.{frame_fault}
+use Rattle.site_core.specs.Agenda.{is_full, submitted}
+use Rattle.site_core.specs.Offices.{Office, may, act, is_ours, answer, framed, frame_on, unless_faulty}
+use Rattle.site_core.specs.Offices as answers
+use Rattle.site_core.specs.Journals.{Site, office_of, noted, step, recorded}
+use Rattle.frame_world.specs.declared.event.WorldEvent.{WorldEvent}
+use Rattle.frame_world.specs.declared.event.WorldEvent.TheVariants as happening
+use Rattle.frame_world.specs.declared.refusal.Refusal.{Refusal}
+use Rattle.frame_world.specs.declared.refusal.Refusal.TheVariants as refusal
+use Rattle.frame_world.specs.Worlds.{World, Answer, site_at, told, handed, delivered, frame_at, happens, run_of, replies_of, Applies}
+use Rattle.world_schedule.proofs.WorldSteps.{run_append}
 
--- the definitions never answer Memory
+-- ---- the definitions never answer Memory
 
-abbrev pub Speaks : Answer → Type 0
-Speaks x = x.0 ≡ Err refusal.Memory → ⊥
+abbrev OfficeSpeaks : answers.Answer → Type 0
+OfficeSpeaks x = x ≡ Err refused.Memory → ⊥
 
-deliver_speaks : (w : World) (o : Option Message) → Speaks (deliver w o)
-deliver_speaks w None = λ e. cc
-deliver_speaks w (Some m) = cond_both (is_next (w.office m.to) m) (Ok reply.Taken, record w { office = put w.office m.to (taken (w.office m.to) m) }) (Err refusal.NoFrame, w) Speaks (λ _ e. cc) (λ _ e. cc)
+answer_speaks : (plan : PlanValue) (me : ℕ) (o : Office) (e : Event) → OfficeSpeaks (answer plan me o e)
+answer_speaks plan me o (event.Submit p) =
+    let full : answers.Answer = Err refused.QueueFull in
+    let good : answers.Answer = Ok (reply.Ticket (o.agenda.tickets + 1), record { pairs = o.pairs; agenda = submitted o.agenda p }) in
+    cond_both (is_ours plan me p) (cond (is_full o.agenda) full good) (Err refused.NotOurs) OfficeSpeaks (λ _. cond_both (is_full o.agenda) full good OfficeSpeaks (λ _ e. cc) (λ _ e. cc)) (λ _ e. cc)
+answer_speaks plan me o (event.Do x) = cond_both (may plan me o x) (Ok (reply.Done, act me o x)) (Err refused.NotNow) OfficeSpeaks (λ _ e. cc) (λ _ e. cc)
+answer_speaks plan me o (event.Send v i) = cond_both (are_neighbours plan me v) (framed o (frame_on (o.pairs.link v) i)) (Err refused.NotNow) OfficeSpeaks (λ _. made (frame_on (o.pairs.link v) i)) (λ _ e. cc)
+  where
+    made : (f : Option Fields) → OfficeSpeaks (framed o f)
+    made None e = cc
+    made (Some f) e = cc
+answer_speaks plan me o (event.Took f) = go (frame_fault plan me o.pairs f)
+  where
+    go : (x : Option ChannelFault) → OfficeSpeaks (unless_faulty o f x)
+    go None e = cc
+    go (Some x) e = cc
 
-office_speaks : (plan : PlanValue) (w : World) (a : ℕ) (x : Answer) → Speaks x → Speaks (at_office plan w a x)
-office_speaks plan w a x h = cond_both (nat_lt a (length plan.offices)) x (Err refusal.NoOffice, w) Speaks (λ _. h) (λ _ e. cc)
+abbrev Speaks : Answer → Type 0
+Speaks x = x.0 ≡ Err (refusal.Office refused.Memory) → ⊥
 
-speaks : (plan : PlanValue) (w : World) (e : WorldEvent) → Speaks (happens plan w e)
-speaks plan w (event.Submit a p) =
-    let full : Answer = (Err refusal.QueueFull, w) in
-    let good : Answer = (Ok (reply.Ticket ((w.office a).tickets + 1)), record w { office = put w.office a (submitted (w.office a) p) }) in
-    office_speaks plan w a (submit plan w a p)
-    (cond_both (is_ours plan a p) (cond (is_full (w.office a)) full good) (Err refusal.NotOurs, w) Speaks
-    (λ _. cond_both (is_full (w.office a)) full good Speaks (λ _ e. cc) (λ _ e. cc))
-    (λ _ e. cc))
-speaks plan w (event.Do a x) =
-    office_speaks plan w a (try_rule plan w a x)
-    (cond_both (may plan a (w.office a) x) (Ok reply.Done, done plan w a x) (Err refusal.NotNow, w) Speaks (λ _ e. cc) (λ _ e. cc))
-speaks plan w (event.Deliver k) = deliver_speaks w (sent_as w k)
+told_speaks : (w : World) (a : ℕ) (e : Event) (s : Site) (x : answers.Answer) → OfficeSpeaks x → Speaks (told w a e (recorded s 0 e x))
+told_speaks w a e s (Ok x) h = cond_both (nat_le most_entries (length s.entries)) (Err refused.JournalFull, s) (Ok x.0, noted s 0 e x.0) (λ y. Speaks (told w a e y)) (λ _ k. cc) (λ _ k. cc)
+told_speaks w a e s (Err r) h = λ k. h (ap Err (office_refusal r k))
+  where
+    office_refusal : (r : offices.Refusal) → ◌≡◌ {A = Result Reply Refusal} (Err (refusal.Office r)) (Err (refusal.Office refused.Memory)) → r ≡ refused.Memory
+    office_refusal r k = cc
 
-pub not_memory : (plan : PlanValue) (w w' : World) (e : WorldEvent) (r : Result Reply Refusal) → OrMemory w (happens plan w e) r w' → (r ≡ Err refusal.Memory → ⊥) → (r ≡ (happens plan w e).0) × (w' ≡ (happens plan w e).1)
-not_memory plan w w' e r a n = ⊎_elim (λ m. absurd (n m.0)) (λ h. (h.0, h.1)) a
+handed_speaks : (w : World) (a : ℕ) (e : Event) → Speaks (handed w a e)
+handed_speaks w a e =
+    cond_both (nat_lt a (length w.sites)) (told w a e (step (site_at w a) 0 e)) (Err refusal.NoOffice, w) Speaks
+    (λ _. told_speaks w a e (site_at w a) (answer (site_at w a).plan (site_at w a).me (office_of (site_at w a)) e) (answer_speaks (site_at w a).plan (site_at w a).me (office_of (site_at w a)) e)) (λ _ k. cc)
 
-pub was_memory : (plan : PlanValue) (w w' : World) (e : WorldEvent) (r : Result Reply Refusal) → OrMemory w (happens plan w e) r w' → r ≡ Err refusal.Memory → w' ≡ w
-was_memory plan w w' e r a m = ⊎_elim (λ h. h.1) (λ h. absurd (speaks plan w e (sym h.0 ∙ m))) a
+speaks : (w : World) (e : WorldEvent) → Speaks (happens w e)
+speaks w (happening.Submit a p) = handed_speaks w a (event.Submit p)
+speaks w (happening.Do a x) = handed_speaks w a (event.Do x)
+speaks w (happening.Send a v i) = handed_speaks w a (event.Send v i)
+speaks w (happening.Deliver k) = go (frame_at w k)
+  where
+    go : (f : Option Fields) → Speaks (delivered w f)
+    go None = λ e. cc
+    go (Some f) = handed_speaks w f.to (event.Took f)
 
--- one event more
+-- an answer that isn't Memory is that of the definition; and after Memory the world is as it was
+pub not_memory : (w w' : World) (e : WorldEvent) (r : Result Reply Refusal) → Applies w e r w' → (r ≡ Err (refusal.Office refused.Memory) → ⊥) → (r ≡ (happens w e).0) × (w' ≡ (happens w e).1)
+not_memory w w' e r a n = ⊎_elim (λ m. absurd (n m.0)) (λ h. (h.0, h.1)) a
 
-replies_push : (plan : PlanValue) (w : World) (es : List WorldEvent) (e : WorldEvent) → replies_of plan w (es ++ e ∷ []) ≡ replies_of plan w es ++ (happens plan (run_of plan w es) e).0 ∷ []
-replies_push plan w [] e = refl
-replies_push plan w (x ∷ es) e = ap (λ l. (happens plan w x).0 ∷ l) (replies_push plan (happens plan w x).1 es e)
+pub was_memory : (w w' : World) (e : WorldEvent) (r : Result Reply Refusal) → Applies w e r w' → r ≡ Err (refusal.Office refused.Memory) → w' ≡ w
+was_memory w w' e r a m = ⊎_elim (λ h. h.1) (λ h. absurd (speaks w e (sym h.0 ∙ m))) a
 
-pub run_more : (plan : PlanValue) (w v v' : World) (es : List WorldEvent) (i : ℕ) (d : WorldEvent) → i < length es → run_of plan w (take i es) ≡ v → v' ≡ (happens plan v (get_or es i d)).1 → run_of plan w (take (i + 1) es) ≡ v'
-run_more plan w v v' es i d lt so_far next =
-    ap (run_of plan w) (take_more es i d lt) ∙ run_push plan w (take i es) (get_or es i d) ∙ ap (λ u. (happens plan u (get_or es i d)).1) so_far ∙ sym next
+-- ---- one event more
 
-pub replies_more : (plan : PlanValue) (w v : World) (es : List WorldEvent) (i : ℕ) (d : WorldEvent) (rs rs' : List (Result Reply Refusal)) (r : Result Reply Refusal) → i < length es → run_of plan w (take i es) ≡ v → rs ≡ replies_of plan w (take i es) →
-    r ≡ (happens plan v (get_or es i d)).0 → rs' ≡ rs ++ r ∷ [] → rs' ≡ replies_of plan w (take (i + 1) es)
-replies_more plan w v es i d rs rs' r lt so_far told next pushed =
-    pushed ∙ ap (λ l. l ++ r ∷ []) told ∙ ap (λ x. replies_of plan w (take i es) ++ x ∷ []) (next ∙ ap (λ u. (happens plan u (get_or es i d)).0) (sym so_far)) ∙ sym (replies_push plan w (take i es) (get_or es i d))
-    ∙ ap (replies_of plan w) (sym (take_more es i d lt))
+replies_append : (w : World) (es : List WorldEvent) (e : WorldEvent) → replies_of w (es ++ e ∷ []) ≡ replies_of w es ++ (happens (run_of w es) e).0 ∷ []
+replies_append w [] e = refl
+replies_append w (x ∷ es) e = ap (λ l. (happens w x).0 ∷ l) (replies_append (happens w x).1 es e)
 
--- what readers tell
+pub run_more : (w v v' : World) (es : List WorldEvent) (i : ℕ) (d : WorldEvent) → i < length es → run_of w (take i es) ≡ v → v' ≡ (happens v (get_or es i d)).1 → run_of w (take (i + 1) es) ≡ v'
+run_more w v v' es i d lt so_far next =
+    ap (run_of w) (take_more es i d lt) ∙ run_append w (take i es) (get_or es i d) ∙ ap (λ u. (happens u (get_or es i d)).1) so_far ∙ sym next
 
-pub sessions_serial : (plan : PlanValue) (os : List code_office.Office) (ms : List Message) (fs : List Finished) → IsWorld plan os ms fs → WritesWhatItHas → outcomes fs ≡ outcomes_of (start_map plan) (programs fs)
-sessions_serial plan os ms fs I law = (inv_of plan (world_in plan (map office_table os) ms fs) I.consistent law I.reached).told
-
--- tickets given by the first offices
-pub tickets_more : (plan : PlanValue) (os : List code_office.Office) (i n t : ℕ) (o : code_office.Office) → i < length os → o ≡ get_or os i o → n ≡ sum_by (λ (x : Office). x.tickets) (map (office_at plan (map office_table os)) (range_with_len 0 i)) → t ≡ o.tickets →
-    n + t ≡ sum_by (λ (x : Office). x.tickets) (map (office_at plan (map office_table os)) (range_with_len 0 (i + 1)))
-tickets_more plan os i n t o lt here so_far is =
-    let there : (office_at plan (map office_table os) i).tickets ≡ o.tickets = ap (λ (x : Office). x.tickets) (office_there plan os i o lt here) in
-    let more : sum_by (λ (x : Office). x.tickets) (map (office_at plan (map office_table os)) (range_with_len 0 (i + 1))) ≡ sum_by (λ (x : Office). x.tickets) (map (office_at plan (map office_table os)) (range_with_len 0 i)) + (office_at plan (map office_table os) i).tickets =
-    sum_by-map-range_with_len_more (λ (x : Office). x.tickets) (office_at plan (map office_table os)) 0 i i (omega arith) in
-    omega (arith, so_far, is, there, more)
+pub replies_more : (w v : World) (es : List WorldEvent) (i : ℕ) (d : WorldEvent) (rs rs' : List (Result Reply Refusal)) (r : Result Reply Refusal) → i < length es → run_of w (take i es) ≡ v → rs ≡ replies_of w (take i es) →
+    r ≡ (happens v (get_or es i d)).0 → rs' ≡ rs ++ r ∷ [] → rs' ≡ replies_of w (take (i + 1) es)
+replies_more w v es i d rs rs' r lt so_far told next pushed =
+    pushed ∙ ap (λ l. l ++ r ∷ []) told ∙ ap (λ x. replies_of w (take i es) ++ x ∷ []) (next ∙ ap (λ u. (happens u (get_or es i d)).0) (sym so_far)) ∙ sym (replies_append w (take i es) (get_or es i d))
+    ∙ ap (replies_of w) (sym (take_more es i d lt))

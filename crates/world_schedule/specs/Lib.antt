@@ -1,4 +1,3 @@
-pub mod Offices
-pub mod Worlds
-pub mod Headline
+pub mod Tickets
+pub mod Readers
 pub mod refinement

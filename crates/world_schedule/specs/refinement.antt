@@ -1,4 +1,3 @@
-pub mod Effects
-pub mod BottleTables
-pub mod StartTables
-pub mod Tables
+pub mod WorldOfCode
+pub mod Handing
+pub mod Bottles

@@ -1,10 +1,10 @@
-//! Finished sessions.
+//! Sessions that finished.
 
-use session_language::{Outcome, Program};
+use office_map::OfficeId;
 
-/// A finished session: its program, and what is told of it.
-#[derive(Debug, Drop)]
+/// A session that finished: its office, and its number there, from 1.
+#[derive(Clone, Copy, Debug, PartialEq, Eq)]
 pub struct Finished {
-    pub program: Program,
-    pub outcome: Outcome,
+    pub office: OfficeId,
+    pub ticket: u32,
 }

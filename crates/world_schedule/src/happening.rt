@@ -1,103 +1,136 @@
-//! One event of a world, on its parts.
+//! An event that is handed to one of the offices.
 
-ghost use Rattle.std.specs.Prelude.{◌≡◌, map};
-ghost use Rattle.world_schedule.specs.declared.event.WorldEvent.TheVariants as events;
-ghost use Rattle.world_schedule.specs.Offices as offices;
-ghost use Rattle.world_schedule.specs.Worlds.{happens, OrMemory};
-ghost use Rattle.world_schedule.specs.refinement.Tables.{world_in, office_table, IsWorld};
+ghost use Rattle.std.specs.Prelude.{◌≡◌, ◌<◌, ◌++◌, ◌∷◌, [], length, get_or, vec_len, IfOk, OnOk, OnErr};
+ghost use Rattle.std.specs.Vec.{vec_capacity};
+ghost use Rattle.site_core.specs.declared.event.Event.TheVariants as events;
+ghost use Rattle.site_core.specs.declared.rule.Rule.TheVariants as rules;
+ghost use Rattle.site_core.specs.Journals.{Site};
+ghost use Rattle.frame_world.specs.Worlds.{frames_of};
+ghost use Rattle.world_schedule.specs.refinement.WorldOfCode.{finished_of};
+ghost use Rattle.world_schedule.specs.refinement.Handing.{Hands, passed_on};
 
 use crate::finished::Finished;
-use crate::message::Message;
-use crate::reply::{Refusal, Reply};
-use crate::rule::Rule;
-use crate::steps;
-use crate::tables::Office;
-use office_map::{OfficeId, Plan};
+use frame_codec::Frame;
+use frame_world::Refusal;
+use office_map::OfficeId;
 use session_language::Program;
-use session_meaning::laws::writes_what_it_has;
-use std::alloc::Global;
+use site_core::{Office, Reply, Rule};
 
 /// A session is submitted at an office.
-pub fn submit(
-    alloc: Global,
-    plan: &Plan,
+pub(crate) fn submit(
     offices: &mut Vec<Office>,
-    messages: &Vec<Message>,
-    finished: &Vec<Finished>,
     at: OfficeId,
     program: &Program,
 ) -> Result<Reply, Refusal>
-    requires world { IsWorld plan.now offices.old.items messages.now.items finished.now.items }
-    ensures world { IsWorld plan.now offices.new.items messages.now.items finished.now.items }
-    ensures step { OrMemory (world_in plan.now (map office_table offices.old.items) messages.now.items finished.now.items)
-        (happens plan.now (world_in plan.now (map office_table offices.old.items) messages.now.items finished.now.items) (events.Submit at program.now)) result
-        (world_in plan.now (map office_table offices.new.items) messages.now.items finished.now.items) }
+    ensures { Hands offices.old.items at (events.Submit program.now) result offices.new.items }
 {
     if at.index() >= offices.len() {
         return Err(Refusal::NoOffice);
     }
-    if !is_ours(plan, at, program) {
-        return Err(Refusal::NotOurs);
-    }
-    steps::submit(alloc, &mut offices[at.index()], program)
-}
-
-/// Whether a program is of this office, and needs no record of another.
-fn is_ours(plan: &Plan, at: OfficeId, program: &Program) -> bool
-    ensures { result ≡ offices.is_ours plan.now at program.now }
-{
-    program.office() == at && program.fits(plan)
+    passed_on(offices[at.index()].submit(0, program))
 }
 
 /// An office does a rule.
-pub fn do_rule(
-    alloc: Global,
-    plan: &Plan,
-    offices: &mut Vec<Office>,
-    messages: &mut Vec<Message>,
-    finished: &mut Vec<Finished>,
-    at: OfficeId,
-    rule: &Rule,
-) -> Result<Reply, Refusal>
-    requires world { IsWorld plan.now offices.old.items messages.old.items finished.old.items }
-    ensures world { IsWorld plan.now offices.new.items messages.new.items finished.new.items }
-    ensures step { OrMemory (world_in plan.now (map office_table offices.old.items) messages.old.items finished.old.items)
-        (happens plan.now (world_in plan.now (map office_table offices.old.items) messages.old.items finished.old.items) (events.Do at rule.now)) result
-        (world_in plan.now (map office_table offices.new.items) messages.new.items finished.new.items) }
+pub(crate) fn act(offices: &mut Vec<Office>, at: OfficeId, rule: &Rule) -> Result<Reply, Refusal>
+    ensures { Hands offices.old.items at (events.Do rule.now) result offices.new.items }
 {
     if at.index() >= offices.len() {
         return Err(Refusal::NoOffice);
     }
-    writes_what_it_has();
-    steps::try_rule(
-        alloc,
-        plan,
-        &mut offices[at.index()],
-        messages,
-        finished,
-        at,
-        rule,
-    )
+    passed_on(offices[at.index()].act(0, *rule))
 }
 
-/// The message that was sent as the k-th of all is taken.
-pub fn deliver(
-    plan: &Plan,
+/// An office finishes a session, which is listed.
+pub(crate) fn finish(
     offices: &mut Vec<Office>,
-    messages: &Vec<Message>,
-    finished: &Vec<Finished>,
-    k: usize,
+    finished: &mut Vec<Finished>,
+    at: OfficeId,
 ) -> Result<Reply, Refusal>
-    requires world { IsWorld plan.now offices.old.items messages.now.items finished.now.items }
-    ensures world { IsWorld plan.now offices.new.items messages.now.items finished.now.items }
-    ensures step { OrMemory (world_in plan.now (map office_table offices.old.items) messages.now.items finished.now.items)
-        (happens plan.now (world_in plan.now (map office_table offices.old.items) messages.now.items finished.now.items) (events.Deliver k)) result
-        (world_in plan.now (map office_table offices.new.items) messages.now.items finished.now.items) }
+    ensures office { Hands offices.old.items at (events.Do rules.Finish) result offices.new.items }
+    ensures listed { OnOk result ((d : Site) → finished.new.items ≡ finished.old.items ++ record { office = at; ticket = length (finished_of (get_or offices.new.items at d)) } ∷ []) }
+    ensures unlisted { OnErr result (finished.new.items ≡ finished.old.items) }
 {
-    if k == 0 || k > messages.len() {
-        return Err(Refusal::NoFrame);
+    if at.index() >= offices.len() {
+        return Err(Refusal::NoOffice);
     }
-    writes_what_it_has();
-    let message = &messages[k - 1];
-    steps::take(&mut offices[message.to.index()], message)
+    let Ok(()) = finished.reserve(1) else {
+        return Err(Refusal::Office(site_core::Refusal::Memory));
+    };
+    match offices[at.index()].act(0, Rule::Finish) {
+        Ok(reply) => {
+            let last = last_of(&offices[at.index()], at);
+            finished.push_reserved(last);
+            Ok(reply)
+        }
+        Err(refusal) => Err(Refusal::Office(refusal)),
+    }
+}
+
+/// What an office finished last.
+fn last_of(office: &Office, at: OfficeId) -> Finished
+    ensures { result ≡ record { office = at; ticket = length (finished_of office.now) } }
+{
+    let _ = office.journal();
+    Finished {
+        office: at,
+        ticket: office.outcomes().len() as u32,
+    }
+}
+
+/// An office makes a frame, which is kept.
+pub(crate) fn send(
+    offices: &mut Vec<Office>,
+    frames: &mut Vec<Frame>,
+    from: OfficeId,
+    to: OfficeId,
+    i: usize,
+) -> Result<Reply, Refusal>
+    ensures office { Hands offices.old.items from (events.Send to i) result offices.new.items }
+    ensures kept { IfOk result (λ r. frames.new.items ≡ frames.old.items ++ frames_of r) }
+    ensures unsent { OnErr result (frames.new.items ≡ frames.old.items) }
+{
+    if from.index() >= offices.len() {
+        return Err(Refusal::NoOffice);
+    }
+    let Ok(()) = frames.reserve(1) else {
+        return Err(Refusal::Office(site_core::Refusal::Memory));
+    };
+    match offices[from.index()].send(0, to, i) {
+        Ok(reply) => {
+            keep(frames, &reply);
+            Ok(reply)
+        }
+        Err(refusal) => Err(Refusal::Office(refusal)),
+    }
+}
+
+/// The frame that a reply tells is kept.
+fn keep(frames: &mut Vec<Frame>, reply: &Reply)
+    requires { vec_len frames.old < vec_capacity frames.old }
+    ensures { frames.new.items ≡ frames.old.items ++ frames_of reply.now }
+{
+    if let Reply::Frame(frame) = reply {
+        frames.push_reserved(*frame);
+    }
+}
+
+/// A frame comes to its addressee.
+pub(crate) fn deliver(offices: &mut Vec<Office>, frame: &Frame) -> Result<Reply, Refusal>
+    ensures { Hands offices.old.items frame.now.to (events.Took frame.now) result offices.new.items }
+{
+    let at = OfficeId::new(frame.to());
+    if at.index() >= offices.len() {
+        return Err(Refusal::NoOffice);
+    }
+    passed_on(offices[at.index()].take(0, frame))
+}
+
+/// What a world tells of an office's answer.
+fn passed_on(answer: Result<Reply, site_core::Refusal>) -> Result<Reply, Refusal>
+    ensures { result ≡ passed_on answer }
+{
+    match answer {
+        Ok(reply) => Ok(reply),
+        Err(refusal) => Err(Refusal::Office(refusal)),
+    }
 }

@@ -2,41 +2,35 @@
 //! session read, wrote and gave exactly what it does when the finished sessions run alone, one after another in
 //! finishing order, from the plan's values; and each record has one bottle, which carries that serial run's value.
 //!
-//! In this world messages are neither lost nor repeated nor reordered: each direction between two offices is a queue,
-//! and [`WorldEvent::Deliver`] takes the oldest message of one. No office eats, so each fork stays where the plan puts
-//! it. [`World`] has the events, and tells what finished and what each record's bottle holds; [`laws`] has the headline
-//! over definitions. Definitions:
+//! - A [`World`] is what `frame_world` defines: a contract sees the plan, the offices' journals, every frame that was
+//!   ever sent, and the finished sessions. Each event ([`World::apply`], or [`World::submit`], [`World::act`],
+//!   [`World::send`], [`World::deliver`] for one kind of them) is that definition's `happens`: the office of that number
+//!   takes its step, a frame that it makes is kept, and a session that it finishes is listed. Any frame of the list may
+//!   come at any time, as often as it likes, or never.
+//! - [`World::run`] does events in order, and stops only where memory runs out; [`Stopped`] tells after how many.
+//! - [`World::is_serial`] tells what holds of every world, and [`World::run`] ensures it of the world that it leaves.
+//!   `frame_world` proves it of the definitions.
+//! - [`World::offices`] and [`World::office`] lend the offices; an office's journal is `Office::journal`.
+//!   [`World::frame`] tells what was sent. [`World::finished`] tells which sessions finished, by office and ticket, and
+//!   [`World::outcome`] how one ended; the world keeps no program and no outcome a second time. [`World::value_of`] reads
+//!   a record's value off its bottle: where an office holds it, or else in the message that carries it.
 //!
-//! - `specs/Worlds.antt`: the world, an event, a run, the value at a bottle's place.
-//! - `specs/Offices.antt`: an office, and the guard and effect of each rule.
-//! - `specs/Streams.antt`, `specs/Ends.antt`: what a pair shares, what its ends hold, sent and took, where it starts.
-//! - `specs/Headline.antt`: the headline.
-//! - `specs/refinement/Tables.antt`: the tables that the code keeps, and the world that they mean. Contracts speak of that world.
+//! `Memory` is answered only where a growth was refused, and then nothing changed. No reader looks through all frames,
+//! entries or sessions.
 //!
-//! `proofs/Invariant.antt` has the invariant, `proofs/Events.antt` that each event keeps it, and `proofs/InvariantGivesLaws.antt`
-//! that it gives the headline.
+//! Definitions: `specs/Readers.antt` and `specs/Tickets.antt` for what readers tell; all else is `frame_world`'s. What ties
+//! the code to them is in `specs/refinement`. That a ticket is the place among the sessions of its office is proved in
+//! `proofs/FinishedSessions.antt`, each event in `proofs/WorldSteps.antt` and `proofs/EventSteps.antt`, runs in
+//! `proofs/Runs.antt`, the one bottle in `proofs/BottleValues.antt`.
 #![tactic(auto)]
 
-mod effects;
-pub mod event;
-pub mod finished;
-mod guards;
+mod finished;
 mod happening;
-pub mod laws;
-pub mod message;
 mod opening;
-pub mod reply;
-pub mod rule;
-pub mod session;
-mod steps;
-mod tables;
 #[cfg(test)]
 mod tests;
 mod values;
-pub mod world;
+mod world;
 
-pub use crate::event::WorldEvent;
 pub use crate::finished::Finished;
-pub use crate::reply::{Refusal, Reply};
-pub use crate::rule::Rule;
 pub use crate::world::{Stopped, World};

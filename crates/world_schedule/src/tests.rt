@@ -1,384 +1,339 @@
-ghost use Rattle.std.specs.Prelude.{◌≡◌, ◌<◌, All, IfOk, IsTrue, length};
+ghost use Rattle.std.specs.Prelude.{All, IfOk, IsTrue};
 ghost use Rattle.session_language.specs.Program.{fits};
 
-use crate::event::WorldEvent;
 use crate::finished::Finished;
-use crate::reply::{Refusal, Reply};
-use crate::rule::Rule;
 use crate::world::World;
+use frame_codec::{Frame, MAX_LENGTH, encode};
+use frame_world::{Refusal, WorldEvent};
 use office_map::{OfficeId, Plan, RecordId};
 use serial_replay::{Replay, serial};
 use session_language::{Outcome, Program, read_sessions};
+use site_core::{Reply, Rule};
 use std::alloc::{AllocError, Global};
 use std::fmt::Write;
+use std::process::Abort;
 use std::test::Fail;
 
 /// Two offices, and two records of theirs.
 const PAIR: &str =
     "plan 1 run 42\noffice a -\noffice b -\npair a b fork a\nrecord x a b 100 at a\nrecord y a b 0 at b\n";
 
-/// The first moves 30 from one record to the other, the second doubles what is there, the third is refused where there
-/// is little, the last reads nothing.
-const SESSIONS: &str =
-    "session a\nlet v = read x\nset x = v - 30\nset y = read y + 30\ngive read x\ngive read y\nend\nsession b\nset y = read y * 2\ngive read y\nend\nsession b\nrequire read x >= 50 else 7\nset x = read x - 50\nset y = 1\nend\nsession a\ngive 5\nend\n";
+/// Three records, all of them at the other office.
+const ALL_AT_B: &str =
+    "plan 1 run 42\noffice a -\noffice b -\npair a b fork a\nrecord x a b 1 at b\nrecord y a b 2 at b\nrecord z a b 3 at b\n";
 
-/// What a step is: a rule, a submitted session, or a message that is delivered.
+/// Three offices in a row, and a record of each pair.
+const ROW: &str =
+    "plan 1 run 9\noffice a -\noffice b -\noffice c -\npair a b fork b\npair b c fork b\nrecord r a b 1 at a\nrecord s b c 2 at c\n";
+
+/// A session that moves 30 from one record to the other.
+const MOVE: &str =
+    "session a\nlet v = read x\nset x = v - 30\nset y = read y + 30\ngive read x\ngive read y\nend\n";
+
+const READS_ALL: &str = "session a\ngive read x + read y + read z\nend\n";
+
+const GIVES: &str = "session a\ngive 1\nend\nsession b\ngive 2\nend\n";
+
+/// One of each office: the first doubles three times, the second adds, and the third needs what both wrote.
+const THREE: &str =
+    "session a\nrepeat 3\nset r = read r * 2\nend\ngive read r\nend\nsession c\nset s = read s + 5\ngive read s\nend\nsession b\nset r = read r + read s\nset s = 0\ngive read r\nend\n";
+
+/// What a step is: a session is submitted, by its place in the text; a rule, with its record, its neighbour or its size;
+/// the message of that place is framed for a neighbour; the frame of that place is delivered.
 #[derive(Clone, Copy)]
 enum What {
+    Submit,
     Start,
-    Ask,
-    Give,
+    Hungry,
+    AskFork,
+    GiveFork,
+    Eat,
+    Leave,
+    AskBottle,
+    GiveBottle,
     Drink,
     Work,
     Finish,
-    Submit,
+    SendTo(u8),
     Deliver,
 }
 
-/// An event in few words: what, at which office, and a number.
+/// What is done, at which office, and a number.
 #[derive(Clone, Copy)]
 struct Step(What, u8, u16);
 
-/// Steps, and what is answered.
-static ROWS: [(&[Step], &str); 5] = [
+const A: u8 = 0;
+
+const B: u8 = 1;
+
+const C: u8 = 2;
+
+/// A plan, sessions, steps, and what is told of them.
+static ROWS: [(&str, &str, &[Step], &str); 5] = [
     (
+        PAIR,
+        MOVE,
         &[
-            Step(What::Submit, 0, 0),
-            Step(What::Start, 0, 0),
-            Step(What::Ask, 0, 1),
+            Step(What::Submit, A, 0),
+            Step(What::Start, A, 0),
+            Step(What::Hungry, A, 0),
+            Step(What::Eat, A, 0),
+            Step(What::AskBottle, A, 1),
+            Step(What::SendTo(B), A, 1),
             Step(What::Deliver, 0, 1),
-            Step(What::Give, 1, 1),
+            Step(What::GiveBottle, B, 1),
+            Step(What::SendTo(A), B, 1),
             Step(What::Deliver, 0, 2),
-            Step(What::Drink, 0, 0),
-            Step(What::Work, 0, 100),
-            Step(What::Finish, 0, 0),
+            Step(What::Drink, A, 0),
+            Step(What::Leave, A, 0),
+            Step(What::Work, A, 100),
+            Step(What::Finish, A, 0),
             Step(What::Deliver, 0, 2),
         ],
-        "ticket 1; done; done; taken; done; taken; done; done; done; refused N1 NoFrame; 0.1 Done reads 0=100 1=0 writes 0=70 1=30 gives 70 30; unfinished 0; values 70 30",
+        "ticket 1; done; done; done; done; frame 445001010000002a000100000000000000010000000000000000030001; taken; done; frame 445001010000002a0100000000000000000100000000000000010400010000000000000000; taken; done; done; done; done; repeat; 0.1 Done reads 0=100 1=0 writes 0=70 1=30 gives 70 30; unfinished 0; values 70 30",
     ),
     (
+        ALL_AT_B,
+        READS_ALL,
         &[
-            Step(What::Start, 0, 0),
-            Step(What::Drink, 0, 0),
-            Step(What::Finish, 0, 0),
-            Step(What::Ask, 0, 1),
-            Step(What::Give, 1, 0),
-            Step(What::Give, 0, 7),
-            Step(What::Submit, 1, 0),
-            Step(What::Submit, 2, 0),
-            Step(What::Start, 9, 0),
+            Step(What::Submit, A, 0),
+            Step(What::Start, A, 0),
+            Step(What::AskBottle, A, 0),
+            Step(What::AskBottle, A, 1),
+            Step(What::AskBottle, A, 2),
+            Step(What::SendTo(B), A, 1),
+            Step(What::SendTo(B), A, 2),
+            Step(What::SendTo(B), A, 3),
+            Step(What::Deliver, 0, 3),
+            Step(What::Deliver, 0, 1),
+            Step(What::Deliver, 0, 2),
+            Step(What::SendTo(B), A, 3),
+            Step(What::Deliver, 0, 4),
+        ],
+        "ticket 1; done; done; done; done; frame 445001010000002a000100000000000000010000000000000000030000; frame 445001010000002a000100000000000000020000000000000000030001; frame 445001010000002a000100000000000000030000000000000000030002; early; taken; taken; frame 445001010000002a000100000000000000030000000000000000030002; taken; unfinished 1; values 1 2 3",
+    ),
+    (
+        ROW,
+        THREE,
+        &[
+            Step(What::Submit, A, 0),
+            Step(What::Submit, C, 1),
+            Step(What::Start, A, 0),
+            Step(What::Drink, A, 0),
+            Step(What::Work, A, 2),
+            Step(What::Start, C, 0),
+            Step(What::Drink, C, 0),
+            Step(What::Work, C, 100),
+            Step(What::Finish, C, 0),
+            Step(What::Work, A, 100),
+            Step(What::Finish, A, 0),
+            Step(What::Submit, B, 2),
+            Step(What::Start, B, 0),
+            Step(What::Hungry, B, 0),
+            Step(What::Eat, B, 0),
+            Step(What::AskBottle, B, 0),
+            Step(What::AskBottle, B, 1),
+            Step(What::SendTo(A), B, 1),
+            Step(What::SendTo(C), B, 1),
+            Step(What::Deliver, 0, 1),
+            Step(What::GiveBottle, A, 0),
+            Step(What::SendTo(B), A, 1),
+            Step(What::Deliver, 0, 3),
+            Step(What::Deliver, 0, 2),
+            Step(What::GiveBottle, C, 1),
+            Step(What::SendTo(B), C, 1),
+            Step(What::Deliver, 0, 4),
+            Step(What::Drink, B, 0),
+            Step(What::Work, B, 100),
+            Step(What::Finish, B, 0),
+        ],
+        "ticket 1; ticket 1; done; done; done; done; done; done; done; done; done; ticket 1; done; done; done; done; done; frame 4450010100000009010000000000000000010000000000000000030000; frame 4450010100000009010200000000000000010000000000000000030001; taken; done; frame 44500101000000090001000000000000000100000000000000010400000000000000000008; taken; taken; done; frame 44500101000000090201000000000000000100000000000000010400010000000000000007; taken; done; done; done; 2.1 Done reads 1=2 writes 1=7 gives 7; 0.1 Done reads 0=1 writes 0=8 gives 8; 1.1 Done reads 0=8 1=7 writes 0=15 1=0 gives 15; unfinished 0; values 15 0",
+    ),
+    (
+        PAIR,
+        GIVES,
+        &[
+            Step(What::Submit, B, 1),
+            Step(What::Start, B, 0),
+            Step(What::Hungry, B, 0),
+            Step(What::AskFork, B, 0),
+            Step(What::SendTo(A), B, 1),
+            Step(What::Deliver, 0, 1),
+            Step(What::GiveFork, A, 1),
+            Step(What::SendTo(B), A, 1),
+            Step(What::Deliver, 0, 2),
+            Step(What::Submit, A, 0),
+            Step(What::Start, A, 0),
+            Step(What::Hungry, A, 0),
+            Step(What::AskFork, A, 1),
+            Step(What::SendTo(B), A, 2),
+            Step(What::Deliver, 0, 3),
+            Step(What::GiveFork, B, 0),
+            Step(What::Eat, B, 0),
+            Step(What::GiveFork, B, 0),
+            Step(What::Drink, B, 0),
+            Step(What::Leave, B, 0),
+            Step(What::GiveFork, B, 0),
+            Step(What::SendTo(A), B, 1),
+            Step(What::Deliver, 0, 4),
+            Step(What::Eat, A, 0),
+        ],
+        "ticket 1; done; done; done; frame 445001010000002a01000000000000000001000000000000000001; taken; done; frame 445001010000002a00010000000000000001000000000000000102; taken; ticket 1; done; done; done; frame 445001010000002a00010000000000000002000000000000000101; taken; refused O1 NotNow; done; refused O1 NotNow; done; done; done; frame 445001010000002a01000000000000000002000000000000000202; taken; done; unfinished 2; values 100 0",
+    ),
+    (
+        PAIR,
+        GIVES,
+        &[
+            Step(What::Submit, C, 0),
+            Step(What::Start, C, 0),
+            Step(What::SendTo(A), C, 0),
             Step(What::Deliver, 0, 0),
             Step(What::Deliver, 0, 1),
-        ],
-        "refused O1 NotNow; refused O1 NotNow; refused O1 NotNow; refused O1 NotNow; refused O1 NotNow; refused O1 NotNow; refused O2 NotOurs; refused N2 NoOffice; refused N2 NoOffice; refused N1 NoFrame; refused N1 NoFrame; unfinished 0; values 100 0",
-    ),
-    (
-        &[
-            Step(What::Submit, 0, 3),
-            Step(What::Start, 0, 0),
-            Step(What::Drink, 0, 0),
-            Step(What::Work, 0, 0),
-            Step(What::Work, 0, 1001),
-            Step(What::Finish, 0, 0),
-            Step(What::Work, 0, 1000),
-            Step(What::Work, 0, 1),
-            Step(What::Finish, 0, 0),
-            Step(What::Finish, 0, 0),
-        ],
-        "ticket 1; done; done; refused O1 NotNow; refused O1 NotNow; refused O1 NotNow; done; refused O1 NotNow; done; refused O1 NotNow; 0.1 Done reads writes gives 5; unfinished 0; values 100 0",
-    ),
-    (
-        &[
-            Step(What::Submit, 1, 1),
-            Step(What::Start, 1, 0),
-            Step(What::Submit, 0, 0),
-            Step(What::Start, 0, 0),
-            Step(What::Ask, 0, 1),
-            Step(What::Deliver, 0, 1),
-            Step(What::Drink, 1, 0),
-            Step(What::Give, 1, 1),
-            Step(What::Work, 1, 5),
-            Step(What::Finish, 1, 0),
-            Step(What::Give, 1, 1),
+            Step(What::Submit, B, 0),
+            Step(What::SendTo(B), B, 0),
+            Step(What::SendTo(B), A, 0),
             Step(What::Deliver, 0, 2),
-            Step(What::Drink, 0, 0),
-        ],
-        "ticket 1; done; ticket 1; done; done; taken; done; refused O1 NotNow; done; done; done; taken; done; 1.1 Done reads 1=0 writes 1=0 gives 0; unfinished 1; values 100 0",
-    ),
-    (
-        &[
-            Step(What::Submit, 1, 2),
-            Step(What::Submit, 1, 1),
-            Step(What::Start, 1, 0),
-            Step(What::Ask, 1, 0),
-            Step(What::Ask, 1, 0),
             Step(What::Deliver, 0, 1),
-            Step(What::Give, 0, 0),
-            Step(What::Deliver, 0, 2),
-            Step(What::Drink, 1, 0),
-            Step(What::Work, 1, 5),
-            Step(What::Finish, 1, 0),
-            Step(What::Start, 1, 0),
-            Step(What::Start, 1, 0),
+            Step(What::Deliver, 0, 1),
         ],
-        "ticket 1; ticket 2; done; done; refused O1 NotNow; taken; done; taken; done; done; done; done; refused O1 NotNow; 1.1 Done reads 0=100 1=0 writes 0=50 1=1 gives; unfinished 1; values 50 1",
+        "refused N2 NoOffice; refused N2 NoOffice; refused N2 NoOffice; refused N1 NoFrame; refused N1 NoFrame; refused O2 NotOurs; refused O1 NotNow; frame 445001020000002a000100000000000000000000000000000000; refused N1 NoFrame; acked; acked; unfinished 0; values 100 0",
     ),
 ];
 
 #[test]
-fn steps_are_answered(rt: HostRuntime) -> Result<(), Fail> {
+fn worlds_do_as_the_rows_say(rt: HostRuntime) -> Result<(), Fail> {
     let alloc = rt.alloc();
-    for (steps, expected) in &ROWS {
-        let mut world = opened(alloc)?;
-        let mut text = String::new(alloc);
-        for step in *steps {
-            take_step(alloc, &mut text, &mut world, *step)?;
-        }
-        describe(&mut text, &world)?;
-        assert_eq!(rt; text.as_str(), *expected);
+    for (plan, sessions, steps, expected) in &ROWS {
+        let told = played(alloc, plan, sessions, steps)?;
+        assert_eq!(rt; told.as_str(), *expected);
     }
     Ok(())
 }
 
-#[test]
-fn sixty_four_sessions_may_wait(rt: HostRuntime) -> Result<(), Fail> {
-    let alloc = rt.alloc();
-    let mut world = opened(alloc)?;
+/// What a world answers to these steps, and what it tells then.
+fn played(alloc: Global, plan: &str, sessions: &str, steps: &[Step]) -> Result<String, Fail> {
+    let plan = Plan::read(alloc, plan.as_bytes())?;
+    let programs = read_sessions(alloc, sessions.as_bytes(), &plan)?;
+    let events = events_of(alloc, &programs, steps)?;
+    let mut world = World::open(alloc, plan)?;
+    told_by(alloc, &mut world, &events)
+}
+
+/// The events are run. Where memory runs out the world is as it was before the event that is next, with which it goes on.
+fn told_by(alloc: Global, world: &mut World, events: &[WorldEvent]) -> Result<String, Fail> {
     let mut text = String::new(alloc);
-    for _ in 0..64 {
-        take_step(alloc, &mut text, &mut world, Step(What::Submit, 0, 3))?;
-    }
-    text.clear();
-    for step in [
-        Step(What::Submit, 0, 3),
-        Step(What::Start, 0, 0),
-        Step(What::Submit, 0, 3),
-        Step(What::Drink, 0, 0),
-    ] {
-        take_step(alloc, &mut text, &mut world, step)?;
-    }
-    for step in [
-        Step(What::Work, 0, 1),
-        Step(What::Finish, 0, 0),
-        Step(What::Submit, 0, 3),
-        Step(What::Submit, 1, 1),
-    ] {
-        take_step(alloc, &mut text, &mut world, step)?;
-    }
-    let expected =
-        "refused O3 QueueFull; done; refused O3 QueueFull; done; done; done; ticket 65; ticket 1; ";
-    assert_eq!(rt; text.as_str(), expected);
-    Ok(())
-}
-
-/// A thousand steps are drawn from each of these: what finished is what the serial run of the finished sessions tells.
-/// Beside each stands how many finish, by a simulation of the rules in another language.
-static SEEDS: [(u64, usize); 4] = [(1, 7), (20, 15), (300, 13), (4000, 8)];
-
-#[test]
-fn drawn_schedules_are_serial(rt: HostRuntime) -> Result<(), Fail> {
-    let alloc = rt.alloc();
-    for (seed, count) in &SEEDS {
-        let mut world = opened(alloc)?;
-        let mut text = String::new(alloc);
-        let mut draw = *seed;
-        for _ in 0..1000 {
-            draw = next(draw);
-            let step = drawn(draw, world.frames());
-            take_step(alloc, &mut text, &mut world, step)?;
+    let mut rest = events;
+    for _ in 0..4 {
+        match world.run(rest) {
+            Ok(replies) => {
+                tell(&mut text, &replies)?;
+                break;
+            }
+            Err(stopped) => rest = left(rest, stopped.done),
         }
-        let told = finishing(alloc, &world)?;
-        let expected = alone_in_order(alloc, &world)?;
-        assert_eq!(rt; told.as_str(), expected.as_str(), "of {seed}");
-        assert_eq!(rt; world.finished().len(), *count, "of {seed}");
     }
-    Ok(())
+    tell_outcomes(&mut text, world)?;
+    let unfinished = world.unfinished();
+    write!(text, "unfinished {unfinished}; ")?;
+    tell_values(&mut text, world)?;
+    Ok(text)
 }
 
-/// Steps of sessions that follow one another, how many messages these send, and the offices that have the two bottles.
-#[derive(Drop)]
-struct Schedule {
-    steps: Vec<Step>,
-    sent: u16,
-    at: [u8; 2],
-}
-
-impl Schedule {
-    /// A session fetches the bottles that it needs, and finishes. The last message is delivered once more.
-    fn turn(&mut self, me: u8, session: u16, needs: &[u16]) -> Result<(), Fail> {
-        self.steps.push(Step(What::Submit, me, session))?;
-        self.steps.push(Step(What::Start, me, 0))?;
-        for r in needs {
-            self.fetch(me, *r)?;
-        }
-        self.steps.push(Step(What::Drink, me, 0))?;
-        self.steps.push(Step(What::Work, me, 100))?;
-        self.steps.push(Step(What::Finish, me, 0))?;
-        self.steps.push(Step(What::Deliver, 0, self.sent))?;
-        Ok(())
-    }
-
-    fn fetch(&mut self, me: u8, r: u16) -> Result<(), Fail> {
-        let Some(at) = self.at.get_mut(r as usize) else {
-            return Ok(());
-        };
-        let from = *at;
-        if from == me {
-            return Ok(());
-        }
-        *at = me;
-        self.send(Step(What::Ask, me, r))?;
-        self.send(Step(What::Give, from, r))
-    }
-
-    /// A step that sends a message, which is delivered next.
-    fn send(&mut self, step: Step) -> Result<(), Fail> {
-        self.sent = self.sent.saturating_add(1);
-        self.steps.push(step)?;
-        self.steps.push(Step(What::Deliver, 0, self.sent))?;
-        Ok(())
+/// The events after so many.
+fn left(events: &[WorldEvent], done: usize) -> &[WorldEvent] {
+    match events.get(done..) {
+        Some(rest) => rest,
+        None => events,
     }
 }
 
-/// Twenty thousand events.
-fn long_schedule(alloc: Global) -> Result<Vec<Step>, Fail> {
-    let mut schedule = Schedule {
-        steps: Vec::new(alloc),
-        sent: 0,
-        at: [0, 1],
-    };
-    for _ in 0..600 {
-        schedule.turn(0, 0, &[0, 1])?;
-        schedule.turn(1, 1, &[1])?;
-        schedule.turn(1, 2, &[0, 1])?;
-    }
-    let mut steps = schedule.steps;
-    steps.truncate(20_000);
-    Ok(steps)
-}
-
-/// The numbers beside the assertions are counted by a program in another language.
-#[test]
-fn a_long_run_is_serial(rt: HostRuntime) -> Result<(), Fail> {
-    let alloc = rt.alloc();
-    let mut world = opened(alloc)?;
+fn events_of(
+    alloc: Global,
+    programs: &[Program],
+    steps: &[Step],
+) -> Result<Vec<WorldEvent>, AllocError> {
     let mut events = Vec::new(alloc);
-    for step in &long_schedule(alloc)? {
-        if let Some(event) = event_of(alloc, world.plan(), *step)? {
+    for step in steps {
+        if let Some(event) = event_of(alloc, programs, *step)? {
             events.push(event)?;
         }
     }
-    assert_eq!(rt; events.len(), 20_000);
-    let run = world.run(&events);
-    let mut refused = 0u32;
-    if let Ok(replies) = &run {
-        assert_eq!(rt; replies.len(), 20_000);
-        for reply in replies {
-            if reply.is_err() {
-                refused = refused.saturating_add(1);
-            }
+    Ok(events)
+}
+
+fn event_of(
+    alloc: Global,
+    programs: &[Program],
+    step: Step,
+) -> Result<Option<WorldEvent>, AllocError> {
+    let Step(what, at, n) = step;
+    let at = OfficeId::new(at);
+    match what {
+        What::Submit => match programs.get(n as usize) {
+            Some(program) => Ok(Some(WorldEvent::Submit(at, program.copy(alloc)?))),
+            None => Ok(None),
+        },
+        What::SendTo(to) => Ok(Some(WorldEvent::Send(at, OfficeId::new(to), n as usize))),
+        What::Deliver => Ok(Some(WorldEvent::Deliver(n as usize))),
+        _ => Ok(rule_of(what, n).map(|rule| WorldEvent::Do(at, rule))),
+    }
+}
+
+fn rule_of(what: What, n: u16) -> Option<Rule> {
+    match what {
+        What::Start => Some(Rule::Start),
+        What::Hungry => Some(Rule::Hungry),
+        What::AskFork => Some(Rule::AskFork(OfficeId::new((n % 256) as u8))),
+        What::GiveFork => Some(Rule::GiveFork(OfficeId::new((n % 256) as u8))),
+        What::Eat => Some(Rule::Eat),
+        What::Leave => Some(Rule::Leave),
+        What::AskBottle => Some(Rule::AskBottle(RecordId::new(n))),
+        What::GiveBottle => Some(Rule::GiveBottle(RecordId::new(n))),
+        What::Drink => Some(Rule::Drink),
+        What::Work => Some(Rule::Work(n)),
+        What::Finish => Some(Rule::Finish),
+        _ => None,
+    }
+}
+
+fn tell(text: &mut String, replies: &[Result<Reply, Refusal>]) -> Result<(), Fail> {
+    for reply in replies {
+        match reply {
+            Ok(Reply::Ticket(ticket)) => write!(text, "ticket {ticket}; ")?,
+            Ok(Reply::Done) => text.push_str("done; ")?,
+            Ok(Reply::Frame(frame)) => tell_frame(text, frame)?,
+            Ok(Reply::Acked) => text.push_str("acked; ")?,
+            Ok(Reply::Taken) => text.push_str("taken; ")?,
+            Ok(Reply::Repeat) => text.push_str("repeat; ")?,
+            Ok(Reply::Early) => text.push_str("early; ")?,
+            Err(refusal) => write!(text, "refused {refusal}; ")?,
         }
     }
-    assert_eq!(rt; refused, 1764);
-    assert_eq!(rt; world.frames(), 4706);
-    assert_eq!(rt; world.finished().len(), 1764);
-    assert_eq!(rt; world.unfinished(), 1);
-    let told = finishing(alloc, &world)?;
-    let expected = alone_in_order(alloc, &world)?;
-    assert_eq!(rt; told.as_str(), expected.as_str());
     Ok(())
 }
 
-/// The next of a row of numbers that look drawn.
-fn next(draw: u64) -> u64 {
-    draw.wrapping_mul(6364136223846793005)
-        .wrapping_add(1442695040888963407)
-}
-
-/// A step, of the upper bits of a number. A message that is delivered is one of the last four.
-fn drawn(draw: u64, frames: usize) -> Step {
-    let at = ((draw >> 40) % 2) as u8;
-    let number = ((draw >> 50) % 4) as u16;
-    let back = ((draw >> 45) % 4) as usize;
-    match (draw >> 33) % 9 {
-        0 => Step(What::Start, at, number % 2),
-        1 => Step(What::Ask, at, number % 2),
-        2 => Step(What::Give, at, number % 2),
-        3 => Step(What::Drink, at, number % 2),
-        4 => Step(What::Work, at, number),
-        5 => Step(What::Finish, at, number % 2),
-        6 => Step(What::Submit, at, number),
-        _ => Step(
-            What::Deliver,
-            at,
-            (frames.saturating_sub(back) % 65536) as u16,
-        ),
+fn tell_frame(text: &mut String, frame: &Frame) -> Result<(), Fail> {
+    let mut bytes = [0; MAX_LENGTH];
+    let length = encode(frame, &mut bytes);
+    text.push_str("frame ")?;
+    for byte in &bytes[..length] {
+        write!(text, "{byte:02x}")?;
     }
+    text.push_str("; ")?;
+    Ok(())
 }
 
-/// A world of the two offices.
-fn opened(alloc: Global) -> Result<World, Fail> {
-    let plan = Plan::read(alloc, PAIR.as_bytes())?;
-    Ok(World::open(alloc, plan)?)
-}
-
-/// Takes a step, and tells what is answered.
-fn take_step(alloc: Global, text: &mut String, world: &mut World, step: Step) -> Result<(), Fail> {
-    let Some(event) = event_of(alloc, world.plan(), step)? else {
-        return Ok(());
-    };
-    match world.apply(&event) {
-        Ok(Reply::Ticket(ticket)) => write!(text, "ticket {ticket}; ")?,
-        Ok(Reply::Done) => text.push_str("done; ")?,
-        Ok(Reply::Taken) => text.push_str("taken; ")?,
-        Err(refusal) => write!(text, "refused {refusal}; ")?,
+/// How the finished sessions ended, in finishing order.
+fn tell_outcomes(text: &mut String, world: &World) -> Result<(), AllocError> {
+    for i in 0..world.finished().len() {
+        if let Some(outcome) = world.outcome(i) {
+            describe(text, outcome)?;
+        }
     }
     Ok(())
 }
 
-fn event_of(alloc: Global, plan: &Plan, step: Step) -> Result<Option<WorldEvent>, Fail> {
-    let Step(what, at, number) = step;
-    let at = OfficeId::new(at);
-    let rule = match what {
-        What::Start => Rule::Start,
-        What::Ask => Rule::AskBottle(RecordId::new(number)),
-        What::Give => Rule::GiveBottle(RecordId::new(number)),
-        What::Drink => Rule::Drink,
-        What::Work => Rule::Work(number),
-        What::Finish => Rule::Finish,
-        What::Submit => return submitted(alloc, plan, at, number),
-        What::Deliver => return Ok(Some(WorldEvent::Deliver(number as usize))),
-    };
-    Ok(Some(WorldEvent::Do(at, rule)))
-}
-
-/// The event that submits a session, by its place in the text.
-fn submitted(
-    alloc: Global,
-    plan: &Plan,
-    at: OfficeId,
-    number: u16,
-) -> Result<Option<WorldEvent>, Fail> {
-    let mut programs = read_sessions(alloc, SESSIONS.as_bytes(), plan)?;
-    programs.truncate(number as usize + 1);
-    Ok(
-        programs
-            .pop()
-            .map(|program| WorldEvent::Submit(at, program)),
-    )
-}
-
-/// What finished, how many haven't, and the values.
-fn describe(text: &mut String, world: &World) -> Result<(), AllocError> {
-    for finished in world.finished() {
-        describe_outcome(text, &finished.outcome)?;
-    }
-    let unfinished = world.unfinished();
-    write!(text, "unfinished {unfinished}; ")?;
-    describe_values(text, world)
-}
-
-fn describe_values(text: &mut String, world: &World) -> Result<(), AllocError> {
+fn tell_values(text: &mut String, world: &World) -> Result<(), AllocError> {
     text.push_str("values")?;
     for r in 0..world.plan().records() {
         let value = world.value_of(RecordId::new(r as u16)).number;
@@ -387,7 +342,7 @@ fn describe_values(text: &mut String, world: &World) -> Result<(), AllocError> {
     Ok(())
 }
 
-fn describe_outcome(text: &mut String, outcome: &Outcome) -> Result<(), AllocError> {
+fn describe(text: &mut String, outcome: &Outcome) -> Result<(), AllocError> {
     let office = outcome.office.number();
     let ticket = outcome.ticket;
     let end = outcome.ending.end;
@@ -406,26 +361,217 @@ fn describe_outcome(text: &mut String, outcome: &Outcome) -> Result<(), AllocErr
     text.push_str("; ")
 }
 
-/// What finished, and the values.
-fn finishing(alloc: Global, world: &World) -> Result<String, AllocError> {
-    let mut text = String::new(alloc);
-    for finished in world.finished() {
-        describe_outcome(&mut text, &finished.outcome)?;
+/// What the first row's world tells beside that.
+#[test]
+fn a_world_tells_where_it_is(rt: HostRuntime) -> Result<(), Fail> {
+    let alloc = rt.alloc();
+    let plan = Plan::read(alloc, PAIR.as_bytes())?;
+    let programs = read_sessions(alloc, MOVE.as_bytes(), &plan)?;
+    let events = events_of(alloc, &programs, ROWS[0].2)?;
+    let mut world = World::open(alloc, plan)?;
+    told_by(alloc, &mut world, &events)?;
+    tell_all(&rt, &world);
+    Ok(())
+}
+
+fn tell_all<R: Abort>(rt: &R, world: &World) {
+    assert_eq!(rt; world.frames(), 2);
+    let numbers = [0, 1, 2, 3].map(|k| world.frame(k).map(|frame| (frame.from(), frame.number())));
+    assert_eq!(rt; numbers, [None, Some((0, 1)), Some((1, 1)), None]);
+    let lengths = [0, 1, 2].map(|a| world.offices().get(a).map(|office| office.journal().len()));
+    assert_eq!(rt; lengths, [Some(12), Some(3), None]);
+    let a = OfficeId::new(A);
+    let first = Finished {
+        office: a,
+        ticket: 1,
+    };
+    assert_eq!(rt; world.finished().len(), 1);
+    assert!(rt; world.finished().first() == Some(&first));
+    assert!(rt; world.outcome(1).is_none());
+}
+
+/// How many offices there are, and which of them are pairs.
+#[derive(Clone, Copy)]
+enum Shape {
+    Ring,
+    Star,
+    All,
+}
+
+impl Shape {
+    /// Whether two offices of so many are a pair, of which the first has the smaller number.
+    fn joins(self, offices: u8, a: u8, b: u8) -> bool {
+        match self {
+            Shape::Ring => {
+                b == a.saturating_add(1) || (a == 0 && b.saturating_add(1) == offices)
+            }
+            Shape::Star => a == 0,
+            Shape::All => true,
+        }
     }
-    describe_values(&mut text, world)?;
+}
+
+/// Offices, pairs, and a number from which the events are drawn.
+static DRAWN: [(u8, Shape, u64); 5] = [
+    (2, Shape::All, 1),
+    (3, Shape::Ring, 20),
+    (5, Shape::All, 300),
+    (16, Shape::Star, 4000),
+    (16, Shape::Ring, 50000),
+];
+
+/// Of 20,000 drawn events, with frames that get lost, come again or come late, the finished sessions are those of their
+/// serial run, and so are the values.
+#[test]
+fn drawn_schedules_are_serial(rt: HostRuntime) -> Result<(), Fail> {
+    let alloc = rt.alloc();
+    for (offices, shape, seed) in &DRAWN {
+        let plan = plan_text(alloc, *offices, *shape)?;
+        let sessions = sessions_text(alloc, *offices, *shape)?;
+        let (told, alone) = drawn(alloc, plan.as_str(), sessions.as_str(), *seed)?;
+        assert!(rt; told.len() > 1000, "of {seed}");
+        assert_eq!(rt; told.as_str(), alone.as_str(), "of {seed}");
+    }
+    Ok(())
+}
+
+/// A record of each pair, which starts at the office with the greater number.
+fn plan_text(alloc: Global, offices: u8, shape: Shape) -> Result<String, AllocError> {
+    let mut text = String::from_str(alloc, "plan 1 run 7\n")?;
+    for a in 0..offices {
+        write!(text, "office o{a} -\n")?;
+    }
+    for a in 0..offices {
+        for b in a..offices {
+            if a < b && shape.joins(offices, a, b) {
+                write!(text, "pair o{a} o{b} fork o{a}\n")?;
+                write!(text, "record r{a}x{b} o{a} o{b} 100 at o{b}\n")?;
+            }
+        }
+    }
     Ok(text)
 }
 
-/// What the serial run of the finished programs tells.
-fn alone_in_order(alloc: Global, world: &World) -> Result<String, AllocError> {
-    let programs = programs_of(alloc, world.plan(), world.finished())?;
+/// Two sessions of each office: one adds to its records, and one doubles them while they are small.
+fn sessions_text(alloc: Global, offices: u8, shape: Shape) -> Result<String, AllocError> {
     let mut text = String::new(alloc);
-    if programs.len() > 2000 {
+    for at in 0..offices {
+        for doubles in [false, true] {
+            write!(text, "session o{at}\n")?;
+            lines_of(&mut text, offices, shape, at, doubles)?;
+            text.push_str("end\n")?;
+        }
+    }
+    Ok(text)
+}
+
+fn lines_of(
+    text: &mut String,
+    offices: u8,
+    shape: Shape,
+    at: u8,
+    doubles: bool,
+) -> Result<(), AllocError> {
+    for other in 0..offices {
+        let a = at.min(other);
+        let b = at.max(other);
+        if a < b && shape.joins(offices, a, b) {
+            if doubles {
+                write!(text, "require read r{a}x{b} < 500 else 7\n")?;
+                write!(text, "set r{a}x{b} = read r{a}x{b} * 2\n")?;
+            } else {
+                write!(text, "set r{a}x{b} = read r{a}x{b} + {other} - {at}\n")?;
+                write!(text, "give read r{a}x{b}\n")?;
+            }
+        }
+    }
+    Ok(())
+}
+
+/// What a world tells after drawn events, and what the serial run of its finished sessions tells.
+fn drawn(alloc: Global, plan: &str, sessions: &str, seed: u64) -> Result<(String, String), Fail> {
+    let plan = Plan::read(alloc, plan.as_bytes())?;
+    let programs = read_sessions(alloc, sessions.as_bytes(), &plan)?;
+    let mut world = World::open(alloc, plan)?;
+    draw_all(&mut world, &programs, seed);
+    let told = finishing(alloc, &world)?;
+    let alone = alone_in_order(alloc, &world, &programs)?;
+    Ok((told, alone))
+}
+
+fn draw_all(world: &mut World, programs: &[Program], seed: u64) {
+    let mut draw = seed;
+    for _ in 0..20_000 {
+        draw = next(draw);
+        let _ = take_drawn(world, programs, draw);
+    }
+}
+
+/// The next of a row of numbers that look drawn.
+fn next(draw: u64) -> u64 {
+    draw.wrapping_mul(6364136223846793005)
+        .wrapping_add(1442695040888963407)
+}
+
+/// An event, of the upper bits of a number: an office goes on, or sends what waits for a neighbour, or one of the last
+/// frames comes.
+fn take_drawn(world: &mut World, programs: &[Program], draw: u64) -> Result<Reply, Refusal> {
+    let offices = world.offices().len() as u64;
+    let at = ((draw >> 33).checked_rem(offices).unwrap_or(0) % 256) as u8;
+    let to = ((draw >> 41).checked_rem(offices).unwrap_or(0) % 256) as u8;
+    let small = ((draw >> 49) % 32) as usize;
+    match (draw >> 55) % 8 {
+        0 | 1 | 2 | 3 => go_on(world, programs, at),
+        4 | 5 => world.send(OfficeId::new(at), OfficeId::new(to), small % 3),
+        _ => {
+            let last = world.frames();
+            world.deliver(last.saturating_sub(small))
+        }
+    }
+}
+
+/// The office does its next rule, or gets the one or the other of its sessions in turn.
+fn go_on(world: &mut World, programs: &[Program], at: u8) -> Result<Reply, Refusal> {
+    let Some(office) = world.offices().get(at as usize) else {
+        return Err(Refusal::NoOffice);
+    };
+    let tickets = office.tickets();
+    match office.next_rule() {
+        Some(rule) => world.act(OfficeId::new(at), &rule),
+        None => match session_of(programs, at, tickets) {
+            Some(program) => world.submit(OfficeId::new(at), program),
+            None => Err(Refusal::NoOffice),
+        },
+    }
+}
+
+/// The session that an office gets after so many tickets.
+fn session_of(programs: &[Program], at: u8, tickets: u32) -> Option<&Program> {
+    programs.get(at as usize * 2 + (tickets % 2) as usize)
+}
+
+/// What finished, and the values.
+fn finishing(alloc: Global, world: &World) -> Result<String, AllocError> {
+    let mut text = String::new(alloc);
+    tell_outcomes(&mut text, world)?;
+    tell_values(&mut text, world)?;
+    Ok(text)
+}
+
+/// What the serial run of the finished sessions tells.
+fn alone_in_order(
+    alloc: Global,
+    world: &World,
+    programs: &[Program],
+) -> Result<String, AllocError> {
+    let finished = finished_programs(alloc, world.plan(), programs, world.finished())?;
+    let mut text = String::new(alloc);
+    if finished.len() > 20_000 {
         return Ok(text);
     }
-    let Replay { outcomes, values } = serial(alloc, world.plan(), &programs)?;
+    let Replay { outcomes, values } = serial(alloc, world.plan(), &finished)?;
     for outcome in &outcomes {
-        describe_outcome(&mut text, outcome)?;
+        describe(&mut text, outcome)?;
     }
     text.push_str("values")?;
     for value in &values {
@@ -435,18 +581,22 @@ fn alone_in_order(alloc: Global, world: &World) -> Result<String, AllocError> {
 }
 
 /// The finished programs that fit the plan, which are all of them.
-fn programs_of(
+fn finished_programs(
     alloc: Global,
     plan: &Plan,
+    programs: &[Program],
     finished: &[Finished],
 ) -> Result<Vec<Program>, AllocError>
     ensures { IfOk result (λ ps. All (λ p. IsTrue (fits plan.now p)) ps.items) }
 {
-    let mut programs = Vec::new(alloc);
+    let mut found = Vec::new(alloc);
     for one in finished {
-        push_fitting(plan, &mut programs, one.program.copy(alloc)?)?;
+        let before = one.ticket.saturating_sub(1);
+        if let Some(program) = session_of(programs, one.office.number(), before) {
+            push_fitting(plan, &mut found, program.copy(alloc)?)?;
+        }
     }
-    Ok(programs)
+    Ok(found)
 }
 
 fn push_fitting(

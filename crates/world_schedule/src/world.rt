@@ -1,25 +1,34 @@
 //! All offices of a plan, and what happens to them.
 
-ghost use Rattle.std.specs.Prelude.{◌≡◌, ◌<◌, ◌≤◌, ◌↔◌, Err, IsTrue, length, map, IfOk, OnOk, IfErr, take};
-ghost use Rattle.serial_replay.specs.Serial.{start_map, map_of, outcomes_of};
-ghost use Rattle.world_schedule.specs.Worlds.{opening, happens, run_of, replies_of, programs, outcomes, bottle_value, unfinished_in, OrMemory};
-ghost use Rattle.world_schedule.specs.declared.event.WorldEvent.TheVariants as events;
-ghost use Rattle.world_schedule.specs.declared.reply.Refusal.TheVariants as refusals;
-ghost use Rattle.world_schedule.specs.Headline.{HasSerialValues, HasSerialSessions, HasOnePlaceEach, IsReached};
-ghost use Rattle.world_schedule.specs.refinement.Tables.{state_of, world_in, office_table, IsWorld};
+ghost use Rattle.std.specs.Prelude.{◌≡◌, ◌<◌, ◌≤◌, ◌^◌, ◌↔◌, ◌∷◌, [], Err, IsTrue, length, map, slice_get, All, IfOk, OnOk, IfErr, take};
+ghost use Rattle.std.specs.Option.{option_copied};
+ghost use Rattle.site_core.specs.Agenda.{unfinished};
+ghost use Rattle.site_core.specs.Journals.{office_of};
+ghost use Rattle.site_core.specs.declared.reply.Refusal.TheVariants as refused;
+ghost use Rattle.frame_world.specs.declared.refusal.Refusal.TheVariants as refusals;
+ghost use Rattle.frame_world.specs.declared.event.WorldEvent.TheVariants as events;
+ghost use Rattle.frame_world.specs.Worlds.{opening, run_of, replies_of, Applies, site_at, frame_at};
+ghost use Rattle.frame_world.specs.Ways.{bottles_of, pairs_at, tables_of};
+ghost use Rattle.frame_world.specs.Headline.{programs, outcomes, IsReached, HasSerialSessions, HasSerialValues, HasOnePlaceEach, NeighboursEatApart, EatersHaveTheirForks, DrinkersHaveTheirBottles};
+ghost use Rattle.dining_core.specs.Worlds.{HasNoRing};
+ghost use Rattle.serial_replay.specs.Serial.{start_map, map_of};
+ghost use Rattle.world_schedule.specs.Readers.{unfinished_in, listed_as};
+ghost use Rattle.world_schedule.specs.Tickets.{HasItsTicket};
 
-use crate::event::WorldEvent;
 use crate::finished::Finished;
 use crate::happening;
-use crate::message::Message;
 use crate::opening::offices_of;
-use crate::reply::{Refusal, Reply};
-use crate::tables::Office;
-use crate::values::bottle_value;
+use crate::values::bottle_between;
 use bottle_values::Value;
+use frame_codec::Frame;
+use frame_world::laws::{
+    bottles_are_serial, neighbours_never_eat_at_once, precedence_has_no_ring, sessions_are_serial,
+    things_have_one_place, who_drinks_has_its_bottles, who_eats_has_its_forks,
+};
+use frame_world::{Refusal, WorldEvent};
 use office_map::{OfficeId, Plan, RecordId};
-use session_language::Program;
-use session_meaning::laws::writes_what_it_has;
+use session_language::{Outcome, Program};
+use site_core::{Office, Reply, Rule};
 use std::alloc::{AllocError, Global};
 use std::marker::Model;
 
@@ -30,44 +39,44 @@ pub struct Stopped {
     pub done: usize,
 }
 
-/// All offices of a plan, every message that they sent, and the sessions that they finished.
+/// All offices of a plan with their journals, every frame that they sent, and which sessions finished.
 #[derive(Drop)]
 pub struct World {
     alloc: Global,
     plan: Plan,
     offices: Vec<Office>,
-    messages: Vec<Message>,
+    frames: Vec<Frame>,
     finished: Vec<Finished>,
 }
 
 impl Model for World {
-    ghost use Rattle.std.specs.Prelude.{map};
     ghost use Rattle.std.specs.Coded.{Coded, codes};
     ghost use Rattle.session_meaning.specs.declared.node.Node.{Node};
     ghost use Rattle.session_meaning.specs.refinement.TreeEncoding.{Mark, term_code, block_code};
-    ghost use Rattle.world_schedule.specs.refinement.Tables.{WorldTable, office_table, IsWorld};
+    ghost use Rattle.frame_world.specs.Worlds as worlds;
+    ghost use Rattle.world_schedule.specs.refinement.WorldOfCode.{world_in, IsWorld};
 
-    ghost Value = { WorldTable };
+    ghost Value = { worlds.World };
 
     ghost coded = { let nodes : Coded Node = Prim.hlevel codes in let marks : Coded Mark = Prim.hlevel (codes, term_code nodes) in Prim.hlevel (codes, block_code marks) };
 
-    ghost view = { λ w. record { plan = w.plan; offices = map office_table w.offices.items; messages = w.messages.items; finished = w.finished.items } };
+    ghost view = { λ w. world_in w.plan w.offices.items w.frames.items w.finished.items };
 
-    ghost invariant = { λ w. IsWorld w.plan w.offices.items w.messages.items w.finished.items };
+    ghost invariant = { λ w. IsWorld w.plan w.offices.items w.frames.items w.finished.items };
 }
 
 impl World {
     /// The world as a plan starts it.
     pub fn open(alloc: Global, plan: Plan) -> Result<World, AllocError>
-        ensures plan { IfOk result (λ w. w.plan ≡ plan) }
-        ensures opening { IfOk result (λ w. state_of w ≡ opening plan) }
+        ensures { IfOk result (λ w. w ≡ opening plan) }
     {
+        let _ = plan.offices();
         let offices = offices_of(alloc, &plan)?;
         Ok(World {
             alloc,
             plan,
             offices,
-            messages: Vec::new(alloc),
+            frames: Vec::new(alloc),
             finished: Vec::new(alloc),
         })
     }
@@ -80,58 +89,81 @@ impl World {
     }
 
     /// One event. A refused one leaves the world as it was.
+    ///
+    /// # Errors
+    /// `NoOffice` where the plan hasn't the office, `NoFrame` where so many frames weren't sent; then what the office
+    /// refuses. `Memory` may stand in place of what the office answers.
     pub fn apply(&mut self, event: &WorldEvent) -> Result<Reply, Refusal>
-        ensures plan { self.new.plan ≡ self.old.plan }
-        ensures step { OrMemory (state_of self.old) (happens self.old.plan (state_of self.old) event.now) result (state_of self.new) }
+        ensures { Applies self.old event.now result self.new }
     {
         match event {
             WorldEvent::Submit(at, program) => self.submit(*at, program),
-            WorldEvent::Do(at, rule) => happening::do_rule(
-                self.alloc,
-                &self.plan,
-                &mut self.offices,
-                &mut self.messages,
-                &mut self.finished,
-                *at,
-                rule,
-            ),
-            WorldEvent::Deliver(k) => happening::deliver(
-                &self.plan,
-                &mut self.offices,
-                &self.messages,
-                &self.finished,
-                *k,
-            ),
+            WorldEvent::Do(at, rule) => self.act(*at, rule),
+            WorldEvent::Send(from, to, i) => self.send(*from, *to, *i),
+            WorldEvent::Deliver(k) => self.deliver(*k),
         }
     }
 
-    /// The event that a session is submitted at an office. Its program is copied where it is taken, and not where it is
-    /// refused.
+    /// The event that a session is submitted at an office. Its program is copied where it is taken.
+    ///
+    /// # Errors
+    /// As [`World::apply`].
     pub fn submit(&mut self, at: OfficeId, program: &Program) -> Result<Reply, Refusal>
-        ensures plan { self.new.plan ≡ self.old.plan }
-        ensures step { OrMemory (state_of self.old) (happens self.old.plan (state_of self.old) (events.Submit at program.now)) result (state_of self.new) }
+        ensures { Applies self.old (events.Submit at program.now) result self.new }
     {
-        happening::submit(
-            self.alloc,
-            &self.plan,
-            &mut self.offices,
-            &self.messages,
-            &self.finished,
-            at,
-            program,
-        )
+        happening::submit(&mut self.offices, at, program)
+    }
+
+    /// The event that an office does a rule.
+    ///
+    /// # Errors
+    /// As [`World::apply`].
+    pub fn act(&mut self, at: OfficeId, rule: &Rule) -> Result<Reply, Refusal>
+        ensures { Applies self.old (events.Do at rule.now) result self.new }
+    {
+        if let Rule::Finish = rule {
+            return happening::finish(&mut self.offices, &mut self.finished, at);
+        }
+        happening::act(&mut self.offices, at, rule)
+    }
+
+    /// The event that an office makes a frame: of the `i`-th message that waits for a neighbour, from 1, or with 0 of the
+    /// count alone.
+    ///
+    /// # Errors
+    /// As [`World::apply`].
+    pub fn send(&mut self, from: OfficeId, to: OfficeId, i: usize) -> Result<Reply, Refusal>
+        ensures { Applies self.old (events.Send from to i) result self.new }
+    {
+        happening::send(&mut self.offices, &mut self.frames, from, to, i)
+    }
+
+    /// The event that the frame which was sent as the `k`-th of all, from 1, comes to its addressee.
+    ///
+    /// # Errors
+    /// As [`World::apply`].
+    pub fn deliver(&mut self, k: usize) -> Result<Reply, Refusal>
+        ensures { Applies self.old (events.Deliver k) result self.new }
+    {
+        let Some(frame) = self.frame(k) else {
+            return Err(Refusal::NoFrame);
+        };
+        happening::deliver(&mut self.offices, &frame)
     }
 
     /// Events in order. A refused one leaves the world as it was, and the run goes on, but where memory runs out: then
-    /// it stops, with the world after the events before.
+    /// it stops, with the world after the events before. Of the world then all holds that [`World::is_serial`] tells.
     pub fn run(&mut self, events: &[WorldEvent]) -> Result<Vec<Result<Reply, Refusal>>, Stopped>
-        ensures plan { self.new.plan ≡ self.old.plan }
-        ensures replies { IfOk result (λ replies. replies.items ≡ replies_of self.old.plan (state_of self.old) events.now) }
-        ensures world { OnOk result (state_of self.new ≡ run_of self.old.plan (state_of self.old) events.now) }
-        ensures bottles { HasSerialValues self.new.plan (state_of self.new) }
-        ensures sessions { HasSerialSessions self.new.plan (state_of self.new) }
-        ensures places { HasOnePlaceEach self.new.plan (state_of self.new) }
-        ensures stopped { IfErr result (λ s. (s.done ≤ length events.now) × (state_of self.new ≡ run_of self.old.plan (state_of self.old) (take s.done events.now))) }
+        ensures replies { IfOk result (λ replies. replies.items ≡ replies_of self.old events.now) }
+        ensures world { OnOk result (self.new ≡ run_of self.old events.now) }
+        ensures stopped { IfErr result (λ s. (s.done ≤ length events.now) × (self.new ≡ run_of self.old (take s.done events.now))) }
+        ensures sessions { HasSerialSessions self.new }
+        ensures bottles { HasSerialValues self.new }
+        ensures places { HasOnePlaceEach self.new }
+        ensures apart { NeighboursEatApart self.new }
+        ensures eaters { EatersHaveTheirForks self.new }
+        ensures drinkers { DrinkersHaveTheirBottles self.new }
+        ensures order { HasNoRing self.new.plan (tables_of (pairs_at self.new)) }
     {
         let replies = self.run_all(events);
         self.is_serial();
@@ -139,10 +171,9 @@ impl World {
     }
 
     fn run_all(&mut self, events: &[WorldEvent]) -> Result<Vec<Result<Reply, Refusal>>, Stopped>
-        ensures plan { self.new.plan ≡ self.old.plan }
-        ensures replies { IfOk result (λ replies. replies.items ≡ replies_of self.old.plan (state_of self.old) events.now) }
-        ensures world { OnOk result (state_of self.new ≡ run_of self.old.plan (state_of self.old) events.now) }
-        ensures stopped { IfErr result (λ s. (s.done ≤ length events.now) × (state_of self.new ≡ run_of self.old.plan (state_of self.old) (take s.done events.now))) }
+        ensures replies { IfOk result (λ replies. replies.items ≡ replies_of self.old events.now) }
+        ensures world { OnOk result (self.new ≡ run_of self.old events.now) }
+        ensures stopped { IfErr result (λ s. (s.done ≤ length events.now) × (self.new ≡ run_of self.old (take s.done events.now))) }
     {
         let mut replies = Vec::new(self.alloc);
         for event in events {
@@ -159,70 +190,127 @@ impl World {
         Ok(replies)
     }
 
-    /// What holds of every world: some events led to it from its plan; each record's bottle has the value, and the
-    /// finished sessions have the outcomes, of the serial run of these in finishing order; and each thing that two
-    /// offices share is at one place.
+    /// What holds of every world: some events led to it from its plan; the finished sessions have the outcomes, and each
+    /// record's one bottle has the value, of the serial run of these sessions in finishing order; each fork, bottle and
+    /// request token is at one place; neighbours eat apart, who eats has its forks, who works has its bottles, and
+    /// precedence has no ring.
     pub fn is_serial(&self)
-        ensures reached { IsReached self.now.plan (state_of self.now) }
-        ensures bottles { HasSerialValues self.now.plan (state_of self.now) }
-        ensures sessions { HasSerialSessions self.now.plan (state_of self.now) }
-        ensures places { HasOnePlaceEach self.now.plan (state_of self.now) }
+        ensures reached { IsReached self.now }
+        ensures sessions { HasSerialSessions self.now }
+        ensures bottles { HasSerialValues self.now }
+        ensures places { HasOnePlaceEach self.now }
+        ensures apart { NeighboursEatApart self.now }
+        ensures eaters { EatersHaveTheirForks self.now }
+        ensures drinkers { DrinkersHaveTheirBottles self.now }
+        ensures order { HasNoRing self.now.plan (tables_of (pairs_at self.now)) }
     {
-        is_serial(&self.plan, &self.offices, &self.messages, &self.finished);
+        sessions_are_serial();
+        bottles_are_serial();
+        things_have_one_place();
+        neighbours_never_eat_at_once();
+        who_eats_has_its_forks();
+        who_drinks_has_its_bottles();
+        precedence_has_no_ring();
+        let _ = &self.plan;
     }
 
-    /// How many messages were ever sent.
-    pub fn frames(&self) -> usize
-        ensures { result ≡ length (state_of self.now).frames }
+    /// All offices, in order of number. `Office::journal` has all that one accepted.
+    pub fn offices(&self) -> &[Office]
+        ensures all { result.now ≡ self.now.sites }
+        ensures one_each { length result.now ≡ length self.now.plan.offices }
     {
-        self.messages.len()
+        let _ = &self.plan;
+        self.offices.as_slice()
+    }
+
+    /// An office.
+    pub fn office(&self, id: OfficeId) -> &Office
+        requires { id < length self.now.plan.offices }
+        ensures site { result.now ≡ site_at self.now id }
+        ensures plan { result.now.plan ≡ self.now.plan }
+        ensures number { result.now.me ≡ id }
+    {
+        &self.offices[id.index()]
+    }
+
+    /// How many frames were ever sent.
+    pub fn frames(&self) -> usize
+        ensures { result ≡ length self.now.frames }
+    {
+        self.frames.len()
+    }
+
+    /// The frame that was sent as the `k`-th of all, from 1.
+    pub fn frame(&self, k: usize) -> Option<Frame>
+        ensures { result ≡ frame_at self.now k }
+    {
+        if k == 0 {
+            return None;
+        }
+        self.frames.get(k - 1).copied()
+    }
+
+    /// Which sessions finished, in finishing order. [`World::outcome`] tells how they ended.
+    pub fn finished(&self) -> &[Finished]
+        ensures listed { result.now ≡ map listed_as self.now.finished }
+        ensures tickets { All (HasItsTicket self.now) self.now.finished }
+    {
+        self.finished.as_slice()
+    }
+
+    /// How the session ended that finished as the `i`-th of all, from 0.
+    pub fn outcome(&self, i: usize) -> Option<&Outcome>
+        ensures { option_copied result ≡ slice_get (outcomes self.now) i }
+    {
+        let finished = self.finished.get(i)?;
+        let office = &self.offices[finished.office.index()];
+        nth(office.outcomes(), finished.ticket as usize - 1)
+    }
+
+    /// The value of a record: that of its bottle, which an office holds, or which is on the way.
+    pub fn value_of(&self, r: RecordId) -> Value
+        requires { r < length self.now.plan.records }
+        ensures bottle { bottles_of self.now r ≡ result ∷ [] }
+        ensures serial { result ≡ map_of (start_map self.now.plan) (programs self.now) r }
+    {
+        bottles_are_serial();
+        let (a, b) = self.plan.ends(r);
+        let first = &self.offices[a.index()];
+        let second = &self.offices[b.index()];
+        bottle_between(first, second, r).unwrap()
     }
 
     /// How many submitted sessions haven't finished.
     pub fn unfinished(&self) -> usize
-        ensures { result ≡ unfinished_in self.now.plan (state_of self.now) }
+        ensures { result ≡ unfinished_in self.now }
     {
-        let mut submitted = 0;
+        let mut unfinished = 0;
         for office in &self.offices {
-            submitted += office.tickets as usize;
+            unfinished += unfinished_at(office);
         }
-        submitted.saturating_sub(self.finished.len())
+        unfinished
     }
+}
 
-    /// The value of a record: that of its bottle, where it is held or in the message that carries it.
-    pub fn value_of(&self, r: RecordId) -> Value
-        requires { r < length self.now.plan.records }
-        ensures place { result ≡ bottle_value self.now.plan (state_of self.now) r }
-        ensures serial { result ≡ map_of (start_map self.now.plan) (programs self.now.finished) r }
-    {
-        writes_what_it_has();
-        bottle_value(&self.plan, &self.offices, r)
-    }
+/// The outcome at this place, from 0.
+fn nth(outcomes: &[Outcome], i: usize) -> Option<&Outcome>
+    ensures { option_copied result ≡ slice_get outcomes.now i }
+{
+    outcomes.get(i)
+}
 
-    /// The finished sessions, in finishing order.
-    pub fn finished(&self) -> &[Finished]
-        ensures all { result.now ≡ (state_of self.now).finished }
-        ensures serial { outcomes result.now ≡ outcomes_of (start_map self.now.plan) (programs result.now) }
-    {
-        writes_what_it_has();
-        self.finished.as_slice()
-    }
+/// How many sessions that were submitted at an office haven't finished.
+fn unfinished_at(office: &Office) -> usize
+    ensures sessions { result ≡ unfinished (office_of office.now).agenda }
+    ensures few { result < 2 ^ 32 }
+{
+    let _ = office.journal();
+    office.tickets() as usize - office.outcomes().len()
 }
 
 /// Whether it is want of memory.
 fn is_memory(reply: &Result<Reply, Refusal>) -> bool
-    ensures { IsTrue result ↔ (reply.now ≡ Err refusals.Memory) }
+    ensures { IsTrue result ↔ (reply.now ≡ Err (refusals.Office refused.Memory)) }
 {
-    matches!(reply, Err(Refusal::Memory))
-}
-
-/// What holds of every world's parts.
-fn is_serial(plan: &Plan, offices: &[Office], messages: &[Message], finished: &[Finished])
-    requires { IsWorld plan.now offices.now messages.now finished.now }
-    ensures reached { IsReached plan.now (world_in plan.now (map office_table offices.now) messages.now finished.now) }
-    ensures bottles { HasSerialValues plan.now (world_in plan.now (map office_table offices.now) messages.now finished.now) }
-    ensures sessions { HasSerialSessions plan.now (world_in plan.now (map office_table offices.now) messages.now finished.now) }
-    ensures places { HasOnePlaceEach plan.now (world_in plan.now (map office_table offices.now) messages.now finished.now) }
-{
-    writes_what_it_has();
+    matches!(reply, Err(Refusal::Office(site_core::Refusal::Memory)))
 }

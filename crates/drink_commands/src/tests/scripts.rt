@@ -1,22 +1,90 @@
 use crate::commands::{serial, sim};
-use crate::fault::{Fault, ScriptRefusal, Why};
+use crate::fault::{Fault, Why};
 use crate::input::Input;
 use crate::tests::{MOVE, Memory, PLAN, why};
+use script_runs::ScriptRefusal;
 use std::alloc::{AllocError, Global};
 use std::io;
 use std::process::Abort;
 use std::test::Fail;
 
-const SCRIPT: &str =
-    "submit 1\ndo a start\ndo a askbottle y\ndeliver 1\ndo b givebottle y\ndeliver 2\ndo a drink\ndo a work 100\ndo a finish\ndeliver 2\n";
-
-const REPLIES: &str =
-    "ticket 1\ndone\ndone\ntaken\ndone\ntaken\ndone\ndone\ndone\nrefused N1 NoFrame\n";
-
-const END: &str =
-    "a.1 done reads x=100 y=0 writes x=70 y=30 gives 70 30\nunfinished 0\nvalue x 70\nvalue y 30\n";
-
 const TWO: &str = "session a\ngive 1\nend\nsession b\ngive 2\nend\n";
+
+const ALL_AT_B: &str =
+    "plan 1 run 42\noffice a -\noffice b -\npair a b fork a\nrecord x a b 1 at b\nrecord y a b 2 at b\nrecord z a b 3 at b\n";
+
+const READS_ALL: &str = "session a\ngive read x + read y + read z\nend\n";
+
+const THREE: &str =
+    "plan 1 run 9\noffice a -\noffice b -\noffice c -\npair a b fork b\npair b c fork b\nrecord r a b 1 at a\nrecord s b c 2 at c\n";
+
+const THREE_SESSIONS: &str =
+    "session a\nrepeat 3\nset r = read r * 2\nend\ngive read r\nend\nsession c\nset s = read s + 5\ngive read s\nend\nsession b\nset r = read r + read s\nset s = 0\ngive read r\nend\n";
+
+const ALONE: &str = "plan 1 run 7\noffice a -\noffice b -\n";
+
+const GIVES: &str = "session a\ngive 1\nend\n";
+
+/// A plan, sessions, a script, and what `sim` writes.
+static ROWS: [(&str, &str, &str, &str); 9] = [
+    // A session that moves an amount, and a frame that comes twice.
+    (
+        PLAN,
+        MOVE,
+        "submit 1\ndo a start\ndo a hungry\ndo a eat\ndo a askbottle y\nsend a b 1\ndeliver 1\ndo b givebottle y\nsend b a 1\ndeliver 2\ndo a drink\ndo a leave\ndo a work 100\ndo a finish\ndeliver 2\n",
+        "ticket 1\ndone\ndone\ndone\ndone\nframe 1 445001010000002a000100000000000000010000000000000000030001\ntaken\ndone\nframe 2 445001010000002a0100000000000000000100000000000000010400010000000000000000\ntaken\ndone\ndone\ndone\ndone\nrepeat\na.1 done reads x=100 y=0 writes x=70 y=30 gives 70 30\nunfinished 0\nvalue x 70\nvalue y 30\n",
+    ),
+    // The same, left to itself.
+    (
+        PLAN,
+        MOVE,
+        "submit 1\nadvance a 9\nsend a b 1\ndeliver 1\nadvance b 9\nsend b a 1\ndeliver 2\nadvance a 9\nadvance b 1000\nsend a b 0\ndeliver 3\n",
+        "ticket 1\nrules 4\nframe 1 445001010000002a000100000000000000010000000000000000030001\ntaken\nrules 1\nframe 2 445001010000002a0100000000000000000100000000000000010400010000000000000000\ntaken\nrules 4\nrules 0\nframe 3 445001020000002a000100000000000000000000000000000001\nacked\na.1 done reads x=100 y=0 writes x=70 y=30 gives 70 30\nunfinished 0\nvalue x 70\nvalue y 30\n",
+    ),
+    // A frame that comes before the one before it.
+    (
+        ALL_AT_B,
+        READS_ALL,
+        "submit 1\ndo a start\ndo a askbottle x\ndo a askbottle y\ndo a askbottle z\nsend a b 1\nsend a b 2\nsend a b 3\ndeliver 3\ndeliver 1\ndeliver 2\nsend a b 3\ndeliver 4\n",
+        "ticket 1\ndone\ndone\ndone\ndone\nframe 1 445001010000002a000100000000000000010000000000000000030000\nframe 2 445001010000002a000100000000000000020000000000000000030001\nframe 3 445001010000002a000100000000000000030000000000000000030002\nearly\ntaken\ntaken\nframe 4 445001010000002a000100000000000000030000000000000000030002\ntaken\nunfinished 1\nvalue x 1\nvalue y 2\nvalue z 3\n",
+    ),
+    // Three offices, whose sessions finish in another order than they were submitted.
+    (
+        THREE,
+        THREE_SESSIONS,
+        "submit 1\nsubmit 2\ndo a start\ndo a drink\ndo a work 2\ndo c start\ndo c drink\ndo c work 100\ndo c finish\ndo a work 100\ndo a finish\nsubmit 3\ndo b start\ndo b hungry\ndo b eat\ndo b askbottle r\ndo b askbottle s\nsend b a 1\nsend b c 1\ndeliver 1\ndo a givebottle r\nsend a b 1\ndeliver 3\ndeliver 2\ndo c givebottle s\nsend c b 1\ndeliver 4\ndo b drink\ndo b work 100\ndo b finish\n",
+        "ticket 1\nticket 1\ndone\ndone\ndone\ndone\ndone\ndone\ndone\ndone\ndone\nticket 1\ndone\ndone\ndone\ndone\ndone\nframe 1 4450010100000009010000000000000000010000000000000000030000\nframe 2 4450010100000009010200000000000000010000000000000000030001\ntaken\ndone\nframe 3 44500101000000090001000000000000000100000000000000010400000000000000000008\ntaken\ntaken\ndone\nframe 4 44500101000000090201000000000000000100000000000000010400010000000000000007\ntaken\ndone\ndone\ndone\nc.1 done reads s=2 writes s=7 gives 7\na.1 done reads r=1 writes r=8 gives 8\nb.1 done reads r=8 s=7 writes r=15 s=0 gives 15\nunfinished 0\nvalue r 15\nvalue s 0\n",
+    ),
+    // Two offices that share nothing.
+    (
+        ALONE,
+        GIVES,
+        "submit 1\ndo a start\ndo a hungry\ndo a eat\ndo a drink\ndo a leave\ndo a work 9\ndo a finish\n",
+        "ticket 1\ndone\ndone\ndone\ndone\ndone\ndone\ndone\na.1 done reads - writes - gives 1\nunfinished 0\n",
+    ),
+    // A fork that is clean stays, and goes when it was used.
+    (
+        PLAN,
+        TWO,
+        "submit 2\ndo b start\ndo b hungry\ndo b askfork a\nsend b a 1\ndeliver 1\ndo a givefork b\nsend a b 1\ndeliver 2\nsubmit 1\ndo a start\ndo a hungry\ndo a askfork b\nsend a b 2\ndeliver 3\ndo b givefork a\ndo b eat\ndo b givefork a\ndo b drink\ndo b leave\ndo b givefork a\nsend b a 1\ndeliver 4\ndo a eat\n",
+        "ticket 1\ndone\ndone\ndone\nframe 1 445001010000002a01000000000000000001000000000000000001\ntaken\ndone\nframe 2 445001010000002a00010000000000000001000000000000000102\ntaken\nticket 1\ndone\ndone\ndone\nframe 3 445001010000002a00010000000000000002000000000000000101\ntaken\nrefused O1 NotNow\ndone\nrefused O1 NotNow\ndone\ndone\ndone\nframe 4 445001010000002a01000000000000000002000000000000000202\ntaken\ndone\nunfinished 2\nvalue x 100\nvalue y 0\n",
+    ),
+    (PLAN, TWO, "", "unfinished 0\nvalue x 100\nvalue y 0\n"),
+    // No session, no frame, no neighbour, no waiting message.
+    (
+        PLAN,
+        TWO,
+        "submit 01\n\n # two more \n\tdeliver   9223372036854775807 \r\ndo a work 1000\nsend a a 0\nsend a b 1\ndo a askfork a",
+        "ticket 1\nrefused N1 NoFrame\nrefused O1 NotNow\nrefused O1 NotNow\nrefused O1 NotNow\nrefused O1 NotNow\nunfinished 1\nvalue x 100\nvalue y 0\n",
+    ),
+    // In finishing order.
+    (
+        PLAN,
+        TWO,
+        "submit 2\nsubmit 1\ndo b start\ndo b drink\ndo b work 100\ndo b finish\ndo a start\ndo a drink\ndo a work 1\ndo a work 2\ndo a finish\n",
+        "ticket 1\nticket 1\ndone\ndone\ndone\ndone\ndone\ndone\ndone\ndone\ndone\nb.1 done reads - writes - gives 2\na.1 done reads - writes - gives 1\nunfinished 0\nvalue x 100\nvalue y 0\n",
+    ),
+];
 
 /// What `sim` answers, and what it writes.
 fn ran(alloc: Global, plan: &str, sessions: &str, script: &str) -> (Result<u8, Fault>, Vec<u8>) {
@@ -27,36 +95,11 @@ fn ran(alloc: Global, plan: &str, sessions: &str, script: &str) -> (Result<u8, F
 }
 
 #[test]
-fn moves_over_two_offices(rt: HostRuntime) -> Result<(), Fail> {
-    let alloc = rt.alloc();
-    let (result, out) = ran(alloc, PLAN, MOVE, SCRIPT);
-    assert_eq!(rt; result?, 0);
-    let printed = format!(in alloc; "{REPLIES}{END}")?;
-    assert_eq!(rt; out.as_slice(), printed.as_bytes());
-    Ok(())
-}
-
-#[test]
-fn tells_each_event(rt: HostRuntime) -> Result<(), Fail> {
-    let rows = [
-        ("", "unfinished 0\nvalue x 100\nvalue y 0\n"),
-        (
-            "deliver 1\ndo a start\n",
-            "refused N1 NoFrame\nrefused O1 NotNow\nunfinished 0\nvalue x 100\nvalue y 0\n",
-        ),
-        (
-            "submit 01\n\n # two more \n\tdeliver   9223372036854775807 \r\ndo a work 1000",
-            "ticket 1\nrefused N1 NoFrame\nrefused O1 NotNow\nunfinished 1\nvalue x 100\nvalue y 0\n",
-        ),
-        (
-            "submit 2\nsubmit 1\ndo b start\ndo b drink\ndo b work 1\ndo b finish\ndo a start\ndo a drink\ndo a work 1\ndo a finish\n",
-            "ticket 1\nticket 1\ndone\ndone\ndone\ndone\ndone\ndone\ndone\ndone\nb.1 done reads - writes - gives 2\na.1 done reads - writes - gives 1\nunfinished 0\nvalue x 100\nvalue y 0\n",
-        ),
-    ];
-    for (script, printed) in rows {
-        let (result, out) = ran(rt.alloc(), PLAN, TWO, script);
+fn scripts_print_their_rows(rt: HostRuntime) -> Result<(), Fail> {
+    for (plan, sessions, script, printed) in &ROWS {
+        let (result, out) = ran(rt.alloc(), plan, sessions, script);
         assert_eq!(rt; result?, 0);
-        assert_eq!(rt; out.as_slice(), printed.as_bytes());
+        assert_eq!(rt; String::from_utf8(out)?.as_str(), *printed);
     }
     Ok(())
 }
@@ -82,34 +125,38 @@ fn sixty_four_sessions_wait(rt: HostRuntime) -> Result<(), Fail> {
 const SUMS: &str =
     "session a\nset x = read x + 7\nset y = read y - read x\ngive read x\ngive read y\nend\nsession b\nrequire read y < read x else 3\nset y = read y + read x * 2\ngive read y\nend\n";
 
-/// A script, what is replied, how many messages it sends, and the sessions that finish, in finishing order.
+/// A script, what is replied but for the bytes of frames, how many frames it sends, how many messages wait at each office, and
+/// the sessions that finish, in finishing order.
 #[derive(Drop)]
 struct Long {
     script: String,
     replies: String,
     sent: u32,
+    waiting: [u32; 2],
     finished: String,
 }
 
-impl Long {
-    /// A line, and its reply.
-    fn say(&mut self, line: &str, reply: &str) -> Result<(), AllocError> {
-        writeln!(self.script, "{line}")?;
-        writeln!(self.replies, "{reply}")
-    }
+/// An office's number.
+fn number(office: &str) -> usize {
+    if office == "a" { 0 } else { 1 }
+}
 
+impl Long {
     /// An office does a rule.
     fn does(&mut self, me: &str, rule: &str, reply: &str) -> Result<(), AllocError> {
         writeln!(self.script, "do {me} {rule}")?;
         writeln!(self.replies, "{reply}")
     }
 
-    /// The message that is sent next is delivered.
-    fn deliver(&mut self) -> Result<(), AllocError> {
+    /// The last message of an office goes out and comes to the other, whose messages have all come.
+    fn goes(&mut self, me: &str, other: &str) -> Result<(), AllocError> {
         self.sent = self.sent.saturating_add(1);
         let sent = self.sent;
-        writeln!(self.script, "deliver {sent}")?;
-        writeln!(self.replies, "taken")
+        self.waiting[number(me)] = self.waiting[number(me)].saturating_add(1);
+        let waiting = self.waiting[number(me)];
+        writeln!(self.script, "send {me} {other} {waiting}\ndeliver {sent}")?;
+        self.waiting[number(other)] = 0;
+        self.replies.push_str("frame\ntaken\n")
     }
 
     fn submit(&mut self, me: &str, number: u32, ticket: u32) -> Result<(), AllocError> {
@@ -121,10 +168,10 @@ impl Long {
     fn fetch(&mut self, me: &str, other: &str, record: &str) -> Result<(), AllocError> {
         writeln!(self.script, "do {me} askbottle {record}")?;
         writeln!(self.replies, "done")?;
-        self.deliver()?;
+        self.goes(me, other)?;
         writeln!(self.script, "do {other} givebottle {record}")?;
         writeln!(self.replies, "done")?;
-        self.deliver()
+        self.goes(other, me)
     }
 
     /// The session has its bottles and finishes, and seven lines are refused.
@@ -134,7 +181,7 @@ impl Long {
         }
         let sent = self.sent;
         writeln!(self.script, "deliver {sent}")?;
-        writeln!(self.replies, "refused N1 NoFrame")?;
+        writeln!(self.replies, "repeat")?;
         for rule in [
             "start",
             "drink",
@@ -149,12 +196,13 @@ impl Long {
     }
 }
 
-/// Twenty thousand lines: a thousand sessions finish, an office's after the other's, and one has begun.
+/// Nearly twenty-four thousand lines: a thousand sessions finish, an office's after the other's, and one has begun.
 fn long_script(alloc: Global) -> Result<Long, AllocError> {
     let mut long = Long {
         script: String::new(alloc),
         replies: String::new(alloc),
         sent: 0,
+        waiting: [0, 0],
         finished: String::new(alloc),
     };
     long.submit("a", 1, 1)?;
@@ -174,7 +222,7 @@ fn long_script(alloc: Global) -> Result<Long, AllocError> {
         }
     }
     long.does("a", "askbottle x", "done")?;
-    long.deliver()?;
+    long.goes("a", "b")?;
     Ok(long)
 }
 
@@ -196,8 +244,17 @@ fn a_long_script_is_serial(rt: HostRuntime) -> Result<(), Fail> {
     }
     let (result, out) = ran(alloc, PLAN, SUMS, long.script.as_str());
     assert_eq!(rt; result?, 0);
-    assert_eq!(rt; long.script.as_str().lines().count(), 20_000);
-    assert!(rt; out.as_slice() == expected.as_bytes());
+    assert_eq!(rt; long.script.as_str().lines().count(), 23_999);
+    let mut printed = String::new(alloc);
+    for line in String::from_utf8(out)?.as_str().lines() {
+        let shown = if line.starts_with("frame ") {
+            "frame"
+        } else {
+            line
+        };
+        writeln!(printed, "{shown}")?;
+    }
+    assert!(rt; printed == expected);
     Ok(())
 }
 
@@ -211,9 +268,16 @@ fn refused(rt: &(impl Abort + AllocGlobal), script: &str, line: u64) {
 #[test]
 fn other_lines_are_refused(rt: HostRuntime) {
     let rows = [
-        ("send a b 1", 1),
-        ("submit 1\n\n# send\nadvance a 1\nsend a b 1", 4),
-        ("do a eat", 1),
+        ("send a b", 1),
+        ("send a c 1", 1),
+        ("send c a 1", 1),
+        ("send a b first", 1),
+        ("submit 1\n\n# send\nadvance a 1\nadvance a 0", 5),
+        ("advance a 1001", 1),
+        ("advance c 1", 1),
+        ("settle 1", 1),
+        ("do a eat a", 1),
+        ("do a askfork c", 1),
         ("do c start", 1),
         ("do let start", 1),
         ("do a start x", 1),
@@ -248,27 +312,12 @@ fn a_script_has_a_longest_text(rt: HostRuntime) {
 }
 
 #[test]
-fn other_plans_leave_the_sessions_unread(rt: HostRuntime) {
-    let rows = [
-        "plan 1 run 42\noffice a -\noffice b -\n",
-        "plan 1 run 42\noffice a -\noffice b -\noffice c -\npair a b fork a\n",
-    ];
-    for plan in rows {
-        let memory = Memory::new(plan, MOVE, SCRIPT);
-        let mut out = Vec::new(rt.alloc());
-        let result = sim(rt.alloc(), &memory, "p", "missing", "c", &mut out);
-        assert_eq!(rt; why(result), Some(Why::TwoOffices));
-        assert_eq!(rt; out.len(), 0);
-    }
-}
-
-#[test]
 fn refused_sessions_leave_the_script_unread(rt: HostRuntime) {
-    let memory = Memory::new(PLAN, "session c", SCRIPT);
+    let memory = Memory::new(PLAN, "session c", "submit 1\n");
     let mut out = Vec::new(rt.alloc());
     let result = sim(rt.alloc(), &memory, "p", "s", "missing", &mut out);
     assert!(rt; matches!(why(result), Some(Why::Sessions(_))));
-    let memory = Memory::new(PLAN, MOVE, SCRIPT);
+    let memory = Memory::new(PLAN, MOVE, "submit 1\n");
     let result = sim(rt.alloc(), &memory, "p", "s", "missing", &mut out);
     let failed = Fault::ReadFailed(Input::Script, io::ErrorKind::NotFound);
     assert_eq!(rt; result, Err(failed));

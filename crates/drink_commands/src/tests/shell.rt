@@ -143,7 +143,7 @@ fn faults_name_their_input(rt: HostRuntime) -> Result<(), Fail> {
         ),
         (
             &["drink", "sim", "p", "s", "s"],
-            "s: line 1: X1 Script: `session` begins no line of a script; these are `submit N`, `do OFFICE RULE` and `deliver K`",
+            "s: line 1: X1 Script: `session` begins no line of a script; these are `submit N`, `do OFFICE RULE`, `advance OFFICE N`, `send OFFICE NEIGHBOUR I` and `deliver K`",
         ),
         (
             &["drink", "sim", "p", "s", "endless"],
@@ -164,10 +164,6 @@ fn faults_name_their_input(rt: HostRuntime) -> Result<(), Fail> {
 const RING: &str =
     "plan 1 run 1\noffice a -\noffice b -\noffice c -\npair a b fork a\npair b c fork b\npair a c fork c\n";
 
-const THREE: &str = "plan 1 run 1\noffice a -\noffice b -\noffice c -\npair a b fork a\n";
-
-const APART: &str = "plan 1 run 1\noffice a -\noffice b -\n";
-
 #[test]
 fn faults_say_what_was_found_and_where(rt: HostRuntime) -> Result<(), Fail> {
     let rows = [
@@ -176,18 +172,6 @@ fn faults_say_what_was_found_and_where(rt: HostRuntime) -> Result<(), Fail> {
             "",
             "",
             "-: P8 Ring: a, c, b (each precedes the next, and the last the first)",
-        ),
-        (
-            THREE,
-            "",
-            "",
-            "-: X3 TwoOffices: a simulation needs a plan of two offices that are a pair, and this one has 3",
-        ),
-        (
-            APART,
-            "",
-            "",
-            "-: X3 TwoOffices: a simulation needs a plan of two offices that are a pair, and this one has 2, and these two are none",
         ),
         (
             "plan 1 run 1\noffice a -\noffice a -\n",

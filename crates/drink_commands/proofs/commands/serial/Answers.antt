@@ -1,4 +1,4 @@
-use Rattle.std.proofs.Common.{[], ◌∷◌, true, refl, rules}
+use Rattle.std.proofs.Common.{[], ◌∷◌, rules}
 use Rattle.std.proofs.lemmas.Result.{err_from_is_err_and}
 use Rattle.drink_commands.specs.declared.input.Input.TheVariants as inputs
 use Rattle.drink_commands.proofs.Faults.{among, plan_judged, sessions_judged, weaker, write_judged, two_accepted}
@@ -10,8 +10,8 @@ returns-in_err-plan-clause-judged g c =
     let e = err_from_is_err_and c.from_residual.result c.from_residual.ensures.1 in
     rw (e.1, e.2)
     (λ texts n known.
-    plan_judged (λ p. true) texts (g.S.Sources.file_text c.args.sources.now) c.new-standard.result c.args.plan.now (c.args.sessions.now ∷ []) (texts inputs.Sessions ∷ []) n
-    c.in_err-plan.field-0.0 (weaker inputs.Plan _ _ c.in_err-plan.field-0.0 (λ why h t after has. h (λ p. true) t after has) c.in_err-plan.ensures.fault)
+    plan_judged texts (g.S.Sources.file_text c.args.sources.now) c.new-standard.result c.args.plan.now (c.args.sessions.now ∷ []) (texts inputs.Sessions ∷ []) n
+    c.in_err-plan.field-0.0 (weaker inputs.Plan _ _ c.in_err-plan.field-0.0 (λ why h t after has. h t after has) c.in_err-plan.ensures.fault)
     (started c.new-standard.result (g.S.Sources.standard_text c.args.sources.now) _ (c.args.plan.now ∷ c.args.sessions.now ∷ []) _ _ (search rules) known.1))
 
 pub returns-in_err-programs-clause-judged : goal.returns-in_err-programs-clause-judged
@@ -19,9 +19,9 @@ returns-in_err-programs-clause-judged g c =
     let e = err_from_is_err_and c.from_residual-in_err-programs.result c.from_residual-in_err-programs.ensures.1 in
     rw (e.1, e.2)
     (λ texts n known.
-    sessions_judged (λ p. true) texts (g.S.Sources.file_text c.args.sources.now) c.new-standard.result c.read_plan.new.standard c.args.plan.now c.args.sessions.now [] [] c.in_ok-plan.plan n
-    c.in_err-programs.field-0.0 c.in_ok-plan.ensures.meaning refl
-    (weaker inputs.Sessions _ _ c.in_err-programs.field-0.0 (λ why h t after p has. h (λ p. true) t after p has) c.in_err-programs.ensures.fault)
+    sessions_judged texts (g.S.Sources.file_text c.args.sources.now) c.new-standard.result c.read_plan.new.standard c.args.plan.now c.args.sessions.now [] [] c.in_ok-plan.plan n
+    c.in_err-programs.field-0.0 c.in_ok-plan.ensures.meaning
+    (weaker inputs.Sessions _ _ c.in_err-programs.field-0.0 (λ why h t after p has. h t after p has) c.in_err-programs.ensures.fault)
     (started c.new-standard.result (g.S.Sources.standard_text c.args.sources.now) _ (c.args.plan.now ∷ c.args.sessions.now ∷ []) _ _ (search rules) known.1))
 
 pub returns-in_err-programs-clause-input : goal.returns-in_err-programs-clause-input
@@ -34,9 +34,9 @@ returns-in_err-write_whole-clause-judged g c =
     let e = err_from_is_err_and c.from_residual-in_err-write_whole.result c.from_residual-in_err-write_whole.ensures.1 in
     rw (e.1, e.2)
     (λ texts n known.
-    write_judged (λ p. true) texts n c.in_err-write_whole.field-0.0 c.in_err-write_whole.ensures.fault
-    (two_accepted (λ p. true) texts (g.S.Sources.file_text c.args.sources.now) c.new-standard.result c.read_plan.new.standard c.read_programs.new.standard c.args.plan.now c.args.sessions.now
-    c.in_ok-plan.plan c.in_ok-programs.programs.items n known.0 c.in_ok-plan.ensures.meaning refl c.in_ok-programs.ensures.meaning
+    write_judged texts n c.in_err-write_whole.field-0.0 c.in_err-write_whole.ensures.fault
+    (two_accepted texts (g.S.Sources.file_text c.args.sources.now) c.new-standard.result c.read_plan.new.standard c.read_programs.new.standard c.args.plan.now c.args.sessions.now
+    c.in_ok-plan.plan c.in_ok-programs.programs.items n known.0 c.in_ok-plan.ensures.meaning c.in_ok-programs.ensures.meaning
     (started c.new-standard.result (g.S.Sources.standard_text c.args.sources.now) _ (c.args.plan.now ∷ c.args.sessions.now ∷ []) _ _ (search rules) known.1)))
 
 pub returns-clause-reports : goal.returns-clause-reports

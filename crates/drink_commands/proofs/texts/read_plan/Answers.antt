@@ -13,12 +13,12 @@ returns-in-Ok-clause-meaning g c =
 pub returns-in-Err-Refused-clause-fault : goal.returns-in-Err-Refused-clause-fault
 returns-in-Err-Refused-clause-fault g c =
     let read = ap plan_of (sym c.deref.ensures.value) ∙ (rw c.in-Err-Refused.field-0-is at c.in-Err-Refused.ensures.meaning) in
-    (refl, λ takes texts after has. sym (plan_read (texts inputs.Plan) c.in_ok-text.text.items (c.in_ok-text.ensures.text (texts inputs.Plan) after has).0) ∙ read)
+    (refl, λ texts after has. sym (plan_read (texts inputs.Plan) c.in_ok-text.text.items (c.in_ok-text.ensures.text (texts inputs.Plan) after has).0) ∙ read)
 
 pub returns-in-Err-Ring-clause-fault : goal.returns-in-Err-Ring-clause-fault
 returns-in-Err-Ring-clause-fault g c =
     let ring = rw c.in-Err-Ring.field-0-is at c.in-Err-Ring.ensures.meaning in (
       refl,
-      λ takes texts after has.
+      λ texts after has.
           subst (HasRing c.in-Err-Ring.ring) (ap plan_of c.deref.ensures.value ∙ plan_read (texts inputs.Plan) c.in_ok-text.text.items (c.in_ok-text.ensures.text (texts inputs.Plan) after has).0) ring,
     )

@@ -14,6 +14,6 @@ pub returns-in-Err-Refused-clause-fault : goal.returns-in-Err-Refused-clause-fau
 returns-in-Err-Refused-clause-fault g c =
     let read = ap (sessions_of c.args.plan.now) (sym c.deref.ensures.value) ∙ (rw c.in-Err-Refused.field-0-is at c.in-Err-Refused.ensures.meaning) in (
       refl,
-      λ takes texts after is_plan has.
+      λ texts after is_plan has.
           (c.args.plan.now, is_plan, sym (sessions_read c.args.plan.now (texts inputs.Sessions) c.in_ok-text.text.items (c.in_ok-text.ensures.text (texts inputs.Sessions) after has).0) ∙ read),
     )

@@ -1,11 +1,17 @@
-use Rattle.std.proofs.Common.{◌≡◌, sym, subst}
-use Rattle.serial_replay.specs.Serial.{start_map, outcomes_of}
-use Rattle.world_schedule.specs.Worlds.{programs, outcomes}
-use Rattle.world_schedule.proofs.Runs.{sessions_serial}
+use Rattle.std.proofs.Common.{◌≡◌, map, subst, ◌∙◌}
+use Rattle.std.specs.Prelude.{All}
+use Rattle.frame_world.specs.Worlds.{World}
+use Rattle.world_schedule.specs.Readers.{listed_as}
+use Rattle.world_schedule.specs.Tickets.{HasItsTicket}
+use Rattle.world_schedule.proofs.Finishing.{listed, have_their_tickets}
 use Rattle.world_schedule.proofs.world.World.finished.Goals as goal
 
-pub returns-clause-serial : goal.returns-clause-serial
-returns-clause-serial c =
-    subst (λ v. outcomes c.as_slice.result.now ≡ outcomes_of (start_map v.plan) (programs c.as_slice.result.now)) c.self.view_is
-    (subst (λ l. outcomes l ≡ outcomes_of (start_map c.self.inside.plan) (programs l)) (sym c.as_slice.ensures.value)
-    (sessions_serial c.self.inside.plan c.self.inside.offices.items c.self.inside.messages.items c.self.inside.finished.items c.self.invariant c.writes_what_it_has.ensures))
+pub returns-clause-listed : goal.returns-clause-listed
+returns-clause-listed c =
+    let w = c.self.inside in
+    c.as_slice.ensures.value ∙ subst (λ (v : World). w.finished.items ≡ map listed_as v.finished) c.self.view_is (listed w.plan w.offices.items w.frames.items w.finished.items c.self.invariant)
+
+pub returns-clause-tickets : goal.returns-clause-tickets
+returns-clause-tickets c =
+    let w = c.self.inside in
+    subst (λ (v : World). All (HasItsTicket v) v.finished) c.self.view_is (have_their_tickets w.plan w.offices.items w.frames.items w.finished.items c.self.invariant)

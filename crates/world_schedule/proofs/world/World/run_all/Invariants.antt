@@ -1,12 +1,10 @@
 use Rattle.std.proofs.Common.{◌≡◌, length, take}
-use Rattle.world_schedule.specs.Worlds.{run_of, replies_of}
-use Rattle.world_schedule.specs.refinement.Tables.{state_of}
+use Rattle.frame_world.specs.Worlds.{run_of, replies_of}
 use Rattle.world_schedule.proofs.world.World.run_all.Given as goal
 
 abbrev pub invariant-loop-event : goal.invariant-loop-event
 invariant-loop-event l = record {
   counted : length l.replies.items ≡ l.event-index;
-  plan : l.self.plan ≡ l.fn.self.plan;
-  world : run_of l.fn.self.plan (state_of l.fn.self) (take l.event-index l.events) ≡ state_of l.self;
-  told : l.replies.items ≡ replies_of l.fn.self.plan (state_of l.fn.self) (take l.event-index l.events);
+  world : run_of l.fn.self (take l.event-index l.events) ≡ l.self;
+  told : l.replies.items ≡ replies_of l.fn.self (take l.event-index l.events);
 }

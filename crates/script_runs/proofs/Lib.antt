@@ -1,0 +1,4 @@
+pub mod Rows
+mod Scripts
+mod ScriptLines
+mod Steps

@@ -1,0 +1,182 @@
+-- A run that is one step longer, and a rule more of an office.
+use Rattle.std.proofs.Common.{◌≡◌, ℕ, zero, suc, ◌+◌, ◌-◌, ◌<◌, ◌≤◌, Bool, true, false, cond, List, [], ◌∷◌, ◌++◌, length, take, get_or, Option, None, Some, Result, Ok, Err, refl, sym, ap, ap₂, ◌∙◌, inl, inr, ⊎_elim, arith, append_assoc, append-nil}
+use Rattle.std.specs.Prelude.{nat_lt, slice_get}
+use Rattle.std.specs.List.{flat_map}
+use Rattle.std.proofs.lemmas.Bool.Decides.{nat_tests}
+use Rattle.std.proofs.lemmas.List.{take_more}
+use Rattle.std.proofs.lemmas.Option.{slice_get_within, get_or_from_slice_get}
+use Rattle.std.proofs.lemmas.List.Concat.{flat_map-append}
+use Rattle.std.proofs.lemmas.List.Elements.{filter_map-append}
+use Rattle.frame_codec.specs.Frame.{Fields}
+use Rattle.session_meaning.specs.declared.ending.Outcome.{Outcome}
+use Rattle.session_meaning.specs.declared.ending.End.TheVariants.{Done}
+use Rattle.session_meaning.specs.ProgramValue.{ProgramValue}
+use Rattle.site_core.specs.declared.event.Event as office
+use Rattle.site_core.specs.declared.event.Event.TheVariants as site_event
+use Rattle.site_core.specs.declared.rule.Rule.{Rule}
+use Rattle.site_core.specs.declared.reply.Reply.{Reply}
+use Rattle.site_core.specs.declared.reply.Refusal as offices
+use Rattle.site_core.specs.declared.reply.Refusal.TheVariants as refused
+use Rattle.site_core.specs.Journals.{Site, office_of, step}
+use Rattle.site_core.specs.RuleOrder.{next_rule}
+use Rattle.frame_world.specs.declared.event.WorldEvent.{WorldEvent}
+use Rattle.frame_world.specs.declared.event.WorldEvent.TheVariants as happening
+use Rattle.frame_world.specs.declared.refusal.Refusal.{Refusal}
+use Rattle.frame_world.specs.declared.refusal.Refusal.TheVariants as refusal
+use Rattle.frame_world.specs.Worlds.{World, Answer, site_at, office_at, told, handed, delivered, happens, OrMemory}
+use Rattle.script_runs.specs.declared.event.ScriptEvent.{ScriptEvent}
+use Rattle.script_runs.specs.declared.said.Said.{Said}
+use Rattle.script_runs.specs.declared.said.Said.TheVariants.{Rules}
+use Rattle.script_runs.specs.Script.{Act, Happens, Advances, act_with, acts_with}
+use Rattle.script_runs.specs.Runs.{Told, as_said, does, run_of, all_told, advanced, by_rule, further}
+use Rattle.script_runs.specs.Transcript.{told_line}
+use Rattle.script_runs.specs.refinement.Steps.{Says}
+
+-- the lines of what is told of a run
+abbrev pub lines_of : World → List Act → List ℕ
+lines_of w xs = flat_map told_line (all_told w xs)
+
+run_append : (w : World) (xs ys : List Act) → run_of w (xs ++ ys) ≡ run_of (run_of w xs) ys
+run_append w [] ys = refl
+run_append w (x ∷ xs) ys = run_append (does w x).1 xs ys
+
+told_append : (w : World) (xs ys : List Act) → all_told w (xs ++ ys) ≡ all_told w xs ++ all_told (run_of w xs) ys
+told_append w [] ys = refl
+told_append w (x ∷ xs) ys = ap (λ ts. does w x ∷ ts) (told_append (does w x).1 xs ys)
+
+module _ (programs : List ProgramValue) (w : World) (es : List ScriptEvent) (i : ℕ) (d : ScriptEvent) (lt : i < length es) where
+  abbrev before : List Act
+  before = acts_with programs (take i es)
+
+  abbrev here : List Act
+  here = acts_with programs (get_or es i d ∷ [])
+
+  one_more : acts_with programs (take (i + 1) es) ≡ before ++ here
+  one_more = ap (acts_with programs) (take_more es i d lt) ∙ filter_map-append (act_with programs) (take i es) (get_or es i d ∷ [])
+
+  pub run_longer : (v v' : World) → v ≡ run_of w before → v' ≡ run_of v here → v' ≡ run_of w (acts_with programs (take (i + 1) es))
+  run_longer v v' so_far next = next ∙ ap (λ u. run_of u here) so_far ∙ sym (run_append w before here) ∙ sym (ap (run_of w) one_more)
+
+  pub lines_longer : (v : World) (old new : List ℕ) → v ≡ run_of w before → old ≡ lines_of w before → new ≡ old ++ lines_of v here → new ≡ lines_of w (acts_with programs (take (i + 1) es))
+  lines_longer v old new so_far told next =
+      next ∙ ap₂ (λ l u. l ++ lines_of u here) told so_far
+      ∙ sym (flat_map-append told_line (all_told w before) (all_told (run_of w before) here))
+      ∙ sym (ap (flat_map told_line) (told_append w before here))
+      ∙ sym (ap (lines_of w) one_more)
+
+-- what a world answered is said of its event
+pub says_reply : (w w' : World) (e : WorldEvent) (r : Result Reply Refusal) → OrMemory w (happens w e) r w' → Says (does w (Happens e)) (as_said r) w'
+says_reply w w' e r h = ⊎_elim (λ m. inl (ap as_said m.0)) (λ is. inr (ap as_said is.0, is.1)) h
+
+-- no event changes the plan
+told_plan : (w : World) (a : ℕ) (e : office.Event) (x : Result Reply offices.Refusal × Site) → (told w a e x).1.plan ≡ w.plan
+told_plan w a e (Ok r, s) = refl
+told_plan w a e (Err r, s) = refl
+
+handed_plan : (w : World) (a : ℕ) (e : office.Event) → (handed w a e).1.plan ≡ w.plan
+handed_plan w a e = go (nat_lt a (length w.sites))
+  where
+    go : (b : Bool) → (cond {A = Answer} b (told w a e (step (site_at w a) 0 e)) (Err refusal.NoOffice, w)).1.plan ≡ w.plan
+    go true = told_plan w a e (step (site_at w a) 0 e)
+    go false = refl
+
+pub plan_stays : (w : World) (e : WorldEvent) → (happens w e).1.plan ≡ w.plan
+plan_stays w (happening.Submit a p) = handed_plan w a (site_event.Submit p)
+plan_stays w (happening.Do a r) = handed_plan w a (site_event.Do r)
+plan_stays w (happening.Send a v i) = handed_plan w a (site_event.Send v i)
+plan_stays w (happening.Deliver zero) = refl
+plan_stays w (happening.Deliver (suc k)) = of (slice_get w.frames k)
+  where
+    of : (f : Option Fields) → (delivered w f).1.plan ≡ w.plan
+    of None = refl
+    of (Some f) = handed_plan w f.to (site_event.Took f)
+
+-- ---- rules, left to itself
+
+-- where no more may be done, that is told
+pub none_left : (w : World) (a done n : ℕ) → n ≡ done → advanced w a done (n - done) ≡ (Ok (Rules done), w)
+none_left w a done n e = let left : n - done ≡ 0 = omega (arith, e) in ap (advanced w a done) left
+
+-- where there is no rule, neither
+pub no_rule : (w : World) (a done n : ℕ) → done < n → next_rule w.plan a (office_at w a) ≡ None → advanced w a done (n - done) ≡ (Ok (Rules done), w)
+no_rule w a done n lt e =
+    let left : n - done ≡ suc (n - (done + 1)) = omega (arith, lt) in
+    ap (advanced w a done) left ∙ ap (by_rule (λ v. advanced v a (done + 1) (n - (done + 1))) w a done) e
+
+-- a rule that is next
+one_rule : (w : World) (a done n : ℕ) (r : Rule) → done < n → next_rule w.plan a (office_at w a) ≡ Some r → advanced w a done (n - done) ≡ further (λ v. advanced v a (done + 1) (n - (done + 1))) (happens w (happening.Do a r))
+one_rule w a done n r lt e =
+    let left : n - done ≡ suc (n - (done + 1)) = omega (arith, lt) in
+    ap (advanced w a done) left ∙ ap (by_rule (λ v. advanced v a (done + 1) (n - (done + 1))) w a done) e
+
+-- it goes on where it was done
+pub rule_done : (w w' : World) (a done n : ℕ) (r : Rule) (x : Reply) → done < n → next_rule w.plan a (office_at w a) ≡ Some r → Ok x ≡ (happens w (happening.Do a r)).0 → w' ≡ (happens w (happening.Do a r)).1 →
+    advanced w a done (n - done) ≡ advanced w' a (done + 1) (n - (done + 1))
+rule_done w w' a done n r x lt e ok new =
+    one_rule w a done n r lt e ∙ ap₂ (λ k v. further (λ v. advanced v a (done + 1) (n - (done + 1))) (k, v)) (sym ok) (sym new)
+
+-- and ends where it was refused
+pub rule_refused : (w w' : World) (a done n : ℕ) (r : Rule) (x : Refusal) → done < n → next_rule w.plan a (office_at w a) ≡ Some r → Err x ≡ (happens w (happening.Do a r)).0 → w' ≡ (happens w (happening.Do a r)).1 →
+    advanced w a done (n - done) ≡ (Err x, w')
+rule_refused w w' a done n r x lt e err new =
+    one_rule w a done n r lt e ∙ ap₂ (λ k v. further (λ v. advanced v a (done + 1) (n - (done + 1))) (k, v)) (sym err) (sym new)
+
+-- the rule that an office of a world tells
+pub rule_at : (w : World) (a : ℕ) (s : Site) (r : Option Rule) → s ≡ site_at w a → s.plan ≡ w.plan → s.me ≡ a → r ≡ next_rule s.plan s.me (office_of s) → r ≡ next_rule w.plan a (office_at w a)
+rule_at w a s r site plan me e = e ∙ ap (λ p. next_rule p s.me (office_of s)) plan ∙ ap (λ m. next_rule w.plan m (office_of s)) me ∙ ap (λ x. next_rule w.plan a (office_of x)) site
+
+-- what was told of the rules is said of the act
+says_rules : (w w' : World) (a n : ℕ) (said : Result Said Refusal) → nat_lt a (length w.plan.offices) ≡ true → advanced w a 0 n ≡ (said, w') → Says (does w (Advances a n)) said w'
+says_rules w w' a n said inside e =
+    let told : does w (Advances a n) ≡ (said, w') = ap (λ b. cond b (advanced w a 0 n) (Err refusal.NoOffice, w)) inside ∙ e in
+    inr (sym (ap (λ (t : Told). t.0) told), sym (ap (λ (t : Told). t.1) told))
+
+inside_is : (a n : ℕ) → a < n → nat_lt a n ≡ true
+inside_is a n lt = grind (arith, nat_tests)
+
+pub nobody_says : (w : World) (a n : ℕ) → length w.plan.offices ≤ a → Says (does w (Advances a n)) (Err refusal.NoOffice) w
+nobody_says w a n beyond =
+    let outside : nat_lt a (length w.plan.offices) ≡ false = grind (arith, nat_tests, beyond) in
+    let told : does w (Advances a n) ≡ (Err refusal.NoOffice, w) = ap (λ b. cond b (advanced w a 0 n) (Err refusal.NoOffice, w)) outside in
+    inr (sym (ap (λ (t : Told). t.0) told), sym (ap (λ (t : Told). t.1) told))
+
+pub stops : (w v : World) (a done n : ℕ) → a < length w.plan.offices → advanced w a 0 n ≡ advanced v a done (n - done) → done < n → next_rule v.plan a (office_at v a) ≡ None → Says (does w (Advances a n)) (Ok (Rules done)) v
+stops w v a done n inside same lt e = says_rules w v a n (Ok (Rules done)) (inside_is a (length w.plan.offices) inside) (same ∙ no_rule v a done n lt e)
+
+pub all_done : (w v : World) (a done n : ℕ) → a < length w.plan.offices → advanced w a 0 n ≡ advanced v a done (n - done) → n ≤ done → done ≤ n → Says (does w (Advances a n)) (Ok (Rules done)) v
+all_done w v a done n inside same ge le = says_rules w v a n (Ok (Rules done)) (inside_is a (length w.plan.offices) inside) (same ∙ none_left v a done n (omega (arith, ge, le)))
+
+pub is_refused : (w v v' : World) (a done n : ℕ) (r : Rule) (x : Refusal) (res : Result Reply Refusal) → a < length w.plan.offices → advanced w a 0 n ≡ advanced v a done (n - done) → done < n → next_rule v.plan a (office_at v a) ≡ Some r →
+    res ≡ Err x → OrMemory v (happens v (happening.Do a r)) res v' → Says (does w (Advances a n)) (Err x) v'
+is_refused w v v' a done n r x res inside same lt next is h = ⊎_elim
+    (λ m. inl (let e : x ≡ refusal.Office refused.Memory = (let both : ◌≡◌ {A = Result Reply Refusal} (Err x) (Err (refusal.Office refused.Memory)) = sym is ∙ m.0 in cc) in ap Err e))
+    (λ k. says_rules w v' a n (Err x) (inside_is a (length w.plan.offices) inside) (same ∙ rule_refused v v' a done n r x lt next (sym is ∙ k.0) k.1))
+    h
+
+pub record Goes (w v' : World) (a done n : ℕ) : Type 0 where
+  pub plan : v'.plan ≡ w.plan
+  pub few : done + 1 ≤ n
+  pub same : advanced w a 0 n ≡ advanced v' a (done + 1) (n - (done + 1))
+
+pub is_done : (w v v' : World) (a done n : ℕ) (r : Rule) (x : Reply) (res : Result Reply Refusal) → v.plan ≡ w.plan → advanced w a 0 n ≡ advanced v a done (n - done) → done < n → next_rule v.plan a (office_at v a) ≡ Some r →
+    res ≡ Ok x → OrMemory v (happens v (happening.Do a r)) res v' → Goes w v' a done n
+is_done w v v' a done n r x res plan same lt next is h = ⊎_elim
+    (λ m. absurd (let both : ◌≡◌ {A = Result Reply Refusal} (Ok x) (Err (refusal.Office refused.Memory)) = sym is ∙ m.0 in cc))
+    (λ k. record {
+      plan = ap (λ (y : World). y.plan) k.1 ∙ plan_stays v (happening.Do a r) ∙ plan;
+      few = omega (arith, lt);
+      same = same ∙ rule_done v v' a done n r x lt next (sym is ∙ k.0) k.1;
+    })
+    h
+
+-- ---- the sessions of a report
+
+-- one line more
+pub line_more : (f : Outcome → List ℕ) (xs : List Outcome) (i : ℕ) (x : Outcome) (old new : List ℕ) → slice_get xs i ≡ Some x → new ≡ old ++ f x → (start : List ℕ) → old ≡ start ++ flat_map f (take i xs) → new ≡ start ++ flat_map f (take (i + 1) xs)
+line_more f xs i x old new e next start so_far =
+    let more : take (i + 1) xs ≡ take i xs ++ x ∷ [] = take_more xs i x (slice_get_within xs i x e) ∙ ap (λ y. take i xs ++ y ∷ []) (get_or_from_slice_get xs i x x e) in
+    let rows : flat_map f (take (i + 1) xs) ≡ flat_map f (take i xs) ++ f x = ap (flat_map f) more ∙ flat_map-append f (take i xs) (x ∷ []) ∙ ap (λ l. flat_map f (take i xs) ++ l) (append-nil (f x)) in
+    next ∙ ap (λ l. l ++ f x) so_far ∙ append_assoc start (flat_map f (take i xs)) (f x) ∙ ap (λ l. start ++ l) (sym rows)
+
+abbrev pub no_outcome : Outcome
+no_outcome = record { office = 0; ticket = 0; ending = record { end = Done; reads = []; writes = []; gives = [] } }

@@ -1,0 +1,18 @@
+use Rattle.std.proofs.Common.{◌≡◌, true, is_some, IfSome, ap, ◌∙◌, subst}
+use Rattle.office_map.specs.PlanText.{and_then}
+use Rattle.office_map.specs.Text.{statements}
+use Rattle.script_runs.specs.Script.{act_with}
+use Rattle.script_runs.proofs.Scripts.{further}
+use Rattle.script_runs.proofs.script.events.Goals as goal
+
+pub loop-line-preserved : goal.loop-line-preserved
+loop-line-preserved c =
+    let ps = c.args.programs.now in
+    record {
+      short = c.loop-line.invariant.short;
+      fits = c.in-Some.ensures.fits;
+      walked = further c.args.plan.now ps (statements c.args.text.now) _ _ c.in-Some.line c.in-Some.statement.now c.in-Some-2.event c.loop-line.events.items c.push.new.self.items
+          c.in-Some.ensures.gives (c.in_ok-event.ensures.meaning ∙ ap (λ o. and_then o (act_with ps)) c.in-Some-2.is)
+          (subst (λ o. IfSome o (λ e. is_some (act_with ps e) ≡ true)) c.in-Some-2.is c.in_ok-event.ensures.there)
+          c.in_ok-push-in-Some-2.ensures.items c.loop-line.invariant.walked;
+    }

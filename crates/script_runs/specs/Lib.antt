@@ -1,0 +1,7 @@
+pub mod Limits
+pub mod Report
+pub mod Script
+pub mod ScriptLines
+pub mod Runs
+pub mod Transcript
+pub mod refinement

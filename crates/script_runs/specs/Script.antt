@@ -1,0 +1,172 @@
+-- What the text of a script asks for, under a plan and the programs of a file of sessions, and which line is its first
+-- fault.
+use Rattle.std.specs.Prelude.{◌≡◌, ℕ, ◌-◌, ◌<◌, ◌≤◌, ◌⊎◌, List, [], ◌∷◌, ◌++◌, length, map, slice_get, ◌&&◌, ◌==◌, nat_le, Option, Some, None, option_map, if◌then◌else◌, codes}
+use Rattle.std.specs.List.{filter_map}
+use Rattle.std.specs.Str.{bytes_eq}
+use Rattle.office_map.specs.PlanValue.{PlanValue, office_named, record_named}
+use Rattle.office_map.specs.Text.{name_of, number_of, statements}
+use Rattle.office_map.specs.PlanText.{and_then, plain_words}
+use Rattle.session_meaning.specs.ProgramValue.{ProgramValue}
+use Rattle.site_core.specs.declared.rule.Rule.{Rule}
+use Rattle.site_core.specs.declared.rule.Rule.TheVariants as rule
+use Rattle.site_core.specs.Limits.{longest_piece}
+use Rattle.frame_world.specs.declared.event.WorldEvent.{WorldEvent}
+use Rattle.frame_world.specs.declared.event.WorldEvent.TheVariants as happening
+use Rattle.script_runs.specs.declared.event.ScriptEvent.{ScriptEvent}
+use Rattle.script_runs.specs.declared.event.ScriptEvent.TheVariants as event
+use Rattle.script_runs.specs.declared.fault.ScriptRefusal.{ScriptRefusal}
+use Rattle.script_runs.specs.declared.fault.ScriptFault.{ScriptFault}
+use Rattle.script_runs.specs.declared.fault.ScriptFault.TheVariants.{Refused, Memory}
+use Rattle.script_runs.specs.Limits.{most_bytes, most_rules}
+
+-- ---- words
+
+-- the office and the record that a word names
+abbrev pub office_by : PlanValue → List ℕ → Option ℕ
+office_by p word = and_then (name_of word) (office_named p)
+
+abbrev pub record_by : PlanValue → List ℕ → Option ℕ
+record_by p word = and_then (name_of word) (record_named p)
+
+-- a number from 1 to the most
+abbrev pub counted : ℕ → ℕ → Option ℕ
+counted most n = if nat_le 1 n && nat_le n most then Some n else None
+
+abbrev pub count_by : ℕ → List ℕ → Option ℕ
+count_by most word = and_then (number_of word) (counted most)
+
+-- ---- rules
+
+abbrev pub rule_named : List ℕ → Option Rule
+rule_named name =
+    if bytes_eq name (codes "start") then Some rule.Start
+    else (if bytes_eq name (codes "hungry") then Some rule.Hungry
+    else (if bytes_eq name (codes "eat") then Some rule.Eat
+    else (if bytes_eq name (codes "leave") then Some rule.Leave
+    else (if bytes_eq name (codes "drink") then Some rule.Drink
+    else (if bytes_eq name (codes "finish") then Some rule.Finish else None)))))
+
+-- askfork OFFICE, givefork OFFICE, askbottle RECORD, givebottle RECORD, work N
+abbrev pub rule_with : PlanValue → List ℕ → List ℕ → Option Rule
+rule_with p name argument =
+    if bytes_eq name (codes "askfork") then option_map rule.AskFork (office_by p argument)
+    else (if bytes_eq name (codes "givefork") then option_map rule.GiveFork (office_by p argument)
+    else (if bytes_eq name (codes "askbottle") then option_map rule.AskBottle (record_by p argument)
+    else (if bytes_eq name (codes "givebottle") then option_map rule.GiveBottle (record_by p argument)
+    else (if bytes_eq name (codes "work") then option_map rule.Work (count_by longest_piece argument) else None))))
+
+-- ---- lines
+
+-- submit N: a session, by its number in the file
+abbrev pub submit_of : List ℕ → Option ScriptEvent
+submit_of number = option_map event.Submit (number_of number)
+
+-- deliver K: the K-th frame, from 1
+abbrev pub delivery : ℕ → Option ScriptEvent
+delivery k = if k == 0 then None else Some (event.Deliver k)
+
+abbrev pub deliver_of : List ℕ → Option ScriptEvent
+deliver_of number = and_then (number_of number) delivery
+
+abbrev pub numbered_line : List ℕ → List ℕ → Option ScriptEvent
+numbered_line keyword number =
+    if bytes_eq keyword (codes "submit") then submit_of number
+    else (if bytes_eq keyword (codes "deliver") then deliver_of number else None)
+
+-- do OFFICE RULE
+abbrev pub done_by : Option ℕ → Option Rule → Option ScriptEvent
+done_by None r = None
+done_by (Some office) None = None
+done_by (Some office) (Some r) = Some (event.Do office r)
+
+-- advance OFFICE N: at most so many rules, left to itself
+abbrev pub advanced_by : Option ℕ → Option ℕ → Option ScriptEvent
+advanced_by None n = None
+advanced_by (Some office) None = None
+advanced_by (Some office) (Some n) = Some (event.Advance office n)
+
+abbrev pub office_line : PlanValue → List ℕ → List ℕ → List ℕ → Option ScriptEvent
+office_line p keyword office word =
+    if bytes_eq keyword (codes "do") then done_by (office_by p office) (rule_named word)
+    else (if bytes_eq keyword (codes "advance") then advanced_by (office_by p office) (count_by most_rules word) else None)
+
+-- send OFFICE NEIGHBOUR I: the I-th message that waits for the neighbour, or with 0 the count alone
+abbrev pub sent_by : Option ℕ → Option ℕ → Option ℕ → Option ScriptEvent
+sent_by None neighbour i = None
+sent_by (Some office) None i = None
+sent_by (Some office) (Some neighbour) None = None
+sent_by (Some office) (Some neighbour) (Some i) = Some (event.Send office neighbour i)
+
+abbrev pub long_line : PlanValue → List ℕ → List ℕ → List ℕ → List ℕ → Option ScriptEvent
+long_line p keyword office word argument =
+    if bytes_eq keyword (codes "do") then done_by (office_by p office) (rule_with p word argument)
+    else (if bytes_eq keyword (codes "send") then sent_by (office_by p office) (office_by p word) (number_of argument) else None)
+
+abbrev pub said_by : PlanValue → List (List ℕ) → Option ScriptEvent
+said_by p (keyword ∷ number ∷ []) = numbered_line keyword number
+said_by p (keyword ∷ office ∷ word ∷ []) = office_line p keyword office word
+said_by p (keyword ∷ office ∷ word ∷ argument ∷ []) = long_line p keyword office word argument
+said_by p words = None
+
+-- what a line says: an event that names its session by its number in the file
+unfoldable pub said_of : PlanValue → List ℕ → Option ScriptEvent
+said_of p line = and_then (plain_words line) (said_by p)
+
+-- ---- what it asks for
+
+-- an event of the world; or that an office does so many rules, left to itself
+pub data Act : Type 0 where
+  Happens : (e : WorldEvent) → Act
+  Advances : (office n : ℕ) → Act
+
+-- the n-th program of the file, from 1
+abbrev pub nth : List ProgramValue → ℕ → Option ProgramValue
+nth programs n = if n == 0 then None else slice_get programs (n - 1)
+
+-- a program is submitted at its office
+abbrev pub submission : ProgramValue → Act
+submission program = Happens (happening.Submit program.office program)
+
+-- what an event asks for, where its session is in the file
+abbrev pub act_with : List ProgramValue → ScriptEvent → Option Act
+act_with programs (event.Submit n) = option_map submission (nth programs n)
+act_with programs (event.Do office r) = Some (Happens (happening.Do office r))
+act_with programs (event.Advance office n) = Some (Advances office n)
+act_with programs (event.Send office neighbour i) = Some (Happens (happening.Send office neighbour i))
+act_with programs (event.Deliver k) = Some (Happens (happening.Deliver k))
+
+abbrev pub acts_with : List ProgramValue → List ScriptEvent → List Act
+acts_with programs = filter_map (act_with programs)
+
+-- what a line asks for
+abbrev pub act_of : PlanValue → List ProgramValue → List ℕ → Option Act
+act_of p programs line = and_then (said_of p line) (act_with programs)
+
+-- each line asks for something, and these are it, in order
+abbrev pub AreActs : PlanValue → List ProgramValue → List (ℕ × List ℕ) → List Act → Type 0
+AreActs p programs lines acts = map (λ l. act_of p programs l.1) lines ≡ map Some acts
+
+-- a text of at most 16 MiB that asks for these
+pub record IsScript (p : PlanValue) (programs : List ProgramValue) (text : List ℕ) (acts : List Act) : Type 0 where
+  pub short : length text ≤ most_bytes
+  pub each : AreActs p programs (statements text) acts
+
+-- the line with this number asks for nothing, and each line before it for something
+pub record IsFirstFault (p : PlanValue) (programs : List ProgramValue) (text : List ℕ) (number : ℕ) : Type 0 where
+  pub before : List (ℕ × List ℕ)
+  pub line : List ℕ
+  pub after : List (ℕ × List ℕ)
+  pub acts : List Act
+  pub split : statements text ≡ before ++ (number, line) ∷ after
+  pub good : AreActs p programs before acts
+  pub faulty : act_of p programs line ≡ None
+
+-- a text that is too long, or its first faulty line
+abbrev pub RefusesScript : PlanValue → List ProgramValue → List ℕ → ScriptRefusal → Type 0
+RefusesScript p programs text r =
+    ((most_bytes < length text) × (r.line ≡ 0)) ⊎ ((length text ≤ most_bytes) × IsFirstFault p programs text r.line)
+
+-- the text is refused so; where memory ran out, nothing is said
+abbrev pub IsFaultOf : PlanValue → List ProgramValue → List ℕ → ScriptFault → Type 0
+IsFaultOf p programs text (Refused r) = RefusesScript p programs text r
+IsFaultOf p programs text Memory = Unit {0}

@@ -1,0 +1,7 @@
+//! The limits of a script.
+
+/// The most bytes of its text.
+pub const MAX_BYTES: usize = 16_777_216;
+
+/// The most rules of one line.
+pub(crate) const MAX_RULES: u16 = 1000;

@@ -1,0 +1,12 @@
+//! What is said of an event that was accepted.
+
+use site_core::Reply;
+
+/// What is said of an event that was accepted.
+#[derive(Clone, Copy, Debug, PartialEq, Eq)]
+pub enum Said {
+    /// What the office replied.
+    Replied(Reply),
+    /// How many rules an office did, left to itself.
+    Rules(u16),
+}

@@ -1,0 +1,266 @@
+//! Scripts: the events that a text means.
+
+ghost use Rattle.std.specs.Prelude.{◌≡◌, Bool, IfOk, IfErr, IfSome, List, is_some, map, option_map, true, ℕ};
+ghost use Rattle.std.specs.Str.{bytes_eq};
+ghost use Rattle.office_map.specs.PlanText.{and_then};
+ghost use Rattle.script_runs.specs.Script.{IsScript, IsFaultOf, act_of, said_of, said_by, act_with, acts_with, numbered_line, submit_of, nth, deliver_of, office_line, long_line, done_by, advanced_by, sent_by, rule_named, rule_with, office_by, record_by, count_by};
+
+use crate::event::ScriptEvent;
+use crate::fault::{ScriptFault, ScriptRefusal};
+use crate::limits::{MAX_BYTES, MAX_RULES};
+use office_map::statements::Statements;
+use office_map::text::{is_plain, name, number, words};
+use office_map::{OfficeId, Plan, RecordId};
+use session_language::Program;
+use site_core::{LONGEST_PIECE, Rule};
+use std::alloc::{AllocError, Global};
+
+/// The events that a script means under a plan, where these are the programs of the file of sessions.
+///
+/// # Errors
+/// The first faulty line is refused, or a text that is too long.
+pub fn events(
+    alloc: Global,
+    text: &[u8],
+    plan: &Plan,
+    programs: &[Program],
+) -> Result<Vec<ScriptEvent>, ScriptFault>
+    ensures meaning { IfOk result (λ v. IsScript plan.now programs.now text.now (acts_with programs.now v.items)) }
+    ensures fault { IfErr result (IsFaultOf plan.now programs.now text.now) }
+{
+    if text.len() > MAX_BYTES {
+        return Err(ScriptFault::Refused(ScriptRefusal { line: 0 }));
+    }
+    // Events hold rules, and the check finds that type of another crate by a local of it.
+    let _rule: Option<Rule> = None;
+    let mut events = Vec::new(alloc);
+    let mut left = Statements {
+        rest: text,
+        number: 1,
+    };
+    while let Some((line, statement)) = left.next() {
+        match event(alloc, plan, programs, statement)? {
+            Some(event) => events.push(event)?,
+            None => return Err(ScriptFault::Refused(ScriptRefusal { line })),
+        }
+    }
+    Ok(events)
+}
+
+/// The event that a line says, where it says one and its session is in the file.
+fn event(
+    alloc: Global,
+    plan: &Plan,
+    programs: &[Program],
+    line: &[u8],
+) -> Result<Option<ScriptEvent>, AllocError>
+    ensures meaning { IfOk result (λ o. act_of plan.now programs.now line.now ≡ and_then o (act_with programs.now)) }
+    ensures there { IfOk result (λ o. IfSome o (λ e. is_some (act_with programs.now e) ≡ true)) }
+{
+    let said = said(alloc, plan, line)?;
+    Ok(there(programs, said))
+}
+
+/// What a line says, where its session is in the file.
+fn there(programs: &[Program], said: Option<ScriptEvent>) -> Option<ScriptEvent>
+    ensures meaning { and_then result (act_with programs.now) ≡ and_then said (act_with programs.now) }
+    ensures there { IfSome result (λ e. is_some (act_with programs.now e) ≡ true) }
+{
+    match said {
+        Some(ScriptEvent::Submit(n)) => {
+            let _program = nth(programs, n)?;
+            Some(ScriptEvent::Submit(n))
+        }
+        other => other,
+    }
+}
+
+/// The n-th program, from 1.
+pub(crate) fn nth(programs: &[Program], n: u64) -> Option<&Program>
+    ensures { option_map (λ p. p.now) result ≡ nth programs.now n }
+{
+    if n == 0 || n > programs.len() as u64 {
+        return None;
+    }
+    Some(&programs[n as usize - 1])
+}
+
+/// What a line says.
+#[tactic(auto, unfolding(crate::specs::Script::said_of))]
+fn said(alloc: Global, plan: &Plan, line: &[u8]) -> Result<Option<ScriptEvent>, AllocError>
+    ensures { IfOk result (λ e. e ≡ said_of plan.now line.now) }
+{
+    if !is_plain(line) {
+        return Ok(None);
+    }
+    let words = words(alloc, line)?;
+    Ok(said_by(plan, &words))
+}
+
+fn said_by(plan: &Plan, words: &[&[u8]]) -> Option<ScriptEvent>
+    ensures { result ≡ said_by plan.now (map (λ w. w.now) words.now) }
+{
+    match words.len() {
+        2 => numbered_line(words[0], words[1]),
+        3 => office_line(plan, words[0], words[1], words[2]),
+        4 => long_line(plan, words[0], words[1], words[2], words[3]),
+        _ => None,
+    }
+}
+
+fn numbered_line(keyword: &[u8], word: &[u8]) -> Option<ScriptEvent>
+    ensures { result ≡ numbered_line keyword.now word.now }
+{
+    if is(keyword, "submit") {
+        return submit(word);
+    }
+    if is(keyword, "deliver") {
+        return deliver(word);
+    }
+    None
+}
+
+fn submit(word: &[u8]) -> Option<ScriptEvent>
+    ensures { result ≡ submit_of word.now }
+{
+    let submitted = number(word)?;
+    Some(ScriptEvent::Submit(submitted))
+}
+
+fn deliver(word: &[u8]) -> Option<ScriptEvent>
+    ensures { result ≡ deliver_of word.now }
+{
+    let k = number(word)?;
+    if k == 0 {
+        return None;
+    }
+    Some(ScriptEvent::Deliver(k as usize))
+}
+
+fn office_line(plan: &Plan, keyword: &[u8], office: &[u8], word: &[u8]) -> Option<ScriptEvent>
+    ensures { result ≡ office_line plan.now keyword.now office.now word.now }
+{
+    if is(keyword, "do") {
+        return done(office_by(plan, office), rule_named(word));
+    }
+    if is(keyword, "advance") {
+        return advanced(office_by(plan, office), count(MAX_RULES, word));
+    }
+    None
+}
+
+fn long_line(
+    plan: &Plan,
+    keyword: &[u8],
+    office: &[u8],
+    word: &[u8],
+    argument: &[u8],
+) -> Option<ScriptEvent>
+    ensures { result ≡ long_line plan.now keyword.now office.now word.now argument.now }
+{
+    if is(keyword, "do") {
+        return done(office_by(plan, office), rule_with(plan, word, argument));
+    }
+    if is(keyword, "send") {
+        return sent(
+            office_by(plan, office),
+            office_by(plan, word),
+            number(argument),
+        );
+    }
+    None
+}
+
+fn done(office: Option<OfficeId>, rule: Option<Rule>) -> Option<ScriptEvent>
+    ensures { result ≡ done_by office rule }
+{
+    let office = office?;
+    Some(ScriptEvent::Do(office, rule?))
+}
+
+fn advanced(office: Option<OfficeId>, n: Option<u16>) -> Option<ScriptEvent>
+    ensures { result ≡ advanced_by office n }
+{
+    let office = office?;
+    Some(ScriptEvent::Advance(office, n?))
+}
+
+fn sent(
+    office: Option<OfficeId>,
+    neighbour: Option<OfficeId>,
+    i: Option<u64>,
+) -> Option<ScriptEvent>
+    ensures { result ≡ sent_by office neighbour i }
+{
+    let office = office?;
+    let neighbour = neighbour?;
+    let i = i?;
+    Some(ScriptEvent::Send(office, neighbour, i as usize))
+}
+
+fn rule_named(name: &[u8]) -> Option<Rule>
+    ensures { result ≡ rule_named name.now }
+{
+    if is(name, "start") {
+        Some(Rule::Start)
+    } else if is(name, "hungry") {
+        Some(Rule::Hungry)
+    } else if is(name, "eat") {
+        Some(Rule::Eat)
+    } else if is(name, "leave") {
+        Some(Rule::Leave)
+    } else if is(name, "drink") {
+        Some(Rule::Drink)
+    } else if is(name, "finish") {
+        Some(Rule::Finish)
+    } else {
+        None
+    }
+}
+
+fn rule_with(plan: &Plan, name: &[u8], argument: &[u8]) -> Option<Rule>
+    ensures { result ≡ rule_with plan.now name.now argument.now }
+{
+    if is(name, "askfork") {
+        Some(Rule::AskFork(office_by(plan, argument)?))
+    } else if is(name, "givefork") {
+        Some(Rule::GiveFork(office_by(plan, argument)?))
+    } else if is(name, "askbottle") {
+        Some(Rule::AskBottle(record_by(plan, argument)?))
+    } else if is(name, "givebottle") {
+        Some(Rule::GiveBottle(record_by(plan, argument)?))
+    } else if is(name, "work") {
+        Some(Rule::Work(count(LONGEST_PIECE, argument)?))
+    } else {
+        None
+    }
+}
+
+/// A number from 1 to the most.
+fn count(most: u16, word: &[u8]) -> Option<u16>
+    ensures { result ≡ count_by most word.now }
+{
+    let n = number(word)?;
+    if n < 1 || n > most as u64 {
+        return None;
+    }
+    Some(n as u16)
+}
+
+fn office_by(plan: &Plan, word: &[u8]) -> Option<OfficeId>
+    ensures { result ≡ office_by plan.now word.now }
+{
+    plan.office_named(name(word)?)
+}
+
+fn record_by(plan: &Plan, word: &[u8]) -> Option<RecordId>
+    ensures { result ≡ record_by plan.now word.now }
+{
+    plan.record_named(name(word)?)
+}
+
+fn is(word: &[u8], text: &str) -> bool
+    ensures { result ≡ bytes_eq word.now text.now }
+{
+    word == text.as_bytes()
+}

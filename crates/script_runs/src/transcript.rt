@@ -1,0 +1,285 @@
+//! What a simulation prints.
+
+ghost use Rattle.std.specs.Prelude.{◌≡◌, ◌++◌, ◌∷◌, [], Some, slice_get, IfOk, OnOk};
+ghost use Rattle.session_meaning.specs.declared.ending.Outcome.{Outcome};
+ghost use Rattle.std.specs.List.{flat_map};
+ghost use Rattle.std.specs.String.{string_bytes};
+ghost use Rattle.hex.specs.Hex.{encode_lower};
+ghost use Rattle.frame_codec.specs.Version01.{spelling};
+ghost use Rattle.site_core.specs.declared.reply.Reply.TheVariants as replies;
+ghost use Rattle.frame_world.specs.Worlds.{opening};
+ghost use Rattle.frame_world.specs.Headline.{outcomes};
+ghost use Rattle.script_runs.specs.Report.{outcome_line, value_lines};
+ghost use Rattle.script_runs.specs.Script.{act_with, acts_with};
+ghost use Rattle.script_runs.specs.Runs.{as_said, run_of, all_told, does};
+ghost use Rattle.script_runs.specs.Script as scripts;
+ghost use Rattle.script_runs.specs.Transcript.{bottle_value, told_line, said_line, reply_text, refusal_text, office_refusal_text, frame_fault_text, channel_fault_text, link_fault_text, transcript, unfinished_line, world_report, IsSerialRun};
+ghost use Rattle.script_runs.specs.refinement.Steps.{Answers, Says};
+
+use crate::event::ScriptEvent;
+use crate::report::{add_outcome, add_value};
+use crate::said::Said;
+use crate::script::nth;
+use frame_codec::{Frame, FrameFault, MAX_LENGTH, encode};
+use frame_world::Refusal;
+use office_map::{OfficeId, Plan, RecordId};
+use session_language::Program;
+use site_core::Reply;
+use std::alloc::{AllocError, Global};
+use token_channel::ChannelFault;
+use window_link::LinkFault;
+use world_schedule::World;
+
+/// A line for each event of a run from the plan's opening, and then the report of the world that it leads to: the finished
+/// sessions in finishing order, how many submitted ones haven't finished, and the records' values. The sessions that
+/// events submit are those of these programs. One that isn't there is no event.
+pub fn transcript(
+    alloc: Global,
+    plan: &Plan,
+    programs: &[Program],
+    events: &[ScriptEvent],
+) -> Result<String, AllocError>
+    ensures text { IfOk result (λ text. string_bytes text ≡ transcript plan.now (acts_with programs.now events.now)) }
+    ensures serial { IfOk result (λ _. IsSerialRun (run_of (opening plan.now) (acts_with programs.now events.now))) }
+{
+    let mut world = World::open(alloc, plan.copy(alloc)?)?;
+    let mut text = String::new(alloc);
+    for event in events {
+        add_event(alloc, &mut text, &mut world, programs, *event)?;
+    }
+    add_world(&mut text, &world)?;
+    is_serial(&world);
+    Ok(text)
+}
+
+/// What the report tells is a serial run.
+fn is_serial(world: &World)
+    ensures { IsSerialRun world.now }
+{
+    world.is_serial();
+}
+
+/// An event happens in the world, and its line is added.
+fn add_event(
+    alloc: Global,
+    text: &mut String,
+    world: &mut World,
+    programs: &[Program],
+    event: ScriptEvent,
+) -> Result<(), AllocError>
+    ensures line { OnOk result (string_bytes text.new ≡ string_bytes text.old ++ flat_map told_line (all_told world.old (acts_with programs.now (event ∷ [])))) }
+    ensures world { OnOk result (world.new ≡ run_of world.old (acts_with programs.now (event ∷ []))) }
+{
+    match happen(world, programs, event) {
+        None => Ok(()),
+        Some(Err(Refusal::Office(site_core::Refusal::Memory))) => Err(AllocError),
+        Some(said) => add_said(alloc, text, world.frames(), said),
+    }
+}
+
+/// What is said of an event, where its session is there.
+fn happen(
+    world: &mut World,
+    programs: &[Program],
+    event: ScriptEvent,
+) -> Option<Result<Said, Refusal>>
+    ensures { Answers world.old (act_with programs.now event) result world.new }
+{
+    match event {
+        ScriptEvent::Submit(n) => {
+            let program = nth(programs, n)?;
+            Some(replied(world.submit(program.office(), program)))
+        }
+        ScriptEvent::Do(office, rule) => Some(replied(world.act(office, &rule))),
+        ScriptEvent::Advance(office, n) => Some(advance(world, office, n)),
+        ScriptEvent::Send(office, neighbour, i) => Some(replied(world.send(office, neighbour, i))),
+        ScriptEvent::Deliver(k) => Some(replied(world.deliver(k))),
+    }
+}
+
+fn replied(reply: Result<Reply, Refusal>) -> Result<Said, Refusal>
+    ensures { result ≡ as_said reply }
+{
+    match reply {
+        Ok(reply) => Ok(Said::Replied(reply)),
+        Err(refusal) => Err(refusal),
+    }
+}
+
+/// An office does so many rules at most, left to itself.
+fn advance(world: &mut World, office: OfficeId, n: u16) -> Result<Said, Refusal>
+    ensures { Says (does world.old (scripts.Advances office n)) result world.new }
+{
+    if office.index() >= world.plan().offices() {
+        return Err(Refusal::NoOffice);
+    }
+    let mut done = 0;
+    while done < n {
+        let Some(rule) = world.office(office).next_rule() else {
+            return Ok(Said::Rules(done));
+        };
+        if let Err(refusal) = world.act(office, &rule) {
+            return Err(refusal);
+        }
+        done += 1;
+    }
+    Ok(Said::Rules(done))
+}
+
+/// The line of what is said, where so many frames were sent.
+fn add_said(
+    alloc: Global,
+    text: &mut String,
+    frames: usize,
+    said: Result<Said, Refusal>,
+) -> Result<(), AllocError>
+    ensures { OnOk result (string_bytes text.new ≡ string_bytes text.old ++ said_line frames said) }
+{
+    match said {
+        Ok(Said::Replied(reply)) => add_reply(alloc, text, frames, reply)?,
+        Ok(Said::Rules(n)) => write!(text, "rules {n}")?,
+        Err(refusal) => {
+            let refusal = refusal_text(refusal);
+            write!(text, "refused {refusal}")?;
+        }
+    }
+    text.push_str("\n")
+}
+
+fn add_reply(
+    alloc: Global,
+    text: &mut String,
+    frames: usize,
+    reply: Reply,
+) -> Result<(), AllocError>
+    ensures { OnOk result (string_bytes text.new ≡ string_bytes text.old ++ reply_text frames reply) }
+{
+    match reply {
+        Reply::Ticket(ticket) => write!(text, "ticket {ticket}"),
+        Reply::Done => text.push_str("done"),
+        Reply::Frame(frame) => add_frame(alloc, text, frames, &frame),
+        Reply::Acked => text.push_str("acked"),
+        Reply::Taken => text.push_str("taken"),
+        Reply::Repeat => text.push_str("repeat"),
+        Reply::Early => text.push_str("early"),
+    }
+}
+
+/// A frame that was sent as the so-many-th, with its bytes.
+fn add_frame(
+    alloc: Global,
+    text: &mut String,
+    frames: usize,
+    frame: &Frame,
+) -> Result<(), AllocError>
+    ensures { OnOk result (string_bytes text.new ≡ string_bytes text.old ++ reply_text frames (replies.Frame frame.now)) }
+{
+    write!(text, "frame {frames} ")?;
+    let digits = digits(alloc, frame)?;
+    text.push_str(digits.as_str())
+}
+
+/// A frame's bytes, two digits each.
+fn digits(alloc: Global, frame: &Frame) -> Result<String, AllocError>
+    ensures { IfOk result (λ text. string_bytes text ≡ encode_lower (spelling frame.now)) }
+{
+    let mut bytes = [0; MAX_LENGTH];
+    let length = encode(frame, &mut bytes);
+    hex::encode(alloc, &bytes[..length])
+}
+
+/// The code and the name of a refusal.
+fn refusal_text(refusal: Refusal) -> &'static str
+    ensures { result.now ≡ refusal_text refusal }
+{
+    match refusal {
+        Refusal::NoFrame => "N1 NoFrame",
+        Refusal::NoOffice => "N2 NoOffice",
+        Refusal::Office(refusal) => office_refusal_text(refusal),
+    }
+}
+
+fn office_refusal_text(refusal: site_core::Refusal) -> &'static str
+    ensures { result.now ≡ office_refusal_text refusal }
+{
+    match refusal {
+        site_core::Refusal::Frame(fault) => frame_fault_text(fault),
+        site_core::Refusal::Channel(fault) => channel_fault_text(fault),
+        site_core::Refusal::NotNow => "O1 NotNow",
+        site_core::Refusal::NotOurs => "O2 NotOurs",
+        site_core::Refusal::QueueFull => "O3 QueueFull",
+        site_core::Refusal::JournalFull => "O4 JournalFull",
+        site_core::Refusal::Memory => "out of memory",
+    }
+}
+
+fn frame_fault_text(fault: FrameFault) -> &'static str
+    ensures { result.now ≡ frame_fault_text fault }
+{
+    match fault {
+        FrameFault::Short => "F1 Short",
+        FrameFault::Magic => "F2 Magic",
+        FrameFault::Version => "F3 Version",
+        FrameFault::Kind => "F4 Kind",
+        FrameFault::Number => "F5 Number",
+        FrameFault::Count => "F6 Count",
+        FrameFault::Tag => "F7 Tag",
+        FrameFault::Length => "F8 Length",
+    }
+}
+
+fn channel_fault_text(fault: ChannelFault) -> &'static str
+    ensures { result.now ≡ channel_fault_text fault }
+{
+    match fault {
+        ChannelFault::Link(LinkFault::Stranger) => "L1 Stranger",
+        ChannelFault::Link(LinkFault::AckAhead) => "L2 AckAhead",
+        ChannelFault::Link(LinkFault::Worn) => "L3 Worn",
+        ChannelFault::Breach => "C1 Breach",
+    }
+}
+
+fn add_world(text: &mut String, world: &World) -> Result<(), AllocError>
+    ensures { OnOk result (string_bytes text.new ≡ string_bytes text.old ++ world_report world.now) }
+{
+    add_finished(text, world)?;
+    add_unfinished(text, world.unfinished())?;
+    add_bottles(text, world)?;
+    Ok(())
+}
+
+fn add_finished(text: &mut String, world: &World) -> Result<(), AllocError>
+    ensures { OnOk result (string_bytes text.new ≡ string_bytes text.old ++ flat_map (outcome_line world.now.plan) (outcomes world.now)) }
+{
+    for i in 0..world.finished().len() {
+        add_nth(text, world, i)?;
+    }
+    Ok(())
+}
+
+/// The line of the session that finished as the `i`-th, from 0.
+fn add_nth(text: &mut String, world: &World, i: usize) -> Result<(), AllocError>
+    ensures { OnOk result ((o : Outcome) → slice_get (outcomes world.now) i ≡ Some o → string_bytes text.new ≡ string_bytes text.old ++ outcome_line world.now.plan o) }
+{
+    match world.outcome(i) {
+        Some(outcome) => add_outcome(text, world.plan(), outcome),
+        None => Ok(()),
+    }
+}
+
+fn add_unfinished(text: &mut String, count: usize) -> Result<(), AllocError>
+    ensures { OnOk result (string_bytes text.new ≡ string_bytes text.old ++ unfinished_line count) }
+{
+    writeln!(text, "unfinished {count}")
+}
+
+fn add_bottles(text: &mut String, world: &World) -> Result<(), AllocError>
+    ensures { OnOk result (string_bytes text.new ≡ string_bytes text.old ++ value_lines world.now.plan (bottle_value world.now)) }
+{
+    let plan = world.plan();
+    for i in 0..plan.records() {
+        let id = RecordId::new(i as u16);
+        add_value(text, plan, id, world.value_of(id))?;
+    }
+    Ok(())
+}

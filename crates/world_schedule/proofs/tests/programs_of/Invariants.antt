@@ -1,6 +1,0 @@
-use Rattle.std.specs.Prelude.{All, IsTrue}
-use Rattle.session_language.specs.Program.{fits}
-use Rattle.world_schedule.proofs.tests.programs_of.Given as goal
-
-abbrev pub invariant-loop-one : goal.invariant-loop-one
-invariant-loop-one l = All (λ p. IsTrue (fits l.plan p)) l.programs.items

@@ -1,0 +1,44 @@
+use Rattle.std.proofs.Common.{subst}
+use Rattle.frame_world.specs.Headline.{HasSerialSessions, HasSerialValues, HasOnePlaceEach, NeighboursEatApart, EatersHaveTheirForks, DrinkersHaveTheirBottles}
+use Rattle.frame_world.specs.Worlds.{World}
+use Rattle.frame_world.specs.Ways.{pairs_at, tables_of}
+use Rattle.dining_core.specs.Worlds.{HasNoRing}
+use Rattle.world_schedule.specs.refinement.WorldOfCode.{world_in}
+use Rattle.world_schedule.proofs.Headline.{of_world, of_reached}
+use Rattle.world_schedule.proofs.world.World.is_serial.Goals as goal
+
+pub returns-clause-sessions : goal.returns-clause-sessions
+returns-clause-sessions c =
+    let w = c.self.inside in
+    of_world HasSerialSessions w.plan w.offices.items w.frames.items w.finished.items c.args.self.now c.self.invariant c.self.view_is (λ es. c.sessions_are_serial.ensures w.plan es c.self.invariant.accepted.consistent)
+
+pub returns-clause-bottles : goal.returns-clause-bottles
+returns-clause-bottles c =
+    let w = c.self.inside in
+    of_world HasSerialValues w.plan w.offices.items w.frames.items w.finished.items c.args.self.now c.self.invariant c.self.view_is (λ es. c.bottles_are_serial.ensures w.plan es c.self.invariant.accepted.consistent)
+
+pub returns-clause-places : goal.returns-clause-places
+returns-clause-places c =
+    let w = c.self.inside in
+    of_world HasOnePlaceEach w.plan w.offices.items w.frames.items w.finished.items c.args.self.now c.self.invariant c.self.view_is (λ es. c.things_have_one_place.ensures w.plan es c.self.invariant.accepted.consistent)
+
+pub returns-clause-apart : goal.returns-clause-apart
+returns-clause-apart c =
+    let w = c.self.inside in
+    of_world NeighboursEatApart w.plan w.offices.items w.frames.items w.finished.items c.args.self.now c.self.invariant c.self.view_is (λ es. c.neighbours_never_eat_at_once.ensures w.plan es c.self.invariant.accepted.consistent)
+
+pub returns-clause-eaters : goal.returns-clause-eaters
+returns-clause-eaters c =
+    let w = c.self.inside in
+    of_world EatersHaveTheirForks w.plan w.offices.items w.frames.items w.finished.items c.args.self.now c.self.invariant c.self.view_is (λ es. c.who_eats_has_its_forks.ensures w.plan es c.self.invariant.accepted.consistent)
+
+pub returns-clause-drinkers : goal.returns-clause-drinkers
+returns-clause-drinkers c =
+    let w = c.self.inside in
+    of_world DrinkersHaveTheirBottles w.plan w.offices.items w.frames.items w.finished.items c.args.self.now c.self.invariant c.self.view_is (λ es. c.who_drinks_has_its_bottles.ensures w.plan es c.self.invariant.accepted.consistent)
+
+pub returns-clause-order : goal.returns-clause-order
+returns-clause-order c =
+    let w = c.self.inside in
+    subst (λ (v : World). HasNoRing v.plan (tables_of (pairs_at v))) c.self.view_is
+    (of_reached (λ (v : World). HasNoRing w.plan (tables_of (pairs_at v))) (world_in w.plan w.offices.items w.frames.items w.finished.items) c.self.invariant.reached (λ es. c.precedence_has_no_ring.ensures w.plan es c.self.invariant.accepted))

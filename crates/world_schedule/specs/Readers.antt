@@ -1,0 +1,15 @@
+-- What can be asked of a world.
+use Rattle.std.specs.Prelude.{ℕ}
+use Rattle.std.specs.List.{sum_by}
+use Rattle.site_core.specs.Agenda.{unfinished}
+use Rattle.site_core.specs.Journals.{Site, office_of}
+use Rattle.frame_world.specs.Worlds.{World, Finished}
+use Rattle.world_schedule.specs.declared.finished.Finished as entry
+
+-- how many submitted sessions of all offices haven't finished
+abbrev pub unfinished_in : World → ℕ
+unfinished_in w = sum_by (λ (s : Site). unfinished (office_of s).agenda) w.sites
+
+-- the office and the ticket of a finished session
+abbrev pub listed_as : Finished → entry.Finished
+listed_as f = record { office = f.outcome.office; ticket = f.outcome.ticket }

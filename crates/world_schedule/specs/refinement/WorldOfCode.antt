@@ -1,0 +1,52 @@
+-- The world that the code keeps: of a finished session it keeps the office and the number there.
+use Rattle.std.specs.Prelude.{◌≡◌, ℕ, ◌-◌, ◌<◌, ◌≤◌, List, [], ◌∷◌, ◌++◌, length, map, get_or, All}
+use Rattle.frame_codec.specs.Frame.{Fields}
+use Rattle.office_map.specs.PlanValue.{PlanValue}
+use Rattle.office_map.specs.Consistency.{IsAccepted}
+use Rattle.session_meaning.specs.declared.ending.End.TheVariants.{Done}
+use Rattle.session_meaning.specs.Tree.{Nothing}
+use Rattle.site_core.specs.declared.event.Entry.{Entry}
+use Rattle.site_core.specs.Offices.{Office, opened}
+use Rattle.site_core.specs.Journals.{Site, after, IsLegal}
+use Rattle.frame_world.specs.Worlds.{World, Finished, silent, finished_by}
+use Rattle.frame_world.specs.Headline.{IsReached}
+use Rattle.world_schedule.specs.declared.finished.Finished as mark
+
+-- the sessions that an office finishes by these entries, in order
+abbrev pub finished_from : PlanValue → ℕ → Office → List Entry → List Finished
+finished_from plan me o [] = []
+finished_from plan me o (x ∷ xs) = finished_by me o.agenda.current x.event ++ finished_from plan me (after plan me o x.event) xs
+
+-- those of its whole journal
+unfoldable pub finished_of : Site → List Finished
+finished_of s = finished_from s.plan s.me (opened s.plan s.me) s.entries
+
+-- what stands for a session that no office finished
+abbrev pub no_session : Finished
+no_session = record {
+  program = record { office = 0; variables = []; body = Nothing };
+  outcome = record { office = 0; ticket = 0; ending = record { end = Done; reads = []; writes = []; gives = [] } };
+}
+
+-- the session that the office finished as its ticket-th
+abbrev pub finished_in : PlanValue → List Site → mark.Finished → Finished
+finished_in plan sites m = get_or (finished_of (get_or sites m.office (silent plan m.office))) (m.ticket - 1) no_session
+
+abbrev pub world_in : PlanValue → List Site → List Fields → List mark.Finished → World
+world_in plan sites frames marks = record { plan = plan; sites = sites; frames = frames; finished = map (finished_in plan sites) marks }
+
+-- the site is of this plan and office, and its journal is legal
+abbrev pub IsSiteOf : PlanValue → ℕ → Site → Type 0
+IsSiteOf plan a s = (s.plan ≡ plan) × (s.me ≡ a) × IsLegal s
+
+-- the office finished so many
+abbrev pub IsKnown : PlanValue → List Site → mark.Finished → Type 0
+IsKnown plan sites m = (m.office < length sites) × (0 < m.ticket) × (m.ticket ≤ length (finished_of (get_or sites m.office (silent plan m.office))))
+
+-- there is each office of an accepted plan, and events led to them
+pub record IsWorld (plan : PlanValue) (sites : List Site) (frames : List Fields) (marks : List mark.Finished) : Type 0 where
+  pub accepted : IsAccepted plan
+  pub count : length sites ≡ length plan.offices
+  pub each : (a : ℕ) → a < length sites → IsSiteOf plan a (get_or sites a (silent plan a))
+  pub known : All (IsKnown plan sites) marks
+  pub reached : IsReached (world_in plan sites frames marks)
