@@ -71,9 +71,10 @@ fn last_of(office: &Office, at: OfficeId) -> Finished
     ensures { result ≡ record { office = at; ticket = length (finished_of office.now) } }
 {
     let _ = office.journal();
+    let count = office.outcomes().len();
     Finished {
         office: at,
-        ticket: office.outcomes().len() as u32,
+        ticket: count as u32,
     }
 }
 

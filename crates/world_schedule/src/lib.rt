@@ -10,7 +10,7 @@
 //! - [`World::run`] does events in order, and stops only where memory runs out; [`Stopped`] tells after how many.
 //! - [`World::is_serial`] tells what holds of every world, and [`World::run`] ensures it of the world that it leaves.
 //!   `frame_world` proves it of the definitions.
-//! - [`World::offices`] and [`World::office`] lend the offices; an office's journal is `Office::journal`.
+//! - [`World::offices`] and [`World::office`] lend the offices, [`World::journal`] what one accepted, and
 //!   [`World::frame`] tells what was sent. [`World::finished`] tells which sessions finished, by office and ticket, and
 //!   [`World::outcome`] how one ended; the world keeps no program and no outcome a second time. [`World::value_of`] reads
 //!   a record's value off its bottle: where an office holds it, or else in the message that carries it.

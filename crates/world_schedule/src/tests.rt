@@ -378,8 +378,13 @@ fn tell_all<R: Abort>(rt: &R, world: &World) {
     assert_eq!(rt; world.frames(), 2);
     let numbers = [0, 1, 2, 3].map(|k| world.frame(k).map(|frame| (frame.from(), frame.number())));
     assert_eq!(rt; numbers, [None, Some((0, 1)), Some((1, 1)), None]);
-    let lengths = [0, 1, 2].map(|a| world.offices().get(a).map(|office| office.journal().len()));
-    assert_eq!(rt; lengths, [Some(12), Some(3), None]);
+    assert_eq!(rt; world.offices().len(), 2);
+    for a in 0..world.plan().offices() {
+        let id = OfficeId::new(a as u8);
+        let entries = if a == 0 { 12 } else { 3 };
+        assert_eq!(rt; world.journal(id).len(), entries);
+        assert_eq!(rt; world.office(id).number(), id);
+    }
     let a = OfficeId::new(A);
     let first = Finished {
         office: a,

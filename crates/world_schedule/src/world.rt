@@ -3,7 +3,7 @@
 ghost use Rattle.std.specs.Prelude.{◌≡◌, ◌<◌, ◌≤◌, ◌^◌, ◌↔◌, ◌∷◌, [], Err, IsTrue, length, map, slice_get, All, IfOk, OnOk, IfErr, take};
 ghost use Rattle.std.specs.Option.{option_copied};
 ghost use Rattle.site_core.specs.Agenda.{unfinished};
-ghost use Rattle.site_core.specs.Journals.{office_of};
+ghost use Rattle.site_core.specs.Journals.{office_of, IsLegal};
 ghost use Rattle.site_core.specs.declared.reply.Refusal.TheVariants as refused;
 ghost use Rattle.frame_world.specs.declared.refusal.Refusal.TheVariants as refusals;
 ghost use Rattle.frame_world.specs.declared.event.WorldEvent.TheVariants as events;
@@ -28,7 +28,7 @@ use frame_world::laws::{
 use frame_world::{Refusal, WorldEvent};
 use office_map::{OfficeId, Plan, RecordId};
 use session_language::{Outcome, Program};
-use site_core::{Office, Reply, Rule};
+use site_core::{Journal, Office, Reply, Rule};
 use std::alloc::{AllocError, Global};
 use std::marker::Model;
 
@@ -214,7 +214,7 @@ impl World {
         let _ = &self.plan;
     }
 
-    /// All offices, in order of number. `Office::journal` has all that one accepted.
+    /// All offices, in order of number.
     pub fn offices(&self) -> &[Office]
         ensures all { result.now ≡ self.now.sites }
         ensures one_each { length result.now ≡ length self.now.plan.offices }
@@ -231,6 +231,15 @@ impl World {
         ensures number { result.now.me ≡ id }
     {
         &self.offices[id.index()]
+    }
+
+    /// All that an office accepted.
+    pub fn journal(&self, id: OfficeId) -> &Journal
+        requires { id < length self.now.plan.offices }
+        ensures entries { result.now.entries ≡ (site_at self.now id).entries }
+        ensures legal { IsLegal (site_at self.now id) }
+    {
+        self.office(id).journal()
     }
 
     /// How many frames were ever sent.

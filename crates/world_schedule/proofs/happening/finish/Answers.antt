@@ -1,4 +1,7 @@
-use Rattle.std.proofs.Common.{Ok, Err, arith, ap, sym}
+use Rattle.std.proofs.Common.{◌≡◌, ◌<◌, ℕ, ◌++◌, ◌∷◌, [], length, get_or, set, Ok, Err, arith, ap, sym, ◌∙◌}
+use Rattle.std.proofs.lemmas.List.{get_or_read, length-set}
+use Rattle.site_core.specs.Journals.{Site}
+use Rattle.world_schedule.specs.refinement.WorldOfCode.{finished_of}
 use Rattle.site_core.specs.declared.event.Event.TheVariants as event
 use Rattle.site_core.specs.declared.rule.Rule.TheVariants as rule
 use Rattle.frame_world.specs.declared.refusal.Refusal.TheVariants as refusal
@@ -15,3 +18,13 @@ pub returns-in-Err-clause-office : goal.returns-in-Err-clause-office
 returns-in-Err-clause-office c =
     asked c.args.offices.now.items c.args.at c.index-2.result (event.Do rule.Finish) c.index_mut.result.now c.act.new.self c.act.result (Err (refusal.Office c.in-Err.refusal)) c.index-2.ensures
     (omega (arith, c.if-index-len.false, c.index.ensures, c.index-2.ensures, c.len.ensures)) c.index_mut.ensures.value c.act.ensures (ap passed_on (sym c.in-Err.is))
+
+pub returns-in-Ok-act-clause-listed : goal.returns-in-Ok-act-clause-listed
+returns-in-Ok-act-clause-listed c =
+    let offices = set c.args.offices.now.items c.index-2.result c.act.new.self in
+    let s : Site = c.index-in-Ok-act-2.result.now in
+    let at : ℕ = c.args.at in
+    let lt : at < length offices = omega (arith, c.if-index-len.false, c.index.ensures, c.len.ensures, length-set c.args.offices.now.items c.index-2.result c.act.new.self) in
+    let here : s ≡ get_or offices at s = c.index-in-Ok-act-2.ensures ∙ ap (λ i. get_or offices i s) c.index-in-Ok-act.ensures in
+    λ d. c.push_reserved.ensures.items ∙ ap (λ l. l ++ c.last_of-last.result ∷ []) c.in-Ok.ensures.items
+    ∙ ap (λ m. c.args.finished.now.items ++ m ∷ []) (c.last_of-last.ensures ∙ ap (λ (x : Site). record { office = at; ticket = length (finished_of x) }) (get_or_read offices at s lt here d))

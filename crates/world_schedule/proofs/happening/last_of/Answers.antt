@@ -7,8 +7,8 @@ pub overflow_cast-result : goal.overflow_cast-result
 overflow_cast-result c =
     let s = c.args.office.now in
     let few : length s.entries ≤ most_entries = subst (λ (l : _). length l ≤ most_entries) c.journal.ensures.entries c.journal.ensures.few in
-    let same = ap length c.outcomes.ensures in
+    let same = ap length c.outcomes-count.ensures in
     omega (arith, few, same, few_finished s c.journal.ensures.legal, length_outcomes s c.journal.ensures.legal)
 
 pub returns : goal.returns
-returns c = ap (λ n. record { office = c.args.at; ticket = n }) (ap length c.outcomes.ensures ∙ length_outcomes c.args.office.now c.journal.ensures.legal)
+returns c = ap (λ n. record { office = c.args.at; ticket = n }) (ap length c.outcomes-count.ensures ∙ length_outcomes c.args.office.now c.journal.ensures.legal)
