@@ -20,3 +20,6 @@ mod desk;
 
 pub use crate::advance::Stopped;
 pub use crate::desk::Desk;
+
+#[cfg(test)]
+mod tests;

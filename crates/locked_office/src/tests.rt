@@ -1,0 +1,328 @@
+ghost use Rattle.std.specs.Prelude.{◌≡◌, false, IfSome};
+ghost use Rattle.own_lock.specs.Passes.{IsOf, AreIdle};
+
+use super::*;
+use frame_codec::decode;
+use office_map::{OfficeId, Plan};
+use own_lock::{Busy, Pass};
+use session_language::{Outcome, Program, read_sessions};
+use site_core::{Entry, Office, Refusal, Reply};
+use std::alloc::{AllocError, Global};
+use std::fmt::Write;
+use std::process::Abort;
+use std::sync::Wait;
+use std::test::Fail;
+
+/// Two offices, and two records of theirs.
+const PAIR: &str =
+    "plan 1 run 42\noffice a -\noffice b -\npair a b fork a\nrecord x a b 100 at a\nrecord y a b 0 at b\n";
+
+/// A session that moves 30 from one record to the other, and one that reads nothing.
+const SESSIONS: &str =
+    "session a\nlet v = read x\nset x = v - 30\nset y = read y + 30\ngive read x\ngive read y\nend\nsession a\ngive 1\nend\n";
+
+/// The first office asks for the second record's bottle.
+const ASKS: &[u8] =
+    b"\x44\x50\x01\x01\x00\x00\x00\x2a\x00\x01\x00\x00\x00\x00\x00\x00\x00\x01\x00\x00\x00\x00\x00\x00\x00\x00\x03\x00\x01";
+
+/// The second office gives it, with 0.
+const GIVES: &[u8] =
+    b"\x44\x50\x01\x01\x00\x00\x00\x2a\x01\x00\x00\x00\x00\x00\x00\x00\x00\x01\x00\x00\x00\x00\x00\x00\x00\x01\x04\x00\x01\x00\x00\x00\x00\x00\x00\x00\x00";
+
+/// The sessions of the text.
+fn programs(alloc: Global) -> Result<Vec<Program>, Fail> {
+    let plan = Plan::read(alloc, PAIR.as_bytes())?;
+    Ok(read_sessions(alloc, SESSIONS.as_bytes(), &plan)?)
+}
+
+/// The first office of the plan.
+fn office(alloc: Global) -> Result<Office, Fail> {
+    let plan = Plan::read(alloc, PAIR.as_bytes())?;
+    if plan.offices() == 0 {
+        return Err(Fail::from("an office"));
+    }
+    Ok(Office::open(alloc, &plan, OfficeId::new(0))?)
+}
+
+/// The last of the passes.
+fn last(desk: &Desk, passes: &mut Vec<Pass<Office>>) -> Option<Pass<Office>>
+    requires { AreIdle desk.now passes.old.items }
+    ensures rest { AreIdle desk.now passes.new.items }
+    ensures last { IfSome result (λ pass. IsOf desk.now pass × (pass.holds ≡ false)) }
+{
+    passes.pop()
+}
+
+/// While one pass has the office the other finds it taken, and submits after that.
+#[test]
+fn a_busy_desk_says_so(rt: HostRuntime) -> Result<(), Fail> {
+    let alloc = rt.alloc();
+    let programs = programs(alloc)?;
+    let program = programs.get(1).ok_or("a session")?;
+    let (desk, mut passes) = Desk::open(alloc, office(alloc)?, 2)?;
+    let mut b = last(&desk, &mut passes).ok_or("two")?;
+    let mut a = last(&desk, &mut passes).ok_or("two")?;
+    assert_eq!(rt; while_held(&desk, &mut a, &mut b, program), Some(3));
+    assert_eq!(rt;
+        try_submit(&desk, &mut b, program),
+        Some(Ok(Reply::Ticket(1)))
+    );
+    assert_eq!(rt; tags(&rt, &desk, &mut b, 10)?, [0, 1, 0, 0]);
+    assert!(rt; desk.close(b).is_some());
+    Ok(())
+}
+
+/// How many of the calls find the office taken while the first pass has it.
+fn while_held(
+    desk: &Desk,
+    a: &mut Pass<Office>,
+    b: &mut Pass<Office>,
+    program: &Program,
+) -> Option<u32>
+    requires a { IsOf desk.now a.old × (a.old.holds ≡ false) }
+    requires b { IsOf desk.now b.old × (b.old.holds ≡ false) }
+    ensures a { IsOf desk.now a.new × (a.new.holds ≡ false) }
+    ensures b { IsOf desk.now b.new × (b.new.holds ≡ false) }
+{
+    match desk.lock().try_take(a) {
+        Ok(held) => {
+            let busy = count_busy(desk, b, program);
+            desk.lock().give(a, held);
+            Some(busy)
+        }
+        Err(Busy) => None,
+    }
+}
+
+fn count_busy(desk: &Desk, pass: &mut Pass<Office>, program: &Program) -> u32
+    requires { IsOf desk.now pass.old × (pass.old.holds ≡ false) }
+    ensures { IsOf desk.now pass.new × (pass.new.holds ≡ false) }
+{
+    let submitted = try_submit(desk, pass, program).is_none();
+    let taken = try_took(desk, pass, GIVES).is_none();
+    let told = try_outcome(desk, pass, 1).is_none();
+    submitted as u32 + taken as u32 + told as u32
+}
+
+/// A session fetches a bottle through the desk.
+#[test]
+fn a_session_finishes_at_a_desk(rt: HostRuntime) -> Result<(), Fail> {
+    let alloc = rt.alloc();
+    let programs = programs(alloc)?;
+    let program = programs.get(0).ok_or("a session")?;
+    let (desk, mut passes) = Desk::open(alloc, office(alloc)?, 1)?;
+    let mut pass = last(&desk, &mut passes).ok_or("one")?;
+    ask_for_the_bottle(&rt, &desk, &mut pass, program);
+    get_the_bottle(&rt, &desk, &mut pass);
+    let told = outcome(&rt, alloc, &desk, &mut pass, 1)?;
+    let expected = "0.1 Done reads 0=100 1=0 writes 0=70 1=30 gives 70 30";
+    assert_eq!(rt; told.as_str(), expected);
+    let tried = try_outcome(&desk, &mut pass, 1).ok_or("free")?;
+    assert_eq!(rt; words(alloc, tried?)?.as_str(), expected);
+    assert_eq!(rt; outcome(&rt, alloc, &desk, &mut pass, 2)?.as_str(), "none");
+    Ok(())
+}
+
+fn ask_for_the_bottle<R: Wait + Abort>(
+    rt: &R,
+    desk: &Desk,
+    pass: &mut Pass<Office>,
+    program: &Program,
+)
+    requires { IsOf desk.now pass.old × (pass.old.holds ≡ false) }
+    ensures { IsOf desk.now pass.new × (pass.new.holds ≡ false) }
+{
+    assert_eq!(rt; submit(rt, desk, pass, program), Ok(Reply::Ticket(1)));
+    assert_eq!(rt; advance(rt, desk, pass, 9), Ok(4));
+    assert_eq!(rt; waiting(rt, desk, pass, 1), Ok((1, 1)));
+    assert_eq!(rt; waiting(rt, desk, pass, 0), Err(Refusal::NotNow));
+    assert_eq!(rt;
+        try_outcome(desk, pass, 1).map(|o| o.is_ok_and(|o| o.is_none())),
+        Some(true)
+    );
+    let asks = decode(ASKS).map(Reply::Frame).ok();
+    assert_eq!(rt; send(rt, desk, pass, 1).ok(), asks);
+}
+
+fn get_the_bottle<R: Wait + Abort>(rt: &R, desk: &Desk, pass: &mut Pass<Office>)
+    requires { IsOf desk.now pass.old × (pass.old.holds ≡ false) }
+    ensures { IsOf desk.now pass.new × (pass.new.holds ≡ false) }
+{
+    assert_eq!(rt; try_took(desk, pass, GIVES), Some(Ok(Reply::Taken)));
+    assert_eq!(rt; took(rt, desk, pass, GIVES), Ok(Reply::Repeat));
+    assert_eq!(rt; waiting(rt, desk, pass, 1), Ok((2, 0)));
+    assert_eq!(rt; advance(rt, desk, pass, 9), Ok(4));
+    assert_eq!(rt; advance(rt, desk, pass, 9), Ok(0));
+}
+
+/// 64 sessions wait; one more is taken once one has finished.
+#[test]
+fn sixty_four_sessions_wait_at_a_desk(rt: HostRuntime) -> Result<(), Fail> {
+    let alloc = rt.alloc();
+    let programs = programs(alloc)?;
+    let program = programs.get(1).ok_or("a session")?;
+    let (desk, mut passes) = Desk::open(alloc, office(alloc)?, 1)?;
+    let mut pass = last(&desk, &mut passes).ok_or("one")?;
+    fill(&rt, &desk, &mut pass, program);
+    assert_eq!(rt; tags(&rt, &desk, &mut pass, 99)?, [64, 0, 0, 0]);
+    assert_eq!(rt; advance(&rt, &desk, &mut pass, 6), Ok(6));
+    assert_eq!(rt;
+        submit(&rt, &desk, &mut pass, program),
+        Ok(Reply::Ticket(65))
+    );
+    Ok(())
+}
+
+fn fill<R: Wait + Abort>(rt: &R, desk: &Desk, pass: &mut Pass<Office>, program: &Program)
+    requires { IsOf desk.now pass.old × (pass.old.holds ≡ false) }
+    ensures { IsOf desk.now pass.new × (pass.new.holds ≡ false) }
+{
+    for i in 0..64u32 {
+        assert_eq!(rt; submit(rt, desk, pass, program), Ok(Reply::Ticket(i + 1)));
+    }
+    assert_eq!(rt; submit(rt, desk, pass, program), Err(Refusal::QueueFull));
+}
+
+// ---- calls of which tests know what they answer
+
+fn try_submit(
+    desk: &Desk,
+    pass: &mut Pass<Office>,
+    program: &Program,
+) -> Option<Result<Reply, Refusal>>
+    requires { IsOf desk.now pass.old × (pass.old.holds ≡ false) }
+    ensures { IsOf desk.now pass.new × (pass.new.holds ≡ false) }
+{
+    desk.try_submit(pass, program).ok()
+}
+
+fn try_took(desk: &Desk, pass: &mut Pass<Office>, bytes: &[u8]) -> Option<Result<Reply, Refusal>>
+    requires { IsOf desk.now pass.old × (pass.old.holds ≡ false) }
+    ensures { IsOf desk.now pass.new × (pass.new.holds ≡ false) }
+{
+    desk.try_took(pass, bytes).ok()
+}
+
+fn try_outcome(
+    desk: &Desk,
+    pass: &mut Pass<Office>,
+    ticket: u32,
+) -> Option<Result<Option<Outcome>, AllocError>>
+    requires { IsOf desk.now pass.old × (pass.old.holds ≡ false) }
+    ensures { IsOf desk.now pass.new × (pass.new.holds ≡ false) }
+{
+    desk.try_outcome(pass, ticket).ok()
+}
+
+/// How many of the first so many entries have each of the tags 0 to 3.
+fn tags<R: Wait>(
+    rt: &R,
+    desk: &Desk,
+    pass: &mut Pass<Office>,
+    most: usize,
+) -> Result<[u32; 4], AllocError>
+    requires { IsOf desk.now pass.old × (pass.old.holds ≡ false) }
+    ensures { IsOf desk.now pass.new × (pass.new.holds ≡ false) }
+{
+    let part = desk.journal_part(rt, pass, 0, most);
+    Ok(count_tags(&part?))
+}
+
+fn count_tags(entries: &[Entry]) -> [u32; 4] {
+    let mut counts = [0u32; 4];
+    for entry in entries {
+        if let Some(count) = counts.get_mut(entry.tag as usize) {
+            *count = count.saturating_add(1);
+        }
+    }
+    counts
+}
+
+fn submit<R: Wait>(
+    rt: &R,
+    desk: &Desk,
+    pass: &mut Pass<Office>,
+    program: &Program,
+) -> Result<Reply, Refusal>
+    requires { IsOf desk.now pass.old × (pass.old.holds ≡ false) }
+    ensures { IsOf desk.now pass.new × (pass.new.holds ≡ false) }
+{
+    desk.submit(rt, pass, program)
+}
+
+fn took<R: Wait>(
+    rt: &R,
+    desk: &Desk,
+    pass: &mut Pass<Office>,
+    bytes: &[u8],
+) -> Result<Reply, Refusal>
+    requires { IsOf desk.now pass.old × (pass.old.holds ≡ false) }
+    ensures { IsOf desk.now pass.new × (pass.new.holds ≡ false) }
+{
+    desk.took(rt, pass, bytes)
+}
+
+fn send<R: Wait>(rt: &R, desk: &Desk, pass: &mut Pass<Office>, i: usize) -> Result<Reply, Refusal>
+    requires { IsOf desk.now pass.old × (pass.old.holds ≡ false) }
+    ensures { IsOf desk.now pass.new × (pass.new.holds ≡ false) }
+{
+    desk.send(rt, pass, OfficeId::new(1), i)
+}
+
+fn advance<R: Wait>(rt: &R, desk: &Desk, pass: &mut Pass<Office>, most: u32) -> Result<u32, Stopped>
+    requires { IsOf desk.now pass.old × (pass.old.holds ≡ false) }
+    ensures { IsOf desk.now pass.new × (pass.new.holds ≡ false) }
+{
+    desk.advance(rt, pass, most)
+}
+
+fn waiting<R: Wait>(
+    rt: &R,
+    desk: &Desk,
+    pass: &mut Pass<Office>,
+    v: u8,
+) -> Result<(u64, usize), Refusal>
+    requires { IsOf desk.now pass.old × (pass.old.holds ≡ false) }
+    ensures { IsOf desk.now pass.new × (pass.new.holds ≡ false) }
+{
+    desk.waiting(rt, pass, OfficeId::new(v))
+}
+
+/// How a session ended, in words.
+fn outcome<R: Wait>(
+    rt: &R,
+    alloc: Global,
+    desk: &Desk,
+    pass: &mut Pass<Office>,
+    ticket: u32,
+) -> Result<String, AllocError>
+    requires { IsOf desk.now pass.old × (pass.old.holds ≡ false) }
+    ensures { IsOf desk.now pass.new × (pass.new.holds ≡ false) }
+{
+    let outcome = desk.outcome(rt, pass, ticket);
+    words(alloc, outcome?)
+}
+
+fn words(alloc: Global, outcome: Option<Outcome>) -> Result<String, AllocError> {
+    let mut text = String::new(alloc);
+    let Some(outcome) = outcome else {
+        text.push_str("none")?;
+        return Ok(text);
+    };
+    let office = outcome.office.number();
+    let ticket = outcome.ticket;
+    let end = outcome.ending.end;
+    write!(text, "{office}.{ticket} {end:?} reads")?;
+    for (r, value) in outcome.ending.reads.as_slice() {
+        write!(text, " {}={}", r.number(), value.number)?;
+    }
+    text.push_str(" writes")?;
+    for (r, value) in outcome.ending.writes.as_slice() {
+        write!(text, " {}={}", r.number(), value.number)?;
+    }
+    text.push_str(" gives")?;
+    for value in outcome.ending.gives.as_slice() {
+        write!(text, " {}", value.number)?;
+    }
+    Ok(text)
+}
