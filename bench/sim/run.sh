@@ -1,48 +1,72 @@
 #!/bin/sh
-# What `drink sim` takes for a line of a long script: a bottle goes to and fro between two offices, with a session at
-# each end, twelve lines a session; and for a line that submits a heavy session, nearly always where there is no room for
-# it. `docs/BENCHMARKS.md` has the figures. It needs a program that is built, awk, and GNU time; for the counts of
-# instructions valgrind. It fails only where the program doesn't run on a script as it is to.
+# What `drink sim` takes for a line of a long script: bottles go to and fro between offices in a ring, with a session at each
+# end, over frames of which some are lost and some come twice; and for a line that submits a heavy session, nearly always
+# where there is no room for it. `docs/BENCHMARKS.md` has the figures. It needs a program that is built, awk, and GNU time;
+# for the counts of instructions valgrind. It fails only where the program doesn't run on a script as it is to.
 #
 #   sh bench/sim/run.sh [PROGRAM]        PROGRAM is crates/drink/out/drink where it is left out
 set -eu
 top=$(cd "$(dirname "$0")/../.." && pwd)
 . "$top/bench/shared/program.sh"
 
-printf '%s\n' 'plan 1 run 1' 'office a -' 'office b -' 'pair a b fork a' 'record x a b 0 at a' > "$work/plan"
-printf '%s\n' 'session a' 'set x = read x + 1' 'end' 'session b' 'set x = read x + 1' 'give read x' 'end' > "$work/sessions"
+# OFFICES: a plan in which each office shares a record with the next one, two sessions for each of these, and in `plan` and
+# `sessions` what they are.
+ring() {
+    awk -v offices="$1" -v plan="$work/plan" -v sessions="$work/sessions" '
+        BEGIN {
+            pairs = offices == 2 ? 1 : offices
+            print "plan 1 run 1" > plan
+            for (a = 0; a < offices; a++) print "office o" a " -" > plan
+            for (p = 0; p < pairs; p++) {
+                b = (p + 1) % offices
+                # The last fork starts at its other end: no ring precedes itself.
+                print "pair o" p " o" b " fork o" (p + 1 == pairs && pairs > 1 ? b : p) > plan
+                print "record r" p " o" p " o" b " 0 at o" p > plan
+                print "session o" p "\nset r" p " = read r" p " + 1\nend" > sessions
+                print "session o" b "\nset r" p " = read r" p " + 1\ngive read r" p "\nend" > sessions
+            }
+        }'
+}
 
-# LINES lines: an office submits its session, starts it, asks for the bottle, gets it, drinks, works and finishes, and
-# then the other one. Each message is sent once and comes at once, so what its receiver sent before is acknowledged.
+# OFFICES LINES: an office submits its session, starts it, asks for the bottle, gets it, drinks, works and finishes; pair by
+# pair, and then each pair from its other end. Each frame is made twice, of which the first is lost, and the second comes
+# twice. What an office sent is acknowledged by the next frame that comes back.
 script() {
-    awk -v lines="$1" '
+    awk -v offices="$1" -v lines="$2" '
         function put(line) { if (n < lines) { print line; n++ } }
         function go(from, to) {
-            put("send " from " " to " " ++waiting[from])
-            waiting[to] = 0
-            put("deliver " ++sent)
+            waiting[from, to]++
+            put("send o" from " o" to " " waiting[from, to])
+            put("send o" from " o" to " " waiting[from, to])
+            waiting[to, from] = 0
+            sent += 2
+            put("deliver " sent)
+            put("deliver " sent)
         }
         BEGIN {
+            pairs = offices == 2 ? 1 : offices
             for (turn = 0; n < lines; turn++) {
-                me = turn % 2 ? "a" : "b"
-                other = turn % 2 ? "b" : "a"
-                put("submit " (turn % 2 ? 1 : 2))
-                put("do " me " start")
-                put("do " me " askbottle x")
+                p = turn % pairs
+                back = int(turn / pairs) % 2
+                me = back ? p : (p + 1) % offices
+                other = back ? (p + 1) % offices : p
+                put("submit " (2 * p + (back ? 1 : 2)))
+                put("do o" me " start")
+                put("do o" me " askbottle r" p)
                 go(me, other)
-                put("do " other " givebottle x")
+                put("do o" other " givebottle r" p)
                 go(other, me)
-                put("do " me " drink")
-                put("do " me " work 100")
-                put("do " me " finish")
-                put("do " me " start")
+                put("do o" me " drink")
+                put("do o" me " work 100")
+                put("do o" me " finish")
+                put("do o" me " start")
             }
         }'
 }
 
 # A session of the largest cost: sums of `--1`. And so many lines that submit it.
 awk 'BEGIN {
-    print "session a"
+    print "session o0"
     for (line = 0; line < 83; line++) {
         text = "let v = --1"
         for (term = 1; term < 30; term++) text = text " + --1"
@@ -85,15 +109,19 @@ for_a_line() {
     fi
 }
 
-: > "$work/script"
-none=$(instructions "$work/sessions")
-printf '| %s | %s | %s |\n' Lines Instructions 'For a line'
-for lines in 50000 100000 200000; do
-    script "$lines" > "$work/script"
-    printf '| %s | %s |\n' "$lines" "$(for_a_line "$(instructions "$work/sessions")" "$none" "$lines")"
+printf '| %s | %s | %s | %s | %s |\n' Offices Lines 'Memory, KiB' Instructions 'For a line'
+for offices in 2 16; do
+    ring "$offices"
+    : > "$work/script"
+    none=$(instructions "$work/sessions")
+    for lines in 10000 100000 500000; do
+        script "$offices" "$lines" > "$work/script"
+        printf '| %s | %s | %s | %s |\n' "$offices" "$lines" "$(memory "$work/sessions")" "$(for_a_line "$(instructions "$work/sessions")" "$none" "$lines")"
+    done
 done
 
 # The 64 sessions that there is room for are submitted in both runs.
+ring 2
 submits 64 > "$work/script"
 few=$(instructions "$work/heavy")
 printf '\n| %s | %s | %s | %s | %s |\n' 'Lines that submit a heavy session' Bytes 'Memory, KiB' Instructions 'For a line'
