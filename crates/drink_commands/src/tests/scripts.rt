@@ -1,3 +1,5 @@
+ghost use Rattle.std.specs.Prelude.{◌<◌};
+
 use crate::commands::{serial, sim};
 use crate::fault::{Fault, Why};
 use crate::input::Input;
@@ -137,7 +139,9 @@ struct Long {
 }
 
 /// An office's number.
-fn number(office: &str) -> usize {
+fn number(office: &str) -> usize
+    ensures { result < 2 }
+{
     if office == "a" { 0 } else { 1 }
 }
 
