@@ -1,14 +1,13 @@
 -- What a fault says of the texts of a command's words, those that are known.
 use Rattle.std.proofs.Common.{◌≡◌, ◌≤◌, ◌<◌, ℕ, zero, suc, List, [], ◌∷◌, take, Contains, Option, Bool, true, false, nat_lt, Result, Ok, Err, IfErr, refl, sym, subst, ap, arith}
 use Rattle.std.proofs.lemmas.Bool.Decides.{nat_tests}
-use Rattle.input_texts.specs.Words.{HasText, HaveTexts, IsReadUpTo, Unread}
+use Rattle.input_texts.specs.Words.{HasText, HaveTexts, Unread}
 use Rattle.office_map.specs.PlanValue.{PlanValue}
 use Rattle.session_meaning.specs.ProgramValue.{ProgramValue}
 use Rattle.session_language.specs.Reading.{sessions_of}
 use Rattle.drink_commands.specs.declared.input.Input.{Input}
 use Rattle.drink_commands.specs.declared.input.Input.TheVariants as inputs
 use Rattle.drink_commands.specs.declared.fault.Why.{Why}
-use Rattle.drink_commands.specs.declared.fault.Why.TheVariants.{Plan, Ring, Sessions, Script}
 use Rattle.drink_commands.specs.declared.fault.Fault.{Fault}
 use Rattle.drink_commands.specs.declared.fault.Fault.TheVariants.{Memory, ReadFailed, Refused, WriteFailed}
 use Rattle.drink_commands.specs.Fault.{IsAmong, IsFaultAt, IsWriteFault, input_of, refused_input}

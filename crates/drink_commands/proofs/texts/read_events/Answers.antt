@@ -1,5 +1,5 @@
 use Rattle.std.proofs.Common.{refl, subst}
-use Rattle.script_runs.specs.Script.{IsScript, RefusesScript, IsFaultOf, acts_with}
+use Rattle.script_runs.specs.Script.{IsScript, RefusesScript, acts_with}
 use Rattle.drink_commands.specs.declared.input.Input.TheVariants as inputs
 use Rattle.drink_commands.proofs.Limits.{script_accepted, script_refused}
 use Rattle.drink_commands.proofs.texts.read_events.Goals as goal
