@@ -16,7 +16,7 @@ pub enum Request<'a> {
         plan: &'a str,
         sessions: &'a str,
     },
-    /// A script on the world of two offices.
+    /// A script on the world of a plan.
     Sim {
         plan: &'a str,
         sessions: &'a str,
@@ -105,7 +105,9 @@ fn with_sim<'a>(alloc: Global, program: Command<'a>) -> Result<Command<'a>, Allo
     let sessions = required(alloc, "SESSIONS", SESSIONS);
     let script = required(alloc, "SCRIPT", SCRIPT);
     let sim = Command::new(alloc, "sim")
-        .about("Runs a script on two offices, and prints its replies and what the sessions did")
+        .about(
+            "Runs a script on the offices of a plan, and prints its replies and what the sessions did",
+        )
         .after_help(INPUTS)
         .arg(plan)?
         .arg(sessions)?
