@@ -1,5 +1,5 @@
 -- What was read of a header spells it, and the faults of bytes whose first four are right.
-use Rattle.std.proofs.Common.{◌≡◌, ℕ, ◌<◌, ◌≤◌, ◌^◌, Bool, true, false, cond, not, leb, List, length, get_or, take, drop, Some, None, refl, sym, ◌∙◌, ap, arith}
+use Rattle.std.proofs.Common.{◌≡◌, ℕ, ◌<◌, ◌≤◌, Bool, true, false, cond, not, leb, List, length, get_or, take, drop, Some, None, refl, sym, ◌∙◌, ap, arith}
 use Rattle.std.proofs.lemmas.Bool.{le-ltb, le-leb, lt-leb, eq-eqb}
 use Rattle.byteorder.specs.Endian.{big_number}
 use Rattle.frame_codec.specs.declared.fault.FrameFault.TheVariants.{Number, Count}

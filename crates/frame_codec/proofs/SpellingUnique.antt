@@ -20,9 +20,6 @@ same_number : (n x y : ℕ) → x < 256 ^ n → y < 256 ^ n → big_bytes n x �
 same_number n x y fx fy e =
     sym (big_number-reads_back n x [] fx) ∙ ap (λ (l : List ℕ). big_number n (l ++ [])) e ∙ big_number-reads_back n y [] fy
 
-abbrev int : Value → ℤ
-int v = v.number
-
 -- the eight bytes spell one value
 same_int : (y z : ℤ) → IsTrue (is_i64 y) → IsTrue (is_i64 z) → twos_complement y ≡ twos_complement z → y ≡ z
 same_int (pos m) (pos n) fm fn e = ap pos e

@@ -61,17 +61,6 @@ length-set_same [] r v = refl
 length-set_same (x ∷ xs) zero v = refl
 length-set_same (x ∷ xs) (suc r) v = ap suc (length-set_same xs r v)
 
-pub table_put : (vs : List Value) (n : ℕ) (m : ℕ → Value) (r : ℕ) (v : Value) → ListsValues vs n m → ListsValues (set vs r v) n (put m r v)
-table_put vs n m r v t = record { size = length-set_same vs r v ∙ t.size; each = λ j lt. set_at vs r v j (m j) (t.each j lt) }
-
--- and past its end nothing changes
-pub table_past : (vs : List Value) (n : ℕ) (m : ℕ → Value) (r : ℕ) (v : Value) → length vs ≤ r → ListsValues vs n m → ListsValues vs n (put m r v)
-table_past vs n m r v past t = record { size = t.size; each = λ j lt. by_test j lt (j == r) refl }
-  where
-    by_test : (j : ℕ) → j < n → (b : Bool) → (j == r) ≡ b → slice_get vs j ≡ Some (if b then v else m j)
-    by_test j lt true e = absurd (grind (e, lt, past, t.size, arith, nat_tests))
-    by_test j lt false e = t.each j lt
-
 pub write_more : (ws : List (ℕ × Value)) (m : ℕ → Value) (w : ℕ × Value) → write_all (ws ++ w ∷ []) m ≡ put (write_all ws m) w.0 w.1
 write_more [] m w = refl
 write_more (x ∷ ws) m w = write_more ws (put m x.0 x.1) w

@@ -93,13 +93,3 @@ one_of false s' h h' e f = omega (arith, none s' h' (sym e))
 -- the fork's end is the same from both sides
 fork_swap : (p : PlanValue) (a b x : ℕ) → fork_starts_at p b a x ≡ fork_starts_at p a b x
 fork_swap p a b x = ap (λ o. option_map_or (λ e. e == x) (option_map fork_end o) false) (find_same (joins b a) (joins a b) (joins_swap b a) p.pairs)
-
--- at the start each shared thing is at one end
-pub starts_once : (p : PlanValue) (a b : ℕ) (t : Thing) → (a ≡ b → ⊥) →
-    num (is_shared p a b t && starts_here p a b t) + num (is_shared p b a t && starts_here p b a t) ≡ num (is_shared p a b t)
-starts_once p a b Fork ne = one_of _ _ _ _ (shared_both p a b Fork)
-    (λ near. subst (λ y. ((fork_starts_at p a b a ≡ true) × (y ≡ false)) ⊎ ((fork_starts_at p a b a ≡ false) × (y ≡ true))) (sym (fork_swap p a b b)) (fork_starts p.pairs a b ne near))
-starts_once p a b ForkToken ne = one_of _ _ _ _ (shared_both p a b ForkToken)
-    (λ near. subst (λ y. ((not (fork_starts_at p a b a) ≡ true) × (not y ≡ false)) ⊎ ((not (fork_starts_at p a b a) ≡ false) × (not y ≡ true))) (sym (fork_swap p a b b)) (one_not _ _ (fork_starts p.pairs a b ne near)))
-starts_once p a b (Bottle r) ne = one_of _ _ _ _ (shared_both p a b (Bottle r)) (λ e. bottle_starts p r a b ne e)
-starts_once p a b (BottleToken r) ne = one_of _ _ _ _ (shared_both p a b (BottleToken r)) (λ e. one_not _ _ (bottle_starts p r a b ne e))

@@ -1,0 +1,4 @@
+use Rattle.frame_codec.proofs.frame.Frame.number.Goals as goal
+
+pub returns-clause-value : goal.returns-clause-value
+returns-clause-value c = cc

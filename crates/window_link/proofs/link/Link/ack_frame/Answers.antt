@@ -1,0 +1,5 @@
+use Rattle.std.proofs.Common.{rules}
+use Rattle.window_link.proofs.link.Link.ack_frame.Goals as goal
+
+pub returns : goal.returns
+returns c = search rules
