@@ -66,14 +66,16 @@ module _ {S K E : Type 0} (tag_of : E → ℕ) (key : S → K) (entries : S → 
       (λ i. ((ap (λ (q : Pass). q.tag) v_is ∙ ap (λ (v : SeatView K E). (the_part v).tag) view) i, (ap (λ (q : Pass). q.seen) v_is ∙ ap (λ (v : SeatView K E). (the_part v).seen) view) i, entries (sym same i)))
       adds)
 
-  pub closed : (id tag : ℕ) (name : TableId) (me : Seat) (p : Pass) (ws : List ℕ) (xs : List (Option S)) (word : ℕ) (state : Option S) (j : K) → HasOnePass tag_of tag me → pass_view name me ≡ p → p.key ≡ Some j
-      → Final (Seen (LockRule tag_of key entries fits k passes) id me.0) ws xs → get_elem? ws 0 ≡ some word → word ≡ 0 → get_elem? xs 0 ≡ some state
-      → (x : S) × (state ≡ Some x) × fits x × (key x ≡ j) × IsPrefix p.seen (entries x) × (tagged tag_of p.tag (entries x) ≡ p.mine)
-  closed id tag name me p ws xs word state j has is own_key end word_is free state_is =
+  pub closed : (id tag : ℕ) (name : TableId) (me : Seat) (p : Pass) (ws : List ℕ) (xs : List (Option S)) (word : ℕ) (state : Option S) (x given : S) (j : K) → HasOnePass tag_of tag me → pass_view name me ≡ p → p.key ≡ Some j
+      → Final (Seen (LockRule tag_of key entries fits k passes) id me.0) ws xs → get_elem? ws 0 ≡ some word → word ≡ 0 → get_elem? xs 0 ≡ some state → state ≡ Some x → given ≡ x
+      → fits given × (key given ≡ j) × IsPrefix p.seen (entries given) × (tagged tag_of p.tag (entries given) ≡ p.mine)
+  closed id tag name me p ws xs word state x given j has is own_key end word_is free state_is some_is given_is =
       let last = closes tag_of key entries fits k passes id me.0 ws xs has.one end (get_or-of_get_elem ws 0 word 0 word_is ∙ free) in
-      let keys : Some (key last.0) ≡ Some j = sym last.3 ∙ (ap (λ (q : Pass). q.key) is ∙ own_key) in (
-        last.0,
-        some-injective _ _ (sym state_is ∙ last.1),
+      let keys : Some (key last.0) ≡ Some j = sym last.3 ∙ (ap (λ (q : Pass). q.key) is ∙ own_key) in
+      let found : state ≡ Some last.0 = some-injective _ _ (sym state_is ∙ last.1) in
+      let x_is : Some x ≡ Some last.0 = sym some_is ∙ found in
+      let same : x ≡ last.0 = cc x_is in
+      rw (given_is ∙ same) (
         last.2,
         cc keys,
         subst (λ l. IsPrefix l (entries last.0)) (ap (λ (q : Pass). q.seen) is) last.4,

@@ -3,41 +3,42 @@
 ghost use Rattle.std.specs.Prelude.{◌≡◌};
 ghost use Rattle.std.specs.Borrow.{Lends, sem};
 
+use crate::boxed::Boxed;
 use std::marker::Model;
 
 /// The state of a lock, owned by whoever took it. It can't be dropped: it is given back, by the pass
 /// that took it.
 pub struct Held<S> {
-    state: S,
+    boxed: Boxed<S>,
 }
 
 impl<S> Model for Held<S> {
     ghost Value = { S };
 
-    ghost view = { λ h. h.state };
+    ghost view = { λ h. h.boxed };
 }
 
 impl<S> Held<S> {
     ghost use Rattle.own_lock.specs.contracts.held.Held.{the_row};
 
-    pub(crate) fn new(state: S) -> Held<S>
-        ensures { result ≡ state }
+    pub(crate) fn new(boxed: Boxed<S>) -> Held<S>
+        ensures { result ≡ boxed }
     {
-        Held { state }
+        Held { boxed }
     }
 
-    pub(crate) fn into_state(self) -> S
+    pub(crate) fn into_boxed(self) -> Boxed<S>
         ensures { result ≡ self }
     {
-        let Held { state } = self;
-        state
+        let Held { boxed } = self;
+        boxed
     }
 
     /// The state, to look at.
     pub fn get(&self) -> &S
         ensures { result.now ≡ self.now }
     {
-        &self.state
+        &self.boxed.at
     }
 
     /// The state, to change.
@@ -46,6 +47,6 @@ impl<S> Held<S> {
         ensures* writes_back { sem 𝓛 (Lends (the_row S.row) S.row self.entry result (λ state. state)) }
         ensures value { result.now ≡ self.old }
     {
-        &mut self.state
+        &mut self.boxed.at
     }
 }

@@ -16,6 +16,7 @@
 //! gets the state first. It stands on `atomic_table`, with no `unsafe`.
 #![tactic(auto)]
 
+mod boxed;
 mod held;
 mod kept;
 pub mod laws;

@@ -5,6 +5,7 @@ ghost use mathlib.Core.List.{IsPrefix};
 ghost use Rattle.own_lock.specs.Entries.{tagged, AddsOnly};
 ghost use Rattle.own_lock.specs.Passes.{IsOf, AreFresh, AreIdle, pass_after_take, pass_after_give, RuleHolds};
 
+use crate::boxed::Boxed;
 use crate::held::Held;
 use crate::kept::Kept;
 use crate::pass::Pass;
@@ -26,7 +27,7 @@ const TAKEN: u64 = 1;
 /// A lock round a state. Contracts see which lock it is, and the state's key.
 #[derive(Drop)]
 pub struct OwnLock<S: Kept> {
-    table: Table<Option<S>, SeatView<S::Key, S::Entry>, Opening<S>, History<S>, Global>,
+    table: Table<Option<Boxed<S>>, SeatView<S::Key, S::Entry>, Opening<S>, History<S>, Global>,
 }
 
 impl<S: Kept> Model for OwnLock<S> {
@@ -66,8 +67,9 @@ impl<S: Kept> OwnLock<S> {
             state: Snapshot::of(&state),
             passes,
         };
+        let boxed = Boxed::new(alloc, state)?;
         let mut slots = Vec::new(alloc);
-        slots.push(Some(state))?;
+        slots.push(Some(boxed))?;
         let Ok((table, mut seat)) = Table::new(alloc, &[FREE], slots, &opening) else {
             return Err(AllocError);
         };
@@ -126,17 +128,17 @@ impl<S: Kept> OwnLock<S> {
     }
 
     // The state, out of the slot that the seat has taken.
-    fn lift(&self, seat: &mut Seat<Option<S>, SeatView<S::Key, S::Entry>>) -> Held<S>
+    fn lift(&self, seat: &mut Seat<Option<Boxed<S>>, SeatView<S::Key, S::Entry>>) -> Held<S>
         requires of { seat.old.table_id ≡ self.now.name }
         requires full { (x : S) × (seat.old.me.1 ≡ (0, Some x) ∷ []) }
         ensures same { (seat.new.table_id ≡ seat.old.table_id) × (seat.new.id ≡ seat.old.id) }
         ensures lifted { seat.old.me.1 ≡ (0, Some result) ∷ [] }
         ensures empty { seat.new.me ≡ (seat.old.me.0, (0, None) ∷ []) }
     {
-        let Some(state) = self.table.shared.exchange(seat, 0, None) else {
+        let Some(boxed) = self.table.shared.exchange(seat, 0, None) else {
             unreachable!()
         };
-        Held::new(state)
+        Held::new(boxed)
     }
 
     /// Puts the state back. The entries that were added to it are the pass's own.
@@ -149,8 +151,8 @@ impl<S: Kept> OwnLock<S> {
         ensures given { pass.new ≡ pass_after_give S.tag_of pass.old (S.entries held) }
         ensures mine { (added : List S.Entry) → pass.old.seen ++ added ≡ S.entries held → pass.new.mine ≡ pass.old.mine ++ added }
     {
-        let state = held.into_state();
-        let empty = self.table.shared.exchange(&mut pass.seat, 0, Some(state));
+        let boxed = held.into_boxed();
+        let empty = self.table.shared.exchange(&mut pass.seat, 0, Some(boxed));
         drop(empty);
         self.table
             .shared
@@ -199,6 +201,9 @@ impl<S: Kept> OwnLock<S> {
         let word = closed.word(0);
         let state = closed.take(0);
         closed.free();
-        if word == FREE { state } else { None }
+        match state {
+            Some(boxed) if word == FREE => Some(boxed.into_state()),
+            _ => None,
+        }
     }
 }

@@ -3,6 +3,7 @@
 ghost use Rattle.std.specs.Prelude.{◌≡◌, ◌<◌};
 ghost use Rattle.own_lock.specs.Entries.{tagged};
 
+use crate::boxed::Boxed;
 use crate::kept::Kept;
 use crate::seat_view::SeatView;
 use atomic_table::Seat;
@@ -13,7 +14,7 @@ use std::marker::Model;
 #[derive(Drop)]
 pub struct Pass<S: Kept> {
     pub(crate) tag: u8,
-    pub(crate) seat: Seat<Option<S>, SeatView<S::Key, S::Entry>>,
+    pub(crate) seat: Seat<Option<Boxed<S>>, SeatView<S::Key, S::Entry>>,
 }
 
 impl<S: Kept> Model for Pass<S> {

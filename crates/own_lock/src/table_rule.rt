@@ -4,6 +4,7 @@ ghost use Rattle.own_lock.specs.Rule.{LockRule};
 ghost use Rattle.own_lock.specs.Steps.{opening_view, without_first, first_alone, joined_view, spent_view};
 ghost use Rattle.own_lock.specs.refinement.Plays.{Tried, GaveBack, Told, Looked};
 
+use crate::boxed::Boxed;
 use crate::kept::Kept;
 use crate::seat_view::{Opening, SeatView};
 use atomic_table::{Join, Play, Split, TableRule};
@@ -14,7 +15,7 @@ pub struct History<S> {
     state: PhantomData<S>,
 }
 
-impl<S: Kept> TableRule<Option<S>, SeatView<S::Key, S::Entry>, Opening<S>> for History<S> {
+impl<S: Kept> TableRule<Option<Boxed<S>>, SeatView<S::Key, S::Entry>, Opening<S>> for History<S> {
     ghost holds = { λ o. LockRule S.tag_of S.key S.entries S.fits (S.key o.state.value) o.passes };
 
     ghost first = { λ o. opening_view S.tag_of (S.key o.state.value) (S.entries o.state.value) o.passes };
@@ -43,7 +44,7 @@ pub(crate) struct Try<S> {
     state: PhantomData<S>,
 }
 
-impl<S: Kept> Play<Option<S>, SeatView<S::Key, S::Entry>> for Try<S> {
+impl<S: Kept> Play<Option<Boxed<S>>, SeatView<S::Key, S::Entry>> for Try<S> {
     ghost then = { Tried S.tag_of S.key S.entries S.fits };
 }
 
@@ -52,7 +53,7 @@ pub(crate) struct GiveBack<S> {
     state: PhantomData<S>,
 }
 
-impl<S: Kept> Play<Option<S>, SeatView<S::Key, S::Entry>> for GiveBack<S> {
+impl<S: Kept> Play<Option<Boxed<S>>, SeatView<S::Key, S::Entry>> for GiveBack<S> {
     ghost then = { GaveBack S.tag_of S.entries };
 }
 
@@ -61,7 +62,7 @@ pub(crate) struct Tell<S> {
     state: PhantomData<S>,
 }
 
-impl<S: Kept> Play<Option<S>, SeatView<S::Key, S::Entry>> for Tell<S> {
+impl<S: Kept> Play<Option<Boxed<S>>, SeatView<S::Key, S::Entry>> for Tell<S> {
     ghost then = { Told S.tag_of };
 }
 
@@ -70,6 +71,6 @@ pub(crate) struct Look<S> {
     state: PhantomData<S>,
 }
 
-impl<S: Kept> Play<Option<S>, SeatView<S::Key, S::Entry>> for Look<S> {
+impl<S: Kept> Play<Option<Boxed<S>>, SeatView<S::Key, S::Entry>> for Look<S> {
     ghost then = { Looked S.tag_of S.key S.entries S.fits };
 }

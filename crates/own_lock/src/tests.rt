@@ -221,7 +221,7 @@ fn find_taken<R: Abort>(rt: &R, lock: OwnLock<Log>, mut a: Pass<Log>, mut b: Pas
         panic!(rt; "it was given back");
     };
     assert!(rt; lock.close(b).is_none());
-    assert_eq!(rt; held.into_state().count, 0);
+    assert_eq!(rt; held.into_boxed().into_state().count, 0);
 }
 
 #[test]

@@ -7,10 +7,10 @@ swap-requires g c = (
   search rules,
   search rules,
   rw c.self.invariant.1 (may_give _ _ _ _ _ _ _ _ _ _ _ _ _ _ _ c.pass.invariant c.pass.view_is c.requires.holds c.requires.of.1
-      c.exchange-empty.ensures.3 c.into_state-state.ensures c.requires.fits c.requires.key c.requires.adds),
+      c.exchange-empty.ensures.3 c.into_boxed-boxed.ensures c.requires.fits c.requires.key c.requires.adds),
 )
 
 pub returns-clause-mine : goal.returns-clause-mine
 returns-clause-mine g c added is =
     given_mine _ _ _ _ _ _ _ _ _ _ c.pass.invariant c.pass.view_is c.requires.holds
-    c.exchange-empty.ensures.3 c.into_state-state.ensures c.requires.adds c.swap.ensures.2 added is
+    c.exchange-empty.ensures.3 c.into_boxed-boxed.ensures c.requires.adds c.swap.ensures.2 added is

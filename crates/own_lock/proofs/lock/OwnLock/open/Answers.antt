@@ -4,11 +4,12 @@ use Rattle.own_lock.proofs.StepsKeepRule.{opens, deals}
 use Rattle.own_lock.proofs.Dealing.{dealing, AreFresh-snoc, AreIdle-of_fresh, parts-dealing, without_first-dealing, HasOnePass-first, HasOnePass-last, pass_view-first, pass_view-last}
 use Rattle.own_lock.proofs.lock.OwnLock.open.Goals as goal
 
-pub new-requires : goal.new-requires
-new-requires g c =
+pub new-requires-2 : goal.new-requires-2
+new-requires-2 g c =
     let x = c.of.result.value in
     let same : c.args.state ≡ x = sym c.of.ensures in
-    let items : c.push.new.self.items ≡ Some x ∷ [] = c.in_ok-push.ensures.items ∙ (ap (λ l. l ++ Some c.args.state ∷ []) c.new-slots.ensures.items ∙ ap (λ y. Some y ∷ []) same) in
+    let boxed : c.in_ok-boxed.boxed ≡ x = c.in_ok-boxed.ensures ∙ same in
+    let items : c.push.new.self.items ≡ Some x ∷ [] = c.in_ok-push.ensures.items ∙ (ap (λ l. l ++ Some c.in_ok-boxed.boxed ∷ []) c.new-slots.ensures.items ∙ ap (λ y. Some y ∷ []) boxed) in
     rw items (opens g.S.Kept.tag_of g.S.Kept.key g.S.Kept.entries g.S.Kept.fits (g.S.Kept.key x) c.args.passes x (subst g.S.Kept.fits same c.requires.fits) refl)
 
 pub split_seat-next-requires : goal.split_seat-next-requires
