@@ -20,9 +20,11 @@ mod machine;
 mod phase;
 mod progress;
 mod records;
+mod register;
 mod state;
 #[cfg(test)]
 mod tests;
+mod way;
 mod work;
 
 pub use crate::code::Code;

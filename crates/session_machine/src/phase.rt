@@ -13,7 +13,7 @@ use std::mem;
 /// work on it.
 #[derive(Drop)]
 pub enum Phase {
-    AtWork(RecordValues, State),
+    AtWork(RecordValues, Box<State>),
     Over(Ending),
     Moved,
 }
@@ -28,18 +28,9 @@ impl Phase {
     pub fn advance(&mut self, code: &Code, n: u32) -> Option<End>
         ensures { work_with result self.new ≡ piece code.now n (work_in self.old) }
     {
-        match mem::replace(self, Phase::Moved) {
-            Phase::AtWork(reads, mut state) => {
-                let end = tick_all(&mut state, code.lines(), n);
-                match mem::replace(self, Phase::AtWork(reads, state)) {
-                    Phase::Moved => end,
-                    _ => unreachable!(),
-                }
-            }
-            other => {
-                *self = other;
-                None
-            }
+        match self {
+            Phase::AtWork(_, state) => tick_all(state, code.lines(), n),
+            _ => None,
         }
     }
 
@@ -49,7 +40,8 @@ impl Phase {
     {
         *self = match mem::replace(self, Phase::Moved) {
             Phase::AtWork(reads, state) => {
-                Phase::Over(ended(alloc, end, reads, state.environment))
+                let State { environment, .. } = Box::into_inner(state);
+                Phase::Over(ended(alloc, end, reads, environment))
             }
             other => other,
         };
