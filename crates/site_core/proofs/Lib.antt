@@ -8,3 +8,5 @@ pub mod SessionsAreOurs
 pub mod OfficeLimits
 pub mod OfficeSteps
 pub mod FirstRule
+pub mod SessionsInOrder
+pub mod OfficeCrosses

@@ -6,4 +6,5 @@ pub mod Offices
 pub mod Journals
 pub mod RuleOrder
 pub mod Readers
+pub mod Tickets
 pub mod refinement

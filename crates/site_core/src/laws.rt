@@ -1,8 +1,21 @@
 //! Laws of journals.
 
+ghost use denote.Param.Send.{IsSend};
+ghost use Rattle.site_core.specs.contracts.office.Office as office;
 ghost use Rattle.site_core.specs.Journals.{StepsAddTheirEntry};
+ghost use Rattle.site_core.specs.Tickets.{SessionsGoInOrder};
 
 /// An accepted event adds its one entry, with its reply, and a refused one adds nothing.
 pub fn steps_add_their_entry()
     ensures { StepsAddTheirEntry }
+{}
+
+/// An office takes its sessions one after another as they were submitted, so they finish in the order of their tickets.
+pub fn sessions_go_in_order()
+    ensures { SessionsGoInOrder }
+{}
+
+/// An office may be handed from thread to thread.
+pub fn an_office_crosses_threads()
+    ensures { IsSend office.the_row }
 {}

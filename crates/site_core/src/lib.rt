@@ -33,8 +33,6 @@ mod reply;
 mod rule;
 mod rules;
 mod session;
-#[cfg(test)]
-mod tests;
 mod waiting;
 
 pub use crate::event::{Entry, Event};

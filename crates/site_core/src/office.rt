@@ -1,6 +1,7 @@
 //! An office.
 
 ghost use Rattle.std.specs.Prelude.{◌≡◌, ◌<◌, ◌≤◌, Some, None, true, false, [], length, IfOk, OnErr, if◌then◌else◌};
+ghost use Rattle.std.specs.Option.{option_copied};
 ghost use Rattle.frame_codec.specs.Frame.{Fields};
 ghost use Rattle.site_core.specs.declared.event.Event.TheVariants as events;
 ghost use Rattle.office_map.specs.PlanValue.{are_neighbours, is_end, peer};
@@ -9,13 +10,13 @@ ghost use Rattle.token_channel.specs.Things.{count_carrying};
 ghost use Rattle.site_core.specs.Limits.{most_entries};
 ghost use Rattle.site_core.specs.Offices.{may};
 ghost use Rattle.site_core.specs.RuleOrder.{next_rule};
-ghost use Rattle.site_core.specs.Readers.{waiting_on, TellsBottle};
+ghost use Rattle.site_core.specs.Readers.{outcome_with, waiting_on, TellsBottle};
 ghost use Rattle.site_core.specs.Journals.{office_of, noted, IsLegal, Steps, Receives};
 
 use crate::agenda::Agenda;
 use crate::event::{Entry, Event};
 use crate::journal::Journal;
-use crate::laws::steps_add_their_entry;
+use crate::laws::{sessions_go_in_order, steps_add_their_entry};
 use crate::pairs::Pairs;
 use crate::reply::{Refusal, Reply};
 use crate::rule::Rule;
@@ -217,6 +218,18 @@ impl Office {
         ensures { result.now ≡ (office_of self.now).agenda.outcomes }
     {
         self.agenda.outcomes()
+    }
+
+    /// How the session with that ticket ended; none where it hasn't finished.
+    pub fn outcome(&self, ticket: u32) -> Option<&Outcome>
+        ensures { option_copied result ≡ outcome_with (office_of self.now).agenda.outcomes ticket }
+    {
+        sessions_go_in_order();
+        if ticket == 0 {
+            return None;
+        }
+        // Sessions finish in the order of their tickets, which begin with 1.
+        self.outcomes().get(ticket as usize - 1)
     }
 
     /// How many sessions were submitted.

@@ -1,11 +1,7 @@
-use crate::event::Event;
-use crate::limits::{MAX_ENTRIES, MAX_UNFINISHED};
-use crate::office::Office;
-use crate::reply::{Refusal, Reply};
-use crate::rule::Rule;
 use frame_codec::{Frame, FrameFault, MAX_LENGTH, Msg, encode};
 use office_map::{OfficeId, Plan, RecordId};
 use session_language::{Outcome, Program, read_sessions};
+use site_core::{Event, MAX_ENTRIES, MAX_UNFINISHED, Office, Refusal, Reply, Rule};
 use std::alloc::{AllocError, Global};
 use std::fmt::Write;
 use std::process::Abort;

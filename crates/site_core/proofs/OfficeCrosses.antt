@@ -1,0 +1,69 @@
+-- An office may be handed from thread to thread, since each of its parts may.
+use denote.Param.Send.{IsSend, sendable}
+use Rattle.std.proofs.Crossing.{crosses}
+use Rattle.office_map.proofs.ids.OfficeId.TheSendSync as office_id
+use Rattle.office_map.proofs.ids.RecordId.TheSendSync as record_id
+use Rattle.frame_codec.proofs.frame.Frame.TheSendSync as frame
+use Rattle.office_map.proofs.plan.Plan.TheSendSync as plan
+use Rattle.token_channel.proofs.channel.Channel.TheSendSync as channel
+use Rattle.dining_core.proofs.table.Table.TheSendSync as table
+use Rattle.drinking_core.proofs.bar.Bar.TheSendSync as bar
+use Rattle.session_meaning.proofs.ending.Outcome.TheSendSync as outcome
+use Rattle.session_meaning.proofs.expression.Expression.TheSendSync as expression
+use Rattle.session_meaning.proofs.tree.Condition.TheSendSync as condition
+use Rattle.session_meaning.proofs.tree.Statement.TheLaws.TheKnot.{send-Statement}
+use Rattle.session_meaning.specs.contracts.tree.Statement as Statement
+use Rattle.session_language.specs.contracts.program.Program as Program
+use Rattle.session_machine.proofs.code.Code.TheSendSync as code
+use Rattle.session_machine.proofs.work.Work.TheSendSync as work
+use Rattle.site_core.specs.contracts.session.Session as Session
+use Rattle.site_core.specs.contracts.agenda.Phase as Phase
+use Rattle.site_core.specs.contracts.agenda.Agenda as Agenda
+use Rattle.site_core.specs.contracts.event.Event as Event
+use Rattle.site_core.specs.contracts.event.Entry as Entry
+use Rattle.site_core.specs.contracts.journal.Journal as Journal
+use Rattle.site_core.specs.contracts.office.Office as Office
+use Rattle.site_core.specs.contracts.channels.Channels as Channels
+use Rattle.site_core.specs.contracts.pairs.Pairs as Pairs
+use Rattle.site_core.specs.contracts.reply.Reply as Reply
+use Rattle.site_core.specs.contracts.rule.Rule as Rule
+
+statement_send : IsSend Statement.the_row
+statement_send = search (send-Statement, condition.the_send, expression.the_send, record_id.the_send, sendable, crosses) depth 40
+
+program_send : IsSend Program.the_row
+program_send = search (statement_send, office_id.the_send, record_id.the_send, sendable, crosses) depth 40
+
+-- a struct or an enum is sent as it is, and as the field of another
+session_send : IsSend (Session.the_field).row
+session_send = search (program_send, sendable, crosses) depth 40
+
+phase_send : IsSend (Phase.the_field).row
+phase_send = search (session_send, code.the_send, work.the_send, sendable, crosses) depth 40
+
+agenda_send : IsSend Agenda.the_row
+agenda_send = search (session_send, phase_send, outcome.the_field_send, sendable, crosses) depth 40
+
+rule_send : IsSend (Rule.the_field).row
+rule_send = search (office_id.the_send, record_id.the_send, sendable, crosses) depth 40
+
+reply_send : IsSend (Reply.the_field).row
+reply_send = search (frame.the_send, sendable, crosses) depth 40
+
+event_send : IsSend (Event.the_field).row
+event_send = search (program_send, rule_send, frame.the_send, office_id.the_send, sendable, crosses) depth 40
+
+entry_send : IsSend (Entry.the_field).row
+entry_send = search (event_send, reply_send, sendable, crosses) depth 40
+
+journal_send : IsSend Journal.the_row
+journal_send = search (entry_send, sendable, crosses) depth 40
+
+channels_send : IsSend Channels.the_row
+channels_send = search (channel.the_send, sendable, crosses) depth 40
+
+pairs_send : IsSend Pairs.the_row
+pairs_send = search (plan.the_send, office_id.the_send, table.the_send, bar.the_send, channels_send, sendable, crosses) depth 40
+
+pub office_send : IsSend Office.the_row
+office_send = search (pairs_send, agenda_send, journal_send, sendable, crosses) depth 40
