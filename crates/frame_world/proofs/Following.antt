@@ -4,7 +4,7 @@ use Rattle.std.specs.Prelude.{nat_lt, slice_get, ◌==◌}
 use mathlib.Core.Path.{fun_ext}
 use Rattle.bottle_values.specs.Maps.{put}
 use Rattle.frame_codec.specs.Frame.{Fields}
-use Rattle.office_map.specs.PlanValue.{PlanValue}
+use Rattle.office_map.specs.PlanValue.{PlanValue, are_neighbours}
 use Rattle.window_link.specs.declared.arrival.Arrival.{Arrival}
 use Rattle.window_link.specs.declared.arrival.Arrival.TheVariants as arrival
 use Rattle.dining_core.specs.Worlds as tables
@@ -16,7 +16,7 @@ use Rattle.site_core.specs.declared.event.Event.TheVariants as event
 use Rattle.site_core.specs.declared.reply.Reply.{Reply}
 use Rattle.site_core.specs.Replies.{reply_to}
 use Rattle.site_core.specs.Pairs.{Pairs, fork_sends, bottle_sends, arrival_of}
-use Rattle.site_core.specs.Offices.{Office, answer}
+use Rattle.site_core.specs.Offices.{Office, answer, frame_on}
 use Rattle.frame_world.specs.declared.event.WorldEvent.{WorldEvent}
 use Rattle.frame_world.specs.Worlds.{opening, run_of, frames_of}
 use Rattle.frame_world.specs.Ways.{tables_of, bars_of}
@@ -147,24 +147,36 @@ no_frame arrival.Early = refl
 none_new : (P : Fields → Type 0) (r : Reply) → frames_of r ≡ [] → (j : ℕ) (f : Fields) → slice_get (frames_of r) j ≡ Some f → P f
 none_new P r e j f is = let none : slice_get (frames_of r) j ≡ None = ap (λ (l : List Fields). slice_get l j) e in absurd cc
 
--- a frame that a reply tells is honest
-new_honest : (plan : PlanValue) (s s' : State) (i : IsAccepted plan s s') → AreLinked (pairs_in s) → (j : ℕ) (f : Fields) → slice_get (frames_of i.reply) j ≡ Some f → IsHonest (pairs_in s) f
-new_honest plan s s' i l j f is = by i.event i.answered
+-- a frame that was just made: where, and for which neighbour
+pub record IsNew (plan : PlanValue) (pairs : ℕ → Pairs) (f : Fields) : Type 0 where
+  pub sender : ℕ
+  pub receiver : ℕ
+  pub place : ℕ
+  pub near : are_neighbours plan sender receiver ≡ true
+  pub made : frame_on ((pairs sender).link receiver) place ≡ Some f
+
+-- a frame that a reply tells was just made
+pub new_frame : (plan : PlanValue) (s s' : State) (i : IsAccepted plan s s') → (j : ℕ) (f : Fields) → slice_get (frames_of i.reply) j ≡ Some f → IsNew plan (pairs_in s) f
+new_frame plan s s' i j f is = by i.event i.answered
   where
     a : ℕ
     a = i.place
 
-    by : (e : office.Event) → answer plan i.place (s.office i.place) e ≡ Ok (i.reply, i.new) → IsHonest (pairs_in s) f
-    by (event.Submit p) ans = none_new (IsHonest (pairs_in s)) i.reply (ap frames_of (was_submitted plan a (s.office a) p i.reply i.new ans).told) j f is
-    by (event.Do rule) ans = none_new (IsHonest (pairs_in s)) i.reply (ap frames_of (was_done plan a (s.office a) rule i.reply i.new ans).told) j f is
-    by (event.Took g) ans = none_new (IsHonest (pairs_in s)) i.reply (ap frames_of (was_taken plan a (s.office a) g i.reply i.new ans).told ∙ no_frame (arrival_of (s.office a).pairs g)) j f is
+    by : (e : office.Event) → answer plan i.place (s.office i.place) e ≡ Ok (i.reply, i.new) → IsNew plan (pairs_in s) f
+    by (event.Submit p) ans = none_new (IsNew plan (pairs_in s)) i.reply (ap frames_of (was_submitted plan a (s.office a) p i.reply i.new ans).told) j f is
+    by (event.Do rule) ans = none_new (IsNew plan (pairs_in s)) i.reply (ap frames_of (was_done plan a (s.office a) rule i.reply i.new ans).told) j f is
+    by (event.Took g) ans = none_new (IsNew plan (pairs_in s)) i.reply (ap frames_of (was_taken plan a (s.office a) g i.reply i.new ans).told ∙ no_frame (arrival_of (s.office a).pairs g)) j f is
     by (event.Send v n) ans =
         let t = was_sent plan a (s.office a) v n i.reply i.new ans in
-        first t.frame j (ap (λ (l : List Fields). slice_get l j) (ap frames_of (sym t.told)) ∙ is) (made_honest (pairs_in s) a v n t.frame l t.made)
+        first t.frame j (ap (λ (l : List Fields). slice_get l j) (ap frames_of (sym t.told)) ∙ is) (record { sender = a; receiver = v; place = n; near = t.near; made = t.made })
       where
-        first : (g : Fields) (j : ℕ) → slice_get (g ∷ []) j ≡ Some f → IsHonest (pairs_in s) g → IsHonest (pairs_in s) f
-        first g zero e h = let same : g ≡ f = cc in subst (IsHonest (pairs_in s)) same h
+        first : (g : Fields) (j : ℕ) → slice_get (g ∷ []) j ≡ Some f → IsNew plan (pairs_in s) g → IsNew plan (pairs_in s) f
+        first g zero e h = let same : g ≡ f = cc in subst (IsNew plan (pairs_in s)) same h
         first g (suc j) e h = absurd cc
+
+-- each frame was there before, or was just made
+pub old_or_new : (plan : PlanValue) (s s' : State) (i : IsAccepted plan s s') → (k : ℕ) (f : Fields) → slice_get s'.frames k ≡ Some f → (slice_get s.frames k ≡ Some f) ⊎ IsNew plan (pairs_in s) f
+old_or_new plan s s' i k f e = ⊎_elim inl (λ x. inr (new_frame plan s s' i x.0 f x.1)) (one_of s.frames (frames_of i.reply) k f (ap (λ (l : List Fields). slice_get l k) (sym (ap (λ (x : State). x.frames) i.led)) ∙ e))
 
 pub follows_on : (plan : PlanValue) (s s' : State) → Follows plan s → IsAccepted plan s s' → Follows plan s'
 follows_on plan s s' h i =
@@ -172,7 +184,7 @@ follows_on plan s s' h i =
     let same = pairs_after plan s s' i in
     record {
       linked = subst AreLinked (sym same) m.linked;
-      honest = λ k f e. subst (λ p. IsHonest p f) (sym same) (m.honest f (⊎_elim (h.honest k f) (λ x. new_honest plan s s' i h.linked x.0 f x.1) (one_of s.frames (frames_of i.reply) k f (ap (λ (l : List Fields). slice_get l k) (sym (ap (λ (x : State). x.frames) i.led)) ∙ e))));
+      honest = λ k f e. subst (λ p. IsHonest p f) (sym same) (m.honest f (⊎_elim (h.honest k f) (λ n. made_honest (pairs_in s) n.sender n.receiver n.place f h.linked n.made) (old_or_new plan s s' i k f e)));
       tables = tables_go_on plan (tables_of (pairs_in s)) (tables_of (pairs_in s')) (fork_event i.place (pairs_in s i.place) (step_of (s.office i.place) i.event)) (ap tables_of same ∙ m.tables) h.tables;
       bars = bars_go_on plan (bars_of (pairs_in s)) (bars_of (pairs_in s')) (bottle_event i.place (pairs_in s i.place) (step_of (s.office i.place) i.event)) (ap bars_of same ∙ m.bars) h.bars;
     }

@@ -7,6 +7,7 @@ mod TablesFollow
 mod BarsFollow
 mod Following
 mod PlacesAndForks
+mod SentFrames
 mod Sessions
 mod SerialRun
 mod SerialSessions

@@ -100,7 +100,7 @@ quiet pairs a p' e h = record {
     same : (x y : ℕ) → (put pairs a p' x).link y ≡ (pairs x).link y
     same = links_kept pairs a p' e
 
-abbrev queued_link : LinkState → Msg → LinkState
+abbrev pub queued_link : LinkState → Msg → LinkState
 queued_link l m = record { run = l.run; me = l.me; peer = l.peer; sending = queued l.sending m; receiving = l.receiving }
 
 queues : (pairs : ℕ → Pairs) (a v : ℕ) (m : Msg) (p' : Pairs) → p'.link ≡ queued_to (pairs a).link v m → AreLinked pairs → Goes pairs a (Some (v, m)) (put pairs a p')
@@ -165,10 +165,10 @@ pub record Comes (pairs : ℕ → Pairs) (u a : ℕ) (m : Option Msg) (pairs' : 
   pub honest : (f : Fields) → IsHonest pairs f → IsHonest pairs' f
   pub ways : (x y : ℕ) → between pairs x y ≡ mail u (brings_to a m) x y ++ between pairs' x y
 
-abbrev sending_of : (ℕ → Pairs) → ℕ → ℕ → Sending
+abbrev pub sending_of : (ℕ → Pairs) → ℕ → ℕ → Sending
 sending_of pairs x y = ((pairs x).link y).sending
 
-abbrev taken_of : (ℕ → Pairs) → ℕ → ℕ → ℕ
+abbrev pub taken_of : (ℕ → Pairs) → ℕ → ℕ → ℕ
 taken_of pairs x y = ((pairs x).link y).receiving.taken
 
 -- where the link from a to u is acknowledged, and a has taken so many from u

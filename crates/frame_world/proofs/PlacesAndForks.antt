@@ -15,13 +15,13 @@ use Rattle.token_channel.specs.Ends.{is_shared}
 use Rattle.dining_core.specs.Diners.{is_eating}
 use Rattle.dining_core.specs.Worlds as tables
 use Rattle.drinking_core.specs.Worlds as bars
+use Rattle.site_core.specs.Pairs.{Pairs, held}
 use Rattle.site_core.proofs.PlanFacts.{among_neighbours}
-use Rattle.frame_world.specs.declared.event.WorldEvent.{WorldEvent}
 use Rattle.frame_world.specs.Worlds.{World, opening, run_of}
-use Rattle.frame_world.specs.Ways.{pairs_at, between, places, bottles_in, tables_of, bars_of}
+use Rattle.frame_world.specs.Ways.{pairs_at, between, bottles_in, tables_of, bars_of}
 use Rattle.frame_world.specs.Headline.{ThingsHaveOnePlace, NeighboursNeverEatAtOnce, WhoEatsHasItsForks, PrecedenceHasNoRing}
-use Rattle.frame_world.proofs.Steps.{seated}
-use Rattle.frame_world.proofs.Following.{follows}
+use Rattle.frame_world.proofs.Steps.{State, state_of, seated}
+use Rattle.frame_world.proofs.Following.{pairs_in, Follows, follows}
 
 -- as many bottles as messages that carry them
 counted : (r : ℕ) (ms : List Msg) → length (bottles_in r ms) ≡ count_carrying (thing.Bottle r) ms
@@ -42,23 +42,29 @@ all_at f (x ∷ xs) v h e =
     let parts : (f x ≡ true) × (list_all f xs ≡ true) = and_parts (f x) (list_all f xs) h in
     ⊎_elim (λ i. ap f (sym (eqb-true x v i)) ∙ parts.0) (λ i. all_at f xs v parts.1 i) (or_cases (x == v) (is_among xs v) e)
 
-tables_placed : tables.EachHasOnePlace → (plan : PlanValue) (es : List WorldEvent) → IsConsistent plan → tables.HasOnePlaceEach plan (tables_of (pairs_at (run_of (opening plan) es)))
-tables_placed law plan es c = let o = (follows plan es).tables in subst (tables.HasOnePlaceEach plan) (sym o.led) (law plan o.events c)
+-- how often a thing of two offices is there: held at either, or on the way
+abbrev pub places_of : (ℕ → Pairs) → ℕ → ℕ → Thing → ℕ
+places_of pairs a b t = num (held (pairs a) b t) + (num (held (pairs b) a t) + (count_carrying t (between pairs a b) + count_carrying t (between pairs b a)))
 
-bars_placed : bars.EachHasOnePlace → (plan : PlanValue) (es : List WorldEvent) → IsConsistent plan → bars.HasOnePlaceEach plan (bars_of (pairs_at (run_of (opening plan) es)))
-bars_placed law plan es c = let o = (follows plan es).bars in subst (bars.HasOnePlaceEach plan) (sym o.led) (law plan o.events c)
+pub each_is_placed : tables.EachHasOnePlace → bars.EachHasOnePlace → (plan : PlanValue) (s : State) → IsConsistent plan → Follows plan s → (a b : ℕ) (t : Thing) → places_of (pairs_in s) a b t ≡ num (is_shared plan a b t)
+each_is_placed forks bottles plan s c f a b t = of t
+  where
+    tables_placed : tables.HasOnePlaceEach plan (tables_of (pairs_in s))
+    tables_placed = subst (tables.HasOnePlaceEach plan) (sym f.tables.led) (forks plan f.tables.events c)
+
+    bars_placed : bars.HasOnePlaceEach plan (bars_of (pairs_in s))
+    bars_placed = subst (bars.HasOnePlaceEach plan) (sym f.bars.led) (bottles plan f.bars.events c)
+
+    of : (t : Thing) → places_of (pairs_in s) a b t ≡ num (is_shared plan a b t)
+    of thing.Fork = tables_placed.fork a b
+    of thing.ForkToken = tables_placed.token a b
+    of (thing.Bottle r) = omega (arith, bars_placed.bottle r a b, counted r (between (pairs_in s) a b), counted r (between (pairs_in s) b a))
+    of (thing.BottleToken r) = bars_placed.token r a b
 
 pub things_have_one_place : tables.EachHasOnePlace → bars.EachHasOnePlace → ThingsHaveOnePlace
-things_have_one_place forks bottles plan es c a b t = of t ∙ ap (λ (p : PlanValue). num (is_shared p a b t)) (sym (seated plan es).planned)
-  where
-    w : World
-    w = run_of (opening plan) es
-
-    of : (t : Thing) → places w a b t ≡ num (is_shared plan a b t)
-    of thing.Fork = (tables_placed forks plan es c).fork a b
-    of thing.ForkToken = (tables_placed forks plan es c).token a b
-    of (thing.Bottle r) = omega (arith, (bars_placed bottles plan es c).bottle r a b, counted r (between (pairs_at w) a b), counted r (between (pairs_at w) b a))
-    of (thing.BottleToken r) = (bars_placed bottles plan es c).token r a b
+things_have_one_place forks bottles plan es c a b t =
+    let w : World = run_of (opening plan) es in
+    each_is_placed forks bottles plan (state_of w) c (follows plan es) a b t ∙ ap (λ (p : PlanValue). num (is_shared p a b t)) (sym (seated plan es).planned)
 
 pub neighbours_eat_apart : tables.NeighboursEatApart → NeighboursNeverEatAtOnce
 neighbours_eat_apart law plan es c a b near =

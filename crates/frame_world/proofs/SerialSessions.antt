@@ -255,12 +255,12 @@ worked_tickets a n k (Gathering x) queue t h = h
 worked_tickets a n k (Working x reads done) queue t h = h
 
 -- an accepted Finish
-finishes_one : (plan : PlanValue) (s s' : State) (a : ℕ) (c : Current) (r : Reply) → PartsLaws → nat_lt a (length plan.offices) ≡ true → IsSerial plan s → (s.office a).agenda.current ≡ c → IsCurrent plan a c (pairs_in s a).drinker →
+finishes_one : (plan : PlanValue) (s s' : State) (a : ℕ) (c : Current) → PartsLaws → nat_lt a (length plan.offices) ≡ true → IsSerial plan s → (s.office a).agenda.current ≡ c → IsCurrent plan a c (pairs_in s a).drinker →
     bottles.may (pairs_in s a).drinker (bottles.Finish (writes_of c)) ≡ true → s'.office ≡ put s.office a (act a (s.office a) rule.Finish) → s'.finished ≡ s.finished ++ ended a c →
     bars_of (pairs_in s') ≡ bars.happens plan (bars_of (pairs_in s)) (bars.Do a (bottles.Finish (writes_of c))) → IsSerial plan s'
-finishes_one plan s s' a Idle r laws inside h current is may offices fin bar_is = absurd (not_true false (and_parts (is_drinking (pairs_in s a).drinker.phase) false may).1 refl)
-finishes_one plan s s' a (Gathering x) r laws inside h current is may offices fin bar_is = absurd (not_true false (and_parts (is_drinking (pairs_in s a).drinker.phase) false may).1 refl)
-finishes_one plan s s' a (Working x reads done) r laws inside h current is may offices fin bar_is = by (ending_after x.program reads done) refl may fin bar_is
+finishes_one plan s s' a Idle laws inside h current is may offices fin bar_is = absurd (not_true false (and_parts (is_drinking (pairs_in s a).drinker.phase) false may).1 refl)
+finishes_one plan s s' a (Gathering x) laws inside h current is may offices fin bar_is = absurd (not_true false (and_parts (is_drinking (pairs_in s a).drinker.phase) false may).1 refl)
+finishes_one plan s s' a (Working x reads done) laws inside h current is may offices fin bar_is = by (ending_after x.program reads done) refl may fin bar_is
   where
     writes : Option Ending → Option (List (ℕ × Value))
     writes o = option_map (λ (e : Ending). e.writes) o
@@ -312,7 +312,7 @@ serial_on plan s s' laws k i = by i.event i.answered i.led (ap bars_of (pairs_af
         of rule.Drink g after led b = quiet rule.Drink (Some (bars.Do i.place bottles.Drink)) after led refl (λ n h. begun_tickets i.place n (value_in (pairs_in s i.place).drinker) (s.office i.place).agenda.current (s.office i.place).agenda.queue (s.office i.place).agenda.tickets h) (λ p w. refl) b
         of (rule.Work n) g after led b = quiet (rule.Work n) None after led refl (λ m h. worked_tickets i.place m n (s.office i.place).agenda.current (s.office i.place).agenda.queue (s.office i.place).agenda.tickets h) tt b
         of rule.Finish g after led b =
-            finishes_one plan s s' i.place (s.office i.place).agenda.current i.reply laws i.inside k.serial refl (k.sane i.place).current g
+            finishes_one plan s s' i.place (s.office i.place).agenda.current laws i.inside k.serial refl (k.sane i.place).current g
             (ap (λ (x : State). x.office) led ∙ ap (put s.office i.place) after) (ap (λ (x : State). x.finished) led) b
 
 kept_on : (plan : PlanValue) → PartsLaws → (s s' : State) → IsKept plan s → IsAccepted plan s s' → IsKept plan s'

@@ -1,5 +1,5 @@
 -- What holds of every world that a list of events leads to, good events or refused.
-use Rattle.std.specs.Prelude.{◌≡◌, ◌<◌, ℕ, true, false, ◌&&◌, List, [], ◌∷◌, length, map}
+use Rattle.std.specs.Prelude.{◌≡◌, ◌<◌, ℕ, Bool, true, false, ◌&&◌, List, [], ◌∷◌, length, map, Err}
 use Rattle.std.specs.List.{list_all}
 use Rattle.bottle_values.specs.declared.Value.{Value}
 use Rattle.bottle_values.specs.Lists.{num}
@@ -16,10 +16,13 @@ use Rattle.dining_core.specs.Diners.{is_eating}
 use Rattle.dining_core.specs.Worlds.{HasNoRing}
 use Rattle.drinking_core.specs.Drinkers.{is_drinking, holds}
 use Rattle.site_core.specs.declared.session.Session.{Session}
+use Rattle.site_core.specs.declared.reply.Refusal.TheVariants as refused
 use Rattle.site_core.specs.Agenda.{Working, is_working}
 use Rattle.site_core.specs.Offices.{Office, value_in}
 use Rattle.frame_world.specs.declared.event.WorldEvent.{WorldEvent}
-use Rattle.frame_world.specs.Worlds.{World, Finished, opening, run_of, office_at}
+use Rattle.frame_world.specs.declared.refusal.Refusal.{Refusal}
+use Rattle.frame_world.specs.declared.refusal.Refusal.TheVariants as refusal
+use Rattle.frame_world.specs.Worlds.{World, Finished, opening, run_of, happens, office_at}
 use Rattle.frame_world.specs.Ways.{pairs_at, places, bottles_of, tables_of}
 
 -- the programs of the finished sessions, and what is told of them, in finishing order
@@ -60,6 +63,22 @@ pub record DrinkersHaveTheirBottles (w : World) : Type 0 where
   pub drinks : (a : ℕ) → is_drinking (pairs_at w a).drinker.phase ≡ is_working (office_at w a).agenda.current
   pub bottles : (a : ℕ) (s : Session) (reads : List (ℕ × Value)) (done : ℕ) → (office_at w a).agenda.current ≡ Working s reads done → HasItsBottles (office_at w a) s reads
 
+-- no frame can be read from what came, or the channel to its sender refuses it
+abbrev pub is_fault : Refusal → Bool
+is_fault (refusal.Office (refused.Frame fault)) = true
+is_fault (refusal.Office (refused.Channel fault)) = true
+is_fault (refusal.Office refused.NotOurs) = false
+is_fault (refusal.Office refused.QueueFull) = false
+is_fault (refusal.Office refused.NotNow) = false
+is_fault (refusal.Office refused.JournalFull) = false
+is_fault (refusal.Office refused.Memory) = false
+is_fault refusal.NoOffice = false
+is_fault refusal.NoFrame = false
+
+-- a frame that was sent isn't refused for what it says: whatever is refused, it is no frame's fault
+abbrev pub FramesAreTaken : World → Type 0
+FramesAreTaken w = (e : WorldEvent) (r : Refusal) → (happens w e).0 ≡ Err r → is_fault r ≡ false
+
 -- which events led to a world
 pub record IsReached (w : World) : Type 0 where
   pub events : List WorldEvent
@@ -87,3 +106,6 @@ WhoDrinksHasItsBottles = (plan : PlanValue) (events : List WorldEvent) → IsCon
 
 abbrev pub PrecedenceHasNoRing : Type 0
 PrecedenceHasNoRing = (plan : PlanValue) (events : List WorldEvent) → IsAccepted plan → HasNoRing plan (tables_of (pairs_at (run_of (opening plan) events)))
+
+abbrev pub SentFramesAreTaken : Type 0
+SentFramesAreTaken = (plan : PlanValue) (events : List WorldEvent) → IsConsistent plan → FramesAreTaken (run_of (opening plan) events)

@@ -1,6 +1,6 @@
 //! The headline, over definitions: what holds of every world that a list of events leads to.
 
-ghost use Rattle.frame_world.specs.Headline.{SessionsAreSerial, BottlesAreSerial, ThingsHaveOnePlace, NeighboursNeverEatAtOnce, WhoEatsHasItsForks, WhoDrinksHasItsBottles, PrecedenceHasNoRing};
+ghost use Rattle.frame_world.specs.Headline.{SessionsAreSerial, BottlesAreSerial, ThingsHaveOnePlace, NeighboursNeverEatAtOnce, WhoEatsHasItsForks, WhoDrinksHasItsBottles, PrecedenceHasNoRing, SentFramesAreTaken};
 ghost use Rattle.frame_world.specs.refinement.PartsLaws.{PartsLaws};
 
 use dining_core::laws as tables;
@@ -60,6 +60,15 @@ pub fn precedence_has_no_ring()
     ensures { PrecedenceHasNoRing }
 {
     tables::no_ring_from_an_accepted_plan();
+}
+
+/// No frame that was sent is refused for what it says, whatever is lost, repeated or reordered: an office never answers that
+/// it can't be read, or that the channel to its sender refuses it.
+pub fn sent_frames_are_taken()
+    ensures { SentFramesAreTaken }
+{
+    tables::each_has_one_place();
+    bars::each_has_one_place();
 }
 
 /// What the parts promise by themselves.

@@ -15,7 +15,8 @@
 //! How it is proved: what happens to an office is, to tables and bars, an event of theirs or nothing
 //! (`proofs/TablesFollow.antt`, `proofs/BarsFollow.antt`), which needs of the links that each frame says the truth
 //! (`proofs/Links.antt`). So the laws of tables and bars hold of the offices (`proofs/Following.antt`), and with them the
-//! serial run is an invariant of few lines (`proofs/SerialSessions.antt`). No frame is looked at above the links.
+//! serial run is an invariant of few lines (`proofs/SerialSessions.antt`). Above the links a frame is looked at once more:
+//! that it isn't refused (`proofs/SentFrames.antt`).
 #![tactic(auto)]
 
 mod event;
