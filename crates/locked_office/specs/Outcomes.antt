@@ -1,15 +1,15 @@
 -- What is asked of a desk.
-use Rattle.std.specs.Prelude.{◌≡◌, ℕ, ◌==◌, List, Option, None, find, Result, Ok, Err, if◌then◌else◌}
+use Rattle.std.specs.Prelude.{ℕ, Option, Result, Ok, Err, if◌then◌else◌}
 use Rattle.office_map.specs.PlanValue.{are_neighbours}
 use Rattle.session_meaning.specs.declared.ending.Outcome.{Outcome}
 use Rattle.site_core.specs.declared.reply.Refusal.{Refusal}
 use Rattle.site_core.specs.declared.reply.Refusal.TheVariants.{NotNow}
-use Rattle.site_core.specs.Readers.{waiting_on}
+use Rattle.site_core.specs.Readers.{outcome_with, waiting_on}
 use Rattle.site_core.specs.Journals.{Site, office_of}
 
 -- the outcome of the session with that ticket, none where it hasn't finished
 abbrev pub outcome_of : Site → ℕ → Option Outcome
-outcome_of s ticket = find (λ (o : Outcome). o.ticket == ticket) (office_of s).agenda.outcomes
+outcome_of s ticket = outcome_with (office_of s).agenda.outcomes ticket
 
 -- the number of the first message that waits for a neighbour, if one waits, and how many do
 abbrev pub waiting_for : Site → ℕ → Result (ℕ × ℕ) Refusal

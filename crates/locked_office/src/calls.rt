@@ -1,8 +1,6 @@
 //! What each call does with the office that its pass holds. It gives the office back.
 
-ghost use Rattle.std.specs.Prelude.{◌≡◌, ◌==◌, ◌++◌, List, true, IfOk, take, drop, find};
-ghost use Rattle.std.specs.Option.{option_copied};
-ghost use Rattle.session_meaning.specs.declared.ending.Outcome.{Outcome as Ended};
+ghost use Rattle.std.specs.Prelude.{◌≡◌, ◌++◌, List, true, IfOk, take, drop};
 ghost use Rattle.own_lock.specs.Entries.{AddsOnly};
 ghost use Rattle.own_lock.specs.Passes.{IsOf};
 ghost use Rattle.site_core.specs.declared.event.Entry.{Entry as Entries};
@@ -129,16 +127,10 @@ fn copied_outcome(
 ) -> Result<Option<Outcome>, AllocError>
     ensures { IfOk result (λ o. o ≡ outcome_of office.now ticket) }
 {
-    match with_ticket(office.outcomes(), ticket) {
+    match office.outcome(ticket) {
         Some(outcome) => Ok(Some(outcome.copy(alloc)?)),
         None => Ok(None),
     }
-}
-
-fn with_ticket(outcomes: &[Outcome], ticket: u32) -> Option<&Outcome>
-    ensures { option_copied result ≡ find (λ (o : Ended). o.ticket == ticket) outcomes.now }
-{
-    outcomes.iter().find(|o| o.ticket == ticket)
 }
 
 /// What waits for a neighbour is looked up.

@@ -17,9 +17,7 @@
 mod advance;
 mod calls;
 mod desk;
+pub mod laws;
 
 pub use crate::advance::Stopped;
 pub use crate::desk::Desk;
-
-#[cfg(test)]
-mod tests;

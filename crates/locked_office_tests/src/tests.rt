@@ -1,17 +1,19 @@
 ghost use Rattle.std.specs.Prelude.{◌≡◌, false, IfSome};
 ghost use Rattle.own_lock.specs.Passes.{IsOf, AreIdle};
 
-use super::*;
+use bottle_values::Value;
 use frame_codec::decode;
-use office_map::{OfficeId, Plan};
+use locked_office::{Desk, Stopped};
+use office_map::{OfficeId, Plan, RecordId};
 use own_lock::{Busy, Pass};
-use session_language::{Outcome, Program, read_sessions};
+use session_language::{End, Outcome, Program, RecordValues, read_sessions};
 use site_core::{Entry, Office, Refusal, Reply};
 use std::alloc::{AllocError, Global};
-use std::fmt::Write;
 use std::process::Abort;
 use std::sync::Wait;
 use std::test::Fail;
+
+mod threads;
 
 /// Two offices, and two records of theirs.
 const PAIR: &str =
@@ -29,15 +31,15 @@ const ASKS: &[u8] =
 const GIVES: &[u8] =
     b"\x44\x50\x01\x01\x00\x00\x00\x2a\x01\x00\x00\x00\x00\x00\x00\x00\x00\x01\x00\x00\x00\x00\x00\x00\x00\x01\x04\x00\x01\x00\x00\x00\x00\x00\x00\x00\x00";
 
-/// The sessions of the text.
-fn programs(alloc: Global) -> Result<Vec<Program>, Fail> {
-    let plan = Plan::read(alloc, PAIR.as_bytes())?;
-    Ok(read_sessions(alloc, SESSIONS.as_bytes(), &plan)?)
+/// The sessions of the text under the plan.
+fn programs(alloc: Global, plan: &str, sessions: &str) -> Result<Vec<Program>, Fail> {
+    let plan = Plan::read(alloc, plan.as_bytes())?;
+    Ok(read_sessions(alloc, sessions.as_bytes(), &plan)?)
 }
 
 /// The first office of the plan.
-fn office(alloc: Global) -> Result<Office, Fail> {
-    let plan = Plan::read(alloc, PAIR.as_bytes())?;
+fn office(alloc: Global, plan: &str) -> Result<Office, Fail> {
+    let plan = Plan::read(alloc, plan.as_bytes())?;
     if plan.offices() == 0 {
         return Err(Fail::from("an office"));
     }
@@ -57,9 +59,9 @@ fn last(desk: &Desk, passes: &mut Vec<Pass<Office>>) -> Option<Pass<Office>>
 #[test]
 fn a_busy_desk_says_so(rt: HostRuntime) -> Result<(), Fail> {
     let alloc = rt.alloc();
-    let programs = programs(alloc)?;
+    let programs = programs(alloc, PAIR, SESSIONS)?;
     let program = programs.get(1).ok_or("a session")?;
-    let (desk, mut passes) = Desk::open(alloc, office(alloc)?, 2)?;
+    let (desk, mut passes) = Desk::open(alloc, office(alloc, PAIR)?, 2)?;
     let mut b = last(&desk, &mut passes).ok_or("two")?;
     let mut a = last(&desk, &mut passes).ok_or("two")?;
     assert_eq!(rt; while_held(&desk, &mut a, &mut b, program), Some(3));
@@ -108,18 +110,16 @@ fn count_busy(desk: &Desk, pass: &mut Pass<Office>, program: &Program) -> u32
 #[test]
 fn a_session_finishes_at_a_desk(rt: HostRuntime) -> Result<(), Fail> {
     let alloc = rt.alloc();
-    let programs = programs(alloc)?;
+    let programs = programs(alloc, PAIR, SESSIONS)?;
     let program = programs.get(0).ok_or("a session")?;
-    let (desk, mut passes) = Desk::open(alloc, office(alloc)?, 1)?;
+    let (desk, mut passes) = Desk::open(alloc, office(alloc, PAIR)?, 1)?;
     let mut pass = last(&desk, &mut passes).ok_or("one")?;
     ask_for_the_bottle(&rt, &desk, &mut pass, program);
     get_the_bottle(&rt, &desk, &mut pass);
-    let told = outcome(&rt, alloc, &desk, &mut pass, 1)?;
-    let expected = "0.1 Done reads 0=100 1=0 writes 0=70 1=30 gives 70 30";
-    assert_eq!(rt; told.as_str(), expected);
+    assert!(rt; has_moved(&outcome(&rt, &desk, &mut pass, 1)?));
     let tried = try_outcome(&desk, &mut pass, 1).ok_or("free")?;
-    assert_eq!(rt; words(alloc, tried?)?.as_str(), expected);
-    assert_eq!(rt; outcome(&rt, alloc, &desk, &mut pass, 2)?.as_str(), "none");
+    assert!(rt; has_moved(&tried?));
+    assert!(rt; outcome(&rt, &desk, &mut pass, 2)?.is_none());
     Ok(())
 }
 
@@ -159,9 +159,9 @@ fn get_the_bottle<R: Wait + Abort>(rt: &R, desk: &Desk, pass: &mut Pass<Office>)
 #[test]
 fn sixty_four_sessions_wait_at_a_desk(rt: HostRuntime) -> Result<(), Fail> {
     let alloc = rt.alloc();
-    let programs = programs(alloc)?;
+    let programs = programs(alloc, PAIR, SESSIONS)?;
     let program = programs.get(1).ok_or("a session")?;
-    let (desk, mut passes) = Desk::open(alloc, office(alloc)?, 1)?;
+    let (desk, mut passes) = Desk::open(alloc, office(alloc, PAIR)?, 1)?;
     let mut pass = last(&desk, &mut passes).ok_or("one")?;
     fill(&rt, &desk, &mut pass, program);
     assert_eq!(rt; tags(&rt, &desk, &mut pass, 99)?, [64, 0, 0, 0]);
@@ -224,8 +224,20 @@ fn tags<R: Wait>(
     requires { IsOf desk.now pass.old × (pass.old.holds ≡ false) }
     ensures { IsOf desk.now pass.new × (pass.new.holds ≡ false) }
 {
-    let part = desk.journal_part(rt, pass, 0, most);
+    let part = journal_part(rt, desk, pass, most);
     Ok(count_tags(&part?))
+}
+
+fn journal_part<R: Wait>(
+    rt: &R,
+    desk: &Desk,
+    pass: &mut Pass<Office>,
+    most: usize,
+) -> Result<Vec<Entry>, AllocError>
+    requires { IsOf desk.now pass.old × (pass.old.holds ≡ false) }
+    ensures { IsOf desk.now pass.new × (pass.new.holds ≡ false) }
+{
+    desk.journal_part(rt, pass, 0, most)
 }
 
 fn count_tags(entries: &[Entry]) -> [u32; 4] {
@@ -288,41 +300,46 @@ fn waiting<R: Wait>(
     desk.waiting(rt, pass, OfficeId::new(v))
 }
 
-/// How a session ended, in words.
-fn outcome<R: Wait>(
-    rt: &R,
-    alloc: Global,
-    desk: &Desk,
-    pass: &mut Pass<Office>,
-    ticket: u32,
-) -> Result<String, AllocError>
+/// Whether the outcome of that ticket is there, and is its own.
+fn ended<R: Wait>(rt: &R, desk: &Desk, pass: &mut Pass<Office>, ticket: u32) -> bool
     requires { IsOf desk.now pass.old × (pass.old.holds ≡ false) }
     ensures { IsOf desk.now pass.new × (pass.new.holds ≡ false) }
 {
-    let outcome = desk.outcome(rt, pass, ticket);
-    words(alloc, outcome?)
+    match desk.outcome(rt, pass, ticket) {
+        Ok(Some(outcome)) => outcome.ticket == ticket,
+        _ => false,
+    }
 }
 
-fn words(alloc: Global, outcome: Option<Outcome>) -> Result<String, AllocError> {
-    let mut text = String::new(alloc);
+fn outcome<R: Wait>(
+    rt: &R,
+    desk: &Desk,
+    pass: &mut Pass<Office>,
+    ticket: u32,
+) -> Result<Option<Outcome>, AllocError>
+    requires { IsOf desk.now pass.old × (pass.old.holds ≡ false) }
+    ensures { IsOf desk.now pass.new × (pass.new.holds ≡ false) }
+{
+    desk.outcome(rt, pass, ticket)
+}
+
+/// Whether the first session of the first office moved 30.
+fn has_moved(outcome: &Option<Outcome>) -> bool {
     let Some(outcome) = outcome else {
-        text.push_str("none")?;
-        return Ok(text);
+        return false;
     };
-    let office = outcome.office.number();
-    let ticket = outcome.ticket;
-    let end = outcome.ending.end;
-    write!(text, "{office}.{ticket} {end:?} reads")?;
-    for (r, value) in outcome.ending.reads.as_slice() {
-        write!(text, " {}={}", r.number(), value.number)?;
-    }
-    text.push_str(" writes")?;
-    for (r, value) in outcome.ending.writes.as_slice() {
-        write!(text, " {}={}", r.number(), value.number)?;
-    }
-    text.push_str(" gives")?;
-    for value in outcome.ending.gives.as_slice() {
-        write!(text, " {}", value.number)?;
-    }
-    Ok(text)
+    let ending = &outcome.ending;
+    outcome.office.number() == 0
+        && outcome.ticket == 1
+        && ending.end == End::Done
+        && are(&ending.reads, 100, 0)
+        && are(&ending.writes, 70, 30)
+        && ending.gives.as_slice() == [Value { number: 70 }, Value { number: 30 }].as_slice()
+}
+
+/// Whether the first two records have these values.
+fn are(values: &RecordValues, x: i64, y: i64) -> bool {
+    let x = (RecordId::new(0), Value { number: x });
+    let y = (RecordId::new(1), Value { number: y });
+    values.as_slice() == [x, y].as_slice()
 }

@@ -1,0 +1,13 @@
+//! Laws of desks.
+
+ghost use denote.Param.Send.{IsSend, IsSync};
+ghost use Rattle.locked_office.specs.contracts.desk.Desk as desk;
+
+use site_core::laws::an_office_crosses_threads;
+
+/// Threads may share a desk.
+pub fn threads_share_a_desk()
+    ensures { IsSync desk.the_row }
+{
+    an_office_crosses_threads();
+}

@@ -1,0 +1,294 @@
+//! Threads that share a desk.
+
+ghost use Rattle.std.specs.Prelude.{◌≡◌, ◌<◌, false, length, IfOk, IfSome};
+ghost use Rattle.std.specs.List.{All};
+ghost use Rattle.own_lock.specs.Passes.{IsOf, AreIdle};
+
+use super::{PAIR, advance, ended, journal_part, office, send, submit, took};
+use locked_office::Desk;
+use locked_office::laws::threads_share_a_desk;
+use office_map::Plan;
+use own_lock::Pass;
+use session_language::{Program, read_sessions};
+use site_core::laws::an_office_crosses_threads;
+use site_core::{Entry, Event, Office, Reply};
+use std::alloc::{AllocError, Global};
+use std::sync::Wait;
+use std::test::Fail;
+use std::thread::{Threads, map_vec};
+
+/// Two offices that share nothing.
+const ALONE: &str = "plan 1 run 7\noffice a -\noffice b -\n";
+
+/// The second office has taken nothing.
+const NONE_TAKEN: &[u8] =
+    b"\x44\x50\x01\x02\x00\x00\x00\x2a\x01\x00\x00\x00\x00\x00\x00\x00\x00\x00\x00\x00\x00\x00\x00\x00\x00\x00";
+
+/// What a thread does at the desk, so many times.
+#[derive(Clone, Copy)]
+enum Job {
+    /// A session is submitted.
+    Submit(u32),
+    /// A session is submitted, all rules are done, a frame is made, one is taken, and the session's outcome is asked for.
+    Serve(u32),
+}
+
+/// What a thread was told at one time: the ticket, how many rules were done, how many frames were made and how many taken.
+#[derive(Clone, Copy, Debug, PartialEq)]
+struct Told {
+    ticket: u32,
+    done: u32,
+    made: u32,
+    taken: u32,
+}
+
+impl Told {
+    fn ticket(ticket: u32) -> Told {
+        Told {
+            ticket,
+            done: 0,
+            made: 0,
+            taken: 0,
+        }
+    }
+}
+
+fn submit_one<R: Wait>(rt: &R, desk: &Desk, pass: &mut Pass<Office>, program: &Program) -> Told
+    requires { IsOf desk.now pass.old × (pass.old.holds ≡ false) }
+    ensures { IsOf desk.now pass.new × (pass.new.holds ≡ false) }
+{
+    match submit(rt, desk, pass, program) {
+        Ok(Reply::Ticket(ticket)) => Told::ticket(ticket),
+        _ => Told::ticket(0),
+    }
+}
+
+/// Its ticket is 0 where something was refused, or the outcome isn't there.
+fn serve_one<R: Wait>(rt: &R, desk: &Desk, pass: &mut Pass<Office>, program: &Program) -> Told
+    requires { IsOf desk.now pass.old × (pass.old.holds ≡ false) }
+    ensures { IsOf desk.now pass.new × (pass.new.holds ≡ false) }
+{
+    let mut told = submit_one(rt, desk, pass, program);
+    told.done = advance(rt, desk, pass, 1000).unwrap_or(0);
+    told.made = send(rt, desk, pass, 0).is_ok() as u32;
+    told.taken = (took(rt, desk, pass, NONE_TAKEN) == Ok(Reply::Acked)) as u32;
+    if ended(rt, desk, pass, told.ticket) {
+        told
+    } else {
+        Told::ticket(0)
+    }
+}
+
+fn do_one<R: Wait>(
+    rt: &R,
+    desk: &Desk,
+    pass: &mut Pass<Office>,
+    program: &Program,
+    job: Job,
+) -> Told
+    requires { IsOf desk.now pass.old × (pass.old.holds ≡ false) }
+    ensures { IsOf desk.now pass.new × (pass.new.holds ≡ false) }
+{
+    match job {
+        Job::Submit(_) => submit_one(rt, desk, pass, program),
+        Job::Serve(_) => serve_one(rt, desk, pass, program),
+    }
+}
+
+/// The pass, and what its thread was told.
+type Returned = (Pass<Office>, Vec<Told>);
+
+/// Each thread reads the session itself.
+fn do_all<R: Wait>(rt: &R, alloc: Global, desk: &Desk, mut pass: Pass<Office>, job: Job) -> Returned
+    requires { IsOf desk.now pass × (pass.holds ≡ false) }
+    ensures { IsOf desk.entry.now result.0 × (result.0.holds ≡ false) }
+{
+    let mut all = Vec::new(alloc);
+    if let Some(program) = give(alloc) {
+        do_often(rt, desk, &mut pass, &program, job, &mut all);
+    }
+    (pass, all)
+}
+
+/// A session that reads nothing.
+fn give(alloc: Global) -> Option<Program> {
+    let plan = Plan::read(alloc, ALONE.as_bytes()).ok()?;
+    let mut programs = read_sessions(alloc, b"session a\ngive 1\nend\n", &plan).ok()?;
+    programs.pop()
+}
+
+fn do_often<R: Wait>(
+    rt: &R,
+    desk: &Desk,
+    pass: &mut Pass<Office>,
+    program: &Program,
+    job: Job,
+    all: &mut Vec<Told>,
+)
+    requires { IsOf desk.now pass.old × (pass.old.holds ≡ false) }
+    ensures { IsOf desk.now pass.new × (pass.new.holds ≡ false) }
+{
+    let (Job::Submit(times) | Job::Serve(times)) = job;
+    for _ in 0..times {
+        let told = do_one(rt, desk, pass, program, job);
+        if all.push(told).is_err() {
+            break;
+        }
+    }
+}
+
+/// A thread for each pass.
+fn in_threads<R: Threads + Wait + Sync>(
+    rt: &R,
+    alloc: Global,
+    desk: &Desk,
+    passes: Vec<Pass<Office>>,
+    job: Job,
+) -> Result<Vec<Returned>, AllocError>
+    requires { AreIdle desk.now passes.items }
+    ensures { IfOk result (λ all. All (λ back. IsOf desk.now back.0 × (back.0.holds ≡ false)) all.items) }
+{
+    an_office_crosses_threads();
+    threads_share_a_desk();
+    map_vec(
+        rt,
+        passes,
+        &|pass: Pass<Office>| -> Returned
+            requires { IsOf desk.now pass × (pass.holds ≡ false) }
+            ensures { IsOf desk.entry.now result.0 × (result.0.holds ≡ false) }
+        { do_all(rt, alloc, desk, pass, job) },
+    )
+}
+
+/// The last of them that came back.
+fn last_back(desk: &Desk, all: &mut Vec<Returned>) -> Option<Returned>
+    requires { All (λ back. IsOf desk.now back.0 × (back.0.holds ≡ false)) all.old.items }
+    ensures rest { All (λ back. IsOf desk.now back.0 × (back.0.holds ≡ false)) all.new.items }
+    ensures last { IfSome result (λ back. IsOf desk.now back.0 × (back.0.holds ≡ false)) }
+    ensures fewer { IfSome result (λ _. length all.new.items < length all.old.items) }
+{
+    all.pop()
+}
+
+/// The pass learns what the others have seen, and they are given up. What each thread was told is put in, the last one's first.
+fn meet_all(
+    desk: &Desk,
+    mut all: Vec<Returned>,
+    pass: &mut Pass<Office>,
+    told: &mut Vec<Vec<Told>>,
+) -> Result<(), AllocError>
+    requires all { All (λ back. IsOf desk.now back.0 × (back.0.holds ≡ false)) all.items }
+    requires pass { IsOf desk.now pass.old × (pass.old.holds ≡ false) }
+    ensures { IsOf desk.now pass.new × (pass.new.holds ≡ false) }
+{
+    while let Some((other, of_other)) = last_back(desk, &mut all) {
+        desk.meet(other, pass);
+        told.push(of_other)?;
+    }
+    Ok(())
+}
+
+/// What the journal has of the thread with this tag. It is cut where an entry stands out of its place.
+fn in_journal(alloc: Global, entries: &[Entry], tag: u8) -> Result<Vec<Told>, AllocError> {
+    let mut all = Vec::new(alloc);
+    for entry in entries {
+        if entry.tag == tag && !noted(&mut all, entry)? {
+            break;
+        }
+    }
+    Ok(all)
+}
+
+fn noted(all: &mut Vec<Told>, entry: &Entry) -> Result<bool, AllocError> {
+    if let (Event::Submit(_), Reply::Ticket(ticket)) = (&entry.event, &entry.reply) {
+        all.push(Told::ticket(*ticket))?;
+        return Ok(true);
+    }
+    Ok(all.last_mut().is_some_and(|told| counted(told, entry)))
+}
+
+/// Rules come first, then a frame is made, then one is taken.
+fn counted(told: &mut Told, entry: &Entry) -> bool {
+    match (&entry.event, &entry.reply) {
+        (Event::Do(_), Reply::Done) if told.made == 0 && told.taken == 0 => {
+            told.done = told.done.saturating_add(1);
+            true
+        }
+        (Event::Send(_, 0), Reply::Frame(_)) if told.made == 0 && told.taken == 0 => {
+            told.made = 1;
+            true
+        }
+        (Event::Took(_), Reply::Acked) if told.made == 1 && told.taken == 0 => {
+            told.taken = 1;
+            true
+        }
+        _ => false,
+    }
+}
+
+/// Four threads do the job at one office. The entries of its journal, and what each thread was told, the last one's first.
+fn shared<R: Threads + Wait + Sync>(
+    rt: &R,
+    alloc: Global,
+    plan: &str,
+    job: Job,
+) -> Result<(Vec<Entry>, Vec<Vec<Told>>), Fail> {
+    let (desk, passes) = Desk::open(alloc, office(alloc, plan)?, 4)?;
+    let mut all = in_threads(rt, alloc, &desk, passes, job)?;
+    let (mut pass, of_last) = last_back(&desk, &mut all).ok_or("four")?;
+    let mut told = vec![in alloc; of_last]?;
+    meet_all(&desk, all, &mut pass, &mut told)?;
+    let part = journal_part(rt, &desk, &mut pass, 1_000_000)?;
+    let office = desk.close(pass).ok_or("nobody has it")?;
+    if office.journal().len() != part.len() {
+        return Err(Fail::from("the whole journal"));
+    }
+    Ok((part, told))
+}
+
+/// Ten of the four threads' forty sessions are of each, and each has a ticket of its own.
+#[test]
+fn four_threads_submit_ten_sessions_each(rt: HostRuntime) -> Result<(), Fail> {
+    let (part, told) = shared(&rt, rt.alloc(), ALONE, Job::Submit(10))?;
+    assert_eq!(rt; part.len(), 40);
+    assert!(rt; are_told(rt.alloc(), &part, &told, 10)?);
+    let mut tickets = [0u32; 41];
+    for list in &told {
+        count_tickets(&mut tickets, list);
+    }
+    assert_eq!(rt; tickets[0], 0);
+    assert!(rt; tickets[1..].iter().all(|n| *n == 1));
+    Ok(())
+}
+
+fn count_tickets(counts: &mut [u32; 41], told: &[Told]) {
+    for one in told {
+        if let Some(count) = counts.get_mut(one.ticket as usize) {
+            *count = count.saturating_add(1);
+        }
+    }
+}
+
+/// Whether there are four threads, each was told so often, and the entries of its tag are what it was told, in its order.
+fn are_told(
+    alloc: Global,
+    part: &[Entry],
+    told: &[Vec<Told>],
+    times: usize,
+) -> Result<bool, AllocError> {
+    for (list, tag) in told.iter().zip([3u8, 2, 1, 0]) {
+        if list.len() != times || in_journal(alloc, part, tag)?.as_slice() != list.as_slice() {
+            return Ok(false);
+        }
+    }
+    Ok(told.len() == 4)
+}
+
+/// 200,000 calls of four threads. A session is submitted and starts, drinks, works and finishes, and two frames go.
+#[test]
+fn four_threads_find_their_calls_in_the_journal(rt: HostRuntime) -> Result<(), Fail> {
+    let (part, told) = shared(&rt, rt.alloc(), PAIR, Job::Serve(10_000))?;
+    assert_eq!(rt; part.len(), 280_000);
+    assert!(rt; are_told(rt.alloc(), &part, &told, 10_000)?);
+    Ok(())
+}
