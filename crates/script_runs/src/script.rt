@@ -144,7 +144,7 @@ fn office_line(plan: &Plan, keyword: &[u8], office: &[u8], word: &[u8]) -> Optio
         return done(office_by(plan, office), rule_named(word));
     }
     if is(keyword, "advance") {
-        return advanced(office_by(plan, office), count(MAX_RULES, word));
+        return advanced(office_by(plan, office), count_by(MAX_RULES, word));
     }
     None
 }
@@ -230,14 +230,14 @@ fn rule_with(plan: &Plan, name: &[u8], argument: &[u8]) -> Option<Rule>
     } else if is(name, "givebottle") {
         Some(Rule::GiveBottle(record_by(plan, argument)?))
     } else if is(name, "work") {
-        Some(Rule::Work(count(LONGEST_PIECE, argument)?))
+        Some(Rule::Work(count_by(LONGEST_PIECE, argument)?))
     } else {
         None
     }
 }
 
 /// A number from 1 to the most.
-fn count(most: u16, word: &[u8]) -> Option<u16>
+fn count_by(most: u16, word: &[u8]) -> Option<u16>
     ensures { result ≡ count_by most word.now }
 {
     let n = number(word)?;

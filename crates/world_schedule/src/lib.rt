@@ -27,8 +27,6 @@
 mod finished;
 mod happening;
 mod opening;
-#[cfg(test)]
-mod tests;
 mod values;
 mod world;
 

@@ -9,7 +9,7 @@ ghost use Rattle.frame_world.specs.declared.refusal.Refusal.TheVariants as refus
 ghost use Rattle.frame_world.specs.declared.event.WorldEvent.TheVariants as events;
 ghost use Rattle.frame_world.specs.Worlds.{opening, run_of, replies_of, Applies, site_at, frame_at};
 ghost use Rattle.frame_world.specs.Ways.{bottles_of, pairs_at, tables_of};
-ghost use Rattle.frame_world.specs.Headline.{programs, outcomes, IsReached, HasSerialSessions, HasSerialValues, HasOnePlaceEach, NeighboursEatApart, EatersHaveTheirForks, DrinkersHaveTheirBottles};
+ghost use Rattle.frame_world.specs.Headline.{programs, outcomes, IsReached, HasSerialSessions, HasSerialValues, HasOnePlaceEach, NeighboursEatApart, EatersHaveTheirForks, DrinkersHaveTheirBottles, FramesAreTaken};
 ghost use Rattle.dining_core.specs.Worlds.{HasNoRing};
 ghost use Rattle.serial_replay.specs.Serial.{start_map, map_of};
 ghost use Rattle.world_schedule.specs.Readers.{unfinished_in, listed_as};
@@ -22,8 +22,9 @@ use crate::values::bottle_between;
 use bottle_values::Value;
 use frame_codec::Frame;
 use frame_world::laws::{
-    bottles_are_serial, neighbours_never_eat_at_once, precedence_has_no_ring, sessions_are_serial,
-    things_have_one_place, who_drinks_has_its_bottles, who_eats_has_its_forks,
+    bottles_are_serial, neighbours_never_eat_at_once, precedence_has_no_ring,
+    sent_frames_are_taken, sessions_are_serial, things_have_one_place, who_drinks_has_its_bottles,
+    who_eats_has_its_forks,
 };
 use frame_world::{Refusal, WorldEvent};
 use office_map::{OfficeId, Plan, RecordId};
@@ -164,6 +165,7 @@ impl World {
         ensures eaters { EatersHaveTheirForks self.new }
         ensures drinkers { DrinkersHaveTheirBottles self.new }
         ensures order { HasNoRing self.new.plan (tables_of (pairs_at self.new)) }
+        ensures frames { FramesAreTaken self.new }
     {
         let replies = self.run_all(events);
         self.is_serial();
@@ -193,7 +195,7 @@ impl World {
     /// What holds of every world: some events led to it from its plan; the finished sessions have the outcomes, and each
     /// record's one bottle has the value, of the serial run of these sessions in finishing order; each fork, bottle and
     /// request token is at one place; neighbours eat apart, who eats has its forks, who works has its bottles, and
-    /// precedence has no ring.
+    /// precedence has no ring. Nor will a frame that was sent be refused for what it says.
     pub fn is_serial(&self)
         ensures reached { IsReached self.now }
         ensures sessions { HasSerialSessions self.now }
@@ -203,6 +205,7 @@ impl World {
         ensures eaters { EatersHaveTheirForks self.now }
         ensures drinkers { DrinkersHaveTheirBottles self.now }
         ensures order { HasNoRing self.now.plan (tables_of (pairs_at self.now)) }
+        ensures frames { FramesAreTaken self.now }
     {
         sessions_are_serial();
         bottles_are_serial();
@@ -211,6 +214,7 @@ impl World {
         who_eats_has_its_forks();
         who_drinks_has_its_bottles();
         precedence_has_no_ring();
+        sent_frames_are_taken();
         let _ = &self.plan;
     }
 

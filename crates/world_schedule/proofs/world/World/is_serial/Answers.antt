@@ -1,5 +1,5 @@
 use Rattle.std.proofs.Common.{subst}
-use Rattle.frame_world.specs.Headline.{HasSerialSessions, HasSerialValues, HasOnePlaceEach, NeighboursEatApart, EatersHaveTheirForks, DrinkersHaveTheirBottles}
+use Rattle.frame_world.specs.Headline.{HasSerialSessions, HasSerialValues, HasOnePlaceEach, NeighboursEatApart, EatersHaveTheirForks, DrinkersHaveTheirBottles, FramesAreTaken}
 use Rattle.frame_world.specs.Worlds.{World}
 use Rattle.frame_world.specs.Ways.{pairs_at, tables_of}
 use Rattle.dining_core.specs.Worlds.{HasNoRing}
@@ -42,3 +42,8 @@ returns-clause-order c =
     let w = c.self.inside in
     subst (λ (v : World). HasNoRing v.plan (tables_of (pairs_at v))) c.self.view_is
     (of_reached (λ (v : World). HasNoRing w.plan (tables_of (pairs_at v))) (world_in w.plan w.offices.items w.frames.items w.finished.items) c.self.invariant.reached (λ es. c.precedence_has_no_ring.ensures w.plan es c.self.invariant.accepted))
+
+pub returns-clause-frames : goal.returns-clause-frames
+returns-clause-frames c =
+    let w = c.self.inside in
+    of_world FramesAreTaken w.plan w.offices.items w.frames.items w.finished.items c.args.self.now c.self.invariant c.self.view_is (λ es. c.sent_frames_are_taken.ensures w.plan es c.self.invariant.accepted.consistent)
