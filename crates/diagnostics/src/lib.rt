@@ -14,8 +14,6 @@ mod plan;
 mod script;
 mod sessions;
 mod shown;
-#[cfg(test)]
-mod tests;
 
 pub use plan::of_plan;
 pub use script::of_script;

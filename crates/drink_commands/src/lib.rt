@@ -20,8 +20,6 @@ pub mod commands;
 pub mod fault;
 pub mod input;
 pub mod program;
-#[cfg(test)]
-mod tests;
 pub mod texts;
 
 pub use program::run;

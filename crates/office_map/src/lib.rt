@@ -39,8 +39,6 @@ mod records;
 mod ring;
 mod ring_search;
 pub mod statements;
-#[cfg(test)]
-mod tests;
 pub mod text;
 mod word;
 

@@ -33,8 +33,6 @@ mod scope;
 mod sizes;
 mod spoken;
 mod summary;
-#[cfg(test)]
-mod tests;
 mod text;
 mod token;
 mod words;

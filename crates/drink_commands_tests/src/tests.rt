@@ -1,0 +1,263 @@
+use drink_commands::commands::serial;
+use drink_commands::fault::{Fault, Why};
+use drink_commands::input::Input;
+use input_texts::Sources;
+use office_map as plans;
+use session_language as sessions;
+use std::alloc::Global;
+use std::io;
+use std::io::{ErrorKind, Read};
+use std::process::Abort;
+use std::test::Fail;
+
+mod devices;
+mod scripts;
+mod shell;
+mod words;
+
+const PLAN: &str =
+    "plan 1 run 42\noffice a -\noffice b -\npair a b fork a\nrecord x a b 100 at a\nrecord y a b 0 at b\n";
+
+const PLAN_OF_99: &str =
+    "plan 1 run 42\noffice a -\noffice b -\npair a b fork a\nrecord x a b 99 at a\nrecord y a b 0 at b\n";
+
+const MOVE: &str =
+    "session a\nlet v = read x\nset x = v - 30\nset y = read y + 30\ngive read x\ngive read y\nend\n";
+
+const MOVED: &str =
+    "a.1 done reads x=100 y=0 writes x=70 y=30 gives 70 30\nvalue x 70\nvalue y 30\n";
+
+/// Inputs in memory: the files `p`, `s` and `c`, and the standard input. A plan's, sessions' or script's reads give so many
+/// bytes at a time, every second is interrupted, and each fails once so many are done. There are besides `folder`, `locked`
+/// and `endless`, and no other.
+#[derive(Drop)]
+pub struct Memory<'a> {
+    pub plan: &'a str,
+    pub sessions: &'a str,
+    pub script: &'a str,
+    pub standard: &'a str,
+    pub step: usize,
+    pub fails_after: u32,
+}
+
+impl<'a> Memory<'a> {
+    pub fn new(plan: &'a str, sessions: &'a str, script: &'a str) -> Memory<'a> {
+        Memory {
+            plan,
+            sessions,
+            script,
+            standard: "",
+            step: usize::MAX,
+            fails_after: u32::MAX,
+        }
+    }
+
+    fn reading(&self, text: &'a str) -> Reading<'a> {
+        Reading {
+            text: text.as_bytes(),
+            step: self.step,
+            reads: 0,
+            fails_after: self.fails_after,
+            is_folder: false,
+            is_endless: false,
+        }
+    }
+}
+
+impl<'a> Sources for Memory<'a> {
+    ghost use Rattle.std.specs.Prelude.{None};
+
+    type File = Reading<'a>;
+
+    type Standard = Reading<'a>;
+
+    ghost file_text = { λ _ _. None };
+
+    ghost standard_text = { λ _. None };
+
+    fn open(&self, name: &str) -> io::Result<Reading<'a>> {
+        match name {
+            "p" => Ok(self.reading(self.plan)),
+            "s" => Ok(self.reading(self.sessions)),
+            "c" => Ok(self.reading(self.script)),
+            "folder" => {
+                let mut reading = self.reading("");
+                reading.is_folder = true;
+                Ok(reading)
+            }
+            "endless" => {
+                let mut reading = self.reading("");
+                reading.is_endless = true;
+                Ok(reading)
+            }
+            "locked" => Err(io::Error::from(ErrorKind::PermissionDenied)),
+            _ => Err(io::Error::from(ErrorKind::NotFound)),
+        }
+    }
+
+    fn standard(&self) -> Reading<'a> {
+        self.reading(self.standard)
+    }
+}
+
+#[derive(Drop)]
+pub struct Reading<'a> {
+    text: &'a [u8],
+    step: usize,
+    reads: u32,
+    fails_after: u32,
+    is_folder: bool,
+    is_endless: bool,
+}
+
+impl Read for Reading<'_> {
+    fn read(&mut self, buf: &mut [u8]) -> io::Result<usize> {
+        if self.is_folder {
+            return Err(io::Error::from(ErrorKind::IsADirectory));
+        }
+        if self.is_endless {
+            for i in 0..buf.len() {
+                buf[i] = b'#';
+            }
+            return Ok(buf.len());
+        }
+        self.reads = self.reads.saturating_add(1);
+        if self.reads > self.fails_after {
+            return Err(io::Error::from(ErrorKind::BrokenPipe));
+        }
+        if self.reads % 2 == 0 {
+            return Err(io::Error::from(ErrorKind::Interrupted));
+        }
+        let most = self.step.min(buf.len());
+        self.text.read(&mut buf[..most])
+    }
+}
+
+/// What `serial` answers, and what it writes.
+fn ran(alloc: Global, plan: &str, sessions: &str) -> (Result<u8, Fault>, Vec<u8>) {
+    let mut out = Vec::new(alloc);
+    let memory = Memory::new(plan, sessions, "");
+    let result = serial(alloc, &memory, "p", "s", &mut out);
+    (result, out)
+}
+
+#[test]
+fn prints_sessions_and_values(rt: HostRuntime) -> Result<(), Fail> {
+    let rows = [
+        (PLAN, MOVE, MOVED),
+        (PLAN, "", "value x 100\nvalue y 0\n"),
+        (
+            PLAN,
+            "session a\nlet i = 0\nrepeat 3\nlet i = i + 1\nif i * 2 > 3\ngive i\nelse\ngive -i\nend\nend\nend\n",
+            "a.1 done reads - writes - gives -1 2 3\nvalue x 100\nvalue y 0\n",
+        ),
+        (
+            PLAN,
+            "session a\nset x = 1\nset x = 9223372036854775807 + 1\nend\n",
+            "a.1 overflow reads x=100 writes - gives -\nvalue x 100\nvalue y 0\n",
+        ),
+        (
+            PLAN_OF_99,
+            "session a\nset x = read x - 100\nrequire read x >= 0 else 7\nend\n",
+            "a.1 refused 7 reads x=99 writes - gives -\nvalue x 99\nvalue y 0\n",
+        ),
+        (
+            PLAN,
+            "session a\nset x = read x - 100\nrequire read x >= 0 else 7\nend\n",
+            "a.1 done reads x=100 writes x=0 gives -\nvalue x 0\nvalue y 0\n",
+        ),
+    ];
+    for (plan, sessions, printed) in rows {
+        let (result, out) = ran(rt.alloc(), plan, sessions);
+        assert_eq!(rt; result?, 0);
+        assert_eq!(rt; out.as_slice(), printed.as_bytes());
+    }
+    Ok(())
+}
+
+#[test]
+fn counts_tickets_for_each_office(rt: HostRuntime) -> Result<(), Fail> {
+    let sessions =
+        "session b\ngive 1\nend\nsession a\nset x = -5\nend\nsession b\ngive read x\ngive -7\nend\n";
+    let printed =
+        "b.1 done reads - writes - gives 1\na.1 done reads x=100 writes x=-5 gives -\nb.2 done reads x=-5 writes - gives -5 -7\nvalue x -5\nvalue y 0\n";
+    let (result, out) = ran(rt.alloc(), PLAN, sessions);
+    assert_eq!(rt; result?, 0);
+    assert_eq!(rt; out.as_slice(), printed.as_bytes());
+    Ok(())
+}
+
+/// Why the text of an input is refused, where it is.
+pub fn why(answer: Result<u8, Fault>) -> Option<Why> {
+    match answer {
+        Err(Fault::Refused(why, _)) => Some(why),
+        _ => None,
+    }
+}
+
+/// That these texts are refused so, and nothing is written.
+fn refused(rt: &(impl Abort + AllocGlobal), plan: &str, sessions: &str, expected: Why) {
+    let (result, out) = ran(rt.alloc(), plan, sessions);
+    assert_eq!(rt; why(result), Some(expected));
+    assert_eq!(rt; out.len(), 0);
+}
+
+#[test]
+fn refuses_texts_and_writes_nothing(rt: HostRuntime) {
+    let no_record = Why::Sessions(sessions::SessionRefusal {
+        rule: sessions::SessionRule::UnknownRecord,
+        line: 2,
+    });
+    refused(&rt, PLAN, "session a\ngive read z\nend\n", no_record);
+    let no_name = Why::Sessions(sessions::SessionRefusal {
+        rule: sessions::SessionRule::UnknownName,
+        line: 2,
+    });
+    refused(&rt, PLAN, "session a\ngive v\nlet v = 1\nend\n", no_name);
+    let no_header = Why::Plan(plans::PlanRefusal {
+        rule: plans::PlanRule::Header,
+        line: 1,
+    });
+    refused(&rt, "office a -\n", "session a\ngive v\nend\n", no_header);
+}
+
+/// `front`, a line of a comment, in all as long as this.
+fn stretched(alloc: Global, front: &str, length: usize) -> Result<String, Fail> {
+    let mut text = String::from_str(alloc, front)?;
+    text.push('#')?;
+    for _ in 0..length {
+        if text.len() < length {
+            text.push('-')?;
+        }
+    }
+    Ok(text)
+}
+
+#[test]
+fn reads_the_longest_texts(rt: HostRuntime) -> Result<(), Fail> {
+    let alloc = rt.alloc();
+    let plan = stretched(alloc, PLAN, 262_144)?;
+    let sessions = stretched(alloc, MOVE, 1_048_576)?;
+    let (result, out) = ran(alloc, plan.as_str(), sessions.as_str());
+    assert_eq!(rt; result?, 0);
+    assert_eq!(rt; out.as_slice(), MOVED.as_bytes());
+    Ok(())
+}
+
+#[test]
+fn refuses_a_byte_more(rt: HostRuntime) -> Result<(), Fail> {
+    let alloc = rt.alloc();
+    let plan = stretched(alloc, PLAN, 262_145)?;
+    let limit = Why::Plan(plans::PlanRefusal {
+        rule: plans::PlanRule::Limit,
+        line: 0,
+    });
+    refused(&rt, plan.as_str(), MOVE, limit);
+    let long = stretched(alloc, MOVE, 1_048_577)?;
+    let too_long = Why::Sessions(sessions::SessionRefusal {
+        rule: sessions::SessionRule::TooLong,
+        line: 0,
+    });
+    refused(&rt, PLAN, long.as_str(), too_long);
+    Ok(())
+}

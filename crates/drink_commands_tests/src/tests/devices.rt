@@ -1,0 +1,102 @@
+use crate::tests::{MOVE, MOVED, Memory, PLAN, why};
+use drink_commands::commands::serial;
+use drink_commands::fault::{Fault, Why};
+use drink_commands::input::Input;
+use std::io;
+use std::io::{ErrorKind, Write};
+use std::test::Fail;
+
+/// Takes one byte at a time. It fails once so many writes are done.
+#[derive(Drop)]
+struct Narrow {
+    taken: Vec<u8>,
+    writes: usize,
+}
+
+impl Write for Narrow {
+    fn write(&mut self, buf: &[u8]) -> io::Result<usize> {
+        if self.taken.len() >= self.writes {
+            return Err(io::Error::from(ErrorKind::StorageFull));
+        }
+        if buf.is_empty() {
+            return Ok(0);
+        }
+        self.taken.push(buf[0])?;
+        Ok(1)
+    }
+
+    fn flush(&mut self) -> io::Result<()> {
+        if self.taken.len() >= self.writes {
+            return Err(io::Error::from(ErrorKind::StorageFull));
+        }
+        Ok(())
+    }
+}
+
+#[test]
+fn waits_for_slow_readers(rt: HostRuntime) -> Result<(), Fail> {
+    let mut memory = Memory::new(PLAN, MOVE, "");
+    memory.step = 7;
+    let mut out = Vec::new(rt.alloc());
+    assert_eq!(rt; serial(rt.alloc(), &memory, "p", "s", &mut out)?, 0);
+    assert_eq!(rt; out.as_slice(), MOVED.as_bytes());
+    Ok(())
+}
+
+#[test]
+fn a_failing_read_is_told(rt: HostRuntime) {
+    for reads in 0..20 {
+        let mut memory = Memory::new(PLAN, MOVE, "");
+        memory.step = 7;
+        memory.fails_after = reads;
+        let mut out = Vec::new(rt.alloc());
+        let result = serial(rt.alloc(), &memory, "p", "s", &mut out);
+        let failed = Fault::ReadFailed(Input::Plan, ErrorKind::BrokenPipe);
+        assert_eq!(rt; result, Err(failed));
+        assert_eq!(rt; out.len(), 0);
+    }
+    let memory = Memory::new(PLAN, MOVE, "");
+    let mut out = Vec::new(rt.alloc());
+    let result = serial(rt.alloc(), &memory, "p", "folder", &mut out);
+    let failed = Fault::ReadFailed(Input::Sessions, ErrorKind::IsADirectory);
+    assert_eq!(rt; result, Err(failed));
+    assert_eq!(rt; out.len(), 0);
+}
+
+#[test]
+fn a_failing_write_is_told(rt: HostRuntime) -> Result<(), Fail> {
+    let memory = Memory::new(PLAN, MOVE, "");
+    for writes in 0..MOVED.len() + 2 {
+        let mut out = Narrow {
+            taken: Vec::new(rt.alloc()),
+            writes,
+        };
+        let result = serial(rt.alloc(), &memory, "p", "s", &mut out);
+        if writes <= MOVED.len() {
+            assert_eq!(rt; result, Err(Fault::WriteFailed(ErrorKind::StorageFull)));
+        } else {
+            assert_eq!(rt; result?, 0);
+            assert_eq!(rt; out.taken.as_slice(), MOVED.as_bytes());
+        }
+    }
+    Ok(())
+}
+
+#[test]
+fn a_refused_plan_leaves_the_sessions_unread(rt: HostRuntime) {
+    let memory = Memory::new("plan 2", MOVE, "");
+    let mut out = Vec::new(rt.alloc());
+    let result = serial(rt.alloc(), &memory, "p", "missing", &mut out);
+    assert!(rt; matches!(why(result), Some(Why::Plan(_))));
+}
+
+#[test]
+fn an_endless_reader_is_left(rt: HostRuntime) {
+    let memory = Memory::new(PLAN, MOVE, "");
+    let mut out = Vec::new(rt.alloc());
+    let result = serial(rt.alloc(), &memory, "endless", "s", &mut out);
+    assert!(rt; matches!(why(result), Some(Why::Plan(_))));
+    let result = serial(rt.alloc(), &memory, "p", "endless", &mut out);
+    assert!(rt; matches!(why(result), Some(Why::Sessions(_))));
+    assert_eq!(rt; out.len(), 0);
+}

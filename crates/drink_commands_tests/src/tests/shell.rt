@@ -1,0 +1,231 @@
+use crate::tests::words::strings;
+use crate::tests::{MOVE, MOVED, Memory, PLAN};
+use drink_commands::program::answer;
+use std::process::Abort;
+use std::test::Fail;
+
+const SCRIPT: &str = "submit 1\n";
+
+const SUBMITTED: &str = "ticket 1\nunfinished 1\nvalue x 100\nvalue y 0\n";
+
+/// That the program answers these words so: the exit status, what it prints, and what it says on the standard error.
+fn says(
+    rt: &(impl Abort + AllocGlobal),
+    memory: &Memory,
+    words: &[&str],
+    status: u8,
+    printed: &str,
+    said: &str,
+) -> Result<(), Fail> {
+    let alloc = rt.alloc();
+    let words = strings(alloc, words)?;
+    let mut out = Vec::new(alloc);
+    let exit = answer(alloc, words.as_slice(), memory, &mut out);
+    assert_eq!(rt; exit.status, status);
+    assert_eq!(rt; out.as_slice(), printed.as_bytes());
+    match &exit.said {
+        Some(text) => assert_eq!(rt; text.as_str(), said),
+        None => assert_eq!(rt; "", said),
+    }
+    Ok(())
+}
+
+#[test]
+fn reads_what_the_words_name(rt: HostRuntime) -> Result<(), Fail> {
+    let rows: [(&[&str], &str, &str); 9] = [
+        (&["drink", "serial", "p", "s"], "", MOVED),
+        (&["drink", "serial", "-", "s"], PLAN, MOVED),
+        (&["drink", "serial", "p", "-"], MOVE, MOVED),
+        (&["drink", "sim", "p", "s", "c"], "", SUBMITTED),
+        (&["drink", "sim", "-", "s", "c"], PLAN, SUBMITTED),
+        (&["drink", "sim", "p", "-", "c"], MOVE, SUBMITTED),
+        (&["drink", "sim", "p", "s", "-"], SCRIPT, SUBMITTED),
+        (&["drink", "serial", "p", "s"], "---\n---\n", MOVED),
+        (&["drink", "serial", "--", "p", "s"], "", MOVED),
+    ];
+    for (words, standard, printed) in rows {
+        let mut memory = Memory::new(PLAN, MOVE, SCRIPT);
+        memory.standard = standard;
+        says(&rt, &memory, words, 0, printed, "")?;
+    }
+    Ok(())
+}
+
+#[test]
+fn cuts_the_standard_input(rt: HostRuntime) -> Result<(), Fail> {
+    let alloc = rt.alloc();
+    let both = format!(in alloc; "{PLAN}---\n{MOVE}")?;
+    let all = format!(in alloc; "{PLAN}---\n{MOVE}---\r\n{SCRIPT}")?;
+    let scripted = format!(in alloc; "{MOVE}---\n{SCRIPT}")?;
+    let planned = format!(in alloc; "{PLAN}---\n{SCRIPT}")?;
+    let rows: [(&[&str], &str, &str); 5] = [
+        (&["drink", "serial", "-", "-"], both.as_str(), MOVED),
+        (&["drink", "sim", "-", "-", "c"], both.as_str(), SUBMITTED),
+        (&["drink", "sim", "-", "-", "-"], all.as_str(), SUBMITTED),
+        (
+            &["drink", "sim", "p", "-", "-"],
+            scripted.as_str(),
+            SUBMITTED,
+        ),
+        (
+            &["drink", "sim", "-", "s", "-"],
+            planned.as_str(),
+            SUBMITTED,
+        ),
+    ];
+    for (words, standard, printed) in rows {
+        for step in [1, 10, 100_000] {
+            let mut memory = Memory::new(PLAN, MOVE, SCRIPT);
+            memory.standard = standard;
+            memory.step = step;
+            says(&rt, &memory, words, 0, printed, "")?;
+        }
+    }
+    Ok(())
+}
+
+/// That these words fail so, and nothing is written.
+fn fails(
+    rt: &(impl Abort + AllocGlobal),
+    memory: &Memory<'_>,
+    words: &[&str],
+    said: &str,
+) -> Result<(), Fail> {
+    let alloc = rt.alloc();
+    let words = strings(alloc, words)?;
+    let mut out = Vec::new(alloc);
+    let exit = answer(alloc, words.as_slice(), memory, &mut out);
+    assert_eq!(rt; exit.status, 1);
+    assert_eq!(rt; out.len(), 0);
+    let expected = format!(in alloc; "drink: {said}\n")?;
+    assert_eq!(rt; exit.said, Some(expected));
+    Ok(())
+}
+
+#[test]
+fn faults_name_their_input(rt: HostRuntime) -> Result<(), Fail> {
+    let rows: [(&[&str], &str); 12] = [
+        (
+            &["drink", "serial", "missing", "s"],
+            "missing: X4 ReadFailed: it cannot be read: no such file",
+        ),
+        (
+            &["drink", "serial", "p", "folder"],
+            "folder: X4 ReadFailed: it cannot be read: it is a folder",
+        ),
+        (
+            &["drink", "sim", "p", "s", "locked"],
+            "locked: X4 ReadFailed: it cannot be read: permission denied",
+        ),
+        (
+            &["drink", "serial", "endless", "missing"],
+            "endless: P7 Limit: the text has more than 262144 bytes",
+        ),
+        (
+            &["drink", "serial", "s", "missing"],
+            "s: line 1: P1 Header: the first line has to be `plan 1 run N`, with N from 0 to 4294967295, and not `session a`",
+        ),
+        (
+            &["drink", "serial", "-", "s"],
+            "-: P1 Header: no line says anything, and the first one has to be `plan 1 run N`",
+        ),
+        (
+            &["drink", "serial", "p", "p"],
+            "p: line 1: S1 Syntax: `plan 1 run 42` stands outside of a session, and one begins with `session OFFICE`",
+        ),
+        (
+            &["drink", "serial", "p", "endless"],
+            "endless: S5 TooLong: the text has more than 1048576 bytes",
+        ),
+        (
+            &["drink", "sim", "p", "c", "missing"],
+            "c: line 1: S1 Syntax: `submit 1` stands outside of a session, and one begins with `session OFFICE`",
+        ),
+        (
+            &["drink", "sim", "p", "s", "s"],
+            "s: line 1: X1 Script: `session` begins no line of a script; these are `submit N`, `do OFFICE RULE`, `advance OFFICE N`, `send OFFICE NEIGHBOUR I` and `deliver K`",
+        ),
+        (
+            &["drink", "sim", "p", "s", "endless"],
+            "endless: X1 Script: the text has more than 16777216 bytes",
+        ),
+        (
+            &["drink", "sim", "c", "p", "s"],
+            "c: line 1: P1 Header: the first line has to be `plan 1 run N`, with N from 0 to 4294967295, and not `submit 1`",
+        ),
+    ];
+    for (words, said) in rows {
+        let memory = Memory::new(PLAN, MOVE, SCRIPT);
+        fails(&rt, &memory, words, said)?;
+    }
+    Ok(())
+}
+
+const RING: &str =
+    "plan 1 run 1\noffice a -\noffice b -\noffice c -\npair a b fork a\npair b c fork b\npair a c fork c\n";
+
+#[test]
+fn faults_say_what_was_found_and_where(rt: HostRuntime) -> Result<(), Fail> {
+    let rows = [
+        (
+            RING,
+            "",
+            "",
+            "-: P8 Ring: a, c, b (each precedes the next, and the last the first)",
+        ),
+        (
+            "plan 1 run 1\noffice a -\noffice a -\n",
+            "",
+            "",
+            "-: line 3: P3 NameTwice: the office `a` was declared on line 2",
+        ),
+        (
+            PLAN,
+            "session a\nset x = x + 1\nend\n",
+            "",
+            "-: line 2 (line 9 of the standard input): S2 UnknownName: no earlier line of the session lets the variable `x`; it is a record, and read by `read x`",
+        ),
+        (
+            PLAN,
+            MOVE,
+            "submit 1\nsubmit 2\n",
+            "-: line 2 (line 17 of the standard input): X1 Script: there is no session `2`: they are counted from 1, and the file has 1",
+        ),
+    ];
+    let alloc = rt.alloc();
+    for (plan, sessions, script, said) in rows {
+        let standard = format!(in alloc; "{plan}---\n{sessions}---\n{script}")?;
+        let mut memory = Memory::new("", "", "");
+        memory.standard = standard.as_str();
+        fails(&rt, &memory, &["drink", "sim", "-", "-", "-"], said)?;
+    }
+    Ok(())
+}
+
+#[test]
+fn help_goes_out_and_misuse_does_not(rt: HostRuntime) -> Result<(), Fail> {
+    let rows: [(&[&str], u8, bool); 7] = [
+        (&["drink", "--help"], 0, true),
+        (&["drink", "serial", "--help"], 0, true),
+        (&["drink", "--version"], 0, true),
+        (&["drink"], 2, false),
+        (&["drink", "serial", "p"], 2, false),
+        (&["drink", "brew"], 2, false),
+        (&["drink", "serial", "p", "s", "--seed", "1"], 2, false),
+    ];
+    let alloc = rt.alloc();
+    for (words, status, goes_out) in rows {
+        let memory = Memory::new(PLAN, MOVE, SCRIPT);
+        let words = strings(alloc, words)?;
+        let mut out = Vec::new(alloc);
+        let exit = answer(alloc, words.as_slice(), &memory, &mut out);
+        assert_eq!(rt; exit.status, status);
+        assert_eq!(rt; out.is_empty(), !goes_out);
+        assert_eq!(rt; exit.said.is_none(), goes_out);
+        let text = String::from_utf8(out)?;
+        for line in text.as_str().lines() {
+            assert!(rt; line.len() <= 100);
+        }
+    }
+    Ok(())
+}

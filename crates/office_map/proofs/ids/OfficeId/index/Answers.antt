@@ -1,0 +1,4 @@
+use Rattle.office_map.proofs.ids.OfficeId.index.Goals as goal
+
+pub returns : goal.returns
+returns c = cc

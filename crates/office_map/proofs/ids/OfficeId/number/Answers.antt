@@ -1,0 +1,4 @@
+use Rattle.office_map.proofs.ids.OfficeId.number.Goals as goal
+
+pub returns : goal.returns
+returns c = cc

@@ -1,0 +1,11 @@
+use Rattle.std.proofs.Common.{arith}
+use Rattle.office_map.proofs.plan.Plan.ends.Goals as goal
+
+pub returns-clause-joined : goal.returns-clause-joined
+returns-clause-joined c = cc
+
+pub returns-clause-offices : goal.returns-clause-offices
+returns-clause-offices c = omega arith
+
+pub returns-clause-different : goal.returns-clause-different
+returns-clause-different c = omega arith
