@@ -25,6 +25,13 @@ add() {
 add $uses
 mkdir -p "$work/crates/$program/src"
 cp "$here/bench.txt" "$work/crates/$program/src/main.rt"
+# What is written of its proof stands beside it, as .txt.
+if [ -d "$here/proofs" ]; then
+    (cd "$here/proofs" && find . -name '*.txt') | while read -r file; do
+        mkdir -p "$work/crates/$program/proofs/$(dirname "$file")"
+        cp "$here/proofs/$file" "$work/crates/$program/proofs/${file%.txt}.antt"
+    done
+fi
 echo "$program: $uses" >> "$work/crates.txt"
 cd "$work/crates/$program"
 rt run > "$work/log" 2>&1 || { cat "$work/log"; exit 1; }

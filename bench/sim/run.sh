@@ -114,7 +114,7 @@ for offices in 2 16; do
     ring "$offices"
     : > "$work/script"
     none=$(instructions "$work/sessions")
-    for lines in 10000 100000 500000; do
+    for lines in 10000 100000 500000 1000000; do
         script "$offices" "$lines" > "$work/script"
         printf '| %s | %s | %s | %s |\n' "$offices" "$lines" "$(memory "$work/sessions")" "$(for_a_line "$(instructions "$work/sessions")" "$none" "$lines")"
     done
