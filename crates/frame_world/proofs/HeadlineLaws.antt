@@ -13,16 +13,16 @@ use Rattle.drinking_core.specs.Worlds.{Spot, With, Toward, is_with, is_toward, i
 use Rattle.drinking_core.specs.Worlds as bars
 use Rattle.frame_world.specs.Worlds.{World, opening, run_of, office_at}
 use Rattle.frame_world.specs.Ways.{pairs_at, toward, bottles_in, listed, bottles_between, bars_of}
-use Rattle.frame_world.specs.Headline.{programs, SessionsAreSerial, BottlesAreSerial, WhoDrinksHasItsBottles}
+use Rattle.frame_world.specs.Headline.{programs, Always, HasSerialSessions, HasSerialValues, DrinkersHaveTheirBottles}
 use Rattle.frame_world.specs.refinement.PartsLaws.{PartsLaws}
 use Rattle.frame_world.proofs.Steps.{state_of, seated}
 use Rattle.frame_world.proofs.Sessions.{drinks_where_it_works, has_its_bottles}
 use Rattle.frame_world.proofs.SerialSessions.{IsKept, kept}
 
-pub sessions_are_serial : PartsLaws → SessionsAreSerial
+pub sessions_are_serial : PartsLaws → Always HasSerialSessions
 sessions_are_serial laws plan es c = (kept plan laws es).serial.outcomes ∙ ap (λ (p : PlanValue). outcomes_of (start_map p) (programs (run_of (opening plan) es))) (sym (seated plan es).planned)
 
-pub who_drinks_has_its_bottles : PartsLaws → WhoDrinksHasItsBottles
+pub who_drinks_has_its_bottles : PartsLaws → Always DrinkersHaveTheirBottles
 who_drinks_has_its_bottles laws plan es c = record {
   drinks = λ a. drinks_where_it_works plan a (office_at w a).agenda.current (pairs_at w a).drinker ((kept plan laws es).sane a).current;
   bottles = λ a s reads done e. has_its_bottles plan a (office_at w a) s reads done ((kept plan laws es).sane a) e;
@@ -88,7 +88,7 @@ only_there w r x y spot v ne e at =
     ∙ ap (λ l. listed (cond (is_with spot x) (Some v) None) ++ (listed (cond (is_with spot y) (Some v) None) ++ (cond (is_toward spot x y) (v ∷ []) [] ++ l))) (at.sent y x)
     ∙ only_one v (is_with spot x) (is_with spot y) (is_toward spot x y) (is_toward spot y x) (one_spot x y ne spot e)
 
-pub bottles_are_serial : PartsLaws → bars.EachHasItsSpots → bars.NoOtherSpot → BottlesAreSerial
+pub bottles_are_serial : PartsLaws → bars.EachHasItsSpots → bars.NoOtherSpot → Always HasSerialValues
 bottles_are_serial laws spots other plan es c r lt =
     ap (λ (p : PlanValue). option_map_or (bottles_between w r) (ends_of p r) []) same ∙ found ∙ ap (λ (p : PlanValue). map_of (start_map p) (programs w) r ∷ []) (sym same)
   where

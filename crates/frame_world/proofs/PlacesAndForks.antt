@@ -19,7 +19,7 @@ use Rattle.site_core.specs.Pairs.{Pairs, held}
 use Rattle.site_core.proofs.PlanFacts.{among_neighbours}
 use Rattle.frame_world.specs.Worlds.{World, opening, run_of}
 use Rattle.frame_world.specs.Ways.{pairs_at, between, bottles_in, tables_of, bars_of}
-use Rattle.frame_world.specs.Headline.{ThingsHaveOnePlace, NeighboursNeverEatAtOnce, WhoEatsHasItsForks, PrecedenceHasNoRing}
+use Rattle.frame_world.specs.Headline.{Always, HasOnePlaceEach, NeighboursEatApart, EatersHaveTheirForks, PrecedenceHasNoRing}
 use Rattle.frame_world.proofs.Steps.{State, state_of, seated}
 use Rattle.frame_world.proofs.Following.{pairs_in, Follows, follows}
 
@@ -61,19 +61,19 @@ each_is_placed forks bottles plan s c f a b t = of t
     of (thing.Bottle r) = omega (arith, bars_placed.bottle r a b, counted r (between (pairs_in s) a b), counted r (between (pairs_in s) b a))
     of (thing.BottleToken r) = bars_placed.token r a b
 
-pub things_have_one_place : tables.EachHasOnePlace → bars.EachHasOnePlace → ThingsHaveOnePlace
+pub things_have_one_place : tables.EachHasOnePlace → bars.EachHasOnePlace → Always HasOnePlaceEach
 things_have_one_place forks bottles plan es c a b t =
     let w : World = run_of (opening plan) es in
     each_is_placed forks bottles plan (state_of w) c (follows plan es) a b t ∙ ap (λ (p : PlanValue). num (is_shared p a b t)) (sym (seated plan es).planned)
 
-pub neighbours_eat_apart : tables.NeighboursEatApart → NeighboursNeverEatAtOnce
+pub neighbours_eat_apart : tables.NeighboursEatApart → Always NeighboursEatApart
 neighbours_eat_apart law plan es c a b near =
     let o = (follows plan es).tables in
     let w : World = run_of (opening plan) es in
     subst (λ (d : tables.World). (is_eating (d.diner a).phase && is_eating (d.diner b).phase) ≡ false) (sym o.led)
     (law plan o.events a b c (ap (λ (p : PlanValue). are_neighbours p a b) (sym (seated plan es).planned) ∙ near))
 
-pub who_eats_has_its_forks : tables.NeighboursStay → tables.EatersHaveTheirForks → WhoEatsHasItsForks
+pub who_eats_has_its_forks : tables.NeighboursStay → tables.EatersHaveTheirForks → Always EatersHaveTheirForks
 who_eats_has_its_forks stay law plan es c a b eats near =
     let o = (follows plan es).tables in
     let w : World = run_of (opening plan) es in

@@ -42,7 +42,7 @@ use Rattle.frame_world.specs.declared.event.WorldEvent.TheVariants as happening
 use Rattle.frame_world.specs.declared.refusal.Refusal.{Refusal}
 use Rattle.frame_world.specs.declared.refusal.Refusal.TheVariants as refusal
 use Rattle.frame_world.specs.Worlds.{World, opening, run_of, site_at, office_at, told, handed, delivered, happens}
-use Rattle.frame_world.specs.Headline.{SentFramesAreTaken, is_fault}
+use Rattle.frame_world.specs.Headline.{Always, FramesAreTaken, is_fault}
 use Rattle.frame_world.specs.Ways.{untaken, between}
 use Rattle.frame_world.proofs.Answers.{PairStep, Stays, ByFork, ByBottle, ByFrame, step_of, pair_after}
 use Rattle.frame_world.proofs.OneLink.{Known, Waits, Carries, Arrives, Brings, BringsNone, arrives, taken_after}
@@ -362,7 +362,7 @@ take_fine : (o : Office) (f : Fields) (y : Option ChannelFault) (x : offices.Ref
 take_fine o f None x is e = absurd cc
 take_fine o f (Some y) x is e = absurd cc
 
-pub sent_frames_are_taken : tables.EachHasOnePlace → bars.EachHasOnePlace → SentFramesAreTaken
+pub sent_frames_are_taken : tables.EachHasOnePlace → bars.EachHasOnePlace → Always FramesAreTaken
 sent_frames_are_taken forks bottles plan es c e r is = by e is
   where
     w : World

@@ -86,26 +86,10 @@ pub record IsReached (w : World) : Type 0 where
 
 -- ---- laws
 
-abbrev pub SessionsAreSerial : Type 0
-SessionsAreSerial = (plan : PlanValue) (events : List WorldEvent) → IsConsistent plan → HasSerialSessions (run_of (opening plan) events)
+-- so it is in each world that a list of events leads to, from whichever plan
+abbrev pub Always : (World → Type 0) → Type 0
+Always claim = (plan : PlanValue) (events : List WorldEvent) → IsConsistent plan → claim (run_of (opening plan) events)
 
-abbrev pub BottlesAreSerial : Type 0
-BottlesAreSerial = (plan : PlanValue) (events : List WorldEvent) → IsConsistent plan → HasSerialValues (run_of (opening plan) events)
-
-abbrev pub ThingsHaveOnePlace : Type 0
-ThingsHaveOnePlace = (plan : PlanValue) (events : List WorldEvent) → IsConsistent plan → HasOnePlaceEach (run_of (opening plan) events)
-
-abbrev pub NeighboursNeverEatAtOnce : Type 0
-NeighboursNeverEatAtOnce = (plan : PlanValue) (events : List WorldEvent) → IsConsistent plan → NeighboursEatApart (run_of (opening plan) events)
-
-abbrev pub WhoEatsHasItsForks : Type 0
-WhoEatsHasItsForks = (plan : PlanValue) (events : List WorldEvent) → IsConsistent plan → EatersHaveTheirForks (run_of (opening plan) events)
-
-abbrev pub WhoDrinksHasItsBottles : Type 0
-WhoDrinksHasItsBottles = (plan : PlanValue) (events : List WorldEvent) → IsConsistent plan → DrinkersHaveTheirBottles (run_of (opening plan) events)
-
+-- from a plan that is accepted, precedence never has a ring
 abbrev pub PrecedenceHasNoRing : Type 0
 PrecedenceHasNoRing = (plan : PlanValue) (events : List WorldEvent) → IsAccepted plan → HasNoRing plan (tables_of (pairs_at (run_of (opening plan) events)))
-
-abbrev pub SentFramesAreTaken : Type 0
-SentFramesAreTaken = (plan : PlanValue) (events : List WorldEvent) → IsConsistent plan → FramesAreTaken (run_of (opening plan) events)

@@ -1,6 +1,6 @@
 //! The headline, over definitions: what holds of every world that a list of events leads to.
 
-ghost use Rattle.frame_world.specs.Headline.{SessionsAreSerial, BottlesAreSerial, ThingsHaveOnePlace, NeighboursNeverEatAtOnce, WhoEatsHasItsForks, WhoDrinksHasItsBottles, PrecedenceHasNoRing, SentFramesAreTaken};
+ghost use Rattle.frame_world.specs.Headline.{Always, HasSerialSessions, HasSerialValues, HasOnePlaceEach, NeighboursEatApart, EatersHaveTheirForks, DrinkersHaveTheirBottles, FramesAreTaken, PrecedenceHasNoRing};
 ghost use Rattle.frame_world.specs.refinement.PartsLaws.{PartsLaws};
 
 use dining_core::laws as tables;
@@ -10,14 +10,14 @@ use token_channel::laws::what_comes_was_away;
 
 /// The finished sessions read, gave and wrote what they do when they run alone, one after another in finishing order.
 pub fn sessions_are_serial()
-    ensures { SessionsAreSerial }
+    ensures { Always HasSerialSessions }
 {
     parts_hold();
 }
 
 /// Each record has one bottle, which has the value of that serial run.
 pub fn bottles_are_serial()
-    ensures { BottlesAreSerial }
+    ensures { Always HasSerialValues }
 {
     parts_hold();
     bars::each_has_its_spots();
@@ -26,7 +26,7 @@ pub fn bottles_are_serial()
 
 /// Each fork, bottle and request token of two offices is at one place, and two offices have no other.
 pub fn things_have_one_place()
-    ensures { ThingsHaveOnePlace }
+    ensures { Always HasOnePlaceEach }
 {
     tables::each_has_one_place();
     bars::each_has_one_place();
@@ -34,14 +34,14 @@ pub fn things_have_one_place()
 
 /// Two neighbours never eat at once.
 pub fn neighbours_never_eat_at_once()
-    ensures { NeighboursNeverEatAtOnce }
+    ensures { Always NeighboursEatApart }
 {
     tables::neighbours_eat_apart();
 }
 
 /// An office that eats has the fork of each of its neighbours.
 pub fn who_eats_has_its_forks()
-    ensures { WhoEatsHasItsForks }
+    ensures { Always EatersHaveTheirForks }
 {
     tables::neighbours_stay();
     tables::eaters_have_their_forks();
@@ -50,7 +50,7 @@ pub fn who_eats_has_its_forks()
 /// An office drinks just where it works, and has the bottles that its session needs with the values that its work began
 /// with.
 pub fn who_drinks_has_its_bottles()
-    ensures { WhoDrinksHasItsBottles }
+    ensures { Always DrinkersHaveTheirBottles }
 {
     parts_hold();
 }
@@ -65,7 +65,7 @@ pub fn precedence_has_no_ring()
 /// No frame that was sent is refused for what it says, whatever is lost, repeated or reordered: an office never answers that
 /// it can't be read, or that the channel to its sender refuses it.
 pub fn sent_frames_are_taken()
-    ensures { SentFramesAreTaken }
+    ensures { Always FramesAreTaken }
 {
     tables::each_has_one_place();
     bars::each_has_one_place();

@@ -128,13 +128,13 @@ pub fn block_statements(statements: &[Statement]) -> u32
 {
     let mut total = 0;
     for statement in statements {
-        total = sum(total, count(statement));
+        total = sum(total, count_statements(statement));
     }
     total
 }
 
 #[cycle(statements)]
-fn count(statement: &Statement) -> u32
+fn count_statements(statement: &Statement) -> u32
     ensures { result ≡ min 10001 (statements (command_of statement.now)) }
 {
     match statement {

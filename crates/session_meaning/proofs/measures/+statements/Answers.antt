@@ -5,17 +5,17 @@ use Rattle.session_meaning.specs.declared.tree.Statement.TheViews.{the_lemmas}
 use Rattle.session_meaning.proofs.TreeErasure.{row_block_is}
 use Rattle.session_meaning.proofs.measures.+statements.Goals as goal
 
-pub count-returns-in-If : goal.count-returns-in-If
-count-returns-in-If t c =
+pub count_statements-returns-in-If : goal.count_statements-returns-in-If
+count_statements-returns-in-If t c =
     let e : command_of c.args.statement.now ≡ When (test_of c.in-If.field-0.value) (block_of c.deref.result.now) = search (rules, the_lemmas, row_block_is) in
     rw e (omega arith)
 
-pub count-returns-in-IfElse : goal.count-returns-in-IfElse
-count-returns-in-IfElse t c =
+pub count_statements-returns-in-IfElse : goal.count_statements-returns-in-IfElse
+count_statements-returns-in-IfElse t c =
     let e : command_of c.args.statement.now ≡ Choice (test_of c.in-IfElse.field-0.value) (block_of c.deref-in-IfElse.result.now) (block_of c.deref-in-IfElse-2.result.now) = search (rules, the_lemmas, row_block_is) in
     rw e (omega arith)
 
-pub count-returns-in-Repeat : goal.count-returns-in-Repeat
-count-returns-in-Repeat t c =
+pub count_statements-returns-in-Repeat : goal.count_statements-returns-in-Repeat
+count_statements-returns-in-Repeat t c =
     let e : command_of c.args.statement.now ≡ Loop c.in-Repeat.field-0 (block_of c.deref-in-Repeat.result.now) = search (rules, the_lemmas, row_block_is) in
     rw e (omega arith)
