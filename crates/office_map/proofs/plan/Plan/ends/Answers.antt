@@ -1,4 +1,4 @@
-use Rattle.std.proofs.Common.{arith}
+use Rattle.std.proofs.Common.{arith, rules}
 use Rattle.office_map.proofs.plan.Plan.ends.Goals as goal
 
 pub returns-clause-joined : goal.returns-clause-joined
@@ -9,3 +9,6 @@ returns-clause-offices c = omega arith
 
 pub returns-clause-different : goal.returns-clause-different
 returns-clause-different c = omega arith
+
+pub returns-clause-ends : goal.returns-clause-ends
+returns-clause-ends c = search rules

@@ -19,3 +19,9 @@ invariant_of-self-2 c =
       counted_more c.self.inside.records c.self.inside.counts _ c.place_of.result (get_or c.self.inside.counts c.place_of.result 0 + 1) long c.self.invariant.1 (omega (arith, ends.first, fit)) (omega (arith, ends.second, fit)) c.place_of.ensures.place c.place_of.ensures.within refl,
       c.self.invariant.2,
     )
+
+pub returns : goal.returns
+returns c = search rules
+
+pub overflow_add-self : goal.overflow_add-self
+overflow_add-self c = search rules

@@ -1,4 +1,4 @@
-use Rattle.std.proofs.Common.{ap, sym, ◌∙◌, ◌++◌, ◌∷◌, [], arith}
+use Rattle.std.proofs.Common.{ap, sym, ◌∙◌, ◌++◌, ◌∷◌, [], arith, rules}
 use Rattle.site_core.specs.declared.event.Event.TheVariants as event
 use Rattle.site_core.specs.declared.reply.Reply.TheVariants as reply
 use Rattle.site_core.proofs.OfficeSteps.{few_tickets, submitted_session, not_err}
@@ -13,3 +13,18 @@ invariant_of-self-2 c =
     submitted_session s.pairs s.agenda c.submit.new.self s.journal.entries c.push.new.self.entries c.args.tag c.args.program.now c.in_ok-ticket.ticket c.is_full.result c.self.invariant (sym c.is_ours.ensures ∙ c.if-not-is_ours.false) c.is_full.ensures c.if-is_full.false
     c.in_ok-ticket.ensures.ticket c.in_ok-ticket.ensures.done c.requires (λ e. not_err _ _ (c.in_ok-make_room.ensures.full.1 e))
     (c.push.ensures ∙ ap (λ l. l ++ c.of_session-entry.result ∷ []) c.in_ok-make_room.ensures.unchanged ∙ ap (λ x. s.journal.entries ++ x ∷ []) (c.of_session-entry.ensures ∙ ap (λ p. record { tag = c.args.tag; event = event.Submit p; reply = reply.Ticket c.in_ok-ticket.ticket }) c.in_ok-copy.ensures))
+
+pub returns-then-is_full : goal.returns-then-is_full
+returns-then-is_full c = search rules
+
+pub returns-in_err-make_room : goal.returns-in_err-make_room
+returns-in_err-make_room c = search rules
+
+pub returns-in_err-copy : goal.returns-in_err-copy
+returns-in_err-copy c = search rules
+
+pub returns-in_err-ticket : goal.returns-in_err-ticket
+returns-in_err-ticket c = search rules
+
+pub returns : goal.returns
+returns c = search rules

@@ -1,4 +1,4 @@
-use Rattle.std.proofs.Common.{Ok, ap, sym, subst, ◌∙◌, ◌++◌, ◌∷◌, []}
+use Rattle.std.proofs.Common.{Ok, ap, sym, subst, ◌∙◌, ◌++◌, ◌∷◌, [], rules}
 use Rattle.site_core.specs.declared.event.Event.TheVariants as event
 use Rattle.site_core.specs.Journals.{Steps}
 use Rattle.site_core.specs.refinement.OfficeOfCode.{site_of}
@@ -19,3 +19,12 @@ returns c =
     (taken_steps s.pairs c.accept-arrival.new.self s.agenda s.journal.entries c.push.new.self.entries c.args.tag c.args.frame.now c.accept-arrival.result c.to.result c.self.invariant c.accept-arrival.ensures.office (sym c.in_default.ensures.fault)
     c.accept-arrival.ensures.arrival c.to.ensures (λ e. not_err _ _ (c.in_ok-make_room.ensures.full.1 e))
     (c.push.ensures ∙ ap (λ l. l ++ c.of_arrival-entry.result ∷ []) c.in_ok-make_room.ensures.unchanged ∙ ap (λ x. s.journal.entries ++ x ∷ []) c.of_arrival-entry.ensures))
+
+pub returns-in_err-make_room : goal.returns-in_err-make_room
+returns-in_err-make_room c = search rules
+
+pub accept-arrival-requires : goal.accept-arrival-requires
+accept-arrival-requires c = search rules
+
+pub returns-in-Err : goal.returns-in-Err
+returns-in-Err c = search rules

@@ -1,0 +1,5 @@
+use Rattle.std.proofs.Common.{rules}
+use Rattle.office_map.proofs.plan.Plan.office_name.Goals as goal
+
+pub returns : goal.returns
+returns c = search rules
