@@ -1,4 +1,4 @@
-use Rattle.std.proofs.Common.{sym, Ok, Err}
+use Rattle.std.proofs.Common.{sym, Ok, Err, rules}
 use Rattle.site_core.specs.declared.event.Event.TheVariants.{Do}
 use Rattle.locked_office.proofs.Walk.{one_more, stops}
 use Rattle.locked_office.proofs.advance.do_rules.Goals as goal
@@ -14,3 +14,6 @@ loop-done-preserved c =
     let s = c.loop-done.office in
     let added = c.steps_add_their_entry.ensures s c.args.tag (Do c.in-Some.rule) (Ok c.in-Ok.field-0) c.act.new.self c.in-Ok.ensures in
     one_more c.args.tag c.loop-done.done c.args.office.now s c.act.new.self c.in-Some.rule c.in-Ok.field-0 c.loop-done.invariant (sym c.in-Some.ensures) added
+
+pub returns-in_default : goal.returns-in_default
+returns-in_default c = search rules

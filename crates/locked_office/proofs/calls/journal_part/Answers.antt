@@ -1,3 +1,4 @@
+use Rattle.std.proofs.Common.{rules}
 use Rattle.locked_office.proofs.Giving.{nothing_added, looked}
 use Rattle.locked_office.proofs.calls.journal_part.Goals as goal
 
@@ -7,3 +8,9 @@ give_back-requires-clause-adds c =
 
 pub returns-clause-looked : goal.returns-clause-looked
 returns-clause-looked c = looked c.args.lock.now c.args.pass.now c.give_back.new.pass c.args.held c.requires c.give_back.ensures.seen c.give_back.ensures.legal c.give_back.ensures.own
+
+pub give_back-requires-clause-key : goal.give_back-requires-clause-key
+give_back-requires-clause-key c = cc
+
+pub returns-clause-part : goal.returns-clause-part
+returns-clause-part c = search rules
