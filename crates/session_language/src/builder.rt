@@ -18,7 +18,7 @@ use session_meaning::{Expression, Node, Operator};
 use std::alloc::{AllocError, Global};
 
 /// A token whose names are known.
-#[derive(Clone, Copy, Debug)]
+#[derive(Clone, Copy)]
 pub enum Element {
     Operand(Node),
     Plus,
@@ -29,7 +29,7 @@ pub enum Element {
 }
 
 /// The left operand of a sign that waits for the right one, by its depth.
-#[derive(Clone, Copy, Debug)]
+#[derive(Clone, Copy)]
 pub enum Sum {
     Nothing,
     Added(u8),
@@ -38,7 +38,7 @@ pub enum Sum {
 
 /// What stands before an operand since the last open parenthesis: a sum and its sign, a product
 /// and its star by its depth, and how many leading minuses.
-#[derive(Clone, Copy, Debug)]
+#[derive(Clone, Copy)]
 pub struct Level {
     pub sum: Sum,
     pub product: Option<u8>,
@@ -46,7 +46,7 @@ pub struct Level {
 }
 
 /// What may come next: an operand, or what follows one of this depth.
-#[derive(Clone, Copy, Debug)]
+#[derive(Clone, Copy)]
 pub enum Stage {
     Wants(Level),
     Has(Sum, u8),

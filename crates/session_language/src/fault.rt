@@ -95,7 +95,7 @@ impl<T: Drop> From<AllocFailed<T>> for LangFault {
 }
 
 /// Why a line was not taken; which line it is, its reader knows.
-#[derive(Debug, Drop)]
+#[derive(Drop)]
 pub(crate) enum Stop {
     Memory,
     Refused(SessionRule),

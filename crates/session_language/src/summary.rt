@@ -4,7 +4,7 @@ ghost use Rattle.std.specs.Prelude.{◌≡◌, ◌&&◌, max};
 
 /// What is known of an expression besides its nodes: how deep it is, or 33 past 32, and whether
 /// its variables and its records are known.
-#[derive(Clone, Copy, Debug)]
+#[derive(Clone, Copy)]
 pub struct Summary {
     pub depth: u8,
     pub knows_variables: bool,

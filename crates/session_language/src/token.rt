@@ -8,14 +8,14 @@ use crate::number::Number;
 use office_map::text::{name, number};
 
 /// A number, a variable, or `read` and a record; names as they stand in the text.
-#[derive(Clone, Copy, Debug)]
+#[derive(Clone, Copy)]
 pub enum Operand<'a> {
     Number(Number),
     Variable(&'a str),
     Record(&'a str),
 }
 
-#[derive(Clone, Copy, Debug)]
+#[derive(Clone, Copy)]
 pub enum Token<'a> {
     Leaf(Operand<'a>),
     Plus,
@@ -27,7 +27,7 @@ pub enum Token<'a> {
 
 /// What comes next in an expression: a token, or the first piece that is none of it, or a `read`
 /// with no name after it.
-#[derive(Clone, Copy, Debug)]
+#[derive(Clone, Copy)]
 pub enum Next<'a> {
     Token(Token<'a>),
     Stop(Option<Piece<'a>>),
