@@ -25,7 +25,7 @@ impl OfficeEntry {
 }
 
 /// Two neighbours in the order of their line, and which of them has the fork at the start.
-#[derive(Clone, Copy, Debug, PartialEq, Eq)]
+#[derive(Clone, Copy)]
 pub struct PairEntry {
     pub first: OfficeId,
     pub second: OfficeId,

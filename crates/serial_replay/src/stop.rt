@@ -7,7 +7,7 @@ use session_language::End;
 use std::alloc::{AllocError, AllocFailed};
 
 /// The session has ended, or memory ran out.
-#[derive(Debug, Drop)]
+#[derive(Drop)]
 pub enum Stop {
     Ended(End),
     Memory,

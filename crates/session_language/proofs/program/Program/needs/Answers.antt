@@ -7,3 +7,6 @@ returns-clause-in_order c = let all : c.deref.result.now ≡ needs_of c.args.sel
 
 pub returns-clause-named : goal.returns-clause-named
 returns-clause-named c = let all : c.deref.result.now ≡ needs_of c.args.self.now.body = search rules in rw all (c.needs_what_it_names.ensures c.args.self.now.body).1
+
+pub returns-clause-all : goal.returns-clause-all
+returns-clause-all c = cc
