@@ -39,8 +39,8 @@ use Rattle.site_core.specs.Offices.{Office, Answer, may, act, is_ours, framed, f
 use Rattle.site_core.specs.Journals.{Site, office_of, noted, recorded, step}
 use Rattle.frame_world.specs.declared.event.WorldEvent.{WorldEvent}
 use Rattle.frame_world.specs.declared.event.WorldEvent.TheVariants as happening
-use Rattle.frame_world.specs.declared.refusal.Refusal.{Refusal}
-use Rattle.frame_world.specs.declared.refusal.Refusal.TheVariants as refusal
+use Rattle.frame_world.specs.declared.refusal.WorldRefusal.{WorldRefusal}
+use Rattle.frame_world.specs.declared.refusal.WorldRefusal.TheVariants as refusal
 use Rattle.frame_world.specs.Worlds.{World, opening, run_of, site_at, office_at, told, handed, delivered, happens}
 use Rattle.frame_world.specs.Headline.{Always, FramesAreTaken, is_fault}
 use Rattle.frame_world.specs.Ways.{untaken, between}
@@ -319,11 +319,11 @@ fine forks bottles plan s c t k f e =
 
 -- ---- what is refused
 
-abbrev IsFine : Refusal → Type 0
+abbrev IsFine : WorldRefusal → Type 0
 IsFine r = is_fault r ≡ false
 
 -- an office that answers no fault is told so
-handed_fine : (w : World) (a : ℕ) (e : office.Event) → ((x : offices.Refusal) → answer (site_at w a).plan (site_at w a).me (office_at w a) e ≡ Err x → IsFine (refusal.Office x)) → (r : Refusal) → (handed w a e).0 ≡ Err r → IsFine r
+handed_fine : (w : World) (a : ℕ) (e : office.Event) → ((x : offices.Refusal) → answer (site_at w a).plan (site_at w a).me (office_at w a) e ≡ Err x → IsFine (refusal.Office x)) → (r : WorldRefusal) → (handed w a e).0 ≡ Err r → IsFine r
 handed_fine w a e fine r is = by_place (nat_lt a (length w.sites)) is
   where
     s : Site

@@ -22,7 +22,7 @@ use Rattle.site_core.specs.Journals.{Site, office_of, noted, recorded, step, nex
 use Rattle.site_core.proofs.OfficeLimits.{office_noted, office_empty}
 use Rattle.frame_world.specs.declared.event.WorldEvent.{WorldEvent}
 use Rattle.frame_world.specs.declared.event.WorldEvent.TheVariants as happening
-use Rattle.frame_world.specs.declared.refusal.Refusal.TheVariants as refusal
+use Rattle.frame_world.specs.declared.refusal.WorldRefusal.TheVariants as refusal
 use Rattle.frame_world.specs.Worlds.{World, Finished, silent, opening, site_at, office_at, frames_of, finished_by, told, handed, delivered, happens, run_of}
 
 pub record State : Type 0 where

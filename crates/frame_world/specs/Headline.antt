@@ -20,8 +20,8 @@ use Rattle.site_core.specs.declared.reply.Refusal.TheVariants as refused
 use Rattle.site_core.specs.Agenda.{Working, is_working}
 use Rattle.site_core.specs.Offices.{Office, value_in}
 use Rattle.frame_world.specs.declared.event.WorldEvent.{WorldEvent}
-use Rattle.frame_world.specs.declared.refusal.Refusal.{Refusal}
-use Rattle.frame_world.specs.declared.refusal.Refusal.TheVariants as refusal
+use Rattle.frame_world.specs.declared.refusal.WorldRefusal.{WorldRefusal}
+use Rattle.frame_world.specs.declared.refusal.WorldRefusal.TheVariants as refusal
 use Rattle.frame_world.specs.Worlds.{World, Finished, opening, run_of, happens, office_at}
 use Rattle.frame_world.specs.Ways.{pairs_at, places, bottles_of, tables_of}
 
@@ -64,7 +64,7 @@ pub record DrinkersHaveTheirBottles (w : World) : Type 0 where
   pub bottles : (a : ℕ) (s : Session) (reads : List (ℕ × Value)) (done : ℕ) → (office_at w a).agenda.current ≡ Working s reads done → HasItsBottles (office_at w a) s reads
 
 -- no frame can be read from what came, or the channel to its sender refuses it
-abbrev pub is_fault : Refusal → Bool
+abbrev pub is_fault : WorldRefusal → Bool
 is_fault (refusal.Office (refused.Frame fault)) = true
 is_fault (refusal.Office (refused.Channel fault)) = true
 is_fault (refusal.Office refused.NotOurs) = false
@@ -77,7 +77,7 @@ is_fault refusal.NoFrame = false
 
 -- a frame that was sent isn't refused for what it says: whatever is refused, it is no frame's fault
 abbrev pub FramesAreTaken : World → Type 0
-FramesAreTaken w = (e : WorldEvent) (r : Refusal) → (happens w e).0 ≡ Err r → is_fault r ≡ false
+FramesAreTaken w = (e : WorldEvent) (r : WorldRefusal) → (happens w e).0 ≡ Err r → is_fault r ≡ false
 
 -- which events led to a world
 pub record IsReached (w : World) : Type 0 where

@@ -20,8 +20,8 @@ use Rattle.site_core.specs.Offices.{Office}
 use Rattle.site_core.specs.Journals.{Site, office_of, step}
 use Rattle.frame_world.specs.declared.event.WorldEvent.{WorldEvent}
 use Rattle.frame_world.specs.declared.event.WorldEvent.TheVariants as happening
-use Rattle.frame_world.specs.declared.refusal.Refusal.{Refusal}
-use Rattle.frame_world.specs.declared.refusal.Refusal.TheVariants as refusal
+use Rattle.frame_world.specs.declared.refusal.WorldRefusal.{WorldRefusal}
+use Rattle.frame_world.specs.declared.refusal.WorldRefusal.TheVariants as refusal
 
 -- a session that finished: its program, and what is told of it
 pub record Finished : Type 0 where
@@ -76,7 +76,7 @@ finished_by a c _ = []
 
 -- what is answered, and the world then
 abbrev pub Answer : Type 0
-Answer = Result Reply Refusal × World
+Answer = Result Reply WorldRefusal × World
 
 -- what is told of what an office did, where it is this site then; refused events change nothing
 abbrev pub told : World → ℕ → office.Event → Result Reply offices.Refusal × Site → Answer
@@ -116,15 +116,15 @@ abbrev pub run_of : World → List WorldEvent → World
 run_of w [] = w
 run_of w (e ∷ es) = run_of (happens w e).1 es
 
-abbrev pub replies_of : World → List WorldEvent → List (Result Reply Refusal)
+abbrev pub replies_of : World → List WorldEvent → List (Result Reply WorldRefusal)
 replies_of w [] = []
 replies_of w (e ∷ es) = (happens w e).0 ∷ replies_of (happens w e).1 es
 
 -- the answer and the world after it, or Memory and the world as it was
-abbrev pub OrMemory : World → Answer → Result Reply Refusal → World → Type 0
+abbrev pub OrMemory : World → Answer → Result Reply WorldRefusal → World → Type 0
 OrMemory w answer result w' =
     ((result ≡ Err (refusal.Office refused.Memory)) × (w' ≡ w))
     ⊎ ((result ≡ answer.0) × (w' ≡ answer.1))
 
-abbrev pub Applies : World → WorldEvent → Result Reply Refusal → World → Type 0
+abbrev pub Applies : World → WorldEvent → Result Reply WorldRefusal → World → Type 0
 Applies w e result w' = OrMemory w (happens w e) result w'

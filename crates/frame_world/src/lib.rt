@@ -24,4 +24,4 @@ pub mod laws;
 mod refusal;
 
 pub use crate::event::WorldEvent;
-pub use crate::refusal::Refusal;
+pub use crate::refusal::WorldRefusal;

@@ -4,7 +4,7 @@ use thiserror::Error;
 
 /// Why an event is refused. A refused event leaves the world as it was.
 #[derive(Clone, Copy, Debug, PartialEq, Eq, Error)]
-pub enum Refusal {
+pub enum WorldRefusal {
     /// So many frames weren't sent.
     #[error("N1 NoFrame")]
     NoFrame,

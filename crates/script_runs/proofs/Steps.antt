@@ -21,8 +21,8 @@ use Rattle.site_core.specs.Journals.{Site, office_of, step}
 use Rattle.site_core.specs.RuleOrder.{next_rule}
 use Rattle.frame_world.specs.declared.event.WorldEvent.{WorldEvent}
 use Rattle.frame_world.specs.declared.event.WorldEvent.TheVariants as happening
-use Rattle.frame_world.specs.declared.refusal.Refusal.{Refusal}
-use Rattle.frame_world.specs.declared.refusal.Refusal.TheVariants as refusal
+use Rattle.frame_world.specs.declared.refusal.WorldRefusal.{WorldRefusal}
+use Rattle.frame_world.specs.declared.refusal.WorldRefusal.TheVariants as refusal
 use Rattle.frame_world.specs.Worlds.{World, Answer, site_at, office_at, told, handed, delivered, happens, OrMemory}
 use Rattle.script_runs.specs.declared.event.ScriptEvent.{ScriptEvent}
 use Rattle.script_runs.specs.declared.said.Said.{Said}
@@ -65,7 +65,7 @@ module _ (programs : List ProgramValue) (w : World) (es : List ScriptEvent) (i :
       ∙ sym (ap (lines_of w) one_more)
 
 -- what a world answered is said of its event
-pub says_reply : (w w' : World) (e : WorldEvent) (r : Result Reply Refusal) → OrMemory w (happens w e) r w' → Says (does w (Happens e)) (as_said r) w'
+pub says_reply : (w w' : World) (e : WorldEvent) (r : Result Reply WorldRefusal) → OrMemory w (happens w e) r w' → Says (does w (Happens e)) (as_said r) w'
 says_reply w w' e r h = ⊎_elim (λ m. inl (ap as_said m.0)) (λ is. inr (ap as_said is.0, is.1)) h
 
 -- no event changes the plan
@@ -116,7 +116,7 @@ rule_done w w' a done n r x lt e ok new =
     one_rule w a done n r lt e ∙ ap₂ (λ k v. further (λ v. advanced v a (done + 1) (n - (done + 1))) (k, v)) (sym ok) (sym new)
 
 -- and ends where it was refused
-pub rule_refused : (w w' : World) (a done n : ℕ) (r : Rule) (x : Refusal) → done < n → next_rule w.plan a (office_at w a) ≡ Some r → Err x ≡ (happens w (happening.Do a r)).0 → w' ≡ (happens w (happening.Do a r)).1 →
+pub rule_refused : (w w' : World) (a done n : ℕ) (r : Rule) (x : WorldRefusal) → done < n → next_rule w.plan a (office_at w a) ≡ Some r → Err x ≡ (happens w (happening.Do a r)).0 → w' ≡ (happens w (happening.Do a r)).1 →
     advanced w a done (n - done) ≡ (Err x, w')
 rule_refused w w' a done n r x lt e err new =
     one_rule w a done n r lt e ∙ ap₂ (λ k v. further (λ v. advanced v a (done + 1) (n - (done + 1))) (k, v)) (sym err) (sym new)
@@ -126,7 +126,7 @@ pub rule_at : (w : World) (a : ℕ) (s : Site) (r : Option Rule) → s ≡ site_
 rule_at w a s r site plan me e = e ∙ ap (λ p. next_rule p s.me (office_of s)) plan ∙ ap (λ m. next_rule w.plan m (office_of s)) me ∙ ap (λ x. next_rule w.plan a (office_of x)) site
 
 -- what was told of the rules is said of the act
-says_rules : (w w' : World) (a n : ℕ) (said : Result Said Refusal) → nat_lt a (length w.plan.offices) ≡ true → advanced w a 0 n ≡ (said, w') → Says (does w (Advances a n)) said w'
+says_rules : (w w' : World) (a n : ℕ) (said : Result Said WorldRefusal) → nat_lt a (length w.plan.offices) ≡ true → advanced w a 0 n ≡ (said, w') → Says (does w (Advances a n)) said w'
 says_rules w w' a n said inside e =
     let told : does w (Advances a n) ≡ (said, w') = ap (λ b. cond b (advanced w a 0 n) (Err refusal.NoOffice, w)) inside ∙ e in
     inr (sym (ap (λ (t : Told). t.0) told), sym (ap (λ (t : Told). t.1) told))
@@ -146,10 +146,10 @@ stops w v a done n inside same lt e = says_rules w v a n (Ok (Rules done)) (insi
 pub all_done : (w v : World) (a done n : ℕ) → a < length w.plan.offices → advanced w a 0 n ≡ advanced v a done (n - done) → n ≤ done → done ≤ n → Says (does w (Advances a n)) (Ok (Rules done)) v
 all_done w v a done n inside same ge le = says_rules w v a n (Ok (Rules done)) (inside_is a (length w.plan.offices) inside) (same ∙ none_left v a done n (omega (arith, ge, le)))
 
-pub is_refused : (w v v' : World) (a done n : ℕ) (r : Rule) (x : Refusal) (res : Result Reply Refusal) → a < length w.plan.offices → advanced w a 0 n ≡ advanced v a done (n - done) → done < n → next_rule v.plan a (office_at v a) ≡ Some r →
+pub is_refused : (w v v' : World) (a done n : ℕ) (r : Rule) (x : WorldRefusal) (res : Result Reply WorldRefusal) → a < length w.plan.offices → advanced w a 0 n ≡ advanced v a done (n - done) → done < n → next_rule v.plan a (office_at v a) ≡ Some r →
     res ≡ Err x → OrMemory v (happens v (happening.Do a r)) res v' → Says (does w (Advances a n)) (Err x) v'
 is_refused w v v' a done n r x res inside same lt next is h = ⊎_elim
-    (λ m. inl (let e : x ≡ refusal.Office refused.Memory = (let both : ◌≡◌ {A = Result Reply Refusal} (Err x) (Err (refusal.Office refused.Memory)) = sym is ∙ m.0 in cc) in ap Err e))
+    (λ m. inl (let e : x ≡ refusal.Office refused.Memory = (let both : ◌≡◌ {A = Result Reply WorldRefusal} (Err x) (Err (refusal.Office refused.Memory)) = sym is ∙ m.0 in cc) in ap Err e))
     (λ k. says_rules w v' a n (Err x) (inside_is a (length w.plan.offices) inside) (same ∙ rule_refused v v' a done n r x lt next (sym is ∙ k.0) k.1))
     h
 
@@ -158,10 +158,10 @@ pub record Goes (w v' : World) (a done n : ℕ) : Type 0 where
   pub few : done + 1 ≤ n
   pub same : advanced w a 0 n ≡ advanced v' a (done + 1) (n - (done + 1))
 
-pub is_done : (w v v' : World) (a done n : ℕ) (r : Rule) (x : Reply) (res : Result Reply Refusal) → v.plan ≡ w.plan → advanced w a 0 n ≡ advanced v a done (n - done) → done < n → next_rule v.plan a (office_at v a) ≡ Some r →
+pub is_done : (w v v' : World) (a done n : ℕ) (r : Rule) (x : Reply) (res : Result Reply WorldRefusal) → v.plan ≡ w.plan → advanced w a 0 n ≡ advanced v a done (n - done) → done < n → next_rule v.plan a (office_at v a) ≡ Some r →
     res ≡ Ok x → OrMemory v (happens v (happening.Do a r)) res v' → Goes w v' a done n
 is_done w v v' a done n r x res plan same lt next is h = ⊎_elim
-    (λ m. absurd (let both : ◌≡◌ {A = Result Reply Refusal} (Ok x) (Err (refusal.Office refused.Memory)) = sym is ∙ m.0 in cc))
+    (λ m. absurd (let both : ◌≡◌ {A = Result Reply WorldRefusal} (Ok x) (Err (refusal.Office refused.Memory)) = sym is ∙ m.0 in cc))
     (λ k. record {
       plan = ap (λ (y : World). y.plan) k.1 ∙ plan_stays v (happening.Do a r) ∙ plan;
       few = omega (arith, lt);

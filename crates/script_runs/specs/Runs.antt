@@ -4,8 +4,8 @@ use Rattle.site_core.specs.declared.rule.Rule.{Rule}
 use Rattle.site_core.specs.declared.reply.Reply.{Reply}
 use Rattle.site_core.specs.RuleOrder.{next_rule}
 use Rattle.frame_world.specs.declared.event.WorldEvent.TheVariants as happening
-use Rattle.frame_world.specs.declared.refusal.Refusal.{Refusal}
-use Rattle.frame_world.specs.declared.refusal.Refusal.TheVariants as refusal
+use Rattle.frame_world.specs.declared.refusal.WorldRefusal.{WorldRefusal}
+use Rattle.frame_world.specs.declared.refusal.WorldRefusal.TheVariants as refusal
 use Rattle.frame_world.specs.Worlds.{World, Answer, office_at, happens}
 use Rattle.script_runs.specs.declared.said.Said.{Said}
 use Rattle.script_runs.specs.declared.said.Said.TheVariants.{Replied, Rules}
@@ -13,9 +13,9 @@ use Rattle.script_runs.specs.Script.{Act, Happens, Advances}
 
 -- what is said, and the world then
 abbrev pub Told : Type 0
-Told = Result Said Refusal × World
+Told = Result Said WorldRefusal × World
 
-abbrev pub as_said : Result Reply Refusal → Result Said Refusal
+abbrev pub as_said : Result Reply WorldRefusal → Result Said WorldRefusal
 as_said (Ok r) = Ok (Replied r)
 as_said (Err e) = Err e
 

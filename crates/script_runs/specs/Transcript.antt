@@ -18,8 +18,8 @@ use Rattle.site_core.specs.declared.reply.Reply.TheVariants as reply
 use Rattle.site_core.specs.declared.reply.Refusal as offices
 use Rattle.site_core.specs.declared.reply.Refusal.TheVariants as refused
 use Rattle.serial_replay.specs.Serial.{start_map, map_of, outcomes_of}
-use Rattle.frame_world.specs.declared.refusal.Refusal.{Refusal}
-use Rattle.frame_world.specs.declared.refusal.Refusal.TheVariants as refusal
+use Rattle.frame_world.specs.declared.refusal.WorldRefusal.{WorldRefusal}
+use Rattle.frame_world.specs.declared.refusal.WorldRefusal.TheVariants as refusal
 use Rattle.frame_world.specs.Worlds.{World, opening}
 use Rattle.frame_world.specs.Ways.{bottles_of}
 use Rattle.frame_world.specs.Headline.{programs, outcomes}
@@ -60,7 +60,7 @@ office_refusal_text refused.QueueFull = codes "O3 QueueFull"
 office_refusal_text refused.JournalFull = codes "O4 JournalFull"
 office_refusal_text refused.Memory = codes "out of memory"
 
-abbrev pub refusal_text : Refusal → List ℕ
+abbrev pub refusal_text : WorldRefusal → List ℕ
 refusal_text refusal.NoFrame = codes "N1 NoFrame"
 refusal_text refusal.NoOffice = codes "N2 NoOffice"
 refusal_text (refusal.Office r) = office_refusal_text r
@@ -78,12 +78,12 @@ reply_text k reply.Repeat = codes "repeat"
 reply_text k reply.Early = codes "early"
 
 -- where so many frames were sent
-abbrev pub said_text : ℕ → Result Said Refusal → List ℕ
+abbrev pub said_text : ℕ → Result Said WorldRefusal → List ℕ
 said_text k (Ok (Replied r)) = reply_text k r
 said_text k (Ok (Rules n)) = codes "rules " ++ decimal n
 said_text k (Err r) = codes "refused " ++ refusal_text r
 
-abbrev pub said_line : ℕ → Result Said Refusal → List ℕ
+abbrev pub said_line : ℕ → Result Said WorldRefusal → List ℕ
 said_line k said = said_text k said ++ 10 ∷ []
 
 abbrev pub told_line : Told → List ℕ

@@ -21,7 +21,7 @@ use crate::report::{add_outcome, add_value};
 use crate::said::Said;
 use crate::script::nth;
 use frame_codec::{Frame, FrameFault, MAX_LENGTH, encode};
-use frame_world::Refusal;
+use frame_world::WorldRefusal;
 use office_map::{OfficeId, Plan, RecordId};
 use session_language::Program;
 use site_core::Reply;
@@ -72,7 +72,7 @@ fn add_event(
 {
     match happen(world, programs, event) {
         None => Ok(()),
-        Some(Err(Refusal::Office(site_core::Refusal::Memory))) => Err(AllocError),
+        Some(Err(WorldRefusal::Office(site_core::Refusal::Memory))) => Err(AllocError),
         Some(said) => add_said(alloc, text, world.frames(), said),
     }
 }
@@ -82,7 +82,7 @@ fn happen(
     world: &mut World,
     programs: &[Program],
     event: ScriptEvent,
-) -> Option<Result<Said, Refusal>>
+) -> Option<Result<Said, WorldRefusal>>
     ensures { Answers world.old (act_with programs.now event) result world.new }
 {
     match event {
@@ -97,7 +97,7 @@ fn happen(
     }
 }
 
-fn replied(reply: Result<Reply, Refusal>) -> Result<Said, Refusal>
+fn replied(reply: Result<Reply, WorldRefusal>) -> Result<Said, WorldRefusal>
     ensures { result ≡ as_said reply }
 {
     match reply {
@@ -107,11 +107,11 @@ fn replied(reply: Result<Reply, Refusal>) -> Result<Said, Refusal>
 }
 
 /// An office does so many rules at most, left to itself.
-fn advance(world: &mut World, office: OfficeId, n: u16) -> Result<Said, Refusal>
+fn advance(world: &mut World, office: OfficeId, n: u16) -> Result<Said, WorldRefusal>
     ensures { Says (does world.old (scripts.Advances office n)) result world.new }
 {
     if office.index() >= world.plan().offices() {
-        return Err(Refusal::NoOffice);
+        return Err(WorldRefusal::NoOffice);
     }
     let mut done = 0;
     while done < n {
@@ -131,7 +131,7 @@ fn add_said(
     alloc: Global,
     text: &mut String,
     frames: usize,
-    said: Result<Said, Refusal>,
+    said: Result<Said, WorldRefusal>,
 ) -> Result<(), AllocError>
     ensures { OnOk result (string_bytes text.new ≡ string_bytes text.old ++ said_line frames said) }
 {
@@ -189,13 +189,13 @@ fn digits(alloc: Global, frame: &Frame) -> Result<String, AllocError>
 }
 
 /// The code and the name of a refusal.
-fn refusal_text(refusal: Refusal) -> &'static str
+fn refusal_text(refusal: WorldRefusal) -> &'static str
     ensures { result.now ≡ refusal_text refusal }
 {
     match refusal {
-        Refusal::NoFrame => "N1 NoFrame",
-        Refusal::NoOffice => "N2 NoOffice",
-        Refusal::Office(refusal) => office_refusal_text(refusal),
+        WorldRefusal::NoFrame => "N1 NoFrame",
+        WorldRefusal::NoOffice => "N2 NoOffice",
+        WorldRefusal::Office(refusal) => office_refusal_text(refusal),
     }
 }
 

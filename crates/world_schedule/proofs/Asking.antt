@@ -6,10 +6,10 @@ use Rattle.site_core.specs.declared.event.Event.{Event}
 use Rattle.site_core.specs.declared.reply.Reply.{Reply}
 use Rattle.site_core.specs.declared.reply.Refusal as offices
 use Rattle.site_core.specs.Journals.{Site, Steps}
-use Rattle.frame_world.specs.declared.refusal.Refusal.{Refusal}
+use Rattle.frame_world.specs.declared.refusal.WorldRefusal.{WorldRefusal}
 use Rattle.world_schedule.specs.refinement.Handing.{Hands, Asked, passed_on}
 
-pub asked : (sites : List Site) (a i : ℕ) (e : Event) (s s' : Site) (answer : Result Reply offices.Refusal) (result : Result Reply Refusal) → i ≡ a → i < length sites → s ≡ get_or sites i s → Steps s 0 e answer s' → result ≡ passed_on answer →
+pub asked : (sites : List Site) (a i : ℕ) (e : Event) (s s' : Site) (answer : Result Reply offices.Refusal) (result : Result Reply WorldRefusal) → i ≡ a → i < length sites → s ≡ get_or sites i s → Steps s 0 e answer s' → result ≡ passed_on answer →
     Hands sites a e result (set sites i s')
 asked sites a i e s s' answer result same lt is steps told =
     let within : a < length sites = subst (λ k. k < length sites) same lt in

@@ -26,7 +26,7 @@ use Rattle.site_core.specs.Pairs.{frame_fault, arrival_of}
 use Rattle.site_core.specs.Agenda.{Current, Idle, Gathering, Working, writes_of, is_full, submitted}
 use Rattle.site_core.specs.Offices.{Office, Answer, may, act, is_ours, answer, unless_faulty}
 use Rattle.site_core.specs.Journals.{Site, office_of}
-use Rattle.frame_world.specs.declared.refusal.Refusal.{Refusal}
+use Rattle.frame_world.specs.declared.refusal.WorldRefusal.{WorldRefusal}
 use Rattle.frame_world.specs.Worlds.{Finished, silent, frames_of, finished_by, ended, ended_as}
 use Rattle.world_schedule.specs.declared.finished.Finished as mark
 use Rattle.world_schedule.specs.refinement.WorldOfCode.{finished_of, IsSiteOf, IsKnown, IsWorld}
@@ -70,7 +70,7 @@ take_tells plan me o f r o' h = go (frame_fault plan me o.pairs f) h
 -- ---- what is beside
 
 -- nothing is added
-unmoved : (plan : PlanValue) (sites : List Site) (a : ℕ) (e : Event) (result : Result Reply Refusal) (sites' : List Site) (frames : List Fields) (marks : List mark.Finished) →
+unmoved : (plan : PlanValue) (sites : List Site) (a : ℕ) (e : Event) (result : Result Reply WorldRefusal) (sites' : List Site) (frames : List Fields) (marks : List mark.Finished) →
     ((r : Reply) (o : Office) → Accepts (get_or sites a (silent plan a)) e r o → frames_of r ≡ []) → finished_by a (office_of (get_or sites a (silent plan a))).agenda.current e ≡ [] → Beside plan sites a e result sites' frames frames marks marks
 unmoved plan sites a e result sites' frames marks tells finishes = record {
   kept = λ r o h is. sym (append-nil frames) ∙ ap (λ l. frames ++ l) (sym (tells r o h));
@@ -79,12 +79,12 @@ unmoved plan sites a e result sites' frames marks tells finishes = record {
   unlisted = λ x is. refl;
 }
 
-pub beside_submit : (plan : PlanValue) (sites : List Site) (a : ℕ) (p : ProgramValue) (result : Result Reply Refusal) (sites' : List Site) (frames : List Fields) (marks : List mark.Finished) → Beside plan sites a (event.Submit p) result sites' frames frames marks marks
+pub beside_submit : (plan : PlanValue) (sites : List Site) (a : ℕ) (p : ProgramValue) (result : Result Reply WorldRefusal) (sites' : List Site) (frames : List Fields) (marks : List mark.Finished) → Beside plan sites a (event.Submit p) result sites' frames frames marks marks
 beside_submit plan sites a p result sites' frames marks =
     let s = get_or sites a (silent plan a) in
     unmoved plan sites a (event.Submit p) result sites' frames marks (λ r o h. submit_tells s.plan s.me (office_of s) p r o h) refl
 
-pub beside_take : (plan : PlanValue) (sites : List Site) (a : ℕ) (f : Fields) (result : Result Reply Refusal) (sites' : List Site) (frames : List Fields) (marks : List mark.Finished) → Beside plan sites a (event.Took f) result sites' frames frames marks marks
+pub beside_take : (plan : PlanValue) (sites : List Site) (a : ℕ) (f : Fields) (result : Result Reply WorldRefusal) (sites' : List Site) (frames : List Fields) (marks : List mark.Finished) → Beside plan sites a (event.Took f) result sites' frames frames marks marks
 beside_take plan sites a f result sites' frames marks =
     let s = get_or sites a (silent plan a) in
     unmoved plan sites a (event.Took f) result sites' frames marks (λ r o h. take_tells s.plan s.me (office_of s) f r o h) refl
@@ -102,7 +102,7 @@ quiet_rule a c rule.Drink n = refl
 quiet_rule a c (rule.Work k) n = refl
 quiet_rule a c rule.Finish n = absurd (n refl)
 
-pub beside_rule : (plan : PlanValue) (sites : List Site) (a : ℕ) (x : Rule) (result : Result Reply Refusal) (sites' : List Site) (frames : List Fields) (marks : List mark.Finished) → (x ≡ rule.Finish → ⊥) → Beside plan sites a (event.Do x) result sites' frames frames marks marks
+pub beside_rule : (plan : PlanValue) (sites : List Site) (a : ℕ) (x : Rule) (result : Result Reply WorldRefusal) (sites' : List Site) (frames : List Fields) (marks : List mark.Finished) → (x ≡ rule.Finish → ⊥) → Beside plan sites a (event.Do x) result sites' frames frames marks marks
 beside_rule plan sites a x result sites' frames marks n =
     let s = get_or sites a (silent plan a) in
     unmoved plan sites a (event.Do x) result sites' frames marks (λ r o h. (rule_holds s.plan s.me (office_of s) x r o h).1) (quiet_rule a (office_of s).agenda.current x n)
@@ -117,8 +117,8 @@ one_ended a (Working s reads done) h = go (ending_after s.program reads done) re
     go None is e = absurd cc
     go (Some x) is e = (record { program = s.program; outcome = record { office = a; ticket = s.ticket; ending = x } }, ap (ended_as a s) is)
 
-pub beside_finish : (plan : PlanValue) (sites : List Site) (a : ℕ) (result : Result Reply Refusal) (sites' : List Site) (frames : List Fields) (marks marks' : List mark.Finished) →
-    ((r : Reply) → result ≡ Ok r → marks' ≡ marks ++ record { office = a; ticket = length (finished_of (get_or sites' a (silent plan a))) } ∷ []) → ((x : Refusal) → result ≡ Err x → marks' ≡ marks) →
+pub beside_finish : (plan : PlanValue) (sites : List Site) (a : ℕ) (result : Result Reply WorldRefusal) (sites' : List Site) (frames : List Fields) (marks marks' : List mark.Finished) →
+    ((r : Reply) → result ≡ Ok r → marks' ≡ marks ++ record { office = a; ticket = length (finished_of (get_or sites' a (silent plan a))) } ∷ []) → ((x : WorldRefusal) → result ≡ Err x → marks' ≡ marks) →
     Beside plan sites a (event.Do rule.Finish) result sites' frames frames marks marks'
 beside_finish plan sites a result sites' frames marks marks' pushed same =
     let s = get_or sites a (silent plan a) in
@@ -131,8 +131,8 @@ beside_finish plan sites a result sites' frames marks marks' pushed same =
       unlisted = same;
     }
 
-pub beside_send : (plan : PlanValue) (sites : List Site) (a v i : ℕ) (result : Result Reply Refusal) (sites' : List Site) (frames frames' : List Fields) (marks : List mark.Finished) →
-    ((r : Reply) → result ≡ Ok r → frames' ≡ frames ++ frames_of r) → ((x : Refusal) → result ≡ Err x → frames' ≡ frames) → Beside plan sites a (event.Send v i) result sites' frames frames' marks marks
+pub beside_send : (plan : PlanValue) (sites : List Site) (a v i : ℕ) (result : Result Reply WorldRefusal) (sites' : List Site) (frames frames' : List Fields) (marks : List mark.Finished) →
+    ((r : Reply) → result ≡ Ok r → frames' ≡ frames ++ frames_of r) → ((x : WorldRefusal) → result ≡ Err x → frames' ≡ frames) → Beside plan sites a (event.Send v i) result sites' frames frames' marks marks
 beside_send plan sites a v i result sites' frames frames' marks sent same = record {
   kept = λ r o h is. sent r is;
   unsent = same;
@@ -142,10 +142,10 @@ beside_send plan sites a v i result sites' frames frames' marks sent same = reco
 
 -- ---- what the calls tell
 
-pub of_ok : (P : Reply → Type 0) (result : Result Reply Refusal) → IfOk result P → (r : Reply) → result ≡ Ok r → P r
+pub of_ok : (P : Reply → Type 0) (result : Result Reply WorldRefusal) → IfOk result P → (r : Reply) → result ≡ Ok r → P r
 of_ok P result h r e = subst (λ x. IfOk x P) e h
 
-pub of_err : (P : Type 0) (result : Result Reply Refusal) → OnErr result P → (x : Refusal) → result ≡ Err x → P
+pub of_err : (P : Type 0) (result : Result Reply WorldRefusal) → OnErr result P → (x : WorldRefusal) → result ≡ Err x → P
 of_err P result h x e = subst (λ y. OnErr y P) e h
 
 -- ---- the opening

@@ -20,8 +20,8 @@ use Rattle.site_core.specs.Offices as answers
 use Rattle.site_core.specs.Journals.{Site, office_of, noted, step, recorded}
 use Rattle.frame_world.specs.declared.event.WorldEvent.{WorldEvent}
 use Rattle.frame_world.specs.declared.event.WorldEvent.TheVariants as happening
-use Rattle.frame_world.specs.declared.refusal.Refusal.{Refusal}
-use Rattle.frame_world.specs.declared.refusal.Refusal.TheVariants as refusal
+use Rattle.frame_world.specs.declared.refusal.WorldRefusal.{WorldRefusal}
+use Rattle.frame_world.specs.declared.refusal.WorldRefusal.TheVariants as refusal
 use Rattle.frame_world.specs.Worlds.{World, Answer, site_at, told, handed, delivered, frame_at, happens, run_of, replies_of, Applies}
 use Rattle.world_schedule.proofs.WorldSteps.{run_append}
 
@@ -54,7 +54,7 @@ told_speaks : (w : World) (a : ℕ) (e : Event) (s : Site) (x : answers.Answer) 
 told_speaks w a e s (Ok x) h = cond_both (nat_le most_entries (length s.entries)) (Err refused.JournalFull, s) (Ok x.0, noted s 0 e x.0) (λ y. Speaks (told w a e y)) (λ _ k. cc) (λ _ k. cc)
 told_speaks w a e s (Err r) h = λ k. h (ap Err (office_refusal r k))
   where
-    office_refusal : (r : offices.Refusal) → ◌≡◌ {A = Result Reply Refusal} (Err (refusal.Office r)) (Err (refusal.Office refused.Memory)) → r ≡ refused.Memory
+    office_refusal : (r : offices.Refusal) → ◌≡◌ {A = Result Reply WorldRefusal} (Err (refusal.Office r)) (Err (refusal.Office refused.Memory)) → r ≡ refused.Memory
     office_refusal r k = cc
 
 handed_speaks : (w : World) (a : ℕ) (e : Event) → Speaks (handed w a e)
@@ -73,10 +73,10 @@ speaks w (happening.Deliver k) = go (frame_at w k)
     go (Some f) = handed_speaks w f.to (event.Took f)
 
 -- an answer that isn't Memory is that of the definition; and after Memory the world is as it was
-pub not_memory : (w w' : World) (e : WorldEvent) (r : Result Reply Refusal) → Applies w e r w' → (r ≡ Err (refusal.Office refused.Memory) → ⊥) → (r ≡ (happens w e).0) × (w' ≡ (happens w e).1)
+pub not_memory : (w w' : World) (e : WorldEvent) (r : Result Reply WorldRefusal) → Applies w e r w' → (r ≡ Err (refusal.Office refused.Memory) → ⊥) → (r ≡ (happens w e).0) × (w' ≡ (happens w e).1)
 not_memory w w' e r a n = ⊎_elim (λ m. absurd (n m.0)) (λ h. (h.0, h.1)) a
 
-pub was_memory : (w w' : World) (e : WorldEvent) (r : Result Reply Refusal) → Applies w e r w' → r ≡ Err (refusal.Office refused.Memory) → w' ≡ w
+pub was_memory : (w w' : World) (e : WorldEvent) (r : Result Reply WorldRefusal) → Applies w e r w' → r ≡ Err (refusal.Office refused.Memory) → w' ≡ w
 was_memory w w' e r a m = ⊎_elim (λ h. h.1) (λ h. absurd (speaks w e (sym h.0 ∙ m))) a
 
 -- ---- one event more
@@ -89,7 +89,7 @@ pub run_more : (w v v' : World) (es : List WorldEvent) (i : ℕ) (d : WorldEvent
 run_more w v v' es i d lt so_far next =
     ap (run_of w) (take_more es i d lt) ∙ run_append w (take i es) (get_or es i d) ∙ ap (λ u. (happens u (get_or es i d)).1) so_far ∙ sym next
 
-pub replies_more : (w v : World) (es : List WorldEvent) (i : ℕ) (d : WorldEvent) (rs rs' : List (Result Reply Refusal)) (r : Result Reply Refusal) → i < length es → run_of w (take i es) ≡ v → rs ≡ replies_of w (take i es) →
+pub replies_more : (w v : World) (es : List WorldEvent) (i : ℕ) (d : WorldEvent) (rs rs' : List (Result Reply WorldRefusal)) (r : Result Reply WorldRefusal) → i < length es → run_of w (take i es) ≡ v → rs ≡ replies_of w (take i es) →
     r ≡ (happens v (get_or es i d)).0 → rs' ≡ rs ++ r ∷ [] → rs' ≡ replies_of w (take (i + 1) es)
 replies_more w v es i d rs rs' r lt so_far told next pushed =
     pushed ∙ ap (λ l. l ++ r ∷ []) told ∙ ap (λ x. replies_of w (take i es) ++ x ∷ []) (next ∙ ap (λ u. (happens u (get_or es i d)).0) (sym so_far)) ∙ sym (replies_append w (take i es) (get_or es i d))

@@ -14,8 +14,8 @@ use Rattle.site_core.specs.Offices.{Office}
 use Rattle.site_core.specs.Offices as answers
 use Rattle.site_core.specs.Journals.{Site, office_of, noted, step}
 use Rattle.frame_world.specs.declared.event.WorldEvent.{WorldEvent}
-use Rattle.frame_world.specs.declared.refusal.Refusal.{Refusal}
-use Rattle.frame_world.specs.declared.refusal.Refusal.TheVariants as refusal
+use Rattle.frame_world.specs.declared.refusal.WorldRefusal.{WorldRefusal}
+use Rattle.frame_world.specs.declared.refusal.WorldRefusal.TheVariants as refusal
 use Rattle.frame_world.specs.Worlds.{World, Answer, Finished, silent, site_at, office_at, frames_of, finished_by, told, handed, happens, run_of, opening, OrMemory}
 use Rattle.frame_world.specs.Headline.{IsReached}
 use Rattle.world_schedule.specs.declared.finished.Finished as mark
@@ -38,15 +38,15 @@ abbrev pub Accepts : Site → Event → Reply → Office → Type 0
 Accepts s e r o = answers.answer s.plan s.me (office_of s) e ≡ Ok (r, o)
 
 -- nothing changed, by the definition or for want of memory; or the event is noted
-pub data Handled (w : World) (a : ℕ) (e : Event) (result : Result Reply Refusal) (sites' : List Site) : Type 0 where
-  Same : (x : Refusal) (answer : result ≡ Err x) (kept : sites' ≡ w.sites) (why : (x ≡ refusal.Office refused.Memory) ⊎ (handed w a e ≡ (Err x, w))) → Handled w a e result sites'
+pub data Handled (w : World) (a : ℕ) (e : Event) (result : Result Reply WorldRefusal) (sites' : List Site) : Type 0 where
+  Same : (x : WorldRefusal) (answer : result ≡ Err x) (kept : sites' ≡ w.sites) (why : (x ≡ refusal.Office refused.Memory) ⊎ (handed w a e ≡ (Err x, w))) → Handled w a e result sites'
   Grown : (within : a < length w.sites) (r : Reply) (o : Office) (accepts : Accepts (site_at w a) e r o) (answer : result ≡ Ok r) (kept : sites' ≡ set w.sites a (noted (site_at w a) 0 e r))
       (is : handed w a e ≡ (Ok r, grown w a e r)) → Handled w a e result sites'
 
 there : (w : World) (a : ℕ) (e : Event) (x : Result Reply offices.Refusal × Site) → a < length w.sites → step (site_at w a) 0 e ≡ x → handed w a e ≡ told w a e x
 there w a e x lt is = ap (λ b. cond {A = Answer} b (told w a e (step (site_at w a) 0 e)) (Err refusal.NoOffice, w)) (lt-ltb a (length w.sites) lt) ∙ ap (told w a e) is
 
-pub handled : (w : World) (a : ℕ) (e : Event) (result : Result Reply Refusal) (sites' : List Site) → Hands w.sites a e result sites' → Handled w a e result sites'
+pub handled : (w : World) (a : ℕ) (e : Event) (result : Result Reply WorldRefusal) (sites' : List Site) → Hands w.sites a e result sites' → Handled w a e result sites'
 handled w a e result sites' (Nobody beyond tells kept) = Same refusal.NoOffice tells kept (inr (ap (λ b. cond {A = Answer} b (told w a e (step (site_at w a) 0 e)) (Err refusal.NoOffice, w)) (le-ltb a (length w.sites) beyond)))
 handled w a e result sites' (Unasked within tells kept) = Same (refusal.Office refused.Memory) tells kept (inl refl)
 handled w a e result sites' (Asked within answer site tells steps kept) = go (stepped (site_at w a) e answer site (steps (silent w.plan a)))
@@ -107,11 +107,11 @@ pub data Lists (plan : PlanValue) (sites : List Site) (a : ℕ) (e : Event) (sit
   Nothing : (finishes : finished_by a (office_of (get_or sites a (silent plan a))).agenda.current e ≡ []) (kept : marks' ≡ marks) → Lists plan sites a e sites' marks marks'
   Last : (f : Finished) (finishes : finished_by a (office_of (get_or sites a (silent plan a))).agenda.current e ≡ f ∷ []) (pushed : marks' ≡ marks ++ record { office = a; ticket = length (finished_of (get_or sites' a (silent plan a))) } ∷ []) → Lists plan sites a e sites' marks marks'
 
-pub record Beside (plan : PlanValue) (sites : List Site) (a : ℕ) (e : Event) (result : Result Reply Refusal) (sites' : List Site) (frames frames' : List Fields) (marks marks' : List mark.Finished) : Type 0 where
+pub record Beside (plan : PlanValue) (sites : List Site) (a : ℕ) (e : Event) (result : Result Reply WorldRefusal) (sites' : List Site) (frames frames' : List Fields) (marks marks' : List mark.Finished) : Type 0 where
   pub kept : (r : Reply) (o : Office) → Accepts (get_or sites a (silent plan a)) e r o → result ≡ Ok r → frames' ≡ frames ++ frames_of r
-  pub unsent : (x : Refusal) → result ≡ Err x → frames' ≡ frames
+  pub unsent : (x : WorldRefusal) → result ≡ Err x → frames' ≡ frames
   pub listed : (r : Reply) (o : Office) → Accepts (get_or sites a (silent plan a)) e r o → result ≡ Ok r → Lists plan sites a e sites' marks marks'
-  pub unlisted : (x : Refusal) → result ≡ Err x → marks' ≡ marks
+  pub unlisted : (x : WorldRefusal) → result ≡ Err x → marks' ≡ marks
 
 last_of : (fs fs' : List Finished) (f : Finished) → fs' ≡ fs ++ f ∷ [] → (0 < length fs') × (get_or fs' (length fs' - 1) no_session ≡ f)
 last_of fs fs' f is =
@@ -156,7 +156,7 @@ listed_more plan sites a e r marks marks' lt is known lists = go lists
 
 -- ---- the step of the definition
 
-pub applies : (plan : PlanValue) (sites sites' : List Site) (frames frames' : List Fields) (marks marks' : List mark.Finished) (a : ℕ) (e : Event) (result : Result Reply Refusal) → IsWorld plan sites frames marks → Hands sites a e result sites' →
+pub applies : (plan : PlanValue) (sites sites' : List Site) (frames frames' : List Fields) (marks marks' : List mark.Finished) (a : ℕ) (e : Event) (result : Result Reply WorldRefusal) → IsWorld plan sites frames marks → Hands sites a e result sites' →
     Beside plan sites a e result sites' frames frames' marks marks' → OrMemory (world_in plan sites frames marks) (handed (world_in plan sites frames marks) a e) result (world_in plan sites' frames' marks')
 applies plan sites sites' frames frames' marks marks' a e result world hands beside = go (handled (world_in plan sites frames marks) a e result sites' hands)
   where
@@ -180,7 +180,7 @@ run_append w [] e = refl
 run_append w (x ∷ es) e = run_append (happens w x).1 es e
 
 -- an event more leads to what it leaves
-reached_more : (w w' : World) (e : WorldEvent) (result : Result Reply Refusal) → IsReached w → w'.plan ≡ w.plan → OrMemory w (happens w e) result w' → IsReached w'
+reached_more : (w w' : World) (e : WorldEvent) (result : Result Reply WorldRefusal) → IsReached w → w'.plan ≡ w.plan → OrMemory w (happens w e) result w' → IsReached w'
 reached_more w w' e result reached same (inl h) = subst IsReached (sym h.1) reached
 reached_more w w' e result reached same (inr h) = record {
   events = reached.events ++ e ∷ [];
@@ -199,7 +199,7 @@ sites_kept plan sites a e r o lt accepts each b lt' = ⊎_elim here elsewhere (c
     elsewhere ne = subst (IsSiteOf plan b) (sym (get_or-set_other sites a b (noted (get_or sites a (silent plan a)) 0 e r) (silent plan b) ne)) (each b (omega (arith, lt', length-set sites a (noted (get_or sites a (silent plan a)) 0 e r))))
 
 -- the sites and the list after an event are a world's, if it is one of the world's
-pub stays : (plan : PlanValue) (sites sites' : List Site) (frames frames' : List Fields) (marks marks' : List mark.Finished) (a : ℕ) (e : Event) (result : Result Reply Refusal) (ev : WorldEvent) → IsWorld plan sites frames marks → Hands sites a e result sites' →
+pub stays : (plan : PlanValue) (sites sites' : List Site) (frames frames' : List Fields) (marks marks' : List mark.Finished) (a : ℕ) (e : Event) (result : Result Reply WorldRefusal) (ev : WorldEvent) → IsWorld plan sites frames marks → Hands sites a e result sites' →
     Beside plan sites a e result sites' frames frames' marks marks' → happens (world_in plan sites frames marks) ev ≡ handed (world_in plan sites frames marks) a e → IsWorld plan sites' frames' marks'
 stays plan sites sites' frames frames' marks marks' a e result ev world hands beside is = go (handled (world_in plan sites frames marks) a e result sites' hands)
   where

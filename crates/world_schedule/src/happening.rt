@@ -11,7 +11,7 @@ ghost use Rattle.world_schedule.specs.refinement.Handing.{Hands, passed_on};
 
 use crate::finished::Finished;
 use frame_codec::Frame;
-use frame_world::Refusal;
+use frame_world::WorldRefusal;
 use office_map::OfficeId;
 use session_language::Program;
 use site_core::{Office, Reply, Rule};
@@ -21,21 +21,21 @@ pub(crate) fn submit(
     offices: &mut Vec<Office>,
     at: OfficeId,
     program: &Program,
-) -> Result<Reply, Refusal>
+) -> Result<Reply, WorldRefusal>
     ensures { Hands offices.old.items at (events.Submit program.now) result offices.new.items }
 {
     if at.index() >= offices.len() {
-        return Err(Refusal::NoOffice);
+        return Err(WorldRefusal::NoOffice);
     }
     passed_on(offices[at.index()].submit(0, program))
 }
 
 /// An office does a rule.
-pub(crate) fn act(offices: &mut Vec<Office>, at: OfficeId, rule: &Rule) -> Result<Reply, Refusal>
+pub(crate) fn act(offices: &mut Vec<Office>, at: OfficeId, rule: &Rule) -> Result<Reply, WorldRefusal>
     ensures { Hands offices.old.items at (events.Do rule.now) result offices.new.items }
 {
     if at.index() >= offices.len() {
-        return Err(Refusal::NoOffice);
+        return Err(WorldRefusal::NoOffice);
     }
     passed_on(offices[at.index()].act(0, *rule))
 }
@@ -45,16 +45,16 @@ pub(crate) fn finish(
     offices: &mut Vec<Office>,
     finished: &mut Vec<Finished>,
     at: OfficeId,
-) -> Result<Reply, Refusal>
+) -> Result<Reply, WorldRefusal>
     ensures office { Hands offices.old.items at (events.Do rules.Finish) result offices.new.items }
     ensures listed { OnOk result ((d : Site) → finished.new.items ≡ finished.old.items ++ record { office = at; ticket = length (finished_of (get_or offices.new.items at d)) } ∷ []) }
     ensures unlisted { OnErr result (finished.new.items ≡ finished.old.items) }
 {
     if at.index() >= offices.len() {
-        return Err(Refusal::NoOffice);
+        return Err(WorldRefusal::NoOffice);
     }
     let Ok(()) = finished.reserve(1) else {
-        return Err(Refusal::Office(site_core::Refusal::Memory));
+        return Err(WorldRefusal::Office(site_core::Refusal::Memory));
     };
     match offices[at.index()].act(0, Rule::Finish) {
         Ok(reply) => {
@@ -62,7 +62,7 @@ pub(crate) fn finish(
             finished.push_reserved(last);
             Ok(reply)
         }
-        Err(refusal) => Err(Refusal::Office(refusal)),
+        Err(refusal) => Err(WorldRefusal::Office(refusal)),
     }
 }
 
@@ -85,23 +85,23 @@ pub(crate) fn send(
     from: OfficeId,
     to: OfficeId,
     i: usize,
-) -> Result<Reply, Refusal>
+) -> Result<Reply, WorldRefusal>
     ensures office { Hands offices.old.items from (events.Send to i) result offices.new.items }
     ensures kept { IfOk result (λ r. frames.new.items ≡ frames.old.items ++ frames_of r) }
     ensures unsent { OnErr result (frames.new.items ≡ frames.old.items) }
 {
     if from.index() >= offices.len() {
-        return Err(Refusal::NoOffice);
+        return Err(WorldRefusal::NoOffice);
     }
     let Ok(()) = frames.reserve(1) else {
-        return Err(Refusal::Office(site_core::Refusal::Memory));
+        return Err(WorldRefusal::Office(site_core::Refusal::Memory));
     };
     match offices[from.index()].send(0, to, i) {
         Ok(reply) => {
             keep(frames, &reply);
             Ok(reply)
         }
-        Err(refusal) => Err(Refusal::Office(refusal)),
+        Err(refusal) => Err(WorldRefusal::Office(refusal)),
     }
 }
 
@@ -116,22 +116,22 @@ fn keep(frames: &mut Vec<Frame>, reply: &Reply)
 }
 
 /// A frame comes to its addressee.
-pub(crate) fn deliver(offices: &mut Vec<Office>, frame: &Frame) -> Result<Reply, Refusal>
+pub(crate) fn deliver(offices: &mut Vec<Office>, frame: &Frame) -> Result<Reply, WorldRefusal>
     ensures { Hands offices.old.items frame.now.to (events.Took frame.now) result offices.new.items }
 {
     let at = OfficeId::new(frame.to());
     if at.index() >= offices.len() {
-        return Err(Refusal::NoOffice);
+        return Err(WorldRefusal::NoOffice);
     }
     passed_on(offices[at.index()].take(0, frame))
 }
 
 /// What a world tells of an office's answer.
-fn passed_on(answer: Result<Reply, site_core::Refusal>) -> Result<Reply, Refusal>
+fn passed_on(answer: Result<Reply, site_core::Refusal>) -> Result<Reply, WorldRefusal>
     ensures { result ≡ passed_on answer }
 {
     match answer {
         Ok(reply) => Ok(reply),
-        Err(refusal) => Err(Refusal::Office(refusal)),
+        Err(refusal) => Err(WorldRefusal::Office(refusal)),
     }
 }

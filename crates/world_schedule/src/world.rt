@@ -5,7 +5,7 @@ ghost use Rattle.std.specs.Option.{option_copied};
 ghost use Rattle.site_core.specs.Agenda.{unfinished};
 ghost use Rattle.site_core.specs.Journals.{office_of, IsLegal};
 ghost use Rattle.site_core.specs.declared.reply.Refusal.TheVariants as refused;
-ghost use Rattle.frame_world.specs.declared.refusal.Refusal.TheVariants as refusals;
+ghost use Rattle.frame_world.specs.declared.refusal.WorldRefusal.TheVariants as refusals;
 ghost use Rattle.frame_world.specs.declared.event.WorldEvent.TheVariants as events;
 ghost use Rattle.frame_world.specs.Worlds.{opening, run_of, replies_of, Applies, site_at, frame_at};
 ghost use Rattle.frame_world.specs.Ways.{bottles_of, pairs_at, tables_of};
@@ -26,7 +26,7 @@ use frame_world::laws::{
     sent_frames_are_taken, sessions_are_serial, things_have_one_place, who_drinks_has_its_bottles,
     who_eats_has_its_forks,
 };
-use frame_world::{Refusal, WorldEvent};
+use frame_world::{WorldRefusal, WorldEvent};
 use office_map::{OfficeId, Plan, RecordId};
 use session_language::{Outcome, Program};
 use site_core::{Journal, Office, Reply, Rule};
@@ -94,7 +94,7 @@ impl World {
     /// # Errors
     /// `NoOffice` where the plan hasn't the office, `NoFrame` where so many frames weren't sent; then what the office
     /// refuses. `Memory` may stand in place of what the office answers.
-    pub fn apply(&mut self, event: &WorldEvent) -> Result<Reply, Refusal>
+    pub fn apply(&mut self, event: &WorldEvent) -> Result<Reply, WorldRefusal>
         ensures { Applies self.old event.now result self.new }
     {
         match event {
@@ -109,7 +109,7 @@ impl World {
     ///
     /// # Errors
     /// As [`World::apply`].
-    pub fn submit(&mut self, at: OfficeId, program: &Program) -> Result<Reply, Refusal>
+    pub fn submit(&mut self, at: OfficeId, program: &Program) -> Result<Reply, WorldRefusal>
         ensures { Applies self.old (events.Submit at program.now) result self.new }
     {
         happening::submit(&mut self.offices, at, program)
@@ -119,7 +119,7 @@ impl World {
     ///
     /// # Errors
     /// As [`World::apply`].
-    pub fn act(&mut self, at: OfficeId, rule: &Rule) -> Result<Reply, Refusal>
+    pub fn act(&mut self, at: OfficeId, rule: &Rule) -> Result<Reply, WorldRefusal>
         ensures { Applies self.old (events.Do at rule.now) result self.new }
     {
         if let Rule::Finish = rule {
@@ -133,7 +133,7 @@ impl World {
     ///
     /// # Errors
     /// As [`World::apply`].
-    pub fn send(&mut self, from: OfficeId, to: OfficeId, i: usize) -> Result<Reply, Refusal>
+    pub fn send(&mut self, from: OfficeId, to: OfficeId, i: usize) -> Result<Reply, WorldRefusal>
         ensures { Applies self.old (events.Send from to i) result self.new }
     {
         happening::send(&mut self.offices, &mut self.frames, from, to, i)
@@ -143,18 +143,18 @@ impl World {
     ///
     /// # Errors
     /// As [`World::apply`].
-    pub fn deliver(&mut self, k: usize) -> Result<Reply, Refusal>
+    pub fn deliver(&mut self, k: usize) -> Result<Reply, WorldRefusal>
         ensures { Applies self.old (events.Deliver k) result self.new }
     {
         let Some(frame) = self.frame(k) else {
-            return Err(Refusal::NoFrame);
+            return Err(WorldRefusal::NoFrame);
         };
         happening::deliver(&mut self.offices, &frame)
     }
 
     /// Events in order. A refused one leaves the world as it was, and the run goes on, but where memory runs out: then
     /// it stops, with the world after the events before. Of the world then all holds that [`World::is_serial`] tells.
-    pub fn run(&mut self, events: &[WorldEvent]) -> Result<Vec<Result<Reply, Refusal>>, Stopped>
+    pub fn run(&mut self, events: &[WorldEvent]) -> Result<Vec<Result<Reply, WorldRefusal>>, Stopped>
         ensures replies { IfOk result (λ replies. replies.items ≡ replies_of self.old events.now) }
         ensures world { OnOk result (self.new ≡ run_of self.old events.now) }
         ensures stopped { IfErr result (λ s. (s.done ≤ length events.now) × (self.new ≡ run_of self.old (take s.done events.now))) }
@@ -172,7 +172,7 @@ impl World {
         replies
     }
 
-    fn run_all(&mut self, events: &[WorldEvent]) -> Result<Vec<Result<Reply, Refusal>>, Stopped>
+    fn run_all(&mut self, events: &[WorldEvent]) -> Result<Vec<Result<Reply, WorldRefusal>>, Stopped>
         ensures replies { IfOk result (λ replies. replies.items ≡ replies_of self.old events.now) }
         ensures world { OnOk result (self.new ≡ run_of self.old events.now) }
         ensures stopped { IfErr result (λ s. (s.done ≤ length events.now) × (self.new ≡ run_of self.old (take s.done events.now))) }
@@ -322,8 +322,8 @@ fn unfinished_at(office: &Office) -> usize
 }
 
 /// Whether it is want of memory.
-fn is_memory(reply: &Result<Reply, Refusal>) -> bool
+fn is_memory(reply: &Result<Reply, WorldRefusal>) -> bool
     ensures { IsTrue result ↔ (reply.now ≡ Err (refusals.Office refused.Memory)) }
 {
-    matches!(reply, Err(Refusal::Office(site_core::Refusal::Memory)))
+    matches!(reply, Err(WorldRefusal::Office(site_core::Refusal::Memory)))
 }

@@ -1,7 +1,7 @@
 //! Rows of events with what a world answers and tells.
 
 use frame_codec::{Frame, MAX_LENGTH, encode};
-use frame_world::{Refusal, WorldEvent};
+use frame_world::{WorldRefusal, WorldEvent};
 use office_map::{OfficeId, Plan, RecordId};
 use session_language::{Outcome, Program, read_sessions};
 use site_core::{Reply, Rule};
@@ -295,7 +295,7 @@ fn rule_of(what: What, n: u16) -> Option<Rule> {
     }
 }
 
-fn tell(text: &mut String, replies: &[Result<Reply, Refusal>]) -> Result<(), Fail> {
+fn tell(text: &mut String, replies: &[Result<Reply, WorldRefusal>]) -> Result<(), Fail> {
     for reply in replies {
         match reply {
             Ok(Reply::Ticket(ticket)) => write!(text, "ticket {ticket}; ")?,

@@ -5,16 +5,16 @@ use Rattle.site_core.specs.declared.reply.Reply.{Reply}
 use Rattle.site_core.specs.declared.reply.Refusal as offices
 use Rattle.site_core.specs.declared.reply.Refusal.TheVariants as refused
 use Rattle.site_core.specs.Journals.{Site, Steps}
-use Rattle.frame_world.specs.declared.refusal.Refusal.{Refusal}
-use Rattle.frame_world.specs.declared.refusal.Refusal.TheVariants as refusal
+use Rattle.frame_world.specs.declared.refusal.WorldRefusal.{WorldRefusal}
+use Rattle.frame_world.specs.declared.refusal.WorldRefusal.TheVariants as refusal
 
 -- what a world tells of an office's answer
-abbrev pub passed_on : Result Reply offices.Refusal → Result Reply Refusal
+abbrev pub passed_on : Result Reply offices.Refusal → Result Reply WorldRefusal
 passed_on (Ok r) = Ok r
 passed_on (Err e) = Err (refusal.Office e)
 
 -- there is no such office; or memory ran out before the office was asked; or the office of that number takes the step
-pub data Hands (sites : List Site) (a : ℕ) (e : Event) (result : Result Reply Refusal) (sites' : List Site) : Type 0 where
+pub data Hands (sites : List Site) (a : ℕ) (e : Event) (result : Result Reply WorldRefusal) (sites' : List Site) : Type 0 where
   Nobody : (beyond : length sites ≤ a) (told : result ≡ Err refusal.NoOffice) (kept : sites' ≡ sites) → Hands sites a e result sites'
   Unasked : (within : a < length sites) (told : result ≡ Err (refusal.Office refused.Memory)) (kept : sites' ≡ sites) → Hands sites a e result sites'
   Asked : (within : a < length sites) (answer : Result Reply offices.Refusal) (site : Site) (told : result ≡ passed_on answer)

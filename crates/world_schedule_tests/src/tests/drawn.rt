@@ -4,7 +4,7 @@ ghost use Rattle.std.specs.Prelude.{All, IfOk, IsTrue};
 ghost use Rattle.session_language.specs.Program.{fits};
 
 use super::{describe, tell_outcomes, tell_values};
-use frame_world::Refusal;
+use frame_world::WorldRefusal;
 use office_map::{OfficeId, Plan};
 use serial_replay::{Replay, serial};
 use session_language::{Program, read_sessions};
@@ -139,7 +139,7 @@ fn next(draw: u64) -> u64 {
 
 /// An event, of the upper bits of a number: an office goes on, or sends what waits for a neighbour, or one of the last
 /// frames comes.
-fn take_drawn(world: &mut World, programs: &[Program], draw: u64) -> Result<Reply, Refusal> {
+fn take_drawn(world: &mut World, programs: &[Program], draw: u64) -> Result<Reply, WorldRefusal> {
     let offices = world.offices().len() as u64;
     let at = ((draw >> 33).checked_rem(offices).unwrap_or(0) % 256) as u8;
     let to = ((draw >> 41).checked_rem(offices).unwrap_or(0) % 256) as u8;
@@ -155,16 +155,16 @@ fn take_drawn(world: &mut World, programs: &[Program], draw: u64) -> Result<Repl
 }
 
 /// The office does its next rule, or gets the one or the other of its sessions in turn.
-fn go_on(world: &mut World, programs: &[Program], at: u8) -> Result<Reply, Refusal> {
+fn go_on(world: &mut World, programs: &[Program], at: u8) -> Result<Reply, WorldRefusal> {
     let Some(office) = world.offices().get(at as usize) else {
-        return Err(Refusal::NoOffice);
+        return Err(WorldRefusal::NoOffice);
     };
     let tickets = office.tickets();
     match office.next_rule() {
         Some(rule) => world.act(OfficeId::new(at), &rule),
         None => match session_of(programs, at, tickets) {
             Some(program) => world.submit(OfficeId::new(at), program),
-            None => Err(Refusal::NoOffice),
+            None => Err(WorldRefusal::NoOffice),
         },
     }
 }

@@ -4,7 +4,7 @@ use Rattle.site_core.specs.Journals.{Site}
 use Rattle.world_schedule.specs.refinement.WorldOfCode.{finished_of}
 use Rattle.site_core.specs.declared.event.Event.TheVariants as event
 use Rattle.site_core.specs.declared.rule.Rule.TheVariants as rule
-use Rattle.frame_world.specs.declared.refusal.Refusal.TheVariants as refusal
+use Rattle.frame_world.specs.declared.refusal.WorldRefusal.TheVariants as refusal
 use Rattle.world_schedule.specs.refinement.Handing.{passed_on}
 use Rattle.world_schedule.proofs.Asking.{asked}
 use Rattle.world_schedule.proofs.happening.finish.Goals as goal
