@@ -11,7 +11,7 @@ use Rattle.drink_commands.specs.declared.fault.Why.{Why}
 use Rattle.drink_commands.specs.declared.fault.Fault.{Fault}
 use Rattle.drink_commands.specs.declared.fault.Fault.TheVariants.{Memory, ReadFailed, Refused, WriteFailed}
 use Rattle.drink_commands.specs.Fault.{IsAmong, IsFaultAt, IsWriteFault, input_of, refused_input}
-use Rattle.drink_commands.specs.Input.{place_of}
+use Rattle.drink_commands.specs.Input.{input_index}
 use Rattle.drink_commands.specs.Plans.{IsAcceptedAs}
 use Rattle.script_runs.specs.Script.{Act, IsScript}
 use Rattle.drink_commands.specs.Texts.{IsPlan, AreSessions, AreAccepted, IsRefused, Either, Judges}
@@ -46,24 +46,24 @@ is_not_below m n e = grind (arith, nat_tests, e)
 module _ (texts : Input → List ℕ) where
   none_known : (f : Fault) → Judges texts zero f
   none_known Memory = tt
-  none_known (ReadFailed input cause) = either (nat_lt (place_of input) 0) _ _ (λ t. absurd (omega (arith, is_below (place_of input) 0 t))) (λ f. tt)
+  none_known (ReadFailed input cause) = either (nat_lt (input_index input) 0) _ _ (λ t. absurd (omega (arith, is_below (input_index input) 0 t))) (λ f. tt)
   none_known (Refused why remark) =
-      either (nat_lt (place_of (refused_input why)) 0) _ _ (λ t. absurd (omega (arith, is_below (place_of (refused_input why)) 0 t))) (λ f. tt)
+      either (nat_lt (input_index (refused_input why)) 0) _ _ (λ t. absurd (omega (arith, is_below (input_index (refused_input why)) 0 t))) (λ f. tt)
   none_known (WriteFailed cause) = tt
 
   -- a fault at this input, where so many texts are known: those before are accepted, and if it is known, what is said of it
   at_input : (input : Input) (n : ℕ) (P : Why → Type 0) (f : Fault) → IsFaultAt input P f
-      → (place_of input < n → AreAccepted texts (place_of input)) → (n ≤ place_of input → AreAccepted texts n)
-      → ((why : Why) → place_of input < n → P why → IsRefused texts why) → Judges texts n f
+      → (input_index input < n → AreAccepted texts (input_index input)) → (n ≤ input_index input → AreAccepted texts n)
+      → ((why : Why) → input_index input < n → P why → IsRefused texts why) → Judges texts n f
   at_input input n P Memory h before all refused = tt
   at_input input n P (ReadFailed failed cause) h before all refused =
-      subst (λ i. Either (nat_lt (place_of i) n) (AreAccepted texts (place_of i)) (AreAccepted texts n)) (sym h)
-      (either (nat_lt (place_of input) n) _ _ (λ t. before (is_below (place_of input) n t)) (λ f. all (is_not_below (place_of input) n f)))
+      subst (λ i. Either (nat_lt (input_index i) n) (AreAccepted texts (input_index i)) (AreAccepted texts n)) (sym h)
+      (either (nat_lt (input_index input) n) _ _ (λ t. before (is_below (input_index input) n t)) (λ f. all (is_not_below (input_index input) n f)))
   at_input input n P (Refused why remark) (e, h) before all refused =
-      let place_is : place_of (refused_input why) ≡ place_of input = ap place_of e in
-      either (nat_lt (place_of (refused_input why)) n) _ _
-      (λ t. refused why (omega (arith, is_below (place_of (refused_input why)) n t, place_is)) h)
-      (λ f. all (omega (arith, is_not_below (place_of (refused_input why)) n f, place_is)))
+      let place_is : input_index (refused_input why) ≡ input_index input = ap input_index e in
+      either (nat_lt (input_index (refused_input why)) n) _ _
+      (λ t. refused why (omega (arith, is_below (input_index (refused_input why)) n t, place_is)) h)
+      (λ f. all (omega (arith, is_not_below (input_index (refused_input why)) n f, place_is)))
   at_input input n P (WriteFailed cause) h before all refused = absurd h
 
   -- ---- the plan

@@ -6,7 +6,7 @@ use Rattle.office_map.specs.PlanText.{plan_of, HasRing}
 use Rattle.session_meaning.specs.ProgramValue.{ProgramValue}
 use Rattle.session_language.specs.Reading.{sessions_of}
 use Rattle.drink_commands.specs.Plans.{IsAcceptedAs}
-use Rattle.drink_commands.specs.Input.{place_of}
+use Rattle.drink_commands.specs.Input.{input_index}
 use Rattle.script_runs.specs.Script.{Act, IsScript, RefusesScript}
 use Rattle.drink_commands.specs.declared.input.Input.{Input}
 use Rattle.drink_commands.specs.declared.input.Input.TheVariants as inputs
@@ -54,7 +54,7 @@ Either false A B = B
 abbrev pub Judges : (Input → List ℕ) → ℕ → Fault → Type 0
 Judges texts known Memory = Unit {0}
 Judges texts known (ReadFailed input cause) =
-    Either (nat_lt (place_of input) known) (AreAccepted texts (place_of input)) (AreAccepted texts known)
+    Either (nat_lt (input_index input) known) (AreAccepted texts (input_index input)) (AreAccepted texts known)
 Judges texts known (Refused why remark) =
-    Either (nat_lt (place_of (refused_input why)) known) (IsRefused texts why) (AreAccepted texts known)
+    Either (nat_lt (input_index (refused_input why)) known) (IsRefused texts why) (AreAccepted texts known)
 Judges texts known (WriteFailed cause) = AreAccepted texts known
