@@ -3,7 +3,7 @@
 ghost use Rattle.std.specs.Prelude.{◌≡◌, ◌<◌, [], length, Some, IfOk, IsTrue};
 ghost use Rattle.std.specs.List.{list_any};
 ghost use Rattle.std.specs.Str.{bytes_eq};
-ghost use Rattle.office_map.specs.refinement.RecordCounts.{place_of};
+ghost use Rattle.office_map.specs.refinement.RecordCounts.{pair_index};
 ghost use Rattle.office_map.specs.declared.entries.OfficeEntry.{OfficeEntry};
 
 use crate::entries::{OfficeEntry, PairEntry, RecordEntry};
@@ -121,7 +121,7 @@ impl PlanEntries {
         if a.index() >= offices || b.index() >= offices {
             return false;
         }
-        self.joined[place_of(a, b)]
+        self.joined[pair_index(a, b)]
     }
 
     /// Whether this office is an end of this record; false where the plan has no such record.
@@ -210,7 +210,7 @@ impl PlanEntries {
             second,
             fork_at_first: pair.fork_at_first,
         })?;
-        self.joined[place_of(first, second)] = true;
+        self.joined[pair_index(first, second)] = true;
         Ok(())
     }
 
@@ -246,7 +246,7 @@ impl PlanEntries {
             starts_at_first: declared.starts_at_first,
         };
         self.records.push(alloc, entry)?;
-        self.counts[place_of(first, second)] += 1;
+        self.counts[pair_index(first, second)] += 1;
         Ok(())
     }
 
@@ -269,7 +269,7 @@ impl PlanEntries {
         requires { (a < 16) × (b < 16) }
         ensures { result ≡ records_between self.now a b }
     {
-        self.counts[place_of(a, b)] as usize
+        self.counts[pair_index(a, b)] as usize
     }
 
     pub fn copy(&self, alloc: Global) -> Result<PlanEntries, AllocError>
@@ -290,9 +290,9 @@ impl PlanEntries {
 }
 
 /// Where what is kept of two offices stands.
-fn place_of(a: OfficeId, b: OfficeId) -> usize
+fn pair_index(a: OfficeId, b: OfficeId) -> usize
     requires { (a < 16) × (b < 16) }
-    ensures place { result ≡ place_of a b }
+    ensures place { result ≡ pair_index a b }
     ensures within { result < 256 }
 {
     if a < b {

@@ -2,6 +2,7 @@
 
 ghost use Rattle.std.specs.Prelude.{◌≡◌, ◌∷◌, [], ◌<◌, length, map, IfOk, MatchOption, not, ◌&&◌, true, ◌≤◌, ◌==◌};
 ghost use Rattle.std.specs.Option.{option_copied};
+ghost use Rattle.std.specs.Str.{bytes_eq};
 ghost use Rattle.std.specs.Str.Lines.{strip_carriage_return};
 ghost use Rattle.std.specs.List.{list_all, position_or_len};
 ghost use Rattle.office_map.specs.Text.{lines, words_of, is_blank, is_name, name_of, is_keyword, is_name_byte, number_of, decimal, is_plain};
@@ -84,12 +85,22 @@ fn without_return(line: &[u8]) -> &[u8]
     }
 }
 
-/// Whether a line holds nothing but tabs and the printable ASCII bytes.
+/// Whether a line holds nothing but tabs and the printable ASCII bytes. It goes to the end of each line, since a loop
+/// with one way out takes many bytes at once.
 pub fn is_plain(line: &[u8]) -> bool
     ensures { result ≡ list_all is_plain line.now }
 {
-    line.iter()
-        .all(|b| *b == b'\t' || (b' ' <= *b && *b <= b'~'))
+    let mut all = true;
+    for b in line {
+        all &= is_plain_byte(*b);
+    }
+    all
+}
+
+fn is_plain_byte(b: u8) -> bool
+    ensures { result ≡ is_plain b }
+{
+    b == b'\t' || (b' ' <= b && b <= b'~')
 }
 
 /// The value of a NUMBER: one to nineteen digits, at most the largest i64.
@@ -138,6 +149,23 @@ fn digits(word: &[u8]) -> u64
     value
 }
 
+/// Whether two words are one. Most that differ are told apart without a look at all their bytes.
+pub fn is_same_word(a: &[u8], b: &[u8]) -> bool
+    ensures { result ≡ bytes_eq a.now b.now }
+{
+    end_alike(a, b) && a == b
+}
+
+/// Whether two words have one length and one last byte.
+fn end_alike(a: &[u8], b: &[u8]) -> bool
+    ensures { bytes_eq a.now b.now ≡ true → result ≡ true }
+{
+    if a.len() != b.len() {
+        return false;
+    }
+    a.is_empty() || a[a.len() - 1] == b[b.len() - 1]
+}
+
 /// A word as text, if it is a NAME.
 pub fn name(word: &[u8]) -> Option<&str>
     ensures { option_copied result ≡ name_of word.now }
@@ -155,6 +183,7 @@ pub fn is_name(word: &[u8]) -> bool
 {
     match word {
         [] => false,
+        [only] => only.is_ascii_alphabetic(),
         [first, ..] => {
             if !first.is_ascii_alphabetic() || word.len() > 16 {
                 return false;

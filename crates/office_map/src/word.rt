@@ -1,8 +1,9 @@
 //! Words that a plan keeps.
 
-ghost use Rattle.std.specs.Prelude.{◌≡◌, IfOk, true};
+ghost use Rattle.std.specs.Prelude.{◌≡◌, IfOk};
 ghost use Rattle.std.specs.Str.{bytes_eq};
 
+use crate::text::is_same_word;
 use std::alloc::{AllocError, Global};
 use std::marker::Model;
 
@@ -40,9 +41,7 @@ impl Word {
     pub fn is(&self, text: &str) -> bool
         ensures { result ≡ bytes_eq self.now text.now }
     {
-        let own = self.as_str().as_bytes();
-        let other = text.as_bytes();
-        end_alike(own, other) && own == other
+        is_same_word(self.as_str().as_bytes(), text.as_bytes())
     }
 
     pub fn copy(&self, alloc: Global) -> Result<Word, AllocError>
@@ -50,14 +49,4 @@ impl Word {
     {
         Word::of(alloc, self.as_str())
     }
-}
-
-/// Whether two texts have one length and one last byte, by which most names that differ are told apart.
-fn end_alike(a: &[u8], b: &[u8]) -> bool
-    ensures { bytes_eq a.now b.now ≡ true → result ≡ true }
-{
-    if a.len() != b.len() {
-        return false;
-    }
-    a.is_empty() || a[a.len() - 1] == b[b.len() - 1]
 }

@@ -90,7 +90,7 @@ fn place_of(alloc: Global, variables: &mut Vec<String>, name: &str) -> Result<u8
     ensures place { IfOk result (λ k. k ≡ place_of name.now (map string_bytes variables.new.items)) }
     ensures variables { OnOk result (map string_bytes variables.new.items ≡ with_variable name.now (map string_bytes variables.old.items)) }
 {
-    match position_of(variables, name) {
+    match position_of(variables, name.as_bytes()) {
         Some(place) => Ok(place as u8),
         None => {
             let place = variables.len() as u8;

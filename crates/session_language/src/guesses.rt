@@ -19,14 +19,14 @@ impl Guesses {
     }
 
     /// The place of a name in a list of different names.
-    pub fn find(&mut self, names: &[String], name: &str) -> Option<usize>
+    pub fn find(&mut self, names: &[String], name: &[u8]) -> Option<usize>
         requires distinct { AllPairs (λ a b. a ≢ b) (map string_bytes names.now) }
         requires few { length names.now ≤ 255 }
         ensures { result ≡ position (λ v. bytes_eq v name.now) (map string_bytes names.now) }
     {
-        let key = key_of(name.as_bytes());
+        let key = key_of(name);
         let place = self.last[key] as usize;
-        if place < names.len() && names[place].as_str() == name {
+        if place < names.len() && names[place].as_str().as_bytes() == name {
             return Some(place);
         }
         let place = position_of(names, name)?;

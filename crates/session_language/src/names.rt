@@ -5,6 +5,7 @@ ghost use Rattle.std.specs.Str.{bytes_eq};
 ghost use Rattle.std.specs.String.{string_bytes};
 
 use crate::builder::Element;
+use office_map::text::is_same_word;
 use session_meaning::Node;
 
 /// A token whose names are in their places, and whether they are known as a variable and as a record.
@@ -16,10 +17,12 @@ pub struct Placed {
 }
 
 /// The place of a name.
-pub fn position_of(names: &[String], name: &str) -> Option<usize>
+pub fn position_of(names: &[String], name: &[u8]) -> Option<usize>
     ensures { result ≡ position (λ v. bytes_eq v name.now) (map string_bytes names.now) }
 {
-    names.iter().position(|v| v.as_str() == name)
+    names
+        .iter()
+        .position(|v| is_same_word(v.as_str().as_bytes(), name))
 }
 
 pub(crate) fn known_node(node: Node) -> Placed

@@ -27,7 +27,7 @@ impl Scope<'_> {
     ghost use Rattle.session_language.specs.Spelling.{Leaf};
 
     /// The place of a variable.
-    pub fn variable_named(&self, guesses: &mut Guesses, name: &str) -> Option<usize>
+    pub fn variable_named(&self, guesses: &mut Guesses, name: &[u8]) -> Option<usize>
         requires { length self.now.variables.now ≤ 255 }
         ensures { result ≡ variable_named (scope_of self.now) name.now }
     {

@@ -156,11 +156,12 @@ fn with_sign(ranks: &mut Vec<Rank>, size: u32) -> Result<u32, AllocError>
     ensures { (w : Words) (st : List Term) → ranks.old.items ≡ ranks_of st → size ≡ min past_bytes (bytes_of w st) →
         IfOk result (λ n. (ranks.new.items ≡ ranks_of (push_node Node.Negate st)) × (n ≡ min past_bytes (bytes_of w (push_node Node.Negate st)))) }
 {
-    let Some(rank) = ranks.pop() else {
+    let Some(rank) = ranks.last_mut() else {
         return Ok(0);
     };
-    ranks.push(Rank::Factor)?;
-    Ok(sum(size, 1 + around_factor(rank)))
+    let parentheses = around_factor(*rank);
+    *rank = Rank::Factor;
+    Ok(sum(size, 1 + parentheses))
 }
 
 fn with_operator(ranks: &mut Vec<Rank>, size: u32, operator: Operator) -> Result<u32, AllocError>
@@ -171,11 +172,12 @@ fn with_operator(ranks: &mut Vec<Rank>, size: u32, operator: Operator) -> Result
     let Some(right) = ranks.pop() else {
         return Ok(0);
     };
-    let Some(left) = ranks.pop() else {
+    let Some(left) = ranks.last_mut() else {
         return Ok(0);
     };
-    ranks.push(rank_over(operator))?;
-    Ok(sum(size, 3 + around_both(operator, left, right)))
+    let parentheses = around_both(operator, *left, right);
+    *left = rank_over(operator);
+    Ok(sum(size, 3 + parentheses))
 }
 
 /// How tightly an operator binds.

@@ -5,13 +5,13 @@ ghost use Rattle.session_language.specs.Phrase.{leaf_of, token_of, operand_in, e
 
 use crate::lexer::{Piece, Symbol};
 use crate::number::Number;
-use office_map::text::{name, number};
+use office_map::text::{is_name, number};
 
 /// A number, a variable, or `read` and a record; names as they stand in the text.
 #[derive(Clone, Copy)]
 pub enum Operand<'a> {
     Number(Number),
-    Variable(&'a str),
+    Variable(&'a [u8]),
     Record(&'a str),
 }
 
@@ -47,9 +47,10 @@ pub(crate) fn operand_in(word: &[u8]) -> Option<Operand<'_>>
     if let Some(value) = number(word) {
         return Some(Operand::Number(Number { value }));
     }
-    match name(word) {
-        Some(name) => Some(Operand::Variable(name)),
-        None => None,
+    if is_name(word) {
+        Some(Operand::Variable(word))
+    } else {
+        None
     }
 }
 

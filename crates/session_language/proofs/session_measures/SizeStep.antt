@@ -1,10 +1,11 @@
 -- One more node, and the bytes of what waits.
-use Rattle.std.proofs.Common.{◌≡◌, ◌≤◌, ℕ, ◌+◌, min, List, [], ◌∷◌, ◌++◌, length, sym, ap, ◌∙◌, arith, length-append, codes, ◌<◌, take, get_or}
-use Rattle.std.proofs.lemmas.List.{take_more}
+use Rattle.std.proofs.Common.{◌≡◌, ◌≤◌, ℕ, ◌+◌, min, List, [], ◌∷◌, ◌++◌, length, sym, ap, ◌∙◌, arith, length-append, codes, ◌<◌, take, get_or, suc, slice_index_or, slice_set}
+use Rattle.std.proofs.Math.Seq.{take-suc, take-suc-set}
+use Rattle.std.proofs.lemmas.List.{take_more, take_all, length-set}
 use Rattle.std.specs.Fmt.{decimal}
 use Rattle.session_meaning.specs.declared.node.Operator.{Operator}
 use Rattle.session_meaning.specs.declared.node.Operator.TheVariants as op
-use Rattle.session_meaning.specs.declared.node.Node.TheVariants.{Apply}
+use Rattle.session_meaning.specs.declared.node.Node.TheVariants.{Apply, Negate}
 use Rattle.session_language.specs.declared.rank.Rank.{Rank}
 use Rattle.session_language.specs.declared.rank.Rank.TheVariants.{Factor, Product, Sum}
 use Rattle.session_meaning.specs.Tree.{Term, Bin, Test, When, Choice, Loop, Block}
@@ -39,6 +40,26 @@ operation_bytes w op.Times a b =
     let y = length-append (operator_text op.Times) (factor_text (rank_of b) (term_text w b)) in
     let v = product_bytes (rank_of a) (term_text w a) in
     let z = factor_bytes (rank_of b) (term_text w b) in omega arith
+
+-- the last of some, as it stands and once another is in its place
+pub last_replaced : (rs : List Rank) (k : ℕ) (r new : Rank) → length rs ≡ suc k → r ≡ slice_index_or rs k r → (rs ≡ take k rs ++ r ∷ []) × (slice_set rs k new ≡ take k rs ++ new ∷ [])
+last_replaced rs k r new len is = (
+  sym (take_all (suc k) rs (omega (arith, len))) ∙ take-suc rs k r (omega (arith, len)) ∙ ap (λ x. take k rs ++ x ∷ []) (sym is),
+  sym (take_all (suc k) (slice_set rs k new) (omega (arith, len, length-set rs k new))) ∙ take-suc-set rs k new (omega (arith, len)),
+)
+
+-- a minus takes the last
+pub signed : (w : Words) (r : Rank) (rest new old : List Rank) (size n : ℕ) → old ≡ rest ++ r ∷ [] → new ≡ rest ++ Factor ∷ [] → n ≡ min 16385 (size + (1 + around_factor r)) →
+    (st : List Term) → old ≡ ranks_of st → size ≡ min 16385 (bytes_of w st) → (new ≡ ranks_of (push_node Negate st)) × (n ≡ min 16385 (bytes_of w (push_node Negate st)))
+signed w r rest new old size n front back count [] h g =
+    let none : [] ≡ rest ++ r ∷ [] = sym h ∙ front in
+    let long = ap length none in
+    let l = length-append rest (r ∷ []) in absurd (omega arith)
+signed w r rest new old size n front back count (e ∷ st) h g =
+    let one = same_last (ranks_of st) rest (rank_of e) r (sym h ∙ front) in
+    let around : around_factor r ≡ around_factor (rank_of e) = ap around_factor (sym one.1) in
+    let bytes = factor_bytes (rank_of e) (term_text w e) in
+    (back ∙ ap (λ rs. rs ++ Factor ∷ []) (sym one.0), omega (arith, count, g, bytes, around))
 
 -- an operator takes the last two
 pub operated : (w : Words) (o : Operator) (left right over : Rank) (rest pushed old : List Rank) (size n : ℕ) → ((a b : Term) → over ≡ rank_of (Bin o a b)) →

@@ -11,5 +11,5 @@ invariant_of-self-2 c =
     rw c.in_ok-push.ensures.items (
       added.0,
       c.self.invariant.1,
-      marked_more c.self.inside.pairs.items c.self.inside.joined _ c.place_of.result long c.self.invariant.2 added.1 added.2 c.place_of.ensures.place c.place_of.ensures.within,
+      marked_more c.self.inside.pairs.items c.self.inside.joined _ c.pair_index.result long c.self.invariant.2 added.1 added.2 c.pair_index.ensures.place c.pair_index.ensures.within,
     )

@@ -10,6 +10,6 @@ returns-then-eq c =
     let k : ℕ = slice_index_or c.args.self.now.last c.key_of-key.result 0 in
     let there : k < length (map string_bytes c.args.names.now) = omega (arith, length-map c.args.names.now string_bytes) in
     let at : get_or (map string_bytes c.args.names.now) k [] ≡ string_bytes (get_or c.args.names.now k c.index-names-place.result) = get_or-map string_bytes c.args.names.now k c.index-names-place.result [] c.if-place-names.true in
-    let is : string_bytes (get_or c.args.names.now k c.index-names-place.result) ≡ c.as_str.result.now = search rules in
-    let same : c.as_str.result.now ≡ c.args.name.now = (bytes_eq-Decides c.as_str.result.now c.args.name.now).0 (sym c.eq.ensures ∙ c.if-eq.true) in
+    let is : string_bytes (get_or c.args.names.now k c.index-names-place.result) ≡ c.as_bytes.result.now = search rules in
+    let same : c.as_bytes.result.now ≡ c.args.name.now = (bytes_eq-Decides c.as_bytes.result.now c.args.name.now).0 (sym c.eq.ensures ∙ c.if-eq.true) in
     sym (place_is (map string_bytes c.args.names.now) c.args.name.now k c.requires.distinct there (at ∙ is ∙ same))
