@@ -19,3 +19,6 @@ returns-in-Some-clause-rest c =
     let f = c.args.frame.now in
     let w = message_written f c.in-Some.msg c.args.out.now c.write_header.new.out c.write_message.new.out (sym c.msg.ensures ∙ c.in-Some.is) c.told-out c.write_message.ensures.written (header_written f c.args.out.now _ c.write_header.ensures.written) in
     rw c.write_message.ensures.length (kept w)
+
+pub returns-in-None-clause-rest : goal.returns-in-None-clause-rest
+returns-in-None-clause-rest c = cc

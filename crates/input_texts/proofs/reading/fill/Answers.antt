@@ -15,3 +15,12 @@ loop-preserved g c = elim c.match-read.branch [
   | in-Err+else-ne w ↦
       (subst (Grown (g.R.Read.remaining c.args.reader.now) (g.R.Read.remaining c.read.new.self) c.args.bytes.now.items) (sym (ap (λ v. v.items) w.bytes-is)) (none_read (g.R.Read.remaining c.args.reader.now) (g.R.Read.remaining c.loop.reader) (g.R.Read.remaining c.read.new.self) c.args.bytes.now.items c.loop.bytes.items c.loop.invariant.0 (search rules)), search rules)
 ]
+
+pub returns-in-Ok-eq0-clause-filled : goal.returns-in-Ok-eq0-clause-filled
+returns-in-Ok-eq0-clause-filled c = search rules
+
+pub returns-then-ne-clause-filled : goal.returns-then-ne-clause-filled
+returns-then-ne-clause-filled c = search rules
+
+pub slice_bounds-read-end : goal.slice_bounds-read-end
+slice_bounds-read-end c = search rules

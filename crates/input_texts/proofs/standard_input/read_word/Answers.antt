@@ -9,3 +9,6 @@ returns-then-eq g c = record {
       let word_is : c.args.word.now ≡ codes "-" = search rules in
       IfOk-weaker c.text.result _ _ (λ v h text after has. h (g.S.Sources.file_text c.args.sources.now) text after (subst (λ w. HasText (g.S.Sources.file_text c.args.sources.now) c.args.standard.now w text after) word_is has)) c.text.ensures;
 }
+
+pub returns : goal.returns
+returns c = search rules

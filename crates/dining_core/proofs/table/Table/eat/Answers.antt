@@ -1,4 +1,4 @@
-use Rattle.std.proofs.Common.{ap, ◌∙◌, false}
+use Rattle.std.proofs.Common.{ap, ◌∙◌, false, rules}
 use Rattle.dining_core.specs.declared.phase.Phase.TheVariants.{Eating}
 use Rattle.dining_core.specs.declared.shared_fork.SharedFork.{SharedFork}
 use Rattle.std.proofs.Common.{List}
@@ -15,3 +15,6 @@ returns-clause-done c =
     ap (λ (l : List SharedFork). diner_of (record { neighbours = c.self.inside.neighbours.items; phase = Eating; places = l })) c.use_all.ensures
     ∙ forks_used c.self.inside.neighbours.items Eating c.self.inside.places.items
     ∙ ap (λ (t : TableValue). eaten t) c.self.view_is
+
+pub returns-then-not-may_eat-clause-not_now : goal.returns-then-not-may_eat-clause-not_now
+returns-then-not-may_eat-clause-not_now c = search rules

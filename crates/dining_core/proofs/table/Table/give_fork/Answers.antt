@@ -1,4 +1,4 @@
-use Rattle.std.proofs.Common.{◌≡◌, ℕ, ap, ◌∙◌, ◌<◌, length, List, set, sym, not, ◌&&◌, true, false}
+use Rattle.std.proofs.Common.{◌≡◌, ℕ, ap, ◌∙◌, ◌<◌, length, List, set, sym, not, ◌&&◌, true, false, rules}
 use Rattle.dining_core.specs.declared.shared_fork.Fork.TheVariants.{Away}
 use Rattle.dining_core.specs.declared.shared_fork.SharedFork.{SharedFork}
 use Rattle.dining_core.specs.Diners.{Diner}
@@ -22,3 +22,9 @@ returns-clause-done c =
     ap (λ k. diner_of (record { neighbours = c.self.inside.neighbours.items; phase = c.self.inside.phase; places = set ps k (record { fork = Away; token = c.index_mut.result.now.token }) })) c.index.ensures
     ∙ fork_gone c.self.inside.neighbours.items c.self.inside.phase ps v c.index_mut.result.now lt is (ap (λ (p : SharedFork). is_clean p.fork) is ∙ owed_dirty (place_at ps v).token _ _ owed)
     ∙ ap (λ (t : TableValue). given t v) c.self.view_is
+
+pub returns-clause-not_now : goal.returns-clause-not_now
+returns-clause-not_now c = search rules
+
+pub returns-then-matches-clause-not_now : goal.returns-then-matches-clause-not_now
+returns-then-matches-clause-not_now c = search rules

@@ -1,4 +1,4 @@
-use Rattle.std.proofs.Common.{◌≡◌, ℕ, true, ◌<◌, List, length, Some, get_or, sym, ap, ◌∙◌, subst}
+use Rattle.std.proofs.Common.{◌≡◌, ℕ, true, ◌<◌, List, length, Some, get_or, sym, ap, ◌∙◌, subst, rules}
 use Rattle.std.specs.Prelude.{All}
 use Rattle.std.specs.Option.{option_copied}
 use Rattle.drinking_core.specs.declared.phase.Phase.TheVariants.{Thirsty}
@@ -32,3 +32,6 @@ returns-clause-done c =
     ∙ session_starts c.self.inside.records.items rs c.self.inside.places.items within (c.self.invariant.idle (sym c.is_tranquil.ensures ∙ c.if-not-is_tranquil.false))
     ∙ ap (λ (b : BarValue). started (drinker_of b) (Some rs)) c.self.view_is
     ∙ ap (λ s. started (drinker_of c.args.self.now) (option_copied s)) (sym c.in-Some.is)
+
+pub returns-clause-not_now : goal.returns-clause-not_now
+returns-clause-not_now c = search rules

@@ -14,3 +14,9 @@ pub returns-clause-mine : goal.returns-clause-mine
 returns-clause-mine g c added is =
     given_mine _ _ _ _ _ _ _ _ _ _ c.pass.invariant c.pass.view_is c.requires.holds
     c.exchange-empty.ensures.3 c.into_boxed-boxed.ensures c.requires.adds c.swap.ensures.2 added is
+
+pub invariant_of-pass : goal.invariant_of-pass
+invariant_of-pass c = search rules
+
+pub returns-clause-given : goal.returns-clause-given
+returns-clause-given c = search rules

@@ -14,3 +14,18 @@ join_seat-requires g c =
 
 pub load-requires : goal.load-requires
 load-requires g c = (search rules, search rules, rw (c.self.invariant.1, c.join_seat.ensures.2) (tells _ _ _ _ _ _ _ _ _ _ _))
+
+pub returns-clause-first : goal.returns-clause-first
+returns-clause-first c = search rules
+
+pub returns-clause-first_mine : goal.returns-clause-first_mine
+returns-clause-first_mine c = search rules
+
+pub returns-clause-mine : goal.returns-clause-mine
+returns-clause-mine c = search rules
+
+pub returns-clause-same : goal.returns-clause-same
+returns-clause-same c = search rules
+
+pub returns-clause-second : goal.returns-clause-second
+returns-clause-second c = search rules

@@ -11,3 +11,6 @@ compare_exchange-found-requires g c =
 
 pub lift-requires-clause-full : goal.lift-requires-clause-full
 lift-requires-clause-full g c = let won = c.compare_exchange-found.ensures.2.0 c.if-found-ne-FREE.false in (won.0, ap (λ m. m.1) won.1)
+
+pub invariant_of-pass : goal.invariant_of-pass
+invariant_of-pass c = search rules

@@ -5,3 +5,6 @@ use Rattle.session_meaning.proofs.working_copy.WorkingCopy.set.Goals as goal
 pub invariant_of-self : goal.invariant_of-self
 invariant_of-self c =
     (λ is_sorted. order_kept c.self.inside.slots.items c.set_slot.new.slots.items c.args.id c.args.value c.set_slot.ensures.set (c.self.invariant.0 is_sorted), c.self.invariant.1, omega (arith, c.self.invariant.2, c.set_slot.ensures.len))
+
+pub returns : goal.returns
+returns c = cc

@@ -1,4 +1,4 @@
-use Rattle.std.proofs.Common.{◌≡◌, ◌-◌, false, true, drop, sym, ap, ◌∙◌}
+use Rattle.std.proofs.Common.{◌≡◌, ◌-◌, false, true, drop, sym, ap, ◌∙◌, rules}
 use Rattle.window_link.specs.Links.{LinkState, fault_of}
 use Rattle.token_channel.specs.declared.channel.Channel.TheInside.{Inside}
 use Rattle.token_channel.specs.Things.{thing_of}
@@ -29,3 +29,6 @@ invariant_of-self c =
           (ap (λ (l : LinkState). l.sending.waiting) c.accept.ensures.link ∙ ap (λ (s : Inside). drop (count - s.link.sending.acked) s.link.sending.waiting) w.self-inside-is)
           (ap (λ (s : Inside). s.places.items) w.self-inside-is)
     ]
+
+pub returns-clause-taken : goal.returns-clause-taken
+returns-clause-taken c = search rules

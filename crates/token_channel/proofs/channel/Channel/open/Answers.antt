@@ -1,4 +1,4 @@
-use Rattle.std.proofs.Common.{length, sym, ap, subst, arith}
+use Rattle.std.proofs.Common.{length, sym, ap, subst, arith, rules}
 use Rattle.window_link.specs.Links.{LinkState}
 use Rattle.token_channel.proofs.ThingsApart.{Apart, apart_none}
 use Rattle.token_channel.proofs.WaitingBound.{few_places}
@@ -19,3 +19,6 @@ invariant_of-result c =
 pub returns-clause-few : goal.returns-clause-few
 returns-clause-few c =
     omega (arith, ap length c.in_ok-places.ensures, few_places c.args.plan.now c.args.me c.args.peer c.offices.ensures.consistent c.requires.neighbours)
+
+pub returns-clause-opened : goal.returns-clause-opened
+returns-clause-opened c = search rules

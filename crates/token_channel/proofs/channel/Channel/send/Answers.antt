@@ -1,4 +1,4 @@
-use Rattle.std.proofs.Common.{◌∙◌, false, ap}
+use Rattle.std.proofs.Common.{◌∙◌, false, ap, rules}
 use Rattle.window_link.specs.Links.{LinkState}
 use Rattle.token_channel.specs.Things.{thing_of, hold}
 use Rattle.token_channel.specs.Places.{holds, changed}
@@ -21,3 +21,6 @@ returns-clause-held c t =
     ap (λ places. holds places t) (c.change.ensures ∙ ap (λ t. changed c.self.inside.places.items t false) c.of.ensures)
     ∙ held-changed c.self.inside.places.items (thing_of c.args.msg) t false (shared_held c.self.inside.places.items (thing_of c.args.msg) (ap (λ (v : ChannelState). holds v.places (thing_of c.args.msg)) c.self.view_is ∙ c.requires))
     ∙ ap (λ (v : ChannelState). hold (holds v.places) (thing_of c.args.msg) false t) c.self.view_is
+
+pub returns-clause-sent : goal.returns-clause-sent
+returns-clause-sent c = search rules

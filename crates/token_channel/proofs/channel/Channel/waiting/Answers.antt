@@ -6,3 +6,6 @@ use Rattle.token_channel.proofs.channel.Channel.waiting.Goals as goal
 
 pub returns-clause-few : goal.returns-clause-few
 returns-clause-few c = omega (arith, room c.self.inside.places.items c.self.inside.link.sending.waiting TheFork c.self.invariant.0, ap length c.waiting.ensures.value, ap (λ (v : ChannelState). length v.places) c.self.view_is)
+
+pub returns-clause-value : goal.returns-clause-value
+returns-clause-value c = cc

@@ -6,3 +6,6 @@ returns-clause-link c = cc
 
 pub returns-clause-fault : goal.returns-clause-fault
 returns-clause-fault c = search rules
+
+pub returns-clause-arrival : goal.returns-clause-arrival
+returns-clause-arrival c = cc

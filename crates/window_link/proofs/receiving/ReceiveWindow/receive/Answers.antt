@@ -6,3 +6,9 @@ returns-clause-window c = search rules
 
 pub returns-clause-arrival : goal.returns-clause-arrival
 returns-clause-arrival c = search rules
+
+pub returns-then-number-self-2-clause-arrival : goal.returns-then-number-self-2-clause-arrival
+returns-then-number-self-2-clause-arrival c = search rules
+
+pub returns-then-number-self-clause-arrival : goal.returns-then-number-self-clause-arrival
+returns-then-number-self-clause-arrival c = search rules
