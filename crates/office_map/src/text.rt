@@ -178,12 +178,22 @@ pub fn name(word: &[u8]) -> Option<&str>
 }
 
 /// Whether a word is a NAME.
+#[inline(always)]
 pub fn is_name(word: &[u8]) -> bool
     ensures { result ≡ is_name word.now }
 {
     match word {
-        [] => false,
         [only] => only.is_ascii_alphabetic(),
+        _ => is_longer_name(word),
+    }
+}
+
+/// The same, for words of all lengths.
+fn is_longer_name(word: &[u8]) -> bool
+    ensures { result ≡ is_name word.now }
+{
+    match word {
+        [] => false,
         [first, ..] => {
             if !first.is_ascii_alphabetic() || word.len() > 16 {
                 return false;
