@@ -31,7 +31,11 @@ pub(crate) fn submit(
 }
 
 /// An office does a rule.
-pub(crate) fn act(offices: &mut Vec<Office>, at: OfficeId, rule: &Rule) -> Result<Reply, WorldRefusal>
+pub(crate) fn act(
+    offices: &mut Vec<Office>,
+    at: OfficeId,
+    rule: &Rule,
+) -> Result<Reply, WorldRefusal>
     ensures { Hands offices.old.items at (events.Do rule.now) result offices.new.items }
 {
     if at.index() >= offices.len() {

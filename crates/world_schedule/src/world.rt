@@ -26,7 +26,7 @@ use frame_world::laws::{
     sent_frames_are_taken, sessions_are_serial, things_have_one_place, who_drinks_has_its_bottles,
     who_eats_has_its_forks,
 };
-use frame_world::{WorldRefusal, WorldEvent};
+use frame_world::{WorldEvent, WorldRefusal};
 use office_map::{OfficeId, Plan, RecordId};
 use session_language::{Outcome, Program};
 use site_core::{Journal, Office, Reply, Rule};
@@ -154,7 +154,10 @@ impl World {
 
     /// Events in order. A refused one leaves the world as it was, and the run goes on, but where memory runs out: then
     /// it stops, with the world after the events before. Of the world then all holds that [`World::is_serial`] tells.
-    pub fn run(&mut self, events: &[WorldEvent]) -> Result<Vec<Result<Reply, WorldRefusal>>, Stopped>
+    pub fn run(
+        &mut self,
+        events: &[WorldEvent],
+    ) -> Result<Vec<Result<Reply, WorldRefusal>>, Stopped>
         ensures replies { IfOk result (λ replies. replies.items ≡ replies_of self.old events.now) }
         ensures world { OnOk result (self.new ≡ run_of self.old events.now) }
         ensures stopped { IfErr result (λ s. (s.done ≤ length events.now) × (self.new ≡ run_of self.old (take s.done events.now))) }
@@ -172,7 +175,10 @@ impl World {
         replies
     }
 
-    fn run_all(&mut self, events: &[WorldEvent]) -> Result<Vec<Result<Reply, WorldRefusal>>, Stopped>
+    fn run_all(
+        &mut self,
+        events: &[WorldEvent],
+    ) -> Result<Vec<Result<Reply, WorldRefusal>>, Stopped>
         ensures replies { IfOk result (λ replies. replies.items ≡ replies_of self.old events.now) }
         ensures world { OnOk result (self.new ≡ run_of self.old events.now) }
         ensures stopped { IfErr result (λ s. (s.done ≤ length events.now) × (self.new ≡ run_of self.old (take s.done events.now))) }

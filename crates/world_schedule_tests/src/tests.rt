@@ -1,7 +1,7 @@
 //! Rows of events with what a world answers and tells.
 
 use frame_codec::{Frame, MAX_LENGTH, encode};
-use frame_world::{WorldRefusal, WorldEvent};
+use frame_world::{WorldEvent, WorldRefusal};
 use office_map::{OfficeId, Plan, RecordId};
 use session_language::{Outcome, Program, read_sessions};
 use site_core::{Reply, Rule};
