@@ -6,6 +6,7 @@ ghost use Rattle.std.specs.String.{string_bytes};
 ghost use Rattle.script_runs.specs.Report.{office_name, record_name, end_text, listed, record_text, value_text, title, outcome_line, value_at, value_line, value_lines, report_of};
 
 use bottle_values::Value;
+use itoa::Buffer;
 use office_map::{OfficeId, Plan, RecordId};
 use session_language::{End, Outcome};
 use std::alloc::{AllocError, Global};
@@ -84,8 +85,10 @@ fn add_records(
 fn add_record(text: &mut String, plan: &Plan, id: RecordId, value: Value) -> Result<(), AllocError>
     ensures { OnOk result (string_bytes text.new ≡ string_bytes text.old ++ (32 ∷ record_text plan.now (id, value))) }
 {
-    let name = record_name(plan, id);
-    write!(text, " {name}={value}")
+    text.push_str(" ")?;
+    text.push_str(record_name(plan, id))?;
+    text.push_str("=")?;
+    add_number(text, value)
 }
 
 fn add_gives(text: &mut String, gives: &[Value]) -> Result<(), AllocError>
@@ -104,7 +107,15 @@ fn add_gives(text: &mut String, gives: &[Value]) -> Result<(), AllocError>
 fn add_given(text: &mut String, value: Value) -> Result<(), AllocError>
     ensures { OnOk result (string_bytes text.new ≡ string_bytes text.old ++ (32 ∷ value_text value)) }
 {
-    write!(text, " {value}")
+    text.push_str(" ")?;
+    add_number(text, value)
+}
+
+fn add_number(text: &mut String, value: Value) -> Result<(), AllocError>
+    ensures { OnOk result (string_bytes text.new ≡ string_bytes text.old ++ value_text value) }
+{
+    let mut buffer = Buffer::new();
+    text.push_str(buffer.format(value.number))
 }
 
 fn add_values(text: &mut String, plan: &Plan, values: &[Value]) -> Result<(), AllocError>
@@ -125,8 +136,11 @@ pub(crate) fn add_value(
 ) -> Result<(), AllocError>
     ensures { OnOk result (string_bytes text.new ≡ string_bytes text.old ++ value_line plan.now id value) }
 {
-    let name = record_name(plan, id);
-    writeln!(text, "value {name} {value}")
+    text.push_str("value ")?;
+    text.push_str(record_name(plan, id))?;
+    text.push_str(" ")?;
+    add_number(text, value)?;
+    text.push_str("\n")
 }
 
 /// An office's name, or nothing where the plan has no such office.
