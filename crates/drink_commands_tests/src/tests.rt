@@ -141,8 +141,16 @@ fn ran(alloc: Global, plan: &str, sessions: &str) -> (Result<u8, Fault>, Vec<u8>
     (result, out)
 }
 
+/// That `serial` prints this.
+fn prints(rt: &(impl Abort + AllocGlobal), memory: &Memory<'_>, printed: &str) {
+    let mut out = Vec::new(rt.alloc());
+    let result = serial(rt.alloc(), memory, "p", "s", &mut out);
+    assert_eq!(rt; result, Ok(0));
+    assert_eq!(rt; out.as_slice(), printed.as_bytes());
+}
+
 #[test]
-fn prints_sessions_and_values(rt: HostRuntime) -> Result<(), Fail> {
+fn prints_sessions_and_values(rt: HostRuntime) {
     let rows = [
         (PLAN, MOVE, MOVED),
         (PLAN, "", "value x 100\nvalue y 0\n"),
@@ -166,25 +174,17 @@ fn prints_sessions_and_values(rt: HostRuntime) -> Result<(), Fail> {
             "session a\nset x = read x - 100\nrequire read x >= 0 else 7\nend\n",
             "a.1 done reads x=100 writes x=0 gives -\nvalue x 0\nvalue y 0\n",
         ),
+        // Tickets are counted for each office.
+        (
+            PLAN,
+            "session b\ngive 1\nend\nsession a\nset x = -5\nend\nsession b\ngive read x\ngive -7\nend\n",
+            "b.1 done reads - writes - gives 1\na.1 done reads x=100 writes x=-5 gives -\nb.2 done reads x=-5 writes - gives -5 -7\nvalue x -5\nvalue y 0\n",
+        ),
     ];
     for (plan, sessions, printed) in rows {
-        let (result, out) = ran(rt.alloc(), plan, sessions);
-        assert_eq!(rt; result?, 0);
-        assert_eq!(rt; out.as_slice(), printed.as_bytes());
+        let memory = Memory::new(plan, sessions, "");
+        prints(&rt, &memory, printed);
     }
-    Ok(())
-}
-
-#[test]
-fn counts_tickets_for_each_office(rt: HostRuntime) -> Result<(), Fail> {
-    let sessions =
-        "session b\ngive 1\nend\nsession a\nset x = -5\nend\nsession b\ngive read x\ngive -7\nend\n";
-    let printed =
-        "b.1 done reads - writes - gives 1\na.1 done reads x=100 writes x=-5 gives -\nb.2 done reads x=-5 writes - gives -5 -7\nvalue x -5\nvalue y 0\n";
-    let (result, out) = ran(rt.alloc(), PLAN, sessions);
-    assert_eq!(rt; result?, 0);
-    assert_eq!(rt; out.as_slice(), printed.as_bytes());
-    Ok(())
 }
 
 /// Why the text of an input is refused, where it is.
@@ -238,9 +238,8 @@ fn reads_the_longest_texts(rt: HostRuntime) -> Result<(), Fail> {
     let alloc = rt.alloc();
     let plan = stretched(alloc, PLAN, 262_144)?;
     let sessions = stretched(alloc, MOVE, 1_048_576)?;
-    let (result, out) = ran(alloc, plan.as_str(), sessions.as_str());
-    assert_eq!(rt; result?, 0);
-    assert_eq!(rt; out.as_slice(), MOVED.as_bytes());
+    let memory = Memory::new(plan.as_str(), sessions.as_str(), "");
+    prints(&rt, &memory, MOVED);
     Ok(())
 }
 

@@ -1,10 +1,10 @@
-use crate::tests::{MOVE, MOVED, Memory, PLAN, why};
+use crate::tests::{MOVE, MOVED, Memory, PLAN, prints, why};
 use drink_commands::commands::serial;
 use drink_commands::fault::{Fault, Why};
 use drink_commands::input::Input;
 use std::io;
 use std::io::{ErrorKind, Write};
-use std::test::Fail;
+use std::process::Abort;
 
 /// Takes one byte at a time. It fails once so many writes are done.
 #[derive(Drop)]
@@ -34,13 +34,18 @@ impl Write for Narrow {
 }
 
 #[test]
-fn waits_for_slow_readers(rt: HostRuntime) -> Result<(), Fail> {
+fn waits_for_slow_readers(rt: HostRuntime) {
     let mut memory = Memory::new(PLAN, MOVE, "");
     memory.step = 7;
+    prints(&rt, &memory, MOVED);
+}
+
+/// That `serial` fails so, and nothing is written.
+fn fails(rt: &(impl Abort + AllocGlobal), memory: &Memory<'_>, sessions: &str, fault: Fault) {
     let mut out = Vec::new(rt.alloc());
-    assert_eq!(rt; serial(rt.alloc(), &memory, "p", "s", &mut out)?, 0);
-    assert_eq!(rt; out.as_slice(), MOVED.as_bytes());
-    Ok(())
+    let result = serial(rt.alloc(), memory, "p", sessions, &mut out);
+    assert_eq!(rt; result, Err(fault));
+    assert_eq!(rt; out.len(), 0);
 }
 
 #[test]
@@ -49,37 +54,35 @@ fn a_failing_read_is_told(rt: HostRuntime) {
         let mut memory = Memory::new(PLAN, MOVE, "");
         memory.step = 7;
         memory.fails_after = reads;
-        let mut out = Vec::new(rt.alloc());
-        let result = serial(rt.alloc(), &memory, "p", "s", &mut out);
         let failed = Fault::ReadFailed(Input::Plan, ErrorKind::BrokenPipe);
-        assert_eq!(rt; result, Err(failed));
-        assert_eq!(rt; out.len(), 0);
+        fails(&rt, &memory, "s", failed);
     }
     let memory = Memory::new(PLAN, MOVE, "");
-    let mut out = Vec::new(rt.alloc());
-    let result = serial(rt.alloc(), &memory, "p", "folder", &mut out);
     let failed = Fault::ReadFailed(Input::Sessions, ErrorKind::IsADirectory);
-    assert_eq!(rt; result, Err(failed));
-    assert_eq!(rt; out.len(), 0);
+    fails(&rt, &memory, "folder", failed);
+}
+
+/// That a device which fails after so many writes is told, or has taken all.
+fn writes(rt: &(impl Abort + AllocGlobal), memory: &Memory<'_>, writes: usize) {
+    let mut out = Narrow {
+        taken: Vec::new(rt.alloc()),
+        writes,
+    };
+    let result = serial(rt.alloc(), memory, "p", "s", &mut out);
+    if writes > MOVED.len() {
+        assert_eq!(rt; result, Ok(0));
+        assert_eq!(rt; out.taken.as_slice(), MOVED.as_bytes());
+    } else {
+        assert_eq!(rt; result, Err(Fault::WriteFailed(ErrorKind::StorageFull)));
+    }
 }
 
 #[test]
-fn a_failing_write_is_told(rt: HostRuntime) -> Result<(), Fail> {
+fn a_failing_write_is_told(rt: HostRuntime) {
     let memory = Memory::new(PLAN, MOVE, "");
-    for writes in 0..MOVED.len() + 2 {
-        let mut out = Narrow {
-            taken: Vec::new(rt.alloc()),
-            writes,
-        };
-        let result = serial(rt.alloc(), &memory, "p", "s", &mut out);
-        if writes <= MOVED.len() {
-            assert_eq!(rt; result, Err(Fault::WriteFailed(ErrorKind::StorageFull)));
-        } else {
-            assert_eq!(rt; result?, 0);
-            assert_eq!(rt; out.taken.as_slice(), MOVED.as_bytes());
-        }
+    for count in 0..MOVED.len() + 2 {
+        writes(&rt, &memory, count);
     }
-    Ok(())
 }
 
 #[test]

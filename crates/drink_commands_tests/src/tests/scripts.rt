@@ -96,14 +96,24 @@ fn ran(alloc: Global, plan: &str, sessions: &str, script: &str) -> (Result<u8, F
     (result, out)
 }
 
+/// That `sim` prints this.
+fn prints(
+    rt: &(impl Abort + AllocGlobal),
+    plan: &str,
+    sessions: &str,
+    script: &str,
+    printed: &str,
+) {
+    let (result, out) = ran(rt.alloc(), plan, sessions, script);
+    assert_eq!(rt; result, Ok(0));
+    assert_eq!(rt; out.as_slice(), printed.as_bytes());
+}
+
 #[test]
-fn scripts_print_their_rows(rt: HostRuntime) -> Result<(), Fail> {
+fn scripts_print_their_rows(rt: HostRuntime) {
     for (plan, sessions, script, printed) in &ROWS {
-        let (result, out) = ran(rt.alloc(), plan, sessions, script);
-        assert_eq!(rt; result?, 0);
-        assert_eq!(rt; String::from_utf8(out)?.as_str(), *printed);
+        prints(&rt, plan, sessions, script, printed);
     }
-    Ok(())
 }
 
 #[test]
@@ -117,9 +127,7 @@ fn sixty_four_sessions_wait(rt: HostRuntime) -> Result<(), Fail> {
     }
     script.push_str("submit 1\n")?;
     printed.push_str("refused O3 QueueFull\nunfinished 64\nvalue x 100\nvalue y 0\n")?;
-    let (result, out) = ran(alloc, PLAN, TWO, script.as_str());
-    assert_eq!(rt; result?, 0);
-    assert_eq!(rt; out.as_slice(), printed.as_bytes());
+    prints(&rt, PLAN, TWO, script.as_str(), printed.as_str());
     Ok(())
 }
 
@@ -147,28 +155,20 @@ fn add_turn(script: &mut String, printed: &mut String, turn: u64) -> Result<(), 
     let given = 2 * turn + 2;
     write!(
         script,
-        "submit {session}\ndo {me} start\ndo {me} askbottle x\n"
+        "submit {session}\ndo {me} start\ndo {me} askbottle x\nsend {me} {other} 5\nsend {me} {other} {waiting}\ndeliver {asked}\n"
     )?;
     write!(
         script,
-        "send {me} {other} 5\nsend {me} {other} {waiting}\ndeliver {asked}\n"
+        "do {other} givebottle x\nsend {other} {me} 5\nsend {other} {me} 1\ndeliver {given}\ndo {me} drink\ndo {me} work 100\ndo {me} finish\n"
     )?;
-    write!(
-        script,
-        "do {other} givebottle x\nsend {other} {me} 5\nsend {other} {me} 1\ndeliver {given}\n"
-    )?;
-    write!(script, "do {me} drink\ndo {me} work 100\ndo {me} finish\n")?;
-    write!(printed, "ticket {ticket}\ndone\ndone\nrefused O1 NotNow\n")?;
     write!(
         printed,
-        "frame {asked} 445001010000002a{there}{number:016x}{turn:016x}030000\ntaken\n"
+        "ticket {ticket}\ndone\ndone\nrefused O1 NotNow\nframe {asked} 445001010000002a{there}{number:016x}{turn:016x}030000\ntaken\n"
     )?;
-    write!(printed, "done\nrefused O1 NotNow\n")?;
     write!(
         printed,
-        "frame {given} 445001010000002a{back}{number:016x}{number:016x}040000{turn:016x}\ntaken\n"
-    )?;
-    printed.push_str("done\ndone\ndone\n")
+        "done\nrefused O1 NotNow\nframe {given} 445001010000002a{back}{number:016x}{number:016x}040000{turn:016x}\ntaken\ndone\ndone\ndone\n"
+    )
 }
 
 /// A bottle goes to and fro twenty times. Each frame comes once, in order, and none is of a count alone.
@@ -190,9 +190,7 @@ fn a_bottle_goes_to_and_fro(rt: HostRuntime) -> Result<(), Fail> {
     }
     printed.push_str(finished.as_str())?;
     printed.push_str("unfinished 0\nvalue x 40\n")?;
-    let (result, out) = ran(alloc, ONE_RECORD, ADDS, script.as_str());
-    assert_eq!(rt; result?, 0);
-    assert_eq!(rt; String::from_utf8(out)?.as_str(), printed.as_str());
+    prints(&rt, ONE_RECORD, ADDS, script.as_str(), printed.as_str());
     Ok(())
 }
 
@@ -303,25 +301,24 @@ fn long_script(alloc: Global) -> Result<Long, AllocError> {
     Ok(long)
 }
 
-#[test]
-fn a_long_script_is_serial(rt: HostRuntime) -> Result<(), Fail> {
-    let alloc = rt.alloc();
-    let long = long_script(alloc)?;
-    let mut alone = Vec::new(alloc);
+/// The sessions that finish and the records, as `serial` tells them, with the session between that has begun.
+fn add_serial(long: &mut Long, rt: &(impl Abort + AllocGlobal)) -> Result<(), Fail> {
+    let mut alone = Vec::new(rt.alloc());
     let memory = Memory::new(PLAN, long.finished.as_str(), "");
-    let status = serial(alloc, &memory, "p", "s", &mut alone);
-    assert_eq!(rt; status?, 0);
+    let status = serial(rt.alloc(), &memory, "p", "s", &mut alone);
+    assert_eq!(rt; status, Ok(0));
     let report = String::from_utf8(alone)?;
-    let mut expected = long.replies;
     for line in report.as_str().lines() {
         if line.starts_with("value x") {
-            expected.push_str("unfinished 1\n")?;
+            long.replies.push_str("unfinished 1\n")?;
         }
-        writeln!(expected, "{line}")?;
+        writeln!(long.replies, "{line}")?;
     }
-    let (result, out) = ran(alloc, PLAN, SUMS, long.script.as_str());
-    assert_eq!(rt; result?, 0);
-    assert_eq!(rt; long.script.as_str().lines().count(), 23_999);
+    Ok(())
+}
+
+/// What is printed, but for the bytes of frames.
+fn without_bytes(alloc: Global, out: Vec<u8>) -> Result<String, Fail> {
     let mut printed = String::new(alloc);
     for line in String::from_utf8(out)?.as_str().lines() {
         let shown = if line.starts_with("frame ") {
@@ -331,7 +328,18 @@ fn a_long_script_is_serial(rt: HostRuntime) -> Result<(), Fail> {
         };
         writeln!(printed, "{shown}")?;
     }
-    assert!(rt; printed == expected);
+    Ok(printed)
+}
+
+#[test]
+fn a_long_script_is_serial(rt: HostRuntime) -> Result<(), Fail> {
+    let mut long = long_script(rt.alloc())?;
+    add_serial(&mut long, &rt)?;
+    let (result, out) = ran(rt.alloc(), PLAN, SUMS, long.script.as_str());
+    assert_eq!(rt; result, Ok(0));
+    assert_eq!(rt; long.script.as_str().lines().count(), 23_999);
+    let printed = without_bytes(rt.alloc(), out)?;
+    assert!(rt; printed == long.replies);
     Ok(())
 }
 
