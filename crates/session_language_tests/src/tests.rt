@@ -83,14 +83,20 @@ fn a_program_fits_plans_that_have_its_names(rt: HostRuntime) -> Result<(), Fail>
     let other =
         "plan 1 run 1\noffice d -\noffice e -\npair d e fork d\nrecord x d e 0 at d\nrecord z d e 0 at d\n";
     let other = Plan::read(rt.alloc(), other.as_bytes())?;
-    let programs = read_sessions(rt.alloc(), text.as_bytes(), &plan)?;
-    let mut found = String::new(rt.alloc());
-    for program in &programs {
-        write!(found, "{} {}\n", program.fits(&plan), program.fits(&other))?;
-    }
+    let found = fits(rt.alloc(), text, &plan, &other)?;
     let expected = "true true\ntrue false\ntrue true\ntrue false\n";
     assert_eq!(rt; found.as_str(), expected);
     Ok(())
+}
+
+/// Whether each session under the first plan fits it, and the other one.
+fn fits(alloc: Global, text: &str, plan: &Plan, other: &Plan) -> Result<String, Fail> {
+    let programs = read_sessions(alloc, text.as_bytes(), plan)?;
+    let mut found = String::new(alloc);
+    for program in &programs {
+        write!(found, "{} {}\n", program.fits(plan), program.fits(other))?;
+    }
+    Ok(found)
 }
 
 /// The canonical texts of a text's sessions, one after another.

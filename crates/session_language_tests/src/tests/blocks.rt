@@ -115,49 +115,22 @@ fn faults_of_blocks_are_told(rt: HostRuntime) -> Result<(), Fail> {
     Ok(())
 }
 
+/// What stands within eight blocks or nine, and what is said of it.
+static NESTED: [(usize, &str, &str); 5] = [
+    (1, "", "accepted"),
+    (2, "", "10 TooDeep"),
+    (1, "end\nif 1 < 2\nelse\n", "accepted"),
+    (1, "if v < 2\n", "10 UnknownName"),
+    (1, "if 1 <\n", "10 Syntax"),
+];
+
 #[test]
 fn at_most_eight_blocks_stand_in_one_another(rt: HostRuntime) -> Result<(), Fail> {
     for (first, second) in [("if 1 < 2\n", "repeat 1\n"), ("repeat 1\n", "if 1 < 2\n")] {
-        let found = nested(rt.alloc(), first, 7, second, 1, "")?;
-        assert_eq!(rt; found.as_str(), "accepted");
-        let found = nested(rt.alloc(), first, 7, second, 2, "")?;
-        assert_eq!(rt; found.as_str(), "10 TooDeep");
-        let found = nested(rt.alloc(), first, 7, second, 1, "end\nif 1 < 2\nelse\n")?;
-        assert_eq!(rt; found.as_str(), "accepted");
-        let found = nested(rt.alloc(), first, 7, second, 1, "if v < 2\n")?;
-        assert_eq!(rt; found.as_str(), "10 UnknownName");
-        let found = nested(rt.alloc(), first, 7, second, 1, "if 1 <\n")?;
-        assert_eq!(rt; found.as_str(), "10 Syntax");
-    }
-    Ok(())
-}
-
-#[test]
-fn statements_in_blocks_count(rt: HostRuntime) -> Result<(), Fail> {
-    let block = "if 1 < 2\nlet v = 1\nend\n";
-    let found = repeated(rt.alloc(), block, 128, "")?;
-    assert_eq!(rt; found.as_str(), "accepted");
-    let found = repeated(rt.alloc(), block, 128, "give 1\n")?;
-    assert_eq!(rt; found.as_str(), "387 TooLong");
-    let found = repeated(rt.alloc(), block, 129, "give v\nfoo\n")?;
-    assert_eq!(rt; found.as_str(), "390 Syntax");
-    Ok(())
-}
-
-#[test]
-fn the_dearer_part_of_an_if_gives(rt: HostRuntime) -> Result<(), Fail> {
-    for (first, second, expected) in [
-        (64, 64, "accepted"),
-        (65, 0, "70 TooManyGives"),
-        (0, 65, "70 TooManyGives"),
-    ] {
-        let mut text = String::from_str(rt.alloc(), "session a\nif 1 < 2\n")?;
-        repeat(&mut text, "give 1\n", first)?;
-        text.push_str("else\n")?;
-        repeat(&mut text, "give 2\n", second)?;
-        text.push_str("end\nend\n")?;
-        let found = fault(rt.alloc(), text.as_bytes())?;
-        assert_eq!(rt; found.as_str(), expected);
+        for (seconds, body, expected) in &NESTED {
+            let found = nested(rt.alloc(), first, 7, second, *seconds, body)?;
+            assert_eq!(rt; found.as_str(), *expected, "of {seconds} and {body:?}");
+        }
     }
     Ok(())
 }
@@ -178,15 +151,6 @@ fn nested(
     text.push_str(body)?;
     repeat(&mut text, "end\n", firsts)?;
     repeat(&mut text, "end\n", seconds)?;
-    text.push_str("end\n")?;
-    fault(alloc, text.as_bytes())
-}
-
-/// A session of so many equal lines, and these.
-fn repeated(alloc: Global, lines: &str, count: usize, last: &str) -> Result<String, Fail> {
-    let mut text = String::from_str(alloc, "session a\n")?;
-    repeat(&mut text, lines, count)?;
-    text.push_str(last)?;
     text.push_str("end\n")?;
     fault(alloc, text.as_bytes())
 }

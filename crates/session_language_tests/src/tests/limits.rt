@@ -6,62 +6,153 @@ use std::alloc::{AllocError, Global};
 use std::fmt::Write;
 use std::test::Fail;
 
-/// What stands before an operand, after it, the operand, how often, and what is said of it.
-static DEPTHS: [(&str, &str, &str, usize, &str); 12] = [
-    ("-", "", "1", 31, "accepted"),
-    ("-", "", "1", 32, "2 TooDeep"),
-    ("(", ")", "1", 31, "accepted"),
-    ("(", ")", "1", 32, "2 TooDeep"),
-    ("(", ")", "v", 32, "2 UnknownName"),
-    ("1+", "", "1", 31, "accepted"),
-    ("1+", "", "1", 32, "2 TooDeep"),
-    ("1*", "", "1", 31, "accepted"),
-    ("1*", "", "1", 32, "2 TooDeep"),
-    ("(", ")", "1", 500_000, "2 TooDeep"),
-    ("-", "", "1", 1_000_000, "2 TooDeep"),
-    ("(", "", "1", 1_000_000, "2 Syntax"),
+/// What stands between `session a` and its `end`, in these parts: a beginning, a part and how often, a middle, another
+/// part and how often, and what is last. And what is said of it.
+static SESSIONS: [(&str, &str, usize, &str, &str, usize, &str, &str); 26] = [
+    // How deep an expression is.
+    ("give ", "-", 31, "1", "", 0, "\n", "accepted"),
+    ("give ", "-", 32, "1", "", 0, "\n", "2 TooDeep"),
+    ("give ", "(", 31, "1", ")", 31, "\n", "accepted"),
+    ("give ", "(", 32, "1", ")", 32, "\n", "2 TooDeep"),
+    ("give ", "(", 32, "v", ")", 32, "\n", "2 UnknownName"),
+    ("give ", "1+", 31, "1", "", 0, "\n", "accepted"),
+    ("give ", "1+", 32, "1", "", 0, "\n", "2 TooDeep"),
+    ("give ", "1*", 31, "1", "", 0, "\n", "accepted"),
+    ("give ", "1*", 32, "1", "", 0, "\n", "2 TooDeep"),
+    ("give ", "(", 500_000, "1", ")", 500_000, "\n", "2 TooDeep"),
+    ("give ", "-", 1_000_000, "1", "", 0, "\n", "2 TooDeep"),
+    ("give ", "(", 1_000_000, "1", "", 0, "\n", "2 Syntax"),
+    // How many statements there are.
+    ("", "let v = 1\n", 256, "", "", 0, "", "accepted"),
+    ("", "let v = 1\n", 257, "", "", 0, "", "259 TooLong"),
+    ("", BLOCK, 128, "", "", 0, "", "accepted"),
+    ("", BLOCK, 128, "give 1\n", "", 0, "", "387 TooLong"),
+    ("", BLOCK, 129, "give v\nfoo\n", "", 0, "", "390 Syntax"),
+    // How many values are given, where the part of an `if` counts that gives more.
+    ("", "give 1\n", 64, "", "", 0, "", "accepted"),
+    ("", "give 1\n", 65, "", "", 0, "", "67 TooManyGives"),
+    (
+        "if 1 < 2\n",
+        "give 1\n",
+        64,
+        "else\n",
+        "give 2\n",
+        64,
+        "end\n",
+        "accepted",
+    ),
+    (
+        "if 1 < 2\n",
+        "give 1\n",
+        65,
+        "else\n",
+        "",
+        0,
+        "end\n",
+        "70 TooManyGives",
+    ),
+    (
+        "if 1 < 2\n",
+        "",
+        0,
+        "else\n",
+        "give 2\n",
+        65,
+        "end\n",
+        "70 TooManyGives",
+    ),
+    // The cost: 156 statements of cost 64, and one of cost 16 or 17.
+    ("", COSTS_64, 156, "give ", "-", 14, "1\n", "accepted"),
+    ("", COSTS_64, 156, "give ", "-", 15, "1\n", "159 TooLong"),
+    // Bytes with names of 16 bytes: 25 of the first line, 236 times 69, 6 times 10, 11 or 12, and 4 of the last.
+    (
+        "",
+        SUM,
+        236,
+        "",
+        "let v = 1\n",
+        6,
+        "let v = 12\n",
+        "accepted",
+    ),
+    (
+        "",
+        SUM,
+        236,
+        "",
+        "let v = 1\n",
+        6,
+        "let v = 123\n",
+        "245 TooLong",
+    ),
 ];
 
+const BLOCK: &str = "if 1 < 2\nlet v = 1\nend\n";
+
+const COSTS_64: &str =
+    "let v = ------------------------------1 + ------------------------------1\n";
+
+const SUM: &str = "set x = read x + read y\n";
+
 #[test]
-fn expressions_are_at_most_32_deep(rt: HostRuntime) -> Result<(), Fail> {
-    for (open, close, operand, count, expected) in &DEPTHS {
-        let mut text = String::from_str(rt.alloc(), "session a\ngive ")?;
-        repeat(&mut text, open, *count)?;
-        text.push_str(operand)?;
-        repeat(&mut text, close, *count)?;
-        text.push_str("\nend\n")?;
+fn sessions_are_read_up_to_their_limits(rt: HostRuntime) -> Result<(), Fail> {
+    for (front, first, firsts, middle, second, seconds, last, expected) in &SESSIONS {
+        let mut text = String::from_str(rt.alloc(), "session a\n")?;
+        text.push_str(front)?;
+        repeat(&mut text, first, *firsts)?;
+        text.push_str(middle)?;
+        repeat(&mut text, second, *seconds)?;
+        text.push_str(last)?;
+        text.push_str("end\n")?;
         let found = fault(rt.alloc(), text.as_bytes())?;
-        assert_eq!(rt; found.as_str(), *expected, "of {count} {open}");
+        assert_eq!(rt;
+            found.as_str(),
+            *expected,
+            "of {firsts} {first:?}, {seconds} {second:?}"
+        );
     }
     Ok(())
 }
 
+/// Texts, which begin so and then have a part so often, and what is said of them.
+static TEXTS: [(&str, &str, usize, &str); 4] = [
+    ("", "session a\nend\n", 1_024, "accepted"),
+    ("", "session a\nend\n", 1_025, "2049 TooLong"),
+    ("session a\nend\n#", ".", 1_048_561, "accepted"),
+    ("session a\nend\n#", ".", 1_048_562, "0 TooLong"),
+];
+
 #[test]
-fn sessions_have_at_most_256_statements(rt: HostRuntime) -> Result<(), Fail> {
-    let found = repeated(rt.alloc(), "let v = 1\n", 256)?;
-    assert_eq!(rt; found.as_str(), "accepted");
-    let found = repeated(rt.alloc(), "let v = 1\n", 257)?;
-    assert_eq!(rt; found.as_str(), "259 TooLong");
+fn texts_are_read_up_to_their_limits(rt: HostRuntime) -> Result<(), Fail> {
+    for (front, part, count, expected) in &TEXTS {
+        let mut text = String::from_str(rt.alloc(), front)?;
+        repeat(&mut text, part, *count)?;
+        let found = fault(rt.alloc(), text.as_bytes())?;
+        assert_eq!(rt; found.as_str(), *expected, "of {count} {part:?}");
+    }
     Ok(())
 }
 
-#[test]
-fn sessions_give_at_most_64_values(rt: HostRuntime) -> Result<(), Fail> {
-    let found = repeated(rt.alloc(), "give 1\n", 64)?;
-    assert_eq!(rt; found.as_str(), "accepted");
-    let found = repeated(rt.alloc(), "give 1\n", 65)?;
-    assert_eq!(rt; found.as_str(), "67 TooManyGives");
-    Ok(())
+/// A session with so many lines, each with its number between these two.
+fn numbered(
+    alloc: Global,
+    front: &str,
+    count: u32,
+    back: &str,
+    last: &str,
+) -> Result<String, AllocError> {
+    let mut text = String::from_str(alloc, "session a\n")?;
+    for number in 0..count {
+        write!(text, "{front}{number}{back}")?;
+    }
+    text.push_str(last)?;
+    Ok(text)
 }
 
 #[test]
 fn sessions_have_at_most_32_variables(rt: HostRuntime) -> Result<(), Fail> {
     for (count, expected) in [(32, "accepted"), (33, "34 TooManyVariables")] {
-        let mut text = String::from_str(rt.alloc(), "session a\n")?;
-        for number in 0..count {
-            write!(text, "let v{number} = 1\n")?;
-        }
-        text.push_str("let v0 = v1\nend\n")?;
+        let text = numbered(rt.alloc(), "let v", count, " = 1\n", "let v0 = v1\nend\n")?;
         let found = fault(rt.alloc(), text.as_bytes())?;
         assert_eq!(rt; found.as_str(), expected);
     }
@@ -70,88 +161,12 @@ fn sessions_have_at_most_32_variables(rt: HostRuntime) -> Result<(), Fail> {
 
 #[test]
 fn sessions_need_at_most_16_records(rt: HostRuntime) -> Result<(), Fail> {
-    let plan = wide(rt.alloc())?;
-    let plan = Plan::read(rt.alloc(), plan.as_bytes())?;
     for (count, expected) in [(16, "accepted"), (17, "18 TooManyRecords")] {
-        let mut text = String::from_str(rt.alloc(), "session a\n")?;
-        for number in 0..count {
-            write!(text, "set r{number} = 1\n")?;
-        }
-        text.push_str("give read r0\nend\n")?;
-        let found = fault_under(rt.alloc(), &plan, text.as_bytes())?;
+        let text = numbered(rt.alloc(), "set r", count, " = 1\n", "give read r0\nend\n")?;
+        let found = fault_of_wide(rt.alloc(), text.as_bytes())?;
         assert_eq!(rt; found.as_str(), expected);
     }
     Ok(())
-}
-
-// 156 statements of cost 64, and one of cost 16 or 17.
-#[test]
-fn sessions_cost_at_most_10000(rt: HostRuntime) -> Result<(), Fail> {
-    for (minuses, expected) in [(14, "accepted"), (15, "159 TooLong")] {
-        let mut text = String::from_str(rt.alloc(), "session a\n")?;
-        for _ in 0..156 {
-            text.push_str("let v = ")?;
-            repeat(&mut text, "-", 30)?;
-            text.push_str("1 + ")?;
-            repeat(&mut text, "-", 30)?;
-            text.push_str("1\n")?;
-        }
-        text.push_str("give ")?;
-        repeat(&mut text, "-", minuses)?;
-        text.push_str("1\nend\n")?;
-        let found = fault(rt.alloc(), text.as_bytes())?;
-        assert_eq!(rt; found.as_str(), expected);
-    }
-    Ok(())
-}
-
-// With names of 16 bytes: 25 of the first line, 236 times 69, 6 times 10, 11 or 12, and 4 of the last.
-#[test]
-fn the_text_of_a_session_has_at_most_16384_bytes(rt: HostRuntime) -> Result<(), Fail> {
-    for (last, expected) in [
-        ("let v = 12\nend\n", "accepted"),
-        ("let v = 123\nend\n", "245 TooLong"),
-    ] {
-        let mut text = String::from_str(rt.alloc(), "session a\n")?;
-        repeat(&mut text, "set x = read x + read y\n", 236)?;
-        repeat(&mut text, "let v = 1\n", 6)?;
-        text.push_str(last)?;
-        let found = fault(rt.alloc(), text.as_bytes())?;
-        assert_eq!(rt; found.as_str(), expected);
-    }
-    Ok(())
-}
-
-#[test]
-fn texts_have_at_most_1024_sessions(rt: HostRuntime) -> Result<(), Fail> {
-    let mut text = String::new(rt.alloc());
-    repeat(&mut text, "session a\nend\n", 1_024)?;
-    let found = fault(rt.alloc(), text.as_bytes())?;
-    assert_eq!(rt; found.as_str(), "accepted");
-    text.push_str("session a\nend\n")?;
-    let found = fault(rt.alloc(), text.as_bytes())?;
-    assert_eq!(rt; found.as_str(), "2049 TooLong");
-    Ok(())
-}
-
-#[test]
-fn texts_have_at_most_1048576_bytes(rt: HostRuntime) -> Result<(), Fail> {
-    let mut text = String::from_str(rt.alloc(), "session a\nend\n#")?;
-    repeat(&mut text, ".", 1_048_561)?;
-    let found = fault(rt.alloc(), text.as_bytes())?;
-    assert_eq!(rt; found.as_str(), "accepted");
-    text.push('.')?;
-    let found = fault(rt.alloc(), text.as_bytes())?;
-    assert_eq!(rt; found.as_str(), "0 TooLong");
-    Ok(())
-}
-
-/// A session of so many equal lines, and its fault.
-fn repeated(alloc: Global, line: &str, count: usize) -> Result<String, Fail> {
-    let mut text = String::from_str(alloc, "session a\n")?;
-    repeat(&mut text, line, count)?;
-    text.push_str("end\n")?;
-    fault(alloc, text.as_bytes())
 }
 
 fn repeat(text: &mut String, part: &str, count: usize) -> Result<(), AllocError> {
@@ -159,6 +174,13 @@ fn repeat(text: &mut String, part: &str, count: usize) -> Result<(), AllocError>
         text.push_str(part)?;
     }
     Ok(())
+}
+
+/// What is said of a text of sessions under a plan whose office `a` has 17 records.
+fn fault_of_wide(alloc: Global, text: &[u8]) -> Result<String, Fail> {
+    let plan = wide(alloc)?;
+    let plan = Plan::read(alloc, plan.as_bytes())?;
+    Ok(fault_under(alloc, &plan, text)?)
 }
 
 /// A plan whose office `a` has 17 records.
