@@ -6,6 +6,8 @@ ghost use Rattle.session_language.specs.Program.{fits};
 use super::{describe, tell_outcomes, tell_values};
 use frame_world::WorldRefusal;
 use office_map::{OfficeId, Plan};
+use rand_core::utils::NextWord;
+use rand_pcg::Pcg64;
 use serial_replay::{Replay, serial};
 use session_language::{Program, read_sessions};
 use site_core::Reply;
@@ -124,20 +126,14 @@ fn drawn(alloc: Global, plan: &str, sessions: &str, seed: u64) -> Result<(String
 }
 
 fn draw_all(world: &mut World, programs: &[Program], seed: u64) {
-    let mut draw = seed;
+    let mut words = Pcg64::new(u128::from(seed), 54);
     for _ in 0..20_000 {
-        draw = next(draw);
+        let draw = words.next_word();
         let _ = take_drawn(world, programs, draw);
     }
 }
 
-/// The next of a row of numbers that look drawn.
-fn next(draw: u64) -> u64 {
-    draw.wrapping_mul(6364136223846793005)
-        .wrapping_add(1442695040888963407)
-}
-
-/// An event, of the upper bits of a number: an office goes on, or sends what waits for a neighbour, or one of the last
+/// An event, of the bits of a drawn number: an office goes on, or sends what waits for a neighbour, or one of the last
 /// frames comes.
 fn take_drawn(world: &mut World, programs: &[Program], draw: u64) -> Result<Reply, WorldRefusal> {
     let offices = world.offices().len() as u64;
