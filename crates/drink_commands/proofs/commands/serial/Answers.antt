@@ -1,4 +1,4 @@
-use Rattle.std.proofs.Common.{[], ◌∷◌, rules}
+use Rattle.std.proofs.Common.{[], ◌∷◌, refl, inr, rules}
 use Rattle.std.proofs.lemmas.Result.{err_from_is_err_and}
 use Rattle.drink_commands.specs.declared.input.Input.TheVariants as inputs
 use Rattle.drink_commands.proofs.Faults.{among, plan_judged, sessions_judged, weaker, write_judged, two_accepted}
@@ -45,3 +45,21 @@ returns-clause-reports g c = λ texts known.
     c.in_ok-plan.plan c.in_ok-programs.programs.items (g.W.Write.contents c.args.out.now) (g.W.Write.contents c.write_whole.new.out) c.deref.result.now
     c.in_ok-plan.ensures.meaning c.in_ok-programs.ensures.meaning
     (started c.new-standard.result (g.S.Sources.standard_text c.args.sources.now) (g.S.Sources.file_text c.args.sources.now) (c.args.plan.now ∷ c.args.sessions.now ∷ []) (c.args.plan.now ∷ c.args.sessions.now ∷ []) (texts inputs.Plan ∷ texts inputs.Sessions ∷ []) (search rules) known) (search rules) c.in_ok-write_whole.ensures.written
+
+pub returns-in_err-plan-clause-unwritten : goal.returns-in_err-plan-clause-unwritten
+returns-in_err-plan-clause-unwritten g c =
+    let e = err_from_is_err_and c.from_residual.result c.from_residual.ensures.1 in
+    rw (e.1, e.2) (inr refl)
+
+pub returns-in_err-programs-clause-unwritten : goal.returns-in_err-programs-clause-unwritten
+returns-in_err-programs-clause-unwritten g c =
+    let e = err_from_is_err_and c.from_residual-in_err-programs.result c.from_residual-in_err-programs.ensures.1 in
+    rw (e.1, e.2) (inr refl)
+
+pub returns-in_err-text-clause-unwritten : goal.returns-in_err-text-clause-unwritten
+returns-in_err-text-clause-unwritten g c =
+    let e = err_from_is_err_and c.from_residual-in_err-text.result c.from_residual-in_err-text.ensures.1 in
+    rw (e.1, e.2) (inr refl)
+
+pub returns-clause-status : goal.returns-clause-status
+returns-clause-status g c = refl

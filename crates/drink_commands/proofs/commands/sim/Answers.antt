@@ -1,4 +1,4 @@
-use Rattle.std.proofs.Common.{◌≡◌, [], ◌∷◌, take, sym, subst, ap₂, ◌∙◌, rules}
+use Rattle.std.proofs.Common.{◌≡◌, [], ◌∷◌, take, sym, subst, ap₂, ◌∙◌, refl, inr, rules}
 use Rattle.std.proofs.lemmas.Result.{err_from_is_err_and}
 use Rattle.script_runs.specs.Script.{IsScript, acts_with}
 use Rattle.drink_commands.specs.Texts.{AreSessions}
@@ -57,3 +57,26 @@ returns-clause-simulates g c = λ texts known.
     (λ text after has. subst (λ ps. IsScript c.in_ok-plan.plan ps text (acts_with c.deref.result.now c.in_ok-events.events.items) × (c.read_events.new.standard ≡ after)) c.deref.ensures.value (c.in_ok-events.ensures.meaning text after has))
     (started c.new-standard.result (g.S.Sources.standard_text c.args.sources.now) (g.S.Sources.file_text c.args.sources.now) (c.args.plan.now ∷ c.args.sessions.now ∷ c.args.script.now ∷ []) (c.args.plan.now ∷ c.args.sessions.now ∷ c.args.script.now ∷ []) (texts inputs.Plan ∷ texts inputs.Sessions ∷ texts inputs.Script ∷ []) (search rules) known)
     (ap₂ acts_with (c.deref-2.ensures.value ∙ sym c.deref.ensures.value) c.deref-3.ensures.value) (search rules) (search rules) c.in_ok-write_whole.ensures.written
+
+pub returns-in_err-plan-clause-unwritten : goal.returns-in_err-plan-clause-unwritten
+returns-in_err-plan-clause-unwritten g c =
+    let e = err_from_is_err_and c.from_residual.result c.from_residual.ensures.1 in
+    rw (e.1, e.2) (inr refl)
+
+pub returns-in_err-programs-clause-unwritten : goal.returns-in_err-programs-clause-unwritten
+returns-in_err-programs-clause-unwritten g c =
+    let e = err_from_is_err_and c.from_residual-in_err-programs.result c.from_residual-in_err-programs.ensures.1 in
+    rw (e.1, e.2) (inr refl)
+
+pub returns-in_err-events-clause-unwritten : goal.returns-in_err-events-clause-unwritten
+returns-in_err-events-clause-unwritten g c =
+    let e = err_from_is_err_and c.from_residual-in_err-events.result c.from_residual-in_err-events.ensures.1 in
+    rw (e.1, e.2) (inr refl)
+
+pub returns-in_err-printed-clause-unwritten : goal.returns-in_err-printed-clause-unwritten
+returns-in_err-printed-clause-unwritten g c =
+    let e = err_from_is_err_and c.from_residual-in_err-printed.result c.from_residual-in_err-printed.ensures.1 in
+    rw (e.1, e.2) (inr refl)
+
+pub returns-clause-status : goal.returns-clause-status
+returns-clause-status g c = refl
