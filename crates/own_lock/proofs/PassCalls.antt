@@ -1,5 +1,5 @@
 -- What a call knows of the seat of its pass.
-use Rattle.std.proofs.Common.{◌≡◌, ◌≢◌, ◌==◌, ◌↔◌, not, eq-eqb, ne_eqb, ℕ, zero, suc, true, false, List, [], ◌∷◌, ◌++◌, get_or, ap, sym, subst, ◌∙◌, Option, Some, None, if◌then◌else◌}
+use Rattle.std.proofs.Common.{◌≡◌, ℕ, zero, suc, true, false, List, [], ◌∷◌, ◌++◌, get_or, ap, sym, subst, ◌∙◌, Option, Some, None, if◌then◌else◌}
 use mathlib.Core.List.{IsPrefix}
 use mathlib.Core.Option.{some, none, some-injective, some-ne-none}
 use lib.ListN.{get_elem?}
@@ -8,10 +8,10 @@ use Rattle.atomic_table.specs.Seated.{TableId}
 use Rattle.own_lock.specs.declared.seat_view.SeatView.{SeatView}
 use Rattle.own_lock.specs.Entries.{tagged, AddsOnly}
 use Rattle.own_lock.specs.Rule.{LockRule}
-use Rattle.own_lock.specs.Passes.{PassView, view_of, RuleHolds}
+use Rattle.own_lock.specs.Passes.{PassView}
 use Rattle.own_lock.specs.refinement.Seats.{pass_view, HasOnePass}
 use Rattle.own_lock.specs.Steps.{rest, the_part, giver_view}
-use Rattle.own_lock.specs.refinement.Plays.{GaveBack, Looked}
+use Rattle.own_lock.specs.refinement.Plays.{GaveBack}
 use Rattle.own_lock.proofs.TaggedEntries.{tagged-adds_own}
 use Rattle.own_lock.proofs.StepsKeepRule.{gives_back, closes}
 
@@ -81,23 +81,3 @@ module _ {S K E : Type 0} (tag_of : E → ℕ) (key : S → K) (entries : S → 
         subst (λ l. IsPrefix l (entries last.0)) (ap (λ (q : Pass). q.seen) is) last.4,
         ap (λ t. tagged tag_of t (entries last.0)) (ap (λ (q : Pass). q.tag) (sym is)) ∙ (last.5 ∙ ap (λ (q : Pass). q.mine) is),
       )
-
-is_not_zero : (n : ℕ) → (not (n == 0) ≡ true) ↔ (n ≢ 0)
-is_not_zero n = ((λ e zero_now. let no : false ≡ true = ap not (sym (eq-eqb n 0 zero_now)) ∙ e in cc no), λ ne. ap not (ne_eqb n 0 ne))
-
-module _ {S K E : Type 0} (tag_of : E → ℕ) (key : S → K) (entries : S → List E) (fits : S → Type 0) where
-  pub RuleHolds-looked : (tag : ℕ) (name : TableId) (me me' : Me (Option S) (SeatView K E)) (p : PassView K E) (found : ℕ) (j : K) → HasOnePass tag_of tag me → pass_view name me ≡ p → p.key ≡ Some j
-      → Looked tag_of key entries fits (step 1 0 0 0 none) me found me' → RuleHolds tag_of key entries fits j p (not (found == 0))
-  RuleHolds-looked tag name me me' p found j has is own_key look =
-      let at = look.1 in
-      let view : me.0 ≡ view_of (pass_view name me) = λ i. record { key = me.0.key; holds = me.0.holds; parts = has.one i } in
-      let keys : Some at.0 ≡ Some j = sym at.5 ∙ (ap (λ (q : PassView K E). q.key) is ∙ own_key) in
-      let same : at.0 ≡ j = cc keys in
-      record {
-        passes = at.1;
-        table = at.2;
-        rule = subst (λ (i : K). LockRule tag_of key entries fits i at.1 at.2) same at.4;
-        seat = at.3;
-        seated = at.6 ∙ ap some (view ∙ ap (λ (q : PassView K E). view_of q) is);
-        held_is = subst (λ (n : ℕ). (not (found == 0) ≡ true) ↔ (n ≢ 0)) (sym at.7) (is_not_zero found);
-      }

@@ -2,7 +2,7 @@
 use Rattle.std.proofs.Common.{◌≡◌, ◌≤◌, Bool, true, false, nat_lt, ltb-true, ltb-false, List, [], ◌∷◌, ◌++◌, length, refl, ap, sym, ◌∙◌, arith, append_assoc, if◌then◌else◌}
 use Rattle.std.proofs.lemmas.List.{append-nil}
 use mathlib.Core.List.{IsPrefix}
-use Rattle.own_lock.specs.Steps.{longer}
+use Rattle.own_lock.specs.Entries.{longer}
 
 module _ {A : Type 0} where
   pub IsPrefix-refl : (xs : List A) → IsPrefix xs xs

@@ -11,10 +11,10 @@ use Rattle.atomic_table.specs.Table.{State, Me, step, keeps, takes, gives, stepp
 use Rattle.atomic_table.proofs.Lists.{set_here, set_else, set_again}
 use Rattle.own_lock.specs.declared.seat_view.Part.{Part}
 use Rattle.own_lock.specs.declared.seat_view.SeatView.{SeatView}
-use Rattle.own_lock.specs.Entries.{Every, tagged, AddsOnly}
+use Rattle.own_lock.specs.Entries.{Every, longer, tagged, AddsOnly}
 use Rattle.own_lock.specs.Rule.{DistinctTags, PartAgrees, SeatAgrees, IsStateOf, LockRule, word_of}
-use Rattle.own_lock.specs.Steps.{rest, first_part, the_part, second_part, part_with, parts_from, longer, opening_view, without_first, first_alone, joined_view, spent_view, holder_view, giver_view, told_view, Step, Deals, Takes, FindsTaken, Gives, TakesIn, Tells, May, MayAll, table_after, table_after_all}
-use Rattle.own_lock.specs.refinement.Plays.{Tried, GaveBack, Told, Looked}
+use Rattle.own_lock.specs.Steps.{rest, first_part, the_part, second_part, part_with, parts_from, opening_view, without_first, first_alone, joined_view, spent_view, holder_view, giver_view, told_view, Step, Deals, Takes, FindsTaken, Gives, TakesIn, Tells, May, MayAll, table_after, table_after_all}
+use Rattle.own_lock.specs.refinement.Plays.{Tried, GaveBack, Told}
 use Rattle.own_lock.proofs.Prefixes.{IsPrefix-refl, IsPrefix-trans, longer-covers}
 use Rattle.own_lock.proofs.TaggedEntries.{Every-map, Every-zip, AddsOnly-prefix, tagged-adds_other, tagged-between}
 use Rattle.own_lock.proofs.Views.{get_elem-inside, each-set, each-snoc, HoldsAt-set, HoldsAt-snoc, moved, moved-here, moved-else}
@@ -328,11 +328,6 @@ module _ {S K E : Type 0} (tag_of : E → ℕ) (key : S → K) (entries : S → 
       let v : View = record { key = ok; holds = false; parts = p ∷ q ∷ [] } in
       let t = told s r id v at refl refl in
       (told_view v, keeps, tt, word_again s (told_view v) id t.0, (refl, t.1, t.2, t.3, t.4))
-
-  -- ---- a look
-
-  pub looks : (id : ℕ) (me : Seat) → me.0.parts ≡ the_part me.0 ∷ [] → Allows Rule 1 id me 0 (λ found. found) (Looked tag_of key entries fits (step 1 0 0 0 none) me)
-  looks id me one s r slots at small = (me.0, keeps, tt, unchanged s r id me at, (refl, (k, passes, s, id, r, key_of s r id me.0 at one, at, refl)))
 
   -- ---- the start
 

@@ -1,11 +1,15 @@
 -- Lists of entries, each with the tag of the pass that made it.
-use Rattle.std.specs.Prelude.{◌≡◌, ℕ, ◌==◌, List, [], ◌∷◌, ◌++◌, filter}
+use Rattle.std.specs.Prelude.{◌≡◌, ℕ, ◌==◌, nat_lt, List, [], ◌∷◌, ◌++◌, length, filter, if◌then◌else◌}
 use mathlib.Core.List.{IsPrefix}
 
 -- P holds of each
 abbrev pub Every : {A : Type 0} → (A → Type 0) → List A → Type 0
 Every P [] = Unit {0}
 Every P (x ∷ xs) = P x × Every P xs
+
+-- the longer of two lists; of two that are as long, the first
+abbrev pub longer : {A : Type 0} → List A → List A → List A
+longer xs ys = if nat_lt (length xs) (length ys) then ys else xs
 
 module _ {E : Type 0} (tag_of : E → ℕ) where
   -- the entries with one tag, in order

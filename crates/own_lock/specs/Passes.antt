@@ -1,13 +1,8 @@
 -- What contracts see of a lock and of its passes, and what the calls do to them.
-use Rattle.std.specs.Prelude.{◌≡◌, ◌≢◌, ℕ, Bool, true, false, List, [], ◌∷◌, Option, Some, ◌<◌, length, slice_get, ◌↔◌}
+use Rattle.std.specs.Prelude.{◌≡◌, ℕ, Bool, true, false, List, Option, Some, ◌<◌, length, slice_get}
 use Rattle.std.specs.List.{All}
-use mathlib.Core.Option.{some}
-use lib.ListN.{get_elem?}
 use Rattle.atomic_table.specs.Seated.{TableId}
-use Rattle.atomic_table.specs.Table.{State}
-use Rattle.own_lock.specs.declared.seat_view.SeatView.{SeatView}
 use Rattle.own_lock.specs.Entries.{tagged}
-use Rattle.own_lock.specs.Rule.{LockRule, word_of}
 
 -- which lock it is, and the key of its state
 pub record LockView (K : Type 0) : Type 0 where
@@ -47,17 +42,3 @@ module _ {K E : Type 0} where
   -- the pass, which gave a state with these entries back
   abbrev pub pass_after_give : (E → ℕ) → PassView K E → List E → PassView K E
   pass_after_give tag_of pass es = record pass { holds = false; seen = es; mine = tagged tag_of pass.tag es }
-
-  -- the view of a seat with this pass alone
-  abbrev pub view_of : PassView K E → SeatView K E
-  view_of pass = record { key = pass.key; holds = pass.holds; parts = record { tag = pass.tag; seen = pass.seen; mine = pass.mine } ∷ [] }
-
-module _ {S K E : Type 0} (tag_of : E → ℕ) (key : S → K) (entries : S → List E) (fits : S → Type 0) where
-  -- a state of the lock's table under its rule, where this pass has its seat, and where somebody holds the state or nobody does
-  pub record RuleHolds (k : K) (pass : PassView K E) (held : Bool) : Type 0 where
-    pub passes : ℕ
-    pub table : State (Option S) (SeatView K E)
-    pub rule : LockRule tag_of key entries fits k passes table
-    pub seat : ℕ
-    pub seated : get_elem? table.views seat ≡ some (view_of pass)
-    pub held_is : (held ≡ true) ↔ (word_of table ≢ 0)

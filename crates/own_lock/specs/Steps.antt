@@ -1,12 +1,12 @@
 -- The atomic steps at the lock's table: when each is taken, what it leaves, and that the rule holds after it.
 -- A step changes the view of the seat that takes it. A seat gives its first pass a new seat, or takes another seat in; no other view changes.
-use Rattle.std.specs.Prelude.{◌≡◌, ◌≢◌, ℕ, zero, suc, ◌+◌, nat_lt, Bool, true, false, List, [], ◌∷◌, ◌++◌, length, slice_set, Option, Some, None, if◌then◌else◌}
+use Rattle.std.specs.Prelude.{◌≡◌, ◌≢◌, ℕ, zero, suc, ◌+◌, Bool, true, false, List, [], ◌∷◌, ◌++◌, slice_set, Option, Some, None}
 use mathlib.Core.Option.{some, none}
 use lib.ListN.{get_elem?}
 use Rattle.atomic_table.specs.Table.{State}
 use Rattle.own_lock.specs.declared.seat_view.Part.{Part}
 use Rattle.own_lock.specs.declared.seat_view.SeatView.{SeatView}
-use Rattle.own_lock.specs.Entries.{tagged, AddsOnly}
+use Rattle.own_lock.specs.Entries.{longer, tagged, AddsOnly}
 use Rattle.own_lock.specs.Rule.{LockRule, word_of}
 
 -- ---- views
@@ -29,9 +29,6 @@ module _ {E : Type 0} where
   abbrev pub parts_from : (E → ℕ) → List E → ℕ → ℕ → List (Part E)
   parts_from tag_of es zero t = []
   parts_from tag_of es (suc count) t = part_with tag_of t es ∷ parts_from tag_of es count (t + 1)
-
-  abbrev pub longer : List E → List E → List E
-  longer xs ys = if nat_lt (length xs) (length ys) then ys else xs
 
   -- the first part, having learned what the second one has seen
   abbrev pub told_part : Part E → Part E → Part E

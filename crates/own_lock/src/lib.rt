@@ -8,9 +8,9 @@
 //!   `begins` and `mine`). [`OwnLock::meet`] tells one pass what another has seen, and
 //!   [`OwnLock::close`] ends the lock and gives the state.
 //! - Between any two atomic steps the rule of the lock holds (`LockRule`, in `specs/Rule.antt`): [`laws`]
-//!   says that each kind of step keeps it (`specs/Steps.antt`), and [`OwnLock::is_held`] that it holds where
-//!   it looks (clause `rule`). The rule says "word not 0" where a pass holds the state, so a word for passes
-//!   that sleep wouldn't change it.
+//!   says that each kind of step keeps it (`specs/Steps.antt`), and that it holds after every list of them.
+//!   The rule says "word not 0" where a pass holds the state, so a word for passes that sleep wouldn't
+//!   change it.
 //!
 //! No call but [`OwnLock::open`] takes memory, and none but [`OwnLock::take`] waits. Nothing is said of who
 //! gets the state first. It stands on `atomic_table`, with no `unsafe`.

@@ -2,15 +2,15 @@
 
 ghost use Rattle.std.specs.Prelude.{◌≡◌, ◌<◌, ◌≤◌, ◌∷◌, ◌++◌, [], List, ℕ, true, false, Some, None, IfOk, IfErr, IfSome};
 ghost use mathlib.Core.List.{IsPrefix};
-ghost use Rattle.own_lock.specs.Entries.{tagged, AddsOnly};
-ghost use Rattle.own_lock.specs.Passes.{IsOf, AreFresh, AreIdle, pass_after_take, pass_after_give, RuleHolds};
+ghost use Rattle.own_lock.specs.Entries.{longer, tagged, AddsOnly};
+ghost use Rattle.own_lock.specs.Passes.{IsOf, AreFresh, AreIdle, pass_after_take, pass_after_give};
 
 use crate::boxed::Boxed;
 use crate::held::Held;
 use crate::kept::Kept;
 use crate::pass::Pass;
 use crate::seat_view::{Opening, SeatView};
-use crate::table_rule::{Deal, GiveBack, History, Look, Tell, Together, Try};
+use crate::table_rule::{Deal, GiveBack, History, Tell, Together, Try};
 use atomic_table::{Seat, Table};
 use std::alloc::{AllocError, Global};
 use std::marker::Model;
@@ -159,22 +159,14 @@ impl<S: Kept> OwnLock<S> {
             .swap::<GiveBack<S>>(&mut pass.seat, 0, FREE);
     }
 
-    /// Whether a pass holds the state at this moment. The rule of the lock holds then.
-    pub fn is_held(&self, pass: &mut Pass<S>) -> bool
-        requires of { IsOf self.now pass.old }
-        ensures same { pass.new ≡ pass.old }
-        ensures rule { RuleHolds S.tag_of S.key S.entries S.fits self.now.key pass.old result }
-    {
-        self.table.shared.load::<Look<S>>(&mut pass.seat, 0) != FREE
-    }
-
-    /// The second pass learns what the first one has seen. The first one is given up.
+    /// The second pass learns what the first one has seen: one of them has seen the beginning of what the
+    /// other has, and the longer list is the second one's now. The first one is given up.
     pub fn meet(&self, first: Pass<S>, second: &mut Pass<S>)
         requires first_of { IsOf self.now first }
         requires second_of { IsOf self.now second.old }
         requires first_idle { first.holds ≡ false }
         requires second_idle { second.old.holds ≡ false }
-        ensures same { second.new ≡ record second.old { seen = second.new.seen } }
+        ensures seen { second.new ≡ record second.old { seen = longer second.old.seen first.seen } }
         ensures first { IsPrefix first.seen second.new.seen }
         ensures second { IsPrefix second.old.seen second.new.seen }
         ensures first_mine { tagged S.tag_of first.tag second.new.seen ≡ first.mine }

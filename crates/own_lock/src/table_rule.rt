@@ -2,7 +2,7 @@
 
 ghost use Rattle.own_lock.specs.Rule.{LockRule};
 ghost use Rattle.own_lock.specs.Steps.{opening_view, without_first, first_alone, joined_view, spent_view};
-ghost use Rattle.own_lock.specs.refinement.Plays.{Tried, GaveBack, Told, Looked};
+ghost use Rattle.own_lock.specs.refinement.Plays.{Tried, GaveBack, Told};
 
 use crate::boxed::Boxed;
 use crate::kept::Kept;
@@ -64,13 +64,4 @@ pub(crate) struct Tell<S> {
 
 impl<S: Kept> Play<Option<Boxed<S>>, SeatView<S::Key, S::Entry>> for Tell<S> {
     ghost then = { Told S.tag_of };
-}
-
-/// The word is looked at.
-pub(crate) struct Look<S> {
-    state: PhantomData<S>,
-}
-
-impl<S: Kept> Play<Option<Boxed<S>>, SeatView<S::Key, S::Entry>> for Look<S> {
-    ghost then = { Looked S.tag_of S.key S.entries S.fits };
 }

@@ -202,20 +202,16 @@ fn a_pass_learns_what_others_added(rt: HostRuntime) -> Result<(), Fail> {
     Ok(())
 }
 
-// While one holds the state the other finds it taken, at a look, at a try and at the end.
+// While one holds the state the other finds it taken, at a try and at the end.
 fn find_taken<R: Abort>(rt: &R, lock: OwnLock<Log>, mut a: Pass<Log>, mut b: Pass<Log>)
     requires a { IsOf lock a × (a.holds ≡ false) }
     requires b { IsOf lock b × (b.holds ≡ false) }
 {
-    assert!(rt; !lock.is_held(&mut b));
     let Ok(held) = lock.try_take(&mut a) else {
         panic!(rt; "nobody held it");
     };
-    assert!(rt; lock.is_held(&mut a));
-    assert!(rt; lock.is_held(&mut b));
     assert!(rt; is_busy(&lock, &mut b));
     lock.give(&mut a, held);
-    assert!(rt; !lock.is_held(&mut a));
     assert!(rt; !is_busy(&lock, &mut b));
     let Ok(held) = lock.try_take(&mut a) else {
         panic!(rt; "it was given back");

@@ -1,13 +1,10 @@
 -- What each step at the table tells the code.
 use Rattle.std.specs.Prelude.{◌≡◌, ◌≢◌, ℕ, List, [], ◌∷◌, Option, Some}
 use mathlib.Core.List.{IsPrefix}
-use mathlib.Core.Option.{some}
-use lib.ListN.{get_elem?}
-use Rattle.atomic_table.specs.Table.{State, Me, Step}
+use Rattle.atomic_table.specs.Table.{Me, Step}
 use Rattle.own_lock.specs.declared.seat_view.SeatView.{SeatView}
-use Rattle.own_lock.specs.Entries.{tagged}
-use Rattle.own_lock.specs.Rule.{LockRule, word_of}
-use Rattle.own_lock.specs.Steps.{the_part, second_part, longer, holder_view, giver_view, told_view}
+use Rattle.own_lock.specs.Entries.{longer, tagged}
+use Rattle.own_lock.specs.Steps.{the_part, second_part, holder_view, giver_view, told_view}
 
 module _ {S K E : Type 0} where
   -- where the word was 0, the seat has the slot with the state, and has seen the state's entries
@@ -23,8 +20,3 @@ module _ {S K E : Type 0} where
   abbrev pub Told : (E → ℕ) → Step (Option S) → Me (Option S) (SeatView K E) → ℕ → Me (Option S) (SeatView K E) → Type 0
   Told tag_of step before found after = let p = the_part before.0 in let q = second_part before.0 in let both = longer p.seen q.seen in
       (after ≡ (told_view before.0, before.1)) × IsPrefix p.seen both × IsPrefix q.seen both × (tagged tag_of p.tag both ≡ p.mine) × (tagged tag_of q.tag both ≡ q.mine)
-
-  -- the rule holds at this step, of a table with this word and this seat's view
-  abbrev pub Looked : (E → ℕ) → (S → K) → (S → List E) → (S → Type 0) → Step (Option S) → Me (Option S) (SeatView K E) → ℕ → Me (Option S) (SeatView K E) → Type 0
-  Looked tag_of key entries fits step before found after =
-      (after ≡ before) × ((k : K) × (passes : ℕ) × (s : State (Option S) (SeatView K E)) × (seat : ℕ) × LockRule tag_of key entries fits k passes s × (before.0.key ≡ Some k) × (get_elem? s.views seat ≡ some before.0) × (word_of s ≡ found))

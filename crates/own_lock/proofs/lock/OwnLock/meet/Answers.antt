@@ -24,8 +24,8 @@ returns-clause-first_mine c = search rules
 pub returns-clause-mine : goal.returns-clause-mine
 returns-clause-mine c = search rules
 
-pub returns-clause-same : goal.returns-clause-same
-returns-clause-same c = search rules
+pub returns-clause-seen : goal.returns-clause-seen
+returns-clause-seen c = search rules
 
 pub returns-clause-second : goal.returns-clause-second
 returns-clause-second c = search rules
