@@ -263,7 +263,9 @@ fn say_unknown_name(
     }
     let known = variables_of(alloc, place)?;
     let Some(variable) = unknown_variable(place.line, &known) else {
-        return said.push_str(SessionRule::UnknownName.explanation());
+        return said.push_str(
+            "no such office, or no earlier line of the session lets this variable",
+        );
     };
     say_word(
         said,
@@ -353,7 +355,7 @@ fn say_unknown_record(
             return quote(said, place.office);
         }
     }
-    said.push_str(SessionRule::UnknownRecord.explanation())
+    said.push_str("no such record, or it is not of the session's office")
 }
 
 /// The records that a line sets and reads.

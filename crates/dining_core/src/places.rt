@@ -9,8 +9,8 @@ use crate::shared_fork::{Fork, SharedFork};
 use office_map::{OfficeId, Plan};
 use std::alloc::{AllocError, Global};
 
-#[tactic(auto, using(bottle_values::proofs::Lists::mapped_more))]
 /// What an office has of each pair as the plan starts.
+#[tactic(auto, using(bottle_values::proofs::Lists::mapped_more))]
 pub fn open(alloc: Global, plan: &Plan, id: OfficeId) -> Result<Vec<SharedFork>, AllocError>
     ensures { IfOk result (λ ps. ps.items ≡ map (start_place plan.now id) (range_with_len 0 (length plan.now.offices))) }
 {

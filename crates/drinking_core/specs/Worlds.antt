@@ -10,8 +10,8 @@ use Rattle.office_map.specs.Consistency.{IsConsistent}
 use Rattle.dining_core.specs.Worlds.{with_way, one_more, places}
 use Rattle.drinking_core.specs.Drinkers.{Drinker, BottleRule, Start, AskBottle, GiveBottle, Drink, Finish, is_drinking, is_served, holds, may, act, with_token, with_bottle, value_after, opened}
 
--- each office; and of each record the bottles, with their values and the first one first, and how many request tokens an
--- office sent to another, who hasn't taken them
+-- each office; and of each record the bottles, with their values and the first one first, and how many request tokens
+-- an office sent to another, who hasn't taken them
 pub record World : Type 0 where
   pub drinker : ℕ → Drinker
   pub bottles_on_way : ℕ → ℕ → ℕ → List Value

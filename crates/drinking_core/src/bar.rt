@@ -100,8 +100,8 @@ impl Bar {
         places::at(&self.places, r).token
     }
 
-    /// The other end of a record of this office: whom it asks for the bottle, and to whom it gives it. Of another record
-    /// the answer means nothing.
+    /// The other end of a record of this office: whom it asks for the bottle, and to whom it gives it. Of another
+    /// record the answer means nothing.
     pub fn peer(&self, r: RecordId) -> OfficeId
         ensures { result ≡ (drinker_of self.now).peer r }
     {
@@ -167,9 +167,9 @@ impl Bar {
         Ok(())
     }
 
-    #[tactic(auto, using(crate::proofs::MissingCount::count_few))]
     /// An office sends a bottle that is asked for, with its value, unless its session needs the bottle and works, or
     /// needs it and has the fork.
+    #[tactic(auto, using(crate::proofs::MissingCount::count_few))]
     pub fn give_bottle(&mut self, r: RecordId, table: &Table) -> Result<(), NotNow>
         ensures not_now { IsErr result ↔ (may (drinker_of self.old) (GiveBottle r (diner_of table.now).held) ≡ false) }
         ensures done { OnOk result (drinker_of self.new ≡ act (drinker_of self.old) (GiveBottle r (diner_of table.now).held)) }

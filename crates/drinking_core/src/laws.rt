@@ -2,8 +2,8 @@
 
 ghost use Rattle.drinking_core.specs.Worlds.{EachHasItsSpots, EachHasOnePlace, StrangersShareNothing, UnknownRecordsAreNowhere, RecordsStay, PeersStay, NoOtherSpot, BottlesStartWithTheirValues, ValuesStay, FinishingWrites, DrinkersHaveWhatTheyNeed};
 
-/// After every list of events the bottle of each record is with one of its ends or on the way from one to the other, and
-/// so is the bottle's request token.
+/// After every list of events the bottle of each record is with one of its ends or on the way from one to the other,
+/// and so is the bottle's request token.
 pub fn each_has_its_spots()
     ensures { EachHasItsSpots }
 {}

@@ -77,8 +77,8 @@ pub fn at(places: &[SharedBottle], r: RecordId) -> SharedBottle
     }
 }
 
-#[tactic(auto, using(crate::proofs::MissingCount::count_more, crate::proofs::MissingCount::count_few))]
 /// These records are needed from now on. The answer is how many bottles are missing now that weren't before.
+#[tactic(auto, using(crate::proofs::MissingCount::count_more, crate::proofs::MissingCount::count_few))]
 pub fn need_all(places: &mut Vec<SharedBottle>, records: &[RecordId]) -> usize
     requires { All (λ r. r < length places.old.items) records.now }
     ensures places { places.new.items ≡ with_needed records.now places.old.items }

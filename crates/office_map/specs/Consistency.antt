@@ -26,7 +26,8 @@ pub record IsConsistent (p : PlanValue) : Type 0 where
   pub records_have_pairs : All (λ (r : RecordEntry). IsTrue (are_neighbours p r.first r.second)) p.records
   pub records_fit : (a b : ℕ) → records_between p a b ≤ most_pair_records
 
--- The lines of a plan without a fault give consistent tables with two offices; a refusal names a line of the text, or 0.
+-- The lines of a plan without a fault give consistent tables with two offices; a refusal names a line of the text,
+-- or 0.
 abbrev pub IsComplete : PlanValue → Type 0
 IsComplete p = IsConsistent p × (2 ≤ length p.offices)
 

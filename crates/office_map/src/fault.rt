@@ -5,8 +5,6 @@ ghost use Rattle.office_map.specs.declared.fault.PlanFault.TheVariants.{Memory};
 
 use crate::ring::Ring;
 use std::alloc::{AllocError, AllocFailed};
-use std::error::Error;
-use std::fmt;
 use thiserror::Error;
 
 /// The rule that a line of a plan's text breaks.
@@ -28,45 +26,14 @@ pub enum PlanRule {
     Limit,
 }
 
-impl PlanRule {
-    /// What the rule asks for, in words for people.
-    pub fn explanation(self) -> &'static str {
-        match self {
-            PlanRule::Header => "the first line has to be `plan 1 run N`, with N below 4294967296",
-            PlanRule::Line => {
-                "expected `office NAME ADDR`, `pair A B fork E` or `record NAME A B VALUE at E`"
-            }
-            PlanRule::NameTwice => "this name or address was declared before",
-            PlanRule::UnknownName => "an office or pair has to be declared before it is named",
-            PlanRule::SelfPair => "a pair joins two different offices",
-            PlanRule::PairTwice => "this pair was declared before",
-            PlanRule::Limit => {
-                "a plan has 2 to 16 offices, at most 8 records a pair and at most 262144 bytes"
-            }
-        }
-    }
-}
-
 /// The first rule that is broken, and the number of the line that breaks it: from 1, or 0
 /// where no line does.
-#[derive(Clone, Copy, Debug, PartialEq, Eq)]
+#[derive(Clone, Copy, Debug, PartialEq, Eq, Error)]
+#[error("line {line}: {rule}")]
 pub struct PlanRefusal {
     pub rule: PlanRule,
     pub line: u64,
 }
-
-impl fmt::Display for PlanRefusal {
-    fn fmt<W: fmt::Write>(&self, f: &mut fmt::Formatter<W>) -> fmt::Result {
-        let PlanRefusal { rule, line } = *self;
-        let explanation = rule.explanation();
-        if line > 0 {
-            write!(f, "line {line}: ")?;
-        }
-        write!(f, "{rule}: {explanation}")
-    }
-}
-
-impl Error for PlanRefusal {}
 
 /// Why there is no plan.
 #[derive(Debug, Drop, Error)]

@@ -51,7 +51,6 @@ impl OfficeIndex {
 }
 
 /// The index of each office.
-
 pub(crate) fn index(alloc: Global, tables: &PlanEntries) -> Result<Vec<OfficeIndex>, AllocError>
     ensures { IfOk result (λ v. v.items ≡ index_of tables.now) }
 {

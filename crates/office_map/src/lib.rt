@@ -10,8 +10,8 @@
 //! `Rattle.office_map.specs.PlanValue.PlanValue`. A record is found by its name in
 //! constant time, and an office's neighbours and records are stored lists.
 //!
-//! It stands on `thiserror`, for the messages of its faults, and on `memchr`, for the ends of
-//! lines. Definitions:
+//! It stands on `bottle_values`, for what an answer is unless memory runs out, on `thiserror`,
+//! for the messages of its faults, and on `memchr`, for the ends of lines. Definitions:
 //!
 //! - `specs/PlanText.antt`: which plan the lines of a text mean, what is their first fault, and
 //!   what reading answers.
@@ -21,6 +21,7 @@
 //! - `specs/Address.antt`: which words are addresses.
 //! - `specs/Text.antt`: lines, words, names and numbers, which other texts share; their
 //!   code is [`text`] and [`statements`].
+//! - `specs/Limits.antt`: the limits; the code has its own, [`limits`].
 #![tactic(auto)]
 
 mod address;
@@ -29,6 +30,7 @@ mod fault;
 mod ids;
 mod index;
 pub mod laws;
+pub mod limits;
 mod line;
 mod new_entries;
 mod plan;

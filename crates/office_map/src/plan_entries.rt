@@ -9,12 +9,16 @@ ghost use Rattle.office_map.specs.declared.entries.OfficeEntry.{OfficeEntry};
 use crate::entries::{OfficeEntry, PairEntry, RecordEntry};
 use crate::fault::{PlanFault, PlanRule, refused};
 use crate::ids::{OfficeId, RecordId};
+use crate::limits::{MOST_OFFICES, MOST_PAIR_RECORDS};
 use crate::line::Declaration;
 use crate::new_entries::{NewOffice, NewPair, NewRecord};
 use crate::records::RecordTable;
 use crate::word::Word;
 use std::alloc::{AllocError, Global};
 use std::marker::Model;
+
+/// How many places there are for any two offices.
+const PAIR_PLACES: usize = MOST_OFFICES * MOST_OFFICES;
 
 /// Offices, pairs and records in the order of their lines.
 #[derive(Drop)]
@@ -24,9 +28,9 @@ pub(crate) struct PlanEntries {
     pairs: Vec<PairEntry>,
     records: RecordTable,
     // Of any two offices, at the place of their numbers, how many records they share.
-    counts: [u8; 256],
+    counts: [u8; PAIR_PLACES],
     // And whether they are neighbours.
-    joined: [bool; 256],
+    joined: [bool; PAIR_PLACES],
 }
 
 impl Model for PlanEntries {
@@ -58,8 +62,8 @@ impl PlanEntries {
             offices: Vec::new(alloc),
             pairs: Vec::new(alloc),
             records: RecordTable::new(alloc),
-            counts: [0; 256],
-            joined: [false; 256],
+            counts: [0; PAIR_PLACES],
+            joined: [false; PAIR_PLACES],
         }
     }
 
@@ -180,7 +184,7 @@ impl PlanEntries {
         if self.office_named(office.name).is_some() || self.is_address_taken(office.address) {
             return Err(refused(PlanRule::NameTwice, number));
         }
-        if self.offices.len() >= 16 {
+        if self.offices.len() >= MOST_OFFICES {
             return Err(refused(PlanRule::Limit, number));
         }
         let name = Word::of(alloc, office.name)?;
@@ -235,7 +239,7 @@ impl PlanEntries {
         if self.record_named(declared.name).is_some() {
             return Err(refused(PlanRule::NameTwice, number));
         }
-        if self.records_between(first, second) >= 8 {
+        if self.records_between(first, second) >= MOST_PAIR_RECORDS {
             return Err(refused(PlanRule::Limit, number));
         }
         let entry = RecordEntry {
@@ -296,9 +300,9 @@ fn pair_index(a: OfficeId, b: OfficeId) -> usize
     ensures within { result < 256 }
 {
     if a < b {
-        16 * a.index() + b.index()
+        MOST_OFFICES * a.index() + b.index()
     } else {
-        16 * b.index() + a.index()
+        MOST_OFFICES * b.index() + a.index()
     }
 }
 

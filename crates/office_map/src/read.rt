@@ -1,4 +1,4 @@
-//! PlanEntries from texts.
+//! The tables of a plan, from its text.
 
 ghost use Rattle.std.specs.Prelude.{◌≡◌, ◌<◌, ◌+◌, ◌^◌, length, map, option_map, IfOk};
 ghost use Rattle.office_map.specs.Text.{lines, statements_from};
@@ -7,14 +7,12 @@ ghost use Rattle.office_map.specs.refinement.PlanReader.{Fails};
 ghost use Rattle.bottle_values.specs.Memory.{UnlessMemory};
 
 use crate::fault::{PlanFault, PlanRule, refused};
+use crate::limits::{FEWEST_OFFICES, TEXT_LIMIT};
 use crate::line::{declaration_in, run_in};
 use crate::plan_entries::PlanEntries;
 use crate::statements::Statements;
 use crate::text::{is_plain, words};
 use std::alloc::{AllocError, Global};
-
-/// The longest text of a plan, in bytes.
-const TEXT_LIMIT: usize = 262_144;
 
 /// The tables that a text means. The first faulty line is refused.
 #[tactic(auto, unfolding(crate::specs::PlanText::plan_of))]
@@ -33,7 +31,7 @@ pub(crate) fn read_entries(alloc: Global, text: &[u8]) -> Result<PlanEntries, Pl
     };
     let tables = read_header(alloc, number, line)?;
     let tables = read_lines(alloc, tables, statements)?;
-    if tables.offices().len() < 2 {
+    if tables.offices().len() < FEWEST_OFFICES {
         return Err(refused(PlanRule::Limit, 0));
     }
     Ok(tables)

@@ -8,6 +8,7 @@ ghost use Rattle.std.specs.List.{list_all, position_or_len};
 ghost use Rattle.office_map.specs.Text.{lines, words_of, is_blank, is_name, name_of, is_keyword, is_name_byte, number_of, decimal, is_plain};
 ghost use Rattle.std.specs.Char.{is_ascii_digit};
 
+use crate::limits::{MOST_DIGITS, MOST_LETTERS, NUMBERS_END};
 use memchr::memchr;
 use std::alloc::{AllocError, Global};
 
@@ -110,11 +111,11 @@ pub fn number(word: &[u8]) -> Option<u64>
     if let [digit] = word {
         return one_digit(*digit);
     }
-    if word.is_empty() || word.len() > 19 || !has_only_digits(word) {
+    if word.is_empty() || word.len() > MOST_DIGITS || !has_only_digits(word) {
         return None;
     }
     let value = digits(word);
-    if value < 9_223_372_036_854_775_808 {
+    if value < NUMBERS_END {
         Some(value)
     } else {
         None
@@ -195,7 +196,7 @@ fn is_longer_name(word: &[u8]) -> bool
     match word {
         [] => false,
         [first, ..] => {
-            if !first.is_ascii_alphabetic() || word.len() > 16 {
+            if !first.is_ascii_alphabetic() || word.len() > MOST_LETTERS {
                 return false;
             }
             has_name_bytes(word) && !is_keyword(word)

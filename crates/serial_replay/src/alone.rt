@@ -13,8 +13,8 @@ use office_map::RecordId;
 use session_language::{End, Ending, Gives, Program, RecordValues, Variables, WorkingCopy};
 use std::alloc::{AllocError, Global};
 
-#[tactic(auto, unfolding(session_meaning::specs::Meaning::alone))]
 /// What a session does alone, where these are the values of the records that it needs.
+#[tactic(auto, unfolding(session_meaning::specs::Meaning::alone))]
 pub fn alone(alloc: Global, program: &Program, values: &[Value]) -> Result<Ending, AllocError>
     requires { length values.now ≡ length (needs_of program.now.body) }
     ensures { IfOk result (λ e. e ≡ alone program.now (zip (needs_of program.now.body) values.now)) }

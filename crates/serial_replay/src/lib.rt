@@ -2,7 +2,8 @@
 //!
 //! [`serial`] is the serial run: its outcomes are `outcomes_of`, and the values that it leaves are those of `map_of`
 //! (`specs/Serial.antt`). What one session does alone is `alone`, in `session_meaning`'s `specs/Meaning.antt`.
-//! Evaluation keeps its operands on a stack of its own (`specs/refinement/PostfixEvaluation.antt`), so no expression deepens the call stack.
+//! Evaluation keeps its operands on a stack of its own (`specs/refinement/PostfixEvaluation.antt`), so no expression
+//! deepens the call stack.
 #![tactic(auto)]
 
 pub mod alone;

@@ -43,9 +43,9 @@ pub struct Replay {
     pub values: Vec<Value>,
 }
 
-#[tactic(auto, using(crate::proofs::ValueTables::fits_records))]
 /// Runs sessions one after another: the first on the plan's start values, and each next one on what the one before
 /// left. Fails only where memory runs out.
+#[tactic(auto, using(crate::proofs::ValueTables::fits_records))]
 pub fn serial(alloc: Global, plan: &Plan, programs: &[Program]) -> Result<Replay, AllocError>
     requires fit { All (λ p. IsTrue (fits plan.now p)) programs.now }
     requires few { length programs.now < 2 ^ 32 }
@@ -69,8 +69,8 @@ pub fn serial(alloc: Global, plan: &Plan, programs: &[Program]) -> Result<Replay
     Ok(Replay { outcomes, values })
 }
 
-#[tactic(auto, using(crate::proofs::ValueTables::start_more))]
 /// The values that the plan starts with.
+#[tactic(auto, using(crate::proofs::ValueTables::start_more))]
 fn start_values(alloc: Global, plan: &Plan) -> Result<Vec<Value>, AllocError>
     ensures { IfOk result (λ v. ListsValues v.items (length plan.now.records) (start_map plan.now)) }
 {
@@ -83,8 +83,8 @@ fn start_values(alloc: Global, plan: &Plan) -> Result<Vec<Value>, AllocError>
     Ok(values)
 }
 
-#[tactic(auto, using(crate::proofs::ValueTables::gathered), unfolding(crate::specs::Serial::ending_on))]
 /// How a session ends on these values.
+#[tactic(auto, using(crate::proofs::ValueTables::gathered), unfolding(crate::specs::Serial::ending_on))]
 fn ending_on(alloc: Global, program: &Program, values: &[Value]) -> Result<Ending, AllocError>
     requires { All (λ r. r < length values.now) (needs_of program.now.body) }
     ensures { (m : ℕ → bottle.Value) → ListsValues values.now (length values.now) m → IfOk result (λ e. e ≡ ending_on program.now m) }

@@ -40,7 +40,8 @@ after_sign s = record { sum = s; product = None; minuses = 0 }
 abbrev pub fresh : Level
 fresh = after_sign NoSum
 
--- An operand is wanted; or one is complete, and an operator, a parenthesis or the end is. Levels outside, innermost first.
+-- An operand is wanted; or one is complete, and an operator, a parenthesis or the end is. Levels outside, innermost
+-- first.
 pub data State : Type 0 where
   Wants : (outer : List Level) (here : Level) → State
   Has : (outer : List Level) (sum : Sum) (product : Part) → State

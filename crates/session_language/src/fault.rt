@@ -5,7 +5,6 @@ ghost use Rattle.session_language.specs.declared.fault.LangFault.TheVariants as 
 ghost use Rattle.session_language.specs.declared.fault.Stop.TheVariants as stops;
 
 use std::alloc::{AllocError, AllocFailed};
-use std::fmt;
 use thiserror::Error;
 
 /// The rule that a text of sessions breaks.
@@ -29,47 +28,16 @@ pub enum SessionRule {
     TooManyVariables,
 }
 
-impl SessionRule {
-    /// What the rule asks for, in words for people.
-    pub fn explanation(self) -> &'static str {
-        match self {
-            SessionRule::Syntax => "the line is no line of a session, or cannot stand here",
-            SessionRule::UnknownName => {
-                "no such office, or no earlier line of the session lets this variable"
-            }
-            SessionRule::UnknownRecord => "no such record, or it is not of the session's office",
-            SessionRule::TooDeep => "an expression may be 32 deep, and blocks 8",
-            SessionRule::TooLong => {
-                "a session may have 256 statements, a cost of 10,000 and 16,384 bytes, and a text 1,024 sessions and 1,048,576 bytes"
-            }
-            SessionRule::TooManyRecords => "a session may name 16 records",
-            SessionRule::TooManyGives => "a session may give 64 values",
-            SessionRule::TooManyVariables => "a session may have 32 variables",
-        }
-    }
-}
-
 /// The first rule that is broken, and the line that breaks it: 0 where the text is too long, and
 /// one past the last line where a session isn't closed.
-#[derive(Clone, Copy, Debug, PartialEq, Eq)]
+#[derive(Clone, Copy, Debug, PartialEq, Eq, Error)]
+#[error("line {line}: {rule}")]
 pub struct SessionRefusal {
     pub rule: SessionRule,
     pub line: u64,
 }
 
-impl fmt::Display for SessionRefusal {
-    fn fmt<W: fmt::Write>(&self, f: &mut fmt::Formatter<W>) -> fmt::Result {
-        let SessionRefusal { rule, line } = *self;
-        let explanation = rule.explanation();
-        if line > 0 {
-            write!(f, "line {line}: ")?;
-        }
-        write!(f, "{rule}: {explanation}")
-    }
-}
-
-impl std::error::Error for SessionRefusal {}
-
+/// Why there are no programs.
 #[derive(Debug, Drop, Error)]
 pub enum LangFault {
     #[error("out of memory")]

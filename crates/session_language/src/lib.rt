@@ -3,13 +3,14 @@
 //! - [`read_sessions`] gives the programs that a text means (`sessions_of`, in `specs/Reading.antt`), or the first
 //!   refusal with its line. Each program fits the plan.
 //! - A [`Program`] is a session's office, the names of its variables, and its statements as a tree. `needs` are the
-//!   records that it reads or sets anywhere, `text` is its canonical text (`text_under`, in `specs/Program.antt`), which
-//!   means that program and nothing else under the plan, and `fits` says whether a plan has its office and its records.
-//!   What holds of every program is in `specs/WellFormed.antt`.
-//! - The tree, what a session does alone, and its measures are those of `session_meaning`, whose types this crate passes
-//!   on.
+//!   records that it reads or sets anywhere, `text` is its canonical text (`text_under`, in `specs/Program.antt`),
+//!   which means that program and nothing else under the plan, and `fits` says whether a plan has its office and its
+//!   records. What holds of every program is in `specs/WellFormed.antt`.
+//! - The tree, what a session does alone, and its measures are those of `session_meaning`, whose types this crate
+//!   passes on.
 //! - Reading an expression takes one pass and no recursion; the grammar is in `specs/Grammar.antt`, the words of a line
-//!   in `specs/Lexer.antt` (their code is [`lexer`]), the limits in `specs/Limits.antt`.
+//!   in `specs/Lexer.antt` (their code is [`lexer`]), the limits in `specs/Limits.antt` (the code has its own,
+//!   [`limits`]).
 #![tactic(auto)]
 
 mod adding;
@@ -20,7 +21,7 @@ mod guesses;
 pub mod keyword;
 pub mod laws;
 pub mod lexer;
-mod limits;
+pub mod limits;
 mod listing;
 mod names;
 mod number;

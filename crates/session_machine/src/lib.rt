@@ -2,12 +2,12 @@
 //!
 //! - [`Code::of`] makes the code of a program: lines that each say what to do and which line comes next. One line is
 //!   one count of a session's length (`length_on`, in `session_meaning`'s `specs/Length.antt`).
-//! - [`Work`] is a session on its way through that code. `begin` takes all the memory that it needs, `step` does so many
-//!   lines, and `ending` and `into_ending` tell how the session ended; they take none.
-//! - Whatever the sizes of the pieces, the work has ended exactly when together they are at least as long as the session
-//!   on what it read, and then it ended as the program does alone: `AnyPiecesGiveTheMeaning`, in `specs/Pieces.antt`,
-//!   over the clauses `code`, `begun`, `piece` and `shown`. A caller that keeps what its work is (`work_of`) has the
-//!   same from the clauses `work`, `progress` and `ending` of each call.
+//! - [`Work`] is a session on its way through that code. `begin` takes all the memory that it needs, `step` does so
+//!   many lines, and `ending` and `into_ending` tell how the session ended; they take none.
+//! - Whatever the sizes of the pieces, the work has ended exactly when together they are at least as long as the
+//!   session on what it read, and then it ended as the program does alone: `AnyPiecesGiveTheMeaning`, in
+//!   `specs/Pieces.antt`, over the clauses `code`, `begun`, `piece` and `shown`. A caller that keeps what its work is
+//!   (`work_of`) has the same from the clauses `work`, `progress` and `ending` of each call.
 //! - What code and machine are is in `specs/refinement`: `Emission.antt` and `Instructions.antt`.
 #![tactic(auto)]
 

@@ -281,8 +281,8 @@ fn nested(
     Ok(text)
 }
 
-/// What is told of a session of this length: for pieces of 1, 2 and 1,000 how many there are, and the ending twice. Of no
-/// length, what is said of it.
+/// What is told of a session of this length: for pieces of 1, 2 and 1,000 how many there are, and the ending twice. Of
+/// no length, what is said of it.
 fn described(alloc: Global, length: u32, ending: &str) -> Result<String, AllocError> {
     let mut text = String::new(alloc);
     if length == 0 {

@@ -1,5 +1,5 @@
--- The length of a session on given values: how much is done, 1 each. Every node that is worked out, after its operands; a
--- statement and a condition after their expressions; a `repeat` before each turn and once after the last; and the
+-- The length of a session on given values: how much is done, 1 each. Every node that is worked out, after its operands;
+-- a statement and a condition after their expressions; a `repeat` before each turn and once after the last; and the
 -- session's end, unless a false `require` or an overflow ended it, which have had their own 1.
 use Rattle.std.specs.Prelude.{ℕ, zero, suc, ◌+◌, Bool, true, false, List, Option, Some, None}
 use Rattle.bottle_values.specs.declared.Value.{Value}

@@ -1,5 +1,6 @@
--- A session read one step at a time: a list of what is left to do, from which each step takes one thing. Nodes come after
--- their operands, a statement and a comparison after their expressions. So a session's length is how many steps it takes.
+-- A session read one step at a time: a list of what is left to do, from which each step takes one thing. Nodes come
+-- after their operands, a statement and a comparison after their expressions. So a session's length is how many steps
+-- it takes.
 use Rattle.std.specs.Prelude.{◌≡◌, ℕ, zero, suc, neg_ℤ, List, [], ◌∷◌, ◌++◌, Bool, true, false, Option, Some, None, slice_set}
 use Rattle.std.specs.List.{slice_index_or}
 use Rattle.bottle_values.specs.declared.Value.{Value}

@@ -3,8 +3,8 @@
 //! - A session is a list of [`Statement`]s over [`Expression`]s. Contracts see them as trees (`specs/Tree.antt`), and a
 //!   whole program with its office and its variables' names as a `ProgramValue` (`specs/ProgramValue.antt`).
 //! - What a session does alone is `alone`, in `specs/Meaning.antt`, and how much it does `length_on`, in
-//!   `specs/Length.antt`; `proofs/WorkedExamples.antt` works out examples of both. How it ended is an [`Ending`], and an
-//!   [`Outcome`] with its office and its ticket there.
+//!   `specs/Length.antt`; `proofs/WorkedExamples.antt` works out examples of both. How it ended is an [`Ending`], and
+//!   an [`Outcome`] with its office and its ticket there.
 //! - A running session has a [`WorkingCopy`] of its records and its [`Variables`]; their calls, [`Operator::apply`] and
 //!   [`Comparison::holds`] are those of `specs/Meaning.antt`.
 //! - [`measures`] are what a session costs, gives and has of statements (`specs/Measures.antt`), exact up to 10,000.

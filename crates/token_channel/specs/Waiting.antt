@@ -15,7 +15,8 @@ pub data ChannelEvent : Type 0 where
   sends : (m : Msg) → ChannelEvent
   comes : (f : Fields) → ChannelEvent
 
--- a message of a thing that isn't held isn't sent, nor any once the numbers are used up; a refused frame changes nothing
+-- a message of a thing that isn't held isn't sent, nor any once the numbers are used up; a refused frame changes
+-- nothing
 abbrev pub after_event : ChannelState → ChannelEvent → ChannelState
 after_event c (sends m) = if holds c.places (thing_of m) && nat_lt (used c.link.sending) greatest then sent c m else c
 after_event c (comes f) = if is_some (channel_fault c f) then c else after_frame c f

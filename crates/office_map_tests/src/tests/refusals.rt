@@ -133,13 +133,10 @@ fn the_first_fault_is_told(rt: HostRuntime) {
 fn faults_are_printed_with_code_and_line(rt: HostRuntime) -> Result<(), Fail> {
     let rule = PlanRule::NameTwice;
     let text = format!(in rt.alloc(); "{}", PlanFault::Refused(PlanRefusal { rule, line: 4 }))?;
-    let expected = "line 4: P3 NameTwice: this name or address was declared before";
-    assert_eq!(rt; text.as_str(), expected);
+    assert_eq!(rt; text.as_str(), "line 4: P3 NameTwice");
     let rule = PlanRule::Limit;
     let text = format!(in rt.alloc(); "{}", PlanRefusal { rule, line: 0 })?;
-    let expected =
-        "P7 Limit: a plan has 2 to 16 offices, at most 8 records a pair and at most 262144 bytes";
-    assert_eq!(rt; text.as_str(), expected);
+    assert_eq!(rt; text.as_str(), "line 0: P7 Limit");
     Ok(())
 }
 
