@@ -6,7 +6,8 @@ use Rattle.site_core.specs.declared.reply.Reply.{Reply}
 use Rattle.site_core.specs.declared.reply.Refusal.{Refusal}
 use Rattle.site_core.specs.declared.rule.Rule.{Rule}
 use Rattle.site_core.specs.Journals.{Site, noted, Steps}
-use Rattle.locked_office.specs.Advance.{next_at, extended, AreNext, Advances}
+use Rattle.site_core.specs.RulesInTurn.{extended, next_at, AreNext}
+use Rattle.locked_office.specs.Advance.{Advances}
 
 -- so many rules were done, from the first of these offices to the second
 pub record HasDone (tag n : ℕ) (s s' : Site) : Type 0 where

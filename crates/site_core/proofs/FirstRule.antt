@@ -3,7 +3,7 @@ use Rattle.std.proofs.Common.{◌≡◌, ℕ, zero, suc, ◌+◌, ◌<◌, Bool,
 use Rattle.std.specs.Prelude.{find}
 use Rattle.std.proofs.lemmas.List.{take_more, map-append}
 
-skipped : {A : Type 0} (p : A → Bool) (x : A) (xs : List A) → find p (x ∷ xs) ≡ None → (p x ≡ false) × (find p xs ≡ None)
+pub skipped : {A : Type 0} (p : A → Bool) (x : A) (xs : List A) → find p (x ∷ xs) ≡ None → (p x ≡ false) × (find p xs ≡ None)
 skipped p x xs e = go (p x) refl e
   where
     go : (b : Bool) → p x ≡ b → cond b (Some x) (find p xs) ≡ None → (p x ≡ false) × (find p xs ≡ None)
@@ -22,6 +22,17 @@ find_append p [] ys e = refl
 find_append p (x ∷ xs) ys e =
     let before = skipped p x xs e in
     ap (λ b. cond b (Some x) (find p (xs ++ ys))) before.0 ∙ find_append p xs ys before.1
+
+-- where none of two lists is found, none of either is
+pub none_before : {A : Type 0} (p : A → Bool) (xs ys : List A) → find p (xs ++ ys) ≡ None → find p xs ≡ None
+none_before p [] ys e = refl
+none_before p (x ∷ xs) ys e =
+    let first = skipped p x (xs ++ ys) e in
+    ap (λ b. cond b (Some x) (find p xs)) first.0 ∙ none_before p xs ys first.1
+
+pub none_after : {A : Type 0} (p : A → Bool) (xs ys : List A) → find p (xs ++ ys) ≡ None → find p ys ≡ None
+none_after p [] ys e = e
+none_after p (x ∷ xs) ys e = none_after p xs ys (skipped p x (xs ++ ys) e).1
 
 pub found_before : {A : Type 0} (p : A → Bool) (xs ys : List A) (x : A) → find p xs ≡ Some x → find p (xs ++ ys) ≡ Some x
 found_before p [] ys x e = absurd cc

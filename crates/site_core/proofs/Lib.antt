@@ -8,5 +8,6 @@ pub mod SessionsAreOurs
 pub mod OfficeLimits
 pub mod OfficeSteps
 pub mod FirstRule
+pub mod NoneNext
 pub mod SessionsInOrder
 pub mod OfficeCrosses

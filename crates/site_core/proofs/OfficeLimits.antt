@@ -1,7 +1,7 @@
 -- What an office can have done by the end of its journal: no link used more numbers than there are entries, no more tickets
 -- were given, and the sessions that wait are of the office.
-use Rattle.std.proofs.Common.{◌≡◌, ℕ, zero, suc, ◌+◌, ◌-◌, ◌≤◌, ◌<◌, Bool, true, false, cond, List, [], ◌∷◌, ◌++◌, length, drop, Option, None, Some, Ok, Err, refl, sym, ap, subst, arith, ⊎_elim}
-use Rattle.std.specs.Prelude.{nat_lt, not, All}
+use Rattle.std.proofs.Common.{◌≡◌, ℕ, zero, suc, ◌+◌, ◌-◌, ◌≤◌, ◌<◌, Bool, true, false, cond, List, [], ◌∷◌, ◌++◌, length, drop, Option, None, Some, Ok, Err, refl, sym, ap, subst, arith, length-append, ⊎_elim}
+use Rattle.std.specs.Prelude.{nat_lt, nat_le, not, All}
 use Rattle.std.proofs.lemmas.Bool.{eq-eqb, ne_eqb, cases_eq, cases_lt}
 use Rattle.std.proofs.lemmas.Bool.Decides.{nat_tests}
 use Rattle.std.proofs.lemmas.List.Elements.{All-tail, All-cons, All-append}
@@ -17,6 +17,7 @@ use Rattle.window_link.specs.Links.{LinkState, fault_of, is_own, after_arrival}
 use Rattle.token_channel.specs.Channels.{link_fault_or}
 use Rattle.dining_core.specs.Diners as forks
 use Rattle.drinking_core.specs.Drinkers as bottles
+use Rattle.site_core.specs.Limits.{most_entries}
 use Rattle.site_core.specs.declared.session.Session.{Session}
 use Rattle.site_core.specs.declared.rule.Rule.{Rule}
 use Rattle.site_core.specs.declared.rule.Rule.TheVariants as rule
@@ -50,12 +51,20 @@ accepted_append : (plan : PlanValue) (me : ℕ) (o : Office) (xs : List Entry) (
 accepted_append plan me o [] x h e lt = (e, lt, tt)
 accepted_append plan me o (y ∷ ys) x (fits, tag, rest) e lt = (fits, tag, accepted_append plan me (after plan me o y.event) ys x rest e lt)
 
-pub legal_noted : (s : Site) (tag : ℕ) (e : Event) (r : Reply) → IsLegal s → answer s.plan s.me (office_of s) e ≡ Ok (r, after s.plan s.me (office_of s) e) → tag < 16 → IsLegal (noted s tag e r)
+accepted_noted : (s : Site) (tag : ℕ) (e : Event) (r : Reply) → AreAccepted s.plan s.me (opened s.plan s.me) s.entries → answer s.plan s.me (office_of s) e ≡ Ok (r, after s.plan s.me (office_of s) e) → tag < 16 →
+    AreAccepted s.plan s.me (opened s.plan s.me) (s.entries ++ record { tag = tag; event = e; reply = r } ∷ [])
 unfolding office_of
-legal_noted s tag e r h a lt = accepted_append s.plan s.me (opened s.plan s.me) s.entries _ h a lt
+accepted_noted s tag e r h a lt = accepted_append s.plan s.me (opened s.plan s.me) s.entries _ h a lt
+
+one_more : (xs : List Entry) (x : Entry) → nat_le most_entries (length xs) ≡ false → length (xs ++ x ∷ []) ≤ most_entries
+one_more xs x room = let lt : length xs < most_entries = grind (arith, nat_tests, room) in omega (arith, length-append xs (x ∷ []), lt)
+
+-- where there is room for an entry, the journal with an accepted one is legal
+pub legal_noted : (s : Site) (tag : ℕ) (e : Event) (r : Reply) → IsLegal s → answer s.plan s.me (office_of s) e ≡ Ok (r, after s.plan s.me (office_of s) e) → tag < 16 → nat_le most_entries (length s.entries) ≡ false → IsLegal (noted s tag e r)
+legal_noted s tag e r h a lt room = record { accepted = accepted_noted s tag e r h.accepted a lt; few = one_more s.entries _ room }
 
 pub legal_empty : (plan : PlanValue) (me : ℕ) → IsLegal (record { plan = plan; me = me; entries = [] })
-legal_empty plan me = tt
+legal_empty plan me = record { accepted = tt; few = omega arith }
 
 pub office_empty : (plan : PlanValue) (me : ℕ) → office_of (record { plan = plan; me = me; entries = [] }) ≡ opened plan me
 unfolding office_of

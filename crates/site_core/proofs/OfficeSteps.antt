@@ -1,7 +1,6 @@
 -- The office that the code keeps, at the end of its journal.
-use Rattle.std.proofs.Common.{◌≡◌, ℕ, ◌+◌, ◌≤◌, ◌<◌, ◌⊎◌, inl, inr, Bool, true, false, cond, List, [], ◌∷◌, ◌++◌, length, None, Some, Result, Ok, Err, refl, sym, ap, subst, ◌∙◌, arith, length-append}
+use Rattle.std.proofs.Common.{◌≡◌, ℕ, ◌+◌, ◌≤◌, ◌<◌, ◌⊎◌, inl, inr, Bool, true, false, cond, List, [], ◌∷◌, ◌++◌, length, None, Some, Result, Ok, Err, refl, sym, ap, subst, ◌∙◌, arith}
 use Rattle.std.specs.Prelude.{nat_le, All, IsOk, OnErr}
-use Rattle.std.proofs.lemmas.Bool.Decides.{nat_tests}
 use Rattle.office_map.specs.PlanValue.{PlanValue, are_neighbours}
 use Rattle.window_link.specs.Windows.{used}
 use Rattle.site_core.specs.Limits.{most_entries}
@@ -36,14 +35,14 @@ pub opens : (p : PairsValue) (v : AgendaValue) (entries : List Entry) (plan : Pl
 opens p v entries plan me of is means none =
     let here : Stands p v (office_of (site_of p [])) = stands_by p v (opened p.plan p.me) (office_of (site_of p [])) (sym (office_empty p.plan p.me))
     (is ∙ ap (λ x. pairs.opened x me) (sym of.0) ∙ ap (λ x. pairs.opened p.plan x) (sym of.1), means) in
-    subst (IsAtEnd p v) (sym none) (record { stands = here; legal = legal_empty p.plan p.me; few = omega arith })
+    subst (IsAtEnd p v) (sym none) (record { stands = here; legal = legal_empty p.plan p.me })
 
 -- each link has numbers left, while the journal isn't too long
 pub have_room : (p : PairsValue) (v : AgendaValue) (entries : List Entry) → IsAtEnd p v entries → HaveRoom p
 have_room p v entries h = λ u.
     let w = (within (site_of p entries)).numbers u in
     let same = ap (λ (x : Pairs). used (x.link u).sending) h.stands.0 in
-    omega (arith, w, same, h.few)
+    omega (arith, w, same, h.legal.few)
 
 pub are_ours : (p : PairsValue) (v : AgendaValue) (entries : List Entry) → IsAtEnd p v entries → AreOurs p v
 are_ours p v entries h = subst (All (λ (s : Session). is_ours p.plan p.me s.program ≡ true)) (sym h.stands.1.queue) (within (site_of p entries)).ours
@@ -57,12 +56,8 @@ goes_on p p' v v' entries entries' tag e r o h of ok stands lt room grown =
     let same : site_of p' entries' ≡ noted s tag e r = ap (λ x. record { plan = x; me = p'.me; entries = entries' }) of.0 ∙ ap (λ x. record { plan = p.plan; me = x; entries = entries' }) of.1 ∙ ap (λ x. record { plan = p.plan; me = p.me; entries = x }) grown in
     record {
       stands = stands_by p' v' o (office_of (site_of p' entries')) (sym (ap office_of same ∙ office_noted s tag e r ∙ reached)) stands;
-      legal = subst IsLegal (sym same) (legal_noted s tag e r h.legal (ok ∙ ap (λ x. Ok (r, x)) (sym reached)) lt);
-      few = subst (λ (l : List Entry). length l ≤ most_entries) (sym grown) (one_more entries (record { tag = tag; event = e; reply = r }) (grind (arith, nat_tests, room)));
+      legal = subst IsLegal (sym same) (legal_noted s tag e r h.legal (ok ∙ ap (λ x. Ok (r, x)) (sym reached)) lt room);
     }
-  where
-    one_more : (xs : List Entry) (x : Entry) → length xs < most_entries → length (xs ++ x ∷ []) ≤ most_entries
-    one_more xs x lt = omega (arith, length-append xs (x ∷ []), lt)
 
 -- what is kept where nothing was accepted
 pub stays : (p p' : PairsValue) (v v' : AgendaValue) (entries entries' : List Entry) → IsAtEnd p v entries → IsOf p.plan p.me p' → pairs_of p' ≡ pairs_of p → ((a : Agenda) → Means v a → Means v' a) → entries' ≡ entries → IsAtEnd p' v' entries'
@@ -71,7 +66,6 @@ stays p p' v v' entries entries' h of ep ea ee =
     record {
       stands = stands_by p' v' (office_of (site_of p entries)) (office_of (site_of p' entries')) (sym (ap office_of same)) (ep ∙ h.stands.0, ea (office_of (site_of p entries)).agenda h.stands.1);
       legal = subst IsLegal (sym same) h.legal;
-      few = subst (λ (l : List Entry). length l ≤ most_entries) (sym ee) h.few;
     }
 
 -- ---- replies
@@ -158,7 +152,7 @@ err_is x y e = cc
 -- ---- sessions and frames
 
 pub few_tickets : (p : PairsValue) (v : AgendaValue) (entries : List Entry) → IsAtEnd p v entries → v.tickets ≤ most_entries
-few_tickets p v entries h = omega (arith, (within (site_of p entries)).tickets, h.stands.1.tickets, h.few)
+few_tickets p v entries h = omega (arith, (within (site_of p entries)).tickets, h.stands.1.tickets, h.legal.few)
 
 submit_answer : (s : Site) (x : ProgramValue) → is_ours s.plan s.me x ≡ true → agenda.is_full (office_of s).agenda ≡ false →
     answer s.plan s.me (office_of s) (event.Submit x) ≡ Ok (reply.Ticket ((office_of s).agenda.tickets + 1), record { pairs = (office_of s).pairs; agenda = agenda.submitted (office_of s).agenda x })

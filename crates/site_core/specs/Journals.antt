@@ -1,5 +1,5 @@
 -- An office as its journal tells it: the list of all that it accepted, with its replies.
-use Rattle.std.specs.Prelude.{◌≡◌, ℕ, ◌<◌, nat_le, if◌then◌else◌, List, [], ◌∷◌, ◌++◌, length, Some, Result, Ok, Err, IsOk, ◌⊎◌}
+use Rattle.std.specs.Prelude.{◌≡◌, ℕ, ◌<◌, ◌≤◌, nat_le, if◌then◌else◌, List, [], ◌∷◌, ◌++◌, length, Some, Result, Ok, Err, IsOk, ◌⊎◌}
 use Rattle.frame_codec.specs.Frame.{Fields}
 use Rattle.frame_codec.specs.Version01.{Spells, first_fault}
 use Rattle.frame_codec.specs.declared.fault.FrameFault.{FrameFault}
@@ -40,8 +40,10 @@ abbrev pub AreAccepted : PlanValue → ℕ → Office → List Entry → Type 0
 AreAccepted plan me o [] = Unit {0}
 AreAccepted plan me o (x ∷ xs) = (answer plan me o x.event ≡ Ok (x.reply, after plan me o x.event)) × (x.tag < 16) × AreAccepted plan me (after plan me o x.event) xs
 
-abbrev pub IsLegal : Site → Type 0
-IsLegal s = AreAccepted s.plan s.me (opened s.plan s.me) s.entries
+-- its entries are accepted one after the other from the opening on, and there are no more of them than a journal takes
+pub record IsLegal (s : Site) : Type 0 where
+  pub accepted : AreAccepted s.plan s.me (opened s.plan s.me) s.entries
+  pub few : length s.entries ≤ most_entries
 
 -- ---- steps
 
@@ -78,3 +80,7 @@ StepsAddTheirEntry = (s : Site) (tag : ℕ) (e : Event) (result : Result Reply R
 pub record Receives (s : Site) (tag : ℕ) (bytes : List ℕ) (result : Result Reply Refusal) (s' : Site) : Type 0 where
   pub frame : (f : Fields) → Spells bytes f → Steps s tag (event.Took f) result s'
   pub fault : (fault : FrameFault) → first_fault bytes ≡ Some fault → (result ≡ Err (refusal.Frame fault)) × (s' ≡ s)
+
+-- the frame that the bytes spell was taken, with this reply: one entry more, and nothing else
+abbrev pub TakesFrame : Site → ℕ → List ℕ → Reply → Site → Type 0
+TakesFrame s tag bytes reply s' = (f : Fields) × Spells bytes f × (s' ≡ noted s tag (event.Took f) reply)

@@ -5,6 +5,7 @@ pub mod Replies
 pub mod Offices
 pub mod Journals
 pub mod RuleOrder
+pub mod RulesInTurn
 pub mod Readers
 pub mod Tickets
 pub mod refinement

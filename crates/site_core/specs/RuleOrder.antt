@@ -1,6 +1,7 @@
 -- Which rule an office does next, left to itself.
-use Rattle.std.specs.Prelude.{ℕ, List, [], ◌∷◌, ◌++◌, map, find, Option}
+use Rattle.std.specs.Prelude.{◌≡◌, ℕ, false, List, [], ◌∷◌, ◌++◌, map, find, Option, None}
 use Rattle.office_map.specs.PlanValue.{PlanValue, neighbours_of, records_of}
+use Rattle.office_map.specs.Consistency.{IsConsistent}
 use Rattle.site_core.specs.declared.rule.Rule.{Rule}
 use Rattle.site_core.specs.declared.rule.Rule.TheVariants.{Start, Hungry, AskFork, GiveFork, Eat, Leave, AskBottle, GiveBottle, Drink, Work, Finish}
 use Rattle.site_core.specs.Limits.{usual_piece}
@@ -18,3 +19,11 @@ rules_in_order plan me =
 -- the first that may be done
 abbrev pub next_rule : PlanValue → ℕ → Office → Option Rule
 next_rule plan me o = find (may plan me o) (rules_in_order plan me)
+
+-- no rule may be done: none of any kind, of whatever neighbour or record, and with a piece of whatever size
+abbrev pub IsAtRest : PlanValue → ℕ → Office → Type 0
+IsAtRest plan me o = (rule : Rule) → may plan me o rule ≡ false
+
+-- so where none of those comes next, there is no other either
+abbrev pub NoneNextIsAtRest : Type 0
+NoneNextIsAtRest = (plan : PlanValue) (me : ℕ) (o : Office) → IsConsistent plan → next_rule plan me o ≡ None → IsAtRest plan me o

@@ -1,6 +1,6 @@
 //! What an office accepted.
 
-ghost use Rattle.std.specs.Prelude.{◌≡◌, ◌<◌, ◌↔◌, ◌⊎◌, ◌++◌, ◌∷◌, [], length, take, drop, true, Err, IfOk, IfErr, OnOk, nat_le};
+ghost use Rattle.std.specs.Prelude.{◌≡◌, ◌≢◌, ◌<◌, ◌↔◌, ◌⊎◌, ◌++◌, ◌∷◌, [], length, take, drop, true, Err, IfOk, IfErr, OnOk, OnErr, nat_le};
 ghost use Rattle.std.specs.List.{slice_get};
 ghost use Rattle.std.specs.Option.{option_copied};
 ghost use Rattle.site_core.specs.Limits.{most_entries};
@@ -57,9 +57,11 @@ impl Journal {
         self.entries.get(i)
     }
 
-    /// Copies of the first so many entries from this place on, from 0; of fewer where the journal ends before.
+    /// Copies of the first so many entries from this place on, from 0; of fewer where the journal ends before. Where there is
+    /// none, no memory is taken.
     pub fn part(&self, alloc: Global, from: usize, most: usize) -> Result<Vec<Entry>, AllocError>
-        ensures { IfOk result (λ v. v.items ≡ take most (drop from self.now.entries)) }
+        ensures part { IfOk result (λ v. v.items ≡ take most (drop from self.now.entries)) }
+        ensures memory { OnErr result (take most (drop from self.now.entries) ≢ []) }
     {
         let all = self.entries.as_slice();
         let rest = &all[from.min(all.len())..];
@@ -94,8 +96,12 @@ impl Journal {
 
 /// The same entries, in memory of their own.
 fn copied(alloc: Global, entries: &[Entry]) -> Result<Vec<Entry>, AllocError>
-    ensures { IfOk result (λ v. v.items ≡ entries.now) }
+    ensures same { IfOk result (λ v. v.items ≡ entries.now) }
+    ensures memory { OnErr result (entries.now ≢ []) }
 {
+    if entries.is_empty() {
+        return Ok(Vec::new(alloc));
+    }
     let mut copies = Vec::with_capacity(alloc, entries.len())?;
     for entry in entries {
         copies.push(entry.copy(alloc)?)?;

@@ -1,8 +1,9 @@
-//! Laws of journals.
+//! Laws of offices and their journals.
 
 ghost use denote.Param.Send.{IsSend};
 ghost use Rattle.site_core.specs.contracts.office.Office as office;
 ghost use Rattle.site_core.specs.Journals.{StepsAddTheirEntry};
+ghost use Rattle.site_core.specs.RuleOrder.{NoneNextIsAtRest};
 ghost use Rattle.site_core.specs.Tickets.{SessionsGoInOrder};
 
 /// An accepted event adds its one entry, with its reply, and a refused one adds nothing.
@@ -13,6 +14,12 @@ pub fn steps_add_their_entry()
 /// An office takes its sessions one after another as they were submitted, so they finish in the order of their tickets.
 pub fn sessions_go_in_order()
     ensures { SessionsGoInOrder }
+{}
+
+/// Where no rule comes next, no rule of any kind may be done, of whatever neighbour or record, and with a piece of whatever
+/// size: under each consistent plan, as every `Plan` is, and of whatever office.
+pub fn none_next_is_at_rest()
+    ensures { NoneNextIsAtRest }
 {}
 
 /// An office may be handed from thread to thread.

@@ -1,22 +1,21 @@
 //! An office.
 
-ghost use Rattle.std.specs.Prelude.{◌≡◌, ◌<◌, ◌≤◌, Some, None, true, false, [], length, IfOk, OnErr, if◌then◌else◌};
+ghost use Rattle.std.specs.Prelude.{◌≡◌, ◌<◌, ◌≤◌, Some, None, true, false, [], length, IfOk, OnErr, IfNone, if◌then◌else◌};
 ghost use Rattle.std.specs.Option.{option_copied};
-ghost use Rattle.frame_codec.specs.Frame.{Fields};
 ghost use Rattle.site_core.specs.declared.event.Event.TheVariants as events;
 ghost use Rattle.office_map.specs.PlanValue.{are_neighbours, is_end, peer};
 ghost use Rattle.token_channel.specs.declared.thing.Thing.TheVariants as things;
 ghost use Rattle.token_channel.specs.Things.{count_carrying};
 ghost use Rattle.site_core.specs.Limits.{most_entries};
 ghost use Rattle.site_core.specs.Offices.{may};
-ghost use Rattle.site_core.specs.RuleOrder.{next_rule};
+ghost use Rattle.site_core.specs.RuleOrder.{next_rule, IsAtRest};
 ghost use Rattle.site_core.specs.Readers.{outcome_with, waiting_on, TellsBottle};
-ghost use Rattle.site_core.specs.Journals.{office_of, noted, IsLegal, Steps, Receives};
+ghost use Rattle.site_core.specs.Journals.{office_of, IsLegal, Steps, Receives, TakesFrame};
 
 use crate::agenda::Agenda;
 use crate::event::{Entry, Event};
 use crate::journal::Journal;
-use crate::laws::{sessions_go_in_order, steps_add_their_entry};
+use crate::laws::{none_next_is_at_rest, sessions_go_in_order, steps_add_their_entry};
 use crate::pairs::Pairs;
 use crate::reply::{Refusal, Reply};
 use crate::rule::Rule;
@@ -163,7 +162,7 @@ impl Office {
     pub fn receive(&mut self, tag: u8, bytes: &[u8]) -> Result<Reply, Refusal>
         requires { tag < 16 }
         ensures answer { Receives self.old tag bytes.now result self.new }
-        ensures entry { IfOk result (λ reply. (f : Fields) × (self.new ≡ noted self.old tag (events.Took f) reply)) }
+        ensures entry { IfOk result (λ reply. TakesFrame self.old tag bytes.now reply self.new) }
         ensures unchanged { OnErr result (self.new ≡ self.old) }
     {
         steps_add_their_entry();
@@ -273,10 +272,14 @@ impl Office {
     }
 
     /// The rule that the office does next, left to itself: the first that may be done, in the order of `rules_in_order`.
-    /// None only where none of them may.
+    /// None only where no rule may be done, of whatever neighbour or record, and with a piece of whatever size.
     pub fn next_rule(&self) -> Option<Rule>
-        ensures { result ≡ next_rule self.now.plan self.now.me (office_of self.now) }
+        ensures first { result ≡ next_rule self.now.plan self.now.me (office_of self.now) }
+        ensures none { IfNone result (IsAtRest self.now.plan self.now.me (office_of self.now)) }
     {
+        none_next_is_at_rest();
+        // The plan is consistent.
+        let _ = self.plan().offices();
         order::next_rule(&self.pairs, &self.agenda)
     }
 }

@@ -52,8 +52,8 @@ fn drink(alloc: Global, pairs: &mut Pairs, agenda: &mut Agenda) -> Result<(), Re
     Ok(())
 }
 
-#[tactic(auto, using(crate::proofs::SessionsAreOurs::none_begins))]
 /// The session that waits for its bottles, if there is one, works on their values from now on.
+#[tactic(auto, using(crate::proofs::SessionsAreOurs::none_begins))]
 fn gather(alloc: Global, bar: &Bar, agenda: &mut Agenda) -> Result<(), AllocError>
     ensures done { (a : sessions.Agenda) → Means agenda.old a → OnOk result (Means agenda.new (sessions.with_current a (sessions.begun (offices.value_in (drinker_of bar.now)) a.current))) }
     ensures unchanged { OnErr result (agenda.new ≡ agenda.old) }
@@ -66,8 +66,8 @@ fn gather(alloc: Global, bar: &Bar, agenda: &mut Agenda) -> Result<(), AllocErro
     Ok(())
 }
 
-#[tactic(auto, using(crate::proofs::SessionsAreOurs::one_read_more))]
 /// The values of these records, each with its number.
+#[tactic(auto, using(crate::proofs::SessionsAreOurs::one_read_more))]
 fn values_of(alloc: Global, bar: &Bar, needs: &[RecordId]) -> Result<RecordValues, AllocError>
     ensures { IfOk result (λ v. v ≡ reads_of needs.now (offices.value_in (drinker_of bar.now))) }
 {

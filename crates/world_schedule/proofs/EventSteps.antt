@@ -26,6 +26,7 @@ use Rattle.site_core.specs.Pairs.{frame_fault, arrival_of}
 use Rattle.site_core.specs.Agenda.{Current, Idle, Gathering, Working, writes_of, is_full, submitted}
 use Rattle.site_core.specs.Offices.{Office, Answer, may, act, is_ours, answer, unless_faulty}
 use Rattle.site_core.specs.Journals.{Site, office_of}
+use Rattle.site_core.proofs.OfficeLimits.{legal_empty}
 use Rattle.frame_world.specs.declared.refusal.WorldRefusal.{WorldRefusal}
 use Rattle.frame_world.specs.Worlds.{Finished, silent, frames_of, finished_by, ended, ended_as}
 use Rattle.world_schedule.specs.declared.finished.Finished as mark
@@ -156,7 +157,7 @@ opens plan sites accepted is =
     record {
       accepted = accepted;
       count = count;
-      each = λ a lt. subst (IsSiteOf plan a) (sym (ap (λ l. get_or l a (silent plan a)) is ∙ get_or-map-range_with_len (silent plan) 0 (length plan.offices) a a (silent plan a) (omega (arith, lt, count)) (omega arith))) (refl, refl, tt);
+      each = λ a lt. subst (IsSiteOf plan a) (sym (ap (λ l. get_or l a (silent plan a)) is ∙ get_or-map-range_with_len (silent plan) 0 (length plan.offices) a a (silent plan a) (omega (arith, lt, count)) (omega arith))) (refl, refl, legal_empty plan a);
       known = All-nil (IsKnown plan sites);
       reached = record { events = []; leads = ap (λ l. record { plan = plan; sites = l; frames = []; finished = [] }) (sym is) };
     }

@@ -239,7 +239,7 @@ by_run plan me ps fs o (x ∷ xs) (ok, tag, rest) w =
 
 pub in_order : (s : Site) → IsLegal s → IsInOrder (programs_in s.entries) (finished_of s) (office_of s)
 unfolding finished_of office_of
-in_order s h = by_run s.plan s.me [] [] (opened s.plan s.me) s.entries h (record { sessions = refl; tickets = refl; outcomes = refl; phase = refl })
+in_order s h = by_run s.plan s.me [] [] (opened s.plan s.me) s.entries h.accepted (record { sessions = refl; tickets = refl; outcomes = refl; phase = refl })
 
 -- ---- what follows
 

@@ -30,5 +30,5 @@ stepped s e result s' (inr (told, kept)) = go (answer s.plan s.me (office_of s) 
 
 -- ---- a legal journal goes on
 
-pub still_legal : (s : Site) (e : Event) (r : Reply) (o : Office) → IsLegal s → answer s.plan s.me (office_of s) e ≡ Ok (r, o) → IsLegal (noted s 0 e r)
-still_legal s e r o h ok = legal_noted s 0 e r h (ok ∙ ap (λ x. Ok (r, x)) (sym (ap (next_or (office_of s)) ok))) (omega arith)
+pub still_legal : (s : Site) (e : Event) (r : Reply) (o : Office) → IsLegal s → answer s.plan s.me (office_of s) e ≡ Ok (r, o) → nat_le most_entries (length s.entries) ≡ false → IsLegal (noted s 0 e r)
+still_legal s e r o h ok room = legal_noted s 0 e r h (ok ∙ ap (λ x. Ok (r, x)) (sym (ap (next_or (office_of s)) ok))) (omega arith) room

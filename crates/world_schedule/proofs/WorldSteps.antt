@@ -1,6 +1,6 @@
 -- The world that the code keeps, after an event.
-use Rattle.std.proofs.Common.{◌≡◌, ◌≢◌, ℕ, ◌+◌, ◌-◌, ◌<◌, cond, List, [], ◌∷◌, ◌++◌, length, map, get_or, set, Ok, Err, ◌⊎◌, inl, inr, refl, sym, ap, subst, ◌∙◌, arith, ⊎_elim, append-nil}
-use Rattle.std.specs.Prelude.{Result, All}
+use Rattle.std.proofs.Common.{◌≡◌, ◌≢◌, ℕ, ◌+◌, ◌-◌, ◌<◌, Bool, true, false, cond, List, [], ◌∷◌, ◌++◌, length, map, get_or, set, Ok, Err, ◌⊎◌, inl, inr, refl, sym, ap, subst, ◌∙◌, arith, ⊎_elim, append-nil}
+use Rattle.std.specs.Prelude.{Result, nat_le, All}
 use Rattle.std.proofs.lemmas.Bool.{lt-ltb, le-ltb, cases_eq}
 use Rattle.std.proofs.lemmas.List.{length_push, get_or_push, length-append, length-set, set-get_or, get_or-set_same, get_or-set_other, get_or_append_left, map-append}
 use Rattle.std.proofs.lemmas.List.Elements.{All-weaker, All-head, All-tail, All-push}
@@ -12,7 +12,8 @@ use Rattle.site_core.specs.declared.reply.Refusal as offices
 use Rattle.site_core.specs.declared.reply.Refusal.TheVariants as refused
 use Rattle.site_core.specs.Offices.{Office}
 use Rattle.site_core.specs.Offices as answers
-use Rattle.site_core.specs.Journals.{Site, office_of, noted, step}
+use Rattle.site_core.specs.Limits.{most_entries}
+use Rattle.site_core.specs.Journals.{Site, office_of, noted, recorded, step}
 use Rattle.frame_world.specs.declared.event.WorldEvent.{WorldEvent}
 use Rattle.frame_world.specs.declared.refusal.WorldRefusal.{WorldRefusal}
 use Rattle.frame_world.specs.declared.refusal.WorldRefusal.TheVariants as refusal
@@ -58,6 +59,20 @@ handled w a e result sites' (Asked within answer site tells steps kept) = go (st
     go (Refused r is same steps_so) = Same (refusal.Office r) (tells ∙ ap passed_on is) (unchanged same) (inr (there w a e (Err r, site_at w a) within steps_so))
     go (OutOfMemory is same) = Same (refusal.Office refused.Memory) (tells ∙ ap passed_on is) (unchanged same) (inl refl)
     go (Accepted r o accepts is same steps_so) = Grown within r o accepts (tells ∙ ap passed_on is) (kept ∙ ap (set w.sites a) same) (there w a e (Ok r, noted (site_at w a) 0 e r) within steps_so)
+
+-- the event is noted only where the journal has room for it
+has_room : (w : World) (a : ℕ) (e : Event) (r : Reply) (o : Office) → a < length w.sites → Accepts (site_at w a) e r o → handed w a e ≡ (Ok r, grown w a e r) → nat_le most_entries (length (site_at w a).entries) ≡ false
+has_room w a e r o lt accepts is = go (nat_le most_entries (length (site_at w a).entries)) refl
+  where
+    two_answers : (x : WorldRefusal) (v : World) → ◌≡◌ {A = Answer} (Err x, v) (Ok r, grown w a e r) → ⊥
+    two_answers x v h = let answers_agree : Err x ≡ Ok r = ap (λ y. y.0) h in cc answers_agree
+
+    go : (b : Bool) → nat_le most_entries (length (site_at w a).entries) ≡ b → nat_le most_entries (length (site_at w a).entries) ≡ false
+    go true full =
+        let s = site_at w a in
+        let refuses : step s 0 e ≡ (Err refused.JournalFull, s) = ap (recorded s 0 e) accepts ∙ ap (λ b. cond b (Err refused.JournalFull, s) (Ok r, noted s 0 e r)) full in
+        absurd (two_answers (refusal.Office refused.JournalFull) w (sym (there w a e (Err refused.JournalFull, s) lt refuses) ∙ is))
+    go false room = room
 
 -- ---- what finished stays as it was
 
@@ -187,13 +202,13 @@ reached_more w w' e result reached same (inr h) = record {
   leads = ap (λ p. run_of (opening p) (reached.events ++ e ∷ [])) same ∙ run_append (opening w.plan) reached.events e ∙ ap (λ v. (happens v e).1) reached.leads ∙ sym h.1;
 }
 
-sites_kept : (plan : PlanValue) (sites : List Site) (a : ℕ) (e : Event) (r : Reply) (o : Office) → a < length sites → Accepts (get_or sites a (silent plan a)) e r o → ((b : ℕ) → b < length sites → IsSiteOf plan b (get_or sites b (silent plan b))) →
+sites_kept : (plan : PlanValue) (sites : List Site) (a : ℕ) (e : Event) (r : Reply) (o : Office) → a < length sites → Accepts (get_or sites a (silent plan a)) e r o → nat_le most_entries (length (get_or sites a (silent plan a)).entries) ≡ false → ((b : ℕ) → b < length sites → IsSiteOf plan b (get_or sites b (silent plan b))) →
     (b : ℕ) → b < length (with_entry plan sites a e r) → IsSiteOf plan b (get_or (with_entry plan sites a e r) b (silent plan b))
-sites_kept plan sites a e r o lt accepts each b lt' = ⊎_elim here elsewhere (cases_eq b a)
+sites_kept plan sites a e r o lt accepts room each b lt' = ⊎_elim here elsewhere (cases_eq b a)
   where
     here : b ≡ a → IsSiteOf plan b (get_or (with_entry plan sites a e r) b (silent plan b))
     here same = subst (λ k. IsSiteOf plan k (get_or (with_entry plan sites a e r) k (silent plan k))) (sym same) (subst (IsSiteOf plan a) (sym (at_entry plan sites a e r (silent plan a) lt))
-        ((each a lt).0, (each a lt).1, still_legal (get_or sites a (silent plan a)) e r o (each a lt).2 accepts))
+        ((each a lt).0, (each a lt).1, still_legal (get_or sites a (silent plan a)) e r o (each a lt).2 accepts room))
 
     elsewhere : b ≢ a → IsSiteOf plan b (get_or (with_entry plan sites a e r) b (silent plan b))
     elsewhere ne = subst (IsSiteOf plan b) (sym (get_or-set_other sites a b (noted (get_or sites a (silent plan a)) 0 e r) (silent plan b) ne)) (each b (omega (arith, lt', length-set sites a (noted (get_or sites a (silent plan a)) 0 e r))))
@@ -220,7 +235,7 @@ stays plan sites sites' frames frames' marks marks' a e result ev world hands be
         record {
           accepted = world.accepted;
           count = ap length kept ∙ length-set sites a (noted (get_or sites a (silent plan a)) 0 e r) ∙ world.count;
-          each = subst (λ (l : List Site). (b : ℕ) → b < length l → IsSiteOf plan b (get_or l b (silent plan b))) (sym kept) (sites_kept plan sites a e r o lt accepts world.each);
+          each = subst (λ (l : List Site). (b : ℕ) → b < length l → IsSiteOf plan b (get_or l b (silent plan b))) (sym kept) (sites_kept plan sites a e r o lt accepts (has_room (world_in plan sites frames marks) a e r o lt accepts h) world.each);
           known = subst (λ l. All (IsKnown plan l) marks') (sym kept) lists.1;
           reached = reached;
         }

@@ -1,7 +1,6 @@
 -- The office that the code keeps beside its journal.
-use Rattle.std.specs.Prelude.{◌≡◌, ◌≤◌, true, List, length, All}
+use Rattle.std.specs.Prelude.{◌≡◌, true, List, All}
 use Rattle.site_core.specs.declared.event.Entry.{Entry}
-use Rattle.site_core.specs.Limits.{most_entries}
 use Rattle.site_core.specs.Journals.{Site, office_of, IsLegal}
 use Rattle.site_core.specs.declared.session.Session.{Session}
 use Rattle.site_core.specs.Agenda.{Agenda}
@@ -28,4 +27,3 @@ site_of p entries = record { plan = p.plan; me = p.me; entries = entries }
 pub record IsAtEnd (p : PairsValue) (v : AgendaValue) (entries : List Entry) : Type 0 where
   pub stands : Stands p v (office_of (site_of p entries))
   pub legal : IsLegal (site_of p entries)
-  pub few : length entries ≤ most_entries
