@@ -12,3 +12,4 @@ mod Sessions
 mod SerialRun
 mod SerialSessions
 mod HeadlineLaws
+mod FrameBytes

@@ -1,9 +1,11 @@
 -- What holds of every world that a list of events leads to, good events or refused.
-use Rattle.std.specs.Prelude.{◌≡◌, ◌<◌, ℕ, Bool, true, false, ◌&&◌, List, [], ◌∷◌, length, map, Err}
+use Rattle.std.specs.Prelude.{◌≡◌, ◌<◌, ℕ, Bool, true, false, ◌&&◌, List, [], ◌∷◌, length, map, Some, Result, Err, All}
 use Rattle.std.specs.List.{list_all}
 use Rattle.bottle_values.specs.declared.Value.{Value}
 use Rattle.bottle_values.specs.Lists.{num}
 use Rattle.bottle_values.specs.Maps.{reads_of}
+use Rattle.frame_codec.specs.Frame.{Fields, IsFrame}
+use Rattle.frame_codec.specs.Version01.{Spells, spelling}
 use Rattle.office_map.specs.PlanValue.{PlanValue, are_neighbours}
 use Rattle.office_map.specs.Consistency.{IsConsistent, IsAccepted}
 use Rattle.session_meaning.specs.declared.ending.Outcome.{Outcome}
@@ -16,13 +18,17 @@ use Rattle.dining_core.specs.Diners.{is_eating}
 use Rattle.dining_core.specs.Worlds.{HasNoRing}
 use Rattle.drinking_core.specs.Drinkers.{is_drinking, holds}
 use Rattle.site_core.specs.declared.session.Session.{Session}
+use Rattle.site_core.specs.declared.event.Event.TheVariants as event
+use Rattle.site_core.specs.declared.reply.Reply.{Reply}
+use Rattle.site_core.specs.declared.reply.Refusal as offices
 use Rattle.site_core.specs.declared.reply.Refusal.TheVariants as refused
 use Rattle.site_core.specs.Agenda.{Working, is_working}
 use Rattle.site_core.specs.Offices.{Office, value_in}
+use Rattle.site_core.specs.Journals.{Site, Steps, Receives}
 use Rattle.frame_world.specs.declared.event.WorldEvent.{WorldEvent}
 use Rattle.frame_world.specs.declared.refusal.WorldRefusal.{WorldRefusal}
 use Rattle.frame_world.specs.declared.refusal.WorldRefusal.TheVariants as refusal
-use Rattle.frame_world.specs.Worlds.{World, Finished, opening, run_of, happens, office_at}
+use Rattle.frame_world.specs.Worlds.{World, Finished, opening, run_of, happens, office_at, frame_at}
 use Rattle.frame_world.specs.Ways.{pairs_at, places, bottles_of, tables_of}
 
 -- the programs of the finished sessions, and what is told of them, in finishing order
@@ -79,6 +85,18 @@ is_fault refusal.NoFrame = false
 abbrev pub FramesAreTaken : World → Type 0
 FramesAreTaken w = (e : WorldEvent) (r : WorldRefusal) → (happens w e).0 ≡ Err r → is_fault r ≡ false
 
+-- The frame goes on a wire: it has bytes that spell it, and no others do; these spell no other frame; and whichever office
+-- gets them takes this frame.
+pub record GoesByBytes (f : Fields) : Type 0 where
+  pub spelled : Spells (spelling f) f
+  pub one : (bytes : List ℕ) → Spells bytes f → bytes ≡ spelling f
+  pub only : (g : Fields) → Spells (spelling f) g → g ≡ f
+  pub taken : (s : Site) (tag : ℕ) (result : Result Reply offices.Refusal) (s' : Site) → Receives s tag (spelling f) result s' → Steps s tag (event.Took f) result s'
+
+-- each frame that was sent does
+abbrev pub FramesGoByBytes : World → Type 0
+FramesGoByBytes w = (k : ℕ) (f : Fields) → frame_at w k ≡ Some f → GoesByBytes f
+
 -- which events led to a world
 pub record IsReached (w : World) : Type 0 where
   pub events : List WorldEvent
@@ -93,3 +111,7 @@ Always claim = (plan : PlanValue) (events : List WorldEvent) → IsConsistent pl
 -- from a plan that is accepted, precedence never has a ring
 abbrev pub PrecedenceHasNoRing : Type 0
 PrecedenceHasNoRing = (plan : PlanValue) (events : List WorldEvent) → IsAccepted plan → HasNoRing plan (tables_of (pairs_at (run_of (opening plan) events)))
+
+-- where each frame that was sent is in the format's ranges, each goes by bytes
+abbrev pub FramesInRangeGoByBytes : Type 0
+FramesInRangeGoByBytes = (w : World) → All IsFrame w.frames → FramesGoByBytes w

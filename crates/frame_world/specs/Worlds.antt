@@ -1,5 +1,5 @@
 -- The offices of a plan with their journals, every frame that was ever sent, and what finished; and what an event does.
-use Rattle.std.specs.Prelude.{◌≡◌, ℕ, zero, suc, nat_lt, if◌then◌else◌, List, [], ◌∷◌, ◌++◌, length, map, slice_get, get_or, set, Option, None, Some, Result, Ok, Err, ◌⊎◌}
+use Rattle.std.specs.Prelude.{◌≡◌, ℕ, zero, suc, ◌<◌, nat_lt, if◌then◌else◌, List, [], ◌∷◌, ◌++◌, length, map, take, slice_get, get_or, set, Option, None, Some, Result, Ok, Err, IsOk, ◌⊎◌}
 use Rattle.std.specs.List.{range_with_len}
 use Rattle.frame_codec.specs.Frame.{Fields}
 use Rattle.office_map.specs.PlanValue.{PlanValue}
@@ -120,11 +120,18 @@ abbrev pub replies_of : World → List WorldEvent → List (Result Reply WorldRe
 replies_of w [] = []
 replies_of w (e ∷ es) = (happens w e).0 ∷ replies_of (happens w e).1 es
 
--- the answer and the world after it, or Memory and the world as it was
+-- the answer and the world after it; or memory ran out where the event is accepted, and nothing changed
 abbrev pub OrMemory : World → Answer → Result Reply WorldRefusal → World → Type 0
 OrMemory w answer result w' =
-    ((result ≡ Err (refusal.Office refused.Memory)) × (w' ≡ w))
+    ((result ≡ Err (refusal.Office refused.Memory)) × (w' ≡ w) × IsOk answer.0)
     ⊎ ((result ≡ answer.0) × (w' ≡ answer.1))
 
 abbrev pub Applies : World → WorldEvent → Result Reply WorldRefusal → World → Type 0
 Applies w e result w' = OrMemory w (happens w e) result w'
+
+-- A run that ends early did so many events, and the next one is accepted there, but for want of memory; or it did none, for
+-- want of room for the replies.
+pub record Stops (w : World) (events : List WorldEvent) (done : ℕ) (w' : World) : Type 0 where
+  pub within : done < length events
+  pub world : w' ≡ run_of w (take done events)
+  pub next : (done ≡ 0) ⊎ ((e : WorldEvent) → slice_get events done ≡ Some e → IsOk (happens w' e).0)

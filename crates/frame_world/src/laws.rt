@@ -1,10 +1,11 @@
 //! The headline, over definitions: what holds of every world that a list of events leads to.
 
-ghost use Rattle.frame_world.specs.Headline.{Always, HasSerialSessions, HasSerialValues, HasOnePlaceEach, NeighboursEatApart, EatersHaveTheirForks, DrinkersHaveTheirBottles, FramesAreTaken, PrecedenceHasNoRing};
+ghost use Rattle.frame_world.specs.Headline.{Always, HasSerialSessions, HasSerialValues, HasOnePlaceEach, NeighboursEatApart, EatersHaveTheirForks, DrinkersHaveTheirBottles, FramesAreTaken, PrecedenceHasNoRing, FramesInRangeGoByBytes};
 ghost use Rattle.frame_world.specs.refinement.PartsLaws.{PartsLaws};
 
 use dining_core::laws as tables;
 use drinking_core::laws as bars;
+use frame_codec::laws::each_spelling_is_of_one_frame;
 use session_meaning::laws::writes_what_it_has;
 use token_channel::laws::what_comes_was_away;
 
@@ -69,6 +70,14 @@ pub fn sent_frames_are_taken()
 {
     tables::each_has_one_place();
     bars::each_has_one_place();
+}
+
+/// A frame in the format's ranges has bytes that spell it and no other, and whichever office gets them takes that frame. So
+/// what a world hands on as frames may go as bytes.
+pub fn frames_go_by_bytes()
+    ensures { FramesInRangeGoByBytes }
+{
+    each_spelling_is_of_one_frame();
 }
 
 /// What the parts promise by themselves.

@@ -16,7 +16,7 @@
 //! (`proofs/TablesFollow.antt`, `proofs/BarsFollow.antt`), which needs of the links that each frame says the truth
 //! (`proofs/Links.antt`). So the laws of tables and bars hold of the offices (`proofs/Following.antt`), and with them the
 //! serial run is an invariant of few lines (`proofs/SerialSessions.antt`). Above the links a frame is looked at once more:
-//! that it isn't refused (`proofs/SentFrames.antt`).
+//! that it isn't refused (`proofs/SentFrames.antt`), and that its bytes say the same as it (`proofs/FrameBytes.antt`).
 #![tactic(auto)]
 
 mod event;

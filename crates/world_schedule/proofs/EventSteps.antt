@@ -1,11 +1,11 @@
 -- What each kind of event leaves beside the offices.
 use Rattle.std.proofs.Common.{◌≡◌, ℕ, ◌+◌, Bool, true, false, cond, List, [], ◌∷◌, ◌++◌, length, map, get_or, Option, None, Some, option_map, Ok, Err, refl, sym, ap, subst, ◌∙◌, arith, append-nil}
-use Rattle.std.specs.Prelude.{Result, IfOk, OnErr, is_some}
+use Rattle.std.specs.Prelude.{Result, All, IfOk, OnErr, is_some}
 use Rattle.std.specs.List.{range_with_len}
 use Rattle.std.proofs.lemmas.Bool.{and_parts}
 use Rattle.std.proofs.lemmas.List.Elements.{All-nil}
 use Rattle.std.proofs.lemmas.List.FromFn.{length-map-range_with_len, get_or-map-range_with_len}
-use Rattle.frame_codec.specs.Frame.{Fields}
+use Rattle.frame_codec.specs.Frame.{Fields, IsFrame}
 use Rattle.window_link.specs.declared.arrival.Arrival.{Arrival}
 use Rattle.window_link.specs.declared.arrival.Arrival.TheVariants as arrival
 use Rattle.office_map.specs.PlanValue.{PlanValue}
@@ -76,6 +76,7 @@ unmoved : (plan : PlanValue) (sites : List Site) (a : ℕ) (e : Event) (result :
 unmoved plan sites a e result sites' frames marks tells finishes = record {
   kept = λ r o h is. sym (append-nil frames) ∙ ap (λ l. frames ++ l) (sym (tells r o h));
   unsent = λ x is. refl;
+  fit = λ r o h is. subst (All IsFrame) (sym (tells r o h)) (All-nil IsFrame);
   listed = λ r o h is. Nothing finishes refl;
   unlisted = λ x is. refl;
 }
@@ -126,6 +127,7 @@ beside_finish plan sites a result sites' frames marks marks' pushed same =
     record {
       kept = λ r o h is. sym (append-nil frames) ∙ ap (λ l. frames ++ l) (sym (rule_holds s.plan s.me (office_of s) rule.Finish r o h).1);
       unsent = λ x is. refl;
+      fit = λ r o h is. subst (All IsFrame) (sym (rule_holds s.plan s.me (office_of s) rule.Finish r o h).1) (All-nil IsFrame);
       listed = λ r o h is.
           let one = one_ended a (office_of s).agenda.current (and_parts _ _ (rule_holds s.plan s.me (office_of s) rule.Finish r o h).0).1 in
           Last one.0 one.1 (pushed r is);
@@ -133,10 +135,12 @@ beside_finish plan sites a result sites' frames marks marks' pushed same =
     }
 
 pub beside_send : (plan : PlanValue) (sites : List Site) (a v i : ℕ) (result : Result Reply WorldRefusal) (sites' : List Site) (frames frames' : List Fields) (marks : List mark.Finished) →
-    ((r : Reply) → result ≡ Ok r → frames' ≡ frames ++ frames_of r) → ((x : WorldRefusal) → result ≡ Err x → frames' ≡ frames) → Beside plan sites a (event.Send v i) result sites' frames frames' marks marks
-beside_send plan sites a v i result sites' frames frames' marks sent same = record {
+    ((r : Reply) → result ≡ Ok r → frames' ≡ frames ++ frames_of r) → ((r : Reply) → result ≡ Ok r → All IsFrame (frames_of r)) → ((x : WorldRefusal) → result ≡ Err x → frames' ≡ frames) →
+    Beside plan sites a (event.Send v i) result sites' frames frames' marks marks
+beside_send plan sites a v i result sites' frames frames' marks sent fit same = record {
   kept = λ r o h is. sent r is;
   unsent = same;
+  fit = λ r o h is. fit r is;
   listed = λ r o h is. Nothing refl refl;
   unlisted = λ x is. refl;
 }
@@ -159,5 +163,6 @@ opens plan sites accepted is =
       count = count;
       each = λ a lt. subst (IsSiteOf plan a) (sym (ap (λ l. get_or l a (silent plan a)) is ∙ get_or-map-range_with_len (silent plan) 0 (length plan.offices) a a (silent plan a) (omega (arith, lt, count)) (omega arith))) (refl, refl, legal_empty plan a);
       known = All-nil (IsKnown plan sites);
+      fit = All-nil IsFrame;
       reached = record { events = []; leads = ap (λ l. record { plan = plan; sites = l; frames = []; finished = [] }) (sym is) };
     }

@@ -1,6 +1,7 @@
 -- Runs of events.
-use Rattle.std.proofs.Common.{◌≡◌, ℕ, ◌+◌, ◌<◌, cond, List, [], ◌∷◌, ◌++◌, length, take, get_or, Option, None, Some, Ok, Err, refl, sym, ap, ◌∙◌, ⊎_elim}
-use Rattle.std.specs.Prelude.{Result, nat_lt, nat_le}
+use Rattle.std.proofs.Common.{◌≡◌, ℕ, ◌+◌, ◌<◌, cond, List, [], ◌∷◌, ◌++◌, length, take, get_or, Option, None, Some, Ok, Err, refl, sym, ap, subst, ◌∙◌, ⊎_elim}
+use Rattle.std.specs.Prelude.{Result, IsOk, slice_get, nat_lt, nat_le}
+use Rattle.std.proofs.lemmas.Option.{get_or_from_slice_get}
 use Rattle.std.proofs.lemmas.Bool.{cond_both}
 use Rattle.std.proofs.lemmas.List.{take_more}
 use Rattle.frame_codec.specs.Frame.{Fields}
@@ -78,6 +79,15 @@ not_memory w w' e r a n = ⊎_elim (λ m. absurd (n m.0)) (λ h. (h.0, h.1)) a
 
 pub was_memory : (w w' : World) (e : WorldEvent) (r : Result Reply WorldRefusal) → Applies w e r w' → r ≡ Err (refusal.Office refused.Memory) → w' ≡ w
 was_memory w w' e r a m = ⊎_elim (λ h. h.1) (λ h. absurd (speaks w e (sym h.0 ∙ m))) a
+
+pub memory_accepts : (w w' : World) (e : WorldEvent) (r : Result Reply WorldRefusal) → Applies w e r w' → r ≡ Err (refusal.Office refused.Memory) → IsOk (happens w e).0
+memory_accepts w w' e r a m = ⊎_elim (λ h. h.2) (λ h. absurd (speaks w e (sym h.0 ∙ m))) a
+
+-- the event at a place is accepted
+pub next_accepts : (v v' : World) (e : WorldEvent) (es : List WorldEvent) (i done : ℕ) → i ≡ done → e ≡ get_or es i e → v' ≡ v → IsOk (happens v e).0 → (d : WorldEvent) → slice_get es done ≡ Some d → IsOk (happens v' d).0
+next_accepts v v' e es i done place is same ok d at =
+    let this : e ≡ d = is ∙ ap (λ k. get_or es k e) place ∙ get_or_from_slice_get es done d e at in
+    subst (λ w. IsOk (happens w d).0) (sym same) (subst (λ x. IsOk (happens v x).0) this ok)
 
 -- ---- one event more
 

@@ -1,6 +1,6 @@
 -- What a step leaves of one of several offices.
 use Rattle.std.proofs.Common.{◌≡◌, Bool, true, false, cond, length, Ok, Err, inl, inr, refl, sym, ap, ◌∙◌, arith}
-use Rattle.std.specs.Prelude.{Result, nat_le}
+use Rattle.std.specs.Prelude.{Result, IsOk, nat_le}
 use Rattle.site_core.specs.Limits.{most_entries}
 use Rattle.site_core.specs.declared.event.Event.{Event}
 use Rattle.site_core.specs.declared.reply.Reply.{Reply}
@@ -10,14 +10,14 @@ use Rattle.site_core.specs.Offices.{Office, Answer, answer}
 use Rattle.site_core.proofs.OfficeLimits.{legal_noted}
 use Rattle.site_core.specs.Journals.{Site, next_or, office_of, noted, step, recorded, Steps, IsLegal}
 
--- a refused step leaves the site, and so does one for which memory ran out; an accepted one is noted
+-- a refused step leaves the site, and so does one for which memory ran out, which would be accepted; an accepted one is noted
 pub data Stepped (s : Site) (e : Event) (result : Result Reply Refusal) (s' : Site) : Type 0 where
   Refused : (r : Refusal) (told : result ≡ Err r) (kept : s' ≡ s) (is : step s 0 e ≡ (Err r, s)) → Stepped s e result s'
-  OutOfMemory : (told : result ≡ Err refusal.Memory) (kept : s' ≡ s) → Stepped s e result s'
+  OutOfMemory : (told : result ≡ Err refusal.Memory) (kept : s' ≡ s) (accepted : IsOk (step s 0 e).0) → Stepped s e result s'
   Accepted : (r : Reply) (o : Office) (accepts : answer s.plan s.me (office_of s) e ≡ Ok (r, o)) (told : result ≡ Ok r) (grown : s' ≡ noted s 0 e r) (is : step s 0 e ≡ (Ok r, noted s 0 e r)) → Stepped s e result s'
 
 pub stepped : (s : Site) (e : Event) (result : Result Reply Refusal) (s' : Site) → Steps s 0 e result s' → Stepped s e result s'
-stepped s e result s' (inl (told, kept, ok)) = OutOfMemory told kept
+stepped s e result s' (inl (told, kept, ok)) = OutOfMemory told kept ok
 stepped s e result s' (inr (told, kept)) = go (answer s.plan s.me (office_of s) e) refl
   where
     answered : (x : Reply × Office) (b : Bool) → answer s.plan s.me (office_of s) e ≡ Ok x → step s 0 e ≡ cond b (Err refusal.JournalFull, s) (Ok x.0, noted s 0 e x.0) → Stepped s e result s'

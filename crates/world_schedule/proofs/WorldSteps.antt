@@ -1,10 +1,10 @@
 -- The world that the code keeps, after an event.
 use Rattle.std.proofs.Common.{◌≡◌, ◌≢◌, ℕ, ◌+◌, ◌-◌, ◌<◌, Bool, true, false, cond, List, [], ◌∷◌, ◌++◌, length, map, get_or, set, Ok, Err, ◌⊎◌, inl, inr, refl, sym, ap, subst, ◌∙◌, arith, ⊎_elim, append-nil}
-use Rattle.std.specs.Prelude.{Result, nat_le, All}
+use Rattle.std.specs.Prelude.{Result, IsOk, nat_le, All}
 use Rattle.std.proofs.lemmas.Bool.{lt-ltb, le-ltb, cases_eq}
 use Rattle.std.proofs.lemmas.List.{length_push, get_or_push, length-append, length-set, set-get_or, get_or-set_same, get_or-set_other, get_or_append_left, map-append}
-use Rattle.std.proofs.lemmas.List.Elements.{All-weaker, All-head, All-tail, All-push}
-use Rattle.frame_codec.specs.Frame.{Fields}
+use Rattle.std.proofs.lemmas.List.Elements.{All-weaker, All-head, All-tail, All-push, All-append}
+use Rattle.frame_codec.specs.Frame.{Fields, IsFrame}
 use Rattle.office_map.specs.PlanValue.{PlanValue}
 use Rattle.site_core.specs.declared.event.Event.{Event}
 use Rattle.site_core.specs.declared.reply.Reply.{Reply}
@@ -21,7 +21,7 @@ use Rattle.frame_world.specs.Worlds.{World, Answer, Finished, silent, site_at, o
 use Rattle.frame_world.specs.Headline.{IsReached}
 use Rattle.world_schedule.specs.declared.finished.Finished as mark
 use Rattle.world_schedule.specs.refinement.WorldOfCode.{no_session, finished_of, finished_in, world_in, IsSiteOf, IsKnown, IsWorld}
-use Rattle.world_schedule.specs.refinement.Handing.{Hands, Nobody, Unasked, Asked, passed_on}
+use Rattle.world_schedule.specs.refinement.Handing.{Hands, Nobody, Asked, passed_on}
 use Rattle.world_schedule.proofs.FinishedSessions.{finished_noted}
 use Rattle.world_schedule.proofs.SiteSteps.{still_legal, Stepped, Refused, OutOfMemory, Accepted, stepped}
 
@@ -38,18 +38,22 @@ grown w a e r = record {
 abbrev pub Accepts : Site → Event → Reply → Office → Type 0
 Accepts s e r o = answers.answer s.plan s.me (office_of s) e ≡ Ok (r, o)
 
--- nothing changed, by the definition or for want of memory; or the event is noted
+-- nothing changed, by the definition or for want of memory where the event is accepted; or the event is noted
 pub data Handled (w : World) (a : ℕ) (e : Event) (result : Result Reply WorldRefusal) (sites' : List Site) : Type 0 where
-  Same : (x : WorldRefusal) (answer : result ≡ Err x) (kept : sites' ≡ w.sites) (why : (x ≡ refusal.Office refused.Memory) ⊎ (handed w a e ≡ (Err x, w))) → Handled w a e result sites'
+  Same : (x : WorldRefusal) (answer : result ≡ Err x) (kept : sites' ≡ w.sites) (why : ((x ≡ refusal.Office refused.Memory) × IsOk (handed w a e).0) ⊎ (handed w a e ≡ (Err x, w))) → Handled w a e result sites'
   Grown : (within : a < length w.sites) (r : Reply) (o : Office) (accepts : Accepts (site_at w a) e r o) (answer : result ≡ Ok r) (kept : sites' ≡ set w.sites a (noted (site_at w a) 0 e r))
       (is : handed w a e ≡ (Ok r, grown w a e r)) → Handled w a e result sites'
 
 there : (w : World) (a : ℕ) (e : Event) (x : Result Reply offices.Refusal × Site) → a < length w.sites → step (site_at w a) 0 e ≡ x → handed w a e ≡ told w a e x
 there w a e x lt is = ap (λ b. cond {A = Answer} b (told w a e (step (site_at w a) 0 e)) (Err refusal.NoOffice, w)) (lt-ltb a (length w.sites) lt) ∙ ap (told w a e) is
 
+-- a world tells that an office accepts
+told_ok : (w : World) (a : ℕ) (e : Event) (x : Result Reply offices.Refusal × Site) → IsOk x.0 → IsOk (told w a e x).0
+told_ok w a e (Ok r, s) ok = ok
+told_ok w a e (Err r, s) ok = ok
+
 pub handled : (w : World) (a : ℕ) (e : Event) (result : Result Reply WorldRefusal) (sites' : List Site) → Hands w.sites a e result sites' → Handled w a e result sites'
 handled w a e result sites' (Nobody beyond tells kept) = Same refusal.NoOffice tells kept (inr (ap (λ b. cond {A = Answer} b (told w a e (step (site_at w a) 0 e)) (Err refusal.NoOffice, w)) (le-ltb a (length w.sites) beyond)))
-handled w a e result sites' (Unasked within tells kept) = Same (refusal.Office refused.Memory) tells kept (inl refl)
 handled w a e result sites' (Asked within answer site tells steps kept) = go (stepped (site_at w a) e answer site (steps (silent w.plan a)))
   where
     unchanged : site ≡ site_at w a → sites' ≡ w.sites
@@ -57,7 +61,8 @@ handled w a e result sites' (Asked within answer site tells steps kept) = go (st
 
     go : Stepped (site_at w a) e answer site → Handled w a e result sites'
     go (Refused r is same steps_so) = Same (refusal.Office r) (tells ∙ ap passed_on is) (unchanged same) (inr (there w a e (Err r, site_at w a) within steps_so))
-    go (OutOfMemory is same) = Same (refusal.Office refused.Memory) (tells ∙ ap passed_on is) (unchanged same) (inl refl)
+    go (OutOfMemory is same ok) = Same (refusal.Office refused.Memory) (tells ∙ ap passed_on is) (unchanged same)
+        (inl (refl, subst (λ (y : Answer). IsOk y.0) (sym (there w a e (step (site_at w a) 0 e) within refl)) (told_ok w a e (step (site_at w a) 0 e) ok)))
     go (Accepted r o accepts is same steps_so) = Grown within r o accepts (tells ∙ ap passed_on is) (kept ∙ ap (set w.sites a) same) (there w a e (Ok r, noted (site_at w a) 0 e r) within steps_so)
 
 -- the event is noted only where the journal has room for it
@@ -125,6 +130,7 @@ pub data Lists (plan : PlanValue) (sites : List Site) (a : ℕ) (e : Event) (sit
 pub record Beside (plan : PlanValue) (sites : List Site) (a : ℕ) (e : Event) (result : Result Reply WorldRefusal) (sites' : List Site) (frames frames' : List Fields) (marks marks' : List mark.Finished) : Type 0 where
   pub kept : (r : Reply) (o : Office) → Accepts (get_or sites a (silent plan a)) e r o → result ≡ Ok r → frames' ≡ frames ++ frames_of r
   pub unsent : (x : WorldRefusal) → result ≡ Err x → frames' ≡ frames
+  pub fit : (r : Reply) (o : Office) → Accepts (get_or sites a (silent plan a)) e r o → result ≡ Ok r → All IsFrame (frames_of r)
   pub listed : (r : Reply) (o : Office) → Accepts (get_or sites a (silent plan a)) e r o → result ≡ Ok r → Lists plan sites a e sites' marks marks'
   pub unlisted : (x : WorldRefusal) → result ≡ Err x → marks' ≡ marks
 
@@ -179,7 +185,7 @@ applies plan sites sites' frames frames' marks marks' a e result world hands bes
     go (Same x is kept why) =
         let w = world_in plan sites frames marks in
         let same : world_in plan sites' frames' marks' ≡ w = ap (λ l. world_in plan l frames' marks') kept ∙ ap (λ l. world_in plan sites l marks') (beside.unsent x is) ∙ ap (world_in plan sites frames) (beside.unlisted x is) in
-        ⊎_elim (λ m. inl (is ∙ ap Err m, same)) (λ h. inr (is ∙ sym (ap (λ y. y.0) h), same ∙ sym (ap (λ y. y.1) h))) why
+        ⊎_elim (λ m. inl (is ∙ ap Err m.0, same, m.1)) (λ h. inr (is ∙ sym (ap (λ y. y.0) h), same ∙ sym (ap (λ y. y.1) h))) why
     go (Grown lt r o accepts is kept h) =
         let w = world_in plan sites frames marks in
         let lists = listed_more plan sites a e r marks marks' lt (world.each a lt) world.known (subst (λ l. Lists plan sites a e l marks marks') kept (beside.listed r o accepts is)) in
@@ -228,6 +234,7 @@ stays plan sites sites' frames frames' marks marks' a e result ev world hands be
       count = ap length kept ∙ world.count;
       each = subst (λ (l : List Site). (b : ℕ) → b < length l → IsSiteOf plan b (get_or l b (silent plan b))) (sym kept) world.each;
       known = subst (λ l. All (IsKnown plan l) marks') (sym kept) (subst (All (IsKnown plan sites)) (sym (beside.unlisted x told)) world.known);
+      fit = subst (All IsFrame) (sym (beside.unsent x told)) world.fit;
       reached = reached;
     }
     go (Grown lt r o accepts told kept h) =
@@ -237,5 +244,6 @@ stays plan sites sites' frames frames' marks marks' a e result ev world hands be
           count = ap length kept ∙ length-set sites a (noted (get_or sites a (silent plan a)) 0 e r) ∙ world.count;
           each = subst (λ (l : List Site). (b : ℕ) → b < length l → IsSiteOf plan b (get_or l b (silent plan b))) (sym kept) (sites_kept plan sites a e r o lt accepts (has_room (world_in plan sites frames marks) a e r o lt accepts h) world.each);
           known = subst (λ l. All (IsKnown plan l) marks') (sym kept) lists.1;
+          fit = subst (All IsFrame) (sym (beside.kept r o accepts told)) (All-append IsFrame frames (frames_of r) world.fit (beside.fit r o accepts told));
           reached = reached;
         }

@@ -1,10 +1,14 @@
 //! An event that is handed to one of the offices.
 
-ghost use Rattle.std.specs.Prelude.{◌≡◌, ◌<◌, ◌++◌, ◌∷◌, [], length, get_or, vec_len, IfOk, OnOk, OnErr};
+ghost use Rattle.std.specs.Prelude.{◌≡◌, ◌<◌, ◌++◌, ◌∷◌, [], Err, length, get_or, is_ok, nat_le, vec_len, All, IfOk, OnOk, OnErr, if◌then◌else◌};
 ghost use Rattle.std.specs.Vec.{vec_capacity};
+ghost use Rattle.frame_codec.specs.Frame.{IsFrame};
+ghost use Rattle.site_core.specs.Limits.{most_entries};
 ghost use Rattle.site_core.specs.declared.event.Event.TheVariants as events;
+ghost use Rattle.site_core.specs.declared.reply.Refusal.TheVariants as refusals;
 ghost use Rattle.site_core.specs.declared.rule.Rule.TheVariants as rules;
-ghost use Rattle.site_core.specs.Journals.{Site};
+ghost use Rattle.site_core.specs.Journals.{Site, Steps, office_of};
+ghost use Rattle.site_core.specs.Offices.{answer};
 ghost use Rattle.frame_world.specs.Worlds.{frames_of};
 ghost use Rattle.world_schedule.specs.refinement.WorldOfCode.{finished_of};
 ghost use Rattle.world_schedule.specs.refinement.Handing.{Hands, passed_on};
@@ -14,7 +18,7 @@ use frame_codec::Frame;
 use frame_world::WorldRefusal;
 use office_map::OfficeId;
 use session_language::Program;
-use site_core::{Office, Reply, Rule};
+use site_core::{Journal, MAX_ENTRIES, Office, Reply, Rule};
 
 /// A session is submitted at an office.
 pub(crate) fn submit(
@@ -58,7 +62,8 @@ pub(crate) fn finish(
         return Err(WorldRefusal::NoOffice);
     }
     let Ok(()) = finished.reserve(1) else {
-        return Err(WorldRefusal::Office(site_core::Refusal::Memory));
+        let refusal = unfinished(&offices[at.index()]);
+        return Err(WorldRefusal::Office(refusal));
     };
     match offices[at.index()].act(0, Rule::Finish) {
         Ok(reply) => {
@@ -68,6 +73,26 @@ pub(crate) fn finish(
         }
         Err(refusal) => Err(WorldRefusal::Office(refusal)),
     }
+}
+
+/// Why an office doesn't finish its session where there is no room to list it: what the office refuses, or else memory.
+fn unfinished(office: &Office) -> site_core::Refusal
+    ensures { Steps office.now 0 (events.Do rules.Finish) (Err result) office.now }
+{
+    if !office.enabled(Rule::Finish) {
+        return site_core::Refusal::NotNow;
+    }
+    unless_full(office.journal())
+}
+
+/// Memory, or that the journal takes no entry more.
+fn unless_full(journal: &Journal) -> site_core::Refusal
+    ensures { result ≡ (if nat_le most_entries (length journal.now.entries) then refusals.JournalFull else refusals.Memory) }
+{
+    if journal.len() >= MAX_ENTRIES {
+        return site_core::Refusal::JournalFull;
+    }
+    site_core::Refusal::Memory
 }
 
 /// What an office finished last.
@@ -92,13 +117,15 @@ pub(crate) fn send(
 ) -> Result<Reply, WorldRefusal>
     ensures office { Hands offices.old.items from (events.Send to i) result offices.new.items }
     ensures kept { IfOk result (λ r. frames.new.items ≡ frames.old.items ++ frames_of r) }
+    ensures fit { IfOk result (λ r. All IsFrame (frames_of r)) }
     ensures unsent { OnErr result (frames.new.items ≡ frames.old.items) }
 {
     if from.index() >= offices.len() {
         return Err(WorldRefusal::NoOffice);
     }
     let Ok(()) = frames.reserve(1) else {
-        return Err(WorldRefusal::Office(site_core::Refusal::Memory));
+        let refusal = unsent(&offices[from.index()], to, i);
+        return Err(WorldRefusal::Office(refusal));
     };
     match offices[from.index()].send(0, to, i) {
         Ok(reply) => {
@@ -109,14 +136,44 @@ pub(crate) fn send(
     }
 }
 
+/// Why an office makes no frame where there is no room to keep it: what the office refuses, or else memory.
+fn unsent(office: &Office, to: OfficeId, i: usize) -> site_core::Refusal
+    ensures { Steps office.now 0 (events.Send to i) (Err result) office.now }
+{
+    if !makes(office, to, i) {
+        return site_core::Refusal::NotNow;
+    }
+    unless_full(office.journal())
+}
+
+/// Whether an office makes that frame for a neighbour.
+fn makes(office: &Office, to: OfficeId, i: usize) -> bool
+    ensures { result ≡ is_ok (answer office.now.plan office.now.me (office_of office.now) (events.Send to i)) }
+{
+    match office.waiting(to) {
+        Some((_, waiting)) => i <= waiting,
+        None => false,
+    }
+}
+
 /// The frame that a reply tells is kept.
 fn keep(frames: &mut Vec<Frame>, reply: &Reply)
     requires { vec_len frames.old < vec_capacity frames.old }
-    ensures { frames.new.items ≡ frames.old.items ++ frames_of reply.now }
+    ensures kept { frames.new.items ≡ frames.old.items ++ frames_of reply.now }
+    ensures fit { All IsFrame (frames_of reply.now) }
 {
     if let Reply::Frame(frame) = reply {
+        is_in_range(frame);
         frames.push_reserved(*frame);
     }
+}
+
+/// Each field of a frame is in the format's range.
+fn is_in_range(frame: &Frame)
+    ensures { IsFrame frame.now }
+{
+    let _ = (frame.run(), frame.from(), frame.to());
+    let _ = (frame.number(), frame.count(), frame.msg());
 }
 
 /// A frame comes to its addressee.

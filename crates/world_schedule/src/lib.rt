@@ -7,7 +7,8 @@
 //!   [`World::send`], [`World::deliver`] for one kind of them) is that definition's `happens`: the office of that number
 //!   takes its step, a frame that it makes is kept, and a session that it finishes is listed. Any frame of the list may
 //!   come at any time, as often as it likes, or never.
-//! - [`World::run`] does events in order, and stops only where memory runs out; [`Stopped`] tells after how many.
+//! - [`World::run`] does events in order, and stops only where memory runs out, at an event that is accepted there, or
+//!   before the first one for want of room for the replies; [`Stopped`] tells after how many.
 //! - [`World::is_serial`] tells what holds of every world, and [`World::run`] ensures it of the world that it leaves.
 //!   `frame_world` proves it of the definitions.
 //! - [`World::offices`] and [`World::office`] lend the offices, [`World::journal`] what one accepted, and
@@ -15,8 +16,8 @@
 //!   [`World::outcome`] how one ended; the world keeps no program and no outcome a second time. [`World::value_of`] reads
 //!   a record's value off its bottle: where an office holds it, or else in the message that carries it.
 //!
-//! `Memory` is answered only where a growth was refused, and then nothing changed. No reader looks through all frames,
-//! entries or sessions.
+//! `Memory` is answered only where the event would be accepted, and then nothing changed. No reader looks through all
+//! frames, entries or sessions.
 //!
 //! Definitions: `specs/Readers.antt` and `specs/Tickets.antt` for what readers tell; all else is `frame_world`'s. What ties
 //! the code to them is in `specs/refinement`. That a ticket is the place among the sessions of its office is proved in

@@ -1,15 +1,15 @@
 //! All offices of a plan, and what happens to them.
 
-ghost use Rattle.std.specs.Prelude.{◌≡◌, ◌<◌, ◌≤◌, ◌^◌, ◌↔◌, ◌∷◌, [], Err, IsTrue, length, map, slice_get, All, IfOk, OnOk, IfErr, take};
+ghost use Rattle.std.specs.Prelude.{◌≡◌, ◌<◌, ◌≤◌, ◌^◌, ◌↔◌, ◌∷◌, [], Err, IsTrue, length, map, slice_get, All, IfOk, OnOk, IfErr};
 ghost use Rattle.std.specs.Option.{option_copied};
 ghost use Rattle.site_core.specs.Agenda.{unfinished};
 ghost use Rattle.site_core.specs.Journals.{office_of, IsLegal};
 ghost use Rattle.site_core.specs.declared.reply.Refusal.TheVariants as refused;
 ghost use Rattle.frame_world.specs.declared.refusal.WorldRefusal.TheVariants as refusals;
 ghost use Rattle.frame_world.specs.declared.event.WorldEvent.TheVariants as events;
-ghost use Rattle.frame_world.specs.Worlds.{opening, run_of, replies_of, Applies, site_at, frame_at};
+ghost use Rattle.frame_world.specs.Worlds.{opening, run_of, replies_of, Applies, Stops, site_at, frame_at};
 ghost use Rattle.frame_world.specs.Ways.{bottles_of, pairs_at, tables_of};
-ghost use Rattle.frame_world.specs.Headline.{programs, outcomes, IsReached, HasSerialSessions, HasSerialValues, HasOnePlaceEach, NeighboursEatApart, EatersHaveTheirForks, DrinkersHaveTheirBottles, FramesAreTaken};
+ghost use Rattle.frame_world.specs.Headline.{programs, outcomes, IsReached, HasSerialSessions, HasSerialValues, HasOnePlaceEach, NeighboursEatApart, EatersHaveTheirForks, DrinkersHaveTheirBottles, FramesAreTaken, FramesGoByBytes};
 ghost use Rattle.dining_core.specs.Worlds.{HasNoRing};
 ghost use Rattle.serial_replay.specs.Serial.{start_map, map_of};
 ghost use Rattle.world_schedule.specs.Readers.{unfinished_in, listed_as};
@@ -22,7 +22,7 @@ use crate::values::bottle_between;
 use bottle_values::Value;
 use frame_codec::Frame;
 use frame_world::laws::{
-    bottles_are_serial, neighbours_never_eat_at_once, precedence_has_no_ring,
+    bottles_are_serial, frames_go_by_bytes, neighbours_never_eat_at_once, precedence_has_no_ring,
     sent_frames_are_taken, sessions_are_serial, things_have_one_place, who_drinks_has_its_bottles,
     who_eats_has_its_forks,
 };
@@ -93,7 +93,7 @@ impl World {
     ///
     /// # Errors
     /// `NoOffice` where the plan hasn't the office, `NoFrame` where so many frames weren't sent; then what the office
-    /// refuses. `Memory` may stand in place of what the office answers.
+    /// refuses. `Memory` only where the event would be accepted.
     pub fn apply(&mut self, event: &WorldEvent) -> Result<Reply, WorldRefusal>
         ensures { Applies self.old event.now result self.new }
     {
@@ -152,15 +152,19 @@ impl World {
         happening::deliver(&mut self.offices, &frame)
     }
 
-    /// Events in order. A refused one leaves the world as it was, and the run goes on, but where memory runs out: then
-    /// it stops, with the world after the events before. Of the world then all holds that [`World::is_serial`] tells.
+    /// Events in order. A refused one leaves the world as it was, and the run goes on. Of the world then all holds that
+    /// [`World::is_serial`] tells.
+    ///
+    /// # Errors
+    /// `Stopped` where memory runs out, with the world after the events before: before the first one, where there is no room
+    /// for the replies, or at one that is accepted there.
     pub fn run(
         &mut self,
         events: &[WorldEvent],
     ) -> Result<Vec<Result<Reply, WorldRefusal>>, Stopped>
         ensures replies { IfOk result (λ replies. replies.items ≡ replies_of self.old events.now) }
         ensures world { OnOk result (self.new ≡ run_of self.old events.now) }
-        ensures stopped { IfErr result (λ s. (s.done ≤ length events.now) × (self.new ≡ run_of self.old (take s.done events.now))) }
+        ensures stopped { IfErr result (λ s. Stops self.old events.now s.done self.new) }
         ensures sessions { HasSerialSessions self.new }
         ensures bottles { HasSerialValues self.new }
         ensures places { HasOnePlaceEach self.new }
@@ -169,6 +173,7 @@ impl World {
         ensures drinkers { DrinkersHaveTheirBottles self.new }
         ensures order { HasNoRing self.new.plan (tables_of (pairs_at self.new)) }
         ensures frames { FramesAreTaken self.new }
+        ensures bytes { FramesGoByBytes self.new }
     {
         let replies = self.run_all(events);
         self.is_serial();
@@ -181,14 +186,13 @@ impl World {
     ) -> Result<Vec<Result<Reply, WorldRefusal>>, Stopped>
         ensures replies { IfOk result (λ replies. replies.items ≡ replies_of self.old events.now) }
         ensures world { OnOk result (self.new ≡ run_of self.old events.now) }
-        ensures stopped { IfErr result (λ s. (s.done ≤ length events.now) × (self.new ≡ run_of self.old (take s.done events.now))) }
+        ensures stopped { IfErr result (λ s. Stops self.old events.now s.done self.new) }
     {
-        let mut replies = Vec::new(self.alloc);
+        let Ok(mut replies) = Vec::with_capacity(self.alloc, events.len()) else {
+            return Err(Stopped { done: 0 });
+        };
         for event in events {
             let done = replies.len();
-            let Ok(()) = replies.reserve(1) else {
-                return Err(Stopped { done });
-            };
             let reply = self.apply(event);
             if is_memory(&reply) {
                 return Err(Stopped { done });
@@ -201,7 +205,8 @@ impl World {
     /// What holds of every world: some events led to it from its plan; the finished sessions have the outcomes, and each
     /// record's one bottle has the value, of the serial run of these sessions in finishing order; each fork, bottle and
     /// request token is at one place; neighbours eat apart, who eats has its forks, who works has its bottles, and
-    /// precedence has no ring. Nor will a frame that was sent be refused for what it says.
+    /// precedence has no ring. Nor will a frame that was sent be refused for what it says, and each has bytes that are read as
+    /// that frame by every office.
     pub fn is_serial(&self)
         ensures reached { IsReached self.now }
         ensures sessions { HasSerialSessions self.now }
@@ -212,6 +217,7 @@ impl World {
         ensures drinkers { DrinkersHaveTheirBottles self.now }
         ensures order { HasNoRing self.now.plan (tables_of (pairs_at self.now)) }
         ensures frames { FramesAreTaken self.now }
+        ensures bytes { FramesGoByBytes self.now }
     {
         sessions_are_serial();
         bottles_are_serial();
@@ -221,6 +227,7 @@ impl World {
         who_drinks_has_its_bottles();
         precedence_has_no_ring();
         sent_frames_are_taken();
+        frames_go_by_bytes();
         let _ = &self.plan;
     }
 

@@ -3,7 +3,6 @@ use Rattle.std.specs.Prelude.{◌≡◌, ℕ, ◌<◌, ◌≤◌, List, length, 
 use Rattle.site_core.specs.declared.event.Event.{Event}
 use Rattle.site_core.specs.declared.reply.Reply.{Reply}
 use Rattle.site_core.specs.declared.reply.Refusal as offices
-use Rattle.site_core.specs.declared.reply.Refusal.TheVariants as refused
 use Rattle.site_core.specs.Journals.{Site, Steps}
 use Rattle.frame_world.specs.declared.refusal.WorldRefusal.{WorldRefusal}
 use Rattle.frame_world.specs.declared.refusal.WorldRefusal.TheVariants as refusal
@@ -13,9 +12,8 @@ abbrev pub passed_on : Result Reply offices.Refusal → Result Reply WorldRefusa
 passed_on (Ok r) = Ok r
 passed_on (Err e) = Err (refusal.Office e)
 
--- there is no such office; or memory ran out before the office was asked; or the office of that number takes the step
+-- there is no such office; or the office of that number takes the step
 pub data Hands (sites : List Site) (a : ℕ) (e : Event) (result : Result Reply WorldRefusal) (sites' : List Site) : Type 0 where
   Nobody : (beyond : length sites ≤ a) (told : result ≡ Err refusal.NoOffice) (kept : sites' ≡ sites) → Hands sites a e result sites'
-  Unasked : (within : a < length sites) (told : result ≡ Err (refusal.Office refused.Memory)) (kept : sites' ≡ sites) → Hands sites a e result sites'
   Asked : (within : a < length sites) (answer : Result Reply offices.Refusal) (site : Site) (told : result ≡ passed_on answer)
       (steps : (d : Site) → Steps (get_or sites a d) 0 e answer site) (kept : sites' ≡ set sites a site) → Hands sites a e result sites'

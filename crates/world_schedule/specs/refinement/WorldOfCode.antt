@@ -1,6 +1,6 @@
 -- The world that the code keeps: of a finished session it keeps the office and the number there.
 use Rattle.std.specs.Prelude.{◌≡◌, ℕ, ◌-◌, ◌<◌, ◌≤◌, List, [], ◌∷◌, ◌++◌, length, map, get_or, All}
-use Rattle.frame_codec.specs.Frame.{Fields}
+use Rattle.frame_codec.specs.Frame.{Fields, IsFrame}
 use Rattle.office_map.specs.PlanValue.{PlanValue}
 use Rattle.office_map.specs.Consistency.{IsAccepted}
 use Rattle.session_meaning.specs.declared.ending.End.TheVariants.{Done}
@@ -43,10 +43,11 @@ IsSiteOf plan a s = (s.plan ≡ plan) × (s.me ≡ a) × IsLegal s
 abbrev pub IsKnown : PlanValue → List Site → mark.Finished → Type 0
 IsKnown plan sites m = (m.office < length sites) × (0 < m.ticket) × (m.ticket ≤ length (finished_of (get_or sites m.office (silent plan m.office))))
 
--- there is each office of an accepted plan, and events led to them
+-- there is each office of an accepted plan, events led to them, and each frame is in the format's ranges
 pub record IsWorld (plan : PlanValue) (sites : List Site) (frames : List Fields) (marks : List mark.Finished) : Type 0 where
   pub accepted : IsAccepted plan
   pub count : length sites ≡ length plan.offices
   pub each : (a : ℕ) → a < length sites → IsSiteOf plan a (get_or sites a (silent plan a))
   pub known : All (IsKnown plan sites) marks
+  pub fit : All IsFrame frames
   pub reached : IsReached (world_in plan sites frames marks)

@@ -6,7 +6,7 @@ use Rattle.site_core.specs.declared.event.Event.TheVariants as event
 use Rattle.site_core.specs.declared.rule.Rule.TheVariants as rule
 use Rattle.frame_world.specs.declared.refusal.WorldRefusal.TheVariants as refusal
 use Rattle.world_schedule.specs.refinement.Handing.{passed_on}
-use Rattle.world_schedule.proofs.Asking.{asked}
+use Rattle.world_schedule.proofs.Asking.{asked, asked_and_refused}
 use Rattle.world_schedule.proofs.happening.finish.Goals as goal
 
 pub returns-in-Ok-act-clause-office : goal.returns-in-Ok-act-clause-office
@@ -28,3 +28,8 @@ returns-in-Ok-act-clause-listed c =
     let here : s ≡ get_or offices at s = c.index-in-Ok-act-2.ensures ∙ ap (λ i. get_or offices i s) c.index-in-Ok-act.ensures in
     λ d. c.push_reserved.ensures.items ∙ ap (λ l. l ++ c.last_of-last.result ∷ []) c.in-Ok.ensures.items
     ∙ ap (λ m. c.args.finished.now.items ++ m ∷ []) (c.last_of-last.ensures ∙ ap (λ (x : Site). record { office = at; ticket = length (finished_of x) }) (get_or_read offices at s lt here d))
+
+pub returns-in_default-clause-office : goal.returns-in_default-clause-office
+returns-in_default-clause-office c =
+    asked_and_refused c.args.offices.now.items c.args.at c.index-in_default.result (event.Do rule.Finish) c.index-in_default-2.result.now c.unfinished-refusal.result c.index-in_default.ensures
+    (omega (arith, c.if-index-len.false, c.index.ensures, c.index-in_default.ensures, c.len.ensures)) c.index-in_default-2.ensures c.unfinished-refusal.ensures

@@ -1,5 +1,5 @@
 use Rattle.std.proofs.Common.{subst}
-use Rattle.frame_world.specs.Headline.{HasSerialSessions, HasSerialValues, HasOnePlaceEach, NeighboursEatApart, EatersHaveTheirForks, DrinkersHaveTheirBottles, FramesAreTaken}
+use Rattle.frame_world.specs.Headline.{HasSerialSessions, HasSerialValues, HasOnePlaceEach, NeighboursEatApart, EatersHaveTheirForks, DrinkersHaveTheirBottles, FramesAreTaken, FramesGoByBytes}
 use Rattle.frame_world.specs.Worlds.{World}
 use Rattle.frame_world.specs.Ways.{pairs_at, tables_of}
 use Rattle.dining_core.specs.Worlds.{HasNoRing}
@@ -47,3 +47,8 @@ pub returns-clause-frames : goal.returns-clause-frames
 returns-clause-frames c =
     let w = c.self.inside in
     of_world FramesAreTaken w.plan w.offices.items w.frames.items w.finished.items c.args.self.now c.self.invariant c.self.view_is (λ es. c.sent_frames_are_taken.ensures w.plan es c.self.invariant.accepted.consistent)
+
+pub returns-clause-bytes : goal.returns-clause-bytes
+returns-clause-bytes c =
+    let w = c.self.inside in
+    subst FramesGoByBytes c.self.view_is (c.frames_go_by_bytes.ensures (world_in w.plan w.offices.items w.frames.items w.finished.items) c.self.invariant.fit)

@@ -1,4 +1,6 @@
 use Rattle.std.proofs.Common.{◌≡◌, ◌++◌, refl, subst}
+use Rattle.std.specs.Prelude.{All}
+use Rattle.frame_codec.specs.Frame.{IsFrame}
 use Rattle.site_core.specs.declared.event.Event.TheVariants as event
 use Rattle.site_core.specs.declared.reply.Reply.{Reply}
 use Rattle.frame_world.specs.declared.event.WorldEvent.TheVariants as happening
@@ -14,7 +16,7 @@ invariant_of-self c =
     let frames' = c.send.new.frames.items in
     stays w.plan w.offices.items c.send.new.offices.items w.frames.items frames' w.finished.items w.finished.items c.args.from (event.Send c.args.to c.args.i) c.send.result (happening.Send c.args.from c.args.to c.args.i) c.self.invariant c.send.ensures.office
     (beside_send w.plan w.offices.items c.args.from c.args.to c.args.i c.send.result c.send.new.offices.items w.frames.items frames' w.finished.items
-    (of_ok (λ (r : Reply). frames' ≡ w.frames.items ++ frames_of r) c.send.result c.send.ensures.kept) (of_err (frames' ≡ w.frames.items) c.send.result c.send.ensures.unsent)) refl
+    (of_ok (λ (r : Reply). frames' ≡ w.frames.items ++ frames_of r) c.send.result c.send.ensures.kept) (of_ok (λ (r : Reply). All IsFrame (frames_of r)) c.send.result c.send.ensures.fit) (of_err (frames' ≡ w.frames.items) c.send.result c.send.ensures.unsent)) refl
 
 pub returns : goal.returns
 returns c =
@@ -24,4 +26,4 @@ returns c =
     subst (λ x. OrMemory x (handed x c.args.from e) c.send.result (world_in w.plan c.send.new.offices.items frames' w.finished.items)) c.self.view_is
     (applies w.plan w.offices.items c.send.new.offices.items w.frames.items frames' w.finished.items w.finished.items c.args.from e c.send.result c.self.invariant c.send.ensures.office
     (beside_send w.plan w.offices.items c.args.from c.args.to c.args.i c.send.result c.send.new.offices.items w.frames.items frames' w.finished.items
-    (of_ok (λ (r : Reply). frames' ≡ w.frames.items ++ frames_of r) c.send.result c.send.ensures.kept) (of_err (frames' ≡ w.frames.items) c.send.result c.send.ensures.unsent)))
+    (of_ok (λ (r : Reply). frames' ≡ w.frames.items ++ frames_of r) c.send.result c.send.ensures.kept) (of_ok (λ (r : Reply). All IsFrame (frames_of r)) c.send.result c.send.ensures.fit) (of_err (frames' ≡ w.frames.items) c.send.result c.send.ensures.unsent)))
