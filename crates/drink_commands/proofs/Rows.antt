@@ -6,7 +6,7 @@ use Rattle.bottle_values.specs.declared.Value.{Value}
 use Rattle.office_map.specs.PlanValue.{PlanValue}
 use Rattle.session_meaning.specs.declared.ending.Outcome.{Outcome}
 use Rattle.serial_replay.specs.Serial.{ListsValues}
-use Rattle.script_runs.specs.Report.{outcome_line, value_line, value_lines, value_at, report_of}
+use Rattle.run_reports.specs.Report.{outcome_line, value_line, value_lines, value_at, report_of}
 
 same_rows : (f g : ℕ → List ℕ) (a n : ℕ) → ((r : ℕ) → r < a + n → f r ≡ g r) → flat_map f (range_with_len a n) ≡ flat_map g (range_with_len a n)
 same_rows f g a zero h = refl

@@ -6,7 +6,7 @@ use Rattle.drink_commands.specs.Plans.{IsAcceptedAs}
 use Rattle.session_meaning.specs.ProgramValue.{ProgramValue}
 use Rattle.session_language.specs.Reading.{sessions_of}
 use Rattle.serial_replay.specs.Serial.{outcomes_of, map_of, start_map}
-use Rattle.script_runs.specs.Report.{report_of}
+use Rattle.run_reports.specs.Report.{report_of}
 
 -- the report of the programs' serial run from the plan's values
 abbrev pub serial_report : PlanValue → List ProgramValue → List ℕ

@@ -17,7 +17,7 @@ use crate::input::Input;
 use crate::texts::{read_events, read_plan, read_programs};
 use input_texts::{Sources, StandardInput};
 use office_map::Plan;
-use script_runs::report::report;
+use run_reports::report::report;
 use script_runs::transcript::transcript;
 use serial_replay::replay;
 use session_language::Program;

@@ -23,7 +23,7 @@ use Rattle.site_core.specs.declared.rule.Rule.{Rule}
 use Rattle.site_core.specs.declared.rule.Rule.TheVariants as rule
 use Rattle.script_runs.specs.declared.event.ScriptEvent.{ScriptEvent}
 use Rattle.script_runs.specs.declared.event.ScriptEvent.TheVariants as event
-use Rattle.script_runs.specs.Report.{office_name, record_name}
+use Rattle.run_reports.specs.Report.{office_name, record_name}
 use Rattle.script_runs.specs.Script.{Act, delivery, office_by, record_by, counted, count_by, done_by, advanced_by, sent_by, said_by, said_of, nth, act_with, acts_with, act_of}
 use Rattle.script_runs.specs.ScriptLines.{rule_words, event_words, line_of, script_of, IsRuleOf, IsEventOf, LinesReadBack, ScriptsReadBack}
 

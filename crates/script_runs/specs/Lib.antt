@@ -1,5 +1,4 @@
 pub mod Limits
-pub mod Report
 pub mod Script
 pub mod ScriptLines
 pub mod Runs

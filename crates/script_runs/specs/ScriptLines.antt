@@ -11,7 +11,7 @@ use Rattle.site_core.specs.Limits.{longest_piece}
 use Rattle.script_runs.specs.declared.event.ScriptEvent.{ScriptEvent}
 use Rattle.script_runs.specs.declared.event.ScriptEvent.TheVariants as event
 use Rattle.script_runs.specs.Limits.{most_bytes, most_rules}
-use Rattle.script_runs.specs.Report.{office_name, record_name}
+use Rattle.run_reports.specs.Report.{office_name, record_name}
 use Rattle.script_runs.specs.Script.{said_of, acts_with, IsScript}
 
 -- a rule's words

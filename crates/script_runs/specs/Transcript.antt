@@ -26,7 +26,7 @@ use Rattle.frame_world.specs.Headline.{programs, outcomes}
 use Rattle.world_schedule.specs.Readers.{unfinished_in}
 use Rattle.script_runs.specs.declared.said.Said.{Said}
 use Rattle.script_runs.specs.declared.said.Said.TheVariants.{Replied, Rules}
-use Rattle.script_runs.specs.Report.{outcome_line, value_lines}
+use Rattle.run_reports.specs.Report.{outcome_line, value_lines}
 use Rattle.script_runs.specs.Script.{Act}
 use Rattle.script_runs.specs.Runs.{Told, run_of, all_told}
 

@@ -5,18 +5,17 @@
 //! - [`transcript::transcript`] runs one from the plan's opening, and answers what is printed: a line for each event, and
 //!   then the report of the world that it leads to (clause `text`). What the report tells of sessions and values is what
 //!   these sessions do alone, one after another in the order of the report (clause `serial`).
-//! - [`report`] has the lines of outcomes and of records, which other commands print too.
 //! - [`laws`] says that the line which prints an event reads back as that event.
 //!
 //! Which acts a line asks for is in `specs/Script.antt`, what they do in `specs/Runs.antt`, over the world of
-//! `frame_world`; what is printed in `specs/Transcript.antt` and `specs/Report.antt`.
+//! `frame_world`; what is printed in `specs/Transcript.antt`, and the lines of outcomes and of values in the crate
+//! `run_reports`.
 #![tactic(auto)]
 
 mod event;
 mod fault;
 pub mod laws;
 mod limits;
-pub mod report;
 mod said;
 pub mod script;
 pub mod transcript;

@@ -9,7 +9,7 @@ ghost use Rattle.frame_codec.specs.Version01.{spelling};
 ghost use Rattle.site_core.specs.declared.reply.Reply.TheVariants as replies;
 ghost use Rattle.frame_world.specs.Worlds.{opening};
 ghost use Rattle.frame_world.specs.Headline.{outcomes};
-ghost use Rattle.script_runs.specs.Report.{outcome_line, value_lines};
+ghost use Rattle.run_reports.specs.Report.{outcome_line, value_lines};
 ghost use Rattle.script_runs.specs.Script.{act_with, acts_with};
 ghost use Rattle.script_runs.specs.Runs.{as_said, run_of, all_told, does};
 ghost use Rattle.script_runs.specs.Script as scripts;
@@ -17,12 +17,12 @@ ghost use Rattle.script_runs.specs.Transcript.{bottle_value, told_line, said_lin
 ghost use Rattle.script_runs.specs.refinement.Steps.{Answers, Says};
 
 use crate::event::ScriptEvent;
-use crate::report::{add_outcome, add_value};
 use crate::said::Said;
 use crate::script::nth;
 use frame_codec::{Frame, FrameFault, MAX_LENGTH, encode};
 use frame_world::WorldRefusal;
 use office_map::{OfficeId, Plan, RecordId};
+use run_reports::report::{add_outcome, add_value};
 use session_language::Program;
 use site_core::Reply;
 use std::alloc::{AllocError, Global};

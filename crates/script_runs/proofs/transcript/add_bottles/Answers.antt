@@ -1,9 +1,9 @@
 use Rattle.std.proofs.Common.{◌≡◌, ◌++◌, ℕ, List, sym, ap, ap₂, ◌∙◌, append_assoc, get_or}
 use Rattle.std.specs.String.{string_bytes}
 use Rattle.bottle_values.specs.Arithmetic.{nought}
-use Rattle.script_runs.specs.Report.{value_line}
+use Rattle.run_reports.specs.Report.{value_line}
 use Rattle.script_runs.specs.Transcript.{bottle_value}
-use Rattle.script_runs.proofs.Rows.{rows_more}
+use Rattle.run_reports.proofs.Rows.{rows_more}
 use Rattle.script_runs.proofs.transcript.add_bottles.Goals as goal
 
 pub loop-i-preserved : goal.loop-i-preserved

@@ -1,7 +1,7 @@
 use Rattle.std.proofs.Common.{◌≡◌, ◌++◌}
 use Rattle.std.specs.List.{flat_map, range_with_len}
 use Rattle.std.specs.String.{string_bytes}
-use Rattle.script_runs.specs.Report.{value_line}
+use Rattle.run_reports.specs.Report.{value_line}
 use Rattle.script_runs.specs.Transcript.{bottle_value}
 use Rattle.script_runs.proofs.transcript.add_bottles.Given as goal
 

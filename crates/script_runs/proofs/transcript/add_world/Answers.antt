@@ -3,7 +3,7 @@ use Rattle.std.specs.List.{flat_map}
 use Rattle.std.specs.String.{string_bytes}
 use Rattle.frame_world.specs.Headline.{outcomes}
 use Rattle.world_schedule.specs.Readers.{unfinished_in}
-use Rattle.script_runs.specs.Report.{outcome_line, value_lines}
+use Rattle.run_reports.specs.Report.{outcome_line, value_lines}
 use Rattle.script_runs.specs.Transcript.{unfinished_line, bottle_value}
 use Rattle.script_runs.proofs.Rows.{three_added}
 use Rattle.script_runs.proofs.transcript.add_world.Goals as goal

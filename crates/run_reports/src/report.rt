@@ -1,14 +1,14 @@
-//! What a command prints of sessions and of records.
+//! The lines of outcomes and of values.
 
 ghost use Rattle.std.specs.Prelude.{◌≡◌, ◌++◌, ◌∷◌, [], codes, length, IfOk, OnOk};
 ghost use Rattle.std.specs.List.{flat_map};
 ghost use Rattle.std.specs.String.{string_bytes};
-ghost use Rattle.script_runs.specs.Report.{office_name, record_name, end_text, listed, record_text, value_text, title, outcome_line, value_at, value_line, value_lines, report_of};
+ghost use Rattle.run_reports.specs.Report.{office_name, record_name, end_text, listed, record_text, value_text, title, outcome_line, value_at, value_line, value_lines, report_of};
 
 use bottle_values::Value;
 use itoa::Buffer;
 use office_map::{OfficeId, Plan, RecordId};
-use session_language::{End, Outcome};
+use session_meaning::{End, Outcome};
 use std::alloc::{AllocError, Global};
 
 /// One line for each outcome, in this order, and then one line for each record, in order of number.
@@ -30,7 +30,8 @@ pub fn report(
     Ok(text)
 }
 
-pub(crate) fn add_outcome(
+/// The line of an outcome is added. Where memory runs out, a part of it may be.
+pub fn add_outcome(
     text: &mut String,
     plan: &Plan,
     outcome: &Outcome,
@@ -128,7 +129,8 @@ fn add_values(text: &mut String, plan: &Plan, values: &[Value]) -> Result<(), Al
     Ok(())
 }
 
-pub(crate) fn add_value(
+/// The line of a record with its value is added. Where memory runs out, a part of it may be.
+pub fn add_value(
     text: &mut String,
     plan: &Plan,
     id: RecordId,

@@ -1,4 +1,4 @@
--- What a command prints of sessions and of records.
+-- What is printed of sessions and of records.
 use Rattle.std.specs.Prelude.{ℕ, List, [], ◌∷◌, ◌++◌, length, codes, unwrap_or, pos}
 use Rattle.std.specs.List.{flat_map, range_with_len, slice_index_or}
 use Rattle.std.specs.Fmt.{decimal, signed_decimal}

@@ -1,8 +1,8 @@
 use Rattle.std.proofs.Common.{◌≡◌, ◌++◌, ℕ, List, sym, ap, ◌∙◌, append_assoc}
 use Rattle.std.specs.String.{string_bytes}
-use Rattle.script_runs.specs.Report.{value_at, value_line}
-use Rattle.script_runs.proofs.Rows.{rows_more}
-use Rattle.script_runs.proofs.report.add_values.Goals as goal
+use Rattle.run_reports.specs.Report.{value_at, value_line}
+use Rattle.run_reports.proofs.Rows.{rows_more}
+use Rattle.run_reports.proofs.report.add_values.Goals as goal
 
 pub loop-i-preserved : goal.loop-i-preserved
 loop-i-preserved c =
