@@ -1,6 +1,5 @@
 -- What a pass that holds the office adds to it, and what it has seen when it has given the office back.
 use Rattle.std.proofs.Common.{◌≡◌, ℕ, List, [], ◌∷◌, ◌++◌, Result, Ok, Err, IfOk, OnErr, refl, sym, ap, subst, ◌∙◌}
-use Rattle.frame_codec.specs.Frame.{Fields}
 use Rattle.own_lock.specs.Entries.{Every, AddsOnly}
 use mathlib.Core.List.{IsPrefix}
 use Rattle.own_lock.specs.Passes.{LockView, IsOf, pass_after_take}
@@ -9,10 +8,11 @@ use Rattle.site_core.specs.declared.event.Event.{Event}
 use Rattle.site_core.specs.declared.event.Event.TheVariants.{Took}
 use Rattle.site_core.specs.declared.reply.Reply.{Reply}
 use Rattle.site_core.specs.declared.reply.Refusal.{Refusal}
-use Rattle.site_core.specs.Journals.{Site, IsLegal, noted, Steps, Receives, Adds, StepsAddTheirEntry}
+use Rattle.site_core.specs.Journals.{Site, IsLegal, noted, Steps, Receives, TakesFrame, Adds, StepsAddTheirEntry}
 use Rattle.locked_office.specs.declared.advance.Stopped.{Stopped}
 use Rattle.locked_office.specs.Calls.{Key, DeskPass, tag_of, office_with, Stays, Did, Does}
-use Rattle.locked_office.specs.Advance.{extended, AreNext, Advances}
+use Rattle.site_core.specs.RulesInTurn.{extended, AreNext}
+use Rattle.locked_office.specs.Advance.{Advances}
 use Rattle.locked_office.specs.refinement.Holding.{Holds, Came}
 use Rattle.locked_office.proofs.Walk.{extended_none}
 
@@ -32,9 +32,9 @@ pub grew_by : (tag : ℕ) (s s' : Site) (e : Event) (result : Result Reply Refus
 grew_by tag s s' e (Ok r) a = grew_noted tag s s' e r a
 grew_by tag s s' e (Err r) a = grew_none tag s s' a
 
-pub grew_by_bytes : (tag : ℕ) (s s' : Site) (result : Result Reply Refusal) → IfOk result (λ r. (f : Fields) × (s' ≡ noted s tag (Took f) r)) → OnErr result (s' ≡ s) → Grew tag s s'
-grew_by_bytes tag s s' (Ok r) a b = grew_noted tag s s' (Took a.0) r a.1
-grew_by_bytes tag s s' (Err r) a b = grew_none tag s s' b
+pub grew_by_bytes : (tag : ℕ) (s s' : Site) (bytes : List ℕ) (result : Result Reply Refusal) → IfOk result (λ r. TakesFrame s tag bytes r s') → OnErr result (s' ≡ s) → Grew tag s s'
+grew_by_bytes tag s s' bytes (Ok r) a b = grew_noted tag s s' (Took a.0) r a.2
+grew_by_bytes tag s s' bytes (Err r) a b = grew_none tag s s' b
 
 next_tagged : (tag : ℕ) (s : Site) (xs : List Entry) → AreNext tag s xs → Every (λ (e : Entry). tag_of e ≡ tag) xs
 next_tagged tag s [] a = tt
@@ -82,18 +82,26 @@ event_did law desk p q t e result held s s' h same tag steps seen legal own =
 
 -- ---- bytes that are handed in
 
-bytes_grew : (p : DeskPass) (t : ℕ) (result : Result Reply Refusal) (s s' : Site) → t ≡ p.tag → IfOk result (λ r. (f : Fields) × (s' ≡ noted s t (Took f) r)) → OnErr result (s' ≡ s) → Grew p.tag s s'
-bytes_grew p t result s s' tag entry unchanged = subst (λ n. Grew n s s') tag (grew_by_bytes t s s' result entry unchanged)
+bytes_grew : (p : DeskPass) (t : ℕ) (bytes : List ℕ) (result : Result Reply Refusal) (s s' : Site) → t ≡ p.tag → IfOk result (λ r. TakesFrame s t bytes r s') → OnErr result (s' ≡ s) → Grew p.tag s s'
+bytes_grew p t bytes result s s' tag entry unchanged = subst (λ n. Grew n s s') tag (grew_by_bytes t s s' bytes result entry unchanged)
 
-pub bytes_add : (desk : LockView Key) (p : DeskPass) (t : ℕ) (result : Result Reply Refusal) (held s s' : Site) → Holds desk p held → s ≡ held → t ≡ p.tag → IfOk result (λ r. (f : Fields) × (s' ≡ noted s t (Took f) r)) → OnErr result (s' ≡ s) →
+pub bytes_add : (desk : LockView Key) (p : DeskPass) (t : ℕ) (bytes : List ℕ) (result : Result Reply Refusal) (held s s' : Site) → Holds desk p held → s ≡ held → t ≡ p.tag → IfOk result (λ r. TakesFrame s t bytes r s') → OnErr result (s' ≡ s) →
     AddsOnly tag_of p.tag p.seen s'.entries
-bytes_add desk p t result held s s' h same tag entry unchanged = adds_only desk p s s' (still desk p held s h same) (bytes_grew p t result s s' tag entry unchanged)
+bytes_add desk p t bytes result held s s' h same tag entry unchanged = adds_only desk p s s' (still desk p held s h same) (bytes_grew p t bytes result s s' tag entry unchanged)
 
 pub bytes_did : (desk : LockView Key) (p q : DeskPass) (t : ℕ) (bytes : List ℕ) (result : Result Reply Refusal) (held s s' : Site) → Holds desk p held → s ≡ held → t ≡ p.tag → Receives s t bytes result s' →
-    IfOk result (λ r. (f : Fields) × (s' ≡ noted s t (Took f) r)) → OnErr result (s' ≡ s) → q.seen ≡ s'.entries → IsLegal s' → ((added : List Entry) → p.seen ++ added ≡ s'.entries → q.mine ≡ p.mine ++ added) →
+    IfOk result (λ r. TakesFrame s t bytes r s') → OnErr result (s' ≡ s) → q.seen ≡ s'.entries → IsLegal s' → ((added : List Entry) → p.seen ++ added ≡ s'.entries → q.mine ≡ p.mine ++ added) →
     Did (λ x x'. Receives x p.tag bytes result x') desk.key p q
 bytes_did desk p q t bytes result held s s' h same tag answer entry unchanged seen legal own =
-    did (λ x x'. Receives x p.tag bytes result x') desk p q s s' (still desk p held s h same) (bytes_grew p t result s s' tag entry unchanged) (subst (λ n. Receives s n bytes result s') tag answer) seen legal own
+    did (λ x x'. Receives x p.tag bytes result x') desk p q s s' (still desk p held s h same) (bytes_grew p t bytes result s s' tag entry unchanged) (subst (λ n. Receives s n bytes result s') tag answer) seen legal own
+
+-- a frame that was taken is the one entry that was added
+pub frame_taken : (desk : LockView Key) (p q : DeskPass) (t : ℕ) (bytes : List ℕ) (result : Result Reply Refusal) (held s s' : Site) → Holds desk p held → s ≡ held → t ≡ p.tag →
+    IfOk result (λ r. TakesFrame s t bytes r s') → q.seen ≡ s'.entries → IsLegal s' → ((added : List Entry) → p.seen ++ added ≡ s'.entries → q.mine ≡ p.mine ++ added) →
+    IfOk result (λ r. Did (λ x x'. TakesFrame x p.tag bytes r x') desk.key p q)
+frame_taken desk p q t bytes (Ok r) held s s' h same tag entry seen legal own =
+    did (λ x x'. TakesFrame x p.tag bytes r x') desk p q s s' (still desk p held s h same) (bytes_grew p t bytes (Ok r) s s' tag entry tt) (subst (λ n. TakesFrame s n bytes r s') tag entry) seen legal own
+frame_taken desk p q t bytes (Err e) held s s' h same tag entry seen legal own = tt
 
 -- ---- rules that come next
 

@@ -1,11 +1,11 @@
 //! What each call does with the office that its pass holds. It gives the office back.
 
-ghost use Rattle.std.specs.Prelude.{◌≡◌, ◌++◌, List, true, IfOk, take, drop};
+ghost use Rattle.std.specs.Prelude.{◌≡◌, ◌≢◌, ◌++◌, List, [], true, None, IfOk, OnErr, take, drop};
 ghost use Rattle.own_lock.specs.Entries.{AddsOnly};
 ghost use Rattle.own_lock.specs.Passes.{IsOf};
 ghost use Rattle.site_core.specs.declared.event.Entry.{Entry as Entries};
 ghost use Rattle.site_core.specs.declared.event.Event.TheVariants as events;
-ghost use Rattle.site_core.specs.Journals.{IsLegal, Steps, Receives};
+ghost use Rattle.site_core.specs.Journals.{IsLegal, Steps, Receives, TakesFrame};
 ghost use Rattle.locked_office.specs.Calls.{Stays, Did, tag_of, office_with};
 ghost use Rattle.locked_office.specs.Advance.{Advances};
 ghost use Rattle.locked_office.specs.Outcomes.{outcome_of, waiting_for};
@@ -62,6 +62,7 @@ pub fn took(
     requires { Holds lock.now pass.old held }
     ensures stays { Stays lock.now pass.old pass.new }
     ensures did { Did (λ s s'. Receives s pass.old.tag bytes.now result s') lock.now.key pass.old pass.new }
+    ensures entry { IfOk result (λ reply. Did (λ s s'. TakesFrame s pass.old.tag bytes.now reply s') lock.now.key pass.old pass.new) }
 {
     let reply = held.state().receive(pass.tag(), bytes);
     give_back(lock, pass, held);
@@ -114,6 +115,7 @@ pub fn outcome(
     ensures stays { Stays lock.now pass.old pass.new }
     ensures looked { Did (λ s s'. s' ≡ s) lock.now.key pass.old pass.new }
     ensures outcome { IfOk result (λ o. o ≡ outcome_of (office_with lock.now.key pass.new.seen) ticket) }
+    ensures memory { OnErr result (outcome_of (office_with lock.now.key pass.new.seen) ticket ≢ None) }
 {
     let outcome = copied_outcome(alloc, held.get(), ticket);
     give_back(lock, pass, held);
@@ -125,7 +127,8 @@ fn copied_outcome(
     office: &Office,
     ticket: u32,
 ) -> Result<Option<Outcome>, AllocError>
-    ensures { IfOk result (λ o. o ≡ outcome_of office.now ticket) }
+    ensures outcome { IfOk result (λ o. o ≡ outcome_of office.now ticket) }
+    ensures memory { OnErr result (outcome_of office.now ticket ≢ None) }
 {
     match office.outcome(ticket) {
         Some(outcome) => Ok(Some(outcome.copy(alloc)?)),
@@ -169,6 +172,7 @@ pub fn journal_part(
     ensures stays { Stays lock.now pass.old pass.new }
     ensures looked { Did (λ s s'. s' ≡ s) lock.now.key pass.old pass.new }
     ensures part { IfOk result (λ v. v.items ≡ take most (drop from pass.new.seen)) }
+    ensures memory { OnErr result (take most (drop from pass.new.seen) ≢ []) }
 {
     let part = held.get().journal().part(alloc, from, most);
     give_back(lock, pass, held);

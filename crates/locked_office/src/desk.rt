@@ -1,11 +1,11 @@
 //! The desk of an office.
 
-ghost use Rattle.std.specs.Prelude.{◌≡◌, ◌<◌, ◌≤◌, false, IfOk, IfErr, IfSome, take, drop};
+ghost use Rattle.std.specs.Prelude.{◌≡◌, ◌≢◌, ◌<◌, ◌≤◌, false, None, [], IfOk, IfErr, IfSome, OnErr, take, drop};
 ghost use mathlib.Core.List.{IsPrefix};
-ghost use Rattle.own_lock.specs.Entries.{tagged};
+ghost use Rattle.own_lock.specs.Entries.{longer, tagged};
 ghost use Rattle.own_lock.specs.Passes.{IsOf, AreFresh, AreIdle};
 ghost use Rattle.site_core.specs.declared.event.Event.TheVariants as events;
-ghost use Rattle.site_core.specs.Journals.{IsLegal, Steps, Receives};
+ghost use Rattle.site_core.specs.Journals.{IsLegal, Steps, Receives, TakesFrame};
 ghost use Rattle.locked_office.specs.Calls.{Stays, Does, Looks, tag_of, office_with};
 ghost use Rattle.locked_office.specs.Advance.{Advances};
 ghost use Rattle.locked_office.specs.Outcomes.{outcome_of, waiting_for};
@@ -52,6 +52,7 @@ impl Desk {
         ensures key { IfOk result (λ r. r.0.key ≡ (office.plan, office.me)) }
         ensures fresh { IfOk result (λ r. AreFresh r.0 tag_of office.entries passes r.1.items) }
         ensures idle { IfOk result (λ r. AreIdle r.0 r.1.items) }
+        ensures legal { IsLegal office }
     {
         // Its journal is legal.
         let _ = office.journal();
@@ -78,18 +79,20 @@ impl Desk {
         lock.close(pass)
     }
 
-    /// The second pass learns what the first one has seen. The first one is given up.
+    /// The second pass learns what the first one has seen: one of them has seen the beginning of what the other has, and the
+    /// longer journal is the second one's now. The first one is given up.
     pub fn meet(&self, first: Pass<Office>, second: &mut Pass<Office>)
         requires first_of { IsOf self.now first }
         requires second_of { IsOf self.now second.old }
         requires first_idle { first.holds ≡ false }
         requires second_idle { second.old.holds ≡ false }
-        ensures same { second.new ≡ record second.old { seen = second.new.seen } }
+        ensures seen { second.new ≡ record second.old { seen = longer second.old.seen first.seen } }
         ensures stays { Stays self.now second.old second.new }
         ensures first { IsPrefix first.seen second.new.seen }
         ensures second { IsPrefix second.old.seen second.new.seen }
         ensures first_mine { tagged tag_of first.tag second.new.seen ≡ first.mine }
         ensures mine { tagged tag_of second.old.tag second.new.seen ≡ second.old.mine }
+        ensures legal { IsLegal (office_with self.now.key first.seen) → IsLegal (office_with self.now.key second.old.seen) → IsLegal (office_with self.now.key second.new.seen) }
     {
         self.lock.meet(first, second);
     }
@@ -165,6 +168,7 @@ impl Desk {
         requires idle { pass.old.holds ≡ false }
         ensures stays { Stays self.now pass.old pass.new }
         ensures taken { Does (λ s s'. Receives s pass.old.tag bytes.now result s') self.now.key pass.old pass.new }
+        ensures entry { IfOk result (λ reply. Does (λ s s'. TakesFrame s pass.old.tag bytes.now reply s') self.now.key pass.old pass.new) }
     {
         let held = self.hold(rt, pass);
         calls::took(&self.lock, pass, held, bytes)
@@ -183,6 +187,7 @@ impl Desk {
         requires idle { pass.old.holds ≡ false }
         ensures stays { Stays self.now pass.old pass.new }
         ensures taken { IfOk result (λ answer. Does (λ s s'. Receives s pass.old.tag bytes.now answer s') self.now.key pass.old pass.new) }
+        ensures entry { IfOk result (λ answer. IfOk answer (λ reply. Does (λ s s'. TakesFrame s pass.old.tag bytes.now reply s') self.now.key pass.old pass.new)) }
         ensures busy { IfErr result (λ _. pass.new ≡ pass.old) }
     {
         let held = self.try_hold(pass)?;
@@ -229,7 +234,7 @@ impl Desk {
         calls::advance(&self.lock, pass, held, most)
     }
 
-    /// How the session with that ticket ended; none where it hasn't finished.
+    /// How the session with that ticket ended; none where it hasn't finished, and then no memory is taken.
     pub fn outcome<R: Wait>(
         &self,
         rt: &R,
@@ -241,6 +246,7 @@ impl Desk {
         ensures stays { Stays self.now pass.old pass.new }
         ensures looked { Looks self.now.key pass.old pass.new }
         ensures outcome { IfOk result (λ o. o ≡ outcome_of (office_with self.now.key pass.new.seen) ticket) }
+        ensures memory { OnErr result (outcome_of (office_with self.now.key pass.new.seen) ticket ≢ None) }
     {
         let held = self.hold(rt, pass);
         calls::outcome(&self.lock, pass, held, self.alloc, ticket)
@@ -260,6 +266,7 @@ impl Desk {
         ensures stays { Stays self.now pass.old pass.new }
         ensures looked { IfOk result (λ _. Looks self.now.key pass.old pass.new) }
         ensures outcome { IfOk result (λ answer. IfOk answer (λ o. o ≡ outcome_of (office_with self.now.key pass.new.seen) ticket)) }
+        ensures memory { IfOk result (λ answer. OnErr answer (outcome_of (office_with self.now.key pass.new.seen) ticket ≢ None)) }
         ensures busy { IfErr result (λ _. pass.new ≡ pass.old) }
     {
         let held = self.try_hold(pass)?;
@@ -287,7 +294,8 @@ impl Desk {
         calls::waiting(&self.lock, pass, held, v)
     }
 
-    /// Copies of the first so many entries of the journal from this place on, from 0; of fewer where it ends before.
+    /// Copies of the first so many entries of the journal from this place on, from 0; of fewer where it ends before. Where there
+    /// is none, no memory is taken.
     pub fn journal_part<R: Wait>(
         &self,
         rt: &R,
@@ -300,6 +308,7 @@ impl Desk {
         ensures stays { Stays self.now pass.old pass.new }
         ensures looked { Looks self.now.key pass.old pass.new }
         ensures part { IfOk result (λ v. v.items ≡ take most (drop from pass.new.seen)) }
+        ensures memory { OnErr result (take most (drop from pass.new.seen) ≢ []) }
     {
         let held = self.hold(rt, pass);
         calls::journal_part(&self.lock, pass, held, self.alloc, from, most)

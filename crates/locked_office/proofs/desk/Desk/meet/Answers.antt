@@ -1,8 +1,8 @@
 use Rattle.std.proofs.Common.{rules}
 use Rattle.locked_office.proofs.desk.Desk.meet.Goals as goal
 
-pub returns-clause-same : goal.returns-clause-same
-returns-clause-same c = cc
+pub returns-clause-seen : goal.returns-clause-seen
+returns-clause-seen c = cc
 
 pub returns-clause-stays : goal.returns-clause-stays
 returns-clause-stays c = search rules
