@@ -1,4 +1,4 @@
-use Rattle.std.proofs.Common.{arith, not, sym, ◌∙◌}
+use Rattle.std.proofs.Common.{not, sym, ◌∙◌}
 use Rattle.std.proofs.lemmas.List.Sums.{prefix_len-le-length}
 use Rattle.office_map.specs.Text.{is_blank}
 use Rattle.office_map.proofs.FirstWord.{first_word_cut}
