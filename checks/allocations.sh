@@ -1,7 +1,7 @@
 #!/bin/sh
 # Refuses each allocation of the program in turn, the first, the second and so on, until a run needs no more. Each such run
-# has to say that memory ran out, with status 1 and nothing written; only a run that was refused nothing may answer. It
-# fails where one doesn't. It needs a program that is built, and a C compiler.
+# has to say that memory ran out and nothing else, with status 1 and nothing written, or to end as a run that is refused
+# nothing. It fails where one doesn't. It needs a program that is built, and a C compiler. checks/program calls it.
 #
 #   sh checks/allocations.sh [PROGRAM]        PROGRAM is crates/drink/out/drink where it is left out
 set -eu
@@ -56,31 +56,30 @@ cc -O2 -shared -fPIC -o "$work/refuse.so" "$work/refuse.c" -ldl
 row() {
     name=$1
     shift
-    "$program" "$@" < "$work/in" > "$work/wanted" 2> "$work/err"
-    refused=0
+    wanted=0
+    "$program" "$@" < "$work/in" > "$work/out.wanted" 2> "$work/err.wanted" || wanted=$?
+    n=0
     answered=0
-    n=1
     while :; do
+        n=$((n + 1))
         status=0
         REFUSED=$n LD_PRELOAD="$work/refuse.so" "$program" "$@" < "$work/in" > "$work/out" 2> "$work/err" 3> "$work/told" || status=$?
-        if [ ! -s "$work/told" ]; then
-            break
-        fi
-        refused=$((refused + 1))
-        if [ "$status" -eq 1 ] && [ ! -s "$work/out" ] && grep -q 'out of memory' "$work/err"; then
+        [ -s "$work/told" ] || break
+        if [ "$status" -eq 1 ] && [ ! -s "$work/out" ] && cmp -s "$work/err" "$work/memory"; then
             :
-        elif [ "$status" -eq 0 ] && cmp -s "$work/out" "$work/wanted"; then
+        elif [ "$status" -eq "$wanted" ] && cmp -s "$work/out" "$work/out.wanted" && cmp -s "$work/err" "$work/err.wanted"; then
             answered=$((answered + 1))
         else
             echo "checks/allocations.sh: $name, allocation $n: status $status" >&2
             head -n 3 "$work/out" "$work/err" >&2
-            exit 1
+            failed=$((failed + 1))
         fi
-        n=$((n + 1))
     done
-    echo "| $name | $refused | $((refused - answered)) | $answered |"
+    echo "| $name | $((n - 1)) | $((n - 1 - answered)) | $answered |"
 }
 
+echo "drink: out of memory" > "$work/memory"
+failed=0
 examples=$top/examples
 echo "| Run | Allocations | Out of memory, nothing written | Right answer all the same |"
 echo "|---|---|---|---|"
@@ -93,3 +92,10 @@ row "sim, shared_stock" sim "$stock/plan.txt" "$stock/sessions.txt" "$stock/scri
 ledger=$examples/branch_ledger
 { cat "$ledger/plan.txt"; echo ---; cat "$ledger/sessions.txt"; } > "$work/in"
 row "serial - -" serial - -
+row "serial, no such file" serial "$work/nowhere" -
+row "serial, a plan that is refused" serial "$ledger/sessions.txt" -
+row "serial, a word too few" serial -
+row "no words"
+row "--help" --help
+row "--version" --version
+[ "$failed" -eq 0 ] || { echo "checks/allocations.sh: $failed runs ended otherwise" >&2; exit 1; }
