@@ -12,6 +12,7 @@ use std::test::Fail;
 use world_schedule::{Finished, World};
 
 mod drawn;
+mod foretold;
 
 /// Two offices, and two records of theirs.
 const PAIR: &str =
@@ -218,32 +219,18 @@ fn played(alloc: Global, plan: &str, sessions: &str, steps: &[Step]) -> Result<S
     told_by(alloc, &mut world, &events)
 }
 
-/// The events are run. Where memory runs out the world is as it was before the event that is next, with which it goes on.
+/// The events are run, and what the world tells then.
 fn told_by(alloc: Global, world: &mut World, events: &[WorldEvent]) -> Result<String, Fail> {
     let mut text = String::new(alloc);
-    let mut rest = events;
-    for _ in 0..4 {
-        match world.run(rest) {
-            Ok(replies) => {
-                tell(&mut text, &replies)?;
-                break;
-            }
-            Err(stopped) => rest = left(rest, stopped.done),
-        }
+    match world.run(events) {
+        Ok(replies) => tell(&mut text, &replies)?,
+        Err(_) => return Err(Fail::from("the run stopped")),
     }
     tell_outcomes(&mut text, world)?;
     let unfinished = world.unfinished();
     write!(text, "unfinished {unfinished}; ")?;
     tell_values(&mut text, world)?;
     Ok(text)
-}
-
-/// The events after so many.
-fn left(events: &[WorldEvent], done: usize) -> &[WorldEvent] {
-    match events.get(done..) {
-        Some(rest) => rest,
-        None => events,
-    }
 }
 
 fn events_of(

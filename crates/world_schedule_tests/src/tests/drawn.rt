@@ -3,11 +3,10 @@
 ghost use Rattle.std.specs.Prelude.{All, IfOk, IsTrue};
 ghost use Rattle.session_language.specs.Program.{fits};
 
+use super::foretold::{Seen, seen_of};
 use super::{describe, tell_outcomes, tell_values};
 use frame_world::WorldRefusal;
-use office_map::{OfficeId, Plan};
-use rand_core::utils::NextWord;
-use rand_pcg::Pcg64;
+use office_map::Plan;
 use serial_replay::{Replay, serial};
 use session_language::{Program, read_sessions};
 use site_core::Reply;
@@ -37,27 +36,37 @@ impl Shape {
     }
 }
 
-/// Offices, pairs, and a number from which the events are drawn.
-static DRAWN: [(u8, Shape, u64); 5] = [
-    (2, Shape::All, 1),
-    (3, Shape::Ring, 20),
-    (5, Shape::All, 300),
-    (16, Shape::Star, 4000),
-    (16, Shape::Ring, 50000),
+/// Offices, pairs, a number from which the events are drawn, and how many of them.
+static DRAWN: [(u8, Shape, u64, usize); 5] = [
+    (2, Shape::All, 1, 240_000),
+    (3, Shape::Ring, 20, 20_000),
+    (5, Shape::All, 300, 20_000),
+    (16, Shape::Star, 4000, 20_000),
+    (16, Shape::Ring, 50000, 20_000),
 ];
 
-/// Of 20,000 drawn events, with frames that get lost, come again or come late, the finished sessions are those of their
-/// serial run, and so are the values.
+/// Of drawn events, with frames that get lost, come again or come late, the finished sessions are those of their serial run,
+/// and so are the values. Each event is answered as the readers foretell. The first thousand, as one run in another world, get
+/// the same answers. Every kind of answer comes but those of bytes that are no frame, of a frame that is refused, of a full
+/// journal and of want of memory; and one of the worlds sends 20,000 frames.
 #[test]
 fn drawn_schedules_are_serial(rt: HostRuntime) -> Result<(), Fail> {
     let alloc = rt.alloc();
-    for (offices, shape, seed) in &DRAWN {
+    let mut kinds = 0;
+    let mut most = 0;
+    for (offices, shape, seed, events) in &DRAWN {
         let plan = plan_text(alloc, *offices, *shape)?;
         let sessions = sessions_text(alloc, *offices, *shape)?;
-        let (told, alone) = drawn(alloc, plan.as_str(), sessions.as_str(), *seed)?;
-        assert!(rt; told.len() > 1000, "of {seed}");
-        assert_eq!(rt; told.as_str(), alone.as_str(), "of {seed}");
+        let drawn = drawn(alloc, plan.as_str(), sessions.as_str(), *seed, *events)?;
+        assert_eq!(rt; drawn.seen.strange, None, "the first of {seed}");
+        assert!(rt; drawn.told.len() > 1000, "of {seed}");
+        assert_eq!(rt; drawn.told.as_str(), drawn.alone.as_str(), "of {seed}");
+        assert_eq!(rt; drawn.again, 1000, "of {seed}");
+        kinds |= drawn.seen.kinds;
+        most = most.max(drawn.seen.sent.len());
     }
+    assert_eq!(rt; kinds, 0b1111_1111_1111);
+    assert!(rt; most >= 20_000, "{most}");
     Ok(())
 }
 
@@ -114,59 +123,60 @@ fn lines_of(
     Ok(())
 }
 
-/// What a world tells after drawn events, and what the serial run of its finished sessions tells.
-fn drawn(alloc: Global, plan: &str, sessions: &str, seed: u64) -> Result<(String, String), Fail> {
-    let plan = Plan::read(alloc, plan.as_bytes())?;
-    let programs = read_sessions(alloc, sessions.as_bytes(), &plan)?;
-    let mut world = World::open(alloc, plan)?;
-    draw_all(&mut world, &programs, seed);
+/// What came of drawn events.
+#[derive(Drop)]
+struct Course {
+    /// What was answered.
+    seen: Seen,
+    /// What the world tells.
+    told: String,
+    /// What the serial run of its finished sessions tells.
+    alone: String,
+    /// How many of the first events get the same answers in one run.
+    again: usize,
+}
+
+fn drawn(
+    alloc: Global,
+    plan: &str,
+    sessions: &str,
+    seed: u64,
+    events: usize,
+) -> Result<Course, Fail> {
+    let read = Plan::read(alloc, plan.as_bytes())?;
+    let programs = read_sessions(alloc, sessions.as_bytes(), &read)?;
+    let mut world = World::open(alloc, read)?;
+    let seen = seen_of(alloc, &mut world, &programs, seed, events)?;
     let told = finishing(alloc, &world)?;
     let alone = alone_in_order(alloc, &world, &programs)?;
-    Ok((told, alone))
+    let again = run_again(alloc, plan, &seen)?;
+    Ok(Course {
+        seen,
+        told,
+        alone,
+        again,
+    })
 }
 
-fn draw_all(world: &mut World, programs: &[Program], seed: u64) {
-    let mut words = Pcg64::new(u128::from(seed), 54);
-    for _ in 0..20_000 {
-        let draw = words.next_word();
-        let _ = take_drawn(world, programs, draw);
+/// How many answers of one run of the first events are as they were.
+fn run_again(alloc: Global, plan: &str, seen: &Seen) -> Result<usize, Fail> {
+    let plan = Plan::read(alloc, plan.as_bytes())?;
+    let mut world = World::open(alloc, plan)?;
+    match world.run(&seen.events) {
+        Ok(replies) => Ok(same(&replies, &seen.replies)),
+        Err(_) => Err(Fail::from("the run stopped")),
     }
 }
 
-/// An event, of the bits of a drawn number: an office goes on, or sends what waits for a neighbour, or one of the last
-/// frames comes.
-fn take_drawn(world: &mut World, programs: &[Program], draw: u64) -> Result<Reply, WorldRefusal> {
-    let offices = world.offices().len() as u64;
-    let at = ((draw >> 33).checked_rem(offices).unwrap_or(0) % 256) as u8;
-    let to = ((draw >> 41).checked_rem(offices).unwrap_or(0) % 256) as u8;
-    let small = ((draw >> 49) % 32) as usize;
-    match (draw >> 55) % 8 {
-        0 | 1 | 2 | 3 => go_on(world, programs, at),
-        4 | 5 => world.send(OfficeId::new(at), OfficeId::new(to), small % 3),
-        _ => {
-            let last = world.frames();
-            world.deliver(last.saturating_sub(small))
-        }
+fn same(replies: &[Result<Reply, WorldRefusal>], others: &[Result<Reply, WorldRefusal>]) -> usize {
+    if replies.len() != others.len() {
+        return 0;
     }
-}
-
-/// The office does its next rule, or gets the one or the other of its sessions in turn.
-fn go_on(world: &mut World, programs: &[Program], at: u8) -> Result<Reply, WorldRefusal> {
-    let Some(office) = world.offices().get(at as usize) else {
-        return Err(WorldRefusal::NoOffice);
-    };
-    let tickets = office.tickets();
-    match office.next_rule() {
-        Some(rule) => world.act(OfficeId::new(at), &rule),
-        None => match session_of(programs, at, tickets) {
-            Some(program) => world.submit(OfficeId::new(at), program),
-            None => Err(WorldRefusal::NoOffice),
-        },
-    }
+    replies.iter().zip(others).filter(|(a, b)| a == b).count()
 }
 
 /// The session that an office gets after so many tickets.
-fn session_of(programs: &[Program], at: u8, tickets: u32) -> Option<&Program> {
+pub fn session_of(programs: &[Program], at: u8, tickets: u32) -> Option<&Program> {
     programs.get(at as usize * 2 + (tickets % 2) as usize)
 }
 
