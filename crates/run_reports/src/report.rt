@@ -31,11 +31,7 @@ pub fn report(
 }
 
 /// The line of an outcome is added. Where memory runs out, a part of it may be.
-pub fn add_outcome(
-    text: &mut String,
-    plan: &Plan,
-    outcome: &Outcome,
-) -> Result<(), AllocError>
+pub fn add_outcome(text: &mut String, plan: &Plan, outcome: &Outcome) -> Result<(), AllocError>
     ensures { OnOk result (string_bytes text.new ≡ string_bytes text.old ++ outcome_line plan.now outcome.now) }
 {
     add_title(text, plan, outcome)?;
