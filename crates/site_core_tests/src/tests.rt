@@ -1,12 +1,16 @@
-use frame_codec::{Frame, FrameFault, MAX_LENGTH, Msg, encode};
+use frame_codec::{Frame, MAX_LENGTH, Msg, encode};
 use office_map::{OfficeId, Plan, RecordId};
 use session_language::{Outcome, Program, read_sessions};
-use site_core::{Event, MAX_ENTRIES, MAX_UNFINISHED, Office, Refusal, Reply, Rule};
+use site_core::{Event, MAX_UNFINISHED, Office, Refusal, Reply, Rule};
 use std::alloc::{AllocError, Global};
 use std::fmt::Write;
 use std::process::Abort;
 use std::test::Fail;
 use token_channel::ChannelFault;
+
+mod refusal_order;
+mod rule_rows;
+mod shown;
 
 /// Two offices, and two records of theirs.
 const PAIR: &str =
@@ -276,15 +280,11 @@ fn take_step(
     tell(text, &reply)
 }
 
-/// An event is handed to an office; once more, if memory ran out, which leaves the office as it was.
+/// An event is handed to an office.
 fn handed(offices: &mut Vec<Office>, at: usize, event: &Event) -> Result<Reply, Refusal> {
-    let Some(office) = offices.get_mut(at) else {
-        return Err(Refusal::NotNow);
-    };
-    let entries = office.journal().len();
-    match office.step(0, event) {
-        Err(Refusal::Memory) if office.journal().len() == entries => office.step(0, event),
-        reply => reply,
+    match offices.get_mut(at) {
+        Some(office) => office.step(0, event),
+        None => Err(Refusal::NotNow),
     }
 }
 
@@ -295,15 +295,9 @@ fn delivered(offices: &mut Vec<Office>, frames: &[Frame], k: usize) -> Result<Re
     };
     let mut bytes = [0; MAX_LENGTH];
     let length = encode(frame, &mut bytes);
-    let Some(office) = offices.get_mut(frame.to() as usize) else {
-        return Err(Refusal::NotNow);
-    };
-    let entries = office.journal().len();
-    match office.receive(0, &bytes[..length]) {
-        Err(Refusal::Memory) if office.journal().len() == entries => {
-            office.receive(0, &bytes[..length])
-        }
-        reply => reply,
+    match offices.get_mut(frame.to() as usize) {
+        Some(office) => office.receive(0, &bytes[..length]),
+        None => Err(Refusal::NotNow),
     }
 }
 
@@ -495,29 +489,4 @@ fn give_a_bottle<R: Abort>(rt: &R, office: &mut Office) {
         .waiting_value(RecordId::new(r))
         .map(|(n, v)| (n, v.number)));
     assert_eq!(rt; waiting, [Some((2, 100)), None]);
-}
-
-/// A journal that is full takes no entry; a guard that is false is told before that, and what is no frame.
-#[test]
-fn a_full_journal_takes_no_entry(rt: HostRuntime) -> Result<(), Fail> {
-    let alloc = rt.alloc();
-    let plan = Plan::read(alloc, PAIR.as_bytes())?;
-    let mut offices = opened(alloc, &plan)?;
-    let Some(office) = offices.get_mut(A) else {
-        return Err(Fail::from("an office"));
-    };
-    fill_journal(&rt, office);
-    Ok(())
-}
-
-fn fill_journal<R: Abort>(rt: &R, office: &mut Office) {
-    let count = Event::Send(OfficeId::new(1), 0);
-    for _ in 0..MAX_ENTRIES {
-        assert!(rt; hand_in(office, 0, &count).is_ok());
-    }
-    assert_eq!(rt; hand_in(office, 0, &count), Err(Refusal::JournalFull));
-    assert_eq!(rt; act(office, Rule::Start), Err(Refusal::NotNow));
-    assert_eq!(rt; office.journal().len(), MAX_ENTRIES);
-    let short = office.receive(0, b"DP");
-    assert_eq!(rt; short, Err(Refusal::Frame(FrameFault::Short)));
 }

@@ -1,0 +1,722 @@
+//! The rules, row by row: for each part of a guard offices at which that part alone is false, and for each rule offices at
+//! which the whole guard holds, with what such an office shows afterwards.
+
+use self::Step::{
+    AskBottle, AskFork, BottleGiven, BottleWanted, Drink, Eat, Finish, ForkGiven, ForkWanted,
+    GiveBottle, GiveFork, Hungry, Leave, Start, Submit, Work,
+};
+use super::opened;
+use super::shown::{shown, tell_messages};
+use bottle_values::Value;
+use frame_codec::{Frame, MAX_NUMBER, Msg};
+use office_map::{OfficeId, Plan, RecordId};
+use session_language::{Program, read_sessions};
+use site_core::{Event, Office, Reply, Rule};
+use std::alloc::{AllocError, Global};
+use std::fmt::Write;
+use std::test::Fail;
+
+/// The office that is looked at is `a`. It has the fork that it shares with `b`, and not the one that it shares with `c`; `d`
+/// is no neighbour. Of its records the bottles of `x` and `v` are here; `z` is a record of others.
+const PLAN: &str =
+    "plan 1 run 42\noffice a -\noffice b -\noffice c -\noffice d -\npair a b fork a\npair a c fork c\npair b c fork c\nrecord x a b 100 at a\nrecord y a b 0 at b\nrecord v a c 9 at a\nrecord w a c 7 at c\nrecord z b c 5 at b\n";
+
+const A: u8 = 0;
+
+pub const B: u8 = 1;
+
+pub const C: u8 = 2;
+
+const D: u8 = 3;
+
+pub const X: u16 = 0;
+
+pub const Y: u16 = 1;
+
+pub const V: u16 = 2;
+
+pub const W: u16 = 3;
+
+pub const Z: u16 = 4;
+
+/// A record that the plan doesn't have.
+const NONE: u16 = 5;
+
+/// Sessions that need nothing, in three instructions; `x`; `y`; both; `v`.
+const SESSIONS: &str =
+    "session a\ngive 1\nend\nsession a\nset x = read x + 1\nend\nsession a\ngive read y\nend\nsession a\ngive read x + read y\nend\nsession a\nset v = 8\nend\n";
+
+const OF_NONE: usize = 0;
+
+const OF_X: usize = 1;
+
+const OF_Y: usize = 2;
+
+const OF_X_Y: usize = 3;
+
+const OF_V: usize = 4;
+
+/// What happens at the office: a session is submitted; a rule is done; or a message comes from a neighbour that took all that
+/// was sent to it: it wants the fork, or a bottle; it gives the fork, or a bottle with a value.
+#[derive(Clone, Copy)]
+pub enum Step {
+    Submit(usize),
+    Start,
+    Hungry,
+    AskFork(u8),
+    GiveFork(u8),
+    Eat,
+    Leave,
+    AskBottle(u16),
+    GiveBottle(u16),
+    Drink,
+    Work(u16),
+    Finish,
+    ForkWanted(u8),
+    ForkGiven(u8),
+    BottleWanted(u8, u16),
+    BottleGiven(u8, u16, i64),
+}
+
+/// The part of the guard that alone is false (none: all hold), what happened before, the rule, and what is told of it.
+struct Row(&'static str, &'static [Step], Step, &'static str);
+
+/// What is told where the guard is false, of an office that stays as it was.
+const NOT_NOW: &str = "O1 NotNow";
+
+/// Where the guard holds, what the office shows afterwards is told: which rules may be done; the bottles that are here; of
+/// each neighbour the number of the first message that waits, how many wait, and how many of its messages were taken; how
+/// many sessions were submitted, and how those ended that finished; what the waiting messages say.
+///
+/// That a needed bottle is away and its office isn't thirsty never happens, nor that work has ended and its office isn't
+/// drinking: there two parts are false.
+static ROWS: [Row; 85] = [
+    // Start: tranquil, and a session waits. The first that waits becomes the current one; the office is thirsty and needs its records.
+    Row(
+        "",
+        &[Submit(OF_Y), Submit(OF_NONE)],
+        Start,
+        "may hungry, askbottle y; here x=100 v=9; b 1 0 0; c 1 0 0; 2 submitted; sends",
+    ),
+    Row(
+        "tranquil",
+        &[Submit(OF_Y), Submit(OF_NONE), Start],
+        Start,
+        NOT_NOW,
+    ),
+    Row(
+        "tranquil",
+        &[Submit(OF_NONE), Submit(OF_NONE), Start, Drink],
+        Start,
+        NOT_NOW,
+    ),
+    Row("a session waits", &[], Start, NOT_NOW),
+    Row(
+        "a session waits",
+        &[Submit(OF_NONE), Start, Drink, Work(3), Finish],
+        Start,
+        NOT_NOW,
+    ),
+    // Hungry: thinking, and thirsty. The office is hungry.
+    Row(
+        "",
+        &[Submit(OF_Y), Start],
+        Hungry,
+        "may askfork c, askbottle y; here x=100 v=9; b 1 0 0; c 1 0 0; 1 submitted; sends",
+    ),
+    Row("thinking", &[Submit(OF_Y), Start, Hungry], Hungry, NOT_NOW),
+    Row(
+        "thinking",
+        &[Submit(OF_Y), Start, Hungry, AskFork(C), ForkGiven(C), Eat],
+        Hungry,
+        NOT_NOW,
+    ),
+    Row("thirsty", &[], Hungry, NOT_NOW),
+    Row("thirsty", &[Submit(OF_Y)], Hungry, NOT_NOW),
+    Row("thirsty", &[Submit(OF_NONE), Start, Drink], Hungry, NOT_NOW),
+    // AskFork: hungry, the fork isn't held, its token is. The token is sent.
+    Row(
+        "",
+        &[Submit(OF_Y), Start, Hungry],
+        AskFork(C),
+        "may askbottle y; here x=100 v=9; b 1 0 0; c 1 1 0; 1 submitted; sends askfork to c",
+    ),
+    Row("hungry", &[], AskFork(C), NOT_NOW),
+    Row("hungry", &[Submit(OF_Y), Start], AskFork(C), NOT_NOW),
+    Row(
+        "hungry",
+        &[Submit(OF_NONE), Start, Drink],
+        AskFork(C),
+        NOT_NOW,
+    ),
+    Row(
+        "the fork isn't held",
+        &[Submit(OF_Y), Start, Hungry, ForkWanted(B)],
+        AskFork(B),
+        NOT_NOW,
+    ),
+    Row(
+        "the token is held",
+        &[Submit(OF_Y), Start, Hungry, AskFork(C)],
+        AskFork(C),
+        NOT_NOW,
+    ),
+    Row(
+        "a neighbour",
+        &[Submit(OF_Y), Start, Hungry],
+        AskFork(A),
+        NOT_NOW,
+    ),
+    Row(
+        "a neighbour",
+        &[Submit(OF_Y), Start, Hungry],
+        AskFork(D),
+        NOT_NOW,
+    ),
+    Row(
+        "an office",
+        &[Submit(OF_Y), Start, Hungry],
+        AskFork(200),
+        NOT_NOW,
+    ),
+    // GiveFork: not eating, the token is held, the fork is held and dirty. The fork is sent, the token stays.
+    Row(
+        "",
+        &[ForkWanted(B)],
+        GiveFork(B),
+        "may; here x=100 v=9; b 1 1 1; c 1 0 0; 0 submitted; sends fork to b",
+    ),
+    Row(
+        "",
+        &[Submit(OF_Y), Start, Hungry, ForkWanted(B)],
+        GiveFork(B),
+        "may askfork b, askfork c, askbottle y; here x=100 v=9; b 1 1 1; c 1 0 0; 1 submitted; sends fork to b",
+    ),
+    Row(
+        "not eating",
+        &[
+            Submit(OF_Y),
+            Start,
+            Hungry,
+            AskFork(C),
+            ForkGiven(C),
+            Eat,
+            ForkWanted(B),
+        ],
+        GiveFork(B),
+        NOT_NOW,
+    ),
+    Row(
+        "not eating",
+        &[
+            Submit(OF_Y),
+            Start,
+            Hungry,
+            AskFork(C),
+            ForkGiven(C),
+            Eat,
+            ForkWanted(C),
+        ],
+        GiveFork(C),
+        NOT_NOW,
+    ),
+    Row("the token is held", &[], GiveFork(B), NOT_NOW),
+    Row("the fork is held", &[], GiveFork(C), NOT_NOW),
+    Row(
+        "the fork is held",
+        &[ForkWanted(B), GiveFork(B)],
+        GiveFork(B),
+        NOT_NOW,
+    ),
+    Row(
+        "the fork is dirty",
+        &[
+            Submit(OF_Y),
+            Start,
+            Hungry,
+            AskFork(C),
+            ForkGiven(C),
+            ForkWanted(C),
+        ],
+        GiveFork(C),
+        NOT_NOW,
+    ),
+    Row("a neighbour", &[], GiveFork(A), NOT_NOW),
+    Row("a neighbour", &[], GiveFork(D), NOT_NOW),
+    Row("an office", &[], GiveFork(200), NOT_NOW),
+    // Eat: hungry, and all forks are held. The office eats, and every fork of it is dirty: one that came clean is given afterwards.
+    Row(
+        "",
+        &[Submit(OF_Y), Start, Hungry, AskFork(C), ForkGiven(C)],
+        Eat,
+        "may askbottle y; here x=100 v=9; b 1 0 0; c 2 0 1; 1 submitted; sends",
+    ),
+    Row(
+        "",
+        &[
+            Submit(OF_NONE),
+            Start,
+            Hungry,
+            AskFork(C),
+            ForkGiven(C),
+            Drink,
+        ],
+        Eat,
+        "may leave, work 1; here x=100 v=9; b 1 0 0; c 2 0 1; 1 submitted; sends",
+    ),
+    Row(
+        "",
+        &[
+            Submit(OF_NONE),
+            Start,
+            Hungry,
+            AskFork(C),
+            ForkGiven(C),
+            Eat,
+            Drink,
+            Leave,
+            ForkWanted(C),
+        ],
+        GiveFork(C),
+        "may work 1; here x=100 v=9; b 1 0 0; c 2 1 2; 1 submitted; sends fork to c",
+    ),
+    Row(
+        "hungry",
+        &[
+            Submit(OF_NONE),
+            Start,
+            Hungry,
+            AskFork(C),
+            ForkGiven(C),
+            Eat,
+            Drink,
+            Leave,
+        ],
+        Eat,
+        NOT_NOW,
+    ),
+    Row(
+        "hungry",
+        &[Submit(OF_Y), Start, Hungry, AskFork(C), ForkGiven(C), Eat],
+        Eat,
+        NOT_NOW,
+    ),
+    Row(
+        "all forks are held",
+        &[Submit(OF_Y), Start, Hungry],
+        Eat,
+        NOT_NOW,
+    ),
+    Row(
+        "all forks are held",
+        &[
+            Submit(OF_Y),
+            Start,
+            Hungry,
+            ForkWanted(B),
+            GiveFork(B),
+            AskFork(C),
+            ForkGiven(C),
+        ],
+        Eat,
+        NOT_NOW,
+    ),
+    // Leave: eating, and not thirsty. The office thinks.
+    Row(
+        "",
+        &[
+            Submit(OF_NONE),
+            Start,
+            Hungry,
+            AskFork(C),
+            ForkGiven(C),
+            Eat,
+            Drink,
+        ],
+        Leave,
+        "may work 1; here x=100 v=9; b 1 0 0; c 2 0 1; 1 submitted; sends",
+    ),
+    Row(
+        "",
+        &[
+            Submit(OF_NONE),
+            Start,
+            Hungry,
+            AskFork(C),
+            ForkGiven(C),
+            Eat,
+            Drink,
+            Work(3),
+            Finish,
+        ],
+        Leave,
+        "may; here x=100 v=9; b 1 0 0; c 2 0 1; 1 submitted; 0.1 Done reads writes gives 1; sends",
+    ),
+    Row("eating", &[], Leave, NOT_NOW),
+    Row(
+        "eating",
+        &[Submit(OF_NONE), Start, Hungry, Drink],
+        Leave,
+        NOT_NOW,
+    ),
+    Row(
+        "not thirsty",
+        &[Submit(OF_Y), Start, Hungry, AskFork(C), ForkGiven(C), Eat],
+        Leave,
+        NOT_NOW,
+    ),
+    // AskBottle: thirsty, the record is needed, its bottle isn't held, its token is. The token is sent.
+    Row(
+        "",
+        &[Submit(OF_Y), Start],
+        AskBottle(Y),
+        "may hungry; here x=100 v=9; b 1 1 0; c 1 0 0; 1 submitted; sends askbottle y to b",
+    ),
+    Row(
+        "thirsty, and the record is needed",
+        &[Submit(OF_Y)],
+        AskBottle(Y),
+        NOT_NOW,
+    ),
+    Row(
+        "thirsty, and the record is needed",
+        &[Submit(OF_NONE), Start, Drink],
+        AskBottle(Y),
+        NOT_NOW,
+    ),
+    Row(
+        "the record is needed",
+        &[Submit(OF_NONE), Start],
+        AskBottle(Y),
+        NOT_NOW,
+    ),
+    Row(
+        "the record is needed",
+        &[Submit(OF_Y), Start],
+        AskBottle(W),
+        NOT_NOW,
+    ),
+    Row(
+        "the bottle isn't held",
+        &[Submit(OF_X_Y), Start, BottleWanted(B, X)],
+        AskBottle(X),
+        NOT_NOW,
+    ),
+    Row(
+        "the token is held",
+        &[Submit(OF_Y), Start, AskBottle(Y)],
+        AskBottle(Y),
+        NOT_NOW,
+    ),
+    Row(
+        "a record of the office",
+        &[Submit(OF_Y), Start],
+        AskBottle(Z),
+        NOT_NOW,
+    ),
+    Row("a record", &[Submit(OF_Y), Start], AskBottle(NONE), NOT_NOW),
+    // GiveBottle: the token is held, the bottle is held; not where the record is needed and the office drinks or has the pair's fork. The bottle is sent with its value, the token stays.
+    Row(
+        "",
+        &[BottleWanted(B, X)],
+        GiveBottle(X),
+        "may; here v=9, x=100 leaves as 1; b 1 1 1; c 1 0 0; 0 submitted; sends bottle x=100 to b",
+    ),
+    Row(
+        "",
+        &[Submit(OF_NONE), Start, Drink, BottleWanted(B, X)],
+        GiveBottle(X),
+        "may work 1; here v=9, x=100 leaves as 1; b 1 1 1; c 1 0 0; 1 submitted; sends bottle x=100 to b",
+    ),
+    Row(
+        "",
+        &[Submit(OF_V), Start, BottleWanted(C, V)],
+        GiveBottle(V),
+        "may hungry, askbottle v; here x=100, v=9 leaves as 1; b 1 0 0; c 1 1 1; 1 submitted; sends bottle v=9 to c",
+    ),
+    Row("the token is held", &[], GiveBottle(X), NOT_NOW),
+    Row("the bottle is held", &[], GiveBottle(Y), NOT_NOW),
+    Row(
+        "the bottle is held",
+        &[BottleWanted(B, X), GiveBottle(X)],
+        GiveBottle(X),
+        NOT_NOW,
+    ),
+    Row(
+        "not needed and drinking",
+        &[Submit(OF_V), Start, Drink, BottleWanted(C, V)],
+        GiveBottle(V),
+        NOT_NOW,
+    ),
+    Row(
+        "not needed with the fork",
+        &[Submit(OF_X_Y), Start, BottleWanted(B, X)],
+        GiveBottle(X),
+        NOT_NOW,
+    ),
+    Row(
+        "not needed with the fork",
+        &[
+            Submit(OF_V),
+            Start,
+            Hungry,
+            AskFork(C),
+            ForkGiven(C),
+            BottleWanted(C, V),
+        ],
+        GiveBottle(V),
+        NOT_NOW,
+    ),
+    Row("a record of the office", &[], GiveBottle(Z), NOT_NOW),
+    Row("a record", &[], GiveBottle(NONE), NOT_NOW),
+    // Drink: thirsty, and all needed bottles are held. The office drinks, and its session's work begins on their values.
+    Row(
+        "",
+        &[Submit(OF_X), Start],
+        Drink,
+        "may work 1; here x=100 v=9; b 1 0 0; c 1 0 0; 1 submitted; sends",
+    ),
+    Row(
+        "",
+        &[Submit(OF_X_Y), Start, AskBottle(Y), BottleGiven(B, Y, 5)],
+        Drink,
+        "may work 1; here x=100 y=5 v=9; b 2 0 1; c 1 0 0; 1 submitted; sends",
+    ),
+    Row("thirsty", &[Submit(OF_NONE)], Drink, NOT_NOW),
+    Row("thirsty", &[Submit(OF_X), Start, Drink], Drink, NOT_NOW),
+    Row(
+        "all needed bottles are held",
+        &[Submit(OF_Y), Start],
+        Drink,
+        NOT_NOW,
+    ),
+    Row(
+        "all needed bottles are held",
+        &[Submit(OF_X_Y), Start],
+        Drink,
+        NOT_NOW,
+    ),
+    // Work: drinking, the work hasn't ended, and the piece has from 1 to 1,000 instructions. At most so many are done.
+    Row(
+        "",
+        &[Submit(OF_NONE), Start, Drink],
+        Work(1),
+        "may work 1; here x=100 v=9; b 1 0 0; c 1 0 0; 1 submitted; sends",
+    ),
+    Row(
+        "",
+        &[Submit(OF_NONE), Start, Drink],
+        Work(2),
+        "may work 1; here x=100 v=9; b 1 0 0; c 1 0 0; 1 submitted; sends",
+    ),
+    Row(
+        "",
+        &[Submit(OF_NONE), Start, Drink, Work(2)],
+        Work(1),
+        "may finish; here x=100 v=9; b 1 0 0; c 1 0 0; 1 submitted; sends",
+    ),
+    Row(
+        "",
+        &[Submit(OF_NONE), Start, Drink],
+        Work(1000),
+        "may finish; here x=100 v=9; b 1 0 0; c 1 0 0; 1 submitted; sends",
+    ),
+    Row("drinking", &[Submit(OF_NONE)], Work(1), NOT_NOW),
+    Row("drinking", &[Submit(OF_NONE), Start], Work(1), NOT_NOW),
+    Row(
+        "the work hasn't ended",
+        &[Submit(OF_NONE), Start, Drink, Work(3)],
+        Work(1),
+        NOT_NOW,
+    ),
+    Row("from 1", &[Submit(OF_NONE), Start, Drink], Work(0), NOT_NOW),
+    Row(
+        "to 1,000",
+        &[Submit(OF_NONE), Start, Drink],
+        Work(1001),
+        NOT_NOW,
+    ),
+    // Finish: drinking, and the work has ended. The writes go into the bottles, the outcome is kept; the office is tranquil and needs no record.
+    Row(
+        "",
+        &[
+            Submit(OF_X_Y),
+            Start,
+            AskBottle(Y),
+            BottleGiven(B, Y, 5),
+            Drink,
+            Work(1000),
+        ],
+        Finish,
+        "may; here x=100 y=5 v=9; b 2 0 1; c 1 0 0; 1 submitted; 0.1 Done reads 0=100 1=5 writes gives 105; sends",
+    ),
+    Row(
+        "",
+        &[Submit(OF_X), Submit(OF_NONE), Start, Drink, Work(1000)],
+        Finish,
+        "may start; here x=101 v=9; b 1 0 0; c 1 0 0; 2 submitted; 0.1 Done reads 0=100 writes 0=101 gives; sends",
+    ),
+    Row(
+        "",
+        &[
+            Submit(OF_X),
+            Start,
+            Drink,
+            Work(1000),
+            Finish,
+            BottleWanted(B, X),
+        ],
+        GiveBottle(X),
+        "may; here v=9, x=101 leaves as 1; b 1 1 1; c 1 0 0; 1 submitted; 0.1 Done reads 0=100 writes 0=101 gives; sends bottle x=101 to b",
+    ),
+    Row(
+        "drinking, and the work has ended",
+        &[Submit(OF_NONE), Start],
+        Finish,
+        NOT_NOW,
+    ),
+    Row(
+        "drinking, and the work has ended",
+        &[Submit(OF_NONE), Start, Drink, Work(3), Finish],
+        Finish,
+        NOT_NOW,
+    ),
+    Row(
+        "the work has ended",
+        &[Submit(OF_NONE), Start, Drink],
+        Finish,
+        NOT_NOW,
+    ),
+    Row(
+        "the work has ended",
+        &[Submit(OF_NONE), Start, Drink, Work(2)],
+        Finish,
+        NOT_NOW,
+    ),
+];
+
+/// Who hands in what is looked at.
+const TAG: u8 = 5;
+
+#[test]
+fn rules_are_done_where_each_part_of_the_guard_holds(rt: HostRuntime) -> Result<(), Fail> {
+    let alloc = rt.alloc();
+    let plan = Plan::read(alloc, PLAN.as_bytes())?;
+    let programs = read_sessions(alloc, SESSIONS.as_bytes(), &plan)?;
+    for (i, row) in ROWS.iter().enumerate() {
+        let Row(part, before, rule, expected) = row;
+        let told = told(alloc, &plan, &programs, before, *rule)?;
+        assert_eq!(rt; told.as_str(), *expected, "row {i}, {part}");
+    }
+    Ok(())
+}
+
+/// What is told of a rule after these steps, none of which may be refused.
+fn told(
+    alloc: Global,
+    plan: &Plan,
+    programs: &[Program],
+    before: &[Step],
+    rule: Step,
+) -> Result<String, Fail> {
+    let mut offices = opened(alloc, plan)?;
+    let (Some(office), Some(rule)) = (offices.get_mut(0), rule_of(rule)) else {
+        return Err(Fail::from("an office and a rule"));
+    };
+    for step in before {
+        let event = event_of(alloc, office, programs, *step)?;
+        if !goes(office, event) {
+            return Ok(String::from_str(alloc, "a step before is refused")?);
+        }
+    }
+    answered(alloc, office, rule)
+}
+
+fn goes(office: &mut Office, event: Option<Event>) -> bool {
+    match event {
+        Some(event) => office.step(0, &event).is_ok(),
+        None => false,
+    }
+}
+
+fn answered(alloc: Global, office: &mut Office, rule: Rule) -> Result<String, Fail> {
+    let entries = office.journal().len();
+    let enabled = office.enabled(rule);
+    let before = shown(alloc, office)?;
+    let reply = office.step(TAG, &Event::Do(rule));
+    let mut after = shown(alloc, office)?;
+    if let Err(refusal) = reply {
+        let stays = before.as_str() == after.as_str() && office.journal().len() == entries;
+        if enabled || !stays {
+            after.push_str(", though refused")?;
+            return Ok(after);
+        }
+        return Ok(format!(in alloc; "{refusal}")?);
+    }
+    if !enabled || !is_entered(office, entries, rule) {
+        after.push_str(", though not enabled or not entered")?;
+    }
+    tell_messages(&mut after, office, "b", B)?;
+    tell_messages(&mut after, office, "c", C)?;
+    Ok(after)
+}
+
+/// The journal has one entry more than so many, of this rule.
+fn is_entered(office: &Office, entries: usize, rule: Rule) -> bool {
+    let journal = office.journal();
+    let Some(entry) = journal.get(entries) else {
+        return false;
+    };
+    let alone = journal.get(entries.saturating_add(1)).is_none();
+    let Event::Do(done) = &entry.event else {
+        return false;
+    };
+    alone && entry.tag == TAG && *done == rule && entry.reply == Reply::Done
+}
+
+fn event_of(
+    alloc: Global,
+    office: &Office,
+    programs: &[Program],
+    step: Step,
+) -> Result<Option<Event>, AllocError> {
+    match step {
+        Submit(i) => match programs.get(i) {
+            Some(program) => Ok(Some(Event::Submit(program.copy(alloc)?))),
+            None => Ok(None),
+        },
+        ForkWanted(v) => Ok(comes(office, v, Msg::AskFork)),
+        ForkGiven(v) => Ok(comes(office, v, Msg::Fork)),
+        BottleWanted(v, r) => Ok(comes(office, v, Msg::AskBottle(r))),
+        BottleGiven(v, r, value) => { Ok(comes(office, v, Msg::Bottle(r, Value::from(value)))) }
+        _ => Ok(rule_of(step).map(Event::Do)),
+    }
+}
+
+/// The next message of a neighbour comes; it took all that was sent to it.
+fn comes(office: &Office, v: u8, msg: Msg) -> Option<Event> {
+    let (first, many) = office.waiting(OfficeId::new(v))?;
+    let count = first.saturating_sub(1).saturating_add(many as u64);
+    let number = office.taken(OfficeId::new(v))?.saturating_add(1);
+    if number > MAX_NUMBER || count > MAX_NUMBER {
+        return None;
+    }
+    Some(Event::Took(Frame::data(42, v, A, number, count, msg)))
+}
+
+pub fn rule_of(step: Step) -> Option<Rule> {
+    match step {
+        Start => Some(Rule::Start),
+        Hungry => Some(Rule::Hungry),
+        AskFork(v) => Some(Rule::AskFork(OfficeId::new(v))),
+        GiveFork(v) => Some(Rule::GiveFork(OfficeId::new(v))),
+        Eat => Some(Rule::Eat),
+        Leave => Some(Rule::Leave),
+        AskBottle(r) => Some(Rule::AskBottle(RecordId::new(r))),
+        GiveBottle(r) => Some(Rule::GiveBottle(RecordId::new(r))),
+        Drink => Some(Rule::Drink),
+        Work(n) => Some(Rule::Work(n)),
+        Finish => Some(Rule::Finish),
+        _ => None,
+    }
+}
