@@ -2,7 +2,8 @@
 //!
 //! [`of_plan`], [`of_sessions`] and [`of_script`] answer a sentence for a refusal that the reader of that text gave: what
 //! was found, what was expected, and where there is one the nearest thing to do. They look at the refused line and at the
-//! lines above it, which were accepted.
+//! lines above it, which were accepted. [`of_ring`] answers one for offices that precede one another in a ring, with the
+//! line of a pair whose fork may be turned.
 //!
 //! Nothing is decided here, and no clause speaks of a sentence: tests pin them. What is proved is that nothing but memory
 //! stops a function.
@@ -11,10 +12,12 @@
 mod measures;
 mod place;
 mod plan;
+mod ring;
 mod script;
 mod sessions;
 mod shown;
 
 pub use plan::of_plan;
+pub use ring::of_ring;
 pub use script::of_script;
 pub use sessions::of_sessions;

@@ -29,6 +29,14 @@ const NONE: Measures = Measures {
     gives: 0,
 };
 
+fn measured(statements: u64, cost: u64, gives: u64) -> Measures {
+    Measures {
+        statements,
+        cost,
+        gives,
+    }
+}
+
 /// The measures of the lines of a session.
 pub(crate) fn measures_of(alloc: Global, body: &[&[u8]]) -> Result<Measures, AllocError> {
     let mut now = NONE;
@@ -60,14 +68,7 @@ pub(crate) fn measures_of(alloc: Global, body: &[&[u8]]) -> Result<Measures, All
             keyword => {
                 let cost = nodes(*line).saturating_add(1);
                 let gives = if keyword == Keyword::Give { 1 } else { 0 };
-                now = sum(
-                    now,
-                    Measures {
-                        statements: 1,
-                        cost,
-                        gives,
-                    },
-                );
+                now = sum(now, measured(1, cost, gives));
             }
         }
     }
@@ -98,14 +99,7 @@ fn closed(block: Open, last: Measures) -> Measures {
         ),
     };
     let cost = cost.saturating_add(block.head);
-    sum(
-        block.before,
-        Measures {
-            statements,
-            cost,
-            gives,
-        },
-    )
+    sum(block.before, measured(statements, cost, gives))
 }
 
 fn sum(a: Measures, b: Measures) -> Measures {

@@ -1,6 +1,7 @@
 //! Where a line of a text of sessions stands.
 
-use crate::shown::without_return;
+use crate::shown::Lines;
+use office_map::Plan;
 use session_language::keyword::{Keyword, keyword_of};
 use session_language::lexer::{Piece, Pieces};
 use std::alloc::{AllocError, Global};
@@ -13,9 +14,11 @@ pub(crate) struct Block {
     pub has_else: bool,
 }
 
-/// The session round a line, if there is one, as far as that line.
+/// The session round a line, if there is one, as far as that line, and the plan of the text.
 #[derive(Drop)]
 pub(crate) struct Place<'a> {
+    pub alloc: Global,
+    pub plan: &'a Plan,
     pub line: &'a [u8],
     /// How many lines above begin a session.
     pub sessions: u64,
@@ -29,8 +32,15 @@ pub(crate) struct Place<'a> {
 
 impl<'a> Place<'a> {
     /// The place of the line of this number, from 1. The lines above it have no fault.
-    pub fn of(alloc: Global, text: &'a [u8], number: u64) -> Result<Place<'a>, AllocError> {
+    pub fn of(
+        alloc: Global,
+        plan: &'a Plan,
+        text: &'a [u8],
+        number: u64,
+    ) -> Result<Place<'a>, AllocError> {
         let mut place = Place {
+            alloc,
+            plan,
             line: &[],
             sessions: 0,
             begun: 0,
@@ -38,14 +48,17 @@ impl<'a> Place<'a> {
             body: Vec::new(alloc),
             blocks: Vec::new(alloc),
         };
-        let mut at: u64 = 1;
-        for line in text.split(|b| *b == b'\n') {
+        let mut lines = Lines { rest: text };
+        for i in 0..text.len() {
+            let Some(line) = lines.next() else {
+                break;
+            };
+            let at = i as u64 + 1;
             if at >= number {
-                place.line = without_return(line);
-                return Ok(place);
+                place.line = line;
+                break;
             }
-            place.add(at, without_return(line))?;
-            at = at.saturating_add(1);
+            place.add(at, line)?;
         }
         Ok(place)
     }

@@ -1,13 +1,16 @@
 //! What is said of a refused plan.
 
 use crate::shown::{
-    line_at, quote, say_expected, say_no_name, say_strange_byte, say_word, without_return, word_at,
+    Lines, Quoted, Text, line_at, say_expected, say_no_name, say_other_text, say_unreadable,
+    say_word, word_at,
 };
+use office_map::limits::{FEWEST_OFFICES, MOST_OFFICES, MOST_PAIR_RECORDS, TEXT_LIMIT};
 use office_map::text::{is_name, words};
 use office_map::{PlanRefusal, PlanRule};
 use std::alloc::{AllocError, Global};
+use std::fmt;
 
-const OFFICE: &str = "`office NAME ADDR`";
+const OFFICE: &str = "`office NAME ADDRESS`";
 
 const PAIR: &str = "`pair A B fork E`";
 
@@ -18,46 +21,47 @@ pub fn of_plan(alloc: Global, text: &[u8], refusal: PlanRefusal) -> Result<Strin
     let mut said = String::new(alloc);
     match line_at(text, refusal.line) {
         None => say_text(&mut said, text, refusal.rule)?,
-        Some(line) => say_line(&mut said, alloc, text, line, refusal)?,
+        Some(line) => {
+            let around = Around {
+                alloc,
+                text,
+                line: refusal.line,
+            };
+            say_line(&mut said, &around, line, refusal.rule)?;
+        }
     }
     Ok(said)
 }
 
 fn say_line(
     said: &mut String,
-    alloc: Global,
-    text: &[u8],
+    around: &Around<'_>,
     line: &[u8],
-    refusal: PlanRefusal,
+    rule: PlanRule,
 ) -> Result<(), AllocError> {
-    let words = words(alloc, line)?;
-    say_words(said, alloc, text, line, &words, refusal)
+    let words = words(around.alloc, line)?;
+    say_words(said, around, line, &words, rule)
 }
 
 fn say_words(
     said: &mut String,
-    alloc: Global,
-    text: &[u8],
+    around: &Around<'_>,
     line: &[u8],
     words: &[&[u8]],
-    refusal: PlanRefusal,
+    rule: PlanRule,
 ) -> Result<(), AllocError> {
-    let above = Above {
-        text,
-        line: refusal.line,
-    };
-    match refusal.rule {
+    match rule {
         PlanRule::Header => say_header(said, line),
         PlanRule::Line => say_form(said, line, words),
-        PlanRule::NameTwice => say_twice(said, alloc, above, words),
-        PlanRule::UnknownName => say_unknown(said, alloc, above, words),
+        PlanRule::NameTwice => say_twice(said, around, words),
+        PlanRule::UnknownName => say_unknown(said, around, words),
         PlanRule::SelfPair => say_word(
             said,
             "",
             word_at(words, 1),
             " is paired with itself, and a pair joins two offices",
         ),
-        PlanRule::PairTwice => say_pair_twice(said, alloc, above, words),
+        PlanRule::PairTwice => say_pair_twice(said, around, words),
         PlanRule::Limit => say_limit(said, words),
     }
 }
@@ -67,14 +71,17 @@ fn say_text(said: &mut String, text: &[u8], rule: PlanRule) -> Result<(), AllocE
     if rule == PlanRule::Header {
         return said.push_str("no line says anything, and the first one has to be `plan 1 run N`");
     }
-    if text.len() > 262_144 {
-        return said.push_str("the text has more than 262144 bytes");
+    if text.len() > TEXT_LIMIT {
+        return write!(said, "the text has more than {TEXT_LIMIT} bytes");
     }
-    said.push_str("fewer than two offices are declared, and a plan has at least two")
+    write!(
+        said,
+        "fewer than {FEWEST_OFFICES} offices are declared, and a plan has {FEWEST_OFFICES} at least"
+    )
 }
 
 fn say_header(said: &mut String, line: &[u8]) -> Result<(), AllocError> {
-    if say_strange_byte(said, line)? {
+    if say_unreadable(said, line)? {
         return Ok(());
     }
     say_word(
@@ -87,7 +94,7 @@ fn say_header(said: &mut String, line: &[u8]) -> Result<(), AllocError> {
 
 /// The first thing that doesn't fit the form of a line.
 fn say_form(said: &mut String, line: &[u8], words: &[&[u8]]) -> Result<(), AllocError> {
-    if say_strange_byte(said, line)? {
+    if say_unreadable(said, line)? {
         return Ok(());
     }
     match word_at(words, 0) {
@@ -97,14 +104,16 @@ fn say_form(said: &mut String, line: &[u8], words: &[&[u8]]) -> Result<(), Alloc
         b"plan" => said.push_str("`plan` stands on the first line alone"),
         other => {
             say_word(said, "", other, " begins no line of a plan; these are ")?;
-            write!(said, "{OFFICE}, {PAIR} and {RECORD}")
+            write!(said, "{OFFICE}, {PAIR} and {RECORD}")?;
+            say_other_text(said, Text::Plan, line)
         }
     }
 }
 
 fn say_office(said: &mut String, line: &[u8], words: &[&[u8]]) -> Result<(), AllocError> {
     if words.len() != 3 {
-        return say_expected(said, line, OFFICE);
+        say_expected(said, line, OFFICE)?;
+        return said.push_str("; where there is no address, ADDRESS is `-`");
     }
     if !is_name(words[1]) {
         return say_no_name(said, words[1]);
@@ -113,13 +122,14 @@ fn say_office(said: &mut String, line: &[u8], words: &[&[u8]]) -> Result<(), All
         said,
         "",
         words[2],
-        " is no address: that is `-`, or four numbers up to 255 with dots, a colon and a port from 1 to 65535, without leading zeros",
+        " is no address: that is `-`, or four numbers up to 255 with dots, a colon and a port from 1 to 65535, without leading zeros, as 127.0.0.1:47001",
     )
 }
 
 fn say_pair(said: &mut String, line: &[u8], words: &[&[u8]]) -> Result<(), AllocError> {
     if words.len() != 5 || words[3] != b"fork".as_slice() {
-        return say_expected(said, line, PAIR);
+        say_expected(said, line, PAIR)?;
+        return said.push_str("; E, where the fork starts, is A or B");
     }
     if !is_name(words[1]) {
         return say_no_name(said, words[1]);
@@ -132,7 +142,8 @@ fn say_pair(said: &mut String, line: &[u8], words: &[&[u8]]) -> Result<(), Alloc
 
 fn say_record(said: &mut String, line: &[u8], words: &[&[u8]]) -> Result<(), AllocError> {
     if words.len() != 7 || words[5] != b"at".as_slice() {
-        return say_expected(said, line, RECORD);
+        say_expected(said, line, RECORD)?;
+        return said.push_str("; E, where the record starts, is A or B");
     }
     for word in &words[1..4] {
         if !is_name(*word) {
@@ -146,20 +157,20 @@ fn say_record(said: &mut String, line: &[u8], words: &[&[u8]]) -> Result<(), All
         said,
         "",
         words[4],
-        " is no value: a whole number from -9223372036854775808 to 9223372036854775807",
+        " is no value: a whole number in digits alone, after a `-` if it is less than 0, from -9223372036854775808 to 9223372036854775807",
     )
 }
 
 /// That an end is neither of the two.
 fn say_end(said: &mut String, end: &[u8], a: &[u8], b: &[u8]) -> Result<(), AllocError> {
-    say_word(said, "", end, " is neither ")?;
-    say_word(said, "", a, " nor ")?;
-    quote(said, b)
+    let (end, a, b) = (Quoted(end), Quoted(a), Quoted(b));
+    write!(said, "{end} is neither {a} nor {b}, the ends of the pair")
 }
 
-/// The text above a line.
+/// A text, and the number of the line that is refused.
 #[derive(Clone, Copy)]
-struct Above<'a> {
+struct Around<'a> {
+    alloc: Global,
     text: &'a [u8],
     line: u64,
 }
@@ -190,60 +201,76 @@ impl Declared<'_> {
     }
 }
 
-impl Above<'_> {
-    /// The line that declares it. None where none above does.
-    fn line_of(&self, alloc: Global, declared: Declared<'_>) -> Result<Option<u64>, AllocError> {
-        let mut number: u64 = 1;
-        for line in self.text.split(|b| *b == b'\n') {
-            if number >= self.line {
-                return Ok(None);
+impl fmt::Display for Declared<'_> {
+    fn fmt<W: fmt::Write>(&self, f: &mut fmt::Formatter<W>) -> fmt::Result {
+        let (what, word) = match *self {
+            Declared::Office(name) => ("office", Quoted(name)),
+            Declared::Address(address) => ("address", Quoted(address)),
+            Declared::Record(name) => ("record", Quoted(name)),
+            Declared::Pair(a, b) => {
+                let (a, b) = (Quoted(a), Quoted(b));
+                return write!(f, "the pair of {a} and {b}");
             }
-            if declared.is_by(&words(alloc, without_return(line))?) {
-                return Ok(Some(number));
-            }
-            number = number.saturating_add(1);
-        }
-        Ok(None)
+        };
+        write!(f, "the {what} {word}")
     }
 }
 
-fn say_twice(
-    said: &mut String,
-    alloc: Global,
-    above: Above<'_>,
-    words: &[&[u8]],
-) -> Result<(), AllocError> {
+impl Around<'_> {
+    /// The first line that declares it. None where none does.
+    fn line_of(&self, declared: Declared<'_>) -> Result<Option<u64>, AllocError> {
+        let mut lines = Lines { rest: self.text };
+        for i in 0..self.text.len() {
+            let Some(line) = lines.next() else {
+                break;
+            };
+            if declared.is_by(&words(self.alloc, line)?) {
+                return Ok(Some(i as u64 + 1));
+            }
+        }
+        Ok(None)
+    }
+
+    /// The line above that declares it.
+    fn line_above(&self, declared: Declared<'_>) -> Result<Option<u64>, AllocError> {
+        match self.line_of(declared)? {
+            Some(line) if line < self.line => Ok(Some(line)),
+            _ => Ok(None),
+        }
+    }
+
+    /// Adds that no line above declares it, and which line below does.
+    fn say_undeclared(&self, said: &mut String, declared: Declared<'_>) -> Result<(), AllocError> {
+        write!(said, "no line above declares {declared}")?;
+        match self.line_of(declared)? {
+            Some(line) => write!(said, "; line {line} does, and has to stand above this one"),
+            None => Ok(()),
+        }
+    }
+}
+
+fn say_twice(said: &mut String, around: &Around<'_>, words: &[&[u8]]) -> Result<(), AllocError> {
     let name = word_at(words, 1);
-    if word_at(words, 0) == b"record".as_slice() {
-        let line = above.line_of(alloc, Declared::Record(name))?;
-        return say_declared(said, "the record ", name, line);
-    }
-    let line = above.line_of(alloc, Declared::Office(name))?;
-    if line.is_some() {
-        return say_declared(said, "the office ", name, line);
-    }
-    let address = word_at(words, 2);
-    let line = above.line_of(alloc, Declared::Address(address))?;
-    say_declared(said, "the address ", address, line)
+    let declared = if word_at(words, 0) == b"record".as_slice() {
+        Declared::Record(name)
+    } else if around.line_above(Declared::Office(name))?.is_some() {
+        Declared::Office(name)
+    } else {
+        Declared::Address(word_at(words, 2))
+    };
+    say_declared(said, around, declared)
 }
 
 fn say_declared(
     said: &mut String,
-    what: &str,
-    word: &[u8],
-    line: Option<u64>,
+    around: &Around<'_>,
+    declared: Declared<'_>,
 ) -> Result<(), AllocError> {
-    let line = line.unwrap_or(0);
-    say_word(said, what, word, " was declared on line ")?;
-    write!(said, "{line}")
+    let line = around.line_above(declared)?.unwrap_or(0);
+    write!(said, "{declared} was declared on line {line}")
 }
 
-fn say_unknown(
-    said: &mut String,
-    alloc: Global,
-    above: Above<'_>,
-    words: &[&[u8]],
-) -> Result<(), AllocError> {
+fn say_unknown(said: &mut String, around: &Around<'_>, words: &[&[u8]]) -> Result<(), AllocError> {
     let at = if word_at(words, 0) == b"record".as_slice() {
         2
     } else {
@@ -251,40 +278,37 @@ fn say_unknown(
     };
     let a = word_at(words, at);
     let b = word_at(words, at + 1);
-    if above.line_of(alloc, Declared::Office(a))?.is_none() {
-        return say_word(said, "no line above declares the office ", a, "");
+    for declared in [Declared::Office(a), Declared::Office(b)] {
+        if around.line_above(declared)?.is_none() {
+            return around.say_undeclared(said, declared);
+        }
     }
-    if above.line_of(alloc, Declared::Office(b))?.is_none() {
-        return say_word(said, "no line above declares the office ", b, "");
-    }
-    say_word(said, "no line above declares the pair of ", a, " and ")?;
-    quote(said, b)
+    around.say_undeclared(said, Declared::Pair(a, b))
 }
 
 fn say_pair_twice(
     said: &mut String,
-    alloc: Global,
-    above: Above<'_>,
+    around: &Around<'_>,
     words: &[&[u8]],
 ) -> Result<(), AllocError> {
-    let a = word_at(words, 1);
-    let b = word_at(words, 2);
-    let line = above.line_of(alloc, Declared::Pair(a, b))?.unwrap_or(0);
-    say_word(said, "the pair of ", a, " and ")?;
-    say_word(said, "", b, " was declared on line ")?;
-    write!(said, "{line}, and a pair is the same in both orders")
+    let pair = Declared::Pair(word_at(words, 1), word_at(words, 2));
+    say_declared(said, around, pair)?;
+    said.push_str(", and a pair is the same in both orders")
 }
 
 fn say_limit(said: &mut String, words: &[&[u8]]) -> Result<(), AllocError> {
+    let name = Quoted(word_at(words, 1));
     if word_at(words, 0) == b"office".as_slice() {
-        return say_word(
+        let count = MOST_OFFICES + 1;
+        return write!(
             said,
-            "",
-            word_at(words, 1),
-            " is the 17th office, and a plan has at most 16",
+            "{name} is office {count} of the plan, which may have {MOST_OFFICES}"
         );
     }
-    say_word(said, "", word_at(words, 1), " is the 9th record of ")?;
-    say_word(said, "", word_at(words, 2), " and ")?;
-    say_word(said, "", word_at(words, 3), ", and a pair has at most 8")
+    let (a, b) = (Quoted(word_at(words, 2)), Quoted(word_at(words, 3)));
+    let count = MOST_PAIR_RECORDS + 1;
+    write!(
+        said,
+        "{name} is record {count} of {a} and {b}, and a pair may have {MOST_PAIR_RECORDS}"
+    )
 }

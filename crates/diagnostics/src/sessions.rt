@@ -2,11 +2,19 @@
 
 use crate::measures::measures_of;
 use crate::place::{Block, Place, first_word, keyword_in, second_word};
-use crate::shown::{quote, say_expected, say_no_name, say_strange_byte, say_word, shown, word_at};
-use office_map::Plan;
+use crate::shown::{
+    Quoted, Text, is_alike, say_expected, say_no_name, say_no_office, say_other_text,
+    say_unreadable, say_word, word_at,
+};
+use office_map::limits::{MOST_LETTERS, NUMBERS_END};
 use office_map::text::{is_name, name, number};
+use office_map::{Plan, RecordId};
 use session_language::keyword::Keyword;
 use session_language::lexer::{Piece, Pieces, Symbol};
+use session_language::limits::{
+    CODES_END, MOST_BLOCKS, MOST_BYTES, MOST_COST, MOST_DEPTH, MOST_GIVES, MOST_RECORDS,
+    MOST_SESSIONS, MOST_STATEMENTS, MOST_TURNS, MOST_VARIABLES, TEXT_LIMIT,
+};
 use session_language::{SessionRefusal, SessionRule};
 use std::alloc::{AllocError, Global};
 
@@ -19,30 +27,24 @@ pub fn of_sessions(
 ) -> Result<String, AllocError> {
     let mut said = String::new(alloc);
     if refusal.line == 0 {
-        said.push_str("the text has more than 1048576 bytes")?;
+        write!(said, "the text has more than {TEXT_LIMIT} bytes")?;
         return Ok(said);
     }
-    let place = Place::of(alloc, text, refusal.line)?;
-    say_rule(&mut said, alloc, plan, &place, refusal.rule)?;
+    let place = Place::of(alloc, plan, text, refusal.line)?;
+    say_rule(&mut said, &place, refusal.rule)?;
     Ok(said)
 }
 
-fn say_rule(
-    said: &mut String,
-    alloc: Global,
-    plan: &Plan,
-    place: &Place<'_>,
-    rule: SessionRule,
-) -> Result<(), AllocError> {
+fn say_rule(said: &mut String, place: &Place<'_>, rule: SessionRule) -> Result<(), AllocError> {
     match rule {
         SessionRule::Syntax => say_syntax(said, place),
-        SessionRule::UnknownName => say_unknown_name(said, alloc, plan, place),
-        SessionRule::UnknownRecord => say_unknown_record(said, alloc, plan, place),
+        SessionRule::UnknownName => say_unknown_name(said, place),
+        SessionRule::UnknownRecord => say_unknown_record(said, place),
         SessionRule::TooDeep => say_too_deep(said, place),
-        SessionRule::TooLong => say_too_long(said, alloc, place),
-        SessionRule::TooManyGives => say_too_many_gives(said, alloc, place),
-        SessionRule::TooManyRecords => say_too_many(said, alloc, place, Named::Records),
-        SessionRule::TooManyVariables => say_too_many(said, alloc, place, Named::Variables),
+        SessionRule::TooLong => say_too_long(said, place),
+        SessionRule::TooManyGives => say_too_many_gives(said, place),
+        SessionRule::TooManyRecords => say_too_many(said, place, Named::Records),
+        SessionRule::TooManyVariables => say_too_many(said, place, Named::Variables),
     }
 }
 
@@ -53,32 +55,38 @@ fn say_syntax(said: &mut String, place: &Place<'_>) -> Result<(), AllocError> {
     if is_blank(line) {
         return say_no_end(said, place);
     }
-    if say_strange_byte(said, line)? {
+    if say_unreadable(said, line)? {
         return Ok(());
     }
     let keyword = keyword_in(line);
-    if keyword == Keyword::Session {
-        return say_session(said, place);
-    }
-    if place.begun == 0 {
+    if place.begun == 0 && keyword != Keyword::Session {
         return say_outside(said, line);
     }
+    if say_stray(said, line)? {
+        return Ok(());
+    }
     match keyword {
+        Keyword::Session => say_session(said, place),
         Keyword::Else => say_else(said, place),
         Keyword::End => say_expected(said, line, "`end`, alone on its line"),
         Keyword::Let => say_given(said, line, "`let VARIABLE = EXPRESSION`"),
         Keyword::Set => say_given(said, line, "`set RECORD = EXPRESSION`"),
         Keyword::Give => say_form(said, line, "`give EXPRESSION`"),
-        Keyword::Require => say_compared(
-            said,
-            line,
-            "`require EXPRESSION COMPARISON EXPRESSION else CODE`, with CODE from 0 to 65535",
-        ),
+        Keyword::Require => {
+            let last = CODES_END - 1;
+            let form = format!(in place.alloc;
+                "`require EXPRESSION COMPARISON EXPRESSION else CODE`, with CODE from 0 to {last}"
+            )?;
+            say_compared(said, line, form.as_str())
+        }
         Keyword::If => say_compared(said, line, "`if EXPRESSION COMPARISON EXPRESSION`"),
         Keyword::Repeat => {
-            say_expected(said, line, "`repeat COUNT`, with COUNT from 0 to 10000")
+            let form = format!(in place.alloc;
+                "`repeat COUNT`, with COUNT from 0 to {MOST_TURNS}"
+            )?;
+            say_expected(said, line, form.as_str())
         }
-        Keyword::Session | Keyword::Other => say_other(said, line),
+        Keyword::Other => say_other(said, line),
     }
 }
 
@@ -122,7 +130,45 @@ fn say_outside(said: &mut String, line: &[u8]) -> Result<(), AllocError> {
         "",
         line,
         " stands outside of a session, and one begins with `session OFFICE`",
-    )
+    )?;
+    say_other_text(said, Text::Sessions, line)
+}
+
+/// Adds which symbol of a line the language hasn't, if there is one.
+fn say_stray(said: &mut String, line: &[u8]) -> Result<bool, AllocError> {
+    let mut pieces = Pieces { rest: line };
+    for _ in 0..line.len() {
+        match pieces.next() {
+            None => return Ok(false),
+            Some(Piece::Stray) => {
+                let column = line.len().saturating_sub(pieces.rest.len());
+                let stray = line.get(column.saturating_sub(1)).copied().unwrap_or(b' ');
+                let symbol = Quoted(&[stray]);
+                let hint = hint_of(stray);
+                write!(
+                    said,
+                    "{symbol} in column {column} is no symbol of the language, which has = == != < <= > >= + - * ( ){hint}"
+                )?;
+                return Ok(true);
+            }
+            Some(_) => {}
+        }
+    }
+    Ok(false)
+}
+
+/// What to write in place of a symbol of other languages.
+fn hint_of(stray: u8) -> &'static str {
+    match stray {
+        b'/' | b'%' => "; it does not divide",
+        b';' => "; a statement ends with its line",
+        b',' | b'.' => "; a number is digits alone",
+        b'"' | b'\'' => "; a value is a whole number, and a name has no quotes",
+        b'&' | b'|' => "; a condition is one comparison",
+        b'!' => "; not to be equal is `!=`",
+        b'{' | b'}' | b':' => "; a block begins with its line, and ends with `end`",
+        _ => "",
+    }
 }
 
 fn say_else(said: &mut String, place: &Place<'_>) -> Result<(), AllocError> {
@@ -149,7 +195,17 @@ fn say_other(said: &mut String, line: &[u8]) -> Result<(), AllocError> {
         "",
         shown,
         " begins no line of a session: that is let, set, give, require, if, else, repeat or end",
-    )
+    )?;
+    if let (Some(name), true) = (
+        name(word),
+        has_one(line, false) && second_word(line).is_empty(),
+    ) {
+        write!(
+            said,
+            "; a variable is given a value by `let {name} = ..`, and a record by `set {name} = ..`"
+        )?;
+    }
+    say_other_text(said, Text::Sessions, line)
 }
 
 /// Of a `let` or `set`.
@@ -167,6 +223,12 @@ fn say_given(said: &mut String, line: &[u8], form: &str) -> Result<(), AllocErro
 
 /// Of a line with a condition.
 fn say_compared(said: &mut String, line: &[u8], form: &str) -> Result<(), AllocError> {
+    for (wrong, right) in [("=>", ">="), ("=<", "<="), ("<>", "!=")] {
+        if line.windows(2).any(|two| two == wrong.as_bytes()) {
+            write!(said, "`{wrong}` is written `{right}`: ")?;
+            return say_expected(said, line, form);
+        }
+    }
     if has_one(line, false) {
         said.push_str("two values are compared by `==`, and not by `=`: ")?;
         return say_expected(said, line, form);
@@ -212,13 +274,12 @@ fn say_form(said: &mut String, line: &[u8], form: &str) -> Result<(), AllocError
             break;
         };
         match piece {
-            Piece::Stray => {
-                said.push_str("a symbol is none of the language: ")?;
-                return say_expected(said, line, form);
-            }
+            Piece::Stray => {}
             Piece::Word(word) => {
                 if is_long_number(word) {
-                    return say_word(said, "", word, " is past 9223372036854775807");
+                    let word = Quoted(word);
+                    let last = NUMBERS_END - 1;
+                    return write!(said, "{word} is past {last}");
                 }
                 if is_long_name(word) {
                     return say_no_name(said, word);
@@ -232,7 +293,12 @@ fn say_form(said: &mut String, line: &[u8], form: &str) -> Result<(), AllocError
                 }
                 open -= 1;
             }
-            Piece::Symbol(_) => {}
+            Piece::Symbol(symbol) => {
+                if open > 0 && is_comparison(symbol) {
+                    said.push_str("a comparison stands outside of parentheses: ")?;
+                    return say_expected(said, line, form);
+                }
+            }
         }
     }
     if open > 0 {
@@ -247,25 +313,18 @@ fn is_long_number(word: &[u8]) -> bool {
 
 /// Whether it is spelled as a name is, and no name because of its length.
 fn is_long_name(word: &[u8]) -> bool {
-    word.len() > 16 && !word.iter().all(|b| b.is_ascii_digit())
+    word.len() > MOST_LETTERS && !word.iter().all(|b| b.is_ascii_digit())
 }
 
 // ---- names
 
-fn say_unknown_name(
-    said: &mut String,
-    alloc: Global,
-    plan: &Plan,
-    place: &Place<'_>,
-) -> Result<(), AllocError> {
+fn say_unknown_name(said: &mut String, place: &Place<'_>) -> Result<(), AllocError> {
     if keyword_in(place.line) == Keyword::Session {
-        return say_word(said, "the plan has no office ", second_word(place.line), "");
+        return say_no_office(said, place.plan, second_word(place.line));
     }
-    let known = variables_of(alloc, place)?;
+    let known = names_of(place, Named::Variables)?;
     let Some(variable) = unknown_variable(place.line, &known) else {
-        return said.push_str(
-            "no such office, or no earlier line of the session lets this variable",
-        );
+        return said.push_str("no earlier line of the session lets a variable of this line");
     };
     say_word(
         said,
@@ -273,20 +332,11 @@ fn say_unknown_name(
         variable,
         "",
     )?;
-    if is_record(plan, variable) {
-        let record = shown(variable);
+    if is_record(place.plan, variable) {
+        let record = name(variable).unwrap_or("");
         return write!(said, "; it is a record, and read by `read {record}`");
     }
     Ok(())
-}
-
-/// The variables that the session lets above this place, each once: at most 32, however long it is.
-fn variables_of<'a>(alloc: Global, place: &Place<'a>) -> Result<Vec<&'a [u8]>, AllocError> {
-    let mut names: Vec<&[u8]> = Vec::new(alloc);
-    for line in place.body.iter() {
-        add_names(alloc, &mut names, *line, Named::Variables)?;
-    }
-    Ok(names)
 }
 
 /// The first variable of a line that isn't one of these.
@@ -327,17 +377,13 @@ fn is_record(plan: &Plan, word: &[u8]) -> bool {
     }
 }
 
-fn say_unknown_record(
-    said: &mut String,
-    alloc: Global,
-    plan: &Plan,
-    place: &Place<'_>,
-) -> Result<(), AllocError> {
-    for record in records_in(alloc, place.line)? {
+fn say_unknown_record(said: &mut String, place: &Place<'_>) -> Result<(), AllocError> {
+    let plan = place.plan;
+    for record in records_in(place.alloc, place.line)? {
         if !is_record(plan, record) {
-            say_word(said, "the plan has no record ", record, "")?;
+            say_no_record(said, plan, record)?;
             if is_let(place, record) {
-                let variable = shown(record);
+                let variable = name(record).unwrap_or("");
                 write!(
                     said,
                     "; a variable is given a value by `let {variable} = ..`"
@@ -346,16 +392,26 @@ fn say_unknown_record(
             return Ok(());
         }
         if !is_of_office(plan, record, place.office) {
-            say_word(
+            let (record, office) = (Quoted(record), Quoted(place.office));
+            return write!(
                 said,
-                "the record ",
-                record,
-                " is not of the session's office ",
-            )?;
-            return quote(said, place.office);
+                "the record {record} is not of the session's office {office}"
+            );
         }
     }
-    said.push_str("no such record, or it is not of the session's office")
+    said.push_str("a record of this line is not of the session's office")
+}
+
+/// Adds that the plan has no such record, and the one that is spelled so but for capital letters.
+fn say_no_record(said: &mut String, plan: &Plan, word: &[u8]) -> Result<(), AllocError> {
+    say_word(said, "the plan has no record ", word, "")?;
+    for number in 0..plan.records() {
+        let name = plan.record_name(RecordId::new(number as u16));
+        if is_alike(name.as_bytes(), word) {
+            return write!(said, "; it has `{name}`, and capital letters count");
+        }
+    }
+    Ok(())
 }
 
 /// The records that a line sets and reads.
@@ -399,46 +455,50 @@ fn say_too_deep(said: &mut String, place: &Place<'_>) -> Result<(), AllocError> 
         Keyword::If | Keyword::Repeat => true,
         _ => false,
     };
-    if opens && place.blocks.len() >= 8 {
-        return said.push_str("it opens a ninth block, and at most 8 may be open");
+    if opens && place.blocks.len() >= MOST_BLOCKS {
+        let count = MOST_BLOCKS + 1;
+        return write!(
+            said,
+            "it opens block {count} within one another, and at most {MOST_BLOCKS} may be open"
+        );
     }
-    said.push_str(
-        "an expression is more than 32 deep, where each operator, each leading minus and each pair of parentheses counts one",
+    write!(
+        said,
+        "an expression is more than {MOST_DEPTH} deep, where each operator, each leading minus and each pair of parentheses counts one"
     )
 }
 
-fn say_too_long(said: &mut String, alloc: Global, place: &Place<'_>) -> Result<(), AllocError> {
+fn say_too_long(said: &mut String, place: &Place<'_>) -> Result<(), AllocError> {
     if keyword_in(place.line) == Keyword::Session {
         let count = place.sessions.saturating_add(1);
         return write!(
             said,
-            "it begins session {count} of the text, which may have 1024"
+            "it begins session {count} of the text, which may have {MOST_SESSIONS}"
         );
     }
     let begun = place.begun;
-    let measures = measures_of(alloc, &place.body)?;
+    let measures = measures_of(place.alloc, &place.body)?;
     let statements = measures.statements;
     let cost = measures.cost;
     write!(said, "the session of line {begun} has ")?;
-    if statements > 256 {
-        return write!(said, "{statements} statements, and may have 256");
+    if statements > MOST_STATEMENTS as u64 {
+        return write!(
+            said,
+            "{statements} statements, and may have {MOST_STATEMENTS}"
+        );
     }
-    if cost > 10_000 {
-        return write!(said, "a cost of {cost}, and may have 10000");
+    if cost > MOST_COST as u64 {
+        return write!(said, "a cost of {cost}, and may have {MOST_COST}");
     }
-    said.push_str("a canonical text of more than 16384 bytes")
+    write!(said, "a canonical text of more than {MOST_BYTES} bytes")
 }
 
-fn say_too_many_gives(
-    said: &mut String,
-    alloc: Global,
-    place: &Place<'_>,
-) -> Result<(), AllocError> {
+fn say_too_many_gives(said: &mut String, place: &Place<'_>) -> Result<(), AllocError> {
     let begun = place.begun;
-    let gives = measures_of(alloc, &place.body)?.gives;
+    let gives = measures_of(place.alloc, &place.body)?.gives;
     write!(
         said,
-        "the session of line {begun} may come to {gives} values that it gives, and 64 are allowed"
+        "the session of line {begun} may come to {gives} values that it gives, and {MOST_GIVES} are allowed"
     )
 }
 
@@ -450,28 +510,29 @@ enum Named {
 }
 
 /// The first name past the limit.
-fn say_too_many(
-    said: &mut String,
-    alloc: Global,
-    place: &Place<'_>,
-    named: Named,
-) -> Result<(), AllocError> {
-    let mut names: Vec<&[u8]> = Vec::new(alloc);
-    for line in place.body.iter() {
-        add_names(alloc, &mut names, *line, named)?;
-    }
-    add_names(alloc, &mut names, place.line, named)?;
+fn say_too_many(said: &mut String, place: &Place<'_>, named: Named) -> Result<(), AllocError> {
+    let mut names = names_of(place, named)?;
+    add_names(place.alloc, &mut names, place.line, named)?;
     let (most, what) = match named {
-        Named::Records => (16, "record"),
-        Named::Variables => (32, "variable"),
+        Named::Records => (MOST_RECORDS, "record"),
+        Named::Variables => (MOST_VARIABLES, "variable"),
     };
     let begun = place.begun;
     let count = most + 1;
-    say_word(said, "", word_at(&names, most), "")?;
+    let name = Quoted(word_at(&names, most));
     write!(
         said,
-        " is {what} {count} of the session of line {begun}, which may have {most}"
+        "{name} is {what} {count} of the session of line {begun}, which may have {most}"
     )
+}
+
+/// What the session names above this place, each once: no more than it may name, however long it is.
+fn names_of<'a>(place: &Place<'a>, named: Named) -> Result<Vec<&'a [u8]>, AllocError> {
+    let mut names: Vec<&[u8]> = Vec::new(place.alloc);
+    for line in place.body.iter() {
+        add_names(place.alloc, &mut names, *line, named)?;
+    }
+    Ok(names)
 }
 
 /// Adds what a line names, each name once.

@@ -1,44 +1,66 @@
 //! Lines and words, as people are shown them.
 
+use office_map::limits::MOST_LETTERS;
+use office_map::text::first_line;
+use office_map::{OfficeId, Plan};
 use std::alloc::AllocError;
+use std::fmt;
 
 /// How many bytes of a word or a line are shown.
 const MOST: usize = 60;
 
-/// The line of this number, from 1, without its end.
-pub(crate) fn line_at(text: &[u8], number: u64) -> Option<&[u8]> {
-    let mut left = number;
-    for line in text.split(|b| *b == b'\n') {
-        if left == 1 {
-            return Some(without_return(line));
+/// A word or a line, in quotes: of a long one its beginning, and of a byte that isn't printable ASCII its escape.
+#[derive(Clone, Copy)]
+pub(crate) struct Quoted<'a>(pub &'a [u8]);
+
+impl fmt::Display for Quoted<'_> {
+    fn fmt<W: fmt::Write>(&self, f: &mut fmt::Formatter<W>) -> fmt::Result {
+        let word = self.0;
+        f.write_str("`")?;
+        for b in &word[..word.len().min(MOST)] {
+            let byte = *b;
+            match byte {
+                b' '..=b'~' => f.write_char(byte as char)?,
+                b'\t' => f.write_str("\\t")?,
+                _ => write!(f, "\\x{byte:02X}")?,
+            }
         }
-        left = left.saturating_sub(1);
+        f.write_str(if word.len() > MOST { "...`" } else { "`" })
     }
-    None
 }
 
-pub(crate) fn without_return(line: &[u8]) -> &[u8] {
-    match line {
-        [front @ .., b'\r'] => front,
-        _ => line,
+/// The lines of a text that are left, each without its end.
+#[derive(Clone, Copy)]
+pub(crate) struct Lines<'a> {
+    pub rest: &'a [u8],
+}
+
+impl<'a> Lines<'a> {
+    pub fn next(&mut self) -> Option<&'a [u8]> {
+        if self.rest.is_empty() {
+            return None;
+        }
+        let (line, rest) = first_line(self.rest);
+        self.rest = rest;
+        Some(line)
     }
+}
+
+/// The line of this number, from 1.
+pub(crate) fn line_at(text: &[u8], number: u64) -> Option<&[u8]> {
+    let mut lines = Lines { rest: text };
+    for i in 0..text.len() {
+        let line = lines.next()?;
+        if i as u64 + 1 == number {
+            return Some(line);
+        }
+    }
+    None
 }
 
 /// The word at this place, or no bytes where the line has no such word.
 pub(crate) fn word_at<'a>(words: &[&'a [u8]], at: usize) -> &'a [u8] {
     if at < words.len() { words[at] } else { &[] }
-}
-
-/// A word or the beginning of a long one, as text.
-pub(crate) fn shown(word: &[u8]) -> &str {
-    str::from_utf8(&word[..word.len().min(MOST)]).unwrap_or("")
-}
-
-/// Adds a word or a line, in quotes; of a long one its beginning.
-pub(crate) fn quote(said: &mut String, word: &[u8]) -> Result<(), AllocError> {
-    let shown = shown(word);
-    let rest = if word.len() > MOST { "..." } else { "" };
-    write!(said, "`{shown}{rest}`")
 }
 
 /// Adds a word, in quotes, between two texts.
@@ -48,39 +70,123 @@ pub(crate) fn say_word(
     word: &[u8],
     after: &str,
 ) -> Result<(), AllocError> {
-    said.push_str(before)?;
-    quote(said, word)?;
-    said.push_str(after)
+    let word = Quoted(word);
+    write!(said, "{before}{word}{after}")
 }
 
-/// Adds which byte of a line may not stand in a text, if there is one.
-pub(crate) fn say_strange_byte(said: &mut String, line: &[u8]) -> Result<bool, AllocError> {
+/// Adds what no line that says something may have, if it has it: a byte order mark, a comment after other words, or a byte
+/// that is neither a tab nor printable ASCII.
+pub(crate) fn say_unreadable(said: &mut String, line: &[u8]) -> Result<bool, AllocError> {
+    if let Some(mark) = byte_order_mark(line) {
+        write!(
+            said,
+            "the line begins with the byte order mark of {mark}: save the text as UTF-8 without a byte order mark"
+        )?;
+        return Ok(true);
+    }
     for (i, b) in line.iter().enumerate() {
-        if *b != b'\t' && (*b < b' ' || *b > b'~') {
-            let byte = *b;
-            let column = i + 1;
+        let byte = *b;
+        let column = i + 1;
+        if byte == b'#' {
             write!(
                 said,
-                "byte {byte:02X} in column {column} is neither a tab nor printable ASCII"
+                "the `#` in column {column} begins no comment: a comment stands on a line of its own"
             )?;
+            return Ok(true);
+        }
+        if byte != b'\t' && (byte < b' ' || byte > b'~') {
+            let what = if byte == b'\r' {
+                "a carriage return, which ends no line without a line feed"
+            } else {
+                "neither a tab nor printable ASCII"
+            };
+            write!(said, "byte {byte:02X} in column {column} is {what}")?;
             return Ok(true);
         }
     }
     Ok(false)
 }
 
+fn byte_order_mark(line: &[u8]) -> Option<&'static str> {
+    match line {
+        [0xEF, 0xBB, 0xBF, ..] => Some("UTF-8 (EF BB BF)"),
+        [0xFF, 0xFE, ..] => Some("UTF-16 (FF FE)"),
+        [0xFE, 0xFF, ..] => Some("UTF-16 (FE FF)"),
+        _ => None,
+    }
+}
+
 /// Adds that a word is no name.
 pub(crate) fn say_no_name(said: &mut String, word: &[u8]) -> Result<(), AllocError> {
-    say_word(
+    let word = Quoted(word);
+    let more = MOST_LETTERS - 1;
+    write!(
         said,
-        "",
-        word,
-        " is no name: a letter, then at most 15 letters, digits or _, and none of the words that the texts use",
+        "{word} is no name: a letter, then at most {more} letters, digits or _, and none of session, let, set, give, require, if, else, repeat, end and read"
     )
 }
 
 /// Adds the form that was expected, and the line that was found.
 pub(crate) fn say_expected(said: &mut String, line: &[u8], form: &str) -> Result<(), AllocError> {
-    write!(said, "expected {form}, and found ")?;
-    quote(said, line)
+    let line = Quoted(line);
+    write!(said, "expected {form}, and found {line}")
+}
+
+/// Adds that the plan has no such office, and the one that is spelled so but for capital letters.
+pub(crate) fn say_no_office(said: &mut String, plan: &Plan, word: &[u8]) -> Result<(), AllocError> {
+    say_word(said, "the plan has no office ", word, "")?;
+    for number in 0..plan.offices() {
+        let name = plan.office_name(OfficeId::new(number as u8));
+        if is_alike(name.as_bytes(), word) {
+            return write!(said, "; it has `{name}`, and capital letters count");
+        }
+    }
+    Ok(())
+}
+
+/// Whether two words are one but for capital letters.
+pub(crate) fn is_alike(a: &[u8], b: &[u8]) -> bool {
+    a.len() == b.len() && a.iter().zip(b).all(|(x, y)| x.eq_ignore_ascii_case(y))
+}
+
+/// The texts that a command reads, in the order of its words.
+#[derive(Clone, Copy, PartialEq, Eq)]
+pub(crate) enum Text {
+    Plan,
+    Sessions,
+    Script,
+}
+
+/// Adds, where a line of this text begins as one of another text does, how the texts are told apart.
+pub(crate) fn say_other_text(said: &mut String, read: Text, line: &[u8]) -> Result<(), AllocError> {
+    let word = line
+        .split(|b| *b == b' ' || *b == b'\t')
+        .find(|w| !w.is_empty())
+        .unwrap_or(&[]);
+    if word == b"---".as_slice() {
+        return said.push_str(
+            "; `---` parts texts on the standard input alone, one for each word `-` of the command",
+        );
+    }
+    let (begun, what) = match word {
+        b"plan" | b"office" | b"pair" | b"record" => (Text::Plan, "a plan"),
+        b"session"
+        | b"let"
+        | b"set"
+        | b"give"
+        | b"require"
+        | b"if"
+        | b"else"
+        | b"repeat"
+        | b"end" => (Text::Sessions, "a text of sessions"),
+        b"submit" | b"do" | b"advance" | b"send" | b"deliver" => (Text::Script, "a script"),
+        _ => return Ok(()),
+    };
+    if begun == read {
+        return Ok(());
+    }
+    write!(
+        said,
+        "; it is a line of {what}: name the texts in the order of the command, and part those on one standard input by a line `---`"
+    )
 }

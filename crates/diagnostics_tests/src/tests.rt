@@ -1,4 +1,4 @@
-use diagnostics::{of_plan, of_script, of_sessions};
+use diagnostics::{of_plan, of_ring, of_script, of_sessions};
 use office_map::{Plan, PlanFault};
 use session_language::{LangFault, read_sessions};
 use std::alloc::{AllocError, Global};
@@ -17,7 +17,7 @@ const OFFICES: &str =
 /// A text that is refused, and what is said of it, in two parts.
 type Row = (&'static str, &'static str, &'static str);
 
-static PLANS: [Row; 23] = [
+static PLANS: [Row; 33] = [
     (
         "# only this\n",
         "no line says anything, and the first one has to be `plan 1 run N`",
@@ -40,13 +40,13 @@ static PLANS: [Row; 23] = [
     ),
     (
         "plan 1 run 1\noffice a -\n",
-        "fewer than two offices are declared, and a plan has at least two",
+        "fewer than 2 offices are declared, and a plan has 2 at least",
         "",
     ),
     (
         "plan 1 run 1\noffise a -\n",
         "`offise` begins no line of a plan; these are ",
-        "`office NAME ADDR`, `pair A B fork E` and `record NAME A B VALUE at E`",
+        "`office NAME ADDRESS`, `pair A B fork E` and `record NAME A B VALUE at E`",
     ),
     (
         "plan 1 run 1\nplan 1 run 1\n",
@@ -55,42 +55,87 @@ static PLANS: [Row; 23] = [
     ),
     (
         "plan 1 run 1\noffice a\n",
-        "expected `office NAME ADDR`, and found ",
-        "`office a`",
+        "expected `office NAME ADDRESS`, and found `office a`; ",
+        "where there is no address, ADDRESS is `-`",
     ),
     (
         "plan 1 run 1\noffice 1a -\n",
         "`1a` is no name: ",
-        "a letter, then at most 15 letters, digits or _, and none of the words that the texts use",
+        "a letter, then at most 15 letters, digits or _, and none of session, let, set, give, require, if, else, repeat, end and read",
     ),
     (
         "plan 1 run 1\noffice a 1.2.3.4\n",
         "`1.2.3.4` is no address: ",
-        "that is `-`, or four numbers up to 255 with dots, a colon and a port from 1 to 65535, without leading zeros",
+        "that is `-`, or four numbers up to 255 with dots, a colon and a port from 1 to 65535, without leading zeros, as 127.0.0.1:47001",
     ),
     (
         "plan 1 run 1\npair a b frok a\n",
-        "expected `pair A B fork E`, and found ",
-        "`pair a b frok a`",
+        "expected `pair A B fork E`, and found `pair a b frok a`; ",
+        "E, where the fork starts, is A or B",
     ),
     (
         "plan 1 run 1\npair a b fork c\n",
-        "`c` is neither `a` nor `b`",
+        "`c` is neither `a` nor `b`, the ends of the pair",
         "",
     ),
     (
         "plan 1 run 1\nrecord x a b 1 at\n",
-        "expected `record NAME A B VALUE at E`, and found ",
-        "`record x a b 1 at`",
+        "expected `record NAME A B VALUE at E`, and found `record x a b 1 at`; ",
+        "E, where the record starts, is A or B",
     ),
     (
         "plan 1 run 1\nrecord x a b 1.5 at a\n",
         "`1.5` is no value: ",
-        "a whole number from -9223372036854775808 to 9223372036854775807",
+        "a whole number in digits alone, after a `-` if it is less than 0, from -9223372036854775808 to 9223372036854775807",
+    ),
+    (
+        "plan 1 run 1\nrecord x a b 1,000 at a\n",
+        "`1,000` is no value: ",
+        "a whole number in digits alone, after a `-` if it is less than 0, from -9223372036854775808 to 9223372036854775807",
+    ),
+    (
+        "plan 1 run 1\nrecord \"x\" a b 1 at a\n",
+        "`\"x\"` is no name: ",
+        "a letter, then at most 15 letters, digits or _, and none of session, let, set, give, require, if, else, repeat, end and read",
+    ),
+    (
+        "\u{feff}plan 1 run 1\noffice a -\n",
+        "the line begins with the byte order mark of UTF-8 (EF BB BF): ",
+        "save the text as UTF-8 without a byte order mark",
+    ),
+    (
+        "plan 1 run 1 # the first\noffice a -\n",
+        "the `#` in column 14 begins no comment: ",
+        "a comment stands on a line of its own",
+    ),
+    (
+        "plan 1 run 1\noffice a - # here\n",
+        "the `#` in column 12 begins no comment: ",
+        "a comment stands on a line of its own",
+    ),
+    (
+        "plan 1 run 1\noffice a -\r",
+        "byte 0D in column 11 is a carriage return, which ends no line without a line feed",
+        "",
+    ),
+    (
+        "plan 1 run 1\noffice\ta\n",
+        "expected `office NAME ADDRESS`, and found `office\\ta`; ",
+        "where there is no address, ADDRESS is `-`",
+    ),
+    (
+        "plan 1 run 1\r\noffice a -\r\noffice b -\r\nsession a\r\n",
+        "`session` begins no line of a plan; these are `office NAME ADDRESS`, `pair A B fork E` and `record NAME A B VALUE at E`; ",
+        "it is a line of a text of sessions: name the texts in the order of the command, and part those on one standard input by a line `---`",
+    ),
+    (
+        "plan 1 run 1\noffice a -\noffice b -\n---\nsession a\n",
+        "`---` begins no line of a plan; these are `office NAME ADDRESS`, `pair A B fork E` and `record NAME A B VALUE at E`; ",
+        "`---` parts texts on the standard input alone, one for each word `-` of the command",
     ),
     (
         "plan 1 run 1\nrecord x a b 1 at y\n",
-        "`y` is neither `a` nor `b`",
+        "`y` is neither `a` nor `b`, the ends of the pair",
         "",
     ),
     (
@@ -115,13 +160,18 @@ static PLANS: [Row; 23] = [
     ),
     (
         "plan 1 run 1\npair c b fork c\noffice c -\n",
-        "no line above declares the office `c`",
-        "",
+        "no line above declares the office `c`; ",
+        "line 3 does, and has to stand above this one",
     ),
     (
         "plan 1 run 1\noffice a -\noffice b -\nrecord x a b 1 at a\n",
         "no line above declares the pair of `a` and `b`",
         "",
+    ),
+    (
+        "plan 1 run 1\noffice a -\noffice b -\nrecord x a b 1 at a\npair b a fork a\n",
+        "no line above declares the pair of `a` and `b`; ",
+        "line 5 does, and has to stand above this one",
     ),
     (
         "plan 1 run 1\noffice a -\npair a a fork a\n",
@@ -135,7 +185,7 @@ static PLANS: [Row; 23] = [
     ),
 ];
 
-static SESSIONS: [Row; 40] = [
+static SESSIONS: [Row; 59] = [
     (
         "session a\ngive 1\n",
         "the session of line 1 has no `end`",
@@ -178,8 +228,18 @@ static SESSIONS: [Row; 40] = [
     ),
     (
         "session a\ngive 1 # no\u{e9}\n",
-        "byte C3 in column 12 is neither a tab nor printable ASCII",
+        "the `#` in column 8 begins no comment: ",
+        "a comment stands on a line of its own",
+    ),
+    (
+        "session a\ngive 1\u{e9}\n",
+        "byte C3 in column 7 is neither a tab nor printable ASCII",
         "",
+    ),
+    (
+        "\u{feff}session a\nend\n",
+        "the line begins with the byte order mark of UTF-8 (EF BB BF): ",
+        "save the text as UTF-8 without a byte order mark",
     ),
     (
         "session a\nelse\n",
@@ -229,17 +289,57 @@ static SESSIONS: [Row; 40] = [
     (
         "session a\nlet 2v = 1\n",
         "`2v` is no name: ",
-        "a letter, then at most 15 letters, digits or _, and none of the words that the texts use",
+        "a letter, then at most 15 letters, digits or _, and none of session, let, set, give, require, if, else, repeat, end and read",
     ),
     (
         "session a\nlet end = 1\n",
         "`end` is no name: ",
-        "a letter, then at most 15 letters, digits or _, and none of the words that the texts use",
+        "a letter, then at most 15 letters, digits or _, and none of session, let, set, give, require, if, else, repeat, end and read",
     ),
     (
         "session a\ngive 1 / 2\n",
-        "a symbol is none of the language: ",
-        "expected `give EXPRESSION`, and found `give 1 / 2`",
+        "`/` in column 8 is no symbol of the language, which has = == != < <= > >= + - * ( )",
+        "; it does not divide",
+    ),
+    (
+        "session a\ngive 1;\n",
+        "`;` in column 7 is no symbol of the language, which has = == != < <= > >= + - * ( )",
+        "; a statement ends with its line",
+    ),
+    (
+        "session a\nend;\n",
+        "`;` in column 4 is no symbol of the language, which has = == != < <= > >= + - * ( )",
+        "; a statement ends with its line",
+    ),
+    (
+        "session a\nset x = 1,000\n",
+        "`,` in column 10 is no symbol of the language, which has = == != < <= > >= + - * ( )",
+        "; a number is digits alone",
+    ),
+    (
+        "session a\nlet v = \"x\"\n",
+        "`\"` in column 9 is no symbol of the language, which has = == != < <= > >= + - * ( )",
+        "; a value is a whole number, and a name has no quotes",
+    ),
+    (
+        "session a\nif read x > 1 && read x < 9\n",
+        "`&` in column 15 is no symbol of the language, which has = == != < <= > >= + - * ( )",
+        "; a condition is one comparison",
+    ),
+    (
+        "session a\nif ! 1 == 1\n",
+        "`!` in column 4 is no symbol of the language, which has = == != < <= > >= + - * ( )",
+        "; not to be equal is `!=`",
+    ),
+    (
+        "session a\nrepeat 3 {\n",
+        "`{` in column 10 is no symbol of the language, which has = == != < <= > >= + - * ( )",
+        "; a block begins with its line, and ends with `end`",
+    ),
+    (
+        "session a\ngive read x @ 2\n",
+        "`@` in column 13 is no symbol of the language, which has = == != < <= > >= + - * ( )",
+        "",
     ),
     (
         "session a\ngive (1 + 2\n",
@@ -259,7 +359,7 @@ static SESSIONS: [Row; 40] = [
     (
         "session a\nlet v = abcdefghijklmnopq\n",
         "`abcdefghijklmnopq` is no name: ",
-        "a letter, then at most 15 letters, digits or _, and none of the words that the texts use",
+        "a letter, then at most 15 letters, digits or _, and none of session, let, set, give, require, if, else, repeat, end and read",
     ),
     (
         "session a\nrequire read x = 1 else 7\n",
@@ -286,7 +386,52 @@ static SESSIONS: [Row; 40] = [
         "expected `repeat COUNT`, with COUNT from 0 to 10000, and found ",
         "`repeat 10001`",
     ),
+    (
+        "session a\nif (read x > 1)\n",
+        "a comparison stands outside of parentheses: ",
+        "expected `if EXPRESSION COMPARISON EXPRESSION`, and found `if (read x > 1)`",
+    ),
+    (
+        "session a\nif read x => 1\n",
+        "`=>` is written `>=`: ",
+        "expected `if EXPRESSION COMPARISON EXPRESSION`, and found `if read x => 1`",
+    ),
+    (
+        "session a\nx = 5\n",
+        "`x` begins no line of a session: that is let, set, give, require, if, else, repeat or end; ",
+        "a variable is given a value by `let x = ..`, and a record by `set x = ..`",
+    ),
+    (
+        "session a\nsubmit 1\n",
+        "`submit` begins no line of a session: that is let, set, give, require, if, else, repeat or end; ",
+        "it is a line of a script: name the texts in the order of the command, and part those on one standard input by a line `---`",
+    ),
+    (
+        "office a -\n",
+        "`office a -` stands outside of a session, and one begins with `session OFFICE`; ",
+        "it is a line of a plan: name the texts in the order of the command, and part those on one standard input by a line `---`",
+    ),
+    (
+        "session a\nend\n---\n",
+        "`---` stands outside of a session, and one begins with `session OFFICE`; ",
+        "`---` parts texts on the standard input alone, one for each word `-` of the command",
+    ),
+    (
+        "session a\ngive\t(1\n",
+        "a `(` is not closed: ",
+        "expected `give EXPRESSION`, and found `give\\t(1`",
+    ),
     ("session q\n", "the plan has no office `q`", ""),
+    (
+        "session A\n",
+        "the plan has no office `A`; it has `a`, and capital letters count",
+        "",
+    ),
+    (
+        "session a\ngive read R12\n",
+        "the plan has no record `R12`; it has `r12`, and capital letters count",
+        "",
+    ),
     (
         "session a\nset x = x + 1\n",
         "no earlier line of the session lets the variable `x`; it is a record, and read by `read x`",
@@ -335,7 +480,7 @@ static SESSIONS: [Row; 40] = [
 ];
 
 /// The second line of a script of two sessions.
-static SCRIPTS: [Row; 23] = [
+static SCRIPTS: [Row; 29] = [
     (
         "submit 3",
         "there is no session `3`: they are counted from 1, and the file has 2",
@@ -368,6 +513,36 @@ static SCRIPTS: [Row; 23] = [
     ),
     ("do a", "expected `do OFFICE RULE`, and found ", "`do a`"),
     ("do q start", "the plan has no office `q`", ""),
+    (
+        "advance A 1",
+        "the plan has no office `A`; it has `a`, and capital letters count",
+        "",
+    ),
+    (
+        "do a askfork",
+        "the rule `askfork` needs an office after it",
+        "",
+    ),
+    (
+        "do a work",
+        "the rule `work` needs a number of instructions after it",
+        "",
+    ),
+    (
+        "submit 1 # the first",
+        "the `#` in column 10 begins no comment: ",
+        "a comment stands on a line of its own",
+    ),
+    (
+        "\u{feff}submit 1",
+        "the line begins with the byte order mark of UTF-8 (EF BB BF): ",
+        "save the text as UTF-8 without a byte order mark",
+    ),
+    (
+        "session a",
+        "`session` begins no line of a script; these are `submit N`, `do OFFICE RULE`, `advance OFFICE N`, `send OFFICE NEIGHBOUR I` and `deliver K`; ",
+        "it is a line of a text of sessions: name the texts in the order of the command, and part those on one standard input by a line `---`",
+    ),
     (
         "do a brew",
         "`brew` is no rule; the rules are ",
@@ -433,6 +608,52 @@ static SCRIPTS: [Row; 23] = [
     ),
 ];
 
+/// Plans with a ring, and the same plans with the fork turned that is told: of two rings the other one is left.
+static RINGS: [Row; 6] = [
+    (
+        "plan 1 run 1\noffice a -\noffice b -\noffice c -\npair a b fork a\npair b c fork b\npair a c fork c\n",
+        "a, c, b (each precedes the next, and the last the first); turn a fork: ",
+        "with `pair a c fork a` on line 7, in place of `fork c`, this ring is gone",
+    ),
+    (
+        "plan 1 run 1\noffice a -\noffice b -\noffice c -\npair a b fork a\npair b c fork b\npair a c fork a\n",
+        "not refused",
+        "",
+    ),
+    (
+        "plan 1 run 1\r\noffice a -\noffice b -\noffice c -\noffice d -\npair c a fork a\n# pair\npair a b fork b\npair b c fork c\npair c d fork d\n",
+        "a, b, c (each precedes the next, and the last the first); turn a fork: ",
+        "with `pair b c fork b` on line 9, in place of `fork c`, this ring is gone",
+    ),
+    (
+        "plan 1 run 1\noffice a -\noffice b -\noffice c -\noffice d -\npair a b fork b\npair b c fork c\npair c a fork a\npair c d fork d\npair d a fork a\n",
+        "a, b, c (each precedes the next, and the last the first); turn a fork: ",
+        "with `pair c a fork c` on line 8, in place of `fork a`, this ring is gone",
+    ),
+    (
+        "plan 1 run 1\noffice a -\noffice b -\noffice c -\noffice d -\npair a b fork b\npair b c fork c\npair c a fork c\npair c d fork d\npair d a fork a\n",
+        "a, b, c, d (each precedes the next, and the last the first); turn a fork: ",
+        "with `pair d a fork d` on line 10, in place of `fork a`, this ring is gone",
+    ),
+    (
+        "plan 1 run 1\noffice a -\noffice b -\noffice c -\noffice d -\npair a b fork b\npair b c fork c\npair c a fork c\npair c d fork d\npair d a fork d\n",
+        "not refused",
+        "",
+    ),
+];
+
+/// Beginnings of texts of UTF-16, as they are saved with a byte order mark, and what that is said to be.
+static WIDE: [(&[u8], &str); 2] = [
+    (
+        b"\xff\xfep\0l\0a\0n\0",
+        "the line begins with the byte order mark of UTF-16 (FF FE): save the text as UTF-8 without a byte order mark",
+    ),
+    (
+        b"\xfe\xff\0p\0l\0a\0n",
+        "the line begins with the byte order mark of UTF-16 (FE FF): save the text as UTF-8 without a byte order mark",
+    ),
+];
+
 /// What a text begins with, how many lines come then, each with a number between two texts, what it ends with, and what is
 /// said of it.
 type Long = (
@@ -451,7 +672,7 @@ static LONG_PLANS: [Long; 3] = [
         "office q",
         " -",
         "",
-        "`q0` is the 17th office, and a plan has at most 16",
+        "`q0` is office 17 of the plan, which may have 16",
     ),
     (
         PLAN,
@@ -459,7 +680,7 @@ static LONG_PLANS: [Long; 3] = [
         "record r",
         " b c 1 at b",
         "",
-        "`r7` is the 9th record of `b` and `c`, and a pair has at most 8",
+        "`r7` is record 9 of `b` and `c`, and a pair may have 8",
     ),
     (
         PLAN,
@@ -510,7 +731,7 @@ static LONG_SESSIONS: [Long; 8] = [
         "if 1 == ",
         "",
         "",
-        "it opens a ninth block, and at most 8 may be open",
+        "it opens block 9 within one another, and at most 8 may be open",
     ),
     (
         "",
@@ -550,8 +771,13 @@ fn text_of(alloc: Global, row: Long) -> Result<String, AllocError> {
 
 /// What is said of a plan's text, or that it is not refused.
 fn said_of_plan(alloc: Global, text: &str) -> Result<String, AllocError> {
-    match Plan::read(alloc, text.as_bytes()) {
-        Err(PlanFault::Refused(refusal)) => of_plan(alloc, text.as_bytes(), refusal),
+    said_of_bytes(alloc, text.as_bytes())
+}
+
+fn said_of_bytes(alloc: Global, text: &[u8]) -> Result<String, AllocError> {
+    match Plan::read(alloc, text) {
+        Err(PlanFault::Refused(refusal)) => of_plan(alloc, text, refusal),
+        Err(PlanFault::Ring(ring)) => of_ring(alloc, text, &ring),
         _ => String::from_str(alloc, "not refused"),
     }
 }
@@ -607,6 +833,19 @@ fn long_are_told(rt: &(impl Abort + AllocGlobal), rows: &[Long], say: Say) -> Re
 fn refused_plans_are_told(rt: HostRuntime) -> Result<(), AllocError> {
     are_told(&rt, &PLANS, said_of_plan)?;
     long_are_told(&rt, &LONG_PLANS, said_of_plan)
+}
+
+#[test]
+fn rings_are_told_with_a_fork_to_turn(rt: HostRuntime) -> Result<(), AllocError> {
+    are_told(&rt, &RINGS, said_of_plan)
+}
+
+#[test]
+fn byte_order_marks_are_told(rt: HostRuntime) -> Result<(), AllocError> {
+    for (text, said) in &WIDE {
+        assert_eq!(rt; said_of_bytes(rt.alloc(), *text)?.as_str(), *said);
+    }
+    Ok(())
 }
 
 #[test]
