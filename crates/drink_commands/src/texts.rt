@@ -15,7 +15,7 @@ ghost use Rattle.drink_commands.specs.declared.input.Input.{Input};
 
 use crate::fault::{Fault, Remark, Why};
 use crate::input::Input;
-use diagnostics::{of_plan, of_script, of_sessions};
+use diagnostics::{of_plan, of_ring, of_script, of_sessions};
 use input_texts::{InputFault, Sources, StandardInput};
 use office_map::{Plan, PlanFault};
 use script_runs::{ScriptEvent, ScriptFault, script};
@@ -76,7 +76,7 @@ pub fn read_plan<S: Sources>(
         Err(PlanFault::Ring(ring)) => {
             let remark = Remark {
                 lines_above: 0,
-                text: format!(in alloc; "{ring} (each precedes the next, and the last the first)")?,
+                text: of_ring(alloc, &text, &ring)?,
             };
             Err(Fault::Refused(Why::Ring(ring), remark))
         }

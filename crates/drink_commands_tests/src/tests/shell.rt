@@ -131,7 +131,7 @@ fn faults_name_their_input(rt: HostRuntime) -> Result<(), Fail> {
         ),
         (
             &["drink", "serial", "p", "p"],
-            "p: line 1: S1 Syntax: `plan 1 run 42` stands outside of a session, and one begins with `session OFFICE`",
+            "p: line 1: S1 Syntax: `plan 1 run 42` stands outside of a session, and one begins with `session OFFICE`; it is a line of a plan: name the texts in the order of the command, and part those on one standard input by a line `---`",
         ),
         (
             &["drink", "serial", "p", "endless"],
@@ -139,11 +139,11 @@ fn faults_name_their_input(rt: HostRuntime) -> Result<(), Fail> {
         ),
         (
             &["drink", "sim", "p", "c", "missing"],
-            "c: line 1: S1 Syntax: `submit 1` stands outside of a session, and one begins with `session OFFICE`",
+            "c: line 1: S1 Syntax: `submit 1` stands outside of a session, and one begins with `session OFFICE`; it is a line of a script: name the texts in the order of the command, and part those on one standard input by a line `---`",
         ),
         (
             &["drink", "sim", "p", "s", "s"],
-            "s: line 1: X1 Script: `session` begins no line of a script; these are `submit N`, `do OFFICE RULE`, `advance OFFICE N`, `send OFFICE NEIGHBOUR I` and `deliver K`",
+            "s: line 1: X1 Script: `session` begins no line of a script; these are `submit N`, `do OFFICE RULE`, `advance OFFICE N`, `send OFFICE NEIGHBOUR I` and `deliver K`; it is a line of a text of sessions: name the texts in the order of the command, and part those on one standard input by a line `---`",
         ),
         (
             &["drink", "sim", "p", "s", "endless"],
@@ -171,7 +171,7 @@ fn faults_say_what_was_found_and_where(rt: HostRuntime) -> Result<(), Fail> {
             RING,
             "",
             "",
-            "-: P8 Ring: a, c, b (each precedes the next, and the last the first)",
+            "-: P8 Ring: a, c, b (each precedes the next, and the last the first); turn a fork: with `pair a c fork a` on line 7, in place of `fork c`, this ring is gone",
         ),
         (
             "plan 1 run 1\noffice a -\noffice a -\n",
