@@ -62,7 +62,7 @@ pub(crate) fn finish(
         return Err(WorldRefusal::NoOffice);
     }
     let Ok(()) = finished.reserve(1) else {
-        let refusal = unfinished(&offices[at.index()]);
+        let refusal = not_finished(&offices[at.index()]);
         return Err(WorldRefusal::Office(refusal));
     };
     match offices[at.index()].act(0, Rule::Finish) {
@@ -76,7 +76,7 @@ pub(crate) fn finish(
 }
 
 /// Why an office doesn't finish its session where there is no room to list it: what the office refuses, or else memory.
-fn unfinished(office: &Office) -> site_core::Refusal
+fn not_finished(office: &Office) -> site_core::Refusal
     ensures { Steps office.now 0 (events.Do rules.Finish) (Err result) office.now }
 {
     if !office.enabled(Rule::Finish) {
@@ -124,7 +124,7 @@ pub(crate) fn send(
         return Err(WorldRefusal::NoOffice);
     }
     let Ok(()) = frames.reserve(1) else {
-        let refusal = unsent(&offices[from.index()], to, i);
+        let refusal = not_sent(&offices[from.index()], to, i);
         return Err(WorldRefusal::Office(refusal));
     };
     match offices[from.index()].send(0, to, i) {
@@ -137,7 +137,7 @@ pub(crate) fn send(
 }
 
 /// Why an office makes no frame where there is no room to keep it: what the office refuses, or else memory.
-fn unsent(office: &Office, to: OfficeId, i: usize) -> site_core::Refusal
+fn not_sent(office: &Office, to: OfficeId, i: usize) -> site_core::Refusal
     ensures { Steps office.now 0 (events.Send to i) (Err result) office.now }
 {
     if !makes(office, to, i) {

@@ -31,5 +31,5 @@ returns-in-Ok-act-clause-listed c =
 
 pub returns-in_default-clause-office : goal.returns-in_default-clause-office
 returns-in_default-clause-office c =
-    asked_and_refused c.args.offices.now.items c.args.at c.index-in_default.result (event.Do rule.Finish) c.index-in_default-2.result.now c.unfinished-refusal.result c.index-in_default.ensures
-    (omega (arith, c.if-index-len.false, c.index.ensures, c.index-in_default.ensures, c.len.ensures)) c.index-in_default-2.ensures c.unfinished-refusal.ensures
+    asked_and_refused c.args.offices.now.items c.args.at c.index-in_default.result (event.Do rule.Finish) c.index-in_default-2.result.now c.not_finished-refusal.result c.index-in_default.ensures
+    (omega (arith, c.if-index-len.false, c.index.ensures, c.index-in_default.ensures, c.len.ensures)) c.index-in_default-2.ensures c.not_finished-refusal.ensures

@@ -17,5 +17,5 @@ returns-in-Err-clause-office c =
 
 pub returns-in_default-clause-office : goal.returns-in_default-clause-office
 returns-in_default-clause-office c =
-    asked_and_refused c.args.offices.now.items c.args.from c.index-in_default.result (event.Send c.args.to c.args.i) c.index-in_default-2.result.now c.unsent-refusal.result c.index-in_default.ensures
-    (omega (arith, c.if-index-len.false, c.index.ensures, c.index-in_default.ensures, c.len.ensures)) c.index-in_default-2.ensures c.unsent-refusal.ensures
+    asked_and_refused c.args.offices.now.items c.args.from c.index-in_default.result (event.Send c.args.to c.args.i) c.index-in_default-2.result.now c.not_sent-refusal.result c.index-in_default.ensures
+    (omega (arith, c.if-index-len.false, c.index.ensures, c.index-in_default.ensures, c.len.ensures)) c.index-in_default-2.ensures c.not_sent-refusal.ensures
