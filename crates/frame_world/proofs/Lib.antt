@@ -1,4 +1,4 @@
-mod Steps
+pub mod Steps
 mod Answers
 mod OneLink
 mod Links

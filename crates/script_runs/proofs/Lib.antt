@@ -2,3 +2,4 @@ pub mod Rows
 mod Scripts
 mod ScriptLines
 mod Steps
+mod Advancing

@@ -2,5 +2,6 @@ pub mod Limits
 pub mod Script
 pub mod ScriptLines
 pub mod Runs
+pub mod Advancing
 pub mod Transcript
 pub mod refinement

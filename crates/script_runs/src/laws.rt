@@ -1,5 +1,6 @@
 //! Laws of the definitions that the contracts cite.
 
+ghost use Rattle.script_runs.specs.Advancing.{OfficesAdvanceByTheirNextRules};
 ghost use Rattle.script_runs.specs.ScriptLines.{LinesReadBack, ScriptsReadBack};
 
 /// The line that prints an event of a script reads back as that event, and as nothing else.
@@ -10,4 +11,10 @@ pub fn lines_read_back()
 /// The text that prints events is a script, and asks for what they do and nothing else.
 pub fn scripts_read_back()
     ensures { ScriptsReadBack }
+{}
+
+/// An office that is told to advance does the rules that come next, one after the other, as many as it tells: all that were
+/// asked for, or fewer, where no rule is next any more or the next one is refused. Nothing else happens.
+pub fn offices_advance_by_their_next_rules()
+    ensures { OfficesAdvanceByTheirNextRules }
 {}
