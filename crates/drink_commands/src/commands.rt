@@ -15,7 +15,7 @@ ghost use Rattle.drink_commands.specs.declared.input.Input.{Input};
 use crate::fault::Fault;
 use crate::input::Input;
 use crate::texts::{read_events, read_plan, read_programs};
-use input_texts::{Sources, StandardInput};
+use input_texts::{Sources, StandardInput, failure_kind};
 use office_map::Plan;
 use run_reports::report::report;
 use script_runs::transcript::transcript;
@@ -57,9 +57,9 @@ pub fn serial<S: Sources, W: Write>(
     Ok(DONE)
 }
 
-/// Runs a script on the world of a plan, and writes a line for each event and then what the finished sessions did, how many submitted ones haven't finished, and the values. Each input is read and judged before
-/// the next one is read, and nothing is run or written before all are judged. A refused event is told in its line, and
-/// is no fault. The answer is the exit status.
+/// Runs a script on the world of a plan, and writes a line for each event and then what the finished sessions did, how many
+/// submitted ones haven't finished, and the values. Each input is read and judged before the next one is read, and nothing is
+/// run or written before all are judged. A refused event is told in its line, and is no fault. The answer is the exit status.
 pub fn sim<S: Sources, W: Write>(
     alloc: Global,
     sources: &S,
@@ -108,10 +108,10 @@ pub(crate) fn write_whole<W: Write>(out: &mut W, text: &str) -> Result<(), Fault
     ensures fault { IfErr result IsWriteFault }
 {
     if let Err(error) = out.write_all(text.as_bytes()) {
-        return Err(Fault::WriteFailed(error.kind()));
+        return Err(Fault::WriteFailed(failure_kind(&error)));
     }
     if let Err(error) = out.flush() {
-        return Err(Fault::WriteFailed(error.kind()));
+        return Err(Fault::WriteFailed(failure_kind(&error)));
     }
     Ok(())
 }

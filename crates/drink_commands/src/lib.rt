@@ -17,6 +17,7 @@
 
 pub mod command_line;
 pub mod commands;
+pub mod exit;
 pub mod fault;
 pub mod input;
 pub mod program;

@@ -8,6 +8,7 @@ ghost use Rattle.drink_commands.specs.Status.{IsAnswered, IsShown, status_of};
 
 use crate::command_line::{Request, command_line, help};
 use crate::commands;
+use crate::exit::{Exit, FAILED, MISUSED, OUT_OF_MEMORY, Said};
 use crate::fault::Fault;
 use crate::input::Input;
 use clap::error::ErrorKind;
@@ -17,19 +18,6 @@ use std::io;
 use std::io::Write;
 use std::rt::{Env, Files};
 
-/// The exit status of a command that fails.
-const FAILED: u8 = 1;
-
-/// The exit status where the command line is at fault.
-const MISUSED: u8 = 2;
-
-/// How the program ends: its exit status, and what it says on the standard error.
-#[derive(Drop)]
-pub struct Exit {
-    pub status: u8,
-    pub said: Option<String>,
-}
-
 /// Does what the command line asks for, and answers the exit status: 0, 1 where the command fails, and 2 where the
 /// command line is at fault.
 pub fn run<R>(rt: &R) -> u8
@@ -37,31 +25,28 @@ where
     R: AllocGlobal + Env + Files + std::io::Input + Print + Eprint,
 {
     let devices = Devices::new(rt);
-    let args = match std::env::args(rt) {
-        Ok(args) => args,
-        Err(e) => {
-            let (text, status) = if e.kind() == io::ErrorKind::OutOfMemory {
-                ("out of memory", FAILED)
-            } else {
-                (
-                    "the command line is not UTF-8, and file names have to be",
-                    MISUSED,
-                )
-            };
-            let _ = eprintln!(rt; "drink: {text}");
-            return status;
-        }
+    let exit = match words(rt) {
+        Ok(words) => answer(rt.alloc(), words.as_slice(), &devices, &mut io::writer(rt)),
+        Err(exit) => exit,
     };
-    let Ok(words) = args.collect::<Vec<String>>(rt.alloc()) else {
-        let _ = eprintln!(rt; "drink: out of memory");
-        return FAILED;
-    };
-    let answer = answer(rt.alloc(), words.as_slice(), &devices, &mut io::writer(rt));
-    if let Some(text) = &answer.said {
-        let _ = eprint!(rt; "{text}");
-    }
-    answer.status
+    exit.end(rt)
 }
+
+/// All words of the command line, of which the first is the program's name; or how the program ends without them.
+pub fn words<R: AllocGlobal + Env>(rt: &R) -> Result<Vec<String>, Exit> {
+    match std::env::args(rt) {
+        Ok(args) => match args.collect::<Vec<String>>(rt.alloc()) {
+            Ok(words) => Ok(words),
+            Err(_) => Err(Exit::fixed(FAILED, OUT_OF_MEMORY)),
+        },
+        Err(e) if e.kind() == io::ErrorKind::OutOfMemory => {
+            Err(Exit::fixed(FAILED, OUT_OF_MEMORY))
+        }
+        Err(_) => Err(Exit::fixed(MISUSED, NO_TEXT)),
+    }
+}
+
+const NO_TEXT: &str = "drink: the command line is not UTF-8, and file names have to be\n";
 
 /// Does what these words ask for. The first of them is the program's name. The status is 0 only where what they ask for was
 /// done, or help or the version went out, and nothing is written where it is 2.
@@ -75,10 +60,7 @@ pub fn answer<S: Sources, W: Write>(
     ensures unwritten { result.status ≡ 2 → out.new ≡ out.old }
 {
     if words.len() < 2 {
-        return Exit {
-            status: MISUSED,
-            said: help(alloc).ok(),
-        };
+        return Exit::saying(MISUSED, help(alloc));
     }
     match command_line(alloc, words) {
         Ok(request) => {
@@ -122,23 +104,48 @@ fn status(answer: &Result<u8, Fault>) -> u8
     }
 }
 
-/// What is said of a request's answer: nothing, or the fault after the name of its input. A reader of the output that has
-/// gone away needs no telling.
-fn said(alloc: Global, request: Request, answer: &Result<u8, Fault>) -> Option<String> {
+/// What is said of a request's answer: nothing, or the fault after the name of its input.
+fn said(alloc: Global, request: Request, answer: &Result<u8, Fault>) -> Said {
     match answer {
-        Ok(_) | Err(Fault::WriteFailed(io::ErrorKind::BrokenPipe)) => None,
-        Err(fault) => fault_line(alloc, request, fault).ok(),
+        Ok(_) => Said::Nothing,
+        Err(fault) => match fault.input() {
+            Some(input) => said_of(alloc, fault, Some(word_of(request, input))),
+            None => said_of(alloc, fault, None),
+        },
     }
 }
 
-fn fault_line(alloc: Global, request: Request, fault: &Fault) -> Result<String, AllocError> {
-    match fault.input() {
+/// What is said of a fault. A reader of the output that has gone away needs no telling.
+fn said_of(alloc: Global, fault: &Fault, name: Option<&str>) -> Said {
+    match fault {
+        Fault::WriteFailed(io::ErrorKind::BrokenPipe) => Said::Nothing,
+        _ => Said::of(fault_line(alloc, fault, name)),
+    }
+}
+
+fn fault_line(alloc: Global, fault: &Fault, name: Option<&str>) -> Result<String, AllocError> {
+    match name {
         None => format!(in alloc; "drink: {fault}\n"),
-        Some(input) => {
-            let name = word_of(request, input);
+        Some(name) => {
+            let name = escaped(alloc, name)?;
             format!(in alloc; "drink: {name}: {fault}\n")
         }
     }
+}
+
+/// A file's name as people are shown it: with its control characters escaped, so that a fault is one line and a terminal
+/// shows it as it is.
+fn escaped(alloc: Global, name: &str) -> Result<String, AllocError> {
+    let mut shown = String::new(alloc);
+    for c in name.chars() {
+        if c.is_control() {
+            let code = c as u32;
+            write!(shown, "\\u{{{code:x}}}")?;
+        } else {
+            shown.push(c)?;
+        }
+    }
+    Ok(shown)
 }
 
 /// The word that names an input in a request.
@@ -171,14 +178,17 @@ fn misused<W: Write>(alloc: Global, error: &clap::Error, out: &mut W) -> Exit
 {
     match error.kind() {
         ErrorKind::DisplayHelp | ErrorKind::DisplayVersion => shown(alloc, error, out),
-        ErrorKind::OutOfMemory => Exit {
-            status: FAILED,
-            said: None,
-        },
-        _ => Exit {
-            status: MISUSED,
-            said: error.to_string(alloc).ok(),
-        },
+        ErrorKind::OutOfMemory => Exit::fixed(FAILED, OUT_OF_MEMORY),
+        _ => Exit::saying(MISUSED, misuse(alloc, error)),
+    }
+}
+
+/// What is wrong with the command line. It begins as all that the program says does.
+fn misuse(alloc: Global, error: &clap::Error) -> Result<String, AllocError> {
+    let text = error.to_string(alloc)?;
+    match text.as_str().strip_prefix("error: ") {
+        Some(said) => format!(in alloc; "drink: {said}"),
+        None => Ok(text),
     }
 }
 
@@ -187,19 +197,16 @@ fn shown<W: Write>(alloc: Global, error: &clap::Error, out: &mut W) -> Exit
     ensures { result.status ≤ 1 }
 {
     let Ok(text) = error.to_string(alloc) else {
-        return Exit {
-            status: FAILED,
-            said: None,
-        };
+        return Exit::fixed(FAILED, OUT_OF_MEMORY);
     };
     match commands::write_whole(out, &text) {
         Ok(()) => Exit {
             status: 0,
-            said: None,
+            said: Said::Nothing,
         },
         Err(fault) => Exit {
             status: FAILED,
-            said: format!(in alloc; "drink: {fault}\n").ok(),
+            said: said_of(alloc, &fault, None),
         },
     }
 }

@@ -2,6 +2,7 @@
 
 ghost use Rattle.std.specs.Prelude.{None};
 
+use crate::failure::failure_kind;
 use crate::sources::Sources;
 use std::io::{Error, ErrorKind, Input, Read};
 use std::rt::Files;
@@ -11,14 +12,23 @@ use std::{fs, io};
 #[derive(Drop)]
 pub struct Devices<'a, R: Files + Input> {
     rt: &'a R,
-    is_open: bool,
+    // Why the standard input can't be read, where its first look says so.
+    failed: Option<ErrorKind>,
 }
 
 impl<'a, R: Files + Input> Devices<'a, R> {
     /// Made before any file is opened: where the standard input is closed, the first file would stand in its place.
     pub fn new(rt: &'a R) -> Devices<'a, R> {
-        let is_open = rt.reader().read(&mut []).is_ok();
-        Devices { rt, is_open }
+        let failed = first_look(&mut rt.reader());
+        Devices { rt, failed }
+    }
+}
+
+/// Why a reader can't be read, where a read of nothing says so.
+fn first_look<R: Read>(reader: &mut R) -> Option<ErrorKind> {
+    match reader.read(&mut []) {
+        Ok(_) => None,
+        Err(error) => Some(failure_kind(&error)),
     }
 }
 
@@ -35,14 +45,14 @@ impl<R: Files + Input> Sources for Devices<'_, R> {
         let reader = fs::open(self.rt, name)?;
         Ok(Device {
             reader,
-            is_open: true,
+            failed: None,
         })
     }
 
     fn standard(&self) -> Device<R::Reader> {
         Device {
             reader: self.rt.reader(),
-            is_open: self.is_open,
+            failed: self.failed,
         }
     }
 }
@@ -51,16 +61,16 @@ impl<R: Files + Input> Sources for Devices<'_, R> {
 #[derive(Drop)]
 pub struct Device<R: Read + Drop> {
     reader: R,
-    is_open: bool,
+    failed: Option<ErrorKind>,
 }
 
 impl<R: Read + Drop> Read for Device<R> {
     ghost remaining = { λ _. None };
 
     fn read(&mut self, buf: &mut [u8]) -> io::Result<usize> {
-        if !self.is_open {
-            return Err(Error::from(ErrorKind::NotConnected));
+        match self.failed {
+            Some(kind) => Err(Error::from(kind)),
+            None => self.reader.read(buf),
         }
-        self.reader.read(buf)
     }
 }

@@ -12,6 +12,7 @@
 
 mod cut;
 mod devices;
+mod failure;
 mod fault;
 mod reading;
 mod sources;
@@ -21,6 +22,7 @@ mod tests;
 mod texts;
 
 pub use devices::{Device, Devices};
+pub use failure::failure_kind;
 pub use fault::InputFault;
 pub use sources::Sources;
 pub use standard_input::{StandardInput, text};

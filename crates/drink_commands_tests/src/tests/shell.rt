@@ -23,10 +23,7 @@ fn says(
     let exit = answer(alloc, words.as_slice(), memory, &mut out);
     assert_eq!(rt; exit.status, status);
     assert_eq!(rt; out.as_slice(), printed.as_bytes());
-    match &exit.said {
-        Some(text) => assert_eq!(rt; text.as_str(), said),
-        None => assert_eq!(rt; "", said),
-    }
+    assert_eq!(rt; exit.said.text(), said);
     Ok(())
 }
 
@@ -98,16 +95,20 @@ fn fails(
     assert_eq!(rt; exit.status, 1);
     assert_eq!(rt; out.len(), 0);
     let expected = format!(in alloc; "drink: {said}\n")?;
-    assert_eq!(rt; exit.said, Some(expected));
+    assert_eq!(rt; exit.said.text(), expected.as_str());
     Ok(())
 }
 
 #[test]
 fn faults_name_their_input(rt: HostRuntime) -> Result<(), Fail> {
-    let rows: [(&[&str], &str); 12] = [
+    let rows: [(&[&str], &str); 13] = [
         (
             &["drink", "serial", "missing", "s"],
             "missing: X4 ReadFailed: it cannot be read: no such file",
+        ),
+        (
+            &["drink", "serial", "a\n\u{1b}[2Jé", "s"],
+            "a\\u{a}\\u{1b}[2Jé: X4 ReadFailed: it cannot be read: no such file",
         ),
         (
             &["drink", "serial", "p", "folder"],
@@ -221,7 +222,10 @@ fn help_goes_out_and_misuse_does_not(rt: HostRuntime) -> Result<(), Fail> {
         let exit = answer(alloc, words.as_slice(), &memory, &mut out);
         assert_eq!(rt; exit.status, status);
         assert_eq!(rt; out.is_empty(), !goes_out);
-        assert_eq!(rt; exit.said.is_none(), goes_out);
+        assert_eq!(rt; exit.said.text().is_empty(), goes_out);
+        // What the words lack is told as every fault is; without words it is the help that is told.
+        let begins = exit.said.text().starts_with("drink: ");
+        assert_eq!(rt; begins, !goes_out && words.len() > 1);
         let text = String::from_utf8(out)?;
         for line in text.as_str().lines() {
             assert!(rt; line.len() <= 100);
