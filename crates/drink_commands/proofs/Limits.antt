@@ -2,6 +2,9 @@
 use Rattle.std.proofs.Common.{◌≡◌, ◌≤◌, ◌<◌, ℕ, List, length, Option, true, false, nat_lt, Result, Ok, Err, refl, sym, subst, ap, ◌∙◌, arith, inl, inr}
 use Rattle.std.proofs.lemmas.Bool.Decides.{nat_tests}
 use Rattle.input_texts.specs.Words.{HasText, IsReadUpTo, Unread}
+use Rattle.office_map.specs.Limits as plans
+use Rattle.session_language.specs.Limits as sessions
+use Rattle.script_runs.specs.Limits as scripts
 use Rattle.office_map.specs.PlanValue.{PlanValue}
 use Rattle.office_map.specs.PlanText.{plan_of}
 use Rattle.office_map.specs.Precedence.{HasOrder}
@@ -44,35 +47,35 @@ above k n h = grind (arith, nat_tests)
 
 -- ---- plans
 
-long_plan : (text : List ℕ) → 262144 < length text → plan_of text ≡ Err (record { rule = plan_rules.Limit; line = 0 })
+long_plan : (text : List ℕ) → plans.most_text < length text → plan_of text ≡ Err (record { rule = plan_rules.Limit; line = 0 })
 unfolding plan_of
-long_plan text h = rw (above 262144 (length text) h) refl
+long_plan text h = rw (above plans.most_text (length text) h) refl
 
-pub plan_read : (text read : List ℕ) → IsReadUpTo 262144 text read → plan_of read ≡ plan_of text
-plan_read text read h = same_by_length plan_of 262144 _ long_plan text read h
+pub plan_read : (text read : List ℕ) → IsReadUpTo plans.most_text text read → plan_of read ≡ plan_of text
+plan_read text read h = same_by_length plan_of plans.most_text _ long_plan text read h
 
 pub plan_accepted : (files : List ℕ → Option (List ℕ)) (old : Unread) (word : List ℕ) (new : Unread) (read : List ℕ) (p : PlanValue)
-    → WasRead files old word new 262144 read → plan_of read ≡ Ok p → HasOrder p
+    → WasRead files old word new plans.most_text read → plan_of read ≡ Ok p → HasOrder p
     → (text : List ℕ) (after : Unread) → HasText files old word text after → IsAcceptedAs text p × (new ≡ after)
 plan_accepted files old word new read p was e o text after has =
     let it = was text after has in
-    ((sym (plan_read text read it.0) ∙ e, o), it.1 (short_by_ok plan_of 262144 _ long_plan read p e))
+    ((sym (plan_read text read it.0) ∙ e, o), it.1 (short_by_ok plan_of plans.most_text _ long_plan read p e))
 
 -- ---- sessions
 
-long_sessions : (p : PlanValue) (text : List ℕ) → 1048576 < length text → sessions_of p text ≡ Err (record { rule = rules_of.TooLong; line = 0 })
+long_sessions : (p : PlanValue) (text : List ℕ) → sessions.most_text < length text → sessions_of p text ≡ Err (record { rule = rules_of.TooLong; line = 0 })
 unfolding sessions_of
-long_sessions p text h = rw (above 1048576 (length text) h) refl
+long_sessions p text h = rw (above sessions.most_text (length text) h) refl
 
-pub sessions_read : (p : PlanValue) (text read : List ℕ) → IsReadUpTo 1048576 text read → sessions_of p read ≡ sessions_of p text
-sessions_read p text read h = same_by_length (sessions_of p) 1048576 _ (long_sessions p) text read h
+pub sessions_read : (p : PlanValue) (text read : List ℕ) → IsReadUpTo sessions.most_text text read → sessions_of p read ≡ sessions_of p text
+sessions_read p text read h = same_by_length (sessions_of p) sessions.most_text _ (long_sessions p) text read h
 
 pub sessions_accepted : (files : List ℕ → Option (List ℕ)) (old : Unread) (word : List ℕ) (new : Unread) (read : List ℕ) (p : PlanValue)
-    (programs : List ProgramValue) → WasRead files old word new 1048576 read → sessions_of p read ≡ Ok programs
+    (programs : List ProgramValue) → WasRead files old word new sessions.most_text read → sessions_of p read ≡ Ok programs
     → (text : List ℕ) (after : Unread) → HasText files old word text after → (sessions_of p text ≡ Ok programs) × (new ≡ after)
 sessions_accepted files old word new read p programs was e text after has =
     let it = was text after has in
-    (sym (sessions_read p text read it.0) ∙ e, it.1 (short_by_ok (sessions_of p) 1048576 _ (long_sessions p) read programs e))
+    (sym (sessions_read p text read it.0) ∙ e, it.1 (short_by_ok (sessions_of p) sessions.most_text _ (long_sessions p) read programs e))
 
 -- ---- scripts
 
@@ -81,13 +84,13 @@ same_text limit text read short (inl e) = e
 same_text limit text read short (inr (a, b)) = absurd (omega (arith, short, a))
 
 pub script_accepted : (files : List ℕ → Option (List ℕ)) (old : Unread) (word : List ℕ) (new : Unread) (read : List ℕ) (p : PlanValue)
-    (programs : List ProgramValue) (events : List Act) → WasRead files old word new 16777216 read → IsScript p programs read events
+    (programs : List ProgramValue) (events : List Act) → WasRead files old word new scripts.most_bytes read → IsScript p programs read events
     → (text : List ℕ) (after : Unread) → HasText files old word text after → IsScript p programs text events × (new ≡ after)
 script_accepted files old word new read p programs events was h text after has =
     let it = was text after has in
-    (subst (λ t. IsScript p programs t events) (same_text 16777216 text read h.short it.0) h, it.1 h.short)
+    (subst (λ t. IsScript p programs t events) (same_text scripts.most_bytes text read h.short it.0) h, it.1 h.short)
 
-pub script_refused : (p : PlanValue) (programs : List ProgramValue) (text read : List ℕ) (r : ScriptRefusal) → IsReadUpTo 16777216 text read
+pub script_refused : (p : PlanValue) (programs : List ProgramValue) (text read : List ℕ) (r : ScriptRefusal) → IsReadUpTo scripts.most_bytes text read
     → RefusesScript p programs read r → RefusesScript p programs text r
 script_refused p programs text read r (inl e) h = subst (λ t. RefusesScript p programs t r) e h
 script_refused p programs text read r (inr (a, b)) (inl (long, line)) = inl (b, line)

@@ -1,55 +1,52 @@
 -- What a command wrote is what its texts mean.
 use Rattle.std.proofs.Common.{◌≡◌, ℕ, List, [], ◌∷◌, Option, sym, subst, ap, ◌∙◌}
 use Rattle.std.specs.Io.KnownBytes.{Appends}
-use Rattle.input_texts.specs.Words.{HasText, HaveTexts, Unread, unread}
+use Rattle.input_texts.specs.Words.{HasText, HaveTexts, StandFor, Unread, unread}
 use Rattle.office_map.specs.PlanValue.{PlanValue}
 use Rattle.session_meaning.specs.ProgramValue.{ProgramValue}
-use Rattle.drink_commands.specs.declared.input.Input.{Input}
-use Rattle.drink_commands.specs.declared.input.Input.TheVariants as inputs
 use Rattle.drink_commands.specs.Serial.{Reports, serial_report}
 use Rattle.frame_world.specs.Worlds.{opening}
 use Rattle.script_runs.specs.Script.{Act}
 use Rattle.script_runs.specs.Runs.{run_of}
 use Rattle.script_runs.specs.Transcript.{transcript, IsSerialRun}
 use Rattle.drink_commands.specs.Simulation.{Simulates}
-use Rattle.drink_commands.proofs.Faults.{Accepts, AcceptsSessions, AcceptsScript}
+use Rattle.drink_commands.proofs.Faults.{TakesPlan, TakesScript, TakesSessions}
 
 -- the words are those that were counted
-pub started : (u : Unread) (bytes : Option (List ℕ)) (files : List ℕ → Option (List ℕ)) (words more texts : List (List ℕ)) → u ≡ unread bytes words
-    → HaveTexts files (unread bytes words) more texts → HaveTexts files u more texts
-started u bytes files words more texts e h = subst (λ s. HaveTexts files s more texts) (sym e) h
+pub started : (u : Unread) (bytes : Option (List ℕ)) (files : List ℕ → Option (List ℕ)) (words texts : List (List ℕ)) → u ≡ unread bytes words
+    → StandFor files bytes words texts → HaveTexts files u words texts
+started u bytes files words texts e h = subst (λ s. HaveTexts files s words texts) (sym e) h
 
-pub reported : (texts : Input → List ℕ) (files : List ℕ → Option (List ℕ)) (u v w : Unread) (a b : List ℕ) (p : PlanValue) (programs : List ProgramValue)
-    (old new : Option (List ℕ)) (printed : List ℕ) → Accepts texts files u a v p → AcceptsSessions texts files v b w p programs
-    → HaveTexts files u (a ∷ b ∷ []) (texts inputs.Plan ∷ texts inputs.Sessions ∷ []) → printed ≡ serial_report p programs → Appends old new printed
-    → Reports (texts inputs.Plan) (texts inputs.Sessions) old new
-reported texts files u v w a b p programs old new printed plan sessions (after, has, (next, has_next, more)) e written =
-    let it = plan (texts inputs.Plan) after has in
+pub reported : (files : List ℕ → Option (List ℕ)) (u v w : Unread) (a b a_text b_text : List ℕ) (p : PlanValue) (programs : List ProgramValue)
+    (old new : Option (List ℕ)) (printed : List ℕ) → TakesPlan files u a v p → TakesSessions files v b w p programs
+    → HaveTexts files u (a ∷ b ∷ []) (a_text ∷ b_text ∷ []) → printed ≡ serial_report p programs → Appends old new printed
+    → Reports a_text b_text old new
+reported files u v w a b a_text b_text p programs old new printed plan sessions (after, has, (next, has_next, more)) e written =
+    let it = plan a_text after has in
     record {
       p = p;
       programs = programs;
       is_plan = it.0;
-      are_sessions = (sessions (texts inputs.Sessions) next (subst (λ s. HasText files s b (texts inputs.Sessions) next) (sym it.1) has_next)).0;
+      are_sessions = (sessions b_text next (subst (λ s. HasText files s b b_text next) (sym it.1) has_next)).0;
       written = subst (λ t. Appends old new t) e written;
     }
 
-pub simulated : (texts : Input → List ℕ) (files : List ℕ → Option (List ℕ)) (u v w x : Unread) (a b c : List ℕ) (p : PlanValue)
+pub simulated : (files : List ℕ → Option (List ℕ)) (u v w x : Unread) (a b c a_text b_text c_text : List ℕ) (p : PlanValue)
     (programs : List ProgramValue) (acts run : List Act) (old new : Option (List ℕ)) (printed : List ℕ)
-    → Accepts texts files u a v p → AcceptsSessions texts files v b w p programs
-    → AcceptsScript texts files w c x p programs acts
-    → HaveTexts files u (a ∷ b ∷ c ∷ []) (texts inputs.Plan ∷ texts inputs.Sessions ∷ texts inputs.Script ∷ [])
+    → TakesPlan files u a v p → TakesSessions files v b w p programs → TakesScript files w c x p programs acts
+    → HaveTexts files u (a ∷ b ∷ c ∷ []) (a_text ∷ b_text ∷ c_text ∷ [])
     → run ≡ acts → IsSerialRun (run_of (opening p) run) → printed ≡ transcript p run → Appends old new printed
-    → Simulates (texts inputs.Plan) (texts inputs.Sessions) (texts inputs.Script) old new
-simulated texts files u v w x a b c p programs acts run old new printed plan sessions script (after, has, (next, has_next, (last, has_last, more))) same serial e written =
-    let it = plan (texts inputs.Plan) after has in
-    let then_it = sessions (texts inputs.Sessions) next (subst (λ s. HasText files s b (texts inputs.Sessions) next) (sym it.1) has_next) in
+    → Simulates a_text b_text c_text old new
+simulated files u v w x a b c a_text b_text c_text p programs acts run old new printed plan sessions script (after, has, (next, has_next, (last, has_last, more))) same serial e written =
+    let it = plan a_text after has in
+    let then_it = sessions b_text next (subst (λ s. HasText files s b b_text next) (sym it.1) has_next) in
     record {
       p = p;
       programs = programs;
       acts = acts;
       is_plan = it.0;
       are_sessions = then_it.0;
-      is_script = (script (texts inputs.Script) last (subst (λ s. HasText files s c (texts inputs.Script) last) (sym then_it.1) has_last)).0;
+      is_script = (script c_text last (subst (λ s. HasText files s c c_text last) (sym then_it.1) has_last)).0;
       written = subst (λ t. Appends old new t) (e ∙ ap (transcript p) same) written;
       serial = subst (λ xs. IsSerialRun (run_of (opening p) xs)) same serial;
     }

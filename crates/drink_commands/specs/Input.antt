@@ -11,9 +11,3 @@ abbrev pub limit_of : Input → ℕ
 limit_of Plan = plans.most_text
 limit_of Sessions = sessions.most_text
 limit_of Script = scripts.most_bytes
-
--- which of a command's words each is, from 0
-abbrev pub input_index : Input → ℕ
-input_index Plan = 0
-input_index Sessions = 1
-input_index Script = 2

@@ -21,13 +21,16 @@ word_of (Sim plan sessions script) inputs.Plan = plan.now
 word_of (Sim plan sessions script) inputs.Sessions = sessions.now
 word_of (Sim plan sessions script) inputs.Script = script.now
 
+-- the inputs that these words are, in their order
+abbrev pub inputs_of : Request → List Input
+inputs_of (Serial plan sessions) = inputs.Plan ∷ inputs.Sessions ∷ []
+inputs_of (Sim plan sessions script) = inputs.Plan ∷ inputs.Sessions ∷ inputs.Script ∷ []
+
 -- The request is carried out: from the texts that its words stand for, what its command prints was written after what the
 -- writer held.
 abbrev pub IsDone : (List ℕ → Option (List ℕ)) → Option (List ℕ) → Request → Option (List ℕ) → Option (List ℕ) → Type 0
-IsDone files standard (Serial plan sessions) old new = (texts : Input → List ℕ)
-    → StandFor files standard (plan.now ∷ sessions.now ∷ []) (texts inputs.Plan ∷ texts inputs.Sessions ∷ [])
-    → Reports (texts inputs.Plan) (texts inputs.Sessions) old new
-IsDone files standard (Sim plan sessions script) old new = (texts : Input → List ℕ)
-    → StandFor files standard (plan.now ∷ sessions.now ∷ script.now ∷ [])
-    (texts inputs.Plan ∷ texts inputs.Sessions ∷ texts inputs.Script ∷ [])
-    → Simulates (texts inputs.Plan) (texts inputs.Sessions) (texts inputs.Script) old new
+IsDone files standard (Serial plan sessions) old new = (plan_text sessions_text : List ℕ)
+    → StandFor files standard (plan.now ∷ sessions.now ∷ []) (plan_text ∷ sessions_text ∷ []) → Reports plan_text sessions_text old new
+IsDone files standard (Sim plan sessions script) old new = (plan_text sessions_text script_text : List ℕ)
+    → StandFor files standard (plan.now ∷ sessions.now ∷ script.now ∷ []) (plan_text ∷ sessions_text ∷ script_text ∷ [])
+    → Simulates plan_text sessions_text script_text old new

@@ -1,60 +1,58 @@
--- What the texts of a command's inputs mean, and what a fault says of them. The inputs are judged in the order of the words,
--- each under what those before it mean.
-use Rattle.std.specs.Prelude.{◌≡◌, List, ℕ, zero, suc, Bool, true, false, nat_lt, Ok, Err}
+-- What the texts of a command's inputs mean, and what a fault says of them. They are judged in the order of the words, each
+-- under what those before it mean.
+use Rattle.std.specs.Prelude.{◌≡◌, ◌⊎◌, List, [], ◌∷◌, ℕ, take, Option, Some, None, Ok, Err}
+use Rattle.input_texts.specs.Words.{HaveFirstTexts}
 use Rattle.office_map.specs.PlanValue.{PlanValue}
 use Rattle.office_map.specs.PlanText.{plan_of, HasRing}
 use Rattle.session_meaning.specs.ProgramValue.{ProgramValue}
 use Rattle.session_language.specs.Reading.{sessions_of}
-use Rattle.drink_commands.specs.Plans.{IsAcceptedAs}
-use Rattle.drink_commands.specs.Input.{input_index}
 use Rattle.script_runs.specs.Script.{Act, IsScript, RefusesScript}
+use Rattle.drink_commands.specs.Plans.{IsAcceptedAs}
+use Rattle.drink_commands.specs.Fault.{IsAmong, IsFaultAt, input_of}
 use Rattle.drink_commands.specs.declared.input.Input.{Input}
 use Rattle.drink_commands.specs.declared.input.Input.TheVariants as inputs
 use Rattle.drink_commands.specs.declared.fault.Why.{Why}
 use Rattle.drink_commands.specs.declared.fault.Why.TheVariants.{Plan, Ring, Sessions, Script}
 use Rattle.drink_commands.specs.declared.fault.Fault.{Fault}
-use Rattle.drink_commands.specs.declared.fault.Fault.TheVariants.{Memory, ReadFailed, Refused, WriteFailed}
-use Rattle.drink_commands.specs.Fault.{refused_input}
 
--- the plan's text is accepted as this plan
-abbrev pub IsPlan : (Input → List ℕ) → PlanValue → Type 0
-IsPlan texts p = IsAcceptedAs (texts inputs.Plan) p
+-- what the texts that were accepted mean
+pub record Known : Type 0 where
+  pub plan : Option PlanValue
+  pub programs : Option (List ProgramValue)
+  pub acts : Option (List Act)
 
--- the next text means these sessions under it
-abbrev pub AreSessions : (Input → List ℕ) → PlanValue → List ProgramValue → Type 0
-AreSessions texts p programs = IsPlan texts p × (sessions_of p (texts inputs.Sessions) ≡ Ok programs)
+-- before the first of them
+abbrev pub nothing : Known
+nothing = record { plan = None; programs = None; acts = None }
 
--- and the next one asks for these acts
-abbrev pub AreActs : (Input → List ℕ) → PlanValue → List ProgramValue → List Act → Type 0
-AreActs texts p programs acts = AreSessions texts p programs × IsScript p programs (texts inputs.Script) acts
+-- the text of this input is accepted, and then so much is known
+abbrev pub Accepts : Known → Input → List ℕ → Known → Type 0
+Accepts known inputs.Plan text next = (p : PlanValue) × IsAcceptedAs text p × (next ≡ record known { plan = Some p })
+Accepts known inputs.Sessions text next =
+    (p : PlanValue) × (programs : List ProgramValue) × (known.plan ≡ Some p) × (sessions_of p text ≡ Ok programs)
+    × (next ≡ record known { programs = Some programs })
+Accepts known inputs.Script text next =
+    (p : PlanValue) × (programs : List ProgramValue) × (acts : List Act) × (known.plan ≡ Some p) × (known.programs ≡ Some programs)
+    × IsScript p programs text acts × (next ≡ record known { acts = Some acts })
 
--- the first so many texts are accepted
-abbrev pub AreAccepted : (Input → List ℕ) → ℕ → Type 0
-AreAccepted texts zero = Unit {0}
-AreAccepted texts (suc zero) = (p : PlanValue) × IsPlan texts p
-AreAccepted texts (suc (suc zero)) = (p : PlanValue) × (programs : List ProgramValue) × AreSessions texts p programs
-AreAccepted texts (suc (suc (suc n))) =
-    (p : PlanValue) × (programs : List ProgramValue) × (acts : List Act) × AreActs texts p programs acts
+-- the text is refused so
+abbrev pub Refuses : Known → List ℕ → Why → Type 0
+Refuses known text (Plan r) = plan_of text ≡ Err r
+Refuses known text (Ring r) = HasRing r (plan_of text)
+Refuses known text (Sessions r) = (p : PlanValue) × (known.plan ≡ Some p) × (sessions_of p text ≡ Err r)
+Refuses known text (Script r) =
+    (p : PlanValue) × (programs : List ProgramValue) × (known.plan ≡ Some p) × (known.programs ≡ Some programs) × RefusesScript p programs text r
 
--- the text of an input is refused so, and those before it are accepted
-abbrev pub IsRefused : (Input → List ℕ) → Why → Type 0
-IsRefused texts (Plan r) = plan_of (texts inputs.Plan) ≡ Err r
-IsRefused texts (Ring r) = HasRing r (plan_of (texts inputs.Plan))
-IsRefused texts (Sessions r) = (p : PlanValue) × IsPlan texts p × (sessions_of p (texts inputs.Sessions) ≡ Err r)
-IsRefused texts (Script r) =
-    (p : PlanValue) × (programs : List ProgramValue) × AreSessions texts p programs × RefusesScript p programs (texts inputs.Script) r
+-- What a fault says of the texts of these inputs, of which the first are given: each is accepted, up to one that wasn't read or
+-- is refused; where none of those is at fault, none before the rest is. Where memory ran out, nothing is said.
+abbrev pub Judges : Known → List Input → List (List ℕ) → Fault → Type 0
+Judges known [] [] f = IsAmong [] (input_of f)
+Judges known [] (text ∷ texts) f = ⊥
+Judges known (input ∷ asked) [] f = IsAmong (input ∷ asked) (input_of f)
+Judges known (input ∷ asked) (text ∷ texts) f =
+    IsFaultAt input (Refuses known text) f ⊎ ((next : Known) × Accepts known input text next × Judges next asked texts f)
 
--- one thing where a test is true, another where it isn't
-abbrev pub Either : Bool → Type 0 → Type 0 → Type 0
-Either true A B = A
-Either false A B = B
-
--- What a fault says of the first so many texts: one of them is refused so, or those before the input at fault are accepted.
--- Where memory ran out, nothing is said.
-abbrev pub Judges : (Input → List ℕ) → ℕ → Fault → Type 0
-Judges texts known Memory = Unit {0}
-Judges texts known (ReadFailed input cause) =
-    Either (nat_lt (input_index input) known) (AreAccepted texts (input_index input)) (AreAccepted texts known)
-Judges texts known (Refused why remark) =
-    Either (nat_lt (input_index (refused_input why)) known) (IsRefused texts why) (AreAccepted texts known)
-Judges texts known (WriteFailed cause) = AreAccepted texts known
+-- what it says of the words of a command with these inputs, whichever of their texts are known
+abbrev pub IsJudged : (List ℕ → Option (List ℕ)) → Option (List ℕ) → List (List ℕ) → List Input → Fault → Type 0
+IsJudged files standard words asked f = (texts : List (List ℕ)) (n : ℕ) → HaveFirstTexts files standard words texts n
+    → Judges nothing asked (take n texts) f

@@ -17,8 +17,8 @@ impl Input {
         ensures { result ≡ limit_of self }
     {
         match self {
-            Input::Plan => 262_144,
-            Input::Sessions => 1_048_576,
+            Input::Plan => office_map::limits::TEXT_LIMIT,
+            Input::Sessions => session_language::limits::TEXT_LIMIT,
             Input::Script => script_runs::MAX_BYTES,
         }
     }

@@ -1,9 +1,9 @@
 //! The commands of the program `drink`: sessions over the records that neighbouring offices share.
 //!
-//! - [`commands::serial`] is `drink serial`. It writes the report of the serial run of the sessions
+//! - [`commands::serial::run`] is `drink serial`. It writes the report of the serial run of the sessions
 //!   (clause `reports`), and it writes nothing where an input is refused (clause `unwritten`). Its
 //!   faults say what the texts are (clause `judged`).
-//! - [`commands::sim`] is `drink sim`. It writes the transcript of the run of a script (clause `simulates`), and nothing
+//! - [`commands::sim::run`] is `drink sim`. It writes the transcript of the run of a script (clause `simulates`), and nothing
 //!   where an input is refused; its faults say what the texts are, in the order of the words (clause `judged`).
 //! - [`command_line::command_line`] reads the words of a command line as `clap` defines them
 //!   (clauses `request` and `faults`).
@@ -12,7 +12,8 @@
 //!   hands it the files, the standard input and the output that the program was started with.
 //!
 //! What is printed, and which events a script means, is in the crate `script_runs`, what a fault says of the texts in
-//! `specs/Texts.antt`, and which texts words stand for in the crate `input_texts`. Which bytes a file, the standard input or a terminal gives or takes is outside what is proved.
+//! `specs/Texts.antt`, and which texts words stand for in the crate `input_texts`. Which bytes a file, the standard input or a
+//! terminal gives or takes is outside what is proved.
 #![tactic(auto)]
 
 pub mod command_line;

@@ -1,13 +1,15 @@
 //! What the program does with its words, over what opens files, reads and prints.
 
-ghost use Rattle.std.specs.Prelude.{◌≡◌, ◌≤◌, IfOk, OnOk, map};
+ghost use Rattle.std.specs.Prelude.{◌≡◌, ◌≤◌, IfErr, IfOk, OnOk, map};
 ghost use Rattle.std.specs.String.{string_bytes};
 ghost use Rattle.clap.specs.Values.{kind_of};
-ghost use Rattle.drink_commands.specs.Requests.{IsDone, word_of};
+ghost use Rattle.drink_commands.specs.Requests.{IsDone, inputs_of, word_of, words_of};
 ghost use Rattle.drink_commands.specs.Status.{IsAnswered, IsShown, status_of};
+ghost use Rattle.drink_commands.specs.Texts.{IsJudged};
 
 use crate::command_line::{Request, command_line, help};
 use crate::commands;
+use crate::commands::{serial, sim};
 use crate::exit::{Exit, FAILED, MISUSED, OUT_OF_MEMORY, Said};
 use crate::fault::Fault;
 use crate::input::Input;
@@ -83,14 +85,15 @@ pub fn perform<S: Sources, W: Write>(
 ) -> Result<u8, Fault>
     ensures done { OnOk result (IsDone (S.file_text sources.now) (S.standard_text sources.now) request.entry (W.contents out.old) (W.contents out.new)) }
     ensures status { IfOk result (λ status. status ≡ 0) }
+    ensures judged { IfErr result (IsJudged (S.file_text sources.now) (S.standard_text sources.now) (words_of request.entry) (inputs_of request.entry)) }
 {
     match request {
-        Request::Serial { plan, sessions } => commands::serial(alloc, sources, plan, sessions, out),
+        Request::Serial { plan, sessions } => serial::run(alloc, sources, plan, sessions, out),
         Request::Sim {
             plan,
             sessions,
             script,
-        } => commands::sim(alloc, sources, plan, sessions, script, out),
+        } => sim::run(alloc, sources, plan, sessions, script, out),
     }
 }
 

@@ -1,6 +1,6 @@
 //! The texts of the inputs, read and judged.
 
-ghost use Rattle.std.specs.Prelude.{◌≡◌, ◌≤◌, All, IfErr, IfOk, IsTrue, List, Ok, Option, length, true, ℕ};
+ghost use Rattle.std.specs.Prelude.{◌≡◌, ◌≤◌, All, IfErr, IfOk, IsTrue, List, Ok, Some, length, true, ℕ};
 ghost use Rattle.input_texts.specs.Words.{HasText, IsReadUpTo, Unread};
 ghost use Rattle.office_map.specs.PlanValue.{PlanValue};
 ghost use Rattle.session_language.specs.Limits.{most_sessions};
@@ -10,8 +10,7 @@ ghost use Rattle.drink_commands.specs.Fault.{IsFaultAt};
 ghost use Rattle.drink_commands.specs.Input.{limit_of};
 ghost use Rattle.drink_commands.specs.Plans.{IsAcceptedAs};
 ghost use Rattle.script_runs.specs.Script.{IsScript, acts_with};
-ghost use Rattle.drink_commands.specs.Texts.{AreSessions, IsPlan, IsRefused};
-ghost use Rattle.drink_commands.specs.declared.input.Input.{Input};
+ghost use Rattle.drink_commands.specs.Texts.{Refuses, nothing};
 
 use crate::fault::{Fault, Remark, Why};
 use crate::input::Input;
@@ -60,8 +59,8 @@ pub fn read_plan<S: Sources>(
 ) -> Result<Plan, Fault>
     ensures meaning { IfOk result (λ p. (text : List ℕ) (after : Unread) → HasText (S.file_text sources.now) standard.old word.now text after
         → IsAcceptedAs text p × (standard.new ≡ after)) }
-    ensures fault { IfErr result (IsFaultAt Input.Plan (λ why. (texts : Input → List ℕ) (after : Unread)
-        → HasText (S.file_text sources.now) standard.old word.now (texts Input.Plan) after → IsRefused texts why)) }
+    ensures fault { IfErr result (IsFaultAt Input.Plan (λ why. (text : List ℕ) (after : Unread)
+        → HasText (S.file_text sources.now) standard.old word.now text after → Refuses nothing text why)) }
 {
     let text = text(alloc, sources, standard, word, Input::Plan)?;
     match Plan::read(alloc, &text) {
@@ -96,9 +95,8 @@ pub fn read_programs<S: Sources>(
         → (sessions_of plan.now text ≡ Ok v.items) × (standard.new ≡ after)) }
     ensures fit { IfOk result (λ v. All (λ p. IsTrue (fits plan.now p)) v.items) }
     ensures few { IfOk result (λ v. length v.items ≤ most_sessions) }
-    ensures fault { IfErr result (IsFaultAt Input.Sessions (λ why. (texts : Input → List ℕ) (after : Unread)
-        → IsPlan texts plan.now → HasText (S.file_text sources.now) standard.old word.now (texts Input.Sessions) after
-        → IsRefused texts why)) }
+    ensures fault { IfErr result (IsFaultAt Input.Sessions (λ why. (text : List ℕ) (after : Unread)
+        → HasText (S.file_text sources.now) standard.old word.now text after → Refuses (record nothing { plan = Some plan.now }) text why)) }
 {
     let text = text(alloc, sources, standard, word, Input::Sessions)?;
     match read_sessions(alloc, &text, plan) {
@@ -125,9 +123,9 @@ pub fn read_events<S: Sources>(
 ) -> Result<Vec<ScriptEvent>, Fault>
     ensures meaning { IfOk result (λ v. (text : List ℕ) (after : Unread) → HasText (S.file_text sources.now) standard.old word.now text after
         → IsScript plan.now programs.now text (acts_with programs.now v.items) × (standard.new ≡ after)) }
-    ensures fault { IfErr result (IsFaultAt Input.Script (λ why. (texts : Input → List ℕ) (after : Unread)
-        → AreSessions texts plan.now programs.now → HasText (S.file_text sources.now) standard.old word.now (texts Input.Script) after
-        → IsRefused texts why)) }
+    ensures fault { IfErr result (IsFaultAt Input.Script (λ why. (text : List ℕ) (after : Unread)
+        → HasText (S.file_text sources.now) standard.old word.now text after
+        → Refuses (record nothing { plan = Some plan.now; programs = Some programs.now }) text why)) }
 {
     let text = text(alloc, sources, standard, word, Input::Script)?;
     match script::events(alloc, &text, plan, programs) {

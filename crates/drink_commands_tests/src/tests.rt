@@ -138,14 +138,14 @@ impl Read for Reading<'_> {
 fn ran(alloc: Global, plan: &str, sessions: &str) -> (Result<u8, Fault>, Vec<u8>) {
     let mut out = Vec::new(alloc);
     let memory = Memory::new(plan, sessions, "");
-    let result = serial(alloc, &memory, "p", "s", &mut out);
+    let result = serial::run(alloc, &memory, "p", "s", &mut out);
     (result, out)
 }
 
 /// That `serial` prints this.
 fn prints(rt: &(impl Abort + AllocGlobal), memory: &Memory<'_>, printed: &str) {
     let mut out = Vec::new(rt.alloc());
-    let result = serial(rt.alloc(), memory, "p", "s", &mut out);
+    let result = serial::run(rt.alloc(), memory, "p", "s", &mut out);
     assert_eq!(rt; result, Ok(0));
     assert_eq!(rt; out.as_slice(), printed.as_bytes());
 }

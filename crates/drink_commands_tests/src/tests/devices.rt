@@ -43,7 +43,7 @@ fn waits_for_slow_readers(rt: HostRuntime) {
 /// That `serial` fails so, and nothing is written.
 fn fails(rt: &(impl Abort + AllocGlobal), memory: &Memory<'_>, sessions: &str, fault: Fault) {
     let mut out = Vec::new(rt.alloc());
-    let result = serial(rt.alloc(), memory, "p", sessions, &mut out);
+    let result = serial::run(rt.alloc(), memory, "p", sessions, &mut out);
     assert_eq!(rt; result, Err(fault));
     assert_eq!(rt; out.len(), 0);
 }
@@ -68,7 +68,7 @@ fn writes(rt: &(impl Abort + AllocGlobal), memory: &Memory<'_>, writes: usize) {
         taken: Vec::new(rt.alloc()),
         writes,
     };
-    let result = serial(rt.alloc(), memory, "p", "s", &mut out);
+    let result = serial::run(rt.alloc(), memory, "p", "s", &mut out);
     if writes > MOVED.len() {
         assert_eq!(rt; result, Ok(0));
         assert_eq!(rt; out.taken.as_slice(), MOVED.as_bytes());
@@ -89,7 +89,7 @@ fn a_failing_write_is_told(rt: HostRuntime) {
 fn a_refused_plan_leaves_the_sessions_unread(rt: HostRuntime) {
     let memory = Memory::new("plan 2", MOVE, "");
     let mut out = Vec::new(rt.alloc());
-    let result = serial(rt.alloc(), &memory, "p", "missing", &mut out);
+    let result = serial::run(rt.alloc(), &memory, "p", "missing", &mut out);
     assert!(rt; matches!(why(result), Some(Why::Plan(_))));
 }
 
@@ -97,9 +97,9 @@ fn a_refused_plan_leaves_the_sessions_unread(rt: HostRuntime) {
 fn an_endless_reader_is_left(rt: HostRuntime) {
     let memory = Memory::new(PLAN, MOVE, "");
     let mut out = Vec::new(rt.alloc());
-    let result = serial(rt.alloc(), &memory, "endless", "s", &mut out);
+    let result = serial::run(rt.alloc(), &memory, "endless", "s", &mut out);
     assert!(rt; matches!(why(result), Some(Why::Plan(_))));
-    let result = serial(rt.alloc(), &memory, "p", "endless", &mut out);
+    let result = serial::run(rt.alloc(), &memory, "p", "endless", &mut out);
     assert!(rt; matches!(why(result), Some(Why::Sessions(_))));
     assert_eq!(rt; out.len(), 0);
 }

@@ -92,7 +92,7 @@ static ROWS: [(&str, &str, &str, &str); 9] = [
 fn ran(alloc: Global, plan: &str, sessions: &str, script: &str) -> (Result<u8, Fault>, Vec<u8>) {
     let mut out = Vec::new(alloc);
     let memory = Memory::new(plan, sessions, script);
-    let result = sim(alloc, &memory, "p", "s", "c", &mut out);
+    let result = sim::run(alloc, &memory, "p", "s", "c", &mut out);
     (result, out)
 }
 
@@ -305,7 +305,7 @@ fn long_script(alloc: Global) -> Result<Long, AllocError> {
 fn add_serial(long: &mut Long, rt: &(impl Abort + AllocGlobal)) -> Result<(), Fail> {
     let mut alone = Vec::new(rt.alloc());
     let memory = Memory::new(PLAN, long.finished.as_str(), "");
-    let status = serial(rt.alloc(), &memory, "p", "s", &mut alone);
+    let status = serial::run(rt.alloc(), &memory, "p", "s", &mut alone);
     assert_eq!(rt; status, Ok(0));
     let report = String::from_utf8(alone)?;
     for line in report.as_str().lines() {
@@ -391,7 +391,7 @@ fn a_script_has_a_longest_text(rt: HostRuntime) {
     let alloc = rt.alloc();
     let mut out = Vec::new(alloc);
     let memory = Memory::new(PLAN, MOVE, "");
-    let result = sim(alloc, &memory, "p", "s", "endless", &mut out);
+    let result = sim::run(alloc, &memory, "p", "s", "endless", &mut out);
     assert_eq!(rt; why(result), Some(Why::Script(ScriptRefusal { line: 0 })));
     assert_eq!(rt; out.len(), 0);
 }
@@ -400,10 +400,10 @@ fn a_script_has_a_longest_text(rt: HostRuntime) {
 fn refused_sessions_leave_the_script_unread(rt: HostRuntime) {
     let memory = Memory::new(PLAN, "session c", "submit 1\n");
     let mut out = Vec::new(rt.alloc());
-    let result = sim(rt.alloc(), &memory, "p", "s", "missing", &mut out);
+    let result = sim::run(rt.alloc(), &memory, "p", "s", "missing", &mut out);
     assert!(rt; matches!(why(result), Some(Why::Sessions(_))));
     let memory = Memory::new(PLAN, MOVE, "submit 1\n");
-    let result = sim(rt.alloc(), &memory, "p", "s", "missing", &mut out);
+    let result = sim::run(rt.alloc(), &memory, "p", "s", "missing", &mut out);
     let failed = Fault::ReadFailed(Input::Script, io::ErrorKind::NotFound);
     assert_eq!(rt; result, Err(failed));
     assert_eq!(rt; out.len(), 0);

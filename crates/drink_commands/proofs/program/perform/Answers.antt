@@ -1,7 +1,16 @@
+use Rattle.std.proofs.Common.{sym}
 use Rattle.drink_commands.proofs.program.perform.Goals as goal
 
 pub returns-in-Serial : goal.returns-in-Serial
-returns-in-Serial g c = record { done = rw c.in-Serial.is c.serial.ensures.reports; status = c.serial.ensures.status }
+returns-in-Serial g c = record {
+  done = rw c.in-Serial.is c.run.ensures.reports;
+  status = c.run.ensures.status;
+  judged = rw c.in-Serial.is c.run.ensures.judged;
+}
 
 pub returns-in-Sim : goal.returns-in-Sim
-returns-in-Sim g c = record { done = rw c.in-Sim.is c.sim.ensures.simulates; status = c.sim.ensures.status }
+returns-in-Sim g c = record {
+  done = rw c.in-Sim.is c.run-in-Sim.ensures.simulates;
+  status = c.run-in-Sim.ensures.status;
+  judged = rw c.in-Sim.is c.run-in-Sim.ensures.judged;
+}

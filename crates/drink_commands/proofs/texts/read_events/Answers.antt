@@ -1,6 +1,5 @@
 use Rattle.std.proofs.Common.{refl, subst}
 use Rattle.script_runs.specs.Script.{IsScript, RefusesScript, acts_with}
-use Rattle.drink_commands.specs.declared.input.Input.TheVariants as inputs
 use Rattle.drink_commands.proofs.Limits.{script_accepted, script_refused}
 use Rattle.drink_commands.proofs.texts.read_events.Goals as goal
 
@@ -18,11 +17,12 @@ returns-in-Err-Refused-clause-fault g c =
     let ps = c.args.programs.now in
     let refused = rw c.in-Err-Refused.field-0-is at c.in-Err-Refused.ensures.fault in (
       refl,
-      λ texts after sessions has. (
+      λ text after has. (
         p,
         ps,
-        sessions,
-        script_refused p ps (texts inputs.Script) c.in_ok-text.text.items c.in-Err-Refused.refusal (c.in_ok-text.ensures.text (texts inputs.Script) after has).0
+        refl,
+        refl,
+        script_refused p ps text c.in_ok-text.text.items c.in-Err-Refused.refusal (c.in_ok-text.ensures.text text after has).0
             (subst (λ t. RefusesScript p ps t c.in-Err-Refused.refusal) c.deref.ensures.value refused),
       ),
     )

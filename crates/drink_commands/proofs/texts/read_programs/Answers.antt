@@ -1,6 +1,5 @@
 use Rattle.std.proofs.Common.{◌≡◌, Ok, refl, sym, ap, ◌∙◌}
 use Rattle.session_language.specs.Reading.{sessions_of}
-use Rattle.drink_commands.specs.declared.input.Input.TheVariants as inputs
 use Rattle.drink_commands.proofs.Limits.{sessions_accepted, sessions_read}
 use Rattle.drink_commands.proofs.texts.read_programs.Goals as goal
 
@@ -14,6 +13,5 @@ pub returns-in-Err-Refused-clause-fault : goal.returns-in-Err-Refused-clause-fau
 returns-in-Err-Refused-clause-fault g c =
     let read = ap (sessions_of c.args.plan.now) (sym c.deref.ensures.value) ∙ (rw c.in-Err-Refused.field-0-is at c.in-Err-Refused.ensures.meaning) in (
       refl,
-      λ texts after is_plan has.
-          (c.args.plan.now, is_plan, sym (sessions_read c.args.plan.now (texts inputs.Sessions) c.in_ok-text.text.items (c.in_ok-text.ensures.text (texts inputs.Sessions) after has).0) ∙ read),
+      λ text after has. (c.args.plan.now, refl, sym (sessions_read c.args.plan.now text c.in_ok-text.text.items (c.in_ok-text.ensures.text text after has).0) ∙ read),
     )

@@ -1,6 +1,6 @@
 use Rattle.std.proofs.Common.{◌∙◌}
 use Rattle.drink_commands.proofs.Rows.{report_is}
-use Rattle.drink_commands.proofs.commands.serial_report.Goals as goal
+use Rattle.drink_commands.proofs.commands.serial.serial_report.Goals as goal
 
 pub returns : goal.returns
 returns c =
