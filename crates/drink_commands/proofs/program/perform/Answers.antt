@@ -1,4 +1,3 @@
-use Rattle.std.proofs.Common.{sym}
 use Rattle.drink_commands.proofs.program.perform.Goals as goal
 
 pub returns-in-Serial : goal.returns-in-Serial
