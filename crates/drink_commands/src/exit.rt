@@ -10,15 +10,15 @@ pub(crate) const FAILED: u8 = 1;
 /// The exit status where the command line is at fault.
 pub(crate) const MISUSED: u8 = 2;
 
-pub(crate) const OUT_OF_MEMORY: &str = "drink: out of memory\n";
-
 /// What is said on the standard error.
 #[derive(Drop)]
 pub enum Said {
     Nothing,
     Text(String),
-    /// A text that takes no memory.
-    Fixed(&'static str),
+    /// That memory ran out, which takes none.
+    OutOfMemory,
+    /// That the command line is no text, which takes no memory either.
+    NoText,
 }
 
 impl Said {
@@ -26,7 +26,7 @@ impl Said {
     pub(crate) fn of(text: Result<String, AllocError>) -> Said {
         match text {
             Ok(text) => Said::Text(text),
-            Err(_) => Said::Fixed(OUT_OF_MEMORY),
+            Err(_) => Said::OutOfMemory,
         }
     }
 
@@ -34,7 +34,8 @@ impl Said {
         match self {
             Said::Nothing => "",
             Said::Text(text) => text.as_str(),
-            Said::Fixed(text) => *text,
+            Said::OutOfMemory => "drink: out of memory\n",
+            Said::NoText => "drink: the command line is not UTF-8, and file names have to be\n",
         }
     }
 }
@@ -47,13 +48,13 @@ pub struct Exit {
 }
 
 impl Exit {
-    /// A status with a text that takes no memory.
-    pub(crate) fn fixed(status: u8, text: &'static str) -> Exit
-        ensures { result.status ≡ status }
+    /// That memory ran out, with the status of a failure.
+    pub(crate) fn out_of_memory() -> Exit
+        ensures { result.status ≡ 1 }
     {
         Exit {
-            status,
-            said: Said::Fixed(text),
+            status: FAILED,
+            said: Said::OutOfMemory,
         }
     }
 
@@ -66,7 +67,7 @@ impl Exit {
                 status,
                 said: Said::Text(text),
             },
-            Err(_) => Exit::fixed(FAILED, OUT_OF_MEMORY),
+            Err(_) => Exit::out_of_memory(),
         }
     }
 

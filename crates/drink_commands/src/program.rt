@@ -10,7 +10,7 @@ ghost use Rattle.drink_commands.specs.Texts.{IsJudged};
 use crate::command_line::{Request, command_line, help};
 use crate::commands;
 use crate::commands::{serial, sim};
-use crate::exit::{Exit, FAILED, MISUSED, OUT_OF_MEMORY, Said};
+use crate::exit::{Exit, FAILED, MISUSED, Said};
 use crate::fault::Fault;
 use crate::input::Input;
 use clap::error::ErrorKind;
@@ -39,16 +39,15 @@ pub fn words<R: AllocGlobal + Env>(rt: &R) -> Result<Vec<String>, Exit> {
     match std::env::args(rt) {
         Ok(args) => match args.collect::<Vec<String>>(rt.alloc()) {
             Ok(words) => Ok(words),
-            Err(_) => Err(Exit::fixed(FAILED, OUT_OF_MEMORY)),
+            Err(_) => Err(Exit::out_of_memory()),
         },
-        Err(e) if e.kind() == io::ErrorKind::OutOfMemory => {
-            Err(Exit::fixed(FAILED, OUT_OF_MEMORY))
-        }
-        Err(_) => Err(Exit::fixed(MISUSED, NO_TEXT)),
+        Err(e) if e.kind() == io::ErrorKind::OutOfMemory => Err(Exit::out_of_memory()),
+        Err(_) => Err(Exit {
+            status: MISUSED,
+            said: Said::NoText,
+        }),
     }
 }
-
-const NO_TEXT: &str = "drink: the command line is not UTF-8, and file names have to be\n";
 
 /// Does what these words ask for. The first of them is the program's name. The status is 0 only where what they ask for was
 /// done, or help or the version went out, and nothing is written where it is 2.
@@ -181,7 +180,7 @@ fn misused<W: Write>(alloc: Global, error: &clap::Error, out: &mut W) -> Exit
 {
     match error.kind() {
         ErrorKind::DisplayHelp | ErrorKind::DisplayVersion => shown(alloc, error, out),
-        ErrorKind::OutOfMemory => Exit::fixed(FAILED, OUT_OF_MEMORY),
+        ErrorKind::OutOfMemory => Exit::out_of_memory(),
         _ => Exit::saying(MISUSED, misuse(alloc, error)),
     }
 }
@@ -200,7 +199,7 @@ fn shown<W: Write>(alloc: Global, error: &clap::Error, out: &mut W) -> Exit
     ensures { result.status ≤ 1 }
 {
     let Ok(text) = error.to_string(alloc) else {
-        return Exit::fixed(FAILED, OUT_OF_MEMORY);
+        return Exit::out_of_memory();
     };
     match commands::write_whole(out, &text) {
         Ok(()) => Exit {

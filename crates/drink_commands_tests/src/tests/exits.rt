@@ -61,11 +61,11 @@ fn what_is_said_goes_out_with_the_status(rt: HostRuntime) -> Result<(), Fail> {
             said: Said::Nothing,
         };
         ends(&rt, &silent, status, "");
-        let fixed = Exit {
+        let short = Exit {
             status,
-            said: Said::Fixed("drink: out of memory\n"),
+            said: Said::OutOfMemory,
         };
-        ends(&rt, &fixed, status, "drink: out of memory\n");
+        ends(&rt, &short, status, "drink: out of memory\n");
         let told = Exit {
             status,
             said: Said::Text(String::from_str(alloc, "drink: a\n")?),
