@@ -274,7 +274,6 @@ fn say_form(said: &mut String, line: &[u8], form: &str) -> Result<(), AllocError
             break;
         };
         match piece {
-            Piece::Stray => {}
             Piece::Word(word) => {
                 if is_long_number(word) {
                     let word = Quoted(word);
@@ -293,12 +292,11 @@ fn say_form(said: &mut String, line: &[u8], form: &str) -> Result<(), AllocError
                 }
                 open -= 1;
             }
-            Piece::Symbol(symbol) => {
-                if open > 0 && is_comparison(symbol) {
-                    said.push_str("a comparison stands outside of parentheses: ")?;
-                    return say_expected(said, line, form);
-                }
+            Piece::Symbol(symbol) if open > 0 && is_comparison(symbol) => {
+                said.push_str("a comparison stands outside of parentheses: ")?;
+                return say_expected(said, line, form);
             }
+            _ => {}
         }
     }
     if open > 0 {
