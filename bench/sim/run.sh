@@ -8,6 +8,7 @@
 set -eu
 top=$(cd "$(dirname "$0")/../.." && pwd)
 . "$top/bench/shared/program.sh"
+. "$top/bench/shared/sim.sh"
 
 # OFFICES: a plan in which each office shares a record with the next one, two sessions for each of these, and in `plan` and
 # `sessions` what they are.
@@ -79,33 +80,12 @@ submits() {
     awk -v lines="$1" 'BEGIN { for (n = 0; n < lines; n++) print "submit 1" }'
 }
 
-# The instructions of a run on these sessions and what is in the file `script`, or -.
-instructions() {
-    if command -v valgrind > /dev/null; then
-        valgrind --tool=callgrind --callgrind-out-file="$work/callgrind" "$program" sim "$work/plan" "$1" "$work/script" > /dev/null 2> "$work/log"
-        sed -n 's/.*Collected : \([0-9]*\).*/\1/p' "$work/log"
-    else
-        "$program" sim "$work/plan" "$1" "$work/script" > /dev/null
-        echo -
-    fi
-}
-
-# The most memory of such a run, in KiB, or -.
-memory() {
-    if [ -x /usr/bin/time ]; then
-        /usr/bin/time -v "$program" sim "$work/plan" "$1" "$work/script" > /dev/null 2> "$work/log"
-        sed -n 's/.*Maximum resident set size (kbytes): //p' "$work/log"
-    else
-        echo -
-    fi
-}
-
-# ALL NONE LINES: what a line takes.
+# ALL NONE LINES: what so many lines take, and what a line takes.
 for_a_line() {
     if [ "$1" = - ]; then
         echo '- | -'
     else
-        echo "$(($1 - $2)) | $((($1 - $2) / $3))"
+        echo "$(($1 - $2)) | $(for_each "$1" "$2" "$3")"
     fi
 }
 
@@ -113,18 +93,19 @@ printf '| %s | %s | %s | %s | %s |\n' Offices Lines 'Memory, KiB' Instructions '
 for offices in 2 16; do
     ring "$offices"
     : > "$work/script"
-    none=$(instructions "$work/sessions")
+    none=$(instructions)
     for lines in 10000 100000 500000 1000000; do
         script "$offices" "$lines" > "$work/script"
-        printf '| %s | %s | %s | %s |\n' "$offices" "$lines" "$(memory "$work/sessions")" "$(for_a_line "$(instructions "$work/sessions")" "$none" "$lines")"
+        printf '| %s | %s | %s | %s |\n' "$offices" "$lines" "$(memory)" "$(for_a_line "$(instructions)" "$none" "$lines")"
     done
 done
 
 # The 64 sessions that there is room for are submitted in both runs.
 ring 2
+cp "$work/heavy" "$work/sessions"
 submits 64 > "$work/script"
-few=$(instructions "$work/heavy")
+few=$(instructions)
 printf '\n| %s | %s | %s | %s | %s |\n' 'Lines that submit a heavy session' Bytes 'Memory, KiB' Instructions 'For a line'
-printf '| 64 | %s | %s | - | - |\n' "$(wc -c < "$work/script")" "$(memory "$work/heavy")"
+printf '| 64 | %s | %s | - | - |\n' "$(wc -c < "$work/script")" "$(memory)"
 submits 100000 > "$work/script"
-printf '| 100000 | %s | %s | %s |\n' "$(wc -c < "$work/script")" "$(memory "$work/heavy")" "$(for_a_line "$(instructions "$work/heavy")" "$few" 99936)"
+printf '| 100000 | %s | %s | %s |\n' "$(wc -c < "$work/script")" "$(memory)" "$(for_a_line "$(instructions)" "$few" 99936)"

@@ -1,0 +1,41 @@
+# For the scripts that run `drink sim`: what a run takes on what is in the files `plan`, `sessions` and `script` of the
+# folder `work`. `program` is the program.
+
+# The instructions of a run, or -.
+instructions() {
+    if command -v valgrind > /dev/null; then
+        valgrind --tool=callgrind --callgrind-out-file="$work/callgrind" "$program" sim "$work/plan" "$work/sessions" "$work/script" > /dev/null 2> "$work/log"
+        sed -n 's/.*Collected : \([0-9]*\).*/\1/p' "$work/log"
+    else
+        "$program" sim "$work/plan" "$work/sessions" "$work/script" > /dev/null
+        echo -
+    fi
+}
+
+# The most memory of a run, in KiB, or -.
+memory() {
+    if [ -x /usr/bin/time ]; then
+        /usr/bin/time -v "$program" sim "$work/plan" "$work/sessions" "$work/script" > /dev/null 2> "$work/log"
+        sed -n 's/.*Maximum resident set size (kbytes): //p' "$work/log"
+    else
+        echo -
+    fi
+}
+
+# ALL NONE COUNT: what one of so many takes, or -.
+for_each() {
+    if [ "$1" = - ]; then
+        echo -
+    else
+        echo "$((($1 - $2) / $3))"
+    fi
+}
+
+# LINE: runs the script, and fails where no line that is printed, in the file `printed`, is this one.
+prints() {
+    "$program" sim "$work/plan" "$work/sessions" "$work/script" > "$work/printed"
+    if ! grep -qx "$1" "$work/printed"; then
+        echo "$0: the run doesn't print '$1'" >&2
+        exit 1
+    fi
+}
