@@ -1,4 +1,4 @@
-ghost use Rattle.std.specs.Prelude.{◌≡◌, false, IfSome};
+ghost use Rattle.std.specs.Prelude.{◌≡◌, ◌<◌, ◌≤◌, false, IfOk, IfSome};
 ghost use Rattle.own_lock.specs.Passes.{IsOf, AreIdle};
 
 use bottle_values::Value;
@@ -46,6 +46,19 @@ fn office(alloc: Global, plan: &str) -> Result<Office, Fail> {
     Ok(Office::open(alloc, &plan, OfficeId::new(0))?)
 }
 
+/// A desk of the first office of the plan, and so many passes.
+fn opened(alloc: Global, plan: &str, passes: u8) -> Result<(Desk, Vec<Pass<Office>>), Fail>
+    requires some { 0 < passes }
+    requires few { passes ≤ 16 }
+    ensures { IfOk result (λ r. AreIdle r.0 r.1.items) }
+{
+    let office = office(alloc, plan)?;
+    match Desk::open(alloc, office, passes) {
+        Ok(opened) => Ok(opened),
+        Err(_) => Err(Fail::from("memory for a desk")),
+    }
+}
+
 /// The last of the passes.
 fn last(desk: &Desk, passes: &mut Vec<Pass<Office>>) -> Option<Pass<Office>>
     requires { AreIdle desk.now passes.old.items }
@@ -55,23 +68,39 @@ fn last(desk: &Desk, passes: &mut Vec<Pass<Office>>) -> Option<Pass<Office>>
     passes.pop()
 }
 
+// A test owns its desk and lends it: who owns a desk or a pass and leaves early is long to prove.
+
 /// While one pass has the office the other finds it taken, and submits after that.
 #[test]
 fn a_busy_desk_says_so(rt: HostRuntime) -> Result<(), Fail> {
-    let alloc = rt.alloc();
-    let programs = programs(alloc, PAIR, SESSIONS)?;
-    let program = programs.get(1).ok_or("a session")?;
-    let (desk, mut passes) = Desk::open(alloc, office(alloc, PAIR)?, 2)?;
-    let mut b = last(&desk, &mut passes).ok_or("two")?;
-    let mut a = last(&desk, &mut passes).ok_or("two")?;
-    assert_eq!(rt; while_held(&desk, &mut a, &mut b, program), Some(3));
-    assert_eq!(rt;
-        try_submit(&desk, &mut b, program),
-        Some(Ok(Reply::Ticket(1)))
-    );
-    assert_eq!(rt; tags(&rt, &desk, &mut b, 10)?, [0, 1, 0, 0]);
-    assert!(rt; desk.close(b).is_some());
+    let programs = programs(rt.alloc(), PAIR, SESSIONS)?;
+    let (desk, mut passes) = opened(rt.alloc(), PAIR, 2)?;
+    match submits_after(&rt, &desk, &mut passes, &programs) {
+        Some(pass) => assert!(rt; desk.close(pass).is_some()),
+        None => assert!(rt; false),
+    }
     Ok(())
+}
+
+/// The pass that found the office taken.
+fn submits_after<R: Wait + Abort>(
+    rt: &R,
+    desk: &Desk,
+    passes: &mut Vec<Pass<Office>>,
+    programs: &[Program],
+) -> Option<Pass<Office>>
+    requires { AreIdle desk.now passes.old.items }
+    ensures { IfSome result (λ pass. IsOf desk.now pass × (pass.holds ≡ false)) }
+{
+    let program = programs.get(1)?;
+    let mut b = last(desk, passes)?;
+    let mut a = last(desk, passes)?;
+    let busy = while_held(desk, &mut a, &mut b, program);
+    assert_eq!(rt; busy, Some(3));
+    let ticket = try_submit(desk, &mut b, program);
+    assert_eq!(rt; ticket, Some(Ok(Reply::Ticket(1))));
+    assert_eq!(rt; tags(rt, desk, &mut b, 10), Ok([0, 1, 0, 0]));
+    Some(b)
 }
 
 /// How many of the calls find the office taken while the first pass has it.
@@ -109,18 +138,41 @@ fn count_busy(desk: &Desk, pass: &mut Pass<Office>, program: &Program) -> u32
 /// A session fetches a bottle through the desk.
 #[test]
 fn a_session_finishes_at_a_desk(rt: HostRuntime) -> Result<(), Fail> {
-    let alloc = rt.alloc();
-    let programs = programs(alloc, PAIR, SESSIONS)?;
-    let program = programs.get(0).ok_or("a session")?;
-    let (desk, mut passes) = Desk::open(alloc, office(alloc, PAIR)?, 1)?;
-    let mut pass = last(&desk, &mut passes).ok_or("one")?;
-    ask_for_the_bottle(&rt, &desk, &mut pass, program);
-    get_the_bottle(&rt, &desk, &mut pass);
-    assert!(rt; has_moved(&outcome(&rt, &desk, &mut pass, 1)?));
-    let tried = try_outcome(&desk, &mut pass, 1).ok_or("free")?;
-    assert!(rt; has_moved(&tried?));
-    assert!(rt; outcome(&rt, &desk, &mut pass, 2)?.is_none());
+    let programs = programs(rt.alloc(), PAIR, SESSIONS)?;
+    let (desk, mut passes) = opened(rt.alloc(), PAIR, 1)?;
+    assert!(rt; finishes(&rt, &desk, &mut passes, &programs));
     Ok(())
+}
+
+/// Whether there is a pass, and the session's outcome is told by it in both ways, and no other one.
+fn finishes<R: Wait + Abort>(
+    rt: &R,
+    desk: &Desk,
+    passes: &mut Vec<Pass<Office>>,
+    programs: &[Program],
+) -> bool
+    requires { AreIdle desk.now passes.old.items }
+{
+    let Some(program) = programs.get(0) else {
+        return false;
+    };
+    let Some(mut pass) = last(desk, passes) else {
+        return false;
+    };
+    ask_for_the_bottle(rt, desk, &mut pass, program);
+    get_the_bottle(rt, desk, &mut pass);
+    is_told(rt, desk, &mut pass)
+}
+
+fn is_told<R: Wait>(rt: &R, desk: &Desk, pass: &mut Pass<Office>) -> bool
+    requires { IsOf desk.now pass.old × (pass.old.holds ≡ false) }
+{
+    let told = outcome(rt, desk, pass, 1).is_ok_and(|o| has_moved(&o));
+    let tried = match try_outcome(desk, pass, 1) {
+        Some(Ok(o)) => has_moved(&o),
+        _ => false,
+    };
+    told && tried && outcome(rt, desk, pass, 2).is_ok_and(|o| o.is_none())
 }
 
 fn ask_for_the_bottle<R: Wait + Abort>(
@@ -158,19 +210,31 @@ fn get_the_bottle<R: Wait + Abort>(rt: &R, desk: &Desk, pass: &mut Pass<Office>)
 /// 64 sessions wait; one more is taken once one has finished.
 #[test]
 fn sixty_four_sessions_wait_at_a_desk(rt: HostRuntime) -> Result<(), Fail> {
-    let alloc = rt.alloc();
-    let programs = programs(alloc, PAIR, SESSIONS)?;
-    let program = programs.get(1).ok_or("a session")?;
-    let (desk, mut passes) = Desk::open(alloc, office(alloc, PAIR)?, 1)?;
-    let mut pass = last(&desk, &mut passes).ok_or("one")?;
-    fill(&rt, &desk, &mut pass, program);
-    assert_eq!(rt; tags(&rt, &desk, &mut pass, 99)?, [64, 0, 0, 0]);
-    assert_eq!(rt; advance(&rt, &desk, &mut pass, 6), Ok(6));
-    assert_eq!(rt;
-        submit(&rt, &desk, &mut pass, program),
-        Ok(Reply::Ticket(65))
-    );
+    let programs = programs(rt.alloc(), PAIR, SESSIONS)?;
+    let (desk, mut passes) = opened(rt.alloc(), PAIR, 1)?;
+    assert!(rt; takes_one_more(&rt, &desk, &mut passes, &programs));
     Ok(())
+}
+
+/// Whether there is a pass, and it submits 64 sessions, and one more after one has finished.
+fn takes_one_more<R: Wait + Abort>(
+    rt: &R,
+    desk: &Desk,
+    passes: &mut Vec<Pass<Office>>,
+    programs: &[Program],
+) -> bool
+    requires { AreIdle desk.now passes.old.items }
+{
+    let Some(program) = programs.get(1) else {
+        return false;
+    };
+    let Some(mut pass) = last(desk, passes) else {
+        return false;
+    };
+    fill(rt, desk, &mut pass, program);
+    assert_eq!(rt; tags(rt, desk, &mut pass, 99), Ok([64, 0, 0, 0]));
+    assert_eq!(rt; advance(rt, desk, &mut pass, 6), Ok(6));
+    submit(rt, desk, &mut pass, program) == Ok(Reply::Ticket(65))
 }
 
 fn fill<R: Wait + Abort>(rt: &R, desk: &Desk, pass: &mut Pass<Office>, program: &Program)

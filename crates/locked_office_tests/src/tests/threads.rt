@@ -4,7 +4,7 @@ ghost use Rattle.std.specs.Prelude.{◌≡◌, ◌<◌, false, length, IfOk, IfS
 ghost use Rattle.std.specs.List.{All};
 ghost use Rattle.own_lock.specs.Passes.{IsOf, AreIdle};
 
-use super::{PAIR, advance, ended, journal_part, office, send, submit, took};
+use super::{PAIR, advance, ended, journal_part, opened, send, submit, took};
 use locked_office::Desk;
 use locked_office::laws::threads_share_a_desk;
 use office_map::Plan;
@@ -226,24 +226,75 @@ fn counted(told: &mut Told, entry: &Entry) -> bool {
     }
 }
 
-/// Four threads do the job at one office. The entries of its journal, and what each thread was told, the last one's first.
+/// The entries of a journal, and what each thread was told, the last one's first.
+type Course = (Vec<Entry>, Vec<Vec<Told>>);
+
+/// Four threads do the job at one office.
 fn shared<R: Threads + Wait + Sync>(
     rt: &R,
     alloc: Global,
     plan: &str,
     job: Job,
-) -> Result<(Vec<Entry>, Vec<Vec<Told>>), Fail> {
-    let (desk, passes) = Desk::open(alloc, office(alloc, plan)?, 4)?;
-    let mut all = in_threads(rt, alloc, &desk, passes, job)?;
-    let (mut pass, of_last) = last_back(&desk, &mut all).ok_or("four")?;
+) -> Result<Course, Fail> {
+    let (desk, passes) = opened(alloc, plan, 4)?;
+    match together(rt, alloc, &desk, passes, job) {
+        Some((pass, course)) => whole(entries_at(desk.close(pass)), course),
+        None => Err(Fail::from("four passes")),
+    }
+}
+
+/// The last pass, and what came of the job.
+fn together<R: Threads + Wait + Sync>(
+    rt: &R,
+    alloc: Global,
+    desk: &Desk,
+    passes: Vec<Pass<Office>>,
+    job: Job,
+) -> Option<(Pass<Office>, Result<Course, AllocError>)>
+    requires { AreIdle desk.now passes.items }
+    ensures { IfSome result (λ r. IsOf desk.now r.0 × (r.0.holds ≡ false)) }
+{
+    let Ok(mut all) = in_threads(rt, alloc, desk, passes, job) else {
+        return None;
+    };
+    let (mut pass, of_last) = last_back(desk, &mut all)?;
+    let course = course_of(rt, alloc, desk, all, &mut pass, of_last);
+    Some((pass, course))
+}
+
+fn course_of<R: Wait>(
+    rt: &R,
+    alloc: Global,
+    desk: &Desk,
+    all: Vec<Returned>,
+    pass: &mut Pass<Office>,
+    of_last: Vec<Told>,
+) -> Result<Course, AllocError>
+    requires all { All (λ back. IsOf desk.now back.0 × (back.0.holds ≡ false)) all.items }
+    requires pass { IsOf desk.now pass.old × (pass.old.holds ≡ false) }
+    ensures { IsOf desk.now pass.new × (pass.new.holds ≡ false) }
+{
     let mut told = vec![in alloc; of_last]?;
-    meet_all(&desk, all, &mut pass, &mut told)?;
-    let part = journal_part(rt, &desk, &mut pass, 1_000_000)?;
-    let office = desk.close(pass).ok_or("nobody has it")?;
-    if office.journal().len() != part.len() {
+    meet_all(desk, all, pass, &mut told)?;
+    let part = journal_part(rt, desk, pass, 1_000_000)?;
+    Ok((part, told))
+}
+
+/// How many entries an office has; none where there is no office.
+fn entries_at(office: Option<Office>) -> usize {
+    match office {
+        Some(office) => office.journal().len(),
+        None => 0,
+    }
+}
+
+/// What came, where it has all entries.
+fn whole(entries: usize, course: Result<Course, AllocError>) -> Result<Course, Fail> {
+    let course = course?;
+    if course.0.len() != entries {
         return Err(Fail::from("the whole journal"));
     }
-    Ok((part, told))
+    Ok(course)
 }
 
 /// Ten of the four threads' forty sessions are of each, and each has a ticket of its own.
