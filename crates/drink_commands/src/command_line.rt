@@ -5,6 +5,7 @@ ghost use Rattle.std.specs.String.{string_bytes};
 ghost use Rattle.clap.specs.Words.{FailsBy, app_of, fault_of, found_of, rows_of, rule_of, with_subcommand};
 ghost use Rattle.drink_commands.specs.CommandLine.{Asks, Requests, program, required, serial_command, sim_command, word_of};
 
+use clap::error::ErrorKind;
 use clap::{Arg, ArgMatches, Command, Error};
 use std::alloc::{AllocError, Global};
 
@@ -46,7 +47,10 @@ pub fn command_line<'a>(alloc: Global, words: &'a [String]) -> Result<Request<'a
 pub fn help(alloc: Global) -> Result<String, AllocError> {
     match program(alloc)?.try_get_matches_from(["drink", "--help"].as_slice()) {
         Ok(_) => Ok(String::new(alloc)),
-        Err(error) => error.to_string(alloc),
+        Err(error) => match error.kind() {
+            ErrorKind::OutOfMemory => Err(AllocError),
+            _ => error.to_string(alloc),
+        },
     }
 }
 
