@@ -11,3 +11,6 @@ pub mod FirstRule
 pub mod NoneNext
 pub mod SessionsInOrder
 pub mod OfficeCrosses
+mod LinksGrow
+mod WantOfRoom
+mod BytesComing

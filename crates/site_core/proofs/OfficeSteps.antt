@@ -37,12 +37,16 @@ opens p v entries plan me of is means none =
     (is ∙ ap (λ x. pairs.opened x me) (sym of.0) ∙ ap (λ x. pairs.opened p.plan x) (sym of.1), means) in
     subst (IsAtEnd p v) (sym none) (record { stands = here; legal = legal_empty p.plan p.me })
 
--- each link has numbers left, while the journal isn't too long
-pub have_room : (p : PairsValue) (v : AgendaValue) (entries : List Entry) → IsAtEnd p v entries → HaveRoom p
-have_room p v entries h = λ u.
+-- no link used more numbers than a journal takes entries
+pub numbers_in_range : (p : PairsValue) (v : AgendaValue) (entries : List Entry) → IsAtEnd p v entries → (u : ℕ) → used ((pairs_of p).link u).sending ≤ most_entries
+numbers_in_range p v entries h u =
     let w = (within (site_of p entries)).numbers u in
     let same = ap (λ (x : Pairs). used (x.link u).sending) h.stands.0 in
     omega (arith, w, same, h.legal.few)
+
+-- so each has numbers left, while the journal isn't too long
+pub have_room : (p : PairsValue) (v : AgendaValue) (entries : List Entry) → IsAtEnd p v entries → HaveRoom p
+have_room p v entries h = λ u. omega (arith, numbers_in_range p v entries h u)
 
 pub are_ours : (p : PairsValue) (v : AgendaValue) (entries : List Entry) → IsAtEnd p v entries → AreOurs p v
 are_ours p v entries h = subst (All (λ (s : Session). is_ours p.plan p.me s.program ≡ true)) (sym h.stands.1.queue) (within (site_of p entries)).ours

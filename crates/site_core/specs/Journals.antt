@@ -76,11 +76,25 @@ Adds s tag e (Err r) s' = s' ≡ s
 abbrev pub StepsAddTheirEntry : Type 0
 StepsAddTheirEntry = (s : Site) (tag : ℕ) (e : Event) (result : Result Reply Refusal) (s' : Site) → Steps s tag e result s' → Adds s tag e result s'
 
--- bytes that come: those that spell a frame are that frame, and others are refused for what is wrong with them
-pub record Receives (s : Site) (tag : ℕ) (bytes : List ℕ) (result : Result Reply Refusal) (s' : Site) : Type 0 where
-  pub frame : (f : Fields) → Spells bytes f → Steps s tag (event.Took f) result s'
-  pub fault : (fault : FrameFault) → first_fault bytes ≡ Some fault → (result ≡ Err (refusal.Frame fault)) × (s' ≡ s)
+-- why nothing more can be noted: the journal is full, or memory ran out
+abbrev pub LacksRoom : Site → Refusal → Type 0
+LacksRoom s why = ((why ≡ refusal.JournalFull) × (most_entries ≤ length s.entries)) ⊎ (why ≡ refusal.Memory)
+
+-- a journal that is said to be full is full
+abbrev pub FullAtTheLimit : Type 0
+FullAtTheLimit = (s : Site) (tag : ℕ) (e : Event) (s' : Site) → Steps s tag e (Err refusal.JournalFull) s' → most_entries ≤ length s.entries
 
 -- the frame that the bytes spell was taken, with this reply: one entry more, and nothing else
 abbrev pub TakesFrame : Site → ℕ → List ℕ → Reply → Site → Type 0
 TakesFrame s tag bytes reply s' = (f : Fields) × Spells bytes f × (s' ≡ noted s tag (event.Took f) reply)
+
+-- an Ok is that one entry, and what is refused leaves nothing
+abbrev pub Enters : Site → ℕ → List ℕ → Result Reply Refusal → Site → Type 0
+Enters s tag bytes (Ok reply) s' = TakesFrame s tag bytes reply s'
+Enters s tag bytes (Err why) s' = s' ≡ s
+
+-- bytes that come: those that spell a frame are that frame, and others are refused for what is wrong with them
+pub record Receives (s : Site) (tag : ℕ) (bytes : List ℕ) (result : Result Reply Refusal) (s' : Site) : Type 0 where
+  pub frame : (f : Fields) → Spells bytes f → Steps s tag (event.Took f) result s'
+  pub fault : (fault : FrameFault) → first_fault bytes ≡ Some fault → (result ≡ Err (refusal.Frame fault)) × (s' ≡ s)
+  pub entry : Enters s tag bytes result s'

@@ -8,4 +8,5 @@ pub mod RuleOrder
 pub mod RulesInTurn
 pub mod Readers
 pub mod Tickets
+pub mod Growing
 pub mod refinement

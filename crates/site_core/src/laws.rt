@@ -2,13 +2,20 @@
 
 ghost use denote.Param.Send.{IsSend};
 ghost use Rattle.site_core.specs.contracts.office.Office as office;
-ghost use Rattle.site_core.specs.Journals.{StepsAddTheirEntry};
+ghost use Rattle.site_core.specs.Journals.{StepsAddTheirEntry, FullAtTheLimit};
 ghost use Rattle.site_core.specs.RuleOrder.{NoneNextIsAtRest};
+ghost use Rattle.site_core.specs.RulesInTurn.{NextIsDoneWhereThereIsRoom};
 ghost use Rattle.site_core.specs.Tickets.{SessionsGoInOrder};
+ghost use Rattle.site_core.specs.Growing.{LinksOnlyGrow};
 
 /// An accepted event adds its one entry, with its reply, and a refused one adds nothing.
 pub fn steps_add_their_entry()
     ensures { StepsAddTheirEntry }
+{}
+
+/// A journal that is said to be full is full.
+pub fn full_at_the_limit()
+    ensures { FullAtTheLimit }
 {}
 
 /// An office takes its sessions one after another as they were submitted, so they finish in the order of their tickets.
@@ -20,6 +27,17 @@ pub fn sessions_go_in_order()
 /// size: under each consistent plan, as every `Plan` is, and of whatever office.
 pub fn none_next_is_at_rest()
     ensures { NoneNextIsAtRest }
+{}
+
+/// The rule that comes next is refused for want of room alone: at a full journal, or of memory.
+pub fn next_is_done_where_there_is_room()
+    ensures { NextIsDoneWhereThereIsRoom }
+{}
+
+/// What an office knows of its links only grows along its journal: what its neighbours took, the numbers that it used, and
+/// what it took.
+pub fn links_only_grow()
+    ensures { LinksOnlyGrow }
 {}
 
 /// An office may be handed from thread to thread.

@@ -1,6 +1,6 @@
 //! An office.
 
-ghost use Rattle.std.specs.Prelude.{◌≡◌, ◌<◌, ◌≤◌, Some, None, true, false, [], length, IfOk, OnErr, IfNone, if◌then◌else◌};
+ghost use Rattle.std.specs.Prelude.{◌≡◌, ◌+◌, ◌<◌, ◌≤◌, Some, None, true, false, [], length, IfOk, IfSome, IfNone, if◌then◌else◌};
 ghost use Rattle.std.specs.Option.{option_copied};
 ghost use Rattle.site_core.specs.declared.event.Event.TheVariants as events;
 ghost use Rattle.office_map.specs.PlanValue.{are_neighbours, is_end, peer};
@@ -10,7 +10,7 @@ ghost use Rattle.site_core.specs.Limits.{most_entries};
 ghost use Rattle.site_core.specs.Offices.{may};
 ghost use Rattle.site_core.specs.RuleOrder.{next_rule, IsAtRest};
 ghost use Rattle.site_core.specs.Readers.{outcome_with, waiting_on, TellsBottle};
-ghost use Rattle.site_core.specs.Journals.{office_of, IsLegal, Steps, Receives, TakesFrame};
+ghost use Rattle.site_core.specs.Journals.{office_of, IsLegal, Steps, Receives};
 
 use crate::agenda::Agenda;
 use crate::event::{Entry, Event};
@@ -161,9 +161,7 @@ impl Office {
     /// What is wrong with bytes that are no frame; else as [`Office::take`].
     pub fn receive(&mut self, tag: u8, bytes: &[u8]) -> Result<Reply, Refusal>
         requires { tag < 16 }
-        ensures answer { Receives self.old tag bytes.now result self.new }
-        ensures entry { IfOk result (λ reply. TakesFrame self.old tag bytes.now reply self.new) }
-        ensures unchanged { OnErr result (self.new ≡ self.old) }
+        ensures { Receives self.old tag bytes.now result self.new }
     {
         steps_add_their_entry();
         match decode(bytes) {
@@ -239,9 +237,11 @@ impl Office {
     }
 
     /// The number of the first message that waits for a neighbour, if one waits, which is one more than the count that is
-    /// known to be taken; and how many wait.
+    /// known to be taken; and how many wait, at most 18.
     pub fn waiting(&self, v: OfficeId) -> Option<(u64, usize)>
-        ensures { result ≡ (if are_neighbours self.now.plan self.now.me v then Some (waiting_on ((office_of self.now).pairs.link v)) else None) }
+        ensures waiting { result ≡ (if are_neighbours self.now.plan self.now.me v then Some (waiting_on ((office_of self.now).pairs.link v)) else None) }
+        ensures few { IfSome result (λ w. w.1 ≤ 18) }
+        ensures range { IfSome result (λ w. w.0 + w.1 ≤ most_entries + 1) }
     {
         let channel = self.pairs.channel(v)?;
         Some((channel.acked() + 1, channel.waiting().len()))

@@ -89,6 +89,7 @@ impl Channel {
         ensures value { result.now ≡ self.now.link.sending.waiting }
         ensures apart { IsApart self.now }
         ensures few { length result.now ≤ length self.now.places }
+        ensures most { length result.now ≤ 18 }
     {
         let _ = &self.places;
         self.link.waiting()

@@ -1,12 +1,13 @@
-use Rattle.std.proofs.Common.{rules}
 use Rattle.site_core.specs.declared.event.Event.TheVariants as event
-use Rattle.site_core.proofs.OfficeSteps.{unchanged}
+use Rattle.site_core.proofs.BytesComing.{received, refused_bytes}
 use Rattle.site_core.proofs.office.Office.receive.Goals as goal
 
-pub returns-in-Ok-clause-unchanged : goal.returns-in-Ok-clause-unchanged
-returns-in-Ok-clause-unchanged c =
+pub returns-in-Ok : goal.returns-in-Ok
+returns-in-Ok c =
+    let s = c.args.self.now in
     let e = event.Took c.in-Ok.frame in
-    unchanged c.args.self.now c.args.tag e c.take.result c.take.new.self (c.steps_add_their_entry.ensures c.args.self.now c.args.tag e c.take.result c.take.new.self c.take.ensures)
+    received s c.take.new.self c.args.tag c.args.bytes.now c.in-Ok.frame c.take.result c.in-Ok.ensures.found c.in-Ok.ensures.only c.in-Ok.ensures.fault c.take.ensures
+    (c.steps_add_their_entry.ensures s c.args.tag e c.take.result c.take.new.self c.take.ensures)
 
-pub returns-in-Err-clause-answer : goal.returns-in-Err-clause-answer
-returns-in-Err-clause-answer c = search rules
+pub returns-in-Err : goal.returns-in-Err
+returns-in-Err c = refused_bytes c.args.self.now c.args.tag c.args.bytes.now c.in-Err.fault c.in-Err.ensures.only c.in-Err.ensures.fault
