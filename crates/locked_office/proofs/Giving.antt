@@ -1,5 +1,5 @@
 -- What a pass that holds the office adds to it, and what it has seen when it has given the office back.
-use Rattle.std.proofs.Common.{◌≡◌, ℕ, List, [], ◌∷◌, ◌++◌, Result, Ok, Err, IfOk, OnErr, refl, sym, ap, subst, ◌∙◌}
+use Rattle.std.proofs.Common.{◌≡◌, ℕ, List, [], ◌∷◌, ◌++◌, Result, Ok, Err, refl, sym, ap, subst, ◌∙◌}
 use Rattle.own_lock.specs.Entries.{Every, AddsOnly}
 use mathlib.Core.List.{IsPrefix}
 use Rattle.own_lock.specs.Passes.{LockView, IsOf, pass_after_take}
@@ -8,12 +8,12 @@ use Rattle.site_core.specs.declared.event.Event.{Event}
 use Rattle.site_core.specs.declared.event.Event.TheVariants.{Took}
 use Rattle.site_core.specs.declared.reply.Reply.{Reply}
 use Rattle.site_core.specs.declared.reply.Refusal.{Refusal}
-use Rattle.site_core.specs.Journals.{Site, IsLegal, noted, Steps, Receives, TakesFrame, Adds, StepsAddTheirEntry}
+use Rattle.site_core.specs.Journals.{Site, IsLegal, noted, Steps, Receives, Enters, Adds, StepsAddTheirEntry}
 use Rattle.locked_office.specs.declared.advance.Stopped.{Stopped}
 use Rattle.locked_office.specs.Calls.{Key, DeskPass, tag_of, office_with, Stays, Did, Does}
 use Rattle.site_core.specs.RulesInTurn.{extended, AreNext}
 use Rattle.locked_office.specs.Advance.{Advances}
-use Rattle.locked_office.specs.refinement.Holding.{Holds, Came}
+use Rattle.locked_office.specs.refinement.Holding.{Holds, Came, GivesBack}
 use Rattle.locked_office.proofs.Walk.{extended_none}
 
 -- the journal grew by entries of this tag
@@ -32,9 +32,9 @@ pub grew_by : (tag : ℕ) (s s' : Site) (e : Event) (result : Result Reply Refus
 grew_by tag s s' e (Ok r) a = grew_noted tag s s' e r a
 grew_by tag s s' e (Err r) a = grew_none tag s s' a
 
-pub grew_by_bytes : (tag : ℕ) (s s' : Site) (bytes : List ℕ) (result : Result Reply Refusal) → IfOk result (λ r. TakesFrame s tag bytes r s') → OnErr result (s' ≡ s) → Grew tag s s'
-grew_by_bytes tag s s' bytes (Ok r) a b = grew_noted tag s s' (Took a.0) r a.2
-grew_by_bytes tag s s' bytes (Err r) a b = grew_none tag s s' b
+grew_by_bytes : (tag : ℕ) (s s' : Site) (bytes : List ℕ) (result : Result Reply Refusal) → Enters s tag bytes result s' → Grew tag s s'
+grew_by_bytes tag s s' bytes (Ok r) a = grew_noted tag s s' (Took a.0) r a.2
+grew_by_bytes tag s s' bytes (Err r) a = grew_none tag s s' a
 
 next_tagged : (tag : ℕ) (s : Site) (xs : List Entry) → AreNext tag s xs → Every (λ (e : Entry). tag_of e ≡ tag) xs
 next_tagged tag s [] a = tt
@@ -51,57 +51,47 @@ adds_only desk p s s' h g = (g.added, ap (λ (l : List Entry). l ++ g.added) (sy
 pub key_stays : (desk : LockView Key) (p : DeskPass) (s s' : Site) → Holds desk p s → Grew p.tag s s' → (s'.plan, s'.me) ≡ desk.key
 key_stays desk p s s' h g = ap (λ (o : Site). (o.plan, o.me)) g.is ∙ h.key
 
-pub did : (what : Site → Site → Type 0) (desk : LockView Key) (p q : DeskPass) (s s' : Site) → Holds desk p s → Grew p.tag s s' → what s s' → q.seen ≡ s'.entries → IsLegal s' → ((added : List Entry) → p.seen ++ added ≡ s'.entries → q.mine ≡ p.mine ++ added) →
+pub did : (what : Site → Site → Type 0) (desk : LockView Key) (p q : DeskPass) (s s' : Site) → Holds desk p s → Grew p.tag s s' → what s s' → q.seen ≡ s'.entries → IsLegal s' → GivesBack p q s' →
     Did what desk.key p q
-did what desk p q s s' h g w seen legal own =
+did what desk p q s s' h g w seen legal back =
     let here : s ≡ office_with desk.key p.seen = ap (λ (k : Key). office_with k s.entries) h.key ∙ ap (office_with desk.key) h.seen in
     let there : s' ≡ office_with desk.key q.seen = ap (λ (k : Key). office_with k s'.entries) (key_stays desk p s s' h g) ∙ ap (office_with desk.key) (sym seen) in
     let adds = adds_only desk p s s' h g in
     record {
       done = subst (λ (o : Site). what o (office_with desk.key q.seen)) here (subst (what s) there w);
       legal = subst IsLegal there legal;
-      begins = (adds.0, adds.1 ∙ sym seen);
-      own = λ added e. own added (e ∙ seen);
+      added = adds.0;
+      left = back adds.0 adds.1;
     }
 
 -- ---- events that are handed in: the state that was lent out is the one that was held, and the tag the pass's
 
-still : (desk : LockView Key) (p : DeskPass) (held s : Site) → Holds desk p held → s ≡ held → Holds desk p s
+pub still : (desk : LockView Key) (p : DeskPass) (held s : Site) → Holds desk p held → s ≡ held → Holds desk p s
 still desk p held s h same = subst (Holds desk p) (sym same) h
 
-event_grew : StepsAddTheirEntry → (p : DeskPass) (t : ℕ) (e : Event) (result : Result Reply Refusal) (s s' : Site) → t ≡ p.tag → Steps s t e result s' → Grew p.tag s s'
+pub event_grew : StepsAddTheirEntry → (p : DeskPass) (t : ℕ) (e : Event) (result : Result Reply Refusal) (s s' : Site) → t ≡ p.tag → Steps s t e result s' → Grew p.tag s s'
 event_grew law p t e result s s' tag steps = grew_by p.tag s s' e result (law s p.tag e result s' (subst (λ n. Steps s n e result s') tag steps))
 
 pub event_adds : StepsAddTheirEntry → (desk : LockView Key) (p : DeskPass) (t : ℕ) (e : Event) (result : Result Reply Refusal) (held s s' : Site) → Holds desk p held → s ≡ held → t ≡ p.tag → Steps s t e result s' → AddsOnly tag_of p.tag p.seen s'.entries
 event_adds law desk p t e result held s s' h same tag steps = adds_only desk p s s' (still desk p held s h same) (event_grew law p t e result s s' tag steps)
 
 pub event_did : StepsAddTheirEntry → (desk : LockView Key) (p q : DeskPass) (t : ℕ) (e : Event) (result : Result Reply Refusal) (held s s' : Site) → Holds desk p held → s ≡ held → t ≡ p.tag → Steps s t e result s' →
-    q.seen ≡ s'.entries → IsLegal s' → ((added : List Entry) → p.seen ++ added ≡ s'.entries → q.mine ≡ p.mine ++ added) → Did (λ x x'. Steps x p.tag e result x') desk.key p q
-event_did law desk p q t e result held s s' h same tag steps seen legal own =
-    did (λ x x'. Steps x p.tag e result x') desk p q s s' (still desk p held s h same) (event_grew law p t e result s s' tag steps) (subst (λ n. Steps s n e result s') tag steps) seen legal own
+    q.seen ≡ s'.entries → IsLegal s' → GivesBack p q s' → Did (λ x x'. Steps x p.tag e result x') desk.key p q
+event_did law desk p q t e result held s s' h same tag steps seen legal back =
+    did (λ x x'. Steps x p.tag e result x') desk p q s s' (still desk p held s h same) (event_grew law p t e result s s' tag steps) (subst (λ n. Steps s n e result s') tag steps) seen legal back
 
 -- ---- bytes that are handed in
 
-bytes_grew : (p : DeskPass) (t : ℕ) (bytes : List ℕ) (result : Result Reply Refusal) (s s' : Site) → t ≡ p.tag → IfOk result (λ r. TakesFrame s t bytes r s') → OnErr result (s' ≡ s) → Grew p.tag s s'
-bytes_grew p t bytes result s s' tag entry unchanged = subst (λ n. Grew n s s') tag (grew_by_bytes t s s' bytes result entry unchanged)
+bytes_grew : (p : DeskPass) (t : ℕ) (bytes : List ℕ) (result : Result Reply Refusal) (s s' : Site) → t ≡ p.tag → Receives s t bytes result s' → Grew p.tag s s'
+bytes_grew p t bytes result s s' tag answer = subst (λ n. Grew n s s') tag (grew_by_bytes t s s' bytes result answer.entry)
 
-pub bytes_add : (desk : LockView Key) (p : DeskPass) (t : ℕ) (bytes : List ℕ) (result : Result Reply Refusal) (held s s' : Site) → Holds desk p held → s ≡ held → t ≡ p.tag → IfOk result (λ r. TakesFrame s t bytes r s') → OnErr result (s' ≡ s) →
-    AddsOnly tag_of p.tag p.seen s'.entries
-bytes_add desk p t bytes result held s s' h same tag entry unchanged = adds_only desk p s s' (still desk p held s h same) (bytes_grew p t bytes result s s' tag entry unchanged)
+pub bytes_add : (desk : LockView Key) (p : DeskPass) (t : ℕ) (bytes : List ℕ) (result : Result Reply Refusal) (held s s' : Site) → Holds desk p held → s ≡ held → t ≡ p.tag → Receives s t bytes result s' → AddsOnly tag_of p.tag p.seen s'.entries
+bytes_add desk p t bytes result held s s' h same tag answer = adds_only desk p s s' (still desk p held s h same) (bytes_grew p t bytes result s s' tag answer)
 
-pub bytes_did : (desk : LockView Key) (p q : DeskPass) (t : ℕ) (bytes : List ℕ) (result : Result Reply Refusal) (held s s' : Site) → Holds desk p held → s ≡ held → t ≡ p.tag → Receives s t bytes result s' →
-    IfOk result (λ r. TakesFrame s t bytes r s') → OnErr result (s' ≡ s) → q.seen ≡ s'.entries → IsLegal s' → ((added : List Entry) → p.seen ++ added ≡ s'.entries → q.mine ≡ p.mine ++ added) →
+pub bytes_did : (desk : LockView Key) (p q : DeskPass) (t : ℕ) (bytes : List ℕ) (result : Result Reply Refusal) (held s s' : Site) → Holds desk p held → s ≡ held → t ≡ p.tag → Receives s t bytes result s' → q.seen ≡ s'.entries → IsLegal s' → GivesBack p q s' →
     Did (λ x x'. Receives x p.tag bytes result x') desk.key p q
-bytes_did desk p q t bytes result held s s' h same tag answer entry unchanged seen legal own =
-    did (λ x x'. Receives x p.tag bytes result x') desk p q s s' (still desk p held s h same) (bytes_grew p t bytes result s s' tag entry unchanged) (subst (λ n. Receives s n bytes result s') tag answer) seen legal own
-
--- a frame that was taken is the one entry that was added
-pub frame_taken : (desk : LockView Key) (p q : DeskPass) (t : ℕ) (bytes : List ℕ) (result : Result Reply Refusal) (held s s' : Site) → Holds desk p held → s ≡ held → t ≡ p.tag →
-    IfOk result (λ r. TakesFrame s t bytes r s') → q.seen ≡ s'.entries → IsLegal s' → ((added : List Entry) → p.seen ++ added ≡ s'.entries → q.mine ≡ p.mine ++ added) →
-    IfOk result (λ r. Did (λ x x'. TakesFrame x p.tag bytes r x') desk.key p q)
-frame_taken desk p q t bytes (Ok r) held s s' h same tag entry seen legal own =
-    did (λ x x'. TakesFrame x p.tag bytes r x') desk p q s s' (still desk p held s h same) (bytes_grew p t bytes (Ok r) s s' tag entry tt) (subst (λ n. TakesFrame s n bytes r s') tag entry) seen legal own
-frame_taken desk p q t bytes (Err e) held s s' h same tag entry seen legal own = tt
+bytes_did desk p q t bytes result held s s' h same tag answer seen legal back =
+    did (λ x x'. Receives x p.tag bytes result x') desk p q s s' (still desk p held s h same) (bytes_grew p t bytes result s s' tag answer) (subst (λ n. Receives s n bytes result s') tag answer) seen legal back
 
 -- ---- rules that come next
 
@@ -112,17 +102,17 @@ pub rules_add : (desk : LockView Key) (p : DeskPass) (t most : ℕ) (result : Re
 rules_add desk p t most result held s s' h same tag w = adds_only desk p s s' (still desk p held s h same) (rules_grew p t most result s s' tag w)
 
 pub rules_did : (desk : LockView Key) (p q : DeskPass) (t most : ℕ) (result : Result ℕ Stopped) (held s s' : Site) → Holds desk p held → s ≡ held → t ≡ p.tag → Advances t most result s s' → q.seen ≡ s'.entries → IsLegal s' →
-    ((added : List Entry) → p.seen ++ added ≡ s'.entries → q.mine ≡ p.mine ++ added) → Did (λ x x'. Advances p.tag most result x x') desk.key p q
-rules_did desk p q t most result held s s' h same tag w seen legal own =
-    did (λ x x'. Advances p.tag most result x x') desk p q s s' (still desk p held s h same) (rules_grew p t most result s s' tag w) (subst (λ n. Advances n most result s s') tag w) seen legal own
+    GivesBack p q s' → Did (λ x x'. Advances p.tag most result x x') desk.key p q
+rules_did desk p q t most result held s s' h same tag w seen legal back =
+    did (λ x x'. Advances p.tag most result x x') desk p q s s' (still desk p held s h same) (rules_grew p t most result s s' tag w) (subst (λ n. Advances n most result s s') tag w) seen legal back
 
 -- ---- looking
 
 pub nothing_added : (desk : LockView Key) (p : DeskPass) (s : Site) → Holds desk p s → AddsOnly tag_of p.tag p.seen s.entries
 nothing_added desk p s h = adds_only desk p s s h (grew_none p.tag s s refl)
 
-pub looked : (desk : LockView Key) (p q : DeskPass) (s : Site) → Holds desk p s → q.seen ≡ s.entries → IsLegal s → ((added : List Entry) → p.seen ++ added ≡ s.entries → q.mine ≡ p.mine ++ added) → Did (λ x x'. x' ≡ x) desk.key p q
-looked desk p q s h seen legal own = did (λ x x'. x' ≡ x) desk p q s s h (grew_none p.tag s s refl) refl seen legal own
+pub looked : (desk : LockView Key) (p q : DeskPass) (s : Site) → Holds desk p s → q.seen ≡ s.entries → IsLegal s → GivesBack p q s → Did (λ x x'. x' ≡ x) desk.key p q
+looked desk p q s h seen legal back = did (λ x x'. x' ≡ x) desk p q s s h (grew_none p.tag s s refl) refl seen legal back
 
 -- what the pass has seen is the office's journal
 pub seen_is : (desk : LockView Key) (p q : DeskPass) (s : Site) → Holds desk p s → q.seen ≡ s.entries → s ≡ office_with desk.key q.seen

@@ -1,3 +1,4 @@
 pub mod Walk
 pub mod Giving
 pub mod DeskCrosses
+mod ByNumber

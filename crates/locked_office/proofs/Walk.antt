@@ -5,7 +5,7 @@ use Rattle.site_core.specs.declared.event.Entry.{Entry}
 use Rattle.site_core.specs.declared.reply.Reply.{Reply}
 use Rattle.site_core.specs.declared.reply.Refusal.{Refusal}
 use Rattle.site_core.specs.declared.rule.Rule.{Rule}
-use Rattle.site_core.specs.Journals.{Site, noted, Steps}
+use Rattle.site_core.specs.Journals.{Site, noted, Steps, LacksRoom}
 use Rattle.site_core.specs.RulesInTurn.{extended, next_at, AreNext}
 use Rattle.locked_office.specs.Advance.{Advances}
 
@@ -45,8 +45,8 @@ all_done tag n most s s' h le ge = record { done = h.done; next = h.next; added 
 pub no_more : (tag n most : ℕ) (s s' : Site) → HasDone tag n s s' → n < most → next_at s' ≡ None → Advances tag most (Ok n) s s'
 no_more tag n most s s' h lt none = record { done = h.done; next = h.next; added = h.added; count = h.count; ends = (omega (arith, lt), λ (_ : n < most). none) }
 
-pub stops : (tag n most : ℕ) (s s' s'' : Site) (r : Rule) (why : Refusal) → HasDone tag n s s' → n < most → next_at s' ≡ Some r → Steps s' tag (Do r) (Err why) s'' → s'' ≡ s' →
+pub stops : (tag n most : ℕ) (s s' s'' : Site) (r : Rule) (why : Refusal) → HasDone tag n s s' → n < most → next_at s' ≡ Some r → Steps s' tag (Do r) (Err why) s'' → LacksRoom s' why → s'' ≡ s' →
     Advances tag most (Err (record { done = n; refusal = why })) s s''
-stops tag n most s s' s'' r why h lt next steps same =
+stops tag n most s s' s'' r why h lt next steps room same =
     let here : Steps s'' tag (Do r) (Err why) s'' = subst (λ (o : Site). Steps o tag (Do r) (Err why) s'') (sym same) steps in
-    record { done = h.done; next = h.next; added = same ∙ h.added; count = h.count; ends = (lt, (r, ap next_at same ∙ next, here)) }
+    record { done = h.done; next = h.next; added = same ∙ h.added; count = h.count; ends = (lt, subst (λ (o : Site). LacksRoom o why) (sym same) room, (r, ap next_at same ∙ next, here)) }

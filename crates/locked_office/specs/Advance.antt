@@ -3,7 +3,7 @@ use Rattle.std.specs.Prelude.{◌≡◌, ℕ, ◌<◌, ◌≤◌, List, length, 
 use Rattle.site_core.specs.declared.event.Event.TheVariants.{Do}
 use Rattle.site_core.specs.declared.event.Entry.{Entry}
 use Rattle.site_core.specs.declared.rule.Rule.{Rule}
-use Rattle.site_core.specs.Journals.{Site, Steps}
+use Rattle.site_core.specs.Journals.{Site, Steps, LacksRoom}
 use Rattle.site_core.specs.RulesInTurn.{extended, next_at, AreNext}
 use Rattle.locked_office.specs.declared.advance.Stopped.{Stopped}
 
@@ -11,10 +11,10 @@ abbrev pub done_of : Result ℕ Stopped → ℕ
 done_of (Ok n) = n
 done_of (Err stopped) = stopped.done
 
--- all were done, or no rule was next any more; or the rule that was next is refused here
+-- all were done, or no rule was next any more; or the rule that was next is refused here, for want of room
 abbrev pub Ends : ℕ → ℕ → Result ℕ Stopped → Site → Type 0
 Ends tag most (Ok n) s = (n ≤ most) × (n < most → next_at s ≡ None)
-Ends tag most (Err stopped) s = (stopped.done < most) × ((r : Rule) × (next_at s ≡ Some r) × Steps s tag (Do r) (Err stopped.refusal) s)
+Ends tag most (Err stopped) s = (stopped.done < most) × LacksRoom s stopped.refusal × ((r : Rule) × (next_at s ≡ Some r) × Steps s tag (Do r) (Err stopped.refusal) s)
 
 -- as many entries as the answer tells were added beside each other
 pub record Advances (tag most : ℕ) (result : Result ℕ Stopped) (s s' : Site) : Type 0 where

@@ -1,6 +1,5 @@
 -- What a call at a desk leaves of the pass that makes it.
 use Rattle.std.specs.Prelude.{◌≡◌, ℕ, false, List, ◌++◌}
-use mathlib.Core.List.{IsPrefix}
 use Rattle.office_map.specs.PlanValue.{PlanValue}
 use Rattle.own_lock.specs.Passes.{PassView, LockView, IsOf, pass_after_take}
 use Rattle.site_core.specs.declared.event.Entry.{Entry}
@@ -24,12 +23,16 @@ office_with k es = record { plan = k.0; me = k.1; entries = es }
 abbrev pub Stays : LockView Key → DeskPass → DeskPass → Type 0
 Stays desk p q = IsOf desk q × (q.tag ≡ p.tag) × (q.holds ≡ false)
 
--- A pass that held the office and had seen its journal did this to it. What it has seen now is a legal journal that begins with that one, and what was added is its own.
+-- the pass, when it has added these entries and given the office back
+abbrev pub pass_after_adding : DeskPass → List Entry → DeskPass
+pass_after_adding p added = record p { holds = false; seen = p.seen ++ added; mine = p.mine ++ added }
+
+-- A pass that held the office and had seen its journal did this to it. What it has seen now is a legal journal, which is that one and the entries that it added: they are its own.
 pub record Did (what : Site → Site → Type 0) (k : Key) (p q : DeskPass) : Type 0 where
   pub done : what (office_with k p.seen) (office_with k q.seen)
   pub legal : IsLegal (office_with k q.seen)
-  pub begins : IsPrefix p.seen q.seen
-  pub own : (added : List Entry) → p.seen ++ added ≡ q.seen → q.mine ≡ p.mine ++ added
+  pub added : List Entry
+  pub left : q ≡ pass_after_adding p added
 
 -- Entries of others may have come since the pass last saw the journal. Then it held the office, having seen them too, and did this in one holding.
 abbrev pub Does : (Site → Site → Type 0) → Key → DeskPass → DeskPass → Type 0

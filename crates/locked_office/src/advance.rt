@@ -3,7 +3,7 @@
 ghost use Rattle.std.specs.Prelude.{◌<◌};
 ghost use Rattle.locked_office.specs.Advance.{Advances};
 
-use site_core::laws::steps_add_their_entry;
+use site_core::laws::{next_is_done_where_there_is_room, steps_add_their_entry};
 use site_core::{Office, Refusal};
 
 /// The rule that came next was refused, after so many others were done.
@@ -19,6 +19,7 @@ pub fn do_rules(office: &mut Office, tag: u8, most: u32) -> Result<u32, Stopped>
     ensures { Advances tag most result office.old office.new }
 {
     steps_add_their_entry();
+    next_is_done_where_there_is_room();
     for done in 0..most {
         let Some(rule) = office.next_rule() else {
             return Ok(done);

@@ -1,17 +1,21 @@
 //! What each call does with the office that its pass holds. It gives the office back.
 
-ghost use Rattle.std.specs.Prelude.{◌≡◌, ◌≢◌, ◌++◌, List, [], true, None, IfOk, OnErr, take, drop};
+ghost use Rattle.std.specs.Prelude.{◌≡◌, ◌≢◌, ◌+◌, ◌≤◌, [], true, None, IfOk, IfSome, OnErr, length, take, drop};
 ghost use Rattle.own_lock.specs.Entries.{AddsOnly};
 ghost use Rattle.own_lock.specs.Passes.{IsOf};
-ghost use Rattle.site_core.specs.declared.event.Entry.{Entry as Entries};
 ghost use Rattle.site_core.specs.declared.event.Event.TheVariants as events;
-ghost use Rattle.site_core.specs.Journals.{IsLegal, Steps, Receives, TakesFrame};
+ghost use Rattle.site_core.specs.Journals.{IsLegal, Steps, Receives};
+ghost use Rattle.site_core.specs.Growing.{link_to};
+ghost use Rattle.site_core.specs.Limits.{most_entries};
 ghost use Rattle.locked_office.specs.Calls.{Stays, Did, tag_of, office_with};
 ghost use Rattle.locked_office.specs.Advance.{Advances};
 ghost use Rattle.locked_office.specs.Outcomes.{outcome_of, waiting_for};
-ghost use Rattle.locked_office.specs.refinement.Holding.{Holds};
+ghost use Rattle.locked_office.specs.Sends.{SendsNumber};
+ghost use Rattle.locked_office.specs.refinement.Places.{place_at, framed_as};
+ghost use Rattle.locked_office.specs.refinement.Holding.{Holds, GivesBack};
 
 use crate::advance::{Stopped, do_rules};
+use frame_codec::Frame;
 use office_map::OfficeId;
 use own_lock::{Held, OwnLock, Pass};
 use session_language::{Outcome, Program};
@@ -28,7 +32,7 @@ fn give_back(lock: &OwnLock<Office>, pass: &mut Pass<Office>, held: Held<Office>
     ensures stays { Stays lock.now pass.old pass.new }
     ensures seen { pass.new.seen ≡ held.entries }
     ensures legal { IsLegal held }
-    ensures own { (added : List Entries) → pass.old.seen ++ added ≡ held.entries → pass.new.mine ≡ pass.old.mine ++ added }
+    ensures back { GivesBack pass.old pass.new held }
 {
     // Its journal is legal.
     let _ = held.get().journal();
@@ -62,7 +66,6 @@ pub fn took(
     requires { Holds lock.now pass.old held }
     ensures stays { Stays lock.now pass.old pass.new }
     ensures did { Did (λ s s'. Receives s pass.old.tag bytes.now result s') lock.now.key pass.old pass.new }
-    ensures entry { IfOk result (λ reply. Did (λ s s'. TakesFrame s pass.old.tag bytes.now reply s') lock.now.key pass.old pass.new) }
 {
     let reply = held.state().receive(pass.tag(), bytes);
     give_back(lock, pass, held);
@@ -85,6 +88,48 @@ pub fn send(
     let reply = held.state().send(pass.tag(), v, i);
     give_back(lock, pass, held);
     reply
+}
+
+/// A frame of the message with that number is made, if it waits.
+pub fn send_number(
+    lock: &OwnLock<Office>,
+    pass: &mut Pass<Office>,
+    mut held: Held<Office>,
+    v: OfficeId,
+    number: u64,
+) -> Result<Option<Frame>, Refusal>
+    requires { Holds lock.now pass.old held }
+    ensures stays { Stays lock.now pass.old pass.new }
+    ensures did { Did (λ s s'. SendsNumber pass.old.tag v number result s s') lock.now.key pass.old pass.new }
+{
+    let Some(place) = place_of(held.get(), v, number) else {
+        give_back(lock, pass, held);
+        return Ok(None);
+    };
+    steps_add_their_entry();
+    let reply = held.state().send(pass.tag(), v, place);
+    give_back(lock, pass, held);
+    framed(&reply)
+}
+
+// Which message it is of those that wait, from 1.
+fn place_of(office: &Office, v: OfficeId, number: u64) -> Option<usize>
+    ensures place { result ≡ place_at office.now v number }
+    ensures few { IfSome result (λ _. length (link_to office.now v).sending.waiting ≤ 18) }
+{
+    let (first, count) = office.waiting(v)?;
+    let place = usize::try_from(number.checked_sub(first)?).ok()?;
+    if place < count { Some(place + 1) } else { None }
+}
+
+fn framed(reply: &Result<Reply, Refusal>) -> Result<Option<Frame>, Refusal>
+    ensures { result ≡ framed_as reply.now }
+{
+    match reply {
+        Ok(Reply::Frame(frame)) => Ok(Some(*frame)),
+        Ok(_) => Ok(None),
+        Err(refusal) => Err(*refusal),
+    }
 }
 
 /// The rules that come next are done.
@@ -147,6 +192,8 @@ pub fn waiting(
     ensures stays { Stays lock.now pass.old pass.new }
     ensures looked { Did (λ s s'. s' ≡ s) lock.now.key pass.old pass.new }
     ensures waiting { result ≡ waiting_for (office_with lock.now.key pass.new.seen) v }
+    ensures few { IfOk result (λ w. w.1 ≤ 18) }
+    ensures range { IfOk result (λ w. w.0 + w.1 ≤ most_entries + 1) }
 {
     let waiting = waits(held.get(), v);
     give_back(lock, pass, held);
@@ -154,7 +201,9 @@ pub fn waiting(
 }
 
 fn waits(office: &Office, v: OfficeId) -> Result<(u64, usize), Refusal>
-    ensures { result ≡ waiting_for office.now v }
+    ensures waiting { result ≡ waiting_for office.now v }
+    ensures few { IfOk result (λ w. w.1 ≤ 18) }
+    ensures range { IfOk result (λ w. w.0 + w.1 ≤ most_entries + 1) }
 {
     office.waiting(v).ok_or(Refusal::NotNow)
 }

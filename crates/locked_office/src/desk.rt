@@ -1,18 +1,21 @@
 //! The desk of an office.
 
-ghost use Rattle.std.specs.Prelude.{◌≡◌, ◌≢◌, ◌<◌, ◌≤◌, false, None, [], IfOk, IfErr, IfSome, OnErr, take, drop};
+ghost use Rattle.std.specs.Prelude.{◌≡◌, ◌≢◌, ◌+◌, ◌<◌, ◌≤◌, false, None, [], IfOk, IfErr, IfSome, OnErr, take, drop};
 ghost use mathlib.Core.List.{IsPrefix};
 ghost use Rattle.own_lock.specs.Entries.{longer, tagged};
 ghost use Rattle.own_lock.specs.Passes.{IsOf, AreFresh, AreIdle};
 ghost use Rattle.site_core.specs.declared.event.Event.TheVariants as events;
-ghost use Rattle.site_core.specs.Journals.{IsLegal, Steps, Receives, TakesFrame};
+ghost use Rattle.site_core.specs.Journals.{IsLegal, Steps, Receives};
+ghost use Rattle.site_core.specs.Limits.{most_entries};
 ghost use Rattle.locked_office.specs.Calls.{Stays, Does, Looks, tag_of, office_with};
 ghost use Rattle.locked_office.specs.Advance.{Advances};
 ghost use Rattle.locked_office.specs.Outcomes.{outcome_of, waiting_for};
+ghost use Rattle.locked_office.specs.Sends.{SendsNumber};
 ghost use Rattle.locked_office.specs.refinement.Holding.{Holds, Came};
 
 use crate::advance::Stopped;
 use crate::calls;
+use frame_codec::Frame;
 use office_map::OfficeId;
 use own_lock::{Busy, Held, OwnLock, Pass};
 use session_language::{Outcome, Program};
@@ -168,7 +171,6 @@ impl Desk {
         requires idle { pass.old.holds ≡ false }
         ensures stays { Stays self.now pass.old pass.new }
         ensures taken { Does (λ s s'. Receives s pass.old.tag bytes.now result s') self.now.key pass.old pass.new }
-        ensures entry { IfOk result (λ reply. Does (λ s s'. TakesFrame s pass.old.tag bytes.now reply s') self.now.key pass.old pass.new) }
     {
         let held = self.hold(rt, pass);
         calls::took(&self.lock, pass, held, bytes)
@@ -187,7 +189,6 @@ impl Desk {
         requires idle { pass.old.holds ≡ false }
         ensures stays { Stays self.now pass.old pass.new }
         ensures taken { IfOk result (λ answer. Does (λ s s'. Receives s pass.old.tag bytes.now answer s') self.now.key pass.old pass.new) }
-        ensures entry { IfOk result (λ answer. IfOk answer (λ reply. Does (λ s s'. TakesFrame s pass.old.tag bytes.now reply s') self.now.key pass.old pass.new)) }
         ensures busy { IfErr result (λ _. pass.new ≡ pass.old) }
     {
         let held = self.try_hold(pass)?;
@@ -214,11 +215,32 @@ impl Desk {
         calls::send(&self.lock, pass, held, v, i)
     }
 
+    /// Makes a frame of the message with that number; none where no such message waits for that neighbour, or it is no neighbour.
+    ///
+    /// # Errors
+    /// `JournalFull` or `Memory`, where there is no room for the entry. Nothing changed.
+    pub fn send_number<R: Wait>(
+        &self,
+        rt: &R,
+        pass: &mut Pass<Office>,
+        v: OfficeId,
+        number: u64,
+    ) -> Result<Option<Frame>, Refusal>
+        requires of { IsOf self.now pass.old }
+        requires idle { pass.old.holds ≡ false }
+        ensures stays { Stays self.now pass.old pass.new }
+        ensures sent { Does (λ s s'. SendsNumber pass.old.tag v number result s s') self.now.key pass.old pass.new }
+    {
+        let held = self.hold(rt, pass);
+        calls::send_number(&self.lock, pass, held, v, number)
+    }
+
     /// At most so many rules, each the one that comes next, beside each other; and how many they were. Fewer only where no rule
     /// comes next any more.
     ///
     /// # Errors
-    /// Where the rule that comes next is refused: what was done before stands.
+    /// Where there is no room for the entry of the rule that comes next, `JournalFull` or `Memory`: what was done before
+    /// stands.
     pub fn advance<R: Wait>(
         &self,
         rt: &R,
@@ -274,7 +296,7 @@ impl Desk {
     }
 
     /// The number of the first message that waits for a neighbour, if one waits, which is one more than the count that is known
-    /// to be taken; and how many wait.
+    /// to be taken; and how many wait, at most 18.
     ///
     /// # Errors
     /// `NotNow` where it is no neighbour.
@@ -289,6 +311,8 @@ impl Desk {
         ensures stays { Stays self.now pass.old pass.new }
         ensures looked { Looks self.now.key pass.old pass.new }
         ensures waiting { result ≡ waiting_for (office_with self.now.key pass.new.seen) v }
+        ensures few { IfOk result (λ w. w.1 ≤ 18) }
+        ensures range { IfOk result (λ w. w.0 + w.1 ≤ most_entries + 1) }
     {
         let held = self.hold(rt, pass);
         calls::waiting(&self.lock, pass, held, v)

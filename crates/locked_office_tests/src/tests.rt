@@ -2,7 +2,7 @@ ghost use Rattle.std.specs.Prelude.{◌≡◌, ◌<◌, ◌≤◌, false, IfOk, 
 ghost use Rattle.own_lock.specs.Passes.{IsOf, AreIdle};
 
 use bottle_values::Value;
-use frame_codec::decode;
+use frame_codec::{Frame, decode};
 use locked_office::{Desk, Stopped};
 use office_map::{OfficeId, Plan, RecordId};
 use own_lock::{Busy, Pass};
@@ -194,6 +194,18 @@ fn ask_for_the_bottle<R: Wait + Abort>(
     );
     let asks = decode(ASKS).map(Reply::Frame).ok();
     assert_eq!(rt; send(rt, desk, pass, 1).ok(), asks);
+    ask_by_number(rt, desk, pass);
+}
+
+/// The message that waits has the number 1, and goes out by it once more; no other waits, and none for an office itself.
+fn ask_by_number<R: Wait + Abort>(rt: &R, desk: &Desk, pass: &mut Pass<Office>)
+    requires { IsOf desk.now pass.old × (pass.old.holds ≡ false) }
+    ensures { IsOf desk.now pass.new × (pass.new.holds ≡ false) }
+{
+    assert_eq!(rt; send_number(rt, desk, pass, 1, 1), Ok(decode(ASKS).ok()));
+    assert_eq!(rt; send_number(rt, desk, pass, 1, 0), Ok(None));
+    assert_eq!(rt; send_number(rt, desk, pass, 1, 2), Ok(None));
+    assert_eq!(rt; send_number(rt, desk, pass, 0, 1), Ok(None));
 }
 
 fn get_the_bottle<R: Wait + Abort>(rt: &R, desk: &Desk, pass: &mut Pass<Office>)
@@ -203,6 +215,7 @@ fn get_the_bottle<R: Wait + Abort>(rt: &R, desk: &Desk, pass: &mut Pass<Office>)
     assert_eq!(rt; try_took(desk, pass, GIVES), Some(Ok(Reply::Taken)));
     assert_eq!(rt; took(rt, desk, pass, GIVES), Ok(Reply::Repeat));
     assert_eq!(rt; waiting(rt, desk, pass, 1), Ok((2, 0)));
+    assert_eq!(rt; send_number(rt, desk, pass, 1, 1), Ok(None));
     assert_eq!(rt; advance(rt, desk, pass, 9), Ok(4));
     assert_eq!(rt; advance(rt, desk, pass, 9), Ok(0));
 }
@@ -343,6 +356,19 @@ fn send<R: Wait>(rt: &R, desk: &Desk, pass: &mut Pass<Office>, i: usize) -> Resu
     ensures { IsOf desk.now pass.new × (pass.new.holds ≡ false) }
 {
     desk.send(rt, pass, OfficeId::new(1), i)
+}
+
+fn send_number<R: Wait>(
+    rt: &R,
+    desk: &Desk,
+    pass: &mut Pass<Office>,
+    v: u8,
+    number: u64,
+) -> Result<Option<Frame>, Refusal>
+    requires { IsOf desk.now pass.old × (pass.old.holds ≡ false) }
+    ensures { IsOf desk.now pass.new × (pass.new.holds ≡ false) }
+{
+    desk.send_number(rt, pass, OfficeId::new(v), number)
 }
 
 fn advance<R: Wait>(rt: &R, desk: &Desk, pass: &mut Pass<Office>, most: u32) -> Result<u32, Stopped>

@@ -9,4 +9,4 @@ give_back-requires-clause-adds c =
 pub returns-clause-did : goal.returns-clause-did
 returns-clause-did c =
     event_did c.steps_add_their_entry.ensures c.args.lock.now c.args.pass.now c.give_back.new.pass c.tag.result (event.Send c.args.v c.args.i) c.send-reply.result c.args.held c.state.result.now c.send-reply.new.self c.requires c.state.ensures.value c.tag.ensures.value
-    c.send-reply.ensures c.give_back.ensures.seen c.give_back.ensures.legal c.give_back.ensures.own
+    c.send-reply.ensures c.give_back.ensures.seen c.give_back.ensures.legal c.give_back.ensures.back

@@ -9,4 +9,4 @@ give_back-requires-clause-adds c =
 pub returns-clause-did : goal.returns-clause-did
 returns-clause-did c =
     event_did c.steps_add_their_entry.ensures c.args.lock.now c.args.pass.now c.give_back.new.pass c.tag.result (event.Submit c.args.program.now) c.submit-reply.result c.args.held c.state.result.now c.submit-reply.new.self c.requires c.state.ensures.value c.tag.ensures.value
-    c.submit-reply.ensures c.give_back.ensures.seen c.give_back.ensures.legal c.give_back.ensures.own
+    c.submit-reply.ensures c.give_back.ensures.seen c.give_back.ensures.legal c.give_back.ensures.back

@@ -6,4 +6,4 @@ give_back-requires-clause-adds c =
     nothing_added c.args.lock.now c.args.pass.now c.args.held c.requires
 
 pub returns-clause-looked : goal.returns-clause-looked
-returns-clause-looked c = looked c.args.lock.now c.args.pass.now c.give_back.new.pass c.args.held c.requires c.give_back.ensures.seen c.give_back.ensures.legal c.give_back.ensures.own
+returns-clause-looked c = looked c.args.lock.now c.args.pass.now c.give_back.new.pass c.args.held c.requires c.give_back.ensures.seen c.give_back.ensures.legal c.give_back.ensures.back
