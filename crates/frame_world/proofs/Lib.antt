@@ -8,6 +8,7 @@ mod BarsFollow
 mod Following
 mod PlacesAndForks
 mod SentFrames
+mod TimelyCounts
 mod Sessions
 mod SerialRun
 mod SerialSessions

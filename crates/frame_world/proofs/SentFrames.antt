@@ -172,7 +172,7 @@ pub record IsOfLink (l : LinkState) (f : Fields) : Type 0 where
   pub to : f.to ≡ l.peer
   pub count : f.count ≡ l.receiving.taken
 
-of_link : (l : LinkState) (i : ℕ) (f : Fields) → frame_on l i ≡ Some f → IsOfLink l f
+pub of_link : (l : LinkState) (i : ℕ) (f : Fields) → frame_on l i ≡ Some f → IsOfLink l f
 of_link l i f e = by i e
   where
     made : (n : ℕ) (m : Option Msg) → frame_with l n m ≡ f → IsOfLink l f

@@ -13,6 +13,7 @@ use Rattle.frame_codec.specs.Frame.{Fields}
 use Rattle.office_map.specs.PlanValue.{PlanValue}
 use Rattle.site_core.specs.declared.event.Event as office
 use Rattle.site_core.specs.declared.event.Event.TheVariants as event
+use Rattle.site_core.specs.declared.event.Entry.{Entry}
 use Rattle.site_core.specs.declared.reply.Reply.{Reply}
 use Rattle.site_core.specs.declared.reply.Refusal.TheVariants as refused
 use Rattle.site_core.specs.Limits.{most_entries}
@@ -27,14 +28,15 @@ use Rattle.frame_world.specs.Worlds.{World, Finished, silent, opening, site_at, 
 
 pub record State : Type 0 where
   pub office : ℕ → Office
+  pub journal : ℕ → List Entry
   pub frames : List Fields
   pub finished : List Finished
 
 abbrev pub state_of : World → State
-state_of w = record { office = office_at w; frames = w.frames; finished = w.finished }
+state_of w = record { office = office_at w; journal = λ a. (site_at w a).entries; frames = w.frames; finished = w.finished }
 
 abbrev pub starting : PlanValue → State
-starting plan = record { office = site.opened plan; frames = []; finished = [] }
+starting plan = record { office = site.opened plan; journal = λ a. []; frames = []; finished = [] }
 
 -- what can be handed to an office: of frames those that were sent to it
 abbrev pub MayCome : List Fields → ℕ → office.Event → Type 0
@@ -43,8 +45,16 @@ MayCome frames a (event.Do rule) = Unit {0}
 MayCome frames a (event.Send v i) = Unit {0}
 MayCome frames a (event.Took f) = (f.to ≡ a) × (k : ℕ) × (slice_get frames k ≡ Some f)
 
+abbrev pub entry_of : office.Event → Reply → Entry
+entry_of e r = record { tag = 0; event = e; reply = r }
+
 abbrev pub after_reply : State → ℕ → office.Event → Reply → Office → State
-after_reply s a e r o = record { office = put s.office a o; frames = s.frames ++ frames_of r; finished = s.finished ++ finished_by a (s.office a).agenda.current e }
+after_reply s a e r o = record {
+  office = put s.office a o;
+  journal = put s.journal a (s.journal a ++ entry_of e r ∷ []);
+  frames = s.frames ++ frames_of r;
+  finished = s.finished ++ finished_by a (s.office a).agenda.current e;
+}
 
 -- an accepted event
 pub record IsAccepted (plan : PlanValue) (s s' : State) : Type 0 where
@@ -80,11 +90,13 @@ seated_opening plan = record {
   numbers = λ a. ap (λ (s : Site). s.me) (silent_at plan a);
 }
 
-abbrev with_office : (ℕ → Office) → State
-with_office o = record { office = o; frames = []; finished = [] }
+abbrev with_offices : (ℕ → Office) → (ℕ → List Entry) → State
+with_offices o j = record { office = o; journal = j; frames = []; finished = [] }
 
 pub state_opening : (plan : PlanValue) → state_of (opening plan) ≡ starting plan
-state_opening plan = ap with_office (fun_ext (λ a. ap office_of (silent_at plan a) ∙ office_empty plan a))
+state_opening plan =
+    ap (λ o. with_offices o (λ a. (site_at (opening plan) a).entries)) (fun_ext (λ a. ap office_of (silent_at plan a) ∙ office_empty plan a))
+    ∙ ap (with_offices (site.opened plan)) (fun_ext (λ a. ap (λ (s : Site). s.entries) (silent_at plan a)))
 
 -- ---- one event
 
@@ -127,7 +139,8 @@ accepted plan w a e r o h come inside ans = record {
     inside = ap (nat_lt a) (sym h.size) ∙ inside;
     comes = come;
     answered = ap (λ p. answer p a (office_at w a) e) (sym (h.plans a)) ∙ ap (λ m. answer (site_at w a).plan m (office_at w a) e) (sym (h.numbers a)) ∙ ans;
-    led = ap (λ f. made f) (fun_ext (λ x. ap office_of (sites x) ∙ put_kept_as office_of (site_at w) a new o there x));
+    led = ap (λ f. made f (λ x. (site_at w' x).entries)) (fun_ext (λ x. ap office_of (sites x) ∙ put_kept_as office_of (site_at w) a new o there x))
+        ∙ ap (made (put (office_at w) a o)) (fun_ext (λ x. ap (λ (s : Site). s.entries) (sites x) ∙ put_kept_as (λ (s : Site). s.entries) (site_at w) a new ((site_at w a).entries ++ entry_of e r ∷ []) refl x));
   });
 }
   where
@@ -150,8 +163,8 @@ accepted plan w a e r o h come inside ans = record {
     there : office_of new ≡ o
     there = office_noted (site_at w a) 0 e r ∙ ap (next_or (office_at w a)) ans
 
-    made : (ℕ → Office) → State
-    made f = record { office = f; frames = w.frames ++ frames_of r; finished = w.finished ++ finished_by a (office_at w a).agenda.current e }
+    made : (ℕ → Office) → (ℕ → List Entry) → State
+    made f j = record { office = f; journal = j; frames = w.frames ++ frames_of r; finished = w.finished ++ finished_by a (office_at w a).agenda.current e }
 
 pub handed_leaves : (plan : PlanValue) (w : World) (a : ℕ) (e : office.Event) → IsSeated plan w → MayCome w.frames a e → Left plan w (handed w a e).1
 handed_leaves plan w a e h come = by_place (nat_lt a (length w.sites)) refl

@@ -1,5 +1,5 @@
 -- What holds of every world that a list of events leads to, good events or refused.
-use Rattle.std.specs.Prelude.{◌≡◌, ◌<◌, ℕ, Bool, true, false, ◌&&◌, List, [], ◌∷◌, length, map, Some, Result, Err, All}
+use Rattle.std.specs.Prelude.{◌≡◌, ◌<◌, ◌≤◌, ℕ, Bool, true, false, ◌&&◌, List, [], ◌∷◌, ◌++◌, length, map, slice_get, Some, Result, Err, All}
 use Rattle.std.specs.List.{list_all}
 use Rattle.bottle_values.specs.declared.Value.{Value}
 use Rattle.bottle_values.specs.Lists.{num}
@@ -12,6 +12,7 @@ use Rattle.session_meaning.specs.declared.ending.Outcome.{Outcome}
 use Rattle.session_meaning.specs.ProgramValue.{ProgramValue}
 use Rattle.session_meaning.specs.Needs.{needs_of}
 use Rattle.serial_replay.specs.Serial.{start_map, map_of, outcomes_of}
+use Rattle.window_link.specs.Windows.{used}
 use Rattle.token_channel.specs.declared.thing.Thing.{Thing}
 use Rattle.token_channel.specs.Ends.{is_shared}
 use Rattle.dining_core.specs.Diners.{is_eating}
@@ -19,16 +20,18 @@ use Rattle.dining_core.specs.Worlds.{HasNoRing}
 use Rattle.drinking_core.specs.Drinkers.{is_drinking, holds}
 use Rattle.site_core.specs.declared.session.Session.{Session}
 use Rattle.site_core.specs.declared.event.Event.TheVariants as event
+use Rattle.site_core.specs.declared.event.Entry.{Entry}
 use Rattle.site_core.specs.declared.reply.Reply.{Reply}
 use Rattle.site_core.specs.declared.reply.Refusal as offices
 use Rattle.site_core.specs.declared.reply.Refusal.TheVariants as refused
 use Rattle.site_core.specs.Agenda.{Working, is_working}
 use Rattle.site_core.specs.Offices.{Office, value_in}
 use Rattle.site_core.specs.Journals.{Site, Steps, Receives}
+use Rattle.site_core.specs.Growing.{link_at}
 use Rattle.frame_world.specs.declared.event.WorldEvent.{WorldEvent}
 use Rattle.frame_world.specs.declared.refusal.WorldRefusal.{WorldRefusal}
 use Rattle.frame_world.specs.declared.refusal.WorldRefusal.TheVariants as refusal
-use Rattle.frame_world.specs.Worlds.{World, Finished, opening, run_of, happens, office_at, frame_at}
+use Rattle.frame_world.specs.Worlds.{World, Finished, opening, run_of, happens, site_at, office_at, frame_at}
 use Rattle.frame_world.specs.Ways.{pairs_at, places, bottles_of, tables_of}
 
 -- the programs of the finished sessions, and what is told of them, in finishing order
@@ -96,6 +99,12 @@ pub record GoesByBytes (f : Fields) : Type 0 where
 -- each frame that was sent does
 abbrev pub FramesGoByBytes : World → Type 0
 FramesGoByBytes w = (k : ℕ) (f : Fields) → frame_at w k ≡ Some f → GoesByBytes f
+
+-- A frame's count is at least what its sender had taken when it sent the frame's message: so it is at each point of the
+-- sender's journal at which the message has no number yet. A frame without a message has the number 0.
+abbrev pub CountsAreTimely : World → Type 0
+CountsAreTimely w = (k : ℕ) (f : Fields) → slice_get w.frames k ≡ Some f → (before later : List Entry) → (site_at w f.from).entries ≡ before ++ later →
+    used (link_at w.plan f.from before f.to).sending < f.number → (link_at w.plan f.from before f.to).receiving.taken ≤ f.count
 
 -- which events led to a world
 pub record IsReached (w : World) : Type 0 where

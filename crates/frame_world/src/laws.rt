@@ -1,12 +1,13 @@
 //! The headline, over definitions: what holds of every world that a list of events leads to.
 
-ghost use Rattle.frame_world.specs.Headline.{Always, HasSerialSessions, HasSerialValues, HasOnePlaceEach, NeighboursEatApart, EatersHaveTheirForks, DrinkersHaveTheirBottles, FramesAreTaken, PrecedenceHasNoRing, FramesInRangeGoByBytes};
+ghost use Rattle.frame_world.specs.Headline.{Always, HasSerialSessions, HasSerialValues, HasOnePlaceEach, NeighboursEatApart, EatersHaveTheirForks, DrinkersHaveTheirBottles, FramesAreTaken, CountsAreTimely, PrecedenceHasNoRing, FramesInRangeGoByBytes};
 ghost use Rattle.frame_world.specs.refinement.PartsLaws.{PartsLaws};
 
 use dining_core::laws as tables;
 use drinking_core::laws as bars;
 use frame_codec::laws::each_spelling_is_of_one_frame;
 use session_meaning::laws::writes_what_it_has;
+use site_core::laws::links_only_grow;
 use token_channel::laws::what_comes_was_away;
 
 /// The finished sessions read, gave and wrote what they do when they run alone, one after another in finishing order.
@@ -78,6 +79,13 @@ pub fn frames_go_by_bytes()
     ensures { FramesInRangeGoByBytes }
 {
     each_spelling_is_of_one_frame();
+}
+
+/// The count of each frame that was ever sent is at least what its sender had taken when it sent the frame's message.
+pub fn counts_are_timely()
+    ensures { Always CountsAreTimely }
+{
+    links_only_grow();
 }
 
 /// What the parts promise by themselves.

@@ -1,5 +1,5 @@
 use Rattle.std.proofs.Common.{subst}
-use Rattle.frame_world.specs.Headline.{HasSerialSessions, HasSerialValues, HasOnePlaceEach, NeighboursEatApart, EatersHaveTheirForks, DrinkersHaveTheirBottles, FramesAreTaken, FramesGoByBytes}
+use Rattle.frame_world.specs.Headline.{HasSerialSessions, HasSerialValues, HasOnePlaceEach, NeighboursEatApart, EatersHaveTheirForks, DrinkersHaveTheirBottles, FramesAreTaken, FramesGoByBytes, CountsAreTimely}
 use Rattle.frame_world.specs.Worlds.{World}
 use Rattle.frame_world.specs.Ways.{pairs_at, tables_of}
 use Rattle.dining_core.specs.Worlds.{HasNoRing}
@@ -52,3 +52,8 @@ pub returns-clause-bytes : goal.returns-clause-bytes
 returns-clause-bytes c =
     let w = c.self.inside in
     subst FramesGoByBytes c.self.view_is (c.frames_go_by_bytes.ensures (world_in w.plan w.offices.items w.frames.items w.finished.items) c.self.invariant.fit)
+
+pub returns-clause-counts : goal.returns-clause-counts
+returns-clause-counts c =
+    let w = c.self.inside in
+    of_world CountsAreTimely w.plan w.offices.items w.frames.items w.finished.items c.args.self.now c.self.invariant c.self.view_is (λ es. c.counts_are_timely.ensures w.plan es c.self.invariant.accepted.consistent)
