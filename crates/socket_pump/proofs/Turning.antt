@@ -1,0 +1,85 @@
+-- The stages of a turn, put together.
+use Rattle.std.proofs.Common.{◌≡◌, ℕ, ◌+◌, Bool, List, [], ◌∷◌, ◌++◌, length, Result, refl, sym, subst, ◌∙◌, arith, length-append, inl, inr}
+use Rattle.site_core.specs.Growing.{LinksOnlyGrow}
+use Rattle.locked_office.specs.declared.advance.Stopped.{Stopped}
+use Rattle.locked_office.specs.Advance.{Advances}
+use Rattle.locked_office.specs.Calls.{Key, DeskPass, Does}
+use Rattle.socket_pump.specs.declared.pump.PumpFault.{PumpFault}
+use Rattle.socket_pump.specs.Wires.{Account}
+use Rattle.socket_pump.specs.Chains.{Made, Sent, DueOnce}
+use Rattle.socket_pump.specs.Turns.{Times, Told, Remembers, SentTo, BrokeTelling}
+use Rattle.socket_pump.specs.refinement.Stages.{AreMessages, SpokeToAll, AreCounts}
+use Rattle.socket_pump.proofs.Telling.{Begins, sends_begins, waits_between, told_both, broke_both, sent_left, due_both, remembers_both}
+
+-- ---- counts that follow messages
+
+count_number : (v n : ℕ) (ns : List Made) → AreCounts ns → Sent v n ns → n ≡ 0
+count_number v n [] c s = elim s [ ]
+count_number v n (m ∷ ms) c (inl e) = sym e.1 ∙ c.0
+count_number v n (m ∷ ms) c (inr t) = count_number v n ms c.2 t
+
+-- counts are of no message
+counts_remember : (k : Key) (last : Times) (now : ℕ) (p q : DeskPass) (ns : List Made) → AreCounts ns → Remembers k last last now p q ns
+counts_remember k last now p q ns c = record { sent = λ v n w s. absurd (omega (arith, w.unknown, count_number v n ns c s)); others = λ v n a b none. refl }
+
+counts_are_due : (last : Times) (now : ℕ) (ns : List Made) → AreCounts ns → DueOnce last now ns
+counts_are_due last now [] c = tt
+counts_are_due last now (m ∷ ms) c = (inl c.0, c.1, counts_are_due last now ms c.2)
+
+-- no count is a message
+due_then_counts : (last : Times) (now : ℕ) (ms ns : List Made) → AreMessages ms → DueOnce last now ms → AreCounts ns → DueOnce last now (ms ++ ns)
+due_then_counts last now ms ns messages due c = due_both last now ms ns (λ v n s t. absurd (omega (arith, messages v n s, count_number v n ns c t))) due (counts_are_due last now ns c)
+
+-- messages to all, and then counts
+pub record SpokeAndCounted (tells : Bool) (tag : ℕ) (k : Key) (last then : Times) (now : ℕ) (p : DeskPass) (a : Account) (sent : ℕ) (b : Account) (q : DeskPass) : Type 0 where
+  pub made : List Made
+  pub told : Told tells tag k p a b q made
+  pub counted : length made ≡ sent
+  pub all_due : (v : ℕ) → SentTo k last now p q made v
+  pub due_once : DueOnce last now made
+  pub remembers : Remembers k last then now p q made
+
+pub counts_after : LinksOnlyGrow → (tells : Bool) (tag : ℕ) (k : Key) (last then : Times) (now : ℕ) (p m q : DeskPass) (a b d : Account) (messages counts : ℕ) (ns : List Made) → SpokeToAll tells tag k last then now p a messages b m →
+    Told tells tag k m b d q ns → length ns ≡ counts → AreCounts ns → SpokeAndCounted tells tag k last then now p a (messages + counts) d q
+counts_after grow tells tag k last then now p m q a b d messages counts ns (ms, spoke, all) told number are =
+    let pm : Begins p m = sends_begins tag k p m ms spoke.told.sends in
+    let mq : Begins m q = sends_begins tag k m q ns told.sends in
+    record {
+      made = ms ++ ns;
+      told = told_both tells tag k p m q a b d ms ns spoke.told told;
+      counted = omega (arith, length-append ms ns, spoke.count, number);
+      all_due = λ v n x y due. sent_left v n ms ns (all v n x (waits_between grow k p m q v n pm mq x y) due);
+      due_once = due_then_counts last now ms ns spoke.messages spoke.due_once are;
+      remembers = remembers_both grow k last then then now p m q ms ns pm mq spoke.used spoke.remembers (counts_remember k then now m q ns are);
+    }
+
+-- messages to all, and then a fault among the counts
+pub record SpokeAndBroke (tells : Bool) (tag : ℕ) (k : Key) (last then : Times) (now : ℕ) (p : DeskPass) (a : Account) (f : PumpFault) (b : Account) (q : DeskPass) : Type 0 where
+  pub made : List Made
+  pub told : BrokeTelling tells tag k p a f b q made
+  pub due_once : DueOnce last now made
+  pub remembers : Remembers k last then now p q made
+
+pub fault_after : LinksOnlyGrow → (tells : Bool) (tag : ℕ) (k : Key) (last then : Times) (now : ℕ) (p m q : DeskPass) (a b d : Account) (messages : ℕ) (f : PumpFault) (ns : List Made) → SpokeToAll tells tag k last then now p a messages b m →
+    BrokeTelling tells tag k m b f d q ns → AreCounts ns → SpokeAndBroke tells tag k last then now p a f d q
+fault_after grow tells tag k last then now p m q a b d messages f ns (ms, spoke, all) broke are =
+    let pm : Begins p m = sends_begins tag k p m ms spoke.told.sends in
+    let mq : Begins m q = sends_begins tag k m q ns broke.sends in
+    record {
+      made = ms ++ ns;
+      told = broke_both tells tag k p m q a b d f ms ns spoke.told broke;
+      due_once = due_then_counts last now ms ns spoke.messages spoke.due_once are;
+      remembers = remembers_both grow k last then then now p m q ms ns pm mq spoke.used spoke.remembers (counts_remember k then now m q ns are);
+    }
+
+-- ---- one tag
+
+abbrev pub Rules : ℕ → Key → Result ℕ Stopped → DeskPass → DeskPass → Type 0
+Rules tag k result p q = Does (λ s s'. Advances tag 64 result s s') k p q
+
+pub rules_with : (tag tag' : ℕ) (k : Key) (result : Result ℕ Stopped) (p q : DeskPass) → tag ≡ tag' → Rules tag k result p q → Rules tag' k result p q
+rules_with tag tag' k result p q e r = subst (λ (t : ℕ). Rules t k result p q) e r
+
+pub spoke_with : (tells : Bool) (tag tag' : ℕ) (k : Key) (last then : Times) (now : ℕ) (p : DeskPass) (a : Account) (sent : ℕ) (b : Account) (q : DeskPass) → tag ≡ tag' → SpokeToAll tells tag k last then now p a sent b q →
+    SpokeToAll tells tag' k last then now p a sent b q
+spoke_with tells tag tag' k last then now p a sent b q e s = subst (λ (t : ℕ). SpokeToAll tells t k last then now p a sent b q) e s

@@ -1,0 +1,76 @@
+use Rattle.std.proofs.Common.{◌≡◌, ℕ, ◌∙◌, length, sym, ap, subst, refl, arith}
+use Rattle.office_map.specs.PlanValue.{PlanValue, are_neighbours}
+use Rattle.office_map.specs.Consistency.{IsConsistent}
+use Rattle.locked_office.specs.Calls.{Key}
+use Rattle.socket_pump.specs.declared.last.Lasts.{Lasts}
+use Rattle.socket_pump.specs.Last.{PumpView, last_of}
+use Rattle.socket_pump.specs.refinement.Stages.{SpokeTo, BrokenWith, AreFor}
+use Rattle.socket_pump.proofs.Left.{sees_self}
+use Rattle.socket_pump.proofs.Near.{near_within}
+use Rattle.socket_pump.proofs.Speaking.{SpokeBelow, below_starts, below_on, below_past, below_broke, spoken_to_all}
+use Rattle.socket_pump.proofs.pump.Pump.tell.Goals as goal
+
+pub loop-k-init : goal.loop-k-init
+loop-k-init g c =
+    let p = c.args.pass.now in
+    let a = g.W.Wire.account c.args.wire.now in
+    let same : c.args.self.now.lasts ≡ c.self.inside.last = sym (ap (λ (x : PumpView). x.lasts) c.self.view_is) in
+    record {
+      plan = refl;
+      me = refl;
+      stays = (c.requires.of, refl, c.requires.idle);
+      few = omega arith;
+      below = subst (λ (l : Lasts). SpokeBelow g.W.Wire.tells p.tag c.args.desk.now.key (last_of c.args.self.now.lasts) (last_of l) c.args.now p a 0 a p 0) same (below_starts g.W.Wire.tells p.tag c.args.desk.now.key (last_of c.args.self.now.lasts) c.args.now p a (sees_self p));
+    }
+
+pub returns-in-Err-clause-told : goal.returns-in-Err-clause-told
+returns-in-Err-clause-told g c =
+    let k = c.args.desk.now.key in
+    let l = c.loop-k in
+    let p = c.args.pass.now in
+    below_broke c.links_only_grow.ensures g.W.Wire.tells p.tag k (last_of c.args.self.now.lasts) (last_of l.self-inside.last) (last_of c.tell_one.new.last) c.args.now p l.pass c.tell_one.new.pass
+    (g.W.Wire.account c.args.wire.now) (g.W.Wire.account l.wire) (g.W.Wire.account c.tell_one.new.wire) l.sent l.k c.in-Err.fault l.invariant.below
+    (subst (λ (t : ℕ). BrokenWith (AreFor l.k) g.W.Wire.tells t k (last_of l.self-inside.last) (last_of c.tell_one.new.last) c.args.now l.pass (g.W.Wire.account l.wire) c.in-Err.fault (g.W.Wire.account c.tell_one.new.wire) c.tell_one.new.pass) l.invariant.stays.1
+    (subst (λ (v : ℕ). BrokenWith (AreFor v) g.W.Wire.tells l.pass.tag k (last_of l.self-inside.last) (last_of c.tell_one.new.last) c.args.now l.pass (g.W.Wire.account l.wire) c.in-Err.fault (g.W.Wire.account c.tell_one.new.wire) c.tell_one.new.pass) c.new-v.ensures c.in-Err.ensures.told))
+
+pub loop-k-preserved-then-not-are_neighbours : goal.loop-k-preserved-then-not-are_neighbours
+loop-k-preserved-then-not-are_neighbours g c =
+    let k = c.args.desk.now.key in
+    let l = c.loop-k in
+    let key : k ≡ (c.self.inside.plan, c.self.inside.me) = c.requires.key ∙ sym (ap (λ (x : PumpView). x.key) c.self.view_is) in
+    record {
+      plan = l.invariant.plan;
+      me = l.invariant.me;
+      stays = l.invariant.stays;
+      few = omega arith;
+      below = below_past g.W.Wire.tells c.args.pass.now.tag k (last_of c.args.self.now.lasts) (last_of l.self-inside.last) c.args.now c.args.pass.now l.pass (g.W.Wire.account c.args.wire.now) (g.W.Wire.account l.wire) l.sent l.k
+          (ap (λ (x : Key). are_neighbours x.0 x.1 l.k) key ∙ (ap (λ v. are_neighbours c.self.inside.plan c.self.inside.me v) (sym c.new-v.ensures) ∙ (ap (λ (x : PlanValue). are_neighbours x c.self.inside.me c.new-v.result) (sym l.invariant.plan) ∙ (ap (λ x. are_neighbours l.self-inside.plan x c.new-v.result) (sym l.invariant.me) ∙ (sym c.are_neighbours.ensures ∙ c.if-not-are_neighbours.true))))) l.invariant.below;
+    }
+
+pub loop-k-preserved : goal.loop-k-preserved
+loop-k-preserved g c =
+    let k = c.args.desk.now.key in
+    let l = c.loop-k in
+    let p = c.args.pass.now in
+    let n = c.in-Ok.count in
+    record {
+      plan = l.invariant.plan;
+      me = l.invariant.me;
+      stays = (c.tell_one.ensures.stays.0, c.tell_one.ensures.stays.1 ∙ l.invariant.stays.1, c.tell_one.ensures.stays.2);
+      few = omega (arith, c.in-Ok.ensures.few);
+      below = below_on c.links_only_grow.ensures g.W.Wire.tells p.tag k (last_of c.args.self.now.lasts) (last_of l.self-inside.last) (last_of c.tell_one.new.last) c.args.now p l.pass c.tell_one.new.pass
+          (g.W.Wire.account c.args.wire.now) (g.W.Wire.account l.wire) (g.W.Wire.account c.tell_one.new.wire) l.sent n l.k l.invariant.below
+          (subst (λ (t : ℕ). SpokeTo g.W.Wire.tells t k (last_of l.self-inside.last) (last_of c.tell_one.new.last) c.args.now l.pass (g.W.Wire.account l.wire) n (g.W.Wire.account c.tell_one.new.wire) c.tell_one.new.pass l.k) l.invariant.stays.1
+          (subst (λ (v : ℕ). SpokeTo g.W.Wire.tells l.pass.tag k (last_of l.self-inside.last) (last_of c.tell_one.new.last) c.args.now l.pass (g.W.Wire.account l.wire) n (g.W.Wire.account c.tell_one.new.wire) c.tell_one.new.pass v) c.new-v.ensures c.in-Ok.ensures.told))
+          (λ u i ne. c.tell_one.ensures.others u i (λ e. ne (e ∙ c.new-v.ensures)));
+    }
+
+pub returns-clause-told : goal.returns-clause-told
+returns-clause-told g c =
+    let k = c.args.desk.now.key in
+    let l = c.loop-k in
+    let plan : k.0 ≡ c.self.inside.plan = ap (λ (x : Key). x.0) (c.requires.key ∙ sym (ap (λ (x : PumpView). x.key) c.self.view_is)) in
+    let ok = subst IsConsistent (sym plan) c.offices-k-end.ensures.consistent in
+    let count : length k.0.offices ≡ length c.self.inside.plan.offices = ap (λ (x : PlanValue). length x.offices) plan in
+    spoken_to_all g.W.Wire.tells c.args.pass.now.tag k (last_of c.args.self.now.lasts) (last_of l.self-inside.last) c.args.now c.args.pass.now l.pass (g.W.Wire.account c.args.wire.now) (g.W.Wire.account l.wire) l.sent l.k
+    (λ v near. omega (arith, near_within k.0 k.1 v ok near, count, c.offices-k-end.ensures.count)) l.invariant.below

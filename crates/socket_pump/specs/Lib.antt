@@ -1,0 +1,5 @@
+pub mod Wires
+pub mod Last
+pub mod Chains
+pub mod Turns
+pub mod refinement

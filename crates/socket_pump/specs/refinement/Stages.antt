@@ -1,0 +1,87 @@
+-- What each function of a turn does of it.
+use Rattle.std.specs.Prelude.{◌≡◌, ℕ, ◌≤◌, ◌<◌, Bool, true, false, List, [], ◌∷◌, ◌++◌, length, Option, Some, None, Result, Ok, Err}
+use Rattle.frame_codec.specs.Frame.{Fields}
+use Rattle.site_core.specs.declared.reply.Reply.{Reply}
+use Rattle.site_core.specs.declared.reply.Reply.TheVariants.{Frame}
+use Rattle.site_core.specs.declared.reply.Refusal.{Refusal}
+use Rattle.window_link.specs.Windows.{used}
+use Rattle.site_core.specs.Growing.{link_at}
+use Rattle.locked_office.specs.Calls.{Key, DeskPass, office_with}
+use Rattle.locked_office.specs.Sends.{WaitsFor}
+use Rattle.socket_pump.specs.declared.pump.PumpFault.{PumpFault}
+use Rattle.socket_pump.specs.Wires.{Account}
+use Rattle.socket_pump.specs.Last.{IsDue}
+use Rattle.socket_pump.specs.Chains.{Heard, Made, one_taken, taken, Counts, Sent, DueOnce}
+use Rattle.socket_pump.specs.Turns.{Times, Hearing, BrokeHearing, IsFaultOf, Remembers, Told, SentTo, BrokeTelling}
+
+abbrev pub one_if : Bool → ℕ
+one_if true = 1
+one_if false = 0
+
+-- no datagram came, or one that the office took or refused
+abbrev pub HeardOne : Bool → ℕ → Key → DeskPass → Account → Option Bool → Account → DeskPass → Type 0
+HeardOne tells tag k p a None b q = (q ≡ p) × (b.failures ≡ a.failures) × (tells ≡ true → b ≡ record a { received = a.received ++ None ∷ [] })
+HeardOne tells tag k p a (Some took) b q = (h : Heard) × Hearing tells tag k p a [] b q (h ∷ []) × (taken (h ∷ []) ≡ one_if took)
+
+-- the wire failed, or there was no room for what the one datagram brought
+abbrev pub BrokeOne : Bool → ℕ → Key → DeskPass → Account → PumpFault → Account → DeskPass → Type 0
+BrokeOne tells tag k p a f b q = (broke : BrokeHearing tells tag k p a f b q) × (length broke.heard ≤ 1)
+
+-- what the office's answer means for the pump
+abbrev pub Judged : Result Bool PumpFault → Result Reply Refusal → Type 0
+Judged (Ok took) answer = Counts answer × (one_taken answer ≡ one_if took)
+Judged (Err fault) answer = (why : Refusal) × (answer ≡ Err why) × IsFaultOf why fault
+
+-- the frame that an office's answer brings
+abbrev pub frame_in : Result Reply Refusal → Result (Option Fields) Refusal
+frame_in (Ok (Frame f)) = Ok (Some f)
+frame_in (Ok _) = Ok None
+frame_in (Err why) = Err why
+
+-- the numbers of these frames were used by then
+abbrev pub AreUsed : Key → DeskPass → List Made → Type 0
+AreUsed k q made = (v n : ℕ) → Sent v n made → n ≤ used (link_at k.0 k.1 q.seen v).sending
+
+-- all are for v, and all bring its message n
+abbrev pub AreFor : ℕ → List Made → Type 0
+AreFor v made = (u i : ℕ) → Sent u i made → u ≡ v
+
+abbrev pub AreOf : ℕ → ℕ → List Made → Type 0
+AreOf v n made = (u i : ℕ) → Sent u i made → (u ≡ v) × (i ≡ n)
+
+-- all bring messages, which are numbered from 1
+abbrev pub AreMessages : List Made → Type 0
+AreMessages made = (v n : ℕ) → Sent v n made → 0 < n
+
+-- so many messages were sent
+pub record Spoke (tells : Bool) (tag : ℕ) (k : Key) (last then : Times) (now : ℕ) (p : DeskPass) (a : Account) (sent : ℕ) (b : Account) (q : DeskPass) (made : List Made) : Type 0 where
+  pub told : Told tells tag k p a b q made
+  pub count : length made ≡ sent
+  pub due_once : DueOnce last now made
+  pub remembers : Remembers k last then now p q made
+  pub messages : AreMessages made
+  pub used : AreUsed k q made
+
+-- one message, to one neighbour, and to all
+abbrev pub SpokeOf : Bool → ℕ → Key → Times → Times → ℕ → DeskPass → Account → ℕ → Account → DeskPass → ℕ → ℕ → Type 0
+SpokeOf tells tag k last then now p a sent b q v n =
+    (made : List Made) × Spoke tells tag k last then now p a sent b q made × AreOf v n made × (WaitsFor (office_with k q.seen) v n → IsDue (last v n) now → Sent v n made)
+
+abbrev pub SpokeTo : Bool → ℕ → Key → Times → Times → ℕ → DeskPass → Account → ℕ → Account → DeskPass → ℕ → Type 0
+SpokeTo tells tag k last then now p a sent b q v = (made : List Made) × Spoke tells tag k last then now p a sent b q made × AreFor v made × SentTo k last now p q made v
+
+abbrev pub SpokeToAll : Bool → ℕ → Key → Times → Times → ℕ → DeskPass → Account → ℕ → Account → DeskPass → Type 0
+SpokeToAll tells tag k last then now p a sent b q = (made : List Made) × Spoke tells tag k last then now p a sent b q made × ((v : ℕ) → SentTo k last now p q made v)
+
+-- some went out, and then a fault
+abbrev pub Broken : Bool → ℕ → Key → Times → Times → ℕ → DeskPass → Account → PumpFault → Account → DeskPass → Type 0
+Broken tells tag k last then now p a f b q = (made : List Made) × BrokeTelling tells tag k p a f b q made × DueOnce last now made × Remembers k last then now p q made
+
+-- the same, where all were such
+abbrev pub BrokenWith : (List Made → Type 0) → Bool → ℕ → Key → Times → Times → ℕ → DeskPass → Account → PumpFault → Account → DeskPass → Type 0
+BrokenWith such tells tag k last then now p a f b q = (made : List Made) × BrokeTelling tells tag k p a f b q made × DueOnce last now made × Remembers k last then now p q made × such made
+
+-- frames with a count alone, one at most for each office
+abbrev pub AreCounts : List Made → Type 0
+AreCounts [] = Unit {0}
+AreCounts (m ∷ ms) = (m.frame.number ≡ 0) × (Sent m.to m.frame.number ms → ⊥) × AreCounts ms

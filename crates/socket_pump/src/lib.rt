@@ -1,0 +1,19 @@
+//! A pump between the desk of an office and a wire to its neighbours.
+//!
+//! - [`Wire`]: where datagrams come from and go to. [`UdpWire`] is a UDP socket, [`MemoryWire`] one in memory for tests.
+//! - [`Pump::turn`]: datagrams that came, at most 32; rules that come next, at most 64; then each message that waits and wasn't
+//!   sent in the last 50 milliseconds; then a count to each neighbour that sent something and got nothing. What a turn leaves
+//!   is `Turned`, and `Stage` at a fault, in `specs/Turns.antt`.
+#![tactic(auto)]
+
+mod last;
+mod memory;
+mod pump;
+mod udp;
+mod wire;
+
+pub use crate::last::Lasts;
+pub use crate::memory::{Datagram, MemoryWire};
+pub use crate::pump::{Pump, PumpFault, Turn};
+pub use crate::udp::UdpWire;
+pub use crate::wire::{Wire, WireFailed};

@@ -1,0 +1,441 @@
+//! The pump: datagrams in, rules, messages out.
+
+ghost use Rattle.std.specs.Prelude.{◌≡◌, ◌<◌, ◌≤◌, ◌%◌, ◌⊎◌, ◌∷◌, [], ℕ, List, true, false, None, IfOk, MatchResult, length};
+ghost use Rattle.office_map.specs.PlanValue.{are_neighbours};
+ghost use Rattle.own_lock.specs.Passes.{IsOf};
+ghost use Rattle.frame_codec.specs.Version01.{spelling};
+ghost use Rattle.site_core.specs.declared.reply.Refusal.TheVariants as refusals;
+ghost use Rattle.locked_office.specs.Calls.{Stays};
+ghost use Rattle.socket_pump.specs.Wires.{Accepts};
+ghost use Rattle.socket_pump.specs.Last.{last_of};
+ghost use Rattle.socket_pump.specs.Chains.{Made};
+ghost use Rattle.socket_pump.specs.Turns.{Turned, Stage, HeardAll, BrokeHearing, IsFaultOf, Told, BrokeTelling};
+ghost use Rattle.socket_pump.specs.refinement.Stages.{HeardOne, BrokeOne, Judged, frame_in, SpokeOf, SpokeTo, SpokeToAll, Broken, BrokenWith, AreCounts, AreFor, AreOf};
+
+use crate::last::Lasts;
+use crate::wire::{Wire, WireFailed};
+use frame_codec::{Frame, FrameFault, MAX_LENGTH, decode, encode};
+use locked_office::Desk;
+use office_map::{OfficeId, Plan};
+use own_lock::Pass;
+use site_core::laws::{full_at_the_limit, links_only_grow};
+use site_core::{Office, Refusal, Reply};
+use std::alloc::{AllocError, Global};
+use std::marker::Model;
+use std::sync::Wait;
+use thiserror::Error;
+
+/// The most datagrams of a turn.
+const MOST_DATAGRAMS: u32 = 32;
+
+/// The most rules of a turn.
+const MOST_RULES: u32 = 64;
+
+/// What a turn did: datagrams that the office took and that it refused, rules, and frames that went out.
+#[derive(Clone, Copy, Debug, PartialEq, Eq)]
+pub struct Turn {
+    pub taken: u32,
+    pub refused: u32,
+    pub rules: u32,
+    pub sent: u32,
+}
+
+/// Why a turn broke off. What was done before stands in the journal; a frame whose sending failed stands there as sent.
+#[derive(Clone, Copy, Debug, PartialEq, Eq, Error)]
+pub enum PumpFault {
+    #[error("U1 WireFailed")]
+    WireFailed,
+    #[error("O4 JournalFull")]
+    JournalFull,
+    #[error("out of memory")]
+    Memory,
+}
+
+/// A pump of one office. Contracts see whose it is, and when it last sent each message.
+#[derive(Drop)]
+pub struct Pump {
+    plan: Plan,
+    me: OfficeId,
+    last: Lasts,
+}
+
+impl Model for Pump {
+    ghost use Rattle.std.specs.Prelude.{◌<◌, length};
+    ghost use Rattle.socket_pump.specs.Last.{PumpView};
+
+    ghost Value = { PumpView };
+
+    ghost view = { λ p. record { key = (p.plan, p.me); lasts = p.last } };
+
+    ghost invariant = { λ p. p.me < length p.plan.offices };
+}
+
+/// Whom an office heard in a turn.
+#[derive(Clone, Copy)]
+struct Senders {
+    heard: [bool; 16],
+}
+
+impl Pump {
+    /// A pump of that office, which sent nothing yet. It keeps a copy of the plan.
+    ///
+    /// # Errors
+    /// Where there is no memory for the copy.
+    pub fn open(alloc: Global, plan: &Plan, me: OfficeId) -> Result<Pump, AllocError>
+        requires { me < length plan.now.offices }
+        ensures key { IfOk result (λ p. p.key ≡ (plan.now, me)) }
+        ensures last { IfOk result (λ p. (v n : ℕ) → last_of p.lasts v n ≡ None) }
+    {
+        Ok(Pump {
+            plan: plan.copy(alloc)?,
+            me,
+            last: Lasts::new(),
+        })
+    }
+
+    /// Takes in what came on the wire, at most 32 datagrams; does the rules that come next, at most 64; sends each message that
+    /// waits and wasn't sent in the last 50 milliseconds; and sends a count to each neighbour whose message came in this turn
+    /// and who got none. `now` is in milliseconds, from any beginning, and of the same clock in each turn.
+    ///
+    /// # Errors
+    /// `WireFailed` where a call of the wire failed, `JournalFull` and `Memory` where the office had no room for an entry. What
+    /// was done before stands; a frame whose sending failed stands in the journal as sent, and is lost.
+    pub fn turn<R: Wait, W: Wire>(
+        &mut self,
+        rt: &R,
+        wire: &mut W,
+        desk: &Desk,
+        pass: &mut Pass<Office>,
+        now: u64,
+    ) -> Result<Turn, PumpFault>
+        requires key { desk.now.key ≡ self.old.key }
+        requires of { IsOf desk.now pass.old }
+        requires idle { pass.old.holds ≡ false }
+        ensures key { self.new.key ≡ self.old.key }
+        ensures stays { Stays desk.now pass.old pass.new }
+        ensures turned { MatchResult result
+            (λ t. Turned W.tells pass.old.tag desk.now.key (last_of self.old.lasts) now pass.old (W.account wire.old) t (W.account wire.new) pass.new (last_of self.new.lasts))
+            (λ f. Stage W.tells pass.old.tag desk.now.key (last_of self.old.lasts) now pass.old (W.account wire.old) f (W.account wire.new) pass.new (last_of self.new.lasts)) }
+    {
+        links_only_grow();
+        let mut senders = Senders { heard: [false; 16] };
+        let (taken, refused) = match hear(rt, wire, desk, pass, &mut senders) {
+            Ok(counts) => counts,
+            Err(fault) => return Err(fault),
+        };
+        let rules = match desk.advance(rt, pass, MOST_RULES) {
+            Ok(rules) => rules,
+            Err(stopped) => return Err(fault_of(stopped.refusal)),
+        };
+        let messages = match self.tell(rt, wire, desk, pass, &mut senders, now) {
+            Ok(sent) => sent,
+            Err(fault) => return Err(fault),
+        };
+        let counts = match self.acknowledge(rt, wire, desk, pass, &senders) {
+            Ok(sent) => sent,
+            Err(fault) => return Err(fault),
+        };
+        Ok(Turn {
+            taken,
+            refused,
+            rules,
+            sent: messages + counts,
+        })
+    }
+
+    // All messages that are due, to all neighbours. Those who got one need no count.
+    fn tell<R: Wait, W: Wire>(
+        &mut self,
+        rt: &R,
+        wire: &mut W,
+        desk: &Desk,
+        pass: &mut Pass<Office>,
+        senders: &mut Senders,
+        now: u64,
+    ) -> Result<u32, PumpFault>
+        requires key { desk.now.key ≡ self.old.key }
+        requires of { IsOf desk.now pass.old }
+        requires idle { pass.old.holds ≡ false }
+        ensures key { self.new.key ≡ self.old.key }
+        ensures stays { Stays desk.now pass.old pass.new }
+        ensures few { IfOk result (λ sent. sent ≤ 288) }
+        ensures told { MatchResult result
+            (λ sent. SpokeToAll W.tells pass.old.tag desk.now.key (last_of self.old.lasts) (last_of self.new.lasts) now pass.old (W.account wire.old) sent (W.account wire.new) pass.new)
+            (λ f. Broken W.tells pass.old.tag desk.now.key (last_of self.old.lasts) (last_of self.new.lasts) now pass.old (W.account wire.old) f (W.account wire.new) pass.new) }
+    {
+        links_only_grow();
+        let mut sent = 0;
+        for k in 0..self.plan.offices() {
+            let v = OfficeId::new(k as u8);
+            if !self.plan.are_neighbours(self.me, v) {
+                continue;
+            }
+            let count = match tell_one(rt, &mut self.last, wire, desk, pass, v, now) {
+                Ok(count) => count,
+                Err(fault) => return Err(fault),
+            };
+            sent += count;
+            senders.got(v, count);
+        }
+        Ok(sent)
+    }
+
+    // A count to each neighbour that sent something and got nothing.
+    fn acknowledge<R: Wait, W: Wire>(
+        &self,
+        rt: &R,
+        wire: &mut W,
+        desk: &Desk,
+        pass: &mut Pass<Office>,
+        senders: &Senders,
+    ) -> Result<u32, PumpFault>
+        requires key { desk.now.key ≡ self.now.key }
+        requires of { IsOf desk.now pass.old }
+        requires idle { pass.old.holds ≡ false }
+        ensures stays { Stays desk.now pass.old pass.new }
+        ensures few { IfOk result (λ sent. sent ≤ 16) }
+        ensures told { MatchResult result
+            (λ sent. (made : List Made) × Told W.tells pass.old.tag desk.now.key pass.old (W.account wire.old) (W.account wire.new) pass.new made × (length made ≡ sent) × AreCounts made)
+            (λ f. (made : List Made) × BrokeTelling W.tells pass.old.tag desk.now.key pass.old (W.account wire.old) f (W.account wire.new) pass.new made × AreCounts made) }
+    {
+        let mut sent = 0;
+        for k in 0..self.plan.offices() {
+            let v = OfficeId::new(k as u8);
+            if !self.plan.are_neighbours(self.me, v) {
+                continue;
+            }
+            if !senders.heard[v.index()] {
+                continue;
+            }
+            match send_count(rt, wire, desk, pass, v) {
+                Ok(()) => {}
+                Err(fault) => return Err(fault),
+            }
+            sent += 1;
+        }
+        Ok(sent)
+    }
+}
+
+// All messages to one neighbour that are due.
+fn tell_one<R: Wait, W: Wire>(
+    rt: &R,
+    last: &mut Lasts,
+    wire: &mut W,
+    desk: &Desk,
+    pass: &mut Pass<Office>,
+    v: OfficeId,
+    now: u64,
+) -> Result<u32, PumpFault>
+    requires of { IsOf desk.now pass.old }
+    requires idle { pass.old.holds ≡ false }
+    requires small { v < 16 }
+    ensures stays { Stays desk.now pass.old pass.new }
+    ensures few { IfOk result (λ sent. sent ≤ 18) }
+    ensures others { (u i : ℕ) → (u ≡ v → ⊥) → last_of last.new u i ≡ last_of last.old u i }
+    ensures told { MatchResult result
+        (λ sent. SpokeTo W.tells pass.old.tag desk.now.key (last_of last.old) (last_of last.new) now pass.old (W.account wire.old) sent (W.account wire.new) pass.new v)
+        (λ f. BrokenWith (AreFor v) W.tells pass.old.tag desk.now.key (last_of last.old) (last_of last.new) now pass.old (W.account wire.old) f (W.account wire.new) pass.new) }
+{
+    links_only_grow();
+    let Ok((first, count)) = desk.waiting(rt, pass, v) else {
+        return Ok(0);
+    };
+    let mut sent = 0;
+    for number in first..first + count as u64 {
+        let more = match tell_message(rt, last, wire, desk, pass, v, number, now) {
+            Ok(more) => more,
+            Err(fault) => return Err(fault),
+        };
+        sent += more;
+    }
+    Ok(sent)
+}
+
+// One message, if it is due and still waits: how many frames were made.
+fn tell_message<R: Wait, W: Wire>(
+    rt: &R,
+    last: &mut Lasts,
+    wire: &mut W,
+    desk: &Desk,
+    pass: &mut Pass<Office>,
+    v: OfficeId,
+    number: u64,
+    now: u64,
+) -> Result<u32, PumpFault>
+    requires of { IsOf desk.now pass.old }
+    requires idle { pass.old.holds ≡ false }
+    requires small { v < 16 }
+    ensures stays { Stays desk.now pass.old pass.new }
+    ensures few { IfOk result (λ sent. sent ≤ 1) }
+    ensures others { (u i : ℕ) → ((u ≡ v) × (i % 18 ≡ number % 18) → ⊥) → last_of last.new u i ≡ last_of last.old u i }
+    ensures told { MatchResult result
+        (λ sent. SpokeOf W.tells pass.old.tag desk.now.key (last_of last.old) (last_of last.new) now pass.old (W.account wire.old) sent (W.account wire.new) pass.new v number)
+        (λ f. BrokenWith (AreOf v number) W.tells pass.old.tag desk.now.key (last_of last.old) (last_of last.new) now pass.old (W.account wire.old) f (W.account wire.new) pass.new) }
+{
+    links_only_grow();
+    if !last.is_due(v, number, now) {
+        return Ok(0);
+    }
+    let frame = match desk.send_number(rt, pass, v, number) {
+        Ok(Some(frame)) => frame,
+        Ok(None) => return Ok(0),
+        Err(refusal) => return Err(fault_of(refusal)),
+    };
+    last.put(v, number, now);
+    match put_out(wire, v, &frame) {
+        Ok(()) => Ok(1),
+        Err(WireFailed) => Err(PumpFault::WireFailed),
+    }
+}
+
+// A count alone.
+fn send_count<R: Wait, W: Wire>(
+    rt: &R,
+    wire: &mut W,
+    desk: &Desk,
+    pass: &mut Pass<Office>,
+    v: OfficeId,
+) -> Result<(), PumpFault>
+    requires of { IsOf desk.now pass.old }
+    requires idle { pass.old.holds ≡ false }
+    requires near { are_neighbours desk.now.key.0 desk.now.key.1 v ≡ true }
+    ensures stays { Stays desk.now pass.old pass.new }
+    ensures told { MatchResult result
+        (λ _. (m : Made) × Told W.tells pass.old.tag desk.now.key pass.old (W.account wire.old) (W.account wire.new) pass.new (m ∷ []) × (m.frame.number ≡ 0) × (m.to ≡ v))
+        (λ f. (made : List Made) × BrokeTelling W.tells pass.old.tag desk.now.key pass.old (W.account wire.old) f (W.account wire.new) pass.new made × AreCounts made × AreFor v made) }
+{
+    let answer = desk.send(rt, pass, v, 0);
+    let frame = match framed(&answer) {
+        Ok(Some(frame)) => frame,
+        Ok(None) => return Ok(()),
+        Err(refusal) => return Err(fault_of(refusal)),
+    };
+    match put_out(wire, v, &frame) {
+        Ok(()) => Ok(()),
+        Err(WireFailed) => Err(PumpFault::WireFailed),
+    }
+}
+
+// The frame that an office made.
+fn framed(answer: &Result<Reply, Refusal>) -> Result<Option<Frame>, Refusal>
+    ensures { result ≡ frame_in answer.now }
+{
+    match answer {
+        Ok(Reply::Frame(frame)) => Ok(Some(*frame)),
+        Ok(_) => Ok(None),
+        Err(refusal) => Err(*refusal),
+    }
+}
+
+// The spelling of a frame goes out.
+fn put_out<W: Wire>(wire: &mut W, v: OfficeId, frame: &Frame) -> Result<(), WireFailed>
+    ensures { Accepts W.tells (W.account wire.old) v (spelling frame.now) result (W.account wire.new) }
+{
+    let mut bytes = [0; MAX_LENGTH];
+    let length = encode(frame, &mut bytes);
+    wire.send(v, &bytes[..length])
+}
+
+fn fault_of(refusal: Refusal) -> PumpFault
+    requires { (refusal ≡ refusals.JournalFull) ⊎ (refusal ≡ refusals.Memory) }
+    ensures { IsFaultOf refusal result }
+{
+    match refusal {
+        Refusal::JournalFull => PumpFault::JournalFull,
+        _ => PumpFault::Memory,
+    }
+}
+
+// Datagrams, at most so many: how many were taken, and refused.
+fn hear<R: Wait, W: Wire>(
+    rt: &R,
+    wire: &mut W,
+    desk: &Desk,
+    pass: &mut Pass<Office>,
+    senders: &mut Senders,
+) -> Result<(u32, u32), PumpFault>
+    requires of { IsOf desk.now pass.old }
+    requires idle { pass.old.holds ≡ false }
+    ensures stays { Stays desk.now pass.old pass.new }
+    ensures heard { MatchResult result
+        (λ r. HeardAll W.tells pass.old.tag desk.now.key pass.old (W.account wire.old) r.0 r.1 (W.account wire.new) pass.new)
+        (λ f. BrokeHearing W.tells pass.old.tag desk.now.key pass.old (W.account wire.old) f (W.account wire.new) pass.new) }
+{
+    let mut taken = 0;
+    let mut refused = 0;
+    while taken + refused < MOST_DATAGRAMS {
+        match hear_one(rt, wire, desk, pass, senders) {
+            Ok(None) => return Ok((taken, refused)),
+            Ok(Some(true)) => taken += 1,
+            Ok(Some(false)) => refused += 1,
+            Err(fault) => return Err(fault),
+        }
+    }
+    Ok((taken, refused))
+}
+
+// One datagram, and whether the office took it.
+fn hear_one<R: Wait, W: Wire>(
+    rt: &R,
+    wire: &mut W,
+    desk: &Desk,
+    pass: &mut Pass<Office>,
+    senders: &mut Senders,
+) -> Result<Option<bool>, PumpFault>
+    requires of { IsOf desk.now pass.old }
+    requires idle { pass.old.holds ≡ false }
+    ensures stays { Stays desk.now pass.old pass.new }
+    ensures heard { MatchResult result
+        (λ o. HeardOne W.tells pass.old.tag desk.now.key pass.old (W.account wire.old) o (W.account wire.new) pass.new)
+        (λ f. BrokeOne W.tells pass.old.tag desk.now.key pass.old (W.account wire.old) f (W.account wire.new) pass.new) }
+{
+    let mut buffer = [0; 64];
+    let count = match wire.receive(&mut buffer) {
+        Ok(Some(count)) => count,
+        Ok(None) => return Ok(None),
+        Err(WireFailed) => return Err(PumpFault::WireFailed),
+    };
+    full_at_the_limit();
+    let bytes = &buffer[..count];
+    let read = decode(bytes);
+    let answer = desk.took(rt, pass, bytes);
+    senders.note(&read, &answer);
+    match judged(answer) {
+        Ok(took) => Ok(Some(took)),
+        Err(fault) => Err(fault),
+    }
+}
+
+impl Senders {
+    // Who got a message needs no count.
+    fn got(&mut self, v: OfficeId, count: u32)
+        requires { v < 16 }
+    {
+        if count > 0 {
+            self.heard[v.index()] = false;
+        }
+    }
+
+    // A message came, if only once more or too early.
+    fn note(&mut self, read: &Result<Frame, FrameFault>, answer: &Result<Reply, Refusal>) {
+        let (Ok(frame), Ok(Reply::Taken | Reply::Repeat | Reply::Early)) = (read, answer) else {
+            return;
+        };
+        if let Some(heard) = self.heard.get_mut(usize::from(frame.from())) {
+            *heard = true;
+        }
+    }
+}
+
+// Whether the office took a datagram.
+fn judged(answer: Result<Reply, Refusal>) -> Result<bool, PumpFault>
+    ensures { Judged result answer }
+{
+    match answer {
+        Ok(_) => Ok(true),
+        Err(Refusal::Memory) => Err(PumpFault::Memory),
+        Err(Refusal::JournalFull) => Err(PumpFault::JournalFull),
+        Err(_) => Ok(false),
+    }
+}
