@@ -1,7 +1,7 @@
-use Rattle.std.proofs.Common.{ℕ, ◌+◌, ◌∙◌, arith, subst}
+use Rattle.std.proofs.Common.{◌≡◌, ℕ, ◌+◌, ◌∙◌, sym, arith, subst}
 use Rattle.socket_pump.specs.Last.{last_of}
 use Rattle.socket_pump.specs.refinement.Stages.{SpokeOf, BrokenWith, AreOf}
-use Rattle.socket_pump.proofs.Speaking.{waiting_are, speaking_starts, speaking_on, speaking_broke, spoken_to_none}
+use Rattle.socket_pump.proofs.Speaking.{SpokeSoFar, waiting_are, speaking_starts, speaking_on, spoken_to, speaking_broke, spoken_to_none}
 use Rattle.socket_pump.proofs.pump.tell_one.Goals as goal
 
 pub returns-in_default-clause-told : goal.returns-in_default-clause-told
@@ -37,3 +37,10 @@ loop-number-preserved g c =
           (subst (λ (t : ℕ). SpokeOf g.W.Wire.tells t k (last_of l.last) (last_of c.tell_message.new.last) c.args.now l.pass (g.W.Wire.account l.wire) more (g.W.Wire.account c.tell_message.new.wire) c.tell_message.new.pass v l.number) l.invariant.stays.1 c.in-Ok-tell_message.ensures.told)
           c.in-Ok-tell_message.ensures.others;
     }
+
+pub returns-clause-told : goal.returns-clause-told
+returns-clause-told g c =
+    let l = c.loop-number in
+    let end : l.number ≡ c.in-Ok.first + c.in-Ok.count = omega arith in
+    spoken_to g.W.Wire.tells c.args.pass.now.tag c.args.desk.now.key (last_of c.args.last.now) (last_of l.last) c.args.now c.args.pass.now l.pass (g.W.Wire.account c.args.wire.now) (g.W.Wire.account l.wire) l.sent c.args.v c.in-Ok.first l.number
+    (subst (λ (n : ℕ). SpokeSoFar g.W.Wire.tells c.args.pass.now.tag c.args.desk.now.key (last_of c.args.last.now) (last_of l.last) c.args.now c.args.pass.now (g.W.Wire.account c.args.wire.now) l.sent (g.W.Wire.account l.wire) l.pass c.args.v c.in-Ok.first n l.number) (sym end) l.invariant.soFar)

@@ -6,7 +6,7 @@ use Rattle.socket_pump.specs.declared.last.Lasts.{Lasts}
 use Rattle.socket_pump.specs.Last.{PumpView, last_of}
 use Rattle.socket_pump.specs.refinement.Stages.{SpokeTo, BrokenWith, AreFor}
 use Rattle.socket_pump.proofs.Left.{sees_self}
-use Rattle.socket_pump.proofs.Near.{near_within}
+use Rattle.socket_pump.proofs.Near.{near_within, near_as}
 use Rattle.socket_pump.proofs.Speaking.{SpokeBelow, below_starts, below_on, below_past, below_broke, spoken_to_all}
 use Rattle.socket_pump.proofs.pump.Pump.tell.Goals as goal
 
@@ -37,14 +37,15 @@ pub loop-k-preserved-then-not-are_neighbours : goal.loop-k-preserved-then-not-ar
 loop-k-preserved-then-not-are_neighbours g c =
     let k = c.args.desk.now.key in
     let l = c.loop-k in
-    let key : k ≡ (c.self.inside.plan, c.self.inside.me) = c.requires.key ∙ sym (ap (λ (x : PumpView). x.key) c.self.view_is) in
+    let far : are_neighbours k.0 k.1 l.k ≡ c.are_neighbours.result = near_as k c.self.inside.plan l.self-inside.plan c.self.inside.me l.self-inside.me c.new-v.result l.k c.are_neighbours.result
+    (c.requires.key ∙ sym (ap (λ (x : PumpView). x.key) c.self.view_is)) l.invariant.plan l.invariant.me c.new-v.ensures c.are_neighbours.ensures in
     record {
       plan = l.invariant.plan;
       me = l.invariant.me;
       stays = l.invariant.stays;
       few = omega arith;
       below = below_past g.W.Wire.tells c.args.pass.now.tag k (last_of c.args.self.now.lasts) (last_of l.self-inside.last) c.args.now c.args.pass.now l.pass (g.W.Wire.account c.args.wire.now) (g.W.Wire.account l.wire) l.sent l.k
-          (ap (λ (x : Key). are_neighbours x.0 x.1 l.k) key ∙ (ap (λ v. are_neighbours c.self.inside.plan c.self.inside.me v) (sym c.new-v.ensures) ∙ (ap (λ (x : PlanValue). are_neighbours x c.self.inside.me c.new-v.result) (sym l.invariant.plan) ∙ (ap (λ x. are_neighbours l.self-inside.plan x c.new-v.result) (sym l.invariant.me) ∙ (sym c.are_neighbours.ensures ∙ c.if-not-are_neighbours.true))))) l.invariant.below;
+          (far ∙ c.if-not-are_neighbours.true) l.invariant.below;
     }
 
 pub loop-k-preserved : goal.loop-k-preserved
