@@ -89,6 +89,7 @@ for example in branch_ledger lease_table shared_stock; do
 done
 stock=$examples/shared_stock
 row "sim, shared_stock" sim "$stock/plan.txt" "$stock/sessions.txt" "$stock/script.txt"
+row "random, shared_stock" random "$stock/plan.txt" "$stock/sessions.txt" --seed 1 --loss 20 --steps 300
 ledger=$examples/branch_ledger
 { cat "$ledger/plan.txt"; echo ---; cat "$ledger/sessions.txt"; } > "$work/in"
 row "serial - -" serial - -

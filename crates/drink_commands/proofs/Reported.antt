@@ -9,6 +9,8 @@ use Rattle.frame_world.specs.Worlds.{opening}
 use Rattle.script_runs.specs.Script.{Act}
 use Rattle.script_runs.specs.Runs.{run_of}
 use Rattle.script_runs.specs.Transcript.{transcript, IsSerialRun}
+use Rattle.random_runs.specs.Runs.{Tells}
+use Rattle.drink_commands.specs.Random.{TellsRun}
 use Rattle.drink_commands.specs.Simulation.{Simulates}
 use Rattle.drink_commands.proofs.Faults.{TakesPlan, TakesScript, TakesSessions}
 
@@ -29,6 +31,22 @@ reported files u v w a b a_text b_text p programs old new printed plan sessions 
       is_plan = it.0;
       are_sessions = (sessions b_text next (subst (λ s. HasText files s b b_text next) (sym it.1) has_next)).0;
       written = subst (λ t. Appends old new t) e written;
+    }
+
+pub ran : (files : List ℕ → Option (List ℕ)) (u v w : Unread) (a b a_text b_text : List ℕ) (p : PlanValue) (programs seen : List ProgramValue)
+    (old new : Option (List ℕ)) (printed : List ℕ) → TakesPlan files u a v p → TakesSessions files v b w p programs
+    → HaveTexts files u (a ∷ b ∷ []) (a_text ∷ b_text ∷ []) → seen ≡ programs → Tells p seen printed → Appends old new printed
+    → TellsRun a_text b_text old new
+ran files u v w a b a_text b_text p programs seen old new printed plan sessions (after, has, (next, has_next, more)) same told written =
+    let it = plan a_text after has in
+    record {
+      p = p;
+      programs = programs;
+      printed = printed;
+      is_plan = it.0;
+      are_sessions = (sessions b_text next (subst (λ s. HasText files s b b_text next) (sym it.1) has_next)).0;
+      told = subst (λ ps. Tells p ps printed) same told;
+      written = written;
     }
 
 pub simulated : (files : List ℕ → Option (List ℕ)) (u v w x : Unread) (a b c a_text b_text c_text : List ℕ) (p : PlanValue)

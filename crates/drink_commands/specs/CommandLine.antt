@@ -1,13 +1,19 @@
 -- What a command line asks for: the commands that there are, in the terms of the crate that reads them.
-use Rattle.std.specs.Prelude.{◌≡◌, List, true, false, Option, option_map, option_and_then, unwrap_or, codes}
+use Rattle.std.specs.Prelude.{◌≡◌, ◌<◌, ◌^◌, ℕ, List, true, false, Option, Some, option_map, option_and_then, unwrap_or, codes}
 use Rattle.std.specs.Str.{bytes_eq}
+use Rattle.std.specs.Str.Parse.{IsNumeral, without_leading_plus, digits_value}
 use Rattle.clap.specs.Words.{App, Row, Rule, Text, first_of, new_app, new_rule, subcommand_of, with_rule, with_subcommand}
+use Rattle.clap.specs.declared.builder.value_parser.ValueParser.TheVariants as parsers
 use Rattle.drink_commands.specs.declared.command_line.Request.{Request}
-use Rattle.drink_commands.specs.declared.command_line.Request.TheVariants.{Serial, Sim}
+use Rattle.drink_commands.specs.declared.command_line.Request.TheVariants.{Serial, Sim, Random}
 
 -- a word that must be there
 abbrev pub required : Text → Rule
 required id = record (new_rule id) { required = true }
+
+-- --ID N, which must be there, with a number from the least to the most
+abbrev pub numbered : Text → ℕ → ℕ → Rule
+numbered id least most = record (required id) { long = Some id; value_names = 1; parser = Some (parsers.Unsigned least most) }
 
 -- serial PLAN SESSIONS
 abbrev pub serial_command : App
@@ -17,12 +23,19 @@ serial_command = with_rule (with_rule (new_app (codes "serial")) (required (code
 abbrev pub sim_command : App
 sim_command = with_rule (with_rule (with_rule (new_app (codes "sim")) (required (codes "PLAN"))) (required (codes "SESSIONS"))) (required (codes "SCRIPT"))
 
+-- random PLAN SESSIONS --seed N --loss N --steps N
+abbrev pub random_words : App
+random_words = with_rule (with_rule (new_app (codes "random")) (required (codes "PLAN"))) (required (codes "SESSIONS"))
+
+abbrev pub random_command : App
+random_command = with_rule (with_rule (with_rule random_words (numbered (codes "seed") 0 18446744073709551615)) (numbered (codes "loss") 0 100)) (numbered (codes "steps") 1 1000000)
+
 abbrev pub some_command : App
 some_command = let a = new_app (codes "drink") in record a { top = record a.top { subcommand_required = true; has_version = true } }
 
 -- the program, one of whose commands must be there
 abbrev pub program : App
-program = with_subcommand (with_subcommand some_command serial_command.top) sim_command.top
+program = with_subcommand (with_subcommand (with_subcommand some_command serial_command.top) sim_command.top) random_command.top
 
 -- the word for an argument of the command; - where there is none
 abbrev pub word_of : Text → Option (List Row) → Text
@@ -36,13 +49,20 @@ arguments_of words = option_map (λ p. p.1) (subcommand_of program words)
 abbrev pub command_of : List Text → Text
 command_of words = unwrap_or (option_map (λ p. p.0) (subcommand_of program words)) (codes "serial")
 
+-- the number that a text says, where it says one below 2^64: digits, after a + or none
+abbrev pub IsNumber : Text → ℕ → Type 0
+IsNumber text n = IsNumeral 10 (without_leading_plus text) → digits_value 10 (without_leading_plus text) < 2 ^ 64 → n ≡ digits_value 10 (without_leading_plus text)
+
 -- a command of this name, with these arguments, asks for this
 abbrev pub Requests : Text → Option (List Row) → Request → Type 0
 Requests name rows (Serial plan sessions) =
-    (bytes_eq name (codes "sim") ≡ false) × (plan.now ≡ word_of (codes "PLAN") rows) × (sessions.now ≡ word_of (codes "SESSIONS") rows)
+    (bytes_eq name (codes "sim") ≡ false) × (bytes_eq name (codes "random") ≡ false) × (plan.now ≡ word_of (codes "PLAN") rows) × (sessions.now ≡ word_of (codes "SESSIONS") rows)
 Requests name rows (Sim plan sessions script) =
     (bytes_eq name (codes "sim") ≡ true) × (plan.now ≡ word_of (codes "PLAN") rows) × (sessions.now ≡ word_of (codes "SESSIONS") rows)
     × (script.now ≡ word_of (codes "SCRIPT") rows)
+Requests name rows (Random plan sessions schedule) =
+    (bytes_eq name (codes "random") ≡ true) × (plan.now ≡ word_of (codes "PLAN") rows) × (sessions.now ≡ word_of (codes "SESSIONS") rows)
+    × IsNumber (word_of (codes "seed") rows) schedule.seed × IsNumber (word_of (codes "loss") rows) schedule.loss × IsNumber (word_of (codes "steps") rows) schedule.steps
 
 -- the words ask for this
 abbrev pub Asks : List Text → Request → Type 0

@@ -7,3 +7,4 @@ pub mod Status
 pub mod Serial
 pub mod CommandLine
 pub mod Simulation
+pub mod Random

@@ -1,12 +1,14 @@
 //! The words of a command line.
 
-ghost use Rattle.std.specs.Prelude.{◌≡◌, IfOk, Some, false, map};
+ghost use Rattle.std.specs.Prelude.{◌≡◌, IfOk, Some, codes, false, map};
 ghost use Rattle.std.specs.String.{string_bytes};
 ghost use Rattle.clap.specs.Words.{FailsBy, app_of, fault_of, found_of, rows_of, rule_of, with_subcommand};
-ghost use Rattle.drink_commands.specs.CommandLine.{Asks, Requests, program, required, serial_command, sim_command, word_of};
+ghost use Rattle.drink_commands.specs.CommandLine.{Asks, IsNumber, Requests, numbered, program, random_command, required, serial_command, sim_command, word_of};
 
+use clap::builder::ValueParser;
 use clap::error::ErrorKind;
 use clap::{Arg, ArgMatches, Command, Error};
+use random_runs::Schedule;
 use std::alloc::{AllocError, Global};
 
 /// What a command line asks for.
@@ -22,6 +24,12 @@ pub enum Request<'a> {
         plan: &'a str,
         sessions: &'a str,
         script: &'a str,
+    },
+    /// A run on the world of a plan, of events that are drawn.
+    Random {
+        plan: &'a str,
+        sessions: &'a str,
+        schedule: Schedule,
     },
 }
 
@@ -67,7 +75,37 @@ fn requested<'a>(name: &str, found: &ArgMatches<'a>) -> Request<'a>
             script: word(found, "SCRIPT"),
         };
     }
+    if name == "random" {
+        return Request::Random {
+            plan,
+            sessions,
+            schedule: schedule(found),
+        };
+    }
     Request::Serial { plan, sessions }
+}
+
+/// What a run is drawn from.
+fn schedule(found: &ArgMatches<'_>) -> Schedule
+    ensures seed { IsNumber (word_of (codes "seed") (Some (rows_of (found_of found.now)))) result.seed }
+    ensures loss { IsNumber (word_of (codes "loss") (Some (rows_of (found_of found.now)))) result.loss }
+    ensures steps { IsNumber (word_of (codes "steps") (Some (rows_of (found_of found.now)))) result.steps }
+{
+    Schedule {
+        seed: number(found, "seed"),
+        loss: number(found, "loss"),
+        steps: number(found, "steps"),
+    }
+}
+
+/// The number that a word says. Its range was looked at when the words were read.
+fn number(matches: &ArgMatches<'_>, id: &str) -> u64
+    ensures { IsNumber (word_of id.now (Some (rows_of (found_of matches.now)))) result }
+{
+    match word(matches, id).parse::<u64>() {
+        Ok(number) => number,
+        Err(_) => 0,
+    }
 }
 
 fn word<'a>(matches: &ArgMatches<'a>, id: &str) -> &'a str
@@ -85,7 +123,8 @@ fn program<'a>(alloc: Global) -> Result<Command<'a>, AllocError>
         .version(VERSION)
         .subcommand_required(true);
     let program = with_serial(alloc, program)?;
-    Ok(with_sim(alloc, program)?)
+    let program = with_sim(alloc, program)?;
+    Ok(with_random(alloc, program)?)
 }
 
 fn with_serial<'a>(alloc: Global, program: Command<'a>) -> Result<Command<'a>, AllocError>
@@ -120,6 +159,28 @@ fn with_sim<'a>(alloc: Global, program: Command<'a>) -> Result<Command<'a>, Allo
     Ok(program)
 }
 
+fn with_random<'a>(alloc: Global, program: Command<'a>) -> Result<Command<'a>, AllocError>
+    ensures { IfOk result (λ c. app_of c ≡ with_subcommand (app_of program.entry) random_command.top) }
+{
+    let plan = required(alloc, "PLAN", PLAN);
+    let sessions = required(alloc, "SESSIONS", SESSIONS);
+    let seed = numbered(alloc, "seed", SEED, 0, u64::MAX);
+    let loss = numbered(alloc, "loss", LOSS, 0, MOST_LOSS);
+    let steps = numbered(alloc, "steps", STEPS, 1, MOST_STEPS);
+    let random = Command::new(alloc, "random")
+        .about(
+            "Runs the sessions on the offices of a plan as it is drawn, and prints what they did",
+        )
+        .after_help(INPUTS)
+        .arg(plan)?
+        .arg(sessions)?
+        .arg(seed)?
+        .arg(loss)?
+        .arg(steps)?;
+    let program = program.subcommand(random)?;
+    Ok(program)
+}
+
 /// A word that has to be there.
 fn required<'a>(alloc: Global, id: &'a str, help: &'a str) -> Arg<'a>
     ensures rule { rule_of result ≡ required id.now }
@@ -128,13 +189,38 @@ fn required<'a>(alloc: Global, id: &'a str, help: &'a str) -> Arg<'a>
     Arg::new(alloc, id).help(help).required(true)
 }
 
+/// A number in a range, after its name, that has to be there.
+fn numbered<'a>(alloc: Global, id: &'a str, help: &'a str, low: u64, high: u64) -> Arg<'a>
+    ensures rule { rule_of result ≡ numbered id.now low high }
+    ensures no_global { result.global ≡ false }
+{
+    Arg::new(alloc, id)
+        .help(help)
+        .required(true)
+        .long(id)
+        .value_name("N")
+        .value_parser(ValueParser::unsigned(low, high))
+}
+
 const VERSION: &str = "0.1";
+
+/// The most deliveries of a hundred that may be lost.
+const MOST_LOSS: u64 = 100;
+
+/// The most steps of a run.
+const MOST_STEPS: u64 = 1_000_000;
 
 const PLAN: &str = "The file of the plan, or - for the standard input";
 
 const SESSIONS: &str = "The file of the sessions, or - for the standard input";
 
 const SCRIPT: &str = "The file of the script, or - for the standard input";
+
+const SEED: &str = "The seed, 0 to 18446744073709551615: one seed gives one run";
+
+const LOSS: &str = "Of a hundred deliveries that are drawn, how many are lost: 0 to 100";
+
+const STEPS: &str = "How many steps there are: 1 to 1000000";
 
 /// What stands below the help of a command.
 const INPUTS: &str =

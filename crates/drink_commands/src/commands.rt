@@ -8,6 +8,7 @@ use crate::fault::Fault;
 use input_texts::failure_kind;
 use std::io::Write;
 
+pub mod random;
 pub mod serial;
 pub mod sim;
 

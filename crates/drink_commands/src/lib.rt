@@ -5,13 +5,16 @@
 //!   faults say what the texts are (clause `judged`).
 //! - [`commands::sim::run`] is `drink sim`. It writes the transcript of the run of a script (clause `simulates`), and nothing
 //!   where an input is refused; its faults say what the texts are, in the order of the words (clause `judged`).
+//! - [`commands::random::run`] is `drink random`. It writes the report of a run of the sessions that is drawn (clause `tells`),
+//!   and nothing where an input is refused (clauses `judged` and `unwritten`).
 //! - [`command_line::command_line`] reads the words of a command line as `clap` defines them
 //!   (clauses `request` and `faults`).
 //! - [`program::perform`] carries a request out, from the texts that its words stand for (clause `done`); [`program::answer`]
 //!   does what the words of a command line ask for, with status 0 only where that was done (clause `done`), and [`run`]
 //!   hands it the files, the standard input and the output that the program was started with.
 //!
-//! What is printed, and which events a script means, is in the crate `script_runs`, what a fault says of the texts in
+//! What is printed, and which events a script means, is in the crates `run_reports` and `script_runs`, which runs may be drawn in
+//! `random_runs`, what a fault says of the texts in
 //! `specs/Texts.antt`, and which texts words stand for in the crate `input_texts`. Which bytes a file, the standard input or a
 //! terminal gives or takes is outside what is proved.
 #![tactic(auto)]

@@ -9,7 +9,7 @@ ghost use Rattle.drink_commands.specs.Texts.{IsJudged};
 
 use crate::command_line::{Request, command_line, help};
 use crate::commands;
-use crate::commands::{serial, sim};
+use crate::commands::{random, serial, sim};
 use crate::exit::{Exit, FAILED, MISUSED, Said};
 use crate::fault::Fault;
 use crate::input::Input;
@@ -93,6 +93,11 @@ pub fn perform<S: Sources, W: Write>(
             sessions,
             script,
         } => sim::run(alloc, sources, plan, sessions, script, out),
+        Request::Random {
+            plan,
+            sessions,
+            schedule,
+        } => random::run(alloc, sources, plan, sessions, schedule, out),
     }
 }
 
@@ -168,6 +173,11 @@ fn word_of<'a>(request: Request<'a>, input: Input) -> &'a str
             Input::Plan => plan,
             Input::Sessions => sessions,
             Input::Script => script,
+        },
+        Request::Random { plan, sessions, .. } => match input {
+            Input::Plan => plan,
+            Input::Sessions => sessions,
+            Input::Script => "",
         },
     }
 }

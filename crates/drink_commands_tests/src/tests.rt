@@ -12,6 +12,7 @@ use std::test::Fail;
 
 mod devices;
 mod exits;
+mod random;
 mod scripts;
 mod shell;
 mod words;

@@ -1,7 +1,12 @@
--- Rows for each number below another.
-use Rattle.std.proofs.Common.{◌≡◌, ◌+◌, ℕ, zero, suc, List, ◌++◌, sym, ap, ◌∙◌, append_assoc, arith}
+-- Rows for each number below another, and parts that are added.
+use Rattle.std.proofs.Common.{◌≡◌, ◌+◌, ℕ, zero, suc, List, [], ◌∷◌, ◌++◌, take, Some, sym, ap, ◌∙◌, append_assoc, arith}
+use Rattle.std.specs.Prelude.{slice_get}
 use Rattle.std.specs.List.{flat_map, range_with_len}
-use Rattle.std.proofs.lemmas.List.{append-nil}
+use Rattle.std.proofs.lemmas.List.{append-nil, take_more}
+use Rattle.std.proofs.lemmas.List.Concat.{flat_map-append}
+use Rattle.std.proofs.lemmas.Option.{slice_get_within, get_or_from_slice_get}
+use Rattle.session_meaning.specs.declared.ending.End.TheVariants.{Done}
+use Rattle.session_meaning.specs.declared.ending.Outcome.{Outcome}
 
 last : (f : ℕ → List ℕ) (a n j : ℕ) → a + n ≡ j → flat_map f (range_with_len a (suc n)) ≡ flat_map f (range_with_len a n) ++ f j
 last f a zero j e = let here : a ≡ j = omega (arith, e) in append-nil (f a) ∙ ap f here
@@ -9,3 +14,19 @@ last f a (suc n) j e = ap (λ rows. f a ++ rows) (last f (a + 1) n j (omega (ari
 
 pub rows_more : (f : ℕ → List ℕ) (n : ℕ) → flat_map f (range_with_len 0 (n + 1)) ≡ flat_map f (range_with_len 0 n) ++ f n
 rows_more f n = let more : n + 1 ≡ suc n = omega arith in ap (λ k. flat_map f (range_with_len 0 k)) more ∙ last f 0 n n (omega arith)
+
+-- three parts, added one after the other
+pub three_added : (old a b c first second third : List ℕ) → first ≡ old ++ a → second ≡ first ++ b → third ≡ second ++ c → third ≡ old ++ (a ++ (b ++ c))
+three_added old a b c first second third e f g =
+    let two : second ≡ old ++ (a ++ b) = f ∙ ap (λ t. t ++ b) e ∙ append_assoc old a b in
+    g ∙ ap (λ t. t ++ c) two ∙ append_assoc old (a ++ b) c ∙ ap (λ t. old ++ t) (append_assoc a b c)
+
+-- one line more
+pub line_more : (f : Outcome → List ℕ) (xs : List Outcome) (i : ℕ) (x : Outcome) (old new : List ℕ) → slice_get xs i ≡ Some x → new ≡ old ++ f x → (start : List ℕ) → old ≡ start ++ flat_map f (take i xs) → new ≡ start ++ flat_map f (take (i + 1) xs)
+line_more f xs i x old new e next start so_far =
+    let more : take (i + 1) xs ≡ take i xs ++ x ∷ [] = take_more xs i x (slice_get_within xs i x e) ∙ ap (λ y. take i xs ++ y ∷ []) (get_or_from_slice_get xs i x x e) in
+    let rows : flat_map f (take (i + 1) xs) ≡ flat_map f (take i xs) ++ f x = ap (flat_map f) more ∙ flat_map-append f (take i xs) (x ∷ []) ∙ ap (λ l. flat_map f (take i xs) ++ l) (append-nil (f x)) in
+    next ∙ ap (λ l. l ++ f x) so_far ∙ append_assoc start (flat_map f (take i xs)) (f x) ∙ ap (λ l. start ++ l) (sym rows)
+
+abbrev pub no_outcome : Outcome
+no_outcome = record { office = 0; ticket = 0; ending = record { end = Done; reads = []; writes = []; gives = [] } }

@@ -1,4 +1,3 @@
-pub mod Rows
 mod Scripts
 mod ScriptLines
 mod Steps

@@ -1,15 +1,12 @@
 -- A run that is one step longer, and a rule more of an office.
-use Rattle.std.proofs.Common.{◌≡◌, ℕ, zero, suc, ◌+◌, ◌-◌, ◌<◌, ◌≤◌, Bool, true, false, cond, List, [], ◌∷◌, ◌++◌, length, take, get_or, Option, None, Some, Result, Ok, Err, refl, sym, ap, ap₂, ◌∙◌, inl, inr, ⊎_elim, arith, append_assoc, append-nil}
+use Rattle.std.proofs.Common.{◌≡◌, ℕ, zero, suc, ◌+◌, ◌-◌, ◌<◌, ◌≤◌, Bool, true, false, cond, List, [], ◌∷◌, ◌++◌, length, take, get_or, Option, None, Some, Result, Ok, Err, refl, sym, ap, ap₂, ◌∙◌, inl, inr, ⊎_elim, arith}
 use Rattle.std.specs.Prelude.{nat_lt, slice_get}
 use Rattle.std.specs.List.{flat_map}
 use Rattle.std.proofs.lemmas.Bool.Decides.{nat_tests}
 use Rattle.std.proofs.lemmas.List.{take_more}
-use Rattle.std.proofs.lemmas.Option.{slice_get_within, get_or_from_slice_get}
 use Rattle.std.proofs.lemmas.List.Concat.{flat_map-append}
 use Rattle.std.proofs.lemmas.List.Elements.{filter_map-append}
 use Rattle.frame_codec.specs.Frame.{Fields}
-use Rattle.session_meaning.specs.declared.ending.Outcome.{Outcome}
-use Rattle.session_meaning.specs.declared.ending.End.TheVariants.{Done}
 use Rattle.session_meaning.specs.ProgramValue.{ProgramValue}
 use Rattle.site_core.specs.declared.event.Event as office
 use Rattle.site_core.specs.declared.event.Event.TheVariants as site_event
@@ -168,15 +165,3 @@ is_done w v v' a done n r x res plan same lt next is h = ⊎_elim
       same = same ∙ rule_done v v' a done n r x lt next (sym is ∙ k.0) k.1;
     })
     h
-
--- ---- the sessions of a report
-
--- one line more
-pub line_more : (f : Outcome → List ℕ) (xs : List Outcome) (i : ℕ) (x : Outcome) (old new : List ℕ) → slice_get xs i ≡ Some x → new ≡ old ++ f x → (start : List ℕ) → old ≡ start ++ flat_map f (take i xs) → new ≡ start ++ flat_map f (take (i + 1) xs)
-line_more f xs i x old new e next start so_far =
-    let more : take (i + 1) xs ≡ take i xs ++ x ∷ [] = take_more xs i x (slice_get_within xs i x e) ∙ ap (λ y. take i xs ++ y ∷ []) (get_or_from_slice_get xs i x x e) in
-    let rows : flat_map f (take (i + 1) xs) ≡ flat_map f (take i xs) ++ f x = ap (flat_map f) more ∙ flat_map-append f (take i xs) (x ∷ []) ∙ ap (λ l. flat_map f (take i xs) ++ l) (append-nil (f x)) in
-    next ∙ ap (λ l. l ++ f x) so_far ∙ append_assoc start (flat_map f (take i xs)) (f x) ∙ ap (λ l. start ++ l) (sym rows)
-
-abbrev pub no_outcome : Outcome
-no_outcome = record { office = 0; ticket = 0; ending = record { end = Done; reads = []; writes = []; gives = [] } }

@@ -1,10 +1,8 @@
 -- What a simulation prints.
-use Rattle.std.specs.Prelude.{◌≡◌, ◌<◌, ℕ, List, [], ◌∷◌, ◌++◌, length, codes, get_or, Result, Ok, Err}
+use Rattle.std.specs.Prelude.{◌≡◌, ◌<◌, ℕ, List, [], ◌∷◌, ◌++◌, length, codes, Result, Ok, Err}
 use Rattle.std.specs.List.{flat_map}
 use Rattle.std.specs.Fmt.{decimal}
 use Rattle.hex.specs.Hex.{encode_lower}
-use Rattle.bottle_values.specs.declared.Value.{Value}
-use Rattle.bottle_values.specs.Arithmetic.{nought}
 use Rattle.frame_codec.specs.declared.fault.FrameFault.{FrameFault}
 use Rattle.frame_codec.specs.declared.fault.FrameFault.TheVariants as frames
 use Rattle.frame_codec.specs.Version01.{spelling}
@@ -21,12 +19,11 @@ use Rattle.serial_replay.specs.Serial.{start_map, map_of, outcomes_of}
 use Rattle.frame_world.specs.declared.refusal.WorldRefusal.{WorldRefusal}
 use Rattle.frame_world.specs.declared.refusal.WorldRefusal.TheVariants as refusal
 use Rattle.frame_world.specs.Worlds.{World, opening}
-use Rattle.frame_world.specs.Ways.{bottles_of}
 use Rattle.frame_world.specs.Headline.{programs, outcomes}
 use Rattle.world_schedule.specs.Readers.{unfinished_in}
 use Rattle.script_runs.specs.declared.said.Said.{Said}
 use Rattle.script_runs.specs.declared.said.Said.TheVariants.{Replied, Rules}
-use Rattle.run_reports.specs.Report.{outcome_line, value_lines}
+use Rattle.run_reports.specs.WorldReport.{bottle_value, world_report}
 use Rattle.script_runs.specs.Script.{Act}
 use Rattle.script_runs.specs.Runs.{Told, run_of, all_told}
 
@@ -89,23 +86,15 @@ said_line k said = said_text k said ++ 10 ∷ []
 abbrev pub told_line : Told → List ℕ
 told_line t = said_line (length t.1.frames) t.0
 
--- ---- the report
+-- ---- the whole
 
--- unfinished N
-abbrev pub unfinished_line : ℕ → List ℕ
-unfinished_line n = codes "unfinished " ++ (decimal n ++ 10 ∷ [])
-
--- the value of a record: that of its bottle
-abbrev pub bottle_value : World → ℕ → Value
-bottle_value w r = get_or (bottles_of w r) 0 nought
-
--- the finished sessions in finishing order, how many submitted ones haven't finished, and the values of the bottles
-abbrev pub world_report : World → List ℕ
-world_report w = flat_map (outcome_line w.plan) (outcomes w) ++ (unfinished_line (unfinished_in w) ++ value_lines w.plan (bottle_value w))
+-- the report of a world, with how many submitted sessions haven't finished
+abbrev pub told_report : World → List ℕ
+told_report w = world_report w (unfinished_in w)
 
 -- a line for each act of the run from the plan's opening, and then the report of the world that it leads to
 abbrev pub transcript : PlanValue → List Act → List ℕ
-transcript p acts = flat_map told_line (all_told (opening p) acts) ++ world_report (run_of (opening p) acts)
+transcript p acts = flat_map told_line (all_told (opening p) acts) ++ told_report (run_of (opening p) acts)
 
 -- what the report tells of the finished sessions and of the values is what these sessions do when they run alone, one
 -- after another, in the order in which it tells them

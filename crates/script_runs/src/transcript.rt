@@ -1,19 +1,16 @@
 //! What a simulation prints.
 
-ghost use Rattle.std.specs.Prelude.{◌≡◌, ◌++◌, ◌∷◌, [], Some, slice_get, IfOk, OnOk};
-ghost use Rattle.session_meaning.specs.declared.ending.Outcome.{Outcome};
+ghost use Rattle.std.specs.Prelude.{◌≡◌, ◌++◌, ◌∷◌, [], IfOk, OnOk};
 ghost use Rattle.std.specs.List.{flat_map};
 ghost use Rattle.std.specs.String.{string_bytes};
 ghost use Rattle.hex.specs.Hex.{encode_lower};
 ghost use Rattle.frame_codec.specs.Version01.{spelling};
 ghost use Rattle.site_core.specs.declared.reply.Reply.TheVariants as replies;
 ghost use Rattle.frame_world.specs.Worlds.{opening};
-ghost use Rattle.frame_world.specs.Headline.{outcomes};
-ghost use Rattle.run_reports.specs.Report.{outcome_line, value_lines};
 ghost use Rattle.script_runs.specs.Script.{act_with, acts_with};
 ghost use Rattle.script_runs.specs.Runs.{as_said, run_of, all_told, does};
 ghost use Rattle.script_runs.specs.Script as scripts;
-ghost use Rattle.script_runs.specs.Transcript.{bottle_value, told_line, said_line, reply_text, refusal_text, office_refusal_text, frame_fault_text, channel_fault_text, link_fault_text, transcript, unfinished_line, world_report, IsSerialRun};
+ghost use Rattle.script_runs.specs.Transcript.{told_line, said_line, reply_text, refusal_text, office_refusal_text, frame_fault_text, channel_fault_text, link_fault_text, transcript, IsSerialRun};
 ghost use Rattle.script_runs.specs.refinement.Steps.{Answers, Says};
 
 use crate::event::ScriptEvent;
@@ -21,8 +18,8 @@ use crate::said::Said;
 use crate::script::nth;
 use frame_codec::{Frame, FrameFault, MAX_LENGTH, encode};
 use frame_world::WorldRefusal;
-use office_map::{OfficeId, Plan, RecordId};
-use run_reports::report::{add_outcome, add_value};
+use office_map::{OfficeId, Plan};
+use run_reports::world::add_world;
 use session_language::Program;
 use site_core::Reply;
 use std::alloc::{AllocError, Global};
@@ -47,7 +44,7 @@ pub fn transcript(
     for event in events {
         add_event(alloc, &mut text, &mut world, programs, *event)?;
     }
-    add_world(&mut text, &world)?;
+    add_world(&mut text, &world, world.unfinished())?;
     is_serial(&world);
     Ok(text)
 }
@@ -237,49 +234,4 @@ fn channel_fault_text(fault: ChannelFault) -> &'static str
         ChannelFault::Link(LinkFault::Worn) => "L3 Worn",
         ChannelFault::Breach => "C1 Breach",
     }
-}
-
-fn add_world(text: &mut String, world: &World) -> Result<(), AllocError>
-    ensures { OnOk result (string_bytes text.new ≡ string_bytes text.old ++ world_report world.now) }
-{
-    add_finished(text, world)?;
-    add_unfinished(text, world.unfinished())?;
-    add_bottles(text, world)?;
-    Ok(())
-}
-
-fn add_finished(text: &mut String, world: &World) -> Result<(), AllocError>
-    ensures { OnOk result (string_bytes text.new ≡ string_bytes text.old ++ flat_map (outcome_line world.now.plan) (outcomes world.now)) }
-{
-    for i in 0..world.finished().len() {
-        add_nth(text, world, i)?;
-    }
-    Ok(())
-}
-
-/// The line of the session that finished as the `i`-th, from 0.
-fn add_nth(text: &mut String, world: &World, i: usize) -> Result<(), AllocError>
-    ensures { OnOk result ((o : Outcome) → slice_get (outcomes world.now) i ≡ Some o → string_bytes text.new ≡ string_bytes text.old ++ outcome_line world.now.plan o) }
-{
-    match world.outcome(i) {
-        Some(outcome) => add_outcome(text, world.plan(), outcome),
-        None => Ok(()),
-    }
-}
-
-fn add_unfinished(text: &mut String, count: usize) -> Result<(), AllocError>
-    ensures { OnOk result (string_bytes text.new ≡ string_bytes text.old ++ unfinished_line count) }
-{
-    writeln!(text, "unfinished {count}")
-}
-
-fn add_bottles(text: &mut String, world: &World) -> Result<(), AllocError>
-    ensures { OnOk result (string_bytes text.new ≡ string_bytes text.old ++ value_lines world.now.plan (bottle_value world.now)) }
-{
-    let plan = world.plan();
-    for i in 0..plan.records() {
-        let id = RecordId::new(i as u16);
-        add_value(text, plan, id, world.value_of(id))?;
-    }
-    Ok(())
 }

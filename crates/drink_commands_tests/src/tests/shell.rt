@@ -8,6 +8,8 @@ const SCRIPT: &str = "submit 1\n";
 
 const SUBMITTED: &str = "ticket 1\nunfinished 1\nvalue x 100\nvalue y 0\n";
 
+const UNMOVED: &str = "unfinished 1\nvalue x 100\nvalue y 0\n";
+
 /// That the program answers these words so: the exit status, what it prints, and what it says on the standard error.
 fn says(
     rt: &(impl Abort + AllocGlobal),
@@ -29,7 +31,7 @@ fn says(
 
 #[test]
 fn reads_what_the_words_name(rt: HostRuntime) -> Result<(), Fail> {
-    let rows: [(&[&str], &str, &str); 9] = [
+    let rows: [(&[&str], &str, &str); 11] = [
         (&["drink", "serial", "p", "s"], "", MOVED),
         (&["drink", "serial", "-", "s"], PLAN, MOVED),
         (&["drink", "serial", "p", "-"], MOVE, MOVED),
@@ -39,6 +41,20 @@ fn reads_what_the_words_name(rt: HostRuntime) -> Result<(), Fail> {
         (&["drink", "sim", "p", "s", "-"], SCRIPT, SUBMITTED),
         (&["drink", "serial", "p", "s"], "---\n---\n", MOVED),
         (&["drink", "serial", "--", "p", "s"], "", MOVED),
+        (
+            &[
+                "drink", "random", "p", "s", "--seed", "3", "--loss", "100", "--steps", "500",
+            ],
+            "",
+            UNMOVED,
+        ),
+        (
+            &[
+                "drink", "random", "-", "s", "--seed", "3", "--loss", "100", "--steps", "500",
+            ],
+            PLAN,
+            UNMOVED,
+        ),
     ];
     for (words, standard, printed) in rows {
         let mut memory = Memory::new(PLAN, MOVE, SCRIPT);

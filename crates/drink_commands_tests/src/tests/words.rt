@@ -1,5 +1,7 @@
 use drink_commands::command_line::{Request, command_line};
+use random_runs::Schedule;
 use std::alloc::{AllocError, Global};
+use std::process::Abort;
 use std::test::Fail;
 
 pub fn strings(alloc: Global, words: &[&str]) -> Result<Vec<String>, AllocError> {
@@ -45,9 +47,142 @@ fn reads_the_words_of_sim(rt: HostRuntime) -> Result<(), Fail> {
     Ok(())
 }
 
+/// The numbers of `random`, in any order, to the ends of their ranges.
+#[test]
+fn reads_the_words_of_random(rt: HostRuntime) -> Result<(), Fail> {
+    let rows: [(&[&str], u64, u64, u64); 4] = [
+        (
+            &[
+                "drink", "random", "p", "s", "--seed", "7", "--loss", "30", "--steps", "1000",
+            ],
+            7,
+            30,
+            1_000,
+        ),
+        (
+            &[
+                "drink",
+                "random",
+                "--steps=1",
+                "--loss=0",
+                "--seed=0",
+                "p",
+                "s",
+            ],
+            0,
+            0,
+            1,
+        ),
+        (
+            &[
+                "drink",
+                "random",
+                "p",
+                "--seed",
+                "18446744073709551615",
+                "s",
+                "--loss",
+                "100",
+                "--steps",
+                "1000000",
+            ],
+            18_446_744_073_709_551_615,
+            100,
+            1_000_000,
+        ),
+        (
+            &[
+                "drink", "random", "p", "s", "--seed", "+007", "--loss", "00", "--steps", "01",
+            ],
+            7,
+            0,
+            1,
+        ),
+    ];
+    for (words, seed, loss, steps) in rows {
+        let words = strings(rt.alloc(), words)?;
+        let request = command_line(rt.alloc(), words.as_slice())?;
+        let schedule = Schedule { seed, loss, steps };
+        let expected = Request::Random {
+            plan: "p",
+            sessions: "s",
+            schedule,
+        };
+        assert_eq!(rt; request, expected);
+    }
+    Ok(())
+}
+
+/// Numbers out of their range, or none at all, and options that are missing, twice or not known.
+#[test]
+fn other_numbers_are_a_fault(rt: HostRuntime) -> Result<(), Fail> {
+    let rows: [(&str, &str, &str); 12] = [
+        ("18446744073709551616", "0", "1"),
+        ("-1", "0", "1"),
+        ("", "0", "1"),
+        ("x", "0", "1"),
+        ("0x7", "0", "1"),
+        ("1.0", "0", "1"),
+        ("1", "101", "1"),
+        ("1", "-0", "1"),
+        ("1", "0%", "1"),
+        ("1", "0", "0"),
+        ("1", "0", "1000001"),
+        ("1", "0", "99999999999999999999"),
+    ];
+    for (seed, loss, steps) in rows {
+        is_fault(
+            &rt,
+            &[
+                "drink", "random", "p", "s", "--seed", seed, "--loss", loss, "--steps", steps,
+            ],
+        )?;
+    }
+    is_fault(&rt, &["drink", "random", "p", "s"])?;
+    is_fault(
+        &rt,
+        &["drink", "random", "p", "s", "--seed", "1", "--loss", "0"],
+    )?;
+    is_fault(
+        &rt,
+        &[
+            "drink", "random", "p", "--seed", "1", "--loss", "0", "--steps", "1",
+        ],
+    )?;
+    is_fault(
+        &rt,
+        &[
+            "drink", "random", "p", "s", "t", "--seed", "1", "--loss", "0", "--steps", "1",
+        ],
+    )?;
+    is_fault(
+        &rt,
+        &[
+            "drink", "random", "p", "s", "--seed", "1", "--seed", "1", "--loss", "0", "--steps",
+            "1",
+        ],
+    )?;
+    is_fault(
+        &rt,
+        &[
+            "drink", "random", "p", "s", "--seed", "1", "--loss", "0", "--steps", "1", "--fast",
+            "1",
+        ],
+    )
+}
+
+fn is_fault(rt: &(impl Abort + AllocGlobal), words: &[&str]) -> Result<(), Fail> {
+    let words = strings(rt.alloc(), words)?;
+    let Err(error) = command_line(rt.alloc(), words.as_slice()) else {
+        return Err(Fail::from("accepted"));
+    };
+    assert_eq!(rt; error.exit_code(), 2);
+    Ok(())
+}
+
 #[test]
 fn other_words_are_a_fault(rt: HostRuntime) -> Result<(), Fail> {
-    let rows: [(&[&str], i32); 11] = [
+    let rows: [(&[&str], i32); 12] = [
         (&["drink"], 2),
         (&["drink", "sim", "p", "s"], 2),
         (&["drink", "sim", "p", "s", "c", "d"], 2),
@@ -59,6 +194,7 @@ fn other_words_are_a_fault(rt: HostRuntime) -> Result<(), Fail> {
         (&["drink", "--help"], 0),
         (&["drink", "serial", "--help"], 0),
         (&["drink", "sim", "--help"], 0),
+        (&["drink", "random", "--help"], 0),
     ];
     for (words, status) in rows {
         let words = strings(rt.alloc(), words)?;

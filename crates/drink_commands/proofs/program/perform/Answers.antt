@@ -13,3 +13,10 @@ returns-in-Sim g c = record {
   status = c.run-in-Sim.ensures.status;
   judged = rw c.in-Sim.is c.run-in-Sim.ensures.judged;
 }
+
+pub returns-in-Random : goal.returns-in-Random
+returns-in-Random g c = record {
+  done = rw c.in-Random.is c.run-in-Random.ensures.tells;
+  status = c.run-in-Random.ensures.status;
+  judged = rw c.in-Random.is c.run-in-Random.ensures.judged;
+}

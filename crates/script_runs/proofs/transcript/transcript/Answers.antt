@@ -1,9 +1,10 @@
 use Rattle.std.proofs.Common.{◌≡◌, ℕ, ◌++◌, ◌∷◌, [], get_or, take, take_all, ap, ap₂, subst, ◌∙◌}
 use Rattle.std.specs.String.{string_bytes}
 use Rattle.frame_world.specs.Worlds.{opening}
+use Rattle.run_reports.specs.WorldReport.{world_report}
 use Rattle.script_runs.specs.Script.{acts_with}
 use Rattle.script_runs.specs.Runs.{run_of}
-use Rattle.script_runs.specs.Transcript.{world_report, IsSerialRun}
+use Rattle.script_runs.specs.Transcript.{told_report, IsSerialRun}
 use Rattle.script_runs.proofs.Steps.{lines_of, run_longer, lines_longer}
 use Rattle.script_runs.proofs.transcript.transcript.Goals as goal
 
@@ -32,7 +33,8 @@ returns-clause-text c =
     let k = c.loop-event.invariant in
     let all : take c.loop-event.event-index c.args.events.now ≡ c.args.events.now = take_all c.loop-event.event-index c.args.events.now c.loop-event-test.false in
     c.in_ok-add_world.ensures
-    ∙ ap₂ (λ l w. l ++ world_report w) (k.lines ∙ ap (λ es. lines_of (opening p) (acts_with ps es)) all) (k.world ∙ ap (λ es. run_of (opening p) (acts_with ps es)) all)
+    ∙ ap (λ n. string_bytes c.loop-event.text ++ world_report c.loop-event.world n) c.unfinished.ensures
+    ∙ ap₂ (λ l w. l ++ told_report w) (k.lines ∙ ap (λ es. lines_of (opening p) (acts_with ps es)) all) (k.world ∙ ap (λ es. run_of (opening p) (acts_with ps es)) all)
 
 pub returns-clause-serial : goal.returns-clause-serial
 returns-clause-serial c =

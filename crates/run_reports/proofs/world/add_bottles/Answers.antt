@@ -2,9 +2,9 @@ use Rattle.std.proofs.Common.{◌≡◌, ◌++◌, ℕ, List, sym, ap, ap₂, �
 use Rattle.std.specs.String.{string_bytes}
 use Rattle.bottle_values.specs.Arithmetic.{nought}
 use Rattle.run_reports.specs.Report.{value_line}
-use Rattle.script_runs.specs.Transcript.{bottle_value}
+use Rattle.run_reports.specs.WorldReport.{bottle_value}
 use Rattle.run_reports.proofs.Rows.{rows_more}
-use Rattle.script_runs.proofs.transcript.add_bottles.Goals as goal
+use Rattle.run_reports.proofs.world.add_bottles.Goals as goal
 
 pub loop-i-preserved : goal.loop-i-preserved
 loop-i-preserved c =

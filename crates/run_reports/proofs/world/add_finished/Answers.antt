@@ -7,8 +7,8 @@ use Rattle.frame_world.specs.Worlds.{Finished}
 use Rattle.frame_world.specs.Headline.{outcomes}
 use Rattle.world_schedule.specs.Readers.{listed_as}
 use Rattle.run_reports.specs.Report.{outcome_line}
-use Rattle.script_runs.proofs.Steps.{line_more, no_outcome}
-use Rattle.script_runs.proofs.transcript.add_finished.Goals as goal
+use Rattle.run_reports.proofs.Rows.{line_more, no_outcome}
+use Rattle.run_reports.proofs.world.add_finished.Goals as goal
 
 pub loop-i-preserved : goal.loop-i-preserved
 loop-i-preserved c =

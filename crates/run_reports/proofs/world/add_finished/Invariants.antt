@@ -3,7 +3,7 @@ use Rattle.std.specs.List.{flat_map}
 use Rattle.std.specs.String.{string_bytes}
 use Rattle.frame_world.specs.Headline.{outcomes}
 use Rattle.run_reports.specs.Report.{outcome_line}
-use Rattle.script_runs.proofs.transcript.add_finished.Given as goal
+use Rattle.run_reports.proofs.world.add_finished.Given as goal
 
 abbrev pub invariant-loop-i : goal.invariant-loop-i
 invariant-loop-i l = string_bytes l.text ≡ string_bytes l.initial.text ++ flat_map (outcome_line l.world.plan) (take l.i (outcomes l.world))

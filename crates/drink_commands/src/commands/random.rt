@@ -1,0 +1,45 @@
+//! The command `random`.
+
+ghost use Rattle.std.specs.Prelude.{◌≡◌, ◌⊎◌, [], ◌∷◌, IfErr, IfOk, List, OnOk, ℕ};
+ghost use Rattle.input_texts.specs.Words.{StandFor};
+ghost use Rattle.drink_commands.specs.Fault.{IsWriteFault};
+ghost use Rattle.drink_commands.specs.Random.{TellsRun};
+ghost use Rattle.drink_commands.specs.Texts.{IsJudged};
+
+use crate::commands::{DONE, write_whole};
+use crate::fault::Fault;
+use crate::input::Input;
+use crate::texts::{read_plan, read_programs};
+use input_texts::{Sources, StandardInput};
+use random_runs::Schedule;
+use random_runs::run::report;
+use std::alloc::Global;
+use std::io::Write;
+
+/// Runs the sessions on the world of a plan, as it is drawn, and writes what the finished sessions did, how many of the file's
+/// haven't finished, and the values. Each input is read and judged before the next one is read, and nothing is run or written
+/// before both are judged. The answer is the exit status.
+pub fn run<S: Sources, W: Write>(
+    alloc: Global,
+    sources: &S,
+    plan: &str,
+    sessions: &str,
+    schedule: Schedule,
+    out: &mut W,
+) -> Result<u8, Fault>
+    ensures tells { OnOk result ((plan_text sessions_text : List ℕ)
+        → StandFor (S.file_text sources.now) (S.standard_text sources.now) (plan.now ∷ sessions.now ∷ []) (plan_text ∷ sessions_text ∷ [])
+        → TellsRun plan_text sessions_text (W.contents out.old) (W.contents out.new)) }
+    ensures status { IfOk result (λ status. status ≡ 0) }
+
+    ensures judged { IfErr result (IsJudged (S.file_text sources.now) (S.standard_text sources.now) (plan.now ∷ sessions.now ∷ []) (Input.Plan ∷ Input.Sessions ∷ [])) }
+    ensures unwritten { IfErr result (λ f. IsWriteFault f ⊎ (out.new ≡ out.old)) }
+{
+    let words = [plan, sessions];
+    let mut standard = StandardInput::new(alloc, sources.standard(), &words);
+    let plan = read_plan(alloc, sources, &mut standard, plan)?;
+    let programs = read_programs(alloc, sources, &mut standard, sessions, &plan)?;
+    let text = report(alloc, &plan, &programs, schedule)?;
+    write_whole(out, &text)?;
+    Ok(DONE)
+}

@@ -1,0 +1,90 @@
+//! A random run, and what is printed of it.
+
+ghost use Rattle.std.specs.Prelude.{◌≡◌, IfOk, OnOk, length, map};
+ghost use Rattle.std.specs.String.{string_bytes};
+ghost use Rattle.random_runs.specs.Runs.{HasHeadline, IsRun, Leads, Tells};
+
+use crate::draws::Draws;
+use crate::schedule::Schedule;
+use crate::steps::step;
+use crate::submission::{all_of, submit_waiting};
+use office_map::Plan;
+use run_reports::world::add_world;
+use session_language::Program;
+use std::alloc::{AllocError, Global};
+use world_schedule::World;
+
+/// The report of the world to which a random run leads: the finished sessions in finishing order, how many of these haven't
+/// finished, and the records' values.
+pub fn report(
+    alloc: Global,
+    plan: &Plan,
+    programs: &[Program],
+    schedule: Schedule,
+) -> Result<String, AllocError>
+    ensures { IfOk result (λ text. Tells plan.now programs.now (string_bytes text)) }
+{
+    let world = run(alloc, plan, programs, schedule)?;
+    let unfinished = programs.len().saturating_sub(world.finished().len());
+    let mut text = String::new(alloc);
+    add_world(&mut text, &world, unfinished)?;
+    Ok(text)
+}
+
+/// The world to which a random run leads. Each session is submitted as soon as its office takes it. Where all have finished,
+/// the steps that are left would change nothing of what is told, and aren't done.
+pub fn run(
+    alloc: Global,
+    plan: &Plan,
+    programs: &[Program],
+    schedule: Schedule,
+) -> Result<World, AllocError>
+    ensures run { IfOk result (λ w. IsRun plan.now programs.now w) }
+    ensures headline { IfOk result (λ w. HasHeadline w) }
+{
+    let mut world = World::open(alloc, plan.copy(alloc)?)?;
+    let mut waiting = all_of(alloc, programs)?;
+    let mut draws = Draws::from_seed(schedule.seed);
+    submit_waiting(&mut world, &mut waiting)?;
+    for _ in 0..schedule.steps {
+        go_on(
+            &mut world,
+            &mut waiting,
+            &mut draws,
+            schedule.loss,
+            programs.len(),
+        )?;
+    }
+    has_headline(&world);
+    Ok(world)
+}
+
+/// One step, where fewer than all sessions have finished; and where one finishes by it, those that wait are submitted that an
+/// office takes now.
+fn go_on(
+    world: &mut World,
+    waiting: &mut Vec<&Program>,
+    draws: &mut Draws,
+    loss: u64,
+    all: usize,
+) -> Result<(), AllocError>
+    ensures { OnOk result (Leads world.old world.new (map (λ p. p.now) waiting.old.items) (map (λ p. p.now) waiting.new.items)) }
+{
+    let finished = world.finished().len();
+    if finished >= all {
+        return Ok(());
+    }
+    step(world, draws, loss)?;
+    if world.finished().len() == finished {
+        return Ok(());
+    }
+    submit_waiting(world, waiting)?;
+    Ok(())
+}
+
+/// What holds of every world.
+fn has_headline(world: &World)
+    ensures { HasHeadline world.now }
+{
+    world.is_serial();
+}

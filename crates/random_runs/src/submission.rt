@@ -1,0 +1,66 @@
+//! Sessions are submitted as soon as their offices take them.
+
+ghost use Rattle.std.specs.Prelude.{◌≡◌, ◌<◌, ◌-◌, ◌∷◌, [], IfOk, OnOk, IfErr, false, length, map, true};
+ghost use Rattle.frame_world.specs.declared.event.WorldEvent.TheVariants as events;
+ghost use Rattle.frame_world.specs.Worlds.{run_of};
+ghost use Rattle.random_runs.specs.Runs.{Leads};
+
+use frame_world::WorldRefusal;
+use session_language::Program;
+use std::alloc::{AllocError, Global};
+use world_schedule::World;
+
+/// All sessions of the file, in order: none was submitted yet.
+pub(crate) fn all_of(alloc: Global, programs: &[Program]) -> Result<Vec<&Program>, AllocError>
+    ensures { IfOk result (λ v. map (λ p. p.now) v.items ≡ programs.now) }
+{
+    let mut waiting = Vec::new(alloc);
+    for program in programs {
+        waiting.push(program)?;
+    }
+    Ok(waiting)
+}
+
+/// Submits each session that waits and that its office takes, in order. Those that aren't taken go on waiting.
+pub(crate) fn submit_waiting(
+    world: &mut World,
+    waiting: &mut Vec<&Program>,
+) -> Result<(), AllocError>
+    ensures { OnOk result (Leads world.old world.new (map (λ p. p.now) waiting.old.items) (map (λ p. p.now) waiting.new.items)) }
+{
+    let mut place = 0;
+    while place < waiting.len() {
+        place = submit_at(world, waiting, place)?;
+    }
+    Ok(())
+}
+
+/// Submits the session at this place of those that wait, where its office takes it; it waits no more. Answers the place of the
+/// next one.
+fn submit_at(
+    world: &mut World,
+    waiting: &mut Vec<&Program>,
+    place: usize,
+) -> Result<usize, AllocError>
+    requires { place < length waiting.now.items }
+    ensures leads { OnOk result (Leads world.old world.new (map (λ p. p.now) waiting.old.items) (map (λ p. p.now) waiting.new.items)) }
+    ensures nearer { IfOk result (λ next. length waiting.new.items - next < length waiting.old.items - place) }
+{
+    if is_taken(world, waiting[place])? {
+        waiting.remove(place);
+        return Ok(place);
+    }
+    Ok(place + 1)
+}
+
+/// Submits a session at its office. Answers whether that took it; where it didn't, nothing happened.
+fn is_taken(world: &mut World, program: &Program) -> Result<bool, AllocError>
+    ensures taken { result ≡ Ok true → world.new ≡ run_of world.old (events.Submit program.now.office program.now ∷ []) }
+    ensures refused { result ≡ Ok false → world.new ≡ world.old }
+{
+    match world.submit(program.office(), program) {
+        Ok(_) => Ok(true),
+        Err(WorldRefusal::Office(site_core::Refusal::Memory)) => Err(AllocError),
+        Err(_) => Ok(false),
+    }
+}

@@ -1,0 +1,22 @@
+-- The report of a world: what is printed of the sessions and the records of all offices.
+use Rattle.std.specs.Prelude.{ℕ, List, [], ◌∷◌, ◌++◌, codes, get_or}
+use Rattle.std.specs.List.{flat_map}
+use Rattle.std.specs.Fmt.{decimal}
+use Rattle.bottle_values.specs.declared.Value.{Value}
+use Rattle.bottle_values.specs.Arithmetic.{nought}
+use Rattle.frame_world.specs.Worlds.{World}
+use Rattle.frame_world.specs.Ways.{bottles_of}
+use Rattle.frame_world.specs.Headline.{outcomes}
+use Rattle.run_reports.specs.Report.{outcome_line, value_lines}
+
+-- unfinished N
+abbrev pub unfinished_line : ℕ → List ℕ
+unfinished_line n = codes "unfinished " ++ (decimal n ++ 10 ∷ [])
+
+-- the value of a record: that of its bottle
+abbrev pub bottle_value : World → ℕ → Value
+bottle_value w r = get_or (bottles_of w r) 0 nought
+
+-- the finished sessions in finishing order, how many haven't finished, and the values of the bottles
+abbrev pub world_report : World → ℕ → List ℕ
+world_report w n = flat_map (outcome_line w.plan) (outcomes w) ++ (unfinished_line n ++ value_lines w.plan (bottle_value w))
