@@ -1,0 +1,364 @@
+ghost use Rattle.std.specs.Prelude.{◌≡◌, false, IfOk, IfSome};
+ghost use Rattle.own_lock.specs.Passes.{IsOf, AreIdle};
+
+use frame_codec::decode;
+use locked_office::Desk;
+use office_map::{OfficeId, Plan};
+use own_lock::Pass;
+use session_language::{Program, read_sessions};
+use site_core::{Office, Reply};
+use socket_pump::{MemoryWire, Pump, PumpFault, Turn, Wire};
+use std::alloc::Global;
+use std::process::Abort;
+use std::sync::Wait;
+use std::test::Fail;
+
+mod sockets;
+
+/// Two offices, and two records of theirs.
+const PAIR: &str =
+    "plan 1 run 42\noffice a -\noffice b -\npair a b fork a\nrecord x a b 100 at a\nrecord y a b 0 at b\n";
+
+/// A session of each: one moves 30 from one record to the other, and one moves them back.
+const SESSIONS: &str =
+    "session a\nset x = read x - 30\nset y = read y + 30\nend\nsession b\nset x = read x + 30\nset y = read y - 30\nend\n";
+
+/// An office with its pump.
+#[derive(Drop)]
+struct Side {
+    desk: Desk,
+    pass: Pass<Office>,
+    pump: Pump,
+    ghost same: { desk.key ≡ pump.key },
+    ghost of: { IsOf desk pass },
+    ghost idle: { pass.holds ≡ false },
+}
+
+/// An office of the plan.
+fn office(alloc: Global, me: u8) -> Result<Office, Fail> {
+    let plan = Plan::read(alloc, PAIR.as_bytes())?;
+    if usize::from(me) >= plan.offices() {
+        return Err(Fail::from("an office"));
+    }
+    Ok(Office::open(alloc, &plan, OfficeId::new(me))?)
+}
+
+/// A pump of the office.
+fn pump_of(alloc: Global, office: &Office) -> Result<Pump, Fail>
+    ensures { IfOk result (λ p. p.key ≡ (office.now.plan, office.now.me)) }
+{
+    if office.number().index() >= office.plan().offices() {
+        return Err(Fail::from("an office"));
+    }
+    Ok(Pump::open(alloc, office.plan(), office.number())?)
+}
+
+/// A desk of the office, and its one pass.
+fn opened(alloc: Global, office: Office) -> Result<(Desk, Vec<Pass<Office>>), Fail>
+    ensures key { IfOk result (λ r. r.0.key ≡ (office.plan, office.me)) }
+    ensures idle { IfOk result (λ r. AreIdle r.0 r.1.items) }
+{
+    match Desk::open(alloc, office, 1) {
+        Ok(opened) => Ok(opened),
+        Err(_) => Err(Fail::from("memory for a desk")),
+    }
+}
+
+/// The last of the passes.
+fn last(desk: &Desk, passes: &mut Vec<Pass<Office>>) -> Option<Pass<Office>>
+    requires { AreIdle desk.now passes.old.items }
+    ensures { IfSome result (λ pass. IsOf desk.now pass × (pass.holds ≡ false)) }
+{
+    passes.pop()
+}
+
+/// An office of the plan with its pump.
+fn open_side(alloc: Global, me: u8) -> Result<Side, Fail> {
+    let office = office(alloc, me)?;
+    let pump = pump_of(alloc, &office)?;
+    let (desk, mut passes) = opened(alloc, office)?;
+    match last(&desk, &mut passes) {
+        Some(pass) => Ok(Side { desk, pass, pump }),
+        None => Err(Fail::from("a pass")),
+    }
+}
+
+/// The sessions of the plan's offices.
+fn programs(alloc: Global) -> Result<Vec<Program>, Fail> {
+    let plan = Plan::read(alloc, PAIR.as_bytes())?;
+    Ok(read_sessions(alloc, SESSIONS.as_bytes(), &plan)?)
+}
+
+fn turn<R: Wait, W: Wire>(
+    rt: &R,
+    side: &mut Side,
+    wire: &mut W,
+    now: u64,
+) -> Result<Turn, PumpFault> {
+    side.pump.turn(rt, wire, &side.desk, &mut side.pass, now)
+}
+
+fn submit<R: Wait>(rt: &R, side: &mut Side, program: &Program) -> Option<u32> {
+    match side.desk.submit(rt, &mut side.pass, program) {
+        Ok(Reply::Ticket(ticket)) => Some(ticket),
+        _ => None,
+    }
+}
+
+/// The first record's value when that session of the office had finished.
+fn value_after<R: Wait>(rt: &R, side: &mut Side, ticket: u32) -> Option<i64> {
+    match side.desk.outcome(rt, &mut side.pass, ticket) {
+        Ok(Some(outcome)) => outcome.ending.writes.as_slice().first().map(|w| w.1.number),
+        _ => None,
+    }
+}
+
+/// What went out since comes to the other.
+fn carry(from: &MemoryWire, carried: &mut usize, to: &mut MemoryWire) -> Result<(), Fail> {
+    let all = from.accepted();
+    for i in *carried..all.len() {
+        to.comes(all[i].1.bytes())?;
+    }
+    *carried = all.len();
+    Ok(())
+}
+
+fn did(taken: u32, refused: u32, rules: u32, sent: u32) -> Result<Turn, PumpFault> {
+    Ok(Turn {
+        taken,
+        refused,
+        rules,
+        sent,
+    })
+}
+
+/// Both offices, with a wire each; what one sends comes to the other.
+#[derive(Drop)]
+struct Both {
+    a: Side,
+    b: Side,
+    wire_a: MemoryWire,
+    wire_b: MemoryWire,
+    from_a: usize,
+    from_b: usize,
+}
+
+fn open_both(alloc: Global) -> Result<Both, Fail> {
+    let a = open_side(alloc, 0)?;
+    let b = open_side(alloc, 1)?;
+    Ok(Both {
+        a,
+        b,
+        wire_a: MemoryWire::new(alloc),
+        wire_b: MemoryWire::new(alloc),
+        from_a: 0,
+        from_b: 0,
+    })
+}
+
+impl Both {
+    fn turn_a<R: Wait>(&mut self, rt: &R, now: u64) -> Result<Turn, PumpFault> {
+        turn(rt, &mut self.a, &mut self.wire_a, now)
+    }
+
+    fn turn_b<R: Wait>(&mut self, rt: &R, now: u64) -> Result<Turn, PumpFault> {
+        turn(rt, &mut self.b, &mut self.wire_b, now)
+    }
+
+    /// What went out comes to the other.
+    fn carry(&mut self) -> Result<(), Fail> {
+        carry(&self.wire_a, &mut self.from_a, &mut self.wire_b)?;
+        carry(&self.wire_b, &mut self.from_b, &mut self.wire_a)
+    }
+}
+
+/// A session fetches a bottle: what is queued in a turn goes out in it; who sent a message and gets none gets a count, and who
+/// sent a count gets nothing.
+#[test]
+fn a_session_crosses(rt: HostRuntime) -> Result<(), Fail> {
+    let programs = programs(rt.alloc())?;
+    let mut both = open_both(rt.alloc())?;
+    crosses(&rt, &mut both, &programs)
+}
+
+fn crosses<R: Wait + Abort>(rt: &R, both: &mut Both, programs: &[Program]) -> Result<(), Fail> {
+    let Some(program) = programs.get(0) else {
+        return Err(Fail::from("a session"));
+    };
+    assert_eq!(rt; submit(rt, &mut both.a, program), Some(1));
+    assert_eq!(rt; both.turn_a(rt, 0), did(0, 0, 4, 1));
+    both.carry()?;
+    assert_eq!(rt; both.turn_b(rt, 0), did(1, 0, 1, 1));
+    both.carry()?;
+    assert_eq!(rt; both.turn_a(rt, 0), did(1, 0, 4, 1));
+    both.carry()?;
+    assert_eq!(rt; value_after(rt, &mut both.a, 1), Some(70));
+    assert_eq!(rt; both.turn_b(rt, 0), did(1, 0, 0, 0));
+    assert_eq!(rt; both.turn_a(rt, 1000), did(0, 0, 0, 0));
+    assert_eq!(rt; both.turn_b(rt, 1000), did(0, 0, 0, 0));
+    Ok(())
+}
+
+/// A message that isn't answered goes out again after 50 milliseconds, and not before; one that comes twice is answered by a
+/// count where no message is due.
+#[test]
+fn a_message_goes_out_again(rt: HostRuntime) -> Result<(), Fail> {
+    let programs = programs(rt.alloc())?;
+    let mut both = open_both(rt.alloc())?;
+    goes_out_again(&rt, &mut both, &programs)
+}
+
+fn goes_out_again<R: Wait + Abort>(
+    rt: &R,
+    both: &mut Both,
+    programs: &[Program],
+) -> Result<(), Fail> {
+    let Some(program) = programs.get(0) else {
+        return Err(Fail::from("a session"));
+    };
+    assert_eq!(rt; submit(rt, &mut both.a, program), Some(1));
+    assert_eq!(rt; both.turn_a(rt, 7), did(0, 0, 4, 1));
+    assert_eq!(rt; both.turn_a(rt, 56), did(0, 0, 0, 0));
+    assert_eq!(rt; both.turn_a(rt, 57), did(0, 0, 0, 1));
+    both.carry()?;
+    assert_eq!(rt; both.turn_b(rt, 57), did(2, 0, 1, 1));
+    assert_eq!(rt; both.turn_a(rt, 107), did(0, 0, 0, 1));
+    both.carry()?;
+    assert_eq!(rt; both.turn_b(rt, 60), did(1, 0, 0, 1));
+    both.carry()?;
+    assert_eq!(rt; both.turn_a(rt, 107), did(2, 0, 4, 1));
+    assert_eq!(rt; value_after(rt, &mut both.a, 1), Some(70));
+    Ok(())
+}
+
+/// Of 33 datagrams one stays for the next turn.
+#[test]
+fn the_last_datagram_stays(rt: HostRuntime) -> Result<(), Fail> {
+    let mut both = open_both(rt.alloc())?;
+    stays(&rt, &mut both)
+}
+
+fn stays<R: Wait + Abort>(rt: &R, both: &mut Both) -> Result<(), Fail> {
+    for _ in 0..33 {
+        both.wire_a.comes(b"no frame")?;
+    }
+    assert_eq!(rt; both.turn_a(rt, 0), did(0, 32, 0, 0));
+    assert_eq!(rt; both.turn_a(rt, 0), did(0, 1, 0, 0));
+    assert_eq!(rt; both.turn_a(rt, 0), did(0, 0, 0, 0));
+    Ok(())
+}
+
+/// A wire that fails once, at whichever call, breaks off that turn alone, and the session finishes.
+#[test]
+fn a_wire_fails_at_each_call(rt: HostRuntime) -> Result<(), Fail> {
+    let programs = programs(rt.alloc())?;
+    fail_at_each(&rt, rt.alloc(), &programs)
+}
+
+fn fail_at_each<R: Wait + Abort>(rt: &R, alloc: Global, programs: &[Program]) -> Result<(), Fail> {
+    for call in 0..12 {
+        let told = first_fails(rt, alloc, programs, call)?;
+        assert_eq!(rt; told, (1, Some(70)), "a's call {call}");
+        let told = second_fails(rt, alloc, programs, call)?;
+        assert_eq!(rt; told, (1, Some(70)), "b's call {call}");
+    }
+    Ok(())
+}
+
+fn first_fails<R: Wait>(
+    rt: &R,
+    alloc: Global,
+    programs: &[Program],
+    call: u64,
+) -> Result<(u32, Option<i64>), Fail> {
+    let mut both = open_both(alloc)?;
+    both.wire_a.fail_at(call);
+    goes_on(rt, &mut both, programs)
+}
+
+fn second_fails<R: Wait>(
+    rt: &R,
+    alloc: Global,
+    programs: &[Program],
+    call: u64,
+) -> Result<(u32, Option<i64>), Fail> {
+    let mut both = open_both(alloc)?;
+    both.wire_b.fail_at(call);
+    goes_on(rt, &mut both, programs)
+}
+
+/// How many turns of thirty broke off since the wire failed, and what the session left.
+fn goes_on<R: Wait>(
+    rt: &R,
+    both: &mut Both,
+    programs: &[Program],
+) -> Result<(u32, Option<i64>), Fail> {
+    let Some(program) = programs.get(0) else {
+        return Err(Fail::from("a session"));
+    };
+    let Some(ticket) = submit(rt, &mut both.a, program) else {
+        return Err(Fail::from("a ticket"));
+    };
+    let mut failed = 0;
+    for round in 0..15u64 {
+        failed = broke_off(both.turn_a(rt, round * 50))?.saturating_add(failed);
+        both.carry()?;
+        failed = broke_off(both.turn_b(rt, round * 50))?.saturating_add(failed);
+        both.carry()?;
+    }
+    Ok((failed, value_after(rt, &mut both.a, ticket)))
+}
+
+/// 1 where the wire failed.
+fn broke_off(turn: Result<Turn, PumpFault>) -> Result<u32, Fail> {
+    match turn {
+        Ok(_) => Ok(0),
+        Err(PumpFault::WireFailed) => Ok(1),
+        Err(_) => Err(Fail::from("room")),
+    }
+}
+
+/// 502 sessions of the two offices in turn. The first fetches one bottle, and each of the others both and the fork: one message
+/// asks for each thing and one brings it, and each goes out once.
+#[test]
+fn many_messages_cross(rt: HostRuntime) -> Result<(), Fail> {
+    let programs = programs(rt.alloc())?;
+    let mut both = open_both(rt.alloc())?;
+    many_cross(&rt, &mut both, &programs)
+}
+
+fn many_cross<R: Wait + Abort>(rt: &R, both: &mut Both, programs: &[Program]) -> Result<(), Fail> {
+    let (Some(first), Some(second)) = (programs.get(0), programs.get(1)) else {
+        return Err(Fail::from("sessions"));
+    };
+    for ticket in 1..252u32 {
+        assert_eq!(rt; submit(rt, &mut both.a, first), Some(ticket));
+        round(rt, both)?;
+        assert_eq!(rt; value_after(rt, &mut both.a, ticket), Some(70));
+        assert_eq!(rt; submit(rt, &mut both.b, second), Some(ticket));
+        round(rt, both)?;
+        assert_eq!(rt; value_after(rt, &mut both.b, ticket), Some(100));
+    }
+    assert_eq!(rt; messages(&both.wire_a), 1504);
+    assert_eq!(rt; messages(&both.wire_b), 1504);
+    Ok(())
+}
+
+/// How many of the frames that went out bring a message.
+fn messages(wire: &MemoryWire) -> usize {
+    wire.accepted()
+        .iter()
+        .filter(|sent| decode(sent.1.bytes()).is_ok_and(|frame| frame.number() > 0))
+        .count()
+}
+
+/// Three turns of each.
+fn round<R: Wait>(rt: &R, both: &mut Both) -> Result<(), Fail> {
+    for _ in 0..3 {
+        broke_off(both.turn_a(rt, 0))?;
+        both.carry()?;
+        broke_off(both.turn_b(rt, 0))?;
+        both.carry()?;
+    }
+    Ok(())
+}
