@@ -1,5 +1,5 @@
 -- What a fault says of the texts of a command's words, those that are known.
-use Rattle.std.proofs.Common.{◌≡◌, ◌<◌, ℕ, zero, suc, List, [], ◌∷◌, take, length, Contains, Option, Some, None, Ok, refl, sym, subst, arith, inl, inr}
+use Rattle.std.proofs.Common.{◌≡◌, ℕ, zero, suc, List, [], ◌∷◌, take, Contains, Option, Some, None, Ok, refl, sym, subst, arith, inl, inr}
 use Rattle.input_texts.specs.Words.{HasText, HaveTexts, Unread, unread}
 use Rattle.office_map.specs.PlanValue.{PlanValue}
 use Rattle.session_meaning.specs.ProgramValue.{ProgramValue}
@@ -10,7 +10,7 @@ use Rattle.drink_commands.specs.declared.input.Input.TheVariants as inputs
 use Rattle.drink_commands.specs.declared.fault.Why.{Why}
 use Rattle.drink_commands.specs.declared.fault.Fault.{Fault}
 use Rattle.drink_commands.specs.declared.fault.Fault.TheVariants.{Memory, ReadFailed, Refused, WriteFailed}
-use Rattle.drink_commands.specs.Fault.{IsAmong, IsFaultAt, IsWriteFault, input_of, refused_input}
+use Rattle.drink_commands.specs.Fault.{IsAmong, IsFaultAt, IsWriteFault, input_of}
 use Rattle.drink_commands.specs.Plans.{IsAcceptedAs}
 use Rattle.drink_commands.specs.Texts.{Accepts, IsJudged, Judges, Known, Refuses, nothing}
 

@@ -1,6 +1,6 @@
 -- Events that lead on, with what is submitted and what is left.
 use Rattle.std.proofs.Common.{◌≡◌, ℕ, zero, suc, ◌<◌, Bool, true, false, cond, List, [], ◌∷◌, ◌++◌, length, map, get_or, Result, Ok, Err, refl, sym, ap, subst, ◌∙◌, ⊎_elim, arith, append_assoc, IsPermutation}
-use Rattle.std.specs.Prelude.{nat_lt}
+use Rattle.std.specs.Prelude.{nat_lt, IsOk}
 use Rattle.std.specs.List.{remove}
 use Rattle.std.proofs.lemmas.List.Concat.{flat_map-append}
 use Rattle.std.proofs.lemmas.List.Elements.{All-append, All-cons, All-nil}
@@ -17,16 +17,20 @@ use Rattle.frame_world.specs.declared.event.WorldEvent.TheVariants as happening
 use Rattle.frame_world.specs.declared.refusal.WorldRefusal.{WorldRefusal}
 use Rattle.frame_world.specs.declared.refusal.WorldRefusal.TheVariants as refusal
 use Rattle.frame_world.specs.Worlds.{World, Answer, site_at, told, handed, happens, run_of, Applies}
-use Rattle.random_runs.specs.Runs.{Leads, IsAtHome, submitted, submitted_by}
+use Rattle.random_runs.specs.Runs.{Leads, AreTaken, IsAtHome, IsTaken, submitted, submitted_by}
 use Rattle.random_runs.specs.refinement.Moves.{Moves}
 
 run_append : (w : World) (xs ys : List WorldEvent) → run_of w (xs ++ ys) ≡ run_of (run_of w xs) ys
 run_append w [] ys = refl
 run_append w (x ∷ xs) ys = run_append (happens w x).1 xs ys
 
+taken_append : (w : World) (xs ys : List WorldEvent) → AreTaken w xs → AreTaken (run_of w xs) ys → AreTaken w (xs ++ ys)
+taken_append w [] ys h k = k
+taken_append w (x ∷ xs) ys (h, hs) k = (h, taken_append (happens w x).1 xs ys hs k)
+
 -- nothing happens
 pub stays : (w : World) (sessions : List ProgramValue) → Leads w w sessions sessions
-stays w sessions = record { events = []; led = refl; home = All-nil IsAtHome; once = IsPermutation-refl sessions }
+stays w sessions = record { events = []; led = refl; home = All-nil IsAtHome; taken = tt; once = IsPermutation-refl sessions }
 
 pub rests : (w : World) → Moves w w
 rests w sessions = stays w sessions
@@ -37,6 +41,7 @@ follows u v w a b c f g = record {
   events = f.events ++ g.events;
   led = run_append u f.events g.events ∙ ap (λ x. run_of x g.events) f.led ∙ g.led;
   home = All-append IsAtHome f.events g.events f.home g.home;
+  taken = taken_append u f.events g.events f.taken (subst (λ x. AreTaken x g.events) (sym f.led) g.taken);
   once =
       let all : submitted (f.events ++ g.events) ++ c ≡ submitted f.events ++ (submitted g.events ++ c) =
       ap (λ l. l ++ c) (flat_map-append submitted_by f.events g.events) ∙ append_assoc (submitted f.events) (submitted g.events) c in
@@ -46,13 +51,14 @@ follows u v w a b c f g = record {
 }
 
 -- an event that submits nothing, whatever is answered
-pub moved : (w w' : World) (e : WorldEvent) (result : Result Reply WorldRefusal) → submitted_by e ≡ [] → IsAtHome e → Applies w e result w' → Moves w w'
-moved w w' e result nothing home h sessions = ⊎_elim
+pub moved : (w w' : World) (e : WorldEvent) (result : Result Reply WorldRefusal) → submitted_by e ≡ [] → IsAtHome e → IsTaken w e → Applies w e result w' → Moves w w'
+moved w w' e result nothing home taken h sessions = ⊎_elim
     (λ m. subst (λ v. Leads w v sessions sessions) (sym m.1) (stays w sessions))
     (λ k. record {
       events = e ∷ [];
       led = sym k.1;
       home = All-cons IsAtHome e [] home (All-nil IsAtHome);
+      taken = (taken, tt);
       once = subst (λ l. IsPermutation l sessions) (sym (ap (λ l. (l ++ []) ++ sessions) nothing)) (IsPermutation-refl sessions);
     })
     h
@@ -83,6 +89,15 @@ taken w w' p result r e h = ⊎_elim
     (λ m. absurd (let both : ◌≡◌ {A = Result Reply WorldRefusal} (Ok r) (Err (refusal.Office refused_as.Memory)) = sym e ∙ m.0 in cc))
     (λ k. k.1) h
 
+is_ok_of : (r : Reply) (x : Result Reply WorldRefusal) → Ok r ≡ x → IsOk x
+is_ok_of r x e = subst IsOk e refl
+
+pub accepted : (w w' : World) (p : ProgramValue) (result : Result Reply WorldRefusal) (r : Reply) → result ≡ Ok r
+    → Applies w (happening.Submit p.office p) result w' → IsOk (happens w (happening.Submit p.office p)).0
+accepted w w' p result r e h = ⊎_elim
+    (λ m. absurd (let both : ◌≡◌ {A = Result Reply WorldRefusal} (Ok r) (Err (refusal.Office refused_as.Memory)) = sym e ∙ m.0 in cc))
+    (λ k. is_ok_of r (happens w (happening.Submit p.office p)).0 (sym e ∙ k.0)) h
+
 -- ---- what is taken waits no more
 
 removed : {X : Type 0} (f : X → ProgramValue) (xs : List X) (i : ℕ) (d : X) → i < length xs → IsPermutation (f (get_or xs i d) ∷ map f (remove xs i)) (map f xs)
@@ -97,10 +112,11 @@ removed f (x ∷ xs) (suc i) d lt =
 
 -- the session at this place was submitted
 pub submits : {X : Type 0} (f : X → ProgramValue) (w w' : World) (xs : List X) (i : ℕ) (d : X) (p : ProgramValue) → i < length xs → p ≡ f (get_or xs i d)
-    → w' ≡ run_of w (happening.Submit p.office p ∷ []) → Leads w w' (map f xs) (map f (remove xs i))
-submits f w w' xs i d p lt is led = record {
+    → IsOk (happens w (happening.Submit p.office p)).0 → w' ≡ run_of w (happening.Submit p.office p ∷ []) → Leads w w' (map f xs) (map f (remove xs i))
+submits f w w' xs i d p lt is ok led = record {
   events = happening.Submit p.office p ∷ [];
   led = sym led;
   home = All-cons IsAtHome (happening.Submit p.office p) [] refl (All-nil IsAtHome);
+  taken = (ok, tt);
   once = subst (λ q. IsPermutation (q ∷ map f (remove xs i)) (map f xs)) (sym is) (removed f xs i d lt);
 }

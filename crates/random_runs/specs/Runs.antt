@@ -1,12 +1,12 @@
 -- What a random run may be, and what is told of it. Which events are drawn is left open.
-use Rattle.std.specs.Prelude.{◌≡◌, ◌-◌, ℕ, List, [], ◌∷◌, ◌++◌, length, All, IsPermutation}
+use Rattle.std.specs.Prelude.{◌≡◌, ◌-◌, ℕ, List, [], ◌∷◌, ◌++◌, length, All, IsOk, IsPermutation}
 use Rattle.std.specs.List.{flat_map}
 use Rattle.office_map.specs.PlanValue.{PlanValue}
 use Rattle.session_meaning.specs.ProgramValue.{ProgramValue}
 use Rattle.dining_core.specs.Worlds.{HasNoRing}
 use Rattle.frame_world.specs.declared.event.WorldEvent.{WorldEvent}
 use Rattle.frame_world.specs.declared.event.WorldEvent.TheVariants as happening
-use Rattle.frame_world.specs.Worlds.{World, opening, run_of}
+use Rattle.frame_world.specs.Worlds.{World, opening, happens, run_of}
 use Rattle.frame_world.specs.Ways.{pairs_at, tables_of}
 use Rattle.frame_world.specs.Headline.{HasSerialSessions, HasSerialValues, HasOnePlaceEach, NeighboursEatApart, EatersHaveTheirForks, DrinkersHaveTheirBottles, FramesAreTaken, FramesGoByBytes, CountsAreTimely}
 use Rattle.run_reports.specs.WorldReport.{world_report}
@@ -29,12 +29,25 @@ IsAtHome (happening.Do a rule) = Unit {0}
 IsAtHome (happening.Send a v i) = Unit {0}
 IsAtHome (happening.Deliver k) = Unit {0}
 
+-- a session that is submitted is taken by its office
+abbrev pub IsTaken : World → WorldEvent → Type 0
+IsTaken w (happening.Submit a p) = IsOk (happens w (happening.Submit a p)).0
+IsTaken w (happening.Do a rule) = Unit {0}
+IsTaken w (happening.Send a v i) = Unit {0}
+IsTaken w (happening.Deliver k) = Unit {0}
+
+-- and so is each of these events, one after the other
+abbrev pub AreTaken : World → List WorldEvent → Type 0
+AreTaken w [] = Unit {0}
+AreTaken w (e ∷ es) = IsTaken w e × AreTaken (happens w e).1 es
+
 -- Events lead from one world to the other. They submit sessions of a list, each as often as it stands there at most and at its
--- own office; those that are left are the other list.
+-- own office, which takes it; those that are left are the other list.
 pub record Leads (w w' : World) (sessions left : List ProgramValue) : Type 0 where
   pub events : List WorldEvent
   pub led : run_of w events ≡ w'
   pub home : All IsAtHome events
+  pub taken : AreTaken w events
   pub once : IsPermutation (submitted events ++ left) sessions
 
 -- events led to it from the plan's opening, with no sessions but these, each once at most

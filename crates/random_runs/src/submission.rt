@@ -1,8 +1,8 @@
 //! Sessions are submitted as soon as their offices take them.
 
-ghost use Rattle.std.specs.Prelude.{◌≡◌, ◌<◌, ◌-◌, ◌∷◌, [], IfOk, OnOk, IfErr, false, length, map, true};
+ghost use Rattle.std.specs.Prelude.{◌≡◌, ◌<◌, ◌-◌, ◌∷◌, [], IfOk, IsOk, OnOk, false, length, map, true};
 ghost use Rattle.frame_world.specs.declared.event.WorldEvent.TheVariants as events;
-ghost use Rattle.frame_world.specs.Worlds.{run_of};
+ghost use Rattle.frame_world.specs.Worlds.{happens, run_of};
 ghost use Rattle.random_runs.specs.Runs.{Leads};
 
 use frame_world::WorldRefusal;
@@ -56,6 +56,7 @@ fn submit_at(
 /// Submits a session at its office. Answers whether that took it; where it didn't, nothing happened.
 fn is_taken(world: &mut World, program: &Program) -> Result<bool, AllocError>
     ensures taken { result ≡ Ok true → world.new ≡ run_of world.old (events.Submit program.now.office program.now ∷ []) }
+    ensures accepted { result ≡ Ok true → IsOk (happens world.old (events.Submit program.now.office program.now)).0 }
     ensures refused { result ≡ Ok false → world.new ≡ world.old }
 {
     match world.submit(program.office(), program) {

@@ -9,4 +9,4 @@ returns-then-branch-clause-leads c =
     let here = ap (λ p. p.now) c.index.ensures in
     subst (λ ys. Leads c.args.world.now c.is_taken.new.world (map (λ p. p.now) xs) (map (λ p. p.now) ys)) (sym c.remove.ensures.items)
     (submits (λ p. p.now) c.args.world.now c.is_taken.new.world xs c.args.place c.index.result.now c.index.result.now.now c.requires here
-    (c.in_ok-is_taken.ensures.taken (ap Ok c.if-branch.true)))
+    (c.in_ok-is_taken.ensures.accepted (ap Ok c.if-branch.true)) (c.in_ok-is_taken.ensures.taken (ap Ok c.if-branch.true)))
