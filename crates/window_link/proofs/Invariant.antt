@@ -1,7 +1,7 @@
 -- Every run keeps both ends lawful, and every frame that was made true.
-use Rattle.std.proofs.Common.{◌≡◌, ℕ, zero, suc, ◌+◌, ◌<◌, ◌≤◌, max, Bool, true, false, List, [], ◌∷◌, ◌++◌, length, drop, Option, Some, None, refl, sym, ap, ◌∙◌, subst, arith, inl, inr, ◌⊎◌, ⊎_elim, append_assoc}
-use Rattle.std.specs.Prelude.{slice_get, ◌&&◌, ◌==◌}
-use Rattle.std.proofs.lemmas.Bool.{cond_both, eqb-true, ltb-true}
+use Rattle.std.proofs.Common.{◌≡◌, ℕ, zero, suc, ◌+◌, ◌-◌, ◌<◌, ◌≤◌, max, Bool, true, false, List, [], ◌∷◌, ◌++◌, length, drop, replicate, get_or, Option, Some, None, refl, sym, ap, ◌∙◌, subst, arith, inl, inr, ◌⊎◌, ⊎_elim, append_assoc}
+use Rattle.std.specs.Prelude.{slice_get, ◌&&◌}
+use Rattle.std.proofs.lemmas.Bool.{cond_both, ltb-true}
 use Rattle.std.proofs.lemmas.List.{length-append, length-drop}
 use Rattle.frame_codec.specs.declared.message.Msg.{Msg}
 use Rattle.window_link.specs.declared.laws.event.End.{End}
@@ -10,8 +10,13 @@ use Rattle.window_link.specs.declared.laws.event.Posted.{Posted}
 use Rattle.window_link.specs.declared.laws.event.LinkEvent.{LinkEvent}
 use Rattle.window_link.specs.declared.laws.event.LinkEvent.TheVariants.{Queue, Make, Ack, Arrive}
 use Rattle.window_link.specs.declared.laws.event.LinkReply.{LinkReply}
-use Rattle.window_link.specs.Streams.{Stream, Pair, IsLawful, waiting, other, with_end, with_stream, nth, can_send, send, post, post_waiting, learned, took, deliver, happens, opening, run_of, StreamsStayLawful}
-use Rattle.window_link.specs.Limits.{most_waiting}
+use Rattle.window_link.specs.declared.arrival.Arrival.{Arrival}
+use Rattle.window_link.specs.declared.arrival.Arrival.TheVariants.{Acked, Fresh, Repeat, Kept, Early}
+use Rattle.window_link.specs.Windows.{arrival, kept_with}
+use Rattle.window_link.specs.Streams.{Stream, Pair, IsLawful, waiting, other, with_end, with_stream, nth, can_send, send, post, post_waiting, learned, took_next, followed, took_by, took, deliver, happens, opening, run_of, StreamsStayLawful}
+use Rattle.window_link.specs.Limits.{most_waiting, most_kept}
+use Rattle.window_link.proofs.Arrivals.{Stands, stands}
+use Rattle.window_link.proofs.KeptPlaces.{get-after, get-with}
 
 -- ---- lists
 
@@ -107,7 +112,7 @@ sound_with p e s S g h = record {
 -- ---- the events
 
 sent_more : Stream → Msg → Stream
-sent_more s msg = record { sent = s.sent ++ msg ∷ []; taken = s.taken; acked = s.acked }
+sent_more s msg = record { sent = s.sent ++ msg ∷ []; taken = s.taken; acked = s.acked; kept = s.kept }
 
 lawful_sent : (s : Stream) (msg : Msg) → IsLawful s → length (waiting s) < most_waiting → IsLawful (sent_more s msg)
 unfolding sent_more
@@ -116,6 +121,7 @@ lawful_sent s msg h room = record {
   begins = ap (λ l. l ++ msg ∷ []) h.begins ∙ append_assoc s.taken h.ahead (msg ∷ []);
   acknowledged = h.acknowledged;
   few = omega (arith, room, length-drop s.acked s.sent, length-drop s.acked (s.sent ++ msg ∷ []), length-append s.sent (msg ∷ []));
+  kept = λ k m e. get-append s.sent (msg ∷ []) (length s.taken + k) m (h.kept k m e);
 }
 
 grows_sent : (s : Stream) (msg : Msg) → Grows s (sent_more s msg)
@@ -154,16 +160,13 @@ lawful_learned s count h low = record {
   begins = h.begins;
   acknowledged = let old = h.acknowledged in omega arith;
   few = let old = h.few in omega (arith, length-drop s.acked s.sent, length-drop (max s.acked count) s.sent);
+  kept = h.kept;
 }
 
 grows_learned : (s : Stream) (count : ℕ) → Grows s (learned s count)
 grows_learned s count = record { sent = λ k msg e. e; taken = omega arith }
 
-taken_more : Stream → Msg → Stream
-taken_more s msg = record { sent = s.sent; taken = s.taken ++ msg ∷ []; acked = s.acked }
-
-lawful_taken : (s : Stream) (msg : Msg) → IsLawful s → slice_get s.sent (length s.taken) ≡ Some msg → IsLawful (taken_more s msg)
-unfolding taken_more
+lawful_taken : (s : Stream) (msg : Msg) → IsLawful s → slice_get s.sent (length s.taken) ≡ Some msg → IsLawful (took_next s msg)
 lawful_taken s msg h is =
     let found : (rest : List Msg) × (h.ahead ≡ msg ∷ rest) = next_of s.taken h.ahead msg (subst (λ l. slice_get l (length s.taken) ≡ Some msg) h.begins is) in
     record {
@@ -171,22 +174,63 @@ lawful_taken s msg h is =
       begins = h.begins ∙ ap (λ l. s.taken ++ l) found.1 ∙ sym (append_assoc s.taken (msg ∷ []) found.0);
       acknowledged = let old = h.acknowledged in omega (arith, length-append s.taken (msg ∷ []));
       few = h.few;
+      kept = λ k m e.
+          let at : length s.taken + suc k ≡ length (s.taken ++ msg ∷ []) + k = omega (arith, length-append s.taken (msg ∷ [])) in
+          subst (λ j. slice_get s.sent j ≡ Some m) at (h.kept (suc k) m (sym (get-after s.kept k) ∙ e));
     }
 
-grows_taken : (s : Stream) (msg : Msg) → Grows s (taken_more s msg)
-unfolding taken_more
+grows_taken : (s : Stream) (msg : Msg) → Grows s (took_next s msg)
 grows_taken s msg = record { sent = λ k m e. e; taken = omega (arith, length-append s.taken (msg ∷ [])) }
 
--- a message that was sent is taken lawfully or not at all
+grows_both : (s t u : Stream) → Grows s t → Grows t u → Grows s u
+grows_both s t u g h = record { sent = λ k m e. h.sent k m (g.sent k m e); taken = omega (arith, g.taken, h.taken) }
+
+-- what is kept was sent, so that it is taken lawfully
+lawful_followed : (o : Option Msg) (n : ℕ) (s : Stream) → IsLawful s → get_or s.kept 0 None ≡ o → IsLawful (followed o n s) × Grows s (followed o n s)
+lawful_followed None n s h is = (h, grows_none s)
+lawful_followed (Some msg) zero s h is = (h, grows_none s)
+lawful_followed (Some msg) (suc n) s h is =
+    let first : length s.taken + 0 ≡ length s.taken = omega arith in
+    let here : slice_get s.sent (length s.taken) ≡ Some msg = subst (λ k. slice_get s.sent k ≡ Some msg) first (h.kept 0 msg is) in
+    let rest : IsLawful (followed (get_or (took_next s msg).kept 0 None) n (took_next s msg)) × Grows (took_next s msg) (followed (get_or (took_next s msg).kept 0 None) n (took_next s msg)) =
+    lawful_followed (get_or (took_next s msg).kept 0 None) n (took_next s msg) (lawful_taken s msg h here) refl in
+    (rest.0, grows_both s (took_next s msg) _ (grows_taken s msg) rest.1)
+
+kept_more : Stream → ℕ → Msg → Stream
+kept_more s number msg = record { sent = s.sent; taken = s.taken; acked = s.acked; kept = kept_with s.kept (number - (length s.taken + 1)) msg }
+
+lawful_kept : (s : Stream) (number : ℕ) (msg : Msg) → IsLawful s → length s.taken + 1 < number → nth s.sent number ≡ Some msg → IsLawful (kept_more s number msg)
+unfolding kept_more
+lawful_kept s number msg h ahead placed = record {
+  ahead = h.ahead;
+  begins = h.begins;
+  acknowledged = h.acknowledged;
+  few = h.few;
+  kept = λ k m e. ⊎_elim
+      (λ old. h.kept k m old)
+      (λ new.
+      let at : number ≡ suc (length s.taken + k) = omega (arith, new.0, ahead) in
+      subst (λ j. nth s.sent j ≡ Some msg) at placed ∙ ap Some new.1)
+      (get-with s.kept (number - (length s.taken + 1)) k msg m e);
+}
+
+-- a message that was sent is taken or kept lawfully, or not at all
 lawful_took : (s : Stream) (number : ℕ) (msg : Option Msg) → IsLawful s → ((m : Msg) → msg ≡ Some m → nth s.sent number ≡ Some m) → IsLawful (took s number msg) × Grows s (took s number msg)
-unfolding taken_more
+unfolding kept_more
 lawful_took s number None h placed = (h, grows_none s)
-lawful_took s number (Some msg) h placed =
-    cond_both (number == length s.taken + 1) _ _ (λ t. IsLawful t × Grows s t)
-    (λ yes.
-    let next : number ≡ suc (length s.taken) = let n = eqb-true number (length s.taken + 1) yes in omega arith in
-    (lawful_taken s msg h (subst (λ k. nth s.sent k ≡ Some msg) next (placed msg refl)), grows_taken s msg))
-    (λ no. (h, grows_none s))
+lawful_took s number (Some msg) h placed = by (arrival (length s.taken) number msg) (stands (length s.taken) number msg)
+  where
+    by : (a : Arrival) → Stands (length s.taken) number msg a → IsLawful (took_by s number msg a) × Grows s (took_by s number msg a)
+    by (Fresh m) is =
+        let next : number ≡ suc (length s.taken) = omega (arith, is.0) in
+        let one : IsLawful (took_next s m) = lawful_taken s m h (subst (λ k. nth s.sent k ≡ Some m) next (placed msg refl ∙ ap Some is.1)) in
+        let rest : IsLawful (followed (get_or (took_next s m).kept 0 None) most_kept (took_next s m)) × Grows (took_next s m) (followed (get_or (took_next s m).kept 0 None) most_kept (took_next s m)) =
+        lawful_followed (get_or (took_next s m).kept 0 None) most_kept (took_next s m) one refl in
+        (rest.0, grows_both s (took_next s m) _ (grows_taken s m) rest.1)
+    by Kept is = (lawful_kept s number msg h is.0 (placed msg refl), record { sent = λ k m e. e; taken = omega arith })
+    by Repeat is = (h, grows_none s)
+    by Early is = (h, grows_none s)
+    by Acked is = absurd is
 
 sound_deliver : (p : Pair) (posted : Option Posted) → Sound p → ((f : Posted) → posted ≡ Some f → Honest p f) → Sound (deliver p posted).1
 sound_deliver p None S honest = S
@@ -221,9 +265,14 @@ sound_run p (event ∷ events) S = sound_run (happens p event).1 events (sound_h
 
 pub sound_opening : (run : ℕ) (office : End → ℕ) → Sound (opening run office)
 sound_opening run office = record {
-  lawful = λ e. record { ahead = []; begins = refl; acknowledged = omega arith; few = omega arith };
+  lawful = λ e. record { ahead = []; begins = refl; acknowledged = omega arith; few = omega arith; kept = λ k m is. absurd (none most_kept k m is) };
   honest = λ k posted is. absurd cc;
 }
+  where
+    none : (n k : ℕ) (m : Msg) → get_or {A = Option Msg} (replicate n None) k None ≡ Some m → ⊥
+    none zero k m e = absurd cc
+    none (suc n) zero m e = absurd cc
+    none (suc n) (suc k) m e = none n k m e
 
 pub streams_kept : StreamsStayLawful
 streams_kept run office events e = (sound_run (opening run office) events (sound_opening run office)).lawful e

@@ -1,7 +1,7 @@
 -- The two links take each step that the streams take.
-use Rattle.std.proofs.Common.{◌≡◌, ℕ, ◌+◌, ◌-◌, ◌≤◌, max, Bool, true, false, not, cond, List, [], ◌∷◌, ◌++◌, length, drop, Option, Some, None, refl, sym, ap, ◌∙◌, arith}
+use Rattle.std.proofs.Common.{◌≡◌, ℕ, zero, suc, ◌+◌, ◌-◌, ◌≤◌, max, Bool, true, false, not, cond, List, [], ◌∷◌, ◌++◌, length, drop, get_or, Option, Some, None, refl, sym, ap, ◌∙◌, arith}
 use Rattle.std.specs.Prelude.{◌&&◌, ◌==◌, nat_lt}
-use Rattle.std.proofs.lemmas.Bool.{cond_both, eqb-true, eq-eqb, le-ltb}
+use Rattle.std.proofs.lemmas.Bool.{eq-eqb, le-ltb}
 use Rattle.std.proofs.lemmas.List.{length-append, length-drop, drop-drop, drop-append-le, append-nil}
 use Rattle.frame_codec.specs.declared.message.Msg.{Msg}
 use Rattle.frame_codec.specs.Frame.{Fields}
@@ -13,15 +13,21 @@ use Rattle.window_link.specs.declared.laws.event.LinkEvent.TheVariants.{Queue, M
 use Rattle.window_link.specs.declared.laws.event.LinkReply.{LinkReply}
 use Rattle.window_link.specs.declared.laws.event.LinkReply.TheVariants.{Idle, Queued, Made, Arrived}
 use Rattle.window_link.specs.declared.fault.LinkFault.TheVariants.{Stranger, AckAhead}
-use Rattle.window_link.specs.Windows.{Sending}
-use Rattle.window_link.specs.Links.{LinkState, received_from, fault_of, arrival_at, after_arrival}
-use Rattle.window_link.specs.Streams.{Stream, Pair, IsLawful, waiting, other, with_stream, nth, can_send, send, post_waiting, learned, took, deliver, happens}
+use Rattle.window_link.specs.declared.arrival.Arrival.{Arrival}
+use Rattle.window_link.specs.declared.arrival.Arrival.TheVariants.{Acked, Fresh, Repeat, Kept, Early}
+use Rattle.window_link.specs.Windows.{Sending, Receiving, arrival, next_kept, kept_after, advanced, after_message}
+use Rattle.window_link.specs.Links.{LinkState, brings, received_from, fault_of, arrival_at}
+use Rattle.window_link.specs.Streams.{Stream, Pair, IsLawful, waiting, other, with_stream, nth, can_send, send, post_waiting, learned, took_next, took_by, took, deliver, happens}
+use Rattle.window_link.specs.Streams as streams
 use Rattle.window_link.specs.Two.{Ends, at, link_at, ends_of, Accepts}
-use Rattle.window_link.specs.refinement.TwoLinksStep.{with_link, with_sending, queue_step, made, made_of, with_frames, arrive_step, step}
+use Rattle.window_link.specs.refinement.TwoLinksStep.{with_link, with_sending, queue_step, made, made_of, with_frames, followed, settled, after_taking, arrive_step, step}
 use Rattle.window_link.proofs.Invariant.{Sound, Honest}
-use Rattle.window_link.specs.Limits.{most_waiting, greatest}
+use Rattle.window_link.specs.Limits.{most_waiting, most_kept, greatest}
 
 -- ---- parts of a link's state
+
+abbrev window_of : Stream → Receiving
+window_of s = record { taken = length s.taken; kept = s.kept }
 
 shown_link : Pair → End → Stream → Stream → LinkState
 shown_link p e out back = record {
@@ -29,7 +35,7 @@ shown_link p e out back = record {
   me = p.office e;
   peer = p.office (other e);
   sending = record { acked = out.acked; waiting = waiting out };
-  receiving = record { taken = length back.taken };
+  receiving = window_of back;
 }
 
 at_is : (p : Pair) (e : End) → at (ends_of p) e ≡ link_at p e
@@ -42,16 +48,25 @@ unfolding shown_link
 ends_with p Left s = refl
 ends_with p Right s = refl
 
-link_sent : (p : Pair) (e : End) (s : Stream) → s.taken ≡ (p.stream e).taken → shown_link p (other e) (p.stream (other e)) s ≡ at (ends_of p) (other e)
-unfolding shown_link
-link_sent p Left s same = ap (λ l. shown_link p Right (p.stream Right) (record { sent = s.sent; taken = l; acked = s.acked })) same
-link_sent p Right s same = ap (λ l. shown_link p Left (p.stream Left) (record { sent = s.sent; taken = l; acked = s.acked })) same
+with_window : Pair → End → Receiving → LinkState
+with_window p e r = record {
+  run = p.run;
+  me = p.office e;
+  peer = p.office (other e);
+  sending = record { acked = (p.stream e).acked; waiting = waiting (p.stream e) };
+  receiving = r;
+}
+
+link_sent : (p : Pair) (e : End) (s : Stream) → window_of s ≡ window_of (p.stream e) → shown_link p (other e) (p.stream (other e)) s ≡ at (ends_of p) (other e)
+unfolding shown_link with_window
+link_sent p Left s same = ap (λ (r : Receiving). with_window p Right r) same
+link_sent p Right s same = ap (λ (r : Receiving). with_window p Left r) same
 
 with_other : (t : Ends) (e : End) (l : LinkState) → with_link (with_link t e l) (other e) (at t (other e)) ≡ with_link t e l
 with_other t Left l = refl
 with_other t Right l = refl
 
-ends_sent : (p : Pair) (e : End) (s : Stream) → s.taken ≡ (p.stream e).taken → ends_of (with_stream p e s) ≡ with_link (ends_of p) e (shown_link p e s (p.stream (other e)))
+ends_sent : (p : Pair) (e : End) (s : Stream) → window_of s ≡ window_of (p.stream e) → ends_of (with_stream p e s) ≡ with_link (ends_of p) e (shown_link p e s (p.stream (other e)))
 ends_sent p e s same =
     ends_with p e s ∙ ap (with_link (with_link (ends_of p) e (shown_link p e s (p.stream (other e)))) (other e)) (link_sent p e s same)
     ∙ with_other (ends_of p) e (shown_link p e s (p.stream (other e)))
@@ -67,7 +82,7 @@ acked_low : (s : Stream) → IsLawful s → s.acked ≤ length s.sent
 acked_low s h = let low = h.acknowledged in omega (arith, low, ap length h.begins, length-append s.taken h.ahead)
 
 more : Stream → Msg → Stream
-more s msg = record { sent = s.sent ++ msg ∷ []; taken = s.taken; acked = s.acked }
+more s msg = record { sent = s.sent ++ msg ∷ []; taken = s.taken; acked = s.acked; kept = s.kept }
 
 window : ℕ → List Msg → Sending
 window acked ms = record { acked = acked; waiting = ms }
@@ -78,7 +93,7 @@ link_more p e msg h =
     ap (λ (ms : List Msg). with_waiting p e ms) (drop-append-le (p.stream e).acked (p.stream e).sent (msg ∷ []) (acked_low (p.stream e) h))
   where
     with_waiting : Pair → End → List Msg → LinkState
-    with_waiting p e ms = record { run = p.run; me = p.office e; peer = p.office (other e); sending = record { acked = (p.stream e).acked; waiting = ms }; receiving = record { taken = length (p.stream (other e)).taken } }
+    with_waiting p e ms = record { run = p.run; me = p.office e; peer = p.office (other e); sending = record { acked = (p.stream e).acked; waiting = ms }; receiving = window_of (p.stream (other e)) }
 
 -- a link in the place of the same link
 with_same : (t : Ends) (e : End) → with_link t e (at t e) ≡ t
@@ -116,24 +131,24 @@ step_post_waiting p e i (Some msg) = refl
 
 -- ---- a frame arrives
 
-link_with : (p : Pair) (e : End) → ℕ → List Msg → ℕ → LinkState
-link_with p e acked ms taken = record {
+link_with : (p : Pair) (e : End) → ℕ → List Msg → Receiving → LinkState
+link_with p e acked ms r = record {
   run = p.run;
   me = p.office e;
   peer = p.office (other e);
   sending = record { acked = acked; waiting = ms };
-  receiving = record { taken = taken };
+  receiving = r;
 }
 
-link_same : (p : Pair) (e : End) (out out' back back' : Stream) → out'.sent ≡ out.sent → out'.acked ≡ out.acked → back'.taken ≡ back.taken → shown_link p e out' back' ≡ shown_link p e out back
+link_same : (p : Pair) (e : End) (out out' back back' : Stream) → out'.sent ≡ out.sent → out'.acked ≡ out.acked → window_of back' ≡ window_of back → shown_link p e out' back' ≡ shown_link p e out back
 unfolding shown_link link_with
-link_same p e out out' back back' sent acked taken =
-    ap (λ (l : List Msg). link_with p e out'.acked (drop out'.acked l) (length back'.taken)) sent
-    ∙ ap (λ (n : ℕ). link_with p e n (drop n out.sent) (length back'.taken)) acked
-    ∙ ap (λ (l : List Msg). link_with p e out.acked (drop out.acked out.sent) (length l)) taken
+link_same p e out out' back back' sent acked same =
+    ap (λ (l : List Msg). link_with p e out'.acked (drop out'.acked l) (window_of back')) sent
+    ∙ ap (λ (n : ℕ). link_with p e n (drop n out.sent) (window_of back')) acked
+    ∙ ap (λ (r : Receiving). link_with p e out.acked (drop out.acked out.sent) r) same
 
 -- where the taker learned a count and took a message, only its own link changed
-ends_taken : (p : Pair) (e : End) (out' back' : Stream) → out'.sent ≡ (p.stream e).sent → out'.acked ≡ (p.stream e).acked → back'.taken ≡ (p.stream (other e)).taken →
+ends_taken : (p : Pair) (e : End) (out' back' : Stream) → out'.sent ≡ (p.stream e).sent → out'.acked ≡ (p.stream e).acked → window_of back' ≡ window_of (p.stream (other e)) →
     ends_of (with_stream (with_stream p (other e) back') e out') ≡ with_link (ends_of p) (other e) (shown_link p (other e) back' out')
 unfolding shown_link
 ends_taken p Left out' back' sent acked taken =
@@ -141,18 +156,45 @@ ends_taken p Left out' back' sent acked taken =
 ends_taken p Right out' back' sent acked taken =
     ap (λ l. record { left = shown_link p Left back' out'; right = l; frames = p.frames }) (link_same p Right (p.stream Right) out' (p.stream Left) back' sent acked taken)
 
+followed_sent : (o : Option Msg) (n : ℕ) (s : Stream) → ((streams.followed o n s).sent ≡ s.sent) × ((streams.followed o n s).acked ≡ s.acked)
+followed_sent None n s = (refl, refl)
+followed_sent (Some msg) zero s = (refl, refl)
+followed_sent (Some msg) (suc n) s = followed_sent (get_or (took_next s msg).kept 0 None) n (took_next s msg)
+
 took_sent : (s : Stream) (number : ℕ) (msg : Option Msg) → ((took s number msg).sent ≡ s.sent) × ((took s number msg).acked ≡ s.acked)
 took_sent s number None = (refl, refl)
-took_sent s number (Some msg) = cond_both {A = Stream} (number == length s.taken + 1) _ _ (λ t. (t.sent ≡ s.sent) × (t.acked ≡ s.acked)) (λ yes. (refl, refl)) (λ no. (refl, refl))
-
-took_taken : (s : Stream) (number : ℕ) (msg : Option Msg) → length (took s number msg).taken ≡ (received_from (record { taken = length s.taken }) number msg).taken
-took_taken s number None = refl
-took_taken s number (Some msg) = choice (number == length s.taken + 1) (λ yes. let n = eqb-true number (length s.taken + 1) yes in omega (arith, length-append s.taken (msg ∷ [])))
+took_sent s number (Some msg) = by (arrival (length s.taken) number msg)
   where
-    choice : (b : Bool) → (b ≡ true → length (s.taken ++ msg ∷ []) ≡ number) →
-        length (cond b (record { sent = s.sent; taken = s.taken ++ msg ∷ []; acked = s.acked }) s).taken ≡ cond b number (length s.taken)
-    choice true f = f refl
-    choice false f = refl
+    by : (a : Arrival) → ((took_by s number msg a).sent ≡ s.sent) × ((took_by s number msg a).acked ≡ s.acked)
+    by (Fresh m) = followed_sent (get_or (took_next s m).kept 0 None) most_kept (took_next s m)
+    by Acked = (refl, refl)
+    by Repeat = (refl, refl)
+    by Kept = (refl, refl)
+    by Early = (refl, refl)
+
+-- the taker's window goes along
+advanced_window : (s : Stream) (msg : Msg) → advanced (window_of s) ≡ window_of (took_next s msg)
+advanced_window s msg = ap (λ (n : ℕ). with_count n) (omega (arith, length-append s.taken (msg ∷ [])))
+  where
+    with_count : ℕ → Receiving
+    with_count n = record { taken = n; kept = kept_after s.kept }
+
+followed_window : (o : Option Msg) (n : ℕ) (s : Stream) → followed o n (window_of s) ≡ window_of (streams.followed o n s)
+followed_window None n s = refl
+followed_window (Some msg) zero s = refl
+followed_window (Some msg) (suc n) s =
+    ap (λ (r : Receiving). followed (next_kept r) n r) (advanced_window s msg) ∙ followed_window (get_or (took_next s msg).kept 0 None) n (took_next s msg)
+
+took_window : (s : Stream) (number : ℕ) (msg : Option Msg) → settled (brings (length s.taken) number msg) (received_from (window_of s) number msg) ≡ window_of (took s number msg)
+took_window s number None = refl
+took_window s number (Some msg) = by (arrival (length s.taken) number msg)
+  where
+    by : (a : Arrival) → settled a (after_message (window_of s) number msg a) ≡ window_of (took_by s number msg a)
+    by (Fresh m) = ap (λ (r : Receiving). followed (next_kept r) most_kept r) (advanced_window s m) ∙ followed_window (get_or (took_next s m).kept 0 None) most_kept (took_next s m)
+    by Acked = refl
+    by Repeat = refl
+    by Kept = refl
+    by Early = refl
 
 -- what waits is dropped up to the greater count
 learned_waiting : (s : Stream) (count : ℕ) → waiting (learned s count) ≡ drop (count - s.acked) (waiting s)
@@ -160,11 +202,11 @@ learned_waiting s count =
     let n : s.acked + (count - s.acked) ≡ max s.acked count = omega arith in
     sym (drop-drop (count - s.acked) s.acked s.sent ∙ ap (λ k. drop k s.sent) n)
 
-link_arrived : (p : Pair) (e : End) (f : Fields) (out back : Stream) → after_arrival (shown_link p e back out) f ≡ shown_link p e (learned back f.count) (took out f.number f.msg)
+link_arrived : (p : Pair) (e : End) (f : Fields) (out back : Stream) → after_taking (shown_link p e back out) f ≡ shown_link p e (learned back f.count) (took out f.number f.msg)
 unfolding shown_link link_with
 link_arrived p e f out back =
-    ap (λ (l : List Msg). link_with p e (max back.acked f.count) l ((received_from (record { taken = length out.taken }) f.number f.msg).taken)) (sym (learned_waiting back f.count))
-    ∙ ap (λ (n : ℕ). link_with p e (max back.acked f.count) (waiting (learned back f.count)) n) (sym (took_taken out f.number f.msg))
+    ap (λ (l : List Msg). link_with p e (max back.acked f.count) l (settled (brings (length out.taken) f.number f.msg) (received_from (window_of out) f.number f.msg))) (sym (learned_waiting back f.count))
+    ∙ ap (λ (r : Receiving). link_with p e (max back.acked f.count) (waiting (learned back f.count)) r) (took_window out f.number f.msg)
 
 at_other : (p : Pair) (e : End) → at (ends_of p) (other e) ≡ shown_link p (other e) (p.stream (other e)) (p.stream e)
 unfolding shown_link
@@ -172,7 +214,7 @@ at_other p Left = refl
 at_other p Right = refl
 
 arrived : Ends → End → Fields → LinkState → LinkReply × Ends
-arrived t d f l = (Arrived (arrival_at l f), with_link t d (after_arrival l f))
+arrived t d f l = (Arrived (arrival_at l f), with_link t d (after_taking l f))
 
 step_deliver : (p : Pair) (posted : Option Posted) → arrive_step (ends_of p) posted ≡ shown (deliver p posted)
 unfolding shown arrived shown_link

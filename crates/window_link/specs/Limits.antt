@@ -6,6 +6,10 @@ use Rattle.frame_codec.specs.Limits.{sequence_space}
 abbrev pub most_waiting : ℕ
 most_waiting = 18
 
+-- the most messages after the taken ones that have a place
+abbrev pub most_kept : ℕ
+most_kept = 18
+
 -- the greatest number of a message
 abbrev pub greatest : ℕ
 greatest = sequence_space - 1

@@ -1,5 +1,5 @@
 -- One end of a link: the frames that it makes, and what it answers to those that come.
-use Rattle.std.specs.Prelude.{ℕ, ◌+◌, ◌-◌, Bool, not, ◌&&◌, ◌==◌, nat_lt, if◌then◌else◌, [], slice_get, Option, Some, None}
+use Rattle.std.specs.Prelude.{ℕ, ◌+◌, ◌-◌, Bool, not, ◌&&◌, ◌==◌, nat_lt, if◌then◌else◌, [], replicate, slice_get, Option, Some, None}
 use Rattle.frame_codec.specs.declared.message.Msg.{Msg}
 use Rattle.frame_codec.specs.Frame.{Fields}
 use Rattle.window_link.specs.declared.arrival.Arrival.{Arrival}
@@ -7,6 +7,7 @@ use Rattle.window_link.specs.declared.arrival.Arrival.TheVariants.{Acked}
 use Rattle.window_link.specs.declared.fault.LinkFault.{LinkFault}
 use Rattle.window_link.specs.declared.fault.LinkFault.TheVariants.{Stranger, AckAhead}
 use Rattle.window_link.specs.Windows.{Sending, Receiving, used, acknowledged, arrival, received}
+use Rattle.window_link.specs.Limits.{most_kept}
 
 -- the run, the numbers of the two offices, and what goes either way
 pub record LinkState : Type 0 where
@@ -19,7 +20,7 @@ pub record LinkState : Type 0 where
 -- an end that used the numbers up to `sent`, all of them acknowledged, and took `taken` messages
 abbrev pub resumed : ℕ → ℕ → ℕ → ℕ → ℕ → LinkState
 resumed run me peer sent taken =
-    record { run = run; me = me; peer = peer; sending = record { acked = sent; waiting = [] }; receiving = record { taken = taken } }
+    record { run = run; me = me; peer = peer; sending = record { acked = sent; waiting = [] }; receiving = record { taken = taken; kept = replicate most_kept None } }
 
 -- ---- frames that it makes
 
@@ -53,7 +54,7 @@ brings taken number (Some msg) = arrival taken number msg
 
 abbrev pub received_from : Receiving → ℕ → Option Msg → Receiving
 received_from r number None = r
-received_from r number (Some msg) = received r number
+received_from r number (Some msg) = received r number msg
 
 abbrev pub arrival_at : LinkState → Fields → Arrival
 arrival_at l f = brings l.receiving.taken f.number f.msg

@@ -1,5 +1,5 @@
 -- What goes each way between two ends, told as whole lists, and what each event does to it.
-use Rattle.std.specs.Prelude.{◌≡◌, ℕ, zero, suc, ◌+◌, ◌≤◌, max, Bool, ◌&&◌, ◌==◌, nat_lt, if◌then◌else◌, List, [], ◌∷◌, ◌++◌, length, drop, slice_get, Option, Some, None}
+use Rattle.std.specs.Prelude.{◌≡◌, ℕ, zero, suc, ◌+◌, ◌-◌, ◌≤◌, max, Bool, ◌&&◌, nat_lt, if◌then◌else◌, List, [], ◌∷◌, ◌++◌, length, drop, replicate, get_or, slice_get, Option, Some, None}
 use Rattle.frame_codec.specs.declared.message.Msg.{Msg}
 use Rattle.frame_codec.specs.Frame.{Fields}
 use Rattle.window_link.specs.declared.laws.event.End.{End}
@@ -9,26 +9,33 @@ use Rattle.window_link.specs.declared.laws.event.LinkEvent.{LinkEvent}
 use Rattle.window_link.specs.declared.laws.event.LinkEvent.TheVariants.{Queue, Make, Ack, Arrive}
 use Rattle.window_link.specs.declared.laws.event.LinkReply.{LinkReply}
 use Rattle.window_link.specs.declared.laws.event.LinkReply.TheVariants.{Idle, Queued, Made, Arrived}
+use Rattle.window_link.specs.declared.arrival.Arrival.{Arrival}
+use Rattle.window_link.specs.declared.arrival.Arrival.TheVariants.{Acked, Fresh, Repeat, Kept, Early}
+use Rattle.window_link.specs.Windows.{arrival, kept_with, kept_after}
 use Rattle.window_link.specs.Links.{brings}
-use Rattle.window_link.specs.Limits.{most_waiting, greatest}
+use Rattle.window_link.specs.Limits.{most_waiting, most_kept, greatest}
 
 -- What goes one way: the messages that were sent, of which the k-th has the number k; those that
--- the other end took, in order; and how many the sender knows to be taken.
+-- the other end took, in order; how many the sender knows to be taken; and what the other end keeps of the numbers after
+-- the taken ones, first of the next.
 pub record Stream : Type 0 where
   pub sent : List Msg
   pub taken : List Msg
   pub acked : ℕ
+  pub kept : List (Option Msg)
 
 -- what waits for acknowledgement: what was sent, without the acknowledged beginning
 abbrev pub waiting : Stream → List Msg
 waiting s = drop s.acked s.sent
 
--- What is taken begins what was sent; what is acknowledged was taken; at most 18 wait.
+-- What is taken begins what was sent; what is acknowledged was taken; at most 18 wait; what is kept of a number was sent
+-- with it.
 pub record IsLawful (s : Stream) : Type 0 where
   pub ahead : List Msg
   pub begins : s.sent ≡ s.taken ++ ahead
   pub acknowledged : s.acked ≤ length s.taken
   pub few : length (waiting s) ≤ most_waiting
+  pub kept : (k : ℕ) (msg : Msg) → get_or s.kept k None ≡ Some msg → slice_get s.sent (length s.taken + k) ≡ Some msg
 
 -- two ends: the run's number, the offices' numbers, what each end sends, every frame that was made
 pub record Pair : Type 0 where
@@ -67,7 +74,7 @@ abbrev pub send : Pair → End → Msg → LinkReply × Pair
 send p e msg =
     let s = p.stream e in
     if can_send s
-    then (Queued, with_stream p e (record { sent = s.sent ++ msg ∷ []; taken = s.taken; acked = s.acked }))
+    then (Queued, with_stream p e (record { sent = s.sent ++ msg ∷ []; taken = s.taken; acked = s.acked; kept = s.kept }))
     else (Idle, p)
 
 -- a frame of that end has the count of what the end has taken by now
@@ -82,13 +89,29 @@ post_waiting p e i (Some msg) = post p e ((p.stream e).acked + i) (Some msg)
 
 -- the sender learns the count
 abbrev pub learned : Stream → ℕ → Stream
-learned s count = record { sent = s.sent; taken = s.taken; acked = max s.acked count }
+learned s count = record { sent = s.sent; taken = s.taken; acked = max s.acked count; kept = s.kept }
 
--- the message is taken where its number is the next
+-- the next message is taken
+abbrev pub took_next : Stream → Msg → Stream
+took_next s msg = record { sent = s.sent; taken = s.taken ++ msg ∷ []; acked = s.acked; kept = kept_after s.kept }
+
+-- and after it what is kept, up to the first gap; so many at most
+abbrev pub followed : Option Msg → ℕ → Stream → Stream
+followed None n s = s
+followed (Some msg) zero s = s
+followed (Some msg) (suc n) s = followed (get_or (took_next s msg).kept 0 None) n (took_next s msg)
+
+-- a message is taken where its number is the next, with those that follow, and kept where it comes up to 18 past the taken ones
+abbrev pub took_by : Stream → ℕ → Msg → Arrival → Stream
+took_by s number msg (Fresh m) = followed (get_or (took_next s m).kept 0 None) most_kept (took_next s m)
+took_by s number msg Kept = record { sent = s.sent; taken = s.taken; acked = s.acked; kept = kept_with s.kept (number - (length s.taken + 1)) msg }
+took_by s number msg Acked = s
+took_by s number msg Repeat = s
+took_by s number msg Early = s
+
 abbrev pub took : Stream → ℕ → Option Msg → Stream
 took s number None = s
-took s number (Some msg) =
-    if number == length s.taken + 1 then record { sent = s.sent; taken = s.taken ++ msg ∷ []; acked = s.acked } else s
+took s number (Some msg) = took_by s number msg (arrival (length s.taken) number msg)
 
 abbrev pub deliver : Pair → Option Posted → LinkReply × Pair
 deliver p None = (Idle, p)
@@ -110,7 +133,7 @@ happens p (Arrive k) = deliver p (nth p.frames k)
 -- ---- runs
 
 abbrev pub empty : Stream
-empty = record { sent = []; taken = []; acked = 0 }
+empty = record { sent = []; taken = []; acked = 0; kept = replicate most_kept None }
 
 abbrev pub opening : ℕ → (End → ℕ) → Pair
 opening run office = record { run = run; office = office; stream = λ e. empty; frames = [] }

@@ -1,5 +1,5 @@
 -- Two linked ends as contracts see them, and which lists of events led to them.
-use Rattle.std.specs.Prelude.{◌≡◌, ℕ, List, ◌∷◌, [], ◌++◌, length, ◌+◌, slice_get, Some, None, Bool, true, false}
+use Rattle.std.specs.Prelude.{◌≡◌, ℕ, List, ◌∷◌, [], ◌++◌, length, slice_get, Some, None, Bool, true, false}
 use Rattle.window_link.specs.declared.laws.event.End.{End}
 use Rattle.window_link.specs.declared.laws.event.End.TheVariants.{Left, Right}
 use Rattle.window_link.specs.declared.laws.event.Posted.{Posted}
@@ -26,7 +26,7 @@ link_at p e =
       me = p.office e;
       peer = p.office (other e);
       sending = record { acked = (p.stream e).acked; waiting = waiting (p.stream e) };
-      receiving = record { taken = length (p.stream (other e)).taken };
+      receiving = record { taken = length (p.stream (other e)).taken; kept = (p.stream (other e)).kept };
     }
 
 abbrev pub ends_of : Pair → Ends

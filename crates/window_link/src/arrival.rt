@@ -11,6 +11,9 @@ pub enum Arrival {
     Fresh(Msg),
     /// A message that was taken before.
     Repeat,
-    /// A message that is ahead of the next one; it is dropped.
+    /// A message that is ahead of the next one; it is kept until the ones before it are taken, or was kept
+    /// already.
+    Kept,
+    /// A message that is too far ahead to be kept; it is dropped.
     Early,
 }

@@ -1,8 +1,8 @@
 //! One end of a link.
 
-ghost use Rattle.std.specs.Prelude.{◌≡◌, ◌<◌, ◌≤◌, ◌^◌, ◌↔◌, length, None, IsTrue, IsErr, IfOk, IfErr, OnOk, OnErr};
+ghost use Rattle.std.specs.Prelude.{◌≡◌, ◌<◌, ◌≤◌, ◌^◌, ◌↔◌, length, None, is_some, true, IsTrue, IsErr, IfOk, IfErr, OnOk, OnErr};
 ghost use Rattle.std.specs.Result.{result_err};
-ghost use Rattle.window_link.specs.Windows.{used, queued};
+ghost use Rattle.window_link.specs.Windows.{used, queued, next_kept, advanced, without_next};
 ghost use Rattle.window_link.specs.Links.{resumed, frame_of, ack_frame_of, fault_of, arrival_at, after_arrival};
 ghost use Rattle.frame_codec.specs.Limits.{sequence_space};
 ghost use Rattle.window_link.specs.Limits.{greatest};
@@ -135,7 +135,8 @@ impl Link {
         Ok(())
     }
 
-    /// Takes in a frame that `check` passes: first its count, then its message.
+    /// Takes in a frame that `check` passes: first its count, then its message. One that is ahead is kept, and
+    /// nothing follows by itself: after a `Fresh` the caller looks at [`Link::kept`].
     pub fn accept(&mut self, frame: &Frame) -> Arrival
         requires { fault_of self.old frame.now ≡ None }
         ensures arrival { result ≡ arrival_at self.old frame.now }
@@ -146,6 +147,29 @@ impl Link {
             None => Arrival::Acked,
             Some(msg) => self.receiving.receive(frame.number(), msg),
         }
+    }
+
+    /// What is kept of the next number: the message of a frame that came before its turn.
+    pub fn kept(&self) -> Option<Msg>
+        ensures { result ≡ next_kept self.now.receiving }
+    {
+        self.receiving.kept()
+    }
+
+    /// What is kept of the next number is taken.
+    pub fn accept_kept(&mut self)
+        requires { is_some (next_kept self.old.receiving) ≡ true }
+        ensures { self.new ≡ record self.old { receiving = advanced self.old.receiving } }
+    {
+        self.receiving.accept_kept();
+    }
+
+    /// What is kept of the next number is thrown out. A frame that brings it anew is taken as any other.
+    pub fn drop_kept(&mut self)
+        requires { is_some (next_kept self.old.receiving) ≡ true }
+        ensures { self.new ≡ record self.old { receiving = without_next self.old.receiving } }
+    {
+        self.receiving.drop_kept();
     }
 
     /// Takes in a frame that comes.

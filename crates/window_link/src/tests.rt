@@ -1,3 +1,6 @@
+ghost use Rattle.std.specs.Prelude.{◌<◌};
+ghost use Rattle.frame_codec.specs.Limits.{sequence_space};
+
 use super::*;
 use frame_codec::{Frame, Msg};
 use std::process::Abort;
@@ -71,7 +74,7 @@ fn strangers_come_first(rt: HostRuntime) {
 fn counts_are_used_in_every_frame(rt: HostRuntime) {
     let mut link = with_two_waiting(&rt);
     let early = Frame::data(42, 1, 0, 2, 1, Msg::Fork);
-    comes(&rt, &mut link, early, Ok(Arrival::Early), (0, 1, 1));
+    comes(&rt, &mut link, early, Ok(Arrival::Kept), (0, 1, 1));
     let next = Frame::data(42, 1, 0, 1, 0, Msg::AskFork);
     let fresh = Ok(Arrival::Fresh(Msg::AskFork));
     comes(&rt, &mut link, next, fresh, (1, 1, 1));
@@ -80,6 +83,101 @@ fn counts_are_used_in_every_frame(rt: HostRuntime) {
     let ack = Frame::ack(42, 1, 0, 1);
     comes(&rt, &mut link, ack, Ok(Arrival::Acked), (1, 2, 0));
     assert_eq!(rt; link.ack_frame(), Frame::ack(42, 0, 1, 1));
+}
+
+fn brings(rt: &impl Abort, link: &mut Link, number: u64, msg: Msg, arrival: Arrival, taken: u64)
+    requires first { 0 < number }
+    requires last { number < sequence_space }
+{
+    let frame = Frame::data(42, 1, 0, number, 0, msg);
+    comes(rt, link, frame, Ok(arrival), (taken, 0, 0));
+}
+
+#[test]
+fn early_messages_are_kept(rt: HostRuntime) {
+    let mut link = Link::open(42, 0, 1);
+    let second = Msg::AskBottle(2);
+    brings(&rt, &mut link, 2, second, Arrival::Kept, 0);
+    brings(&rt, &mut link, 2, Msg::Fork, Arrival::Kept, 0);
+    brings(&rt, &mut link, 18, Msg::Fork, Arrival::Kept, 0);
+    brings(&rt, &mut link, 19, Msg::Fork, Arrival::Early, 0);
+    assert_eq!(rt; link.kept(), None);
+    brings(
+        &rt,
+        &mut link,
+        1,
+        Msg::AskFork,
+        Arrival::Fresh(Msg::AskFork),
+        1,
+    );
+    assert_eq!(rt; link.kept(), Some(second));
+    if link.kept().is_some() {
+        link.accept_kept();
+    }
+    assert_eq!(rt; link.kept(), None);
+    brings(&rt, &mut link, 2, second, Arrival::Repeat, 2);
+    brings(&rt, &mut link, 20, Msg::Fork, Arrival::Kept, 2);
+    brings(&rt, &mut link, 21, Msg::Fork, Arrival::Early, 2);
+}
+
+#[test]
+fn what_is_kept_is_thrown_out(rt: HostRuntime) {
+    let mut link = Link::open(42, 0, 1);
+    let second = Msg::AskBottle(2);
+    for number in [2, 3] {
+        brings(&rt, &mut link, number, Msg::Fork, Arrival::Kept, 0);
+    }
+    brings(
+        &rt,
+        &mut link,
+        1,
+        Msg::AskFork,
+        Arrival::Fresh(Msg::AskFork),
+        1,
+    );
+    if link.kept().is_some() {
+        link.drop_kept();
+    }
+    assert_eq!(rt; link.kept(), None);
+    brings(&rt, &mut link, 2, second, Arrival::Fresh(second), 2);
+    assert_eq!(rt; link.kept(), Some(Msg::Fork));
+    brings(&rt, &mut link, 3, second, Arrival::Fresh(second), 3);
+    assert_eq!(rt; link.kept(), None);
+}
+
+#[test]
+fn the_last_numbers_are_kept(rt: HostRuntime) {
+    let before = 281_474_976_710_653;
+    let mut link = Link::resume(42, 0, 1, 0, before);
+    brings(
+        &rt,
+        &mut link,
+        281_474_976_710_655,
+        Msg::Fork,
+        Arrival::Kept,
+        before,
+    );
+    brings(
+        &rt,
+        &mut link,
+        281_474_976_710_654,
+        Msg::AskFork,
+        Arrival::Fresh(Msg::AskFork),
+        281_474_976_710_654,
+    );
+    assert_eq!(rt; link.kept(), Some(Msg::Fork));
+    if link.kept().is_some() {
+        link.accept_kept();
+    }
+    brings(
+        &rt,
+        &mut link,
+        281_474_976_710_655,
+        Msg::Fork,
+        Arrival::Repeat,
+        281_474_976_710_655,
+    );
+    assert_eq!(rt; link.kept(), None);
 }
 
 #[test]

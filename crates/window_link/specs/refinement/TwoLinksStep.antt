@@ -1,5 +1,5 @@
 -- One event as the two links see it, between the functions that carry it out.
-use Rattle.std.specs.Prelude.{◌≡◌, ℕ, ◌+◌, ◌&&◌, nat_lt, if◌then◌else◌, List, [], ◌∷◌, ◌++◌, length, Option, Some, None, Result, OnErr, IfOk, IsTrue}
+use Rattle.std.specs.Prelude.{◌≡◌, ℕ, zero, suc, ◌+◌, ◌&&◌, nat_lt, if◌then◌else◌, List, [], ◌∷◌, ◌++◌, length, Option, Some, None, Result, OnErr, IfOk, IsTrue}
 use Rattle.std.specs.declared.alloc.AllocError.{AllocError}
 use Rattle.frame_codec.specs.declared.message.Msg.{Msg}
 use Rattle.window_link.specs.declared.laws.event.End.{End}
@@ -9,11 +9,14 @@ use Rattle.window_link.specs.declared.laws.event.LinkEvent.{LinkEvent}
 use Rattle.window_link.specs.declared.laws.event.LinkEvent.TheVariants.{Queue, Make, Ack, Arrive}
 use Rattle.window_link.specs.declared.laws.event.LinkReply.{LinkReply}
 use Rattle.window_link.specs.declared.laws.event.LinkReply.TheVariants.{Idle, Queued, Made, Arrived}
-use Rattle.window_link.specs.Windows.{used, queued}
+use Rattle.frame_codec.specs.Frame.{Fields}
+use Rattle.window_link.specs.declared.arrival.Arrival.{Arrival}
+use Rattle.window_link.specs.declared.arrival.Arrival.TheVariants.{Acked, Fresh, Repeat, Kept, Early}
+use Rattle.window_link.specs.Windows.{Receiving, used, queued, next_kept, advanced}
 use Rattle.window_link.specs.Links.{LinkState, frame_with, arrival_at, after_arrival}
 use Rattle.window_link.specs.Streams.{other, nth}
 use Rattle.window_link.specs.Two.{Ends, at, makes_frame}
-use Rattle.window_link.specs.Limits.{most_waiting, greatest}
+use Rattle.window_link.specs.Limits.{most_waiting, most_kept, greatest}
 
 abbrev pub ends : LinkState → LinkState → List Posted → Ends
 ends left right frames = record { left = left; right = right; frames = frames }
@@ -43,11 +46,31 @@ made_of l e i (Some msg) = (Made, made l e (l.sending.acked + i) (Some msg))
 abbrev pub with_frames : Ends → LinkReply × List Posted → LinkReply × Ends
 with_frames t m = (m.0, record { left = t.left; right = t.right; frames = t.frames ++ m.1 })
 
+abbrev pub with_receiving : LinkState → Receiving → LinkState
+with_receiving l r = record { run = l.run; me = l.me; peer = l.peer; sending = l.sending; receiving = r }
+
+-- what is kept is taken up to the first gap, so many at most
+abbrev pub followed : Option Msg → ℕ → Receiving → Receiving
+followed None n r = r
+followed (Some msg) zero r = r
+followed (Some msg) (suc n) r = followed (next_kept (advanced r)) n (advanced r)
+
+-- which follows a message that is taken
+abbrev pub settled : Arrival → Receiving → Receiving
+settled (Fresh msg) r = followed (next_kept r) most_kept r
+settled Acked r = r
+settled Repeat r = r
+settled Kept r = r
+settled Early r = r
+
+abbrev pub after_taking : LinkState → Fields → LinkState
+after_taking l f = with_receiving (after_arrival l f) (settled (arrival_at l f) (after_arrival l f).receiving)
+
 abbrev pub arrive_step : Ends → Option Posted → LinkReply × Ends
 arrive_step t None = (Idle, t)
 arrive_step t (Some posted) =
     let d = other posted.by in
-    (Arrived (arrival_at (at t d) posted.frame), with_link t d (after_arrival (at t d) posted.frame))
+    (Arrived (arrival_at (at t d) posted.frame), with_link t d (after_taking (at t d) posted.frame))
 
 abbrev pub step : Ends → LinkEvent → LinkReply × Ends
 step t (Queue e msg) = ((queue_step (at t e) msg).0, with_link t e (queue_step (at t e) msg).1)

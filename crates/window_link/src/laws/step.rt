@@ -1,12 +1,17 @@
 //! One event at two links and the frames that they made.
 
-ghost use Rattle.std.specs.Prelude.{◌≡◌, ◌++◌, ◌∷◌, [], IfOk, OnOk, OnErr};
+ghost use Rattle.std.specs.Prelude.{◌≡◌, ◌++◌, ◌∷◌, [], None, IfOk, OnOk, OnErr};
 ghost use Rattle.window_link.specs.Streams.{nth};
-ghost use Rattle.window_link.specs.refinement.TwoLinksStep.{queue_step, made_of, arrive_step, ends, Steps};
+ghost use Rattle.window_link.specs.Windows.{next_kept};
+ghost use Rattle.window_link.specs.Links.{fault_of, arrival_at};
+ghost use Rattle.window_link.specs.Limits.{most_kept};
+ghost use Rattle.window_link.specs.refinement.TwoLinksStep.{queue_step, made_of, arrive_step, after_taking, followed, with_receiving, ends, Steps};
 ghost use Rattle.window_link.specs.Two.{Accepts};
 
+use crate::arrival::Arrival;
 use crate::laws::event::{End, LinkEvent, LinkReply, Posted};
 use crate::link::Link;
+use crate::receiving::MAX_KEPT;
 use frame_codec::{Frame, Msg};
 use std::alloc::AllocError;
 
@@ -75,8 +80,32 @@ fn arrive(left: &mut Link, right: &mut Link, frames: &[Posted], k: usize) -> Lin
         return LinkReply::Idle;
     };
     let arrival = match posted.by {
-        End::Left => right.accept(&posted.frame),
-        End::Right => left.accept(&posted.frame),
+        End::Left => take(right, &posted.frame),
+        End::Right => take(left, &posted.frame),
     };
     LinkReply::Arrived(arrival)
+}
+
+// What was kept follows a message that is taken.
+fn take(link: &mut Link, frame: &Frame) -> Arrival
+    requires { fault_of link.old frame.now ≡ None }
+    ensures arrival { result ≡ arrival_at link.old frame.now }
+    ensures link { link.new ≡ after_taking link.old frame.now }
+{
+    let arrival = link.accept(frame);
+    if let Arrival::Fresh(_) = arrival {
+        follow(link);
+    }
+    arrival
+}
+
+fn follow(link: &mut Link)
+    ensures { link.new ≡ with_receiving link.old (followed (next_kept link.old.receiving) most_kept link.old.receiving) }
+{
+    for _ in 0..MAX_KEPT {
+        if link.kept().is_none() {
+            return;
+        }
+        link.accept_kept();
+    }
 }

@@ -37,7 +37,7 @@ fn three_made(rt: &impl Abort, alloc: Global) -> Result<Two, AllocError> {
 fn frames_come_out_of_order(rt: HostRuntime) -> Result<(), Fail> {
     let mut two = three_made(&rt, rt.alloc())?;
     let arrivals = [
-        (3, Arrival::Early),
+        (3, Arrival::Kept),
         (1, Arrival::Fresh(Msg::AskBottle(0))),
         (2, Arrival::Fresh(Msg::AskBottle(1))),
     ];
@@ -55,10 +55,9 @@ fn frames_come_out_of_order(rt: HostRuntime) -> Result<(), Fail> {
         LinkEvent::Make(End::Left, 3),
         LinkReply::Made,
     )?;
-    let third = LinkReply::Arrived(Arrival::Fresh(Msg::AskBottle(2)));
-    happens(&rt, &mut two, LinkEvent::Arrive(4), third)?;
     let repeat = LinkReply::Arrived(Arrival::Repeat);
-    happens(&rt, &mut two, LinkEvent::Arrive(3), repeat)?;
+    happens(&rt, &mut two, LinkEvent::Arrive(4), repeat)?;
+    assert!(rt; two.link(End::Right).taken() == 3);
     let frames = two.frames();
     assert!(rt; frames.len() == 4);
     assert_eq!(rt; frames[3], frames[2]);
@@ -179,6 +178,22 @@ impl Way {
         }
     }
 
+    // What was kept is taken too, up to that number: the frames tell what it was.
+    fn follow(&mut self, frames: &[Posted], by: End, taken: u64) -> Result<(), AllocError> {
+        for _ in 0..18 {
+            let number = self.taken.len() as u64 + 1;
+            if number > taken {
+                break;
+            }
+            let made = frames.iter().rev().find(|posted| posted.by == by
+                && posted.frame.number() == number);
+            if let Some(msg) = made.and_then(|posted| posted.frame.msg()) {
+                self.taken.push(msg)?;
+            }
+        }
+        Ok(())
+    }
+
     // What the sender and the taker say of it.
     fn is_kept(&self, rt: &impl Abort, sender: &Link, taker: &Link) {
         let taken = self.taken.len();
@@ -198,13 +213,20 @@ fn note(
     event: LinkEvent,
     reply: LinkReply,
 ) -> Result<(), AllocError> {
+    let frames = two.frames();
     match (event, reply) {
         (LinkEvent::Queue(End::Left, msg), LinkReply::Queued) => left.sent.push(msg)?,
         (LinkEvent::Queue(End::Right, msg), LinkReply::Queued) => right.sent.push(msg)?,
         (LinkEvent::Arrive(k), LinkReply::Arrived(Arrival::Fresh(msg))) => {
-            match two.frames().get(k.saturating_sub(1)) {
-                Some(Posted { by: End::Left, .. }) => left.taken.push(msg)?,
-                Some(_) => right.taken.push(msg)?,
+            match frames.get(k.saturating_sub(1)) {
+                Some(Posted { by: End::Left, .. }) => {
+                    left.taken.push(msg)?;
+                    left.follow(frames, End::Left, two.link(End::Right).taken())?;
+                }
+                Some(_) => {
+                    right.taken.push(msg)?;
+                    right.follow(frames, End::Right, two.link(End::Left).taken())?;
+                }
                 None => {}
             }
         }
