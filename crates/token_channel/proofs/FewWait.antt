@@ -1,22 +1,24 @@
 -- What waits is bounded by what is shared, over all that happens.
-use Rattle.std.proofs.Common.{◌≡◌, ℕ, ◌-◌, Bool, true, false, ◌&&◌, cond, List, [], ◌∷◌, length, Option, None, Some, is_some, refl, ◌∙◌, arith}
+use Rattle.std.proofs.Common.{◌≡◌, ℕ, zero, suc, ◌-◌, Bool, true, false, ◌&&◌, cond, List, [], ◌∷◌, length, drop, Option, None, Some, is_some, refl, sym, ap, ◌∙◌, arith}
 use Rattle.std.specs.Prelude.{nat_lt}
 use Rattle.frame_codec.specs.declared.message.Msg.{Msg}
 use Rattle.frame_codec.specs.Frame.{Fields}
-use Rattle.window_link.specs.Windows.{used}
-use Rattle.window_link.specs.Links.{fault_of}
+use Rattle.window_link.specs.declared.arrival.Arrival.{Arrival}
+use Rattle.window_link.specs.declared.arrival.Arrival.TheVariants.{Acked, Fresh, Repeat, Kept, Early}
+use Rattle.window_link.specs.Windows.{used, next_kept}
+use Rattle.window_link.specs.Links.{fault_of, arrival_at}
 use Rattle.window_link.specs.Limits.{greatest}
 use Rattle.token_channel.specs.declared.thing.Thing.{Thing}
 use Rattle.token_channel.specs.declared.thing.Thing.TheVariants.{Fork as TheFork}
 use Rattle.token_channel.specs.declared.thing.SharedThing.{SharedThing}
 use Rattle.token_channel.specs.Things.{thing_of}
 use Rattle.token_channel.specs.Places.{holds, shares, waits, places_of}
-use Rattle.token_channel.specs.Channels.{ChannelState, IsApart, opened, sent, channel_fault, after_frame, with_taken, next_of, left_by, is_breach, WhatIsSharedStays}
+use Rattle.token_channel.specs.Channels.{ChannelState, IsApart, opened, sent, channel_fault, after_frame, after_taking, after_kept, followed, settled, follows, link_then, most_following, with_taken, next_of, left_by, is_breach, WhatIsSharedStays}
 use Rattle.token_channel.specs.Waiting.{ChannelEvent, sends, comes, after_event, after_events, FewWait}
 use Rattle.token_channel.proofs.HeldUpdates.{shares-changed, length-changed}
 use Rattle.token_channel.proofs.ThingsApart.{apart_none, apart_sent, apart_drop, apart_taken, no_breach, room}
 use Rattle.token_channel.proofs.WaitingBound.{few_places}
-use Rattle.token_channel.proofs.FrameArrival.{unbreached}
+use Rattle.token_channel.proofs.FrameArrival.{unbreached, follows_unbreached}
 
 -- ---- what is shared
 
@@ -25,7 +27,7 @@ shares-taken places None t = refl
 shares-taken places (Some m) t = shares-changed places (thing_of m) t true
 
 pub shared_stays : WhatIsSharedStays
-shared_stays c t = (λ m. shares-changed c.places (thing_of m) t false, λ f. shares-taken c.places (next_of c.link f) t)
+shared_stays c t = (λ m. shares-changed c.places (thing_of m) t false, λ f. shares-taken c.places (next_of c.link f) t, shares-taken c.places (follows c) t)
 
 -- ---- things apart, in so many places
 
@@ -52,6 +54,34 @@ in_frame n c f none (apart, size) =
         let honest = no_breach (shares c.places (thing_of m)) (holds c.places (thing_of m)) (waits (thing_of m) (left_by c.link f.count)) (h m refl) in
         apart_taken c.places (left_by c.link f.count) (thing_of m) dropped honest.0 honest.1
 
+-- a kept message that follows is no breach either
+in_kept : (n : ℕ) (c : ChannelState) → InPlaces n c → InPlaces n (after_kept c)
+in_kept n c (apart, size) = (go (follows c) refl, length-taken c.places (follows c) ∙ size)
+  where
+    all_wait : left_by c.link c.link.sending.acked ≡ c.link.sending.waiting
+    all_wait = let none : c.link.sending.acked - c.link.sending.acked ≡ 0 = omega arith in ap (λ k. drop k c.link.sending.waiting) none
+
+    go : (o : Option Msg) → follows c ≡ o → IsApart (record { link = link_then c.link o; places = with_taken c.places o })
+    go None e = apart
+    go (Some m) e =
+        let honest = no_breach (shares c.places (thing_of m)) (holds c.places (thing_of m)) (waits (thing_of m) (left_by c.link c.link.sending.acked)) (follows_unbreached (is_breach c c.link.sending.acked) (next_kept c.link.receiving) m e) in
+        apart_taken c.places c.link.sending.waiting (thing_of m) apart honest.0 (ap (waits (thing_of m)) (sym all_wait) ∙ honest.1)
+
+in_followed : (n k : ℕ) (c : ChannelState) → InPlaces n c → InPlaces n (followed k c)
+in_followed n zero c h = h
+in_followed n (suc k) c h = go (is_some (follows c)) (in_followed n k (after_kept c) (in_kept n c h))
+  where
+    go : (b : Bool) → InPlaces n (followed k (after_kept c)) → InPlaces n (cond b (followed k (after_kept c)) (after_kept c))
+    go true rest = rest
+    go false rest = in_kept n c h
+
+in_settled : (n : ℕ) (a : Arrival) (c : ChannelState) → InPlaces n c → InPlaces n (settled a c)
+in_settled n (Fresh m) c h = in_followed n most_following c h
+in_settled n Acked c h = h
+in_settled n Repeat c h = h
+in_settled n Kept c h = h
+in_settled n Early c h = h
+
 in_event : (n : ℕ) (c : ChannelState) (e : ChannelEvent) → InPlaces n c → InPlaces n (after_event c e)
 in_event n c (sends m) h = go (holds c.places (thing_of m)) (nat_lt (used c.link.sending) greatest) refl
   where
@@ -61,8 +91,8 @@ in_event n c (sends m) h = go (holds c.places (thing_of m)) (nat_lt (used c.link
     go false b k = h
 in_event n c (comes f) h = go (channel_fault c f) refl
   where
-    go : (o : Option _) → channel_fault c f ≡ o → InPlaces n (cond (is_some o) c (after_frame c f))
-    go None k = in_frame n c f k h
+    go : (o : Option _) → channel_fault c f ≡ o → InPlaces n (cond (is_some o) c (after_taking c f))
+    go None k = in_settled n (arrival_at c.link f) (after_frame c f) (in_frame n c f k h)
     go (Some fault) k = h
 
 in_events : (n : ℕ) (c : ChannelState) (es : List ChannelEvent) → InPlaces n c → InPlaces n (after_events c es)

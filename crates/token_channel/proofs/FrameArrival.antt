@@ -5,35 +5,45 @@ use Rattle.std.specs.Prelude.{◌==◌, nat_le, not, ◌||◌}
 use Rattle.std.specs.Option.{option_map_or}
 use Rattle.std.proofs.lemmas.Bool.{eqb-true}
 use Rattle.frame_codec.specs.declared.message.Msg.{Msg}
-use Rattle.window_link.specs.declared.arrival.Arrival.TheVariants.{Fresh, Repeat, Early}
+use Rattle.window_link.specs.declared.arrival.Arrival.{Arrival}
+use Rattle.window_link.specs.declared.arrival.Arrival.TheVariants.{Fresh, Repeat, Kept, Early}
+use Rattle.window_link.specs.Limits.{most_kept}
 use Rattle.window_link.specs.declared.fault.LinkFault.{LinkFault}
-use Rattle.window_link.specs.Windows.{arrival}
-use Rattle.window_link.specs.Links.{brings, fault_of}
+use Rattle.window_link.specs.Windows.{arrival, next_kept}
+use Rattle.window_link.specs.Links.{LinkState, brings, fault_of}
 use Rattle.token_channel.specs.declared.thing.Thing.{Thing}
 use Rattle.token_channel.specs.declared.thing.SharedThing.{SharedThing}
 use Rattle.token_channel.specs.Things.{thing_of}
 use Rattle.token_channel.specs.Places.{holds, shares, waits}
-use Rattle.token_channel.specs.Channels.{ChannelState, with_taken, next_of, left_by, is_breach, breach_of, link_fault_or, held_after, breach_among, WhatComesIsHeld, WhatComesWasAway}
+use Rattle.token_channel.specs.Channels.{ChannelState, with_taken, next_of, left_by, is_breach, breach_of, link_fault_or, held_after, held_with, breach_among, unless_breach, follows_among, follows, WhatComesIsHeld, WhatComesWasAway, WhatFollowsIsHeld, WhatFollowsWasAway}
 use Rattle.token_channel.proofs.ThingsApart.{no_breach, held-changed}
 
 not_below : (taken : ℕ) → nat_le (taken + 1) taken ≡ false
 not_below taken = grind (arith, nat_tests)
 
+-- one that isn't the next
+abbrev ahead : ℕ → ℕ → Arrival
+ahead taken number = cond (nat_le number (taken + most_kept)) Kept Early
+
 -- the next one is neither a repeat nor early
 next_is : (taken number : ℕ) (msg : Msg) → (number == taken + 1) ≡ true → arrival taken number msg ≡ Fresh msg
 next_is taken number msg e =
     let n = eqb-true number (taken + 1) e in
-    ap (λ b. cond b Repeat (cond (number == taken + 1) (Fresh msg) Early)) (ap (λ k. nat_le k taken) n ∙ not_below taken) ∙ ap (λ b. cond b (Fresh msg) Early) e
+    ap (λ b. cond b Repeat (cond (number == taken + 1) (Fresh msg) (ahead taken number))) (ap (λ k. nat_le k taken) n ∙ not_below taken) ∙ ap (λ b. cond b (Fresh msg) (ahead taken number)) e
 
 -- any other one leaves what is held
 other_is : (held : Thing → Bool) (t : Thing) (taken number : ℕ) (msg : Msg) → (number == taken + 1) ≡ false → held_after held (arrival taken number msg) t ≡ held t
 other_is held t taken number msg e = go (nat_le number taken)
   where
-    early : (b : Bool) → b ≡ false → held_after held (cond b (Fresh msg) Early) t ≡ held t
-    early true h = absurd cc
-    early false h = refl
+    away : (b : Bool) → held_after held (cond b Kept Early) t ≡ held t
+    away true = refl
+    away false = refl
 
-    go : (b : Bool) → held_after held (cond b Repeat (cond (number == taken + 1) (Fresh msg) Early)) t ≡ held t
+    early : (b : Bool) → b ≡ false → held_after held (cond b (Fresh msg) (ahead taken number)) t ≡ held t
+    early true h = absurd cc
+    early false h = away (nat_le number (taken + most_kept))
+
+    go : (b : Bool) → held_after held (cond b Repeat (cond (number == taken + 1) (Fresh msg) (ahead taken number))) t ≡ held t
     go true = refl
     go false = early (number == taken + 1) e
 
@@ -81,12 +91,13 @@ comes_held c f t e = brought c.places t c.link.receiving.taken f.number f.msg (u
 -- a message that is fresh is the next one
 fresh_is : (taken number : ℕ) (msg : Option Msg) (m : Msg) → brings taken number msg ≡ Fresh m → cond (number == taken + 1) msg None ≡ Some m
 fresh_is taken number None m e = absurd cc
-fresh_is taken number (Some n) m e = go (nat_le number taken) (number == taken + 1) e
+fresh_is taken number (Some n) m e = go (nat_le number taken) (number == taken + 1) (nat_le number (taken + most_kept)) e
   where
-    go : (a b : Bool) → cond a Repeat (cond b (Fresh n) Early) ≡ Fresh m → cond b (Some n) None ≡ Some m
-    go true b h = absurd cc
-    go false true h = let same : n ≡ m = cc in ap Some same
-    go false false h = absurd cc
+    go : (a b c : Bool) → cond a Repeat (cond b (Fresh n) (cond c Kept Early)) ≡ Fresh m → cond b (Some n) None ≡ Some m
+    go true b c h = absurd cc
+    go false true c h = let same : n ≡ m = cc in ap Some same
+    go false false true h = absurd cc
+    go false false false h = absurd cc
 
 unbroken : (b : Bool) → breach_of b ≡ None → b ≡ false
 unbroken true e = absurd cc
@@ -106,3 +117,30 @@ came_from_away shared held l f m none fresh =
     away true true w e = absurd cc
     away true false w e = (refl, refl)
     away false b w e = absurd cc
+
+-- ---- what follows
+
+-- what follows is no breach
+pub follows_unbreached : (breach : Msg → Bool) (o : Option Msg) (m : Msg) → unless_breach breach o ≡ Some m → breach m ≡ false
+follows_unbreached breach None m e = absurd cc
+follows_unbreached breach (Some n) m e = go (breach n) refl e
+  where
+    go : (b : Bool) → breach n ≡ b → cond b None (Some n) ≡ Some m → breach m ≡ false
+    go true h k = absurd cc
+    go false h k = let same : n ≡ m = cc in ap breach (sym same) ∙ h
+
+pub followed_from_away : WhatFollowsWasAway
+followed_from_away shared held l m e =
+    away (shared (thing_of m)) (held (thing_of m)) (waits (thing_of m) (left_by l l.sending.acked)) (follows_unbreached (breach_among shared held l l.sending.acked) (next_kept l.receiving) m e)
+  where
+    away : (a b w : Bool) → (not a || b || w) ≡ false → (a ≡ true) × (b ≡ false)
+    away true true w e = absurd cc
+    away true false w e = (refl, refl)
+    away false b w e = absurd cc
+
+pub follows_held : WhatFollowsIsHeld
+follows_held c t = go (follows c) refl
+  where
+    go : (o : Option Msg) → follows c ≡ o → holds (with_taken c.places o) t ≡ held_with (holds c.places) o t
+    go None e = refl
+    go (Some m) e = held-changed c.places (thing_of m) t true (followed_from_away (shares c.places) (holds c.places) c.link m e).0

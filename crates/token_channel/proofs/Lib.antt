@@ -5,3 +5,4 @@ pub mod FrameArrival
 pub mod StartsOnce
 pub mod Opening
 pub mod FewWait
+pub mod KeptMessages

@@ -1,13 +1,14 @@
 -- One end of a channel: a link, and what of the pair's things is held here.
-use Rattle.std.specs.Prelude.{◌≡◌, ℕ, ◌+◌, ◌-◌, ◌≤◌, Bool, true, false, not, ◌||◌, ◌==◌, if◌then◌else◌, List, drop, Option, Some, None}
+use Rattle.std.specs.Prelude.{◌≡◌, ℕ, ◌+◌, ◌-◌, ◌≤◌, Bool, true, false, not, ◌||◌, ◌==◌, is_some, if◌then◌else◌, zero, suc, List, [], ◌∷◌, drop, Option, Some, None}
 use Rattle.std.specs.Option.{option_map_or}
 use Rattle.frame_codec.specs.declared.message.Msg.{Msg}
 use Rattle.frame_codec.specs.Frame.{Fields}
 use Rattle.office_map.specs.PlanValue.{PlanValue}
-use Rattle.window_link.specs.Windows.{queued}
+use Rattle.window_link.specs.Windows.{Receiving, queued, next_kept, advanced, without_next}
+use Rattle.window_link.specs.Limits.{most_kept}
 use Rattle.window_link.specs.Links.{LinkState, resumed, fault_of, arrival_at, after_arrival}
 use Rattle.window_link.specs.declared.arrival.Arrival.{Arrival}
-use Rattle.window_link.specs.declared.arrival.Arrival.TheVariants.{Acked, Fresh, Repeat, Early}
+use Rattle.window_link.specs.declared.arrival.Arrival.TheVariants.{Acked, Fresh, Repeat, Kept, Early}
 use Rattle.window_link.specs.declared.fault.LinkFault.{LinkFault}
 use Rattle.token_channel.specs.declared.fault.ChannelFault.{ChannelFault}
 use Rattle.token_channel.specs.declared.fault.ChannelFault.TheVariants.{Link, Breach}
@@ -76,6 +77,58 @@ abbrev pub after_frame : ChannelState → Fields → ChannelState
 after_frame c f =
     record { link = after_arrival c.link f; places = with_taken c.places (next_of c.link f) }
 
+-- ---- what was kept
+
+-- what is kept of the next number follows, unless it would be a breach by now
+abbrev pub unless_breach : (Msg → Bool) → Option Msg → Option Msg
+unless_breach breach None = None
+unless_breach breach (Some m) = if breach m then None else Some m
+
+abbrev pub follows_among : (shared held : Thing → Bool) → LinkState → Option Msg
+follows_among shared held l = unless_breach (breach_among shared held l l.sending.acked) (next_kept l.receiving)
+
+-- it is taken, and what doesn't follow is thrown out of its place
+abbrev pub window_then : Receiving → Option Msg → Receiving
+window_then r None = without_next r
+window_then r (Some m) = advanced r
+
+abbrev pub link_then : LinkState → Option Msg → LinkState
+link_then l o = record { run = l.run; me = l.me; peer = l.peer; sending = l.sending; receiving = window_then l.receiving o }
+
+abbrev pub follows : ChannelState → Option Msg
+follows c = follows_among (shares c.places) (holds c.places) c.link
+
+abbrev pub after_kept : ChannelState → ChannelState
+after_kept c = record { link = link_then c.link (follows c); places = with_taken c.places (follows c) }
+
+-- one after the other, up to the first that doesn't follow, so many at most
+abbrev pub followed : ℕ → ChannelState → ChannelState
+followed zero c = c
+followed (suc n) c = if is_some (follows c) then followed n (after_kept c) else after_kept c
+
+abbrev pub before : Option Msg → List Msg → List Msg
+before None ms = []
+before (Some m) ms = m ∷ ms
+
+abbrev pub following : ℕ → ChannelState → List Msg
+following zero c = []
+following (suc n) c = before (follows c) (following n (after_kept c))
+
+-- after the message of a frame so many places are left
+abbrev pub most_following : ℕ
+most_following = most_kept - 1
+
+abbrev pub settled : Arrival → ChannelState → ChannelState
+settled (Fresh m) c = followed most_following c
+settled Acked c = c
+settled Repeat c = c
+settled Kept c = c
+settled Early c = c
+
+-- what is taken with a frame: its message, and then what follows
+abbrev pub after_taking : ChannelState → Fields → ChannelState
+after_taking c f = settled (arrival_at c.link f) (after_frame c f)
+
 -- ---- laws
 
 -- what is held after a frame that brought this
@@ -83,17 +136,30 @@ abbrev pub held_after : (Thing → Bool) → Arrival → Thing → Bool
 held_after held (Fresh msg) t = hold held (thing_of msg) true t
 held_after held Acked t = held t
 held_after held Repeat t = held t
+held_after held Kept t = held t
 held_after held Early t = held t
+
+abbrev pub held_with : (Thing → Bool) → Option Msg → Thing → Bool
+held_with held None t = held t
+held_with held (Some m) t = hold held (thing_of m) true t
 
 -- Of a frame that isn't refused, what it brings is held, and all else as before.
 abbrev pub WhatComesIsHeld : Type 0
 WhatComesIsHeld = (c : ChannelState) (f : Fields) (t : Thing) → channel_fault c f ≡ None → holds (after_frame c f).places t ≡ held_after (holds c.places) (arrival_at c.link f) t
 
+-- What follows is held, and all else as before.
+abbrev pub WhatFollowsIsHeld : Type 0
+WhatFollowsIsHeld = (c : ChannelState) (t : Thing) → holds (after_kept c).places t ≡ held_with (holds c.places) (follows c) t
+
 -- What the two share stays, whatever is sent and whatever frame comes.
 abbrev pub WhatIsSharedStays : Type 0
-WhatIsSharedStays = (c : ChannelState) (t : Thing) → ((m : Msg) → shares (sent c m).places t ≡ shares c.places t) × ((f : Fields) → shares (after_frame c f).places t ≡ shares c.places t)
+WhatIsSharedStays = (c : ChannelState) (t : Thing) → ((m : Msg) → shares (sent c m).places t ≡ shares c.places t) × ((f : Fields) → shares (after_frame c f).places t ≡ shares c.places t) × (shares (after_kept c).places t ≡ shares c.places t)
 
 -- What a frame brings that isn't refused is one of the things that are shared, and wasn't held.
 abbrev pub WhatComesWasAway : Type 0
 WhatComesWasAway = (shared held : Thing → Bool) (l : LinkState) (f : Fields) (m : Msg) → fault_among shared held l f ≡ None → arrival_at l f ≡ Fresh m →
     (shared (thing_of m) ≡ true) × (held (thing_of m) ≡ false)
+
+-- Nor does anything follow that isn't shared, or was held.
+abbrev pub WhatFollowsWasAway : Type 0
+WhatFollowsWasAway = (shared held : Thing → Bool) (l : LinkState) (m : Msg) → follows_among shared held l ≡ Some m → (shared (thing_of m) ≡ true) × (held (thing_of m) ≡ false)

@@ -4,3 +4,4 @@ pub mod Channels
 pub mod Ends
 pub mod Opening
 pub mod Waiting
+pub mod Answers

@@ -8,7 +8,7 @@ use Rattle.window_link.specs.Windows.{used}
 use Rattle.window_link.specs.Limits.{greatest}
 use Rattle.token_channel.specs.Things.{thing_of}
 use Rattle.token_channel.specs.Places.{holds}
-use Rattle.token_channel.specs.Channels.{ChannelState, opened, sent, channel_fault, after_frame}
+use Rattle.token_channel.specs.Channels.{ChannelState, opened, sent, channel_fault, after_taking}
 
 -- a message is to be sent, or a frame comes
 pub data ChannelEvent : Type 0 where
@@ -19,7 +19,7 @@ pub data ChannelEvent : Type 0 where
 -- nothing
 abbrev pub after_event : ChannelState → ChannelEvent → ChannelState
 after_event c (sends m) = if holds c.places (thing_of m) && nat_lt (used c.link.sending) greatest then sent c m else c
-after_event c (comes f) = if is_some (channel_fault c f) then c else after_frame c f
+after_event c (comes f) = if is_some (channel_fault c f) then c else after_taking c f
 
 abbrev pub after_events : ChannelState → List ChannelEvent → ChannelState
 after_events c [] = c

@@ -1,24 +1,27 @@
 //! One end of the channel between two neighbours.
 
-ghost use Rattle.std.specs.Prelude.{◌≡◌, ◌+◌, ◌*◌, ◌<◌, ◌≤◌, ◌^◌, ◌↔◌, length, IsTrue, IsErr, IfOk, IfErr, OnOk, OnErr, None, true, false};
+ghost use Rattle.std.specs.Prelude.{◌≡◌, ◌+◌, ◌*◌, ◌<◌, ◌≤◌, ◌^◌, ◌↔◌, ◌∷◌, length, IsTrue, IsErr, IfOk, IfErr, OnOk, OnErr, None, true, false};
 ghost use Rattle.std.specs.Result.{result_err};
 ghost use Rattle.office_map.specs.PlanValue.{are_neighbours, records_between};
 ghost use Rattle.window_link.specs.Windows.{used};
 ghost use Rattle.window_link.specs.Links.{frame_of, ack_frame_of, arrival_at};
 ghost use Rattle.token_channel.specs.Things.{thing_of, hold};
 ghost use Rattle.token_channel.specs.Places.{holds, shares};
-ghost use Rattle.token_channel.specs.Channels.{IsApart, opened, sent, channel_fault, after_frame, is_breach, next_of};
+ghost use Rattle.token_channel.specs.Channels.{IsApart, opened, sent, channel_fault, after_frame, after_taking, after_kept, follows, following, followed, most_following, is_breach, next_of};
+ghost use Rattle.token_channel.specs.Answers.{Tells};
 ghost use Rattle.frame_codec.specs.Limits.{sequence_space};
 ghost use Rattle.window_link.specs.Limits.{greatest};
 
 use crate::fault::ChannelFault;
 use crate::places;
+use crate::taken::Taken;
 use crate::thing::{SharedThing, Thing};
+use arrayvec::ArrayVec;
 use frame_codec::{Frame, Msg};
 use office_map::{OfficeId, Plan};
 use std::alloc::{AllocError, Global};
 use std::marker::Model;
-use window_link::{Arrival, Link, LinkFault};
+use window_link::{Arrival, Link, LinkFault, MAX_KEPT};
 
 /// One office's end of the channel to a neighbour: the link, and what is held here of the things
 /// that the two share.
@@ -128,18 +131,56 @@ impl Channel {
         self.link.ack_frame()
     }
 
-    /// Takes in a frame that comes. What it brings is held.
+    /// Takes in a frame that comes. What it brings is held, and after it what was kept, up to the first gap or
+    /// breach.
     ///
     /// # Errors
     /// The link's faults, or else `Breach`. Nothing changed, and the frame's count isn't used.
-    pub fn take(&mut self, frame: &Frame) -> Result<Arrival, ChannelFault>
+    pub fn take(&mut self, frame: &Frame) -> Result<Taken, ChannelFault>
         ensures fault { result_err result ≡ channel_fault self.old frame.now }
-        ensures arrival { IfOk result (λ arrival. arrival ≡ arrival_at self.old.link frame.now) }
-        ensures taken { OnOk result (self.new ≡ after_frame self.old frame.now) }
+        ensures taken { IfOk result (λ taken. Tells taken (arrival_at self.old.link frame.now) (following most_following (after_frame self.old frame.now))) }
+        ensures channel { OnOk result (self.new ≡ after_taking self.old frame.now) }
         ensures unchanged { OnErr result (self.new ≡ self.old) }
     {
         self.check(frame)?;
-        Ok(self.accept(frame))
+        match self.accept(frame) {
+            Arrival::Acked => Ok(Taken::Acked),
+            Arrival::Fresh(msg) => Ok(Taken::Fresh(self.follow_all(msg))),
+            Arrival::Repeat => Ok(Taken::Repeat),
+            Arrival::Kept => Ok(Taken::Kept),
+            Arrival::Early => Ok(Taken::Early),
+        }
+    }
+
+    fn follow_all(&mut self, first: Msg) -> ArrayVec<Msg, MAX_KEPT>
+        ensures messages { result.items ≡ first ∷ following most_following self.old }
+        ensures channel { self.new ≡ followed most_following self.old }
+    {
+        let mut taken = ArrayVec::new();
+        taken.push(first);
+        for _ in 1..MAX_KEPT {
+            match self.follow() {
+                Some(msg) => taken.push(msg),
+                None => break,
+            }
+        }
+        taken
+    }
+
+    /// Takes what is kept of the next number, so that it is held. What would be a breach is thrown out.
+    pub fn follow(&mut self) -> Option<Msg>
+        ensures follows { result ≡ follows self.old }
+        ensures channel { self.new ≡ after_kept self.old }
+    {
+        let msg = self.link.kept()?;
+        if self.is_breach(self.acked(), msg) {
+            self.link.drop_kept();
+            return None;
+        }
+        let thing = Thing::of(msg);
+        places::change(&mut self.places, thing, true);
+        self.link.accept_kept();
+        Some(msg)
     }
 
     /// Whether a frame that comes can be taken in.
@@ -158,7 +199,8 @@ impl Channel {
         Ok(())
     }
 
-    /// Takes in a frame that [`Channel::check`] passes. What it brings is held.
+    /// Takes in a frame that [`Channel::check`] passes. What it brings is held; after a `Fresh` the caller goes on
+    /// with [`Channel::follow`].
     pub fn accept(&mut self, frame: &Frame) -> Arrival
         requires { channel_fault self.old frame.now ≡ None }
         ensures arrival { result ≡ arrival_at self.old.link frame.now }

@@ -1,6 +1,6 @@
 //! Laws of what a channel begins with, and of what frames do to it.
 
-ghost use Rattle.token_channel.specs.Channels.{WhatComesIsHeld, WhatComesWasAway, WhatIsSharedStays};
+ghost use Rattle.token_channel.specs.Channels.{WhatComesIsHeld, WhatComesWasAway, WhatFollowsIsHeld, WhatFollowsWasAway, WhatIsSharedStays};
 ghost use Rattle.token_channel.specs.Waiting.{FewWait};
 ghost use Rattle.token_channel.specs.Opening.{OpensAsThePlanStarts};
 
@@ -12,6 +12,16 @@ pub fn what_comes_is_held()
 /// What a frame brings that isn't refused is shared, and wasn't held before.
 pub fn what_comes_was_away()
     ensures { WhatComesWasAway }
+{}
+
+/// What follows of the kept messages is held afterwards, and all else as before.
+pub fn what_follows_is_held()
+    ensures { WhatFollowsIsHeld }
+{}
+
+/// What follows of them is shared, and wasn't held before.
+pub fn what_follows_was_away()
+    ensures { WhatFollowsWasAway }
 {}
 
 /// What the two offices share doesn't change.

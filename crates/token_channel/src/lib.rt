@@ -2,7 +2,7 @@
 //! end, or waits there for the other.
 //!
 //! - A [`Channel`] is one end: a numbered link, and what is held here. [`Channel::send`] moves one
-//!   thing from held to waiting; [`Channel::take`] makes held the one that it answers, or refuses the
+//!   thing from held to waiting; [`Channel::take`] makes held those that it answers, or refuses the
 //!   whole frame ([`ChannelFault`]) where it brings what can't come (`is_breach`, in
 //!   `specs/Channels.antt`). It is [`Channel::check`] and then [`Channel::accept`].
 //! - Whatever bytes came, each thing of the pair is held here, or waits here once, or neither
@@ -21,10 +21,12 @@ mod channel;
 mod fault;
 pub mod laws;
 mod places;
+mod taken;
 mod thing;
 
 pub use channel::Channel;
 pub use fault::ChannelFault;
+pub use taken::Taken;
 pub use thing::{SharedThing, Thing};
 
 #[cfg(test)]

@@ -30,13 +30,30 @@ fn ends(rt: &impl Abort, alloc: Global, text: &str) -> Result<(Channel, Channel)
     Ok((at_a, at_b))
 }
 
+// What the frame itself was.
+fn arrival(taken: Result<Taken, ChannelFault>) -> Result<Arrival, ChannelFault> {
+    Ok(match taken? {
+        Taken::Acked => Arrival::Acked,
+        Taken::Fresh(messages) => match messages.first() {
+            Some(msg) => Arrival::Fresh(*msg),
+            None => Arrival::Acked,
+        },
+        Taken::Repeat => Arrival::Repeat,
+        Taken::Kept => Arrival::Kept,
+        Taken::Early => Arrival::Early,
+    })
+}
+
 // One thing goes over, in a frame that arrives at once.
 fn goes(rt: &impl Abort, from: &mut Channel, to: &mut Channel, msg: Msg) {
     assert!(rt; from.holds(Thing::of(msg)));
     assert_eq!(rt; from.send(msg), Ok(()));
     let waiting = from.waiting().len();
     assert!(rt; 0 < waiting && waiting <= 4, "{waiting} wait");
-    assert_eq!(rt; to.take(&from.frame(waiting)), Ok(Arrival::Fresh(msg)));
+    assert_eq!(rt;
+        arrival(to.take(&from.frame(waiting))),
+        Ok(Arrival::Fresh(msg))
+    );
 }
 
 #[test]
@@ -53,10 +70,10 @@ fn a_bottle_goes_to_and_fro(rt: HostRuntime) -> Result<(), Fail> {
 }
 
 // What a frame of the peer is, and that where it is refused nothing changed.
-fn comes(rt: &impl Abort, at: &mut Channel, frame: Frame, arrival: Result<Arrival, ChannelFault>) {
+fn comes(rt: &impl Abort, at: &mut Channel, frame: Frame, expected: Result<Arrival, ChannelFault>) {
     let before = (at.taken(), at.acked(), at.waiting().len());
-    let told = at.take(&frame);
-    assert_eq!(rt; told, arrival, "{frame:?}");
+    let told = arrival(at.take(&frame));
+    assert_eq!(rt; told, expected, "{frame:?}");
     let after = (at.taken(), at.acked(), at.waiting().len());
     assert!(rt; told.is_ok() || before == after);
 }
@@ -75,8 +92,42 @@ fn what_is_held_is_not_taken(rt: HostRuntime) -> Result<(), Fail> {
         &rt,
         &mut a,
         Frame::data(42, 1, 0, 3, 0, Msg::Fork),
-        Ok(Arrival::Early),
+        Ok(Arrival::Kept),
     );
+    Ok(())
+}
+
+#[test]
+fn what_was_kept_is_thrown_out(rt: HostRuntime) -> Result<(), Fail> {
+    let (mut a, _) = ends(&rt, rt.alloc(), TWO_RECORDS)?;
+    let fork = Frame::data(42, 1, 0, 2, 0, Msg::Fork);
+    comes(&rt, &mut a, fork, Ok(Arrival::Kept));
+    let token = Frame::data(42, 1, 0, 1, 0, Msg::AskFork);
+    comes(&rt, &mut a, token, Ok(Arrival::Fresh(Msg::AskFork)));
+    assert!(rt; a.taken() == 1);
+    Ok(())
+}
+
+#[test]
+fn what_was_kept_follows(rt: HostRuntime) -> Result<(), Fail> {
+    let (mut a, _) = ends(&rt, rt.alloc(), TWO_RECORDS)?;
+    let bottle = Msg::Bottle(1, Value { number: 7 });
+    for (number, msg) in [(3, Msg::AskBottle(0)), (2, bottle)] {
+        comes(
+            &rt,
+            &mut a,
+            Frame::data(42, 1, 0, number, 0, msg),
+            Ok(Arrival::Kept),
+        );
+    }
+    match a.take(&Frame::data(42, 1, 0, 1, 0, Msg::AskFork)) {
+        Ok(Taken::Fresh(messages)) => {
+            let all = [Msg::AskFork, bottle, Msg::AskBottle(0)];
+            assert_eq!(rt; messages.as_slice(), all.as_slice());
+        }
+        other => assert!(rt; false, "{other:?}"),
+    }
+    assert!(rt; a.taken() == 3 && a.holds(Thing::Bottle(1)));
     Ok(())
 }
 
@@ -184,7 +235,7 @@ fn acts(
 fn arrives(rt: &impl Abort, draws: &mut Draws, end: &mut Channel, frames: &[Frame]) {
     if let Some(frame) = frames.get(frames.len().saturating_sub(1 + draws.below(20))) {
         let passes = end.check(frame).is_ok();
-        let told = end.take(frame);
+        let told = arrival(end.take(frame));
         assert!(rt; passes && told.is_ok(), "{frame:?} is {told:?}");
     }
 }
@@ -232,5 +283,6 @@ fn ten_thousand_random_events(rt: HostRuntime) -> Result<(), Fail> {
         assert!(rt; a.taken() > 100 && b.taken() > 100, "seed {seed}");
     }
     laws::what_comes_is_held();
+    laws::what_follows_is_held();
     Ok(())
 }

@@ -1,8 +1,17 @@
-use Rattle.std.proofs.Common.{rules}
+use Rattle.std.proofs.Common.{◌∷◌, sym, ap, ◌∙◌, subst}
+use Rattle.window_link.specs.declared.arrival.Arrival.{Arrival}
+use Rattle.token_channel.specs.declared.taken.Taken.TheVariants.{Fresh}
+use Rattle.token_channel.specs.Channels.{ChannelState, after_frame, settled, following, followed, most_following}
+use Rattle.token_channel.specs.Answers.{Tells}
 use Rattle.token_channel.proofs.channel.Channel.take.Goals as goal
 
-pub returns-clause-fault : goal.returns-clause-fault
-returns-clause-fault c = search rules
+pub returns-in-Fresh-clause-taken : goal.returns-in-Fresh-clause-taken
+returns-in-Fresh-clause-taken c =
+    let after = after_frame c.args.self.now c.args.frame.now in
+    subst (λ (a : Arrival). Tells (Fresh c.follow_all.result) a (following most_following after)) (sym c.in-Fresh.is ∙ c.accept.ensures.arrival)
+    (c.follow_all.ensures.messages ∙ ap (λ (s : ChannelState). c.in-Fresh.msg ∷ following most_following s) c.accept.ensures.taken)
 
-pub returns-clause-taken : goal.returns-clause-taken
-returns-clause-taken c = cc
+pub returns-in-Fresh-clause-channel : goal.returns-in-Fresh-clause-channel
+returns-in-Fresh-clause-channel c =
+    let after = after_frame c.args.self.now c.args.frame.now in
+    c.follow_all.ensures.channel ∙ ap (followed most_following) c.accept.ensures.taken ∙ ap (λ (a : Arrival). settled a after) (sym c.in-Fresh.is ∙ c.accept.ensures.arrival)

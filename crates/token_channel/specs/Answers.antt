@@ -1,0 +1,16 @@
+-- What a channel answers to a frame that it takes.
+use Rattle.std.specs.Prelude.{◌≡◌, List, ◌∷◌}
+use Rattle.frame_codec.specs.declared.message.Msg.{Msg}
+use Rattle.window_link.specs.declared.arrival.Arrival.{Arrival}
+use Rattle.window_link.specs.declared.arrival.Arrival.TheVariants as arrival
+use Rattle.token_channel.specs.declared.taken.Taken.{Taken}
+use Rattle.token_channel.specs.declared.taken.Taken.TheVariants.{Acked, Fresh, Repeat, Kept, Early}
+
+-- what the frame was, and where it brought a message, that one and those that follow it
+abbrev pub Tells : Taken → Arrival → List Msg → Type 0
+Tells (Fresh taken) (arrival.Fresh m) following = taken.items ≡ m ∷ following
+Tells Acked arrival.Acked following = Unit {0}
+Tells Repeat arrival.Repeat following = Unit {0}
+Tells Kept arrival.Kept following = Unit {0}
+Tells Early arrival.Early following = Unit {0}
+Tells _ _ following = ⊥
