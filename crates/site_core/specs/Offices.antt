@@ -20,7 +20,7 @@ use Rattle.site_core.specs.declared.reply.Reply.TheVariants as reply
 use Rattle.site_core.specs.declared.reply.Refusal.{Refusal}
 use Rattle.site_core.specs.declared.reply.Refusal.TheVariants as refusal
 use Rattle.site_core.specs.Replies.{reply_to}
-use Rattle.site_core.specs.Pairs.{Pairs, is_thirsty, after_fork_rule, after_bottle_rule, frame_fault, arrival_of, after_frame}
+use Rattle.site_core.specs.Pairs.{Pairs, is_thirsty, after_fork_rule, after_bottle_rule, frame_fault, arrival_of, after_taking}
 use Rattle.site_core.specs.Pairs as pairs
 use Rattle.site_core.specs.Agenda.{Agenda, is_full, submitted, first_needs, started, begun, may_work, worked, writes_of, with_current, finished}
 use Rattle.site_core.specs.Agenda as agenda
@@ -102,12 +102,12 @@ framed o (Some f) = Ok (reply.Frame f, o)
 abbrev pub send : PlanValue → ℕ → Office → ℕ → ℕ → Answer
 send plan me o v i = if are_neighbours plan me v then framed o (frame_on (o.pairs.link v) i) else Err refusal.NotNow
 
-abbrev pub unless_faulty : Office → Fields → Option ChannelFault → Answer
-unless_faulty o f None = Ok (reply_to (arrival_of o.pairs f), with_pairs o (after_frame o.pairs f))
-unless_faulty o f (Some fault) = Err (refusal.Channel fault)
+abbrev pub unless_faulty : PlanValue → ℕ → Office → Fields → Option ChannelFault → Answer
+unless_faulty plan me o f None = Ok (reply_to (arrival_of o.pairs f), with_pairs o (after_taking plan me o.pairs f))
+unless_faulty plan me o f (Some fault) = Err (refusal.Channel fault)
 
 abbrev pub take : PlanValue → ℕ → Office → Fields → Answer
-take plan me o f = unless_faulty o f (frame_fault plan me o.pairs f)
+take plan me o f = unless_faulty plan me o f (frame_fault plan me o.pairs f)
 
 abbrev pub answer : PlanValue → ℕ → Office → Event → Answer
 answer plan me o (event.Submit p) = submit plan me o p

@@ -1,5 +1,5 @@
 -- What an office shares with its neighbours: forks, bottles, and a link to each of them.
-use Rattle.std.specs.Prelude.{ℕ, Bool, ◌==◌, ◌&&◌, is_some, Option, Some, None, if◌then◌else◌}
+use Rattle.std.specs.Prelude.{ℕ, zero, suc, Bool, ◌==◌, ◌&&◌, is_some, Option, Some, None, if◌then◌else◌}
 use Rattle.bottle_values.specs.declared.Value.{Value}
 use Rattle.bottle_values.specs.Maps.{put}
 use Rattle.frame_codec.specs.declared.message.Msg.{Msg}
@@ -16,7 +16,7 @@ use Rattle.token_channel.specs.declared.fault.ChannelFault.TheVariants.{Link}
 use Rattle.token_channel.specs.declared.thing.Thing.{Thing}
 use Rattle.token_channel.specs.declared.thing.Thing.TheVariants.{Fork, ForkToken, Bottle, BottleToken}
 use Rattle.token_channel.specs.Ends.{is_shared}
-use Rattle.token_channel.specs.Channels.{fault_among}
+use Rattle.token_channel.specs.Channels.{fault_among, follows_among, link_then, most_following}
 use Rattle.dining_core.specs.Diners.{Diner, ForkRule}
 use Rattle.dining_core.specs.Diners as forks
 use Rattle.drinking_core.specs.Drinkers.{Drinker, BottleRule}
@@ -113,12 +113,14 @@ abbrev pub diner_after : Diner → ℕ → Arrival → Diner
 diner_after d v (arrival.Fresh m) = fork_came d v m
 diner_after d v arrival.Acked = d
 diner_after d v arrival.Repeat = d
+diner_after d v arrival.Kept = d
 diner_after d v arrival.Early = d
 
 abbrev pub drinker_after : Drinker → Arrival → Drinker
 drinker_after d (arrival.Fresh m) = bottle_came d m
 drinker_after d arrival.Acked = d
 drinker_after d arrival.Repeat = d
+drinker_after d arrival.Kept = d
 drinker_after d arrival.Early = d
 
 -- after something arrived from v, on a link that is now so
@@ -129,5 +131,37 @@ arrived p v l a = record { diner = diner_after p.diner v a; drinker = drinker_af
 abbrev pub arrival_of : Pairs → Fields → Arrival
 arrival_of p f = arrival_at (p.link f.from) f
 
+-- its own message alone
 abbrev pub after_frame : Pairs → Fields → Pairs
 after_frame p f = arrived p f.from (after_arrival (p.link f.from) f) (arrival_of p f)
+
+-- ---- what was kept
+
+-- the kept message from v that follows, unless it would be a breach by now
+abbrev pub follows : PlanValue → ℕ → ℕ → Pairs → Option Msg
+follows plan me v p = follows_among (is_shared plan me v) (held p v) (p.link v)
+
+-- it is as a fresh one; what is thrown out brings nothing
+abbrev pub as_arrival : Option Msg → Arrival
+as_arrival None = arrival.Acked
+as_arrival (Some m) = arrival.Fresh m
+
+abbrev pub after_kept : PlanValue → ℕ → ℕ → Pairs → Pairs
+after_kept plan me v p = arrived p v (link_then (p.link v) (follows plan me v p)) (as_arrival (follows plan me v p))
+
+-- one after the other, up to the first that doesn't follow, so many at most
+abbrev pub followed : PlanValue → ℕ → ℕ → ℕ → Pairs → Pairs
+followed plan me v zero p = p
+followed plan me v (suc n) p = if is_some (follows plan me v p) then followed plan me v n (after_kept plan me v p) else after_kept plan me v p
+
+-- they follow what is fresh
+abbrev pub settled : PlanValue → ℕ → ℕ → Arrival → Pairs → Pairs
+settled plan me v (arrival.Fresh m) p = followed plan me v most_following p
+settled plan me v arrival.Acked p = p
+settled plan me v arrival.Repeat p = p
+settled plan me v arrival.Kept p = p
+settled plan me v arrival.Early p = p
+
+-- a frame's own message, and then those that were kept
+abbrev pub after_taking : PlanValue → ℕ → Pairs → Fields → Pairs
+after_taking plan me p f = settled plan me f.from (arrival_of p f) (after_frame p f)

@@ -8,4 +8,5 @@ abbrev pub reply_to : Arrival → Reply
 reply_to arrival.Acked = reply.Acked
 reply_to (arrival.Fresh m) = reply.Taken
 reply_to arrival.Repeat = reply.Repeat
+reply_to arrival.Kept = reply.Kept
 reply_to arrival.Early = reply.Early

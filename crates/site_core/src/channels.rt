@@ -10,16 +10,17 @@ ghost use Rattle.window_link.specs.Limits.{greatest};
 ghost use Rattle.window_link.specs.Links.{arrival_at, after_arrival};
 ghost use Rattle.token_channel.specs.Things.{thing_of, hold};
 ghost use Rattle.token_channel.specs.declared.thing.Thing.{Thing};
-ghost use Rattle.token_channel.specs.Channels.{ChannelState, channel_fault, held_after};
+ghost use Rattle.token_channel.specs.Ends.{is_shared};
+ghost use Rattle.token_channel.specs.Channels.{ChannelState, channel_fault, held_after, held_with, follows, follows_among, link_then};
 ghost use Rattle.site_core.specs.Pairs.{queued_to};
-ghost use Rattle.site_core.specs.refinement.Slots.{slot_at, slot_holds, slot_used, slot_sent, slot_after, links_of, slot_at_start, IsSlotOf};
+ghost use Rattle.site_core.specs.refinement.Slots.{slot_at, slot_holds, slot_used, slot_sent, slot_after, slot_then, links_of, slot_at_start, IsSlotOf};
 
 use frame_codec::{Frame, Msg};
 use office_map::{OfficeId, Plan};
 use std::alloc::{AllocError, Global};
 use std::marker::Model;
 use token_channel::Channel;
-use token_channel::laws::{what_comes_is_held, what_is_shared_stays};
+use token_channel::laws::{what_comes_is_held, what_follows_is_held, what_is_shared_stays};
 use window_link::Arrival;
 
 /// A place for each office of the plan, with the channel to it where it is a neighbour.
@@ -116,6 +117,32 @@ impl Channels {
     {
         match &mut self.slots[v.index()] {
             Some(channel) => channel.accept(frame),
+            None => unreachable!(),
+        }
+    }
+
+    /// Takes what is kept of that office's next number, or throws out what can't be taken any more.
+    pub fn follow(&mut self, v: OfficeId) -> Option<Msg>
+        requires there { is_some (slot_at self.old v) ≡ true }
+        ensures message { (plan : PlanValue) (me : ℕ) (here : ℕ → Thing → Bool) (run : ℕ) → ((u : ℕ) → IsSlotOf plan me u (here u) (slot_at self.old u)) →
+            result ≡ follows_among (is_shared plan me v) (here v) (links_of run me self.old v) }
+        ensures links { (run me : ℕ) → links_of run me self.new ≡ put (links_of run me self.old) v (link_then (links_of run me self.old v) result) }
+        ensures slots { (plan : PlanValue) (me : ℕ) (here : ℕ → Thing → Bool) → ((u : ℕ) → IsSlotOf plan me u (here u) (slot_at self.old u)) →
+            (u : ℕ) → IsSlotOf plan me u (put here v (held_with (here v) result) u) (slot_at self.new u) }
+    {
+        what_is_shared_stays();
+        what_follows_is_held();
+        self.go_on(v)
+    }
+
+    fn go_on(&mut self, v: OfficeId) -> Option<Msg>
+        requires there { is_some (slot_at self.old v) ≡ true }
+        ensures within { v < length self.old }
+        ensures message { (c : ChannelState) → slot_at self.old v ≡ Some c → result ≡ follows c }
+        ensures slots { self.new ≡ set self.old v (slot_then (slot_at self.old v)) }
+    {
+        match &mut self.slots[v.index()] {
+            Some(channel) => channel.follow(),
             None => unreachable!(),
         }
     }

@@ -149,7 +149,7 @@ impl Office {
             return Err(Refusal::Channel(fault));
         }
         self.journal.make_room()?;
-        let arrival = self.pairs.accept(frame);
+        let arrival = self.pairs.take(frame);
         let entry = Entry::of_arrival(tag, *frame, &arrival);
         self.journal.push(entry);
         Ok(Reply::to(&arrival))

@@ -11,7 +11,8 @@ ghost use Rattle.dining_core.specs.Diners as forks;
 ghost use Rattle.dining_core.specs.refinement.Tables.{diner_of};
 ghost use Rattle.drinking_core.specs.Drinkers as bottles;
 ghost use Rattle.drinking_core.specs.refinement.Bars.{drinker_of};
-ghost use Rattle.site_core.specs.Pairs.{Pairs, opened, after_fork_rule, after_bottle_rule, is_thirsty, frame_fault, arrival_of, after_frame, diner_after, drinker_after};
+ghost use Rattle.token_channel.specs.Channels.{most_following};
+ghost use Rattle.site_core.specs.Pairs.{Pairs, opened, after_fork_rule, after_bottle_rule, is_thirsty, frame_fault, arrival_of, after_frame, follows, as_arrival, after_kept, followed, after_taking, diner_after, drinker_after};
 ghost use Rattle.site_core.specs.Offices.{frame_on};
 ghost use Rattle.site_core.specs.refinement.PairsOfCode.{pairs_of, IsOf, HaveRoom, MayArrive};
 
@@ -23,9 +24,9 @@ use frame_codec::{Frame, Msg};
 use office_map::{OfficeId, Plan, RecordId};
 use std::alloc::{AllocError, Global};
 use std::marker::Model;
-use token_channel::laws::{opens_as_the_plan_starts, what_comes_was_away};
+use token_channel::laws::{opens_as_the_plan_starts, what_comes_was_away, what_follows_was_away};
 use token_channel::{Channel, ChannelFault};
-use window_link::{Arrival, LinkFault};
+use window_link::{Arrival, LinkFault, MAX_KEPT};
 
 /// The forks and bottles of an office, and the channels to its neighbours.
 #[derive(Drop)]
@@ -300,8 +301,48 @@ impl Pairs {
         }
     }
 
-    /// Takes in a frame that [`Pairs::check`] passes. What it brings is held.
-    pub fn accept(&mut self, frame: &Frame) -> Arrival
+    /// Takes in a frame that [`Pairs::check`] passes. What it brings is held, and after it what was kept, up to the first
+    /// gap or breach.
+    pub fn take(&mut self, frame: &Frame) -> Arrival
+        requires passes { frame_fault self.old.plan self.old.me (pairs_of self.old) frame.now ≡ None }
+        ensures office { IsOf self.old.plan self.old.me self.new }
+        ensures arrival { result ≡ arrival_of (pairs_of self.old) frame.now }
+        ensures taken { pairs_of self.new ≡ after_taking self.old.plan self.old.me (pairs_of self.old) frame.now }
+    {
+        let arrival = self.accept(frame);
+        if let Arrival::Fresh(_) = arrival {
+            self.follow_all(OfficeId::new(frame.from()));
+        }
+        arrival
+    }
+
+    fn follow_all(&mut self, v: OfficeId)
+        requires near { are_neighbours self.old.plan self.old.me v ≡ true }
+        ensures office { IsOf self.old.plan self.old.me self.new }
+        ensures taken { pairs_of self.new ≡ followed self.old.plan self.old.me v most_following (pairs_of self.old) }
+    {
+        for _ in 1..MAX_KEPT {
+            if !self.follow(v) {
+                return;
+            }
+        }
+    }
+
+    // Whether a kept message was taken.
+    fn follow(&mut self, v: OfficeId) -> bool
+        requires near { are_neighbours self.old.plan self.old.me v ≡ true }
+        ensures office { IsOf self.old.plan self.old.me self.new }
+        ensures told { result ≡ is_some (follows self.old.plan self.old.me v (pairs_of self.old)) }
+        ensures taken { pairs_of self.new ≡ after_kept self.old.plan self.old.me v (pairs_of self.old) }
+    {
+        what_follows_was_away();
+        let followed = self.channels.follow(v);
+        take_in(&mut self.table, &mut self.bar, v, as_arrival(followed));
+        followed.is_some()
+    }
+
+    // The frame's own message alone.
+    fn accept(&mut self, frame: &Frame) -> Arrival
         requires passes { frame_fault self.old.plan self.old.me (pairs_of self.old) frame.now ≡ None }
         ensures office { IsOf self.old.plan self.old.me self.new }
         ensures arrival { result ≡ arrival_of (pairs_of self.old) frame.now }
@@ -312,6 +353,15 @@ impl Pairs {
         let arrival = self.channels.accept(v, frame);
         take_in(&mut self.table, &mut self.bar, v, arrival);
         arrival
+    }
+}
+
+fn as_arrival(followed: Option<Msg>) -> Arrival
+    ensures { result ≡ as_arrival followed }
+{
+    match followed {
+        None => Arrival::Acked,
+        Some(msg) => Arrival::Fresh(msg),
     }
 }
 

@@ -26,7 +26,9 @@ pub enum Reply {
     Taken,
     /// A frame brought a message that was taken before.
     Repeat,
-    /// A frame brought a message ahead of the next one, and it was dropped.
+    /// A frame brought a message ahead of the next one, and it is kept until its turn, or was kept already.
+    Kept,
+    /// A frame brought a message that is too far ahead to be kept, and it was dropped.
     Early,
 }
 
@@ -39,6 +41,7 @@ impl Reply {
             Arrival::Acked => Reply::Acked,
             Arrival::Fresh(_) => Reply::Taken,
             Arrival::Repeat => Reply::Repeat,
+            Arrival::Kept => Reply::Kept,
             Arrival::Early => Reply::Early,
         }
     }

@@ -45,6 +45,7 @@ abbrev pub MayArrive : Diner → Drinker → ℕ → Arrival → Type 0
 MayArrive d k v (arrival.Fresh m) = MayBring d k v m
 MayArrive d k v arrival.Acked = Unit {0}
 MayArrive d k v arrival.Repeat = Unit {0}
+MayArrive d k v arrival.Kept = Unit {0}
 MayArrive d k v arrival.Early = Unit {0}
 
 -- table, bar and channels are an office's of that plan, and agree on what is held

@@ -9,7 +9,7 @@ use Rattle.window_link.specs.Links.{LinkState, resumed}
 use Rattle.token_channel.specs.declared.thing.Thing.{Thing}
 use Rattle.token_channel.specs.Places.{holds, shares}
 use Rattle.token_channel.specs.Ends.{is_shared}
-use Rattle.token_channel.specs.Channels.{ChannelState, opened, sent, after_frame}
+use Rattle.token_channel.specs.Channels.{ChannelState, opened, sent, after_frame, after_kept}
 
 abbrev pub Slot : Type 0
 Slot = Option ChannelState
@@ -36,6 +36,9 @@ slot_sent slot m = option_map (λ c. sent c m) slot
 
 abbrev pub slot_after : Slot → Fields → Slot
 slot_after slot f = option_map (λ c. after_frame c f) slot
+
+abbrev pub slot_then : Slot → Slot
+slot_then slot = option_map after_kept slot
 
 abbrev pub slot_at_start : PlanValue → ℕ → ℕ → Slot
 slot_at_start plan me v = if are_neighbours plan me v then Some (opened plan me v) else None
