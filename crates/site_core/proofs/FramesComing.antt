@@ -1,5 +1,5 @@
 -- What a frame that isn't refused brings to the pairs of the code.
-use Rattle.std.proofs.Common.{◌≡◌, ℕ, Bool, true, false, cond, ◌&&◌, List, None, Some, refl, sym, ap, ◌∙◌}
+use Rattle.std.proofs.Common.{◌≡◌, ℕ, Bool, true, false, cond, ◌&&◌, List, Option, None, Some, refl, sym, ap, subst, ◌∙◌}
 use Rattle.std.specs.Prelude.{◌==◌}
 use Rattle.std.proofs.lemmas.Bool.{eq-eqb}
 use Rattle.bottle_values.specs.Lists.{is_among}
@@ -14,10 +14,10 @@ use Rattle.token_channel.specs.declared.fault.ChannelFault.TheVariants.{Link}
 use Rattle.window_link.specs.declared.fault.LinkFault.TheVariants.{Stranger}
 use Rattle.token_channel.specs.Things.{thing_of}
 use Rattle.token_channel.specs.Ends.{is_shared}
-use Rattle.token_channel.specs.Channels.{fault_among, WhatComesWasAway}
+use Rattle.token_channel.specs.Channels.{fault_among, WhatComesWasAway, WhatFollowsWasAway}
 use Rattle.dining_core.specs.Diners.{Diner}
 use Rattle.drinking_core.specs.Drinkers.{Drinker}
-use Rattle.site_core.specs.Pairs.{Pairs, held, frame_fault, arrival_of, diner_after, drinker_after}
+use Rattle.site_core.specs.Pairs.{Pairs, held, frame_fault, arrival_of, diner_after, drinker_after, follows, as_arrival}
 use Rattle.site_core.specs.refinement.PairsOfCode.{PairsValue, pairs_of, ArePairs, MayBring, MayArrive}
 use Rattle.site_core.proofs.HeldUpdates.{IsFrom}
 use Rattle.site_core.proofs.PlanFacts.{among_records, among_neighbours, end_of_two}
@@ -61,6 +61,7 @@ may_arrive p f (arrival.Fresh m) new are none e =
     brings p f.from m are it.0 fresh.0 fresh.1
 may_arrive p f arrival.Acked new are none e = tt
 may_arrive p f arrival.Repeat new are none e = tt
+may_arrive p f arrival.Kept new are none e = tt
 may_arrive p f arrival.Early new are none e = tt
 
 pub comes_from : (p : PairsValue) (f : Fields) → WhatComesWasAway → ArePairs p → frame_fault p.plan p.me (pairs_of p) f ≡ None → (m : Msg) → arrival_of (pairs_of p) f ≡ arrival.Fresh m → IsFrom (pairs_of p).drinker.peer f.from m
@@ -68,7 +69,23 @@ comes_from p f new are none m e =
     let it = passed p.plan p.me (pairs_of p) f none in
     from p f.from m are (new (is_shared p.plan p.me f.from) (held (pairs_of p) f.from) ((pairs_of p).link f.from) f m it.1 e).0
 
--- who sits where stays
+-- ---- what was kept
+
+pub may_follow : (p : PairsValue) (v : ℕ) (o : Option Msg) → WhatFollowsWasAway → ArePairs p → are_neighbours p.plan p.me v ≡ true → follows p.plan p.me v (pairs_of p) ≡ o →
+    MayArrive (pairs_of p).diner (pairs_of p).drinker v (as_arrival o)
+may_follow p v None new are near e = tt
+may_follow p v (Some m) new are near e =
+    let away = new (is_shared p.plan p.me v) (held (pairs_of p) v) ((pairs_of p).link v) m e in
+    brings p v m are near away.0 away.1
+
+pub follows_from : (p : PairsValue) (v : ℕ) (o : Option Msg) → WhatFollowsWasAway → ArePairs p → follows p.plan p.me v (pairs_of p) ≡ o → (m : Msg) → as_arrival o ≡ arrival.Fresh m → IsFrom (pairs_of p).drinker.peer v m
+follows_from p v None new are e m k = absurd cc
+follows_from p v (Some n) new are e m k =
+    let same : n ≡ m = cc in
+    subst (IsFrom (pairs_of p).drinker.peer v) same (from p v n are (new (is_shared p.plan p.me v) (held (pairs_of p) v) ((pairs_of p).link v) n e).0)
+
+-- ---- who sits where stays
+
 pub same_neighbours : (d : Diner) (v : ℕ) (a : Arrival) → (diner_after d v a).neighbours ≡ d.neighbours
 same_neighbours d v (arrival.Fresh msg.AskFork) = refl
 same_neighbours d v (arrival.Fresh msg.Fork) = refl
@@ -76,6 +93,7 @@ same_neighbours d v (arrival.Fresh (msg.AskBottle r)) = refl
 same_neighbours d v (arrival.Fresh (msg.Bottle r x)) = refl
 same_neighbours d v arrival.Acked = refl
 same_neighbours d v arrival.Repeat = refl
+same_neighbours d v arrival.Kept = refl
 same_neighbours d v arrival.Early = refl
 
 pub same_records : (k : Drinker) (a : Arrival) → ((drinker_after k a).records ≡ k.records) × ((drinker_after k a).peer ≡ k.peer)
@@ -85,4 +103,5 @@ same_records k (arrival.Fresh (msg.AskBottle r)) = (refl, refl)
 same_records k (arrival.Fresh (msg.Bottle r x)) = (refl, refl)
 same_records k arrival.Acked = (refl, refl)
 same_records k arrival.Repeat = (refl, refl)
+same_records k arrival.Kept = (refl, refl)
 same_records k arrival.Early = (refl, refl)

@@ -11,12 +11,12 @@ use Rattle.window_link.specs.declared.arrival.Arrival.TheVariants as arrival
 use Rattle.token_channel.specs.declared.thing.Thing.{Thing}
 use Rattle.token_channel.specs.declared.thing.Thing.TheVariants.{Fork, ForkToken, Bottle, BottleToken}
 use Rattle.token_channel.specs.Things.{hold, thing_of}
-use Rattle.token_channel.specs.Channels.{held_after}
+use Rattle.token_channel.specs.Channels.{held_after, held_with}
 use Rattle.dining_core.specs.Diners.{Diner}
 use Rattle.dining_core.specs.Diners as forks
 use Rattle.drinking_core.specs.Drinkers.{Drinker}
 use Rattle.drinking_core.specs.Drinkers as bottles
-use Rattle.site_core.specs.Pairs.{held_by, fork_came, bottle_came, diner_after, drinker_after}
+use Rattle.site_core.specs.Pairs.{held_by, fork_came, bottle_came, diner_after, drinker_after, as_arrival}
 
 -- what is held of a thing that a message carries, toward one office
 abbrev pub with_held : (ℕ → Thing → Bool) → ℕ → Thing → Bool → ℕ → Thing → Bool
@@ -138,7 +138,13 @@ pub after_arrival : (d : Diner) (k : Drinker) (v : ℕ) (a : Arrival) → ((m : 
 after_arrival d k v (arrival.Fresh m) from u t = after_message d k v m (from m refl) u t
 after_arrival d k v arrival.Acked from u t = still (held_by d k) v u t _ refl
 after_arrival d k v arrival.Repeat from u t = still (held_by d k) v u t _ refl
+after_arrival d k v arrival.Kept from u t = still (held_by d k) v u t _ refl
 after_arrival d k v arrival.Early from u t = still (held_by d k) v u t _ refl
+
+pub after_followed : (d : Diner) (k : Drinker) (v : ℕ) (o : Option Msg) → ((m : Msg) → as_arrival o ≡ arrival.Fresh m → IsFrom k.peer v m) → (u : ℕ) (t : Thing) →
+    held_by (diner_after d v (as_arrival o)) (drinker_after k (as_arrival o)) u t ≡ put (held_by d k) v (held_with (held_by d k v) o) u t
+after_followed d k v None from u t = still (held_by d k) v u t _ refl
+after_followed d k v (Some m) from u t = after_message d k v m (from m refl) u t
 
 -- ---- rules that send nothing
 

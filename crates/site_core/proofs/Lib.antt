@@ -4,6 +4,7 @@ pub mod PairUpdates
 pub mod PlanFacts
 pub mod PairsOpening
 pub mod FramesComing
+pub mod KeptMessages
 pub mod SessionsAreOurs
 pub mod OfficeLimits
 pub mod OfficeSteps

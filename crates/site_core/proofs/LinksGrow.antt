@@ -1,16 +1,18 @@
 -- What an office knows of its links only grows along its journal.
 use Rattle.std.proofs.Common.{◌≡◌, ℕ, ◌+◌, ◌-◌, ◌≤◌, Bool, true, false, cond, List, [], ◌∷◌, ◌++◌, Option, None, Some, Ok, Err, refl, sym, subst, arith, ⊎_elim}
-use Rattle.std.specs.Prelude.{◌==◌}
-use Rattle.std.proofs.lemmas.Bool.{cases_lt, cond_both, eqb-true}
+use Rattle.std.proofs.lemmas.Bool.{cases_lt}
 use Rattle.std.proofs.lemmas.List.{length-drop, length-append}
 use Rattle.bottle_values.proofs.Maps.{put_cases}
 use Rattle.frame_codec.specs.declared.message.Msg.{Msg}
 use Rattle.frame_codec.specs.declared.message.Msg.TheVariants as msg
 use Rattle.frame_codec.specs.Frame.{Fields}
 use Rattle.office_map.specs.PlanValue.{PlanValue, are_neighbours}
-use Rattle.window_link.specs.Windows.{Sending, used, queued, acknowledged}
+use Rattle.window_link.specs.declared.arrival.Arrival.{Arrival}
+use Rattle.window_link.specs.declared.arrival.Arrival.TheVariants.{Acked, Fresh, Repeat, Kept, Early}
+use Rattle.window_link.specs.Windows.{Sending, Receiving, used, queued, acknowledged, arrival, after_message}
 use Rattle.window_link.specs.Links.{LinkState, received_from, after_arrival}
 use Rattle.token_channel.specs.declared.fault.ChannelFault.{ChannelFault}
+use Rattle.token_channel.specs.Channels.{link_then}
 use Rattle.drinking_core.specs.Drinkers as bottles
 use Rattle.site_core.specs.declared.rule.Rule.{Rule}
 use Rattle.site_core.specs.declared.rule.Rule.TheVariants as rule
@@ -19,11 +21,12 @@ use Rattle.site_core.specs.declared.event.Event.TheVariants as event
 use Rattle.site_core.specs.declared.event.Entry.{Entry}
 use Rattle.site_core.specs.declared.reply.Reply.TheVariants as reply
 use Rattle.site_core.specs.declared.reply.Refusal.TheVariants as refusal
-use Rattle.site_core.specs.Pairs.{Pairs, queued_to, sent, bottle_sends, frame_fault, after_frame}
+use Rattle.site_core.specs.Pairs.{Pairs, queued_to, sent, bottle_sends, frame_fault, after_frame, follows, after_kept, after_taking}
 use Rattle.site_core.specs.Agenda.{is_full, submitted}
 use Rattle.site_core.specs.Offices.{Office, Answer, may, act, is_ours, framed, frame_on, unless_faulty, opened}
 use Rattle.site_core.specs.Journals.{next_or, after, run_of, office_of}
 use Rattle.site_core.specs.Growing.{Grows, LinksOnlyGrow}
+use Rattle.site_core.proofs.KeptMessages.{through_taking}
 
 same : (l : LinkState) → Grows l l
 same l = record { acked = omega arith; used = omega arith; taken = omega arith }
@@ -66,9 +69,16 @@ used_acknowledged s count =
     let left = length-drop (count - s.acked) s.waiting in
     ⊎_elim (λ lt. omega (arith, left, lt)) (λ ge. omega (arith, left, ge)) (cases_lt s.acked count)
 
-taken_received : (t number : ℕ) (m : Option Msg) → t ≤ (received_from (record { taken = t }) number m).taken
-taken_received t number None = omega arith
-taken_received t number (Some m) = cond_both (number == t + 1) number t (λ n. t ≤ n) (λ e. let is = eqb-true number (t + 1) e in omega (arith, is)) (λ e. omega arith)
+taken_received : (r : Receiving) (number : ℕ) (m : Option Msg) → r.taken ≤ (received_from r number m).taken
+taken_received r number None = omega arith
+taken_received r number (Some m) = go (arrival r.taken number m)
+  where
+    go : (a : Arrival) → r.taken ≤ (after_message r number m a).taken
+    go (Fresh x) = omega arith
+    go Acked = omega arith
+    go Repeat = omega arith
+    go Kept = omega arith
+    go Early = omega arith
 
 frame_grows : (p : Pairs) (f : Fields) (v : ℕ) → Grows (p.link v) ((after_frame p f).link v)
 frame_grows p f v = put_cases p.link f.from new v (Grows (p.link v)) (λ e. subst (λ k. Grows (p.link k) new) (sym e) direct) (λ ne. same (p.link v))
@@ -80,7 +90,23 @@ frame_grows p f v = put_cases p.link f.from new v (Grows (p.link v)) (λ e. subs
     new = after_arrival l f
 
     direct : Grows l new
-    direct = record { acked = omega arith; used = used_acknowledged l.sending f.count; taken = taken_received l.receiving.taken f.number f.msg }
+    direct = record { acked = omega arith; used = used_acknowledged l.sending f.count; taken = taken_received l.receiving f.number f.msg }
+
+-- ---- what was kept
+
+kept_grows : (plan : PlanValue) (me x : ℕ) (p : Pairs) (v : ℕ) → Grows (p.link v) ((after_kept plan me x p).link v)
+kept_grows plan me x p v = put_cases p.link x new v (Grows (p.link v)) (λ e. subst (λ k. Grows (p.link k) new) (sym e) (direct (follows plan me x p))) (λ ne. same (p.link v))
+  where
+    new : LinkState
+    new = link_then (p.link x) (follows plan me x p)
+
+    direct : (o : Option Msg) → Grows (p.link x) (link_then (p.link x) o)
+    direct None = record { acked = omega arith; used = omega arith; taken = omega arith }
+    direct (Some m) = record { acked = omega arith; used = omega arith; taken = omega arith }
+
+taking_grows : (plan : PlanValue) (me : ℕ) (p : Pairs) (f : Fields) (v : ℕ) → Grows (p.link v) ((after_taking plan me p f).link v)
+taking_grows plan me p f v =
+    through_taking plan me (λ (q : Pairs). Grows (p.link v) (q.link v)) f (λ q g. both (p.link v) (q.link v) ((after_kept plan me f.from q).link v) g (kept_grows plan me f.from q v)) p (frame_grows p f v)
 
 -- ---- events
 
@@ -107,8 +133,8 @@ event_grows plan me o (event.Send u i) v = go (are_neighbours plan me u) (frame_
     go true (Some f) = same (o.pairs.link v)
 event_grows plan me o (event.Took f) v = go (frame_fault plan me o.pairs f)
   where
-    go : (x : Option ChannelFault) → Onward o v (unless_faulty o f x)
-    go None = frame_grows o.pairs f v
+    go : (x : Option ChannelFault) → Onward o v (unless_faulty plan me o f x)
+    go None = taking_grows plan me o.pairs f v
     go (Some fault) = same (o.pairs.link v)
 
 -- ---- journals

@@ -14,7 +14,7 @@ use Rattle.window_link.specs.declared.fault.LinkFault.{LinkFault}
 use Rattle.window_link.specs.declared.fault.LinkFault.TheVariants.{Stranger, AckAhead}
 use Rattle.window_link.specs.Windows.{Sending, used, acknowledged}
 use Rattle.window_link.specs.Links.{LinkState, fault_of, is_own, after_arrival}
-use Rattle.token_channel.specs.Channels.{link_fault_or}
+use Rattle.token_channel.specs.Channels.{link_fault_or, link_then}
 use Rattle.dining_core.specs.Diners as forks
 use Rattle.drinking_core.specs.Drinkers as bottles
 use Rattle.site_core.specs.Limits.{most_entries}
@@ -35,6 +35,7 @@ use Rattle.site_core.specs.Agenda as agenda
 use Rattle.site_core.specs.Offices.{Office, may, act, is_ours, submit, framed, frame_on, unless_faulty, answer, opened}
 use Rattle.site_core.specs.Journals.{Site, next_or, after, run_of, office_of, noted, AreAccepted, IsLegal}
 use Rattle.site_core.proofs.FramesComing.{passed}
+use Rattle.site_core.proofs.KeptMessages.{through_taking}
 
 -- ---- the end of a journal
 
@@ -129,6 +130,10 @@ after_frame plan me n p f h none =
     let same = known_used (p.link f.from).sending f.count (none_ahead (p.link f.from) f fine) in
     after_put n p.link f.from (after_arrival (p.link f.from) f) h (omega (arith, same, h f.from))
 
+after_taking : (plan : PlanValue) (me n : ℕ) (p : Pairs) (f : Fields) → Numbers n p.link → frame_fault plan me p f ≡ None → Numbers n (pairs.after_taking plan me p f).link
+after_taking plan me n p f h none =
+    through_taking plan me (λ (q : Pairs). Numbers n q.link) f (λ q k. after_put n q.link f.from (link_then (q.link f.from) (pairs.follows plan me f.from q)) k (k f.from)) p (after_frame plan me n p f h none)
+
 -- ---- events
 
 loosen : (plan : PlanValue) (me n m : ℕ) (o : Office) → n ≤ m → IsWithin plan me n o → IsWithin plan me m o
@@ -195,8 +200,8 @@ by_event plan me n o (event.Send v i) w = go (are_neighbours plan me v)
     go false = loosen plan me n (n + 1) o (omega arith) w
 by_event plan me n o (event.Took f) w = go (frame_fault plan me o.pairs f) refl
   where
-    go : (x : Option ChannelFault) → frame_fault plan me o.pairs f ≡ x → IsWithin plan me (n + 1) (next_or o (unless_faulty o f x))
-    go None e = record { numbers = more n (pairs.after_frame o.pairs f).link (after_frame plan me n o.pairs f w.numbers e); tickets = omega (arith, w.tickets); ours = w.ours }
+    go : (x : Option ChannelFault) → frame_fault plan me o.pairs f ≡ x → IsWithin plan me (n + 1) (next_or o (unless_faulty plan me o f x))
+    go None e = record { numbers = more n (pairs.after_taking plan me o.pairs f).link (after_taking plan me n o.pairs f w.numbers e); tickets = omega (arith, w.tickets); ours = w.ours }
     go (Some x) e = loosen plan me n (n + 1) o (omega arith) w
 
 by_run : (plan : PlanValue) (me n : ℕ) (o : Office) (xs : List Entry) → IsWithin plan me n o → IsWithin plan me (n + length xs) (run_of plan me o xs)

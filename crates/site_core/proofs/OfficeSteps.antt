@@ -17,7 +17,7 @@ use Rattle.frame_codec.specs.Frame.{Fields}
 use Rattle.session_meaning.specs.ProgramValue.{ProgramValue}
 use Rattle.window_link.specs.declared.arrival.Arrival.{Arrival}
 use Rattle.site_core.specs.Replies.{reply_to}
-use Rattle.site_core.specs.Pairs.{Pairs, frame_fault, arrival_of, after_frame}
+use Rattle.site_core.specs.Pairs.{Pairs, frame_fault, arrival_of, after_taking}
 use Rattle.site_core.specs.Pairs as pairs
 use Rattle.site_core.specs.Agenda.{Agenda}
 use Rattle.site_core.specs.Agenda as agenda
@@ -189,11 +189,11 @@ framed_message p v entries entries' tag to i f h made lt journal grown =
     (send_answer s to i f (ap (λ (x : Pairs). cond (are_neighbours p.plan p.me to) (frame_on (x.link to) i) None) (sym h.stands.0) ∙ made)) h.stands lt (not_full _ journal) grown
 
 take_answer : (p : PairsValue) (v : AgendaValue) (entries : List Entry) (f : Fields) (a : Arrival) → IsAtEnd p v entries → frame_fault p.plan p.me (pairs_of p) f ≡ None → a ≡ arrival_of (pairs_of p) f →
-    answer p.plan p.me (office_of (site_of p entries)) (event.Took f) ≡ Ok (reply_to a, with_pairs (office_of (site_of p entries)) (after_frame (office_of (site_of p entries)).pairs f))
+    answer p.plan p.me (office_of (site_of p entries)) (event.Took f) ≡ Ok (reply_to a, with_pairs (office_of (site_of p entries)) (after_taking p.plan p.me (office_of (site_of p entries)).pairs f))
 take_answer p v entries f a h none is =
     let o = office_of (site_of p entries) in
     let here = h.stands.0 in
-    ap (unless_faulty o f) (ap (λ x. frame_fault p.plan p.me x f) (sym here) ∙ none) ∙ ap (λ x. Ok (reply_to x, with_pairs o (after_frame o.pairs f))) (ap (λ x. arrival_of x f) (sym here) ∙ sym is)
+    ap (unless_faulty p.plan p.me o f) (ap (λ x. frame_fault p.plan p.me x f) (sym here) ∙ none) ∙ ap (λ x. Ok (reply_to x, with_pairs o (after_taking p.plan p.me o.pairs f))) (ap (λ x. arrival_of x f) (sym here) ∙ sym is)
 
 pub taken_steps : (p p' : PairsValue) (v : AgendaValue) (entries entries' : List Entry) (tag : ℕ) (f : Fields) (a : Arrival) (r : Reply) → IsAtEnd p v entries → IsOf p.plan p.me p' → frame_fault p.plan p.me (pairs_of p) f ≡ None → a ≡ arrival_of (pairs_of p) f →
     r ≡ reply_to a → (nat_le most_entries (length entries) ≡ true → ⊥) → entries' ≡ entries ++ record { tag = tag; event = event.Took f; reply = reply_to a } ∷ [] → Steps (site_of p entries) tag (event.Took f) (Ok r) (site_of p' entries')
@@ -203,10 +203,10 @@ taken_steps p p' v entries entries' tag f a r h of none is told journal grown =
     subst (λ x. Steps s tag (event.Took f) (Ok x) (site_of p' entries')) (sym told) (accepted s (site_of p' entries') tag (event.Took f) (reply_to a) _ (take_answer p v entries f a h none is) (not_full _ journal) same)
 
 pub taken_frame : (p p' : PairsValue) (v : AgendaValue) (entries entries' : List Entry) (tag : ℕ) (f : Fields) (a : Arrival) → IsAtEnd p v entries → IsOf p.plan p.me p' → frame_fault p.plan p.me (pairs_of p) f ≡ None → a ≡ arrival_of (pairs_of p) f →
-    pairs_of p' ≡ after_frame (pairs_of p) f → tag < 16 → (nat_le most_entries (length entries) ≡ true → ⊥) → entries' ≡ entries ++ record { tag = tag; event = event.Took f; reply = reply_to a } ∷ [] → IsAtEnd p' v entries'
+    pairs_of p' ≡ after_taking p.plan p.me (pairs_of p) f → tag < 16 → (nat_le most_entries (length entries) ≡ true → ⊥) → entries' ≡ entries ++ record { tag = tag; event = event.Took f; reply = reply_to a } ∷ [] → IsAtEnd p' v entries'
 taken_frame p p' v entries entries' tag f a h of none is after_is lt journal grown =
     let o = office_of (site_of p entries) in
-    goes_on p p' v v entries entries' tag (event.Took f) (reply_to a) (with_pairs o (after_frame o.pairs f)) h of (take_answer p v entries f a h none is) (after_is ∙ ap (λ x. after_frame x f) h.stands.0, h.stands.1) lt (not_full _ journal) grown
+    goes_on p p' v v entries entries' tag (event.Took f) (reply_to a) (with_pairs o (after_taking p.plan p.me o.pairs f)) h of (take_answer p v entries f a h none is) (after_is ∙ ap (λ x. after_taking p.plan p.me x f) h.stands.0, h.stands.1) lt (not_full _ journal) grown
 
 -- ---- what a step adds
 

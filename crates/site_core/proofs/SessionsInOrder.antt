@@ -30,13 +30,14 @@ use Rattle.site_core.specs.declared.event.Event.TheVariants as event
 use Rattle.site_core.specs.declared.event.Entry.{Entry}
 use Rattle.site_core.specs.declared.reply.Reply.TheVariants as reply
 use Rattle.site_core.specs.declared.reply.Refusal.TheVariants as refusal
-use Rattle.site_core.specs.Pairs.{bottle_came, drinker_after, frame_fault}
+use Rattle.site_core.specs.Pairs.{Pairs, bottle_came, drinker_after, frame_fault, after_taking}
 use Rattle.site_core.specs.Agenda.{Agenda, Current, Idle, Gathering, Working, submitted, started, first_needs, begun, worked, ending_of, writes_of, outcome_of, outcome_as, with_current, finished}
 use Rattle.site_core.specs.Agenda as agenda
 use Rattle.site_core.specs.Offices.{Office, may, act, is_ours, submit, framed, frame_on, unless_faulty, opened}
 use Rattle.site_core.specs.Journals.{next_or, after, run_of, office_of}
 use Rattle.site_core.specs.Readers.{outcome_with}
 use Rattle.site_core.specs.Tickets.{current_tickets, GoInOrder, SessionsGoInOrder}
+use Rattle.site_core.proofs.KeptMessages.{through_taking}
 
 abbrev tickets_of : List Session → List ℕ
 tickets_of = map (λ (s : Session). s.ticket)
@@ -145,7 +146,11 @@ phase_after : (d : Drinker) (a : Arrival) → (drinker_after d a).phase ≡ d.ph
 phase_after d (arrival.Fresh m) = phase_came d m
 phase_after d arrival.Acked = refl
 phase_after d arrival.Repeat = refl
+phase_after d arrival.Kept = refl
 phase_after d arrival.Early = refl
+
+phase_taken : (plan : PlanValue) (me : ℕ) (p : Pairs) (f : Fields) → (after_taking plan me p f).drinker.phase ≡ p.drinker.phase
+phase_taken plan me p f = through_taking plan me (λ (q : Pairs). q.drinker.phase ≡ p.drinker.phase) f (λ q e. phase_after q.drinker _ ∙ e) p (phase_after p.drinker _)
 
 -- ---- events
 
@@ -167,8 +172,8 @@ by_event plan me o (event.Send v i) w = go (are_neighbours plan me v)
     go false = w
 by_event plan me o (event.Took f) w = go (frame_fault plan me o.pairs f)
   where
-    go : (x : Option ChannelFault) → IsInOrder (next_or o (unless_faulty o f x))
-    go None = record { order = w.order; idle = λ e. w.idle (sym (ap bottles.is_tranquil (phase_after o.pairs.drinker _)) ∙ e) }
+    go : (x : Option ChannelFault) → IsInOrder (next_or o (unless_faulty plan me o f x))
+    go None = record { order = w.order; idle = λ e. w.idle (sym (ap bottles.is_tranquil (phase_taken plan me o.pairs f)) ∙ e) }
     go (Some x) = w
 
 by_run : (plan : PlanValue) (me : ℕ) (o : Office) (xs : List Entry) → IsInOrder o → IsInOrder (run_of plan me o xs)

@@ -1,8 +1,8 @@
 -- One channel changed, and what the office has on all of them.
-use Rattle.std.proofs.Common.{◌≡◌, ◌≢◌, ℕ, ◌<◌, Bool, true, false, cond, List, length, None, Some, sym, ap, subst, ◌∙◌, ⊎_elim, set}
+use Rattle.std.proofs.Common.{◌≡◌, ◌≢◌, ℕ, ◌<◌, Bool, true, false, cond, List, length, Option, None, Some, sym, ap, subst, ◌∙◌, ⊎_elim, set}
 use Rattle.std.specs.Prelude.{is_some}
-use Rattle.std.proofs.lemmas.Bool.{eq-eqb, ne_eqb, cases_eq}
-use Rattle.std.proofs.lemmas.List.{get_or-set_same, get_or-set_other}
+use Rattle.std.proofs.lemmas.Bool.{eq-eqb, ne_eqb, cases_eq, cases_lt}
+use Rattle.std.proofs.lemmas.List.{get_or-set_same, get_or-set_other, get_or_past}
 use mathlib.Core.Path.{fun_ext}
 use Rattle.bottle_values.specs.Maps.{put}
 use Rattle.frame_codec.specs.declared.message.Msg.{Msg}
@@ -15,9 +15,10 @@ use Rattle.window_link.specs.Links.{arrival_at, after_arrival}
 use Rattle.token_channel.specs.declared.thing.Thing.{Thing}
 use Rattle.token_channel.specs.Things.{thing_of, same, hold}
 use Rattle.token_channel.specs.Places.{holds, shares}
-use Rattle.token_channel.specs.Channels.{ChannelState, sent, after_frame, held_after, channel_fault, WhatComesIsHeld, WhatIsSharedStays}
+use Rattle.token_channel.specs.Ends.{is_shared}
+use Rattle.token_channel.specs.Channels.{ChannelState, sent, after_frame, held_after, held_with, channel_fault, follows, follows_among, after_kept, link_then, WhatComesIsHeld, WhatFollowsIsHeld, WhatIsSharedStays}
 use Rattle.site_core.specs.Pairs.{queued_to}
-use Rattle.site_core.specs.refinement.Slots.{Slot, slot_at, link_in, links_of, slot_holds, slot_sent, slot_after, IsSlotOf}
+use Rattle.site_core.specs.refinement.Slots.{Slot, slot_at, link_in, links_of, slot_holds, slot_sent, slot_after, slot_then, IsSlotOf}
 
 put_same : {A : Type 0} (f : ℕ → A) (v u : ℕ) (x : A) → u ≡ v → put f v x u ≡ x
 put_same f v u x e = ap (λ b. cond b x (f u)) (eq-eqb u v e)
@@ -56,6 +57,7 @@ held_after_same : (f g : Thing → Bool) (a : Arrival) (u : Thing) → ((x : Thi
 held_after_same f g (arrival.Fresh m) u e = hold_same f g (thing_of m) u true e
 held_after_same f g arrival.Acked u e = e u
 held_after_same f g arrival.Repeat u e = e u
+held_after_same f g arrival.Kept u e = e u
 held_after_same f g arrival.Early u e = e u
 
 held_here : (plan : PlanValue) (me v : ℕ) (here : Thing → Bool) (c : ChannelState) → IsSlotOf plan me v here (Some c) → (t : Thing) → holds c.places t ≡ here t
@@ -100,3 +102,42 @@ links_after run me slots slots' v (Some c) f lt has is new =
 pub arrival_here : (run me : ℕ) (slots : List Slot) (v : ℕ) (slot : Slot) (f : Fields) (a : Arrival) → slot_at slots v ≡ slot → is_some slot ≡ true → ((c : ChannelState) → slot_at slots v ≡ Some c → a ≡ arrival_at c.link f) → a ≡ arrival_at (links_of run me slots v) f
 arrival_here run me slots v None f a is has e = cc
 arrival_here run me slots v (Some c) f a is has e = e c is ∙ ap (λ (s : Slot). arrival_at (link_in run me v s) f) (sym is)
+
+-- ---- what was kept follows
+
+-- where there is a channel there is a place
+pub within_slots : (slots : List Slot) (v : ℕ) → is_some (slot_at slots v) ≡ true → v < length slots
+within_slots slots v e = ⊎_elim (λ lt. lt) (λ past. absurd (go (get_or_past slots v None past))) (cases_lt v (length slots))
+  where
+    go : slot_at slots v ≡ None → ⊥
+    go none = let wrong : false ≡ true = ap is_some (sym none) ∙ e in cc
+
+held_with_same : (f g : Thing → Bool) (o : Option Msg) (u : Thing) → ((x : Thing) → f x ≡ g x) → held_with f o u ≡ held_with g o u
+held_with_same f g None u e = e u
+held_with_same f g (Some m) u e = hold_same f g (thing_of m) u true e
+
+follows_here : (plan : PlanValue) (me v : ℕ) (here : Thing → Bool) (c : ChannelState) → IsSlotOf plan me v here (Some c) → follows c ≡ follows_among (is_shared plan me v) here c.link
+follows_here plan me v here c (near, is) = ap (λ s. follows_among s (holds c.places) c.link) (fun_ext is.shared) ∙ ap (λ h. follows_among (is_shared plan me v) h c.link) (fun_ext is.held)
+
+pub message_here : (plan : PlanValue) (me : ℕ) (here : ℕ → Thing → Bool) (run : ℕ) (slots : List Slot) (v : ℕ) (slot : Slot) (o : Option Msg) → is_some slot ≡ true → slot_at slots v ≡ slot → ((c : ChannelState) → slot_at slots v ≡ Some c → o ≡ follows c) →
+    ((u : ℕ) → IsSlotOf plan me u (here u) (slot_at slots u)) → o ≡ follows_among (is_shared plan me v) (here v) (links_of run me slots v)
+message_here plan me here run slots v None o has is told all = cc
+message_here plan me here run slots v (Some c) o has is told all =
+    told c is ∙ follows_here plan me v (here v) c (subst (IsSlotOf plan me v (here v)) is (all v)) ∙ ap (λ (s : Slot). follows_among (is_shared plan me v) (here v) (link_in run me v s)) (sym is)
+
+pub slots_then : (plan : PlanValue) (me : ℕ) (here : ℕ → Thing → Bool) (slots slots' : List Slot) (v : ℕ) (slot : Slot) (o : Option Msg) → WhatIsSharedStays → WhatFollowsIsHeld → v < length slots → is_some slot ≡ true →
+    slot_at slots v ≡ slot → slots' ≡ set slots v (slot_then slot) → ((c : ChannelState) → slot_at slots v ≡ Some c → o ≡ follows c) →
+    ((u : ℕ) → IsSlotOf plan me u (here u) (slot_at slots u)) → (u : ℕ) → IsSlotOf plan me u (put here v (held_with (here v) o) u) (slot_at slots' u)
+slots_then plan me here slots slots' v None o stays comes lt has is new told all u = cc
+slots_then plan me here slots slots' v (Some c) o stays comes lt has is new told all u =
+    subst (λ s. IsSlotOf plan me u (put here v (held_with (here v) o) u) (slot_at s u)) (sym new)
+    (slots_put plan me here slots v c (after_kept c) (held_with (here v) o) lt is (λ t. (stays c t).2)
+    (λ t. comes c t ∙ ap (λ x. held_with (holds c.places) x t) (sym (told c is)) ∙ held_with_same (holds c.places) (here v) o t (held_here plan me v (here v) c (subst (IsSlotOf plan me v (here v)) is (all v)))) all u)
+
+pub links_then : (run me : ℕ) (slots slots' : List Slot) (v : ℕ) (slot : Slot) (o : Option Msg) → v < length slots → is_some slot ≡ true → slot_at slots v ≡ slot → slots' ≡ set slots v (slot_then slot) → ((c : ChannelState) → slot_at slots v ≡ Some c → o ≡ follows c) →
+    links_of run me slots' ≡ put (links_of run me slots) v (link_then (links_of run me slots v) o)
+links_then run me slots slots' v None o lt has is new told = cc
+links_then run me slots slots' v (Some c) o lt has is new told =
+    ap (links_of run me) new ∙ links_put run me slots v (after_kept c) lt
+    ∙ ap (λ (x : Option Msg). put (links_of run me slots) v (link_then c.link x)) (sym (told c is))
+    ∙ ap (λ (s : Slot). put (links_of run me slots) v (link_then (link_in run me v s) o)) (sym is)

@@ -41,7 +41,7 @@ never_full plan me o (event.Send v i) h = go (are_neighbours plan me v) (frame_o
     go false f k = absurd cc
 never_full plan me o (event.Took f) h = go (frame_fault plan me o.pairs f) h
   where
-    go : (x : Option ChannelFault) → unless_faulty o f x ≡ Err refusal.JournalFull → ⊥
+    go : (x : Option ChannelFault) → unless_faulty plan me o f x ≡ Err refusal.JournalFull → ⊥
     go None k = absurd cc
     go (Some fault) k = absurd cc
 

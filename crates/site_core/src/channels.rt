@@ -148,7 +148,6 @@ impl Channels {
     }
 }
 
-#[tactic(auto, using(bottle_values::proofs::Lists::mapped_more))]
 fn slots_at_start(
     alloc: Global,
     plan: &Plan,

@@ -111,7 +111,7 @@ static ROWS: [(&str, &str, &[Step], &str); 6] = [
             Step(What::Send, A, 0),
             Step(What::Deliver, 0, 5),
         ],
-        "ticket 1; done; done; done; done; frame 1 0; frame 2 0; frame 3 0; early; taken; taken; frame 3 0; taken; repeat; refused O1 NotNow; frame 0 0; acked; ",
+        "ticket 1; done; done; done; done; frame 1 0; frame 2 0; frame 3 0; kept; taken; taken; frame 3 0; repeat; repeat; refused O1 NotNow; frame 0 0; acked; ",
     ),
     (
         PAIR,
@@ -361,6 +361,7 @@ fn tell(text: &mut String, reply: &Result<Reply, Refusal>) -> Result<(), Fail> {
         Ok(Reply::Acked) => text.push_str("acked; ")?,
         Ok(Reply::Taken) => text.push_str("taken; ")?,
         Ok(Reply::Repeat) => text.push_str("repeat; ")?,
+        Ok(Reply::Kept) => text.push_str("kept; ")?,
         Ok(Reply::Early) => text.push_str("early; ")?,
         Err(refusal) => write!(text, "refused {refusal}; ")?,
     }

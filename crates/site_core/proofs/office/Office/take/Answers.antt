@@ -8,23 +8,23 @@ use Rattle.site_core.proofs.office.Office.take.Goals as goal
 pub invariant_of-self-2 : goal.invariant_of-self-2
 invariant_of-self-2 c =
     let s = c.self.inside in
-    taken_frame s.pairs c.accept-arrival.new.self s.agenda s.journal.entries c.push.new.self.entries c.args.tag c.args.frame.now c.accept-arrival.result c.self.invariant c.accept-arrival.ensures.office (sym c.in_default.ensures.fault)
-    c.accept-arrival.ensures.arrival c.accept-arrival.ensures.taken c.requires (λ e. not_err _ _ (c.in_ok-make_room.ensures.full.1 e))
+    taken_frame s.pairs c.take-arrival.new.self s.agenda s.journal.entries c.push.new.self.entries c.args.tag c.args.frame.now c.take-arrival.result c.self.invariant c.take-arrival.ensures.office (sym c.in_default.ensures.fault)
+    c.take-arrival.ensures.arrival c.take-arrival.ensures.taken c.requires (λ e. not_err _ _ (c.in_ok-make_room.ensures.full.1 e))
     (c.push.ensures ∙ ap (λ l. l ++ c.of_arrival-entry.result ∷ []) c.in_ok-make_room.ensures.unchanged ∙ ap (λ x. s.journal.entries ++ x ∷ []) c.of_arrival-entry.ensures)
 
 pub returns : goal.returns
 returns c =
     let s = c.self.inside in
-    subst (λ x. Steps x c.args.tag (event.Took c.args.frame.now) (Ok c.to.result) (site_of c.accept-arrival.new.self c.push.new.self.entries)) c.self.view_is
-    (taken_steps s.pairs c.accept-arrival.new.self s.agenda s.journal.entries c.push.new.self.entries c.args.tag c.args.frame.now c.accept-arrival.result c.to.result c.self.invariant c.accept-arrival.ensures.office (sym c.in_default.ensures.fault)
-    c.accept-arrival.ensures.arrival c.to.ensures (λ e. not_err _ _ (c.in_ok-make_room.ensures.full.1 e))
+    subst (λ x. Steps x c.args.tag (event.Took c.args.frame.now) (Ok c.to.result) (site_of c.take-arrival.new.self c.push.new.self.entries)) c.self.view_is
+    (taken_steps s.pairs c.take-arrival.new.self s.agenda s.journal.entries c.push.new.self.entries c.args.tag c.args.frame.now c.take-arrival.result c.to.result c.self.invariant c.take-arrival.ensures.office (sym c.in_default.ensures.fault)
+    c.take-arrival.ensures.arrival c.to.ensures (λ e. not_err _ _ (c.in_ok-make_room.ensures.full.1 e))
     (c.push.ensures ∙ ap (λ l. l ++ c.of_arrival-entry.result ∷ []) c.in_ok-make_room.ensures.unchanged ∙ ap (λ x. s.journal.entries ++ x ∷ []) c.of_arrival-entry.ensures))
 
 pub returns-in_err-make_room : goal.returns-in_err-make_room
 returns-in_err-make_room c = search rules
 
-pub accept-arrival-requires : goal.accept-arrival-requires
-accept-arrival-requires c = search rules
+pub take-arrival-requires : goal.take-arrival-requires
+take-arrival-requires c = search rules
 
 pub returns-in-Err : goal.returns-in-Err
 returns-in-Err c = search rules

@@ -1,0 +1,36 @@
+-- The kept messages that follow a frame's, one after the other.
+use Rattle.std.proofs.Common.{◌≡◌, ℕ, zero, suc, Bool, true, false, cond, ap, ◌∙◌}
+use Rattle.std.specs.Prelude.{is_some}
+use Rattle.std.proofs.lemmas.Bool.{cond_both}
+use Rattle.frame_codec.specs.Frame.{Fields}
+use Rattle.office_map.specs.PlanValue.{PlanValue}
+use Rattle.window_link.specs.declared.arrival.Arrival.{Arrival}
+use Rattle.window_link.specs.declared.arrival.Arrival.TheVariants as arrival
+use Rattle.token_channel.specs.Channels.{most_following}
+use Rattle.site_core.specs.Pairs.{Pairs, arrival_of, after_frame, follows, after_kept, followed, settled, after_taking}
+
+-- ---- as a loop takes them
+
+pub followed_more : (plan : PlanValue) (me v : ℕ) (p : Pairs) (n k : ℕ) → n ≡ suc k → is_some (follows plan me v p) ≡ true → followed plan me v n p ≡ followed plan me v k (after_kept plan me v p)
+followed_more plan me v p n k e is = ap (λ x. followed plan me v x p) e ∙ ap (λ b. cond b (followed plan me v k (after_kept plan me v p)) (after_kept plan me v p)) is
+
+pub followed_last : (plan : PlanValue) (me v : ℕ) (p : Pairs) (n k : ℕ) → n ≡ suc k → is_some (follows plan me v p) ≡ false → followed plan me v n p ≡ after_kept plan me v p
+followed_last plan me v p n k e is = ap (λ x. followed plan me v x p) e ∙ ap (λ b. cond b (followed plan me v k (after_kept plan me v p)) (after_kept plan me v p)) is
+
+-- ---- what each step keeps
+
+pub through_kept : (plan : PlanValue) (me v : ℕ) (P : Pairs → Type 0) → ((p : Pairs) → P p → P (after_kept plan me v p)) → (n : ℕ) (p : Pairs) → P p → P (followed plan me v n p)
+through_kept plan me v P step zero p h = h
+through_kept plan me v P step (suc n) p h =
+    let next = after_kept plan me v p in
+    cond_both (is_some (follows plan me v p)) (followed plan me v n next) next P (λ e. through_kept plan me v P step n next (step p h)) (λ e. step p h)
+
+pub through_taking : (plan : PlanValue) (me : ℕ) (P : Pairs → Type 0) (f : Fields) → ((p : Pairs) → P p → P (after_kept plan me f.from p)) → (p : Pairs) → P (after_frame p f) → P (after_taking plan me p f)
+through_taking plan me P f step p h = go (arrival_of p f)
+  where
+    go : (a : Arrival) → P (settled plan me f.from a (after_frame p f))
+    go (arrival.Fresh m) = through_kept plan me f.from P step most_following (after_frame p f) h
+    go arrival.Acked = h
+    go arrival.Repeat = h
+    go arrival.Kept = h
+    go arrival.Early = h
