@@ -72,6 +72,7 @@ reply_text k (reply.Frame f) = codes "frame " ++ (decimal k ++ (32 ∷ encode_lo
 reply_text k reply.Acked = codes "acked"
 reply_text k reply.Taken = codes "taken"
 reply_text k reply.Repeat = codes "repeat"
+reply_text k reply.Kept = codes "kept"
 reply_text k reply.Early = codes "early"
 
 -- where so many frames were sent

@@ -158,6 +158,7 @@ fn add_reply(
         Reply::Acked => text.push_str("acked"),
         Reply::Taken => text.push_str("taken"),
         Reply::Repeat => text.push_str("repeat"),
+        Reply::Kept => text.push_str("kept"),
         Reply::Early => text.push_str("early"),
     }
 }

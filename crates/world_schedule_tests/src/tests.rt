@@ -110,7 +110,7 @@ static ROWS: [(&str, &str, &[Step], &str); 5] = [
             Step(What::SendTo(B), A, 3),
             Step(What::Deliver, 0, 4),
         ],
-        "ticket 1; done; done; done; done; frame 445001010000002a000100000000000000010000000000000000030000; frame 445001010000002a000100000000000000020000000000000000030001; frame 445001010000002a000100000000000000030000000000000000030002; early; taken; taken; frame 445001010000002a000100000000000000030000000000000000030002; taken; unfinished 1; values 1 2 3",
+        "ticket 1; done; done; done; done; frame 445001010000002a000100000000000000010000000000000000030000; frame 445001010000002a000100000000000000020000000000000000030001; frame 445001010000002a000100000000000000030000000000000000030002; kept; taken; taken; frame 445001010000002a000100000000000000030000000000000000030002; repeat; unfinished 1; values 1 2 3",
     ),
     (
         ROW,
@@ -291,6 +291,7 @@ fn tell(text: &mut String, replies: &[Result<Reply, WorldRefusal>]) -> Result<()
             Ok(Reply::Acked) => text.push_str("acked; ")?,
             Ok(Reply::Taken) => text.push_str("taken; ")?,
             Ok(Reply::Repeat) => text.push_str("repeat; ")?,
+            Ok(Reply::Kept) => text.push_str("kept; ")?,
             Ok(Reply::Early) => text.push_str("early; ")?,
             Err(refusal) => write!(text, "refused {refusal}; ")?,
         }

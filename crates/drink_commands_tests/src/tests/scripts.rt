@@ -48,7 +48,7 @@ static ROWS: [(&str, &str, &str, &str); 9] = [
         ALL_AT_B,
         READS_ALL,
         "submit 1\ndo a start\ndo a askbottle x\ndo a askbottle y\ndo a askbottle z\nsend a b 1\nsend a b 2\nsend a b 3\ndeliver 3\ndeliver 1\ndeliver 2\nsend a b 3\ndeliver 4\n",
-        "ticket 1\ndone\ndone\ndone\ndone\nframe 1 445001010000002a000100000000000000010000000000000000030000\nframe 2 445001010000002a000100000000000000020000000000000000030001\nframe 3 445001010000002a000100000000000000030000000000000000030002\nearly\ntaken\ntaken\nframe 4 445001010000002a000100000000000000030000000000000000030002\ntaken\nunfinished 1\nvalue x 1\nvalue y 2\nvalue z 3\n",
+        "ticket 1\ndone\ndone\ndone\ndone\nframe 1 445001010000002a000100000000000000010000000000000000030000\nframe 2 445001010000002a000100000000000000020000000000000000030001\nframe 3 445001010000002a000100000000000000030000000000000000030002\nkept\ntaken\ntaken\nframe 4 445001010000002a000100000000000000030000000000000000030002\nrepeat\nunfinished 1\nvalue x 1\nvalue y 2\nvalue z 3\n",
     ),
     // Three offices, whose sessions finish in another order than they were submitted.
     (

@@ -79,7 +79,7 @@ fn kind_of(reply: &Result<Reply, WorldRefusal>) -> u16 {
         Ok(Reply::Acked) => 0b1000,
         Ok(Reply::Taken) => 0b1_0000,
         Ok(Reply::Repeat) => 0b10_0000,
-        Ok(Reply::Early) => 0b100_0000,
+        Ok(Reply::Kept) => 0b100_0000,
         Err(WorldRefusal::NoFrame) => 0b1000_0000,
         Err(WorldRefusal::NoOffice) => 0b1_0000_0000,
         Err(WorldRefusal::Office(Refusal::NotNow)) => 0b10_0000_0000,
@@ -265,7 +265,7 @@ fn delivered(world: &World, sent: &[Frame], k: usize) -> Result<Reply, WorldRefu
     } else if number == taken.saturating_add(1) {
         Ok(Reply::Taken)
     } else {
-        Ok(Reply::Early)
+        Ok(Reply::Kept)
     }
 }
 
