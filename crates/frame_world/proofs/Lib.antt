@@ -9,6 +9,8 @@ mod Following
 mod PlacesAndForks
 mod SentFrames
 mod TimelyCounts
+mod WhatWaits
+mod FewWait
 mod Sessions
 mod SerialRun
 mod SerialSessions

@@ -3,7 +3,7 @@ use Rattle.std.proofs.Common.{◌≡◌, ℕ, zero, suc, ◌+◌, ◌-◌, ◌�
 use Rattle.std.specs.Prelude.{nat_le, ◌==◌, slice_get}
 use Rattle.std.proofs.lemmas.Bool.{eqb-true, cases_lt}
 use Rattle.std.proofs.lemmas.Bool.Decides.{nat_tests}
-use Rattle.std.proofs.lemmas.List.{drop-append-le, drop-drop}
+use Rattle.std.proofs.lemmas.List.{drop-append-le, drop-drop, length-drop}
 use Rattle.std.proofs.lemmas.Option.{slice_get_within}
 use Rattle.frame_codec.specs.declared.message.Msg.{Msg}
 use Rattle.window_link.specs.declared.arrival.Arrival.{Arrival}
@@ -24,7 +24,7 @@ pub data Carries (s : Sending) (number : ℕ) (m : Msg) : Type 0 where
   Known : (le : number ≤ s.acked) → Carries s number m
   Waits : (k : ℕ) (at : number ≡ s.acked + suc k) (is : slice_get s.waiting k ≡ Some m) → Carries s number m
 
-length_one : (ms : List Msg) (m : Msg) → length (ms ++ m ∷ []) ≡ length ms + 1
+pub length_one : (ms : List Msg) (m : Msg) → length (ms ++ m ∷ []) ≡ length ms + 1
 length_one [] m = refl
 length_one (x ∷ xs) m = omega (arith, length_one xs m)
 
@@ -52,6 +52,12 @@ linked_acknowledged s t count h l = record {
   known = ⊎_elim (λ lt. omega (arith, h, l.known, lt)) (λ ge. omega (arith, h, l.known, ge)) (cases_lt s.acked count);
   most = omega (arith, l.most, known_used s count (omega (arith, h, l.most)));
 }
+
+pub still_used : (s : Sending) (count : ℕ) → used s ≤ used (acknowledged s count)
+still_used s count = ⊎_elim
+    (λ lt. omega (arith, length-drop (count - s.acked) s.waiting, lt))
+    (λ ge. omega (arith, length-drop (count - s.acked) s.waiting, ge))
+    (cases_lt s.acked count)
 
 pub untaken_acknowledged : (s : Sending) (t count : ℕ) → count ≤ t → s.acked ≤ t → untaken (acknowledged s count) t ≡ untaken s t
 untaken_acknowledged s t count h known =

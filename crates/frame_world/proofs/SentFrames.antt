@@ -45,7 +45,7 @@ use Rattle.frame_world.specs.Worlds.{World, opening, run_of, site_at, office_at,
 use Rattle.frame_world.specs.Headline.{Always, FramesAreTaken, is_fault}
 use Rattle.frame_world.specs.Ways.{untaken, between}
 use Rattle.frame_world.proofs.Answers.{PairStep, Stays, ByFork, ByBottle, ByFrame, step_of, pair_after}
-use Rattle.frame_world.proofs.OneLink.{Known, Waits, Carries, Arrives, Brings, BringsNone, arrives, taken_after}
+use Rattle.frame_world.proofs.OneLink.{length_one, still_used, Known, Waits, Carries, Arrives, Brings, BringsNone, arrives, taken_after}
 use Rattle.frame_world.proofs.Links.{AreLinked, IsHonest, queued_link, made_honest, link_after, link_kept, links_kept, way_cases, sending_of, taken_of}
 use Rattle.frame_world.proofs.Steps.{State, state_of, starting, IsAccepted, IsSeated, seated, through}
 use Rattle.frame_world.proofs.Following.{moved, pairs_in, pairs_after, Follows, follows_on, starts, IsNew, old_or_new}
@@ -171,26 +171,36 @@ pub record IsOfLink (l : LinkState) (f : Fields) : Type 0 where
   pub from : f.from ≡ l.me
   pub to : f.to ≡ l.peer
   pub count : f.count ≡ l.receiving.taken
+  pub number : f.number ≤ used l.sending
 
 pub of_link : (l : LinkState) (i : ℕ) (f : Fields) → frame_on l i ≡ Some f → IsOfLink l f
 of_link l i f e = by i e
   where
-    made : (n : ℕ) (m : Option Msg) → frame_with l n m ≡ f → IsOfLink l f
-    made n m is = subst (IsOfLink l) is (record { run = refl; from = refl; to = refl; count = refl })
+    made : (n : ℕ) (m : Option Msg) → n ≤ used l.sending → frame_with l n m ≡ f → IsOfLink l f
+    made n m most is = subst (IsOfLink l) is (record { run = refl; from = refl; to = refl; count = refl; number = most })
 
     by : (i : ℕ) → frame_on l i ≡ Some f → IsOfLink l f
-    by zero e = let is : frame_with l 0 None ≡ f = cc in made 0 None is
-    by (suc i) e = go (nat_le (suc i) (length l.sending.waiting)) e
+    by zero e = let is : frame_with l 0 None ≡ f = cc in made 0 None (omega arith) is
+    by (suc i) e = go (nat_le (suc i) (length l.sending.waiting)) refl e
       where
-        go : (b : Bool) → cond b (Some (frame_with l (l.sending.acked + suc i) (slice_get l.sending.waiting (suc i - 1)))) None ≡ Some f → IsOfLink l f
-        go true e = let is : frame_with l (l.sending.acked + suc i) (slice_get l.sending.waiting (suc i - 1)) ≡ f = cc in made (l.sending.acked + suc i) (slice_get l.sending.waiting (suc i - 1)) is
-        go false e = absurd cc
+        go : (b : Bool) → nat_le (suc i) (length l.sending.waiting) ≡ b → cond b (Some (frame_with l (l.sending.acked + suc i) (slice_get l.sending.waiting (suc i - 1)))) None ≡ Some f → IsOfLink l f
+        go true h e =
+            let is : frame_with l (l.sending.acked + suc i) (slice_get l.sending.waiting (suc i - 1)) ≡ f = cc in
+            made (l.sending.acked + suc i) (slice_get l.sending.waiting (suc i - 1)) (grind (arith, nat_tests, h)) is
+        go false h e = absurd cc
 
 pub record AreTimely (plan : PlanValue) (s : State) : Type 0 where
   pub runs : (a v : ℕ) → ((pairs_in s a).link v).run ≡ plan.run
   pub run : (k : ℕ) (f : Fields) → slice_get s.frames k ≡ Some f → f.run ≡ plan.run
   pub near : (k : ℕ) (f : Fields) → slice_get s.frames k ≡ Some f → are_neighbours plan f.from f.to ≡ true
+  pub numbered : (k : ℕ) (f : Fields) → slice_get s.frames k ≡ Some f → f.number ≤ used (sending_of (pairs_in s) f.from f.to)
   pub crossed : (k : ℕ) (f : Fields) (m : Msg) → slice_get s.frames k ≡ Some f → f.msg ≡ Some m → Crossed ((pairs_in s f.to).link f.from) f m
+
+-- a number that a link used stays used
+numbers_grow : (pairs : ℕ → Pairs) (a : ℕ) (step : PairStep) (f : Fields) → f.number ≤ used (sending_of pairs f.from f.to) → f.number ≤ used (sending_of (moved pairs a step) f.from f.to)
+numbers_grow pairs a step f h = kept_on_links pairs a step f.from f.to (λ l. f.number ≤ used l.sending) h
+    (λ m. omega (arith, h, length_one (sending_of pairs f.from f.to).waiting m))
+    (λ g. omega (arith, h, still_used (sending_of pairs f.from f.to) g.count))
 
 few : (b : Bool) → num b ≤ 1
 few true = omega arith
@@ -204,6 +214,8 @@ timely_on forks bottles plan s s' c h h' t i = record {
   runs = λ a v. subst (λ (p : ℕ → Pairs). ((p a).link v).run ≡ plan.run) (sym there) (kept_on_links (pairs_in s) i.place step a v (λ l. l.run ≡ plan.run) (t.runs a v) (λ m. t.runs a v) (λ g. t.runs a v));
   run = λ k f e. ⊎_elim (t.run k f) (λ n. (of_link ((pairs_in s n.sender).link n.receiver) n.place f n.made).run ∙ t.runs n.sender n.receiver) (old_or_new plan s s' i k f e);
   near = λ k f e. ⊎_elim (t.near k f) (near_new f) (old_or_new plan s s' i k f e);
+  numbered = λ k f e. subst (λ p. f.number ≤ used (sending_of p f.from f.to)) (sym there)
+      (numbers_grow (pairs_in s) i.place step f (⊎_elim (t.numbered k f) (numbered_new f) (old_or_new plan s s' i k f e)));
   crossed = λ k f m e is. subst (λ (p : ℕ → Pairs). Crossed ((p f.to).link f.from) f m) (sym there)
       (still_crossed (pairs_in s) i.place step f m h.linked (subst AreLinked there h'.linked) (subst GoOneWay there (one_way forks bottles plan s' c h')) (subst (λ p. IsHonest p f) there (h'.honest k f e)) is
       (⊎_elim (λ old. t.crossed k f m old is) (λ n. crossed_new f m n is) (old_or_new plan s s' i k f e)));
@@ -220,6 +232,12 @@ timely_on forks bottles plan s s' c h h' t i = record {
         let o : IsOfLink ((pairs_in s n.sender).link n.receiver) f = of_link ((pairs_in s n.sender).link n.receiver) n.place f n.made in
         ap (λ x. are_neighbours plan x f.to) (o.from ∙ h.linked.me n.sender n.receiver) ∙ ap (are_neighbours plan n.sender) (o.to ∙ h.linked.peer n.sender n.receiver) ∙ n.near
 
+    numbered_new : (f : Fields) → IsNew plan (pairs_in s) f → f.number ≤ used (sending_of (pairs_in s) f.from f.to)
+    numbered_new f n =
+        let o : IsOfLink ((pairs_in s n.sender).link n.receiver) f = of_link ((pairs_in s n.sender).link n.receiver) n.place f n.made in
+        let there : sending_of (pairs_in s) f.from f.to ≡ sending_of (pairs_in s) n.sender n.receiver = ap (λ x. sending_of (pairs_in s) x f.to) (o.from ∙ h.linked.me n.sender n.receiver) ∙ ap (sending_of (pairs_in s) n.sender) (o.to ∙ h.linked.peer n.sender n.receiver) in
+        subst (λ (x : Sending). f.number ≤ used x) (sym there) o.number
+
     crossed_new : (f : Fields) (m : Msg) → IsNew plan (pairs_in s) f → f.msg ≡ Some m → Crossed ((pairs_in s f.to).link f.from) f m
     crossed_new f m n is =
         let o : IsOfLink ((pairs_in s n.sender).link n.receiver) f = of_link ((pairs_in s n.sender).link n.receiver) n.place f n.made in
@@ -228,13 +246,13 @@ timely_on forks bottles plan s s' c h h' t i = record {
         (seen (pairs_in s) f m h.linked (one_way forks bottles plan s c h) (made_honest (pairs_in s) n.sender n.receiver n.place f h.linked n.made) is)
 
 timely_at_start : (plan : PlanValue) → AreTimely plan (starting plan)
-timely_at_start plan = record { runs = λ a v. refl; run = λ k f e. absurd cc; near = λ k f e. absurd cc; crossed = λ k f m e is. absurd cc }
+timely_at_start plan = record { runs = λ a v. refl; run = λ k f e. absurd cc; near = λ k f e. absurd cc; numbered = λ k f e. absurd cc; crossed = λ k f m e is. absurd cc }
 
 pub record IsTimely (plan : PlanValue) (s : State) : Type 0 where
   pub follows : Follows plan s
   pub timely : AreTimely plan s
 
-timely : tables.EachHasOnePlace → bars.EachHasOnePlace → (plan : PlanValue) (es : List WorldEvent) → IsConsistent plan → IsTimely plan (state_of (run_of (opening plan) es))
+pub timely : tables.EachHasOnePlace → bars.EachHasOnePlace → (plan : PlanValue) (es : List WorldEvent) → IsConsistent plan → IsTimely plan (state_of (run_of (opening plan) es))
 timely forks bottles plan es c = through plan (IsTimely plan) (record { follows = starts plan; timely = timely_at_start plan })
     (λ s s' h i. let f : Follows plan s' = follows_on plan s s' h.follows i in record { follows = f; timely = timely_on forks bottles plan s s' c h.follows f h.timely i }) es
 

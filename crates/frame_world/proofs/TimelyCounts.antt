@@ -1,16 +1,15 @@
 -- The count of each frame is at least what its sender had taken when it sent the frame's message.
-use Rattle.std.proofs.Common.{◌≡◌, ℕ, zero, suc, ◌+◌, ◌-◌, ◌≤◌, ◌<◌, Bool, true, false, cond, List, [], ◌∷◌, ◌++◌, length, None, Some, refl, sym, ap, subst, ◌∙◌, arith, inl, inr, ◌⊎◌, ⊎_elim}
-use Rattle.std.specs.Prelude.{slice_get, nat_le, ◌==◌}
+use Rattle.std.proofs.Common.{◌≡◌, ℕ, ◌≤◌, ◌<◌, Bool, true, false, cond, List, [], ◌∷◌, ◌++◌, Some, refl, sym, ap, subst, ◌∙◌, arith, inl, inr, ◌⊎◌, ⊎_elim}
+use Rattle.std.specs.Prelude.{slice_get, ◌==◌}
 use Rattle.std.proofs.lemmas.Bool.{eqb-true}
-use Rattle.std.proofs.lemmas.Bool.Decides.{nat_tests}
 use Rattle.bottle_values.specs.Maps.{put}
 use Rattle.bottle_values.proofs.Maps.{put_cases}
 use Rattle.frame_codec.specs.Frame.{Fields}
 use Rattle.office_map.specs.PlanValue.{PlanValue}
 use Rattle.window_link.specs.Windows.{used}
-use Rattle.window_link.specs.Links.{LinkState, frame_with}
+use Rattle.window_link.specs.Links.{LinkState}
 use Rattle.site_core.specs.declared.event.Entry.{Entry}
-use Rattle.site_core.specs.Offices.{Office, answer, frame_on}
+use Rattle.site_core.specs.Offices.{Office, answer}
 use Rattle.site_core.specs.Journals.{Site, office_of, next_or}
 use Rattle.site_core.specs.Growing.{link_at, Grows, LinksOnlyGrow}
 use Rattle.site_core.proofs.OfficeLimits.{office_noted, office_empty}
@@ -73,16 +72,6 @@ made_fits grow plan f es count numbered = record {
   numbered = numbered;
 }
 
-number_used : (l : LinkState) (i : ℕ) (f : Fields) → frame_on l i ≡ Some f → f.number ≤ used l.sending
-number_used l zero f e = let is : frame_with l 0 None ≡ f = cc in subst (λ (g : Fields). g.number ≤ used l.sending) is (omega arith)
-number_used l (suc i) f e = go (nat_le (suc i) (length l.sending.waiting)) refl e
-  where
-    go : (b : Bool) → nat_le (suc i) (length l.sending.waiting) ≡ b → cond b (Some (frame_with l (l.sending.acked + suc i) (slice_get l.sending.waiting (suc i - 1)))) None ≡ Some f → f.number ≤ used l.sending
-    go true h k =
-        let is : frame_with l (l.sending.acked + suc i) (slice_get l.sending.waiting (suc i - 1)) ≡ f = cc in
-        subst (λ (g : Fields). g.number ≤ used l.sending) is (grind (arith, nat_tests, h))
-    go false h k = absurd cc
-
 -- ---- all frames
 
 pub record AreTold (plan : PlanValue) (s : State) : Type 0 where
@@ -114,7 +103,7 @@ told_on grow plan s s' h i = record {
         ap (λ a. (pairs_in s a).link n.receiver) from ∙ ap (λ v. (pairs_in s f.from).link v) to ∙ ap (λ (z : Office). z.pairs.link f.to) (h.ends f.from) in
         made_fits grow plan f (s.journal f.from)
         (o.count ∙ ap (λ (l : LinkState). l.receiving.taken) link)
-        (subst (λ (l : LinkState). f.number ≤ used l.sending) link (number_used ((pairs_in s n.sender).link n.receiver) n.place f n.made))
+        (subst (λ (l : LinkState). f.number ≤ used l.sending) link o.number)
 
     -- the office that answered is at the end of its longer journal
     there : i.new ≡ office_of (record { plan = plan; me = i.place; entries = s.journal i.place ++ x ∷ [] })

@@ -1,4 +1,5 @@
 pub mod Worlds
 pub mod Ways
 pub mod Headline
+pub mod Waiting
 pub mod refinement

@@ -1,6 +1,7 @@
 //! The headline, over definitions: what holds of every world that a list of events leads to.
 
 ghost use Rattle.frame_world.specs.Headline.{Always, HasSerialSessions, HasSerialValues, HasOnePlaceEach, NeighboursEatApart, EatersHaveTheirForks, DrinkersHaveTheirBottles, FramesAreTaken, CountsAreTimely, PrecedenceHasNoRing, FramesInRangeGoByBytes};
+ghost use Rattle.frame_world.specs.Waiting.{EachIsHeldOrWaits, FewMessagesWait, NoFrameIsFarAhead};
 ghost use Rattle.frame_world.specs.refinement.PartsLaws.{PartsLaws};
 
 use dining_core::laws as tables;
@@ -8,7 +9,7 @@ use drinking_core::laws as bars;
 use frame_codec::laws::each_spelling_is_of_one_frame;
 use session_meaning::laws::writes_what_it_has;
 use site_core::laws::links_only_grow;
-use token_channel::laws::what_comes_was_away;
+use token_channel::laws::{opens_as_the_plan_starts, what_comes_was_away};
 
 /// The finished sessions read, gave and wrote what they do when they run alone, one after another in finishing order.
 pub fn sessions_are_serial()
@@ -86,6 +87,27 @@ pub fn counts_are_timely()
     ensures { Always CountsAreTimely }
 {
     links_only_grow();
+}
+
+/// Each thing that an office shares with another is held there, or waits there once for the other, or neither.
+pub fn each_is_held_or_waits()
+    ensures { Always EachIsHeldOrWaits }
+{}
+
+/// Of B records between two neighbours at most `2 + 2B` messages wait at either.
+pub fn few_messages_wait()
+    ensures { Always FewMessagesWait }
+{
+    opens_as_the_plan_starts();
+}
+
+/// No frame that was ever sent has a number more than 18 past what its addressee took.
+pub fn no_frame_is_far_ahead()
+    ensures { Always NoFrameIsFarAhead }
+{
+    opens_as_the_plan_starts();
+    tables::each_has_one_place();
+    bars::each_has_one_place();
 }
 
 /// What the parts promise by themselves.

@@ -10,13 +10,15 @@
 //!   addressee, any of them, at any time, as often as it likes. A frame that never comes is lost.
 //! - `specs/Ways.antt`: what is on the way from one office to another, at how many places a thing is, and all bottles of
 //!   a record; the tables (`dining_core`) and the bars (`drinking_core`) that the offices are.
-//! - `specs/Headline.antt`: what holds of every world; [`laws`] has it proved.
+//! - `specs/Headline.antt`: what holds of every world; [`laws`] has it proved. `specs/Waiting.antt`: how much waits at an
+//!   office, and how far ahead of its addressee a frame is.
 //!
 //! How it is proved: what happens to an office is, to tables and bars, an event of theirs or nothing
 //! (`proofs/TablesFollow.antt`, `proofs/BarsFollow.antt`), which needs of the links that each frame says the truth
 //! (`proofs/Links.antt`). So the laws of tables and bars hold of the offices (`proofs/Following.antt`), and with them the
 //! serial run is an invariant of few lines (`proofs/SerialSessions.antt`). Above the links a frame is looked at once more:
-//! that it isn't refused (`proofs/SentFrames.antt`), and that its bytes say the same as it (`proofs/FrameBytes.antt`).
+//! that it isn't refused (`proofs/SentFrames.antt`), and that its bytes say the same as it (`proofs/FrameBytes.antt`). What
+//! waits is looked at office by office, with no need of the others (`proofs/WhatWaits.antt`, `proofs/FewWait.antt`).
 #![tactic(auto)]
 
 mod event;
