@@ -2,10 +2,12 @@
 use Rattle.std.proofs.Common.{◌≡◌, ℕ, Bool, true, false, cond, Option, None, Some, Ok, Err, refl, sym, ap, ◌∙◌}
 use Rattle.std.specs.Prelude.{◌+◌}
 use Rattle.std.proofs.lemmas.Bool.{and_parts}
+use Rattle.frame_codec.specs.declared.message.Msg.{Msg}
 use Rattle.frame_codec.specs.Frame.{Fields}
 use Rattle.office_map.specs.PlanValue.{PlanValue, are_neighbours, is_end}
 use Rattle.session_meaning.specs.ProgramValue.{ProgramValue}
 use Rattle.token_channel.specs.declared.fault.ChannelFault.{ChannelFault}
+use Rattle.token_channel.specs.Channels.{link_then}
 use Rattle.dining_core.specs.Diners.{ForkRule}
 use Rattle.dining_core.specs.Diners as forks
 use Rattle.drinking_core.specs.Drinkers.{BottleRule}
@@ -18,16 +20,19 @@ use Rattle.site_core.specs.declared.reply.Reply.{Reply}
 use Rattle.site_core.specs.declared.reply.Reply.TheVariants as reply
 use Rattle.site_core.specs.declared.reply.Refusal.TheVariants as refused
 use Rattle.site_core.specs.Replies.{reply_to}
-use Rattle.site_core.specs.Pairs.{Pairs, is_thirsty, after_fork_rule, after_bottle_rule, frame_fault, arrival_of, after_frame}
+use Rattle.site_core.specs.Pairs.{Pairs, is_thirsty, after_fork_rule, after_bottle_rule, frame_fault, arrival_of, arrived, after_frame, follows, as_arrival, after_taking}
 use Rattle.site_core.specs.Agenda.{is_full, submitted, first_needs, writes_of}
+use Rattle.site_core.proofs.KeptMessages.{through_taking}
 use Rattle.site_core.specs.Offices.{Office, Answer, may, act, is_ours, submit, do_rule, framed, frame_on, send, unless_faulty, with_pairs, answer}
 
--- what an event is to an office's pairs: nothing, a row of the forks or of the bottles, or a frame
+-- what an event is to an office's pairs: nothing, a row of the forks or of the bottles, or a frame's own message, after
+-- which each kept one is a step of its own: it follows, or nothing does and what is kept is thrown out
 pub data PairStep : Type 0 where
   Stays : PairStep
   ByFork : (rule : ForkRule) → PairStep
   ByBottle : (rule : BottleRule) → PairStep
   ByFrame : (f : Fields) → PairStep
+  ByKept : (v : ℕ) (o : Option Msg) → PairStep
 
 abbrev pub rule_step : Office → Rule → PairStep
 rule_step o rule.Start = ByBottle (bottles.Start (first_needs o.agenda.queue))
@@ -53,12 +58,30 @@ pair_after p Stays = p
 pair_after p (ByFork rule) = after_fork_rule p rule
 pair_after p (ByBottle rule) = after_bottle_rule p rule
 pair_after p (ByFrame f) = after_frame p f
+pair_after p (ByKept v o) = arrived p v (link_then (p.link v) o) (as_arrival o)
+
+-- and with all that follows
+abbrev pub all_after : PlanValue → ℕ → Pairs → PairStep → Pairs
+all_after plan a p Stays = p
+all_after plan a p (ByFork rule) = after_fork_rule p rule
+all_after plan a p (ByBottle rule) = after_bottle_rule p rule
+all_after plan a p (ByFrame f) = after_taking plan a p f
+all_after plan a p (ByKept v o) = pair_after p (ByKept v o)
 
 abbrev pub MayStep : PlanValue → ℕ → Pairs → PairStep → Type 0
 MayStep plan a p Stays = Unit {0}
 MayStep plan a p (ByFork rule) = forks.may p.diner rule ≡ true
 MayStep plan a p (ByBottle rule) = bottles.may p.drinker rule ≡ true
 MayStep plan a p (ByFrame f) = frame_fault plan a p f ≡ None
+MayStep plan a p (ByKept v o) = follows plan a v p ≡ o
+
+-- what the step and each kept message leaves, all of it leaves
+pub through_all : (plan : PlanValue) (a : ℕ) (P : Pairs → Type 0) → ((p : Pairs) (v : ℕ) (o : Option Msg) → follows plan a v p ≡ o → P p → P (pair_after p (ByKept v o))) → (p : Pairs) (step : PairStep) → P (pair_after p step) → P (all_after plan a p step)
+through_all plan a P keeps p Stays h = h
+through_all plan a P keeps p (ByFork rule) h = h
+through_all plan a P keeps p (ByBottle rule) h = h
+through_all plan a P keeps p (ByFrame f) h = through_taking plan a P f (λ q k. keeps q f.from (follows plan a f.from q) refl k) p h
+through_all plan a P keeps p (ByKept v o) h = h
 
 -- ---- each kind of event
 
@@ -109,20 +132,20 @@ was_sent plan a o v i r o' e = go (are_neighbours plan a v) (frame_on (o.pairs.l
 pub record Taken (plan : PlanValue) (a : ℕ) (o : Office) (f : Fields) (r : Reply) (o' : Office) : Type 0 where
   pub fine : frame_fault plan a o.pairs f ≡ None
   pub told : r ≡ reply_to (arrival_of o.pairs f)
-  pub after : o' ≡ with_pairs o (after_frame o.pairs f)
+  pub after : o' ≡ with_pairs o (after_taking plan a o.pairs f)
 
-pub was_taken : (plan : PlanValue) (a : ℕ) (o : Office) (f : Fields) (r : Reply) (o' : Office) → unless_faulty o f (frame_fault plan a o.pairs f) ≡ Ok (r, o') → Taken plan a o f r o'
+pub was_taken : (plan : PlanValue) (a : ℕ) (o : Office) (f : Fields) (r : Reply) (o' : Office) → unless_faulty plan a o f (frame_fault plan a o.pairs f) ≡ Ok (r, o') → Taken plan a o f r o'
 was_taken plan a o f r o' e = go (frame_fault plan a o.pairs f) refl e
   where
-    go : (x : Option ChannelFault) → frame_fault plan a o.pairs f ≡ x → unless_faulty o f x ≡ Ok (r, o') → Taken plan a o f r o'
-    go None h k = let x = same_answer (reply_to (arrival_of o.pairs f), with_pairs o (after_frame o.pairs f)) r o' k in record { fine = h; told = x.0; after = x.1 }
+    go : (x : Option ChannelFault) → frame_fault plan a o.pairs f ≡ x → unless_faulty plan a o f x ≡ Ok (r, o') → Taken plan a o f r o'
+    go None h k = let x = same_answer (reply_to (arrival_of o.pairs f), with_pairs o (after_taking plan a o.pairs f)) r o' k in record { fine = h; told = x.0; after = x.1 }
     go (Some fault) h k = absurd cc
 
 -- ---- of each its row
 
 pub record IsStepOf (plan : PlanValue) (a : ℕ) (o : Office) (e : office.Event) (o' : Office) : Type 0 where
   pub may : MayStep plan a o.pairs (step_of o e)
-  pub after : o'.pairs ≡ pair_after o.pairs (step_of o e)
+  pub after : o'.pairs ≡ all_after plan a o.pairs (step_of o e)
 
 rule_may : (plan : PlanValue) (a : ℕ) (o : Office) (rule : Rule) → may plan a o rule ≡ true → MayStep plan a o.pairs (rule_step o rule)
 rule_may plan a o rule.Start h = h
@@ -137,24 +160,38 @@ rule_may plan a o rule.Drink h = h
 rule_may plan a o (rule.Work n) h = tt
 rule_may plan a o rule.Finish h = h
 
-rule_after : (a : ℕ) (o : Office) (rule : Rule) → (act a o rule).pairs ≡ pair_after o.pairs (rule_step o rule)
-rule_after a o rule.Start = refl
-rule_after a o rule.Hungry = refl
-rule_after a o (rule.AskFork v) = refl
-rule_after a o (rule.GiveFork v) = refl
-rule_after a o rule.Eat = refl
-rule_after a o rule.Leave = refl
-rule_after a o (rule.AskBottle r) = refl
-rule_after a o (rule.GiveBottle r) = refl
-rule_after a o rule.Drink = refl
-rule_after a o (rule.Work n) = refl
-rule_after a o rule.Finish = refl
+rule_after : (plan : PlanValue) (a : ℕ) (o : Office) (rule : Rule) → (act a o rule).pairs ≡ all_after plan a o.pairs (rule_step o rule)
+rule_after plan a o rule.Start = refl
+rule_after plan a o rule.Hungry = refl
+rule_after plan a o (rule.AskFork v) = refl
+rule_after plan a o (rule.GiveFork v) = refl
+rule_after plan a o rule.Eat = refl
+rule_after plan a o rule.Leave = refl
+rule_after plan a o (rule.AskBottle r) = refl
+rule_after plan a o (rule.GiveBottle r) = refl
+rule_after plan a o rule.Drink = refl
+rule_after plan a o (rule.Work n) = refl
+rule_after plan a o rule.Finish = refl
+
+-- nothing follows a rule
+pub rule_alone : (plan : PlanValue) (a : ℕ) (o : Office) (rule : Rule) → all_after plan a o.pairs (rule_step o rule) ≡ pair_after o.pairs (rule_step o rule)
+rule_alone plan a o rule.Start = refl
+rule_alone plan a o rule.Hungry = refl
+rule_alone plan a o (rule.AskFork v) = refl
+rule_alone plan a o (rule.GiveFork v) = refl
+rule_alone plan a o rule.Eat = refl
+rule_alone plan a o rule.Leave = refl
+rule_alone plan a o (rule.AskBottle r) = refl
+rule_alone plan a o (rule.GiveBottle r) = refl
+rule_alone plan a o rule.Drink = refl
+rule_alone plan a o (rule.Work n) = refl
+rule_alone plan a o rule.Finish = refl
 
 pub is_step : (plan : PlanValue) (a : ℕ) (o : Office) (e : office.Event) (r : Reply) (o' : Office) → answer plan a o e ≡ Ok (r, o') → IsStepOf plan a o e o'
 is_step plan a o (event.Submit p) r o' e = record { may = tt; after = ap (λ (x : Office). x.pairs) (was_submitted plan a o p r o' e).after }
 is_step plan a o (event.Do rule) r o' e =
     let d = was_done plan a o rule r o' e in
-    record { may = rule_may plan a o rule d.guard; after = ap (λ (x : Office). x.pairs) d.after ∙ rule_after a o rule }
+    record { may = rule_may plan a o rule d.guard; after = ap (λ (x : Office). x.pairs) d.after ∙ rule_after plan a o rule }
 is_step plan a o (event.Send v i) r o' e = record { may = tt; after = ap (λ (x : Office). x.pairs) (was_sent plan a o v i r o' e).after }
 is_step plan a o (event.Took f) r o' e =
     let t = was_taken plan a o f r o' e in

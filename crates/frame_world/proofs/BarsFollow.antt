@@ -20,9 +20,9 @@ use Rattle.dining_core.specs.Worlds.{with_way, one_more}
 use Rattle.drinking_core.specs.Drinkers.{Drinker, BottleRule}
 use Rattle.drinking_core.specs.Drinkers as bottles
 use Rattle.drinking_core.specs.Worlds as bars
-use Rattle.site_core.specs.Pairs.{Pairs, bottle_message, arrival_of, bottle_came, drinker_after}
+use Rattle.site_core.specs.Pairs.{Pairs, bottle_message, arrival_of, as_arrival, bottle_came, drinker_after}
 use Rattle.frame_world.specs.Ways.{between, bottles_in, bars_of}
-use Rattle.frame_world.proofs.Answers.{PairStep, Stays, ByFork, ByBottle, ByFrame, pair_after}
+use Rattle.frame_world.proofs.Answers.{PairStep, Stays, ByFork, ByBottle, ByFrame, ByKept, pair_after}
 use Rattle.frame_world.proofs.OneLink.{brought}
 use Rattle.frame_world.proofs.Links.{Goes, Comes, sends_of}
 use Rattle.frame_world.proofs.WaysBetween.{measured_of, unmeasured_of, count_append, bottles_append, nothing_sent, one_sent, nothing_came, one_came}
@@ -41,6 +41,7 @@ bottle_event a p Stays = None
 bottle_event a p (ByFork rule) = None
 bottle_event a p (ByBottle rule) = Some (bars.Do a rule)
 bottle_event a p (ByFrame f) = bottle_coming a f.from (brought (arrival_of p f))
+bottle_event a p (ByKept v o) = bottle_coming a v o
 
 abbrev pub bars_then : PlanValue → bars.World → Option bars.Event → bars.World
 bars_then plan w None = w
@@ -184,7 +185,12 @@ pub drinker_after_is : (d : Drinker) (a : Arrival) → drinker_after d a ≡ dri
 drinker_after_is d (arrival.Fresh m) = refl
 drinker_after_is d arrival.Acked = refl
 drinker_after_is d arrival.Repeat = refl
+drinker_after_is d arrival.Kept = refl
 drinker_after_is d arrival.Early = refl
+
+drinker_then_is : (d : Drinker) (o : Option Msg) → drinker_after d (as_arrival o) ≡ drinker_with d o
+drinker_then_is d None = refl
+drinker_then_is d (Some m) = refl
 
 no_bottles_came : (pairs pairs' : ℕ → Pairs) (u a : ℕ) (m : Msg) → Comes pairs u a (Some m) pairs' → ((q : ℕ) (ms : List Msg) → bottles_in q (m ∷ ms) ≡ bottles_in q ms) → ◌≡◌ {A = Bottles} (bottles_at pairs') (bottles_at pairs)
 no_bottles_came pairs pairs' u a m c e =
@@ -226,3 +232,7 @@ fork_row_leaves_bars = fork_goes
 pub frame_is_taken : (plan : PlanValue) (pairs : ℕ → Pairs) (a : ℕ) (f : Fields) → Comes pairs f.from a (brought (arrival_of (pairs a) f)) (put pairs a (pair_after (pairs a) (ByFrame f))) →
     bars_of (put pairs a (pair_after (pairs a) (ByFrame f))) ≡ bars_then plan (bars_of pairs) (bottle_event a (pairs a) (ByFrame f))
 frame_is_taken plan pairs a f c = by_message plan pairs f.from a (pair_after (pairs a) (ByFrame f)) (brought (arrival_of (pairs a) f)) c (drinker_after_is (pairs a).drinker (arrival_of (pairs a) f))
+
+pub kept_is_taken : (plan : PlanValue) (pairs : ℕ → Pairs) (a v : ℕ) (o : Option Msg) → Comes pairs v a o (put pairs a (pair_after (pairs a) (ByKept v o))) →
+    bars_of (put pairs a (pair_after (pairs a) (ByKept v o))) ≡ bars_then plan (bars_of pairs) (bottle_event a (pairs a) (ByKept v o))
+kept_is_taken plan pairs a v o c = by_message plan pairs v a (pair_after (pairs a) (ByKept v o)) o c (drinker_then_is (pairs a).drinker o)

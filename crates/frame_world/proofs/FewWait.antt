@@ -1,6 +1,7 @@
 -- So few messages wait at an office for a neighbour, and no frame is further ahead of its addressee.
-use Rattle.std.proofs.Common.{◌≡◌, ℕ, zero, suc, ◌+◌, ◌*◌, ◌≤◌, Bool, true, false, List, [], ◌∷◌, length, map, refl, sym, ap, subst, ◌∙◌, arith}
-use Rattle.std.specs.Prelude.{◌&&◌, ◌||◌, IsTrue}
+use Rattle.std.proofs.Common.{◌≡◌, ℕ, zero, suc, ◌+◌, ◌*◌, ◌≤◌, true, false, List, [], ◌∷◌, length, map, refl, sym, ap, subst, ◌∙◌, arith}
+use Rattle.std.specs.Prelude.{◌||◌, IsTrue}
+use Rattle.std.proofs.Math.Bool.{and-false}
 use Rattle.std.proofs.lemmas.List.{length-map}
 use Rattle.bottle_values.specs.Lists.{num}
 use Rattle.bottle_values.proofs.Maps.{put_cases}
@@ -25,7 +26,7 @@ use Rattle.frame_world.specs.Ways.{pairs_at}
 use Rattle.frame_world.specs.Headline.{Always}
 use Rattle.frame_world.specs.Waiting.{EachIsHeldOrWaits, FewMessagesWait, NoFrameIsFarAhead}
 use Rattle.frame_world.proofs.Steps.{State, state_of, IsAccepted, seated, through}
-use Rattle.frame_world.proofs.Answers.{PairStep, MayStep, step_of, pair_after, is_step}
+use Rattle.frame_world.proofs.Answers.{PairStep, MayStep, step_of, all_after, is_step}
 use Rattle.frame_world.proofs.Following.{pairs_in, pairs_after}
 use Rattle.frame_world.proofs.SentFrames.{IsTimely, timely}
 use Rattle.frame_world.proofs.WhatWaits.{StandApart, still_apart, apart_at_start}
@@ -35,13 +36,9 @@ use Rattle.frame_world.proofs.WhatWaits.{StandApart, still_apart, apart_at_start
 abbrev emptied : List SharedThing → List SharedThing
 emptied places = map (λ (p : SharedThing). record { thing = p.thing; held = false }) places
 
-and_none : (b : Bool) → (b && false) ≡ false
-and_none true = refl
-and_none false = refl
-
 none_held : (places : List SharedThing) (t : Thing) → holds (emptied places) t ≡ false
 none_held [] t = refl
-none_held (p ∷ places) t = ap (λ b. b || holds (emptied places) t) (and_none (same p.thing t)) ∙ none_held places t
+none_held (p ∷ places) t = ap (λ b. b || holds (emptied places) t) (and-false (same p.thing t)) ∙ none_held places t
 
 same_shared : (places : List SharedThing) (t : Thing) → shares (emptied places) t ≡ shares places t
 same_shared [] t = refl
@@ -82,7 +79,7 @@ stand_apart plan es c = through plan (λ s. (a : ℕ) → StandApart plan a (pai
         may = (is_step plan i.place (s.office i.place) i.event i.reply i.new i.answered).may
 
         new : Pairs
-        new = pair_after (pairs_in s i.place) step
+        new = all_after plan i.place (pairs_in s i.place) step
 
 pub each_is_held_or_waits : Always EachIsHeldOrWaits
 each_is_held_or_waits plan es c a v t =

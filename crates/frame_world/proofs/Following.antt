@@ -1,12 +1,18 @@
 -- Over every list of events the offices' tables and bars are those that some events of tables and of bars lead to.
-use Rattle.std.proofs.Common.{◌≡◌, ℕ, zero, suc, Bool, true, false, cond, List, [], ◌∷◌, ◌++◌, length, Option, None, Some, Ok, refl, sym, ap, subst, ◌∙◌, inl, inr, ◌⊎◌, ⊎_elim}
+use Rattle.std.proofs.Common.{◌≡◌, ℕ, zero, suc, ◌+◌, Bool, true, false, cond, List, [], ◌∷◌, ◌++◌, length, Option, None, Some, Ok, refl, sym, ap, subst, ◌∙◌, inl, inr, ◌⊎◌, ⊎_elim}
 use Rattle.std.specs.Prelude.{nat_lt, slice_get, ◌==◌}
 use mathlib.Core.Path.{fun_ext}
 use Rattle.bottle_values.specs.Maps.{put}
+use Rattle.bottle_values.proofs.Maps.{put_same}
+use Rattle.frame_codec.specs.declared.message.Msg.{Msg}
 use Rattle.frame_codec.specs.Frame.{Fields}
 use Rattle.office_map.specs.PlanValue.{PlanValue, are_neighbours}
 use Rattle.window_link.specs.declared.arrival.Arrival.{Arrival}
 use Rattle.window_link.specs.declared.arrival.Arrival.TheVariants as arrival
+use Rattle.window_link.specs.Windows.{next_kept}
+use Rattle.window_link.specs.Links.{LinkState}
+use Rattle.token_channel.specs.Ends.{is_shared}
+use Rattle.token_channel.specs.Channels.{breach_among, unless_breach}
 use Rattle.dining_core.specs.Worlds as tables
 use Rattle.drinking_core.specs.Worlds as bars
 use Rattle.site_core.specs.declared.rule.Rule.{Rule}
@@ -15,14 +21,15 @@ use Rattle.site_core.specs.declared.event.Event as office
 use Rattle.site_core.specs.declared.event.Event.TheVariants as event
 use Rattle.site_core.specs.declared.reply.Reply.{Reply}
 use Rattle.site_core.specs.Replies.{reply_to}
-use Rattle.site_core.specs.Pairs.{Pairs, fork_sends, bottle_sends, arrival_of}
+use Rattle.site_core.specs.Pairs.{Pairs, held, fork_sends, bottle_sends, arrival_of, follows as followed_by}
 use Rattle.site_core.specs.Offices.{Office, answer, frame_on}
 use Rattle.frame_world.specs.declared.event.WorldEvent.{WorldEvent}
 use Rattle.frame_world.specs.Worlds.{opening, run_of, frames_of}
 use Rattle.frame_world.specs.Ways.{tables_of, bars_of}
 use Rattle.frame_world.proofs.Steps.{State, state_of, starting, MayCome, IsAccepted, through}
-use Rattle.frame_world.proofs.Answers.{PairStep, Stays, ByFork, ByBottle, ByFrame, rule_step, step_of, pair_after, MayStep, was_submitted, was_done, was_sent, was_taken, is_step}
-use Rattle.frame_world.proofs.Links.{AreLinked, IsHonest, goes_out, comes_in, linked_at_start, made_honest}
+use Rattle.frame_world.proofs.Answers.{PairStep, Stays, ByFork, ByBottle, ByFrame, ByKept, rule_step, step_of, pair_after, all_after, MayStep, through_all, was_submitted, was_done, was_sent, was_taken, is_step}
+use Rattle.frame_world.proofs.OneLink.{Keeps, keeps_next}
+use Rattle.frame_world.proofs.Links.{AreLinked, IsHonest, goes_out, comes_in, follows_in, receiving_of, taken_of, linked_at_start, made_honest}
 use Rattle.frame_world.proofs.TablesFollow.{fork_event, tables_then, fork_row, bottle_row_leaves_tables, put_kept}
 use Rattle.frame_world.proofs.TablesFollow as forks_follow
 use Rattle.frame_world.proofs.BarsFollow.{bottle_event, bars_then, bottle_row, fork_row_leaves_bars}
@@ -45,11 +52,32 @@ Arrived pairs a Stays = Unit {0}
 Arrived pairs a (ByFork rule) = Unit {0}
 Arrived pairs a (ByBottle rule) = Unit {0}
 Arrived pairs a (ByFrame f) = (f.to ≡ a) × IsHonest pairs f
+Arrived pairs a (ByKept v o) = Unit {0}
 
 frame_moves : (plan : PlanValue) (pairs : ℕ → Pairs) (f : Fields) → AreLinked pairs → IsHonest pairs f → Moves plan pairs f.to (ByFrame f)
 frame_moves plan pairs f l h =
     let c = comes_in pairs f (pair_after (pairs f.to) (ByFrame f)) refl l h in
     record { linked = c.linked; honest = c.honest; tables = forks_follow.frame_is_taken plan pairs f.to f c; bars = bottles_follow.frame_is_taken plan pairs f.to f c }
+
+-- what follows is kept of the next number
+kept_there : (breach : Msg → Bool) (x : Option Msg) (m : Msg) → unless_breach breach x ≡ Some m → x ≡ Some m
+kept_there breach None m e = absurd cc
+kept_there breach (Some n) m e = go (breach n) e
+  where
+    go : (b : Bool) → cond b None (Some n) ≡ Some m → Some n ≡ Some m
+    go true k = absurd cc
+    go false k = k
+
+pub kept_moves : (plan : PlanValue) (pairs : ℕ → Pairs) (a v : ℕ) (o : Option Msg) → AreLinked pairs → followed_by plan a v (pairs a) ≡ o → Moves plan pairs a (ByKept v o)
+kept_moves plan pairs a v o l may =
+    let c = follows_in pairs v a o (pair_after (pairs a) (ByKept v o)) refl l next in
+    record { linked = c.linked; honest = c.honest; tables = forks_follow.kept_is_taken plan pairs a v o c; bars = bottles_follow.kept_is_taken plan pairs a v o c }
+  where
+    link : LinkState
+    link = (pairs a).link v
+
+    next : (m : Msg) → o ≡ Some m → Keeps (receiving_of pairs a v) (taken_of pairs a v + 1) m
+    next m is = keeps_next (receiving_of pairs a v) m (kept_there (breach_among (is_shared plan a v) (held (pairs a) v) link link.sending.acked) (next_kept link.receiving) m (may ∙ is))
 
 pub moves : (plan : PlanValue) (pairs : ℕ → Pairs) (a : ℕ) (step : PairStep) → nat_lt a (length plan.offices) ≡ true → AreLinked pairs → MayStep plan a (pairs a) step → Arrived pairs a step → Moves plan pairs a step
 moves plan pairs a Stays inside l may here =
@@ -61,6 +89,7 @@ moves plan pairs a (ByFork rule) inside l may here =
 moves plan pairs a (ByBottle rule) inside l may here =
     let g = goes_out pairs a (pair_after (pairs a) (ByBottle rule)) (bottle_sends (pairs a).drinker rule) refl l in
     record { linked = g.linked; honest = g.honest; tables = bottle_row_leaves_tables pairs a rule g; bars = bottle_row plan pairs a rule inside may g }
+moves plan pairs a (ByKept v o) inside l may here = kept_moves plan pairs a v o l may
 moves plan pairs a (ByFrame f) inside l may here = subst (λ k. Moves plan pairs k (ByFrame f)) here.0 (frame_moves plan pairs f l here.1)
 
 -- ---- all of it
@@ -76,11 +105,15 @@ pub record IsOfBars (plan : PlanValue) (w : bars.World) : Type 0 where
   pub events : List bars.Event
   pub led : w ≡ bars.run plan (bars.opening plan) events
 
-pub record Follows (plan : PlanValue) (s : State) : Type 0 where
-  pub linked : AreLinked (pairs_in s)
-  pub honest : (k : ℕ) (f : Fields) → slice_get s.frames k ≡ Some f → IsHonest (pairs_in s) f
-  pub tables : IsOfTables plan (tables_of (pairs_in s))
-  pub bars : IsOfBars plan (bars_of (pairs_in s))
+-- these offices with these frames
+pub record Follow (plan : PlanValue) (frames : List Fields) (pairs : ℕ → Pairs) : Type 0 where
+  pub linked : AreLinked pairs
+  pub honest : (k : ℕ) (f : Fields) → slice_get frames k ≡ Some f → IsHonest pairs f
+  pub tables : IsOfTables plan (tables_of pairs)
+  pub bars : IsOfBars plan (bars_of pairs)
+
+abbrev pub Follows : PlanValue → State → Type 0
+Follows plan s = Follow plan s.frames (pairs_in s)
 
 tables_more : (plan : PlanValue) (w : tables.World) (es : List tables.Event) (e : tables.Event) → tables.run plan w (es ++ e ∷ []) ≡ tables.happens plan (tables.run plan w es) e
 tables_more plan w [] e = refl
@@ -98,8 +131,27 @@ bars_go_on : (plan : PlanValue) (w w' : bars.World) (e : Option bars.Event) → 
 bars_go_on plan w w' None is o = record { events = o.events; led = is ∙ o.led }
 bars_go_on plan w w' (Some e) is o = record { events = o.events ++ e ∷ []; led = is ∙ ap (λ x. bars.happens plan x e) o.led ∙ sym (bars_more plan (bars.opening plan) o.events e) }
 
+-- ---- what an event leaves
+
+put_again : {X : Type 0} (f : ℕ → X) (a : ℕ) (x y : X) → put (put f a x) a y ≡ put f a y
+put_again f a x y = fun_ext (λ j. at (j == a) j)
+  where
+    at : (b : Bool) (j : ℕ) → cond b y (cond b x (f j)) ≡ cond b y (f j)
+    at true j = refl
+    at false j = refl
+
+-- what the event's step and each kept message leaves, all of it leaves
+pub through_moves : (plan : PlanValue) (a : ℕ) (P : (ℕ → Pairs) → Type 0) → ((qs : ℕ → Pairs) (v : ℕ) (o : Option Msg) → followed_by plan a v (qs a) ≡ o → P qs → P (moved qs a (ByKept v o))) →
+    (pairs : ℕ → Pairs) (step : PairStep) → P (moved pairs a step) → P (put pairs a (all_after plan a (pairs a) step))
+through_moves plan a P keeps pairs step h = through_all plan a (λ p. P (put pairs a p))
+    (λ p v o e k. subst P (there p (ByKept v o)) (keeps (put pairs a p) v o (ap (followed_by plan a v) (put_same pairs a p) ∙ e) k))
+    (pairs a) step h
+  where
+    there : (p : Pairs) (next : PairStep) → moved (put pairs a p) a next ≡ put pairs a (pair_after p next)
+    there p next = ap (λ q. put (put pairs a p) a (pair_after q next)) (put_same pairs a p) ∙ put_again pairs a p (pair_after p next)
+
 -- the pairs after an accepted event
-pub pairs_after : (plan : PlanValue) (s s' : State) (i : IsAccepted plan s s') → pairs_in s' ≡ moved (pairs_in s) i.place (step_of (s.office i.place) i.event)
+pub pairs_after : (plan : PlanValue) (s s' : State) (i : IsAccepted plan s s') → pairs_in s' ≡ put (pairs_in s) i.place (all_after plan i.place (pairs_in s i.place) (step_of (s.office i.place) i.event))
 pairs_after plan s s' i =
     ap pairs_in i.led ∙ fun_ext (λ x. at (x == i.place) x) ∙ ap (put (pairs_in s) i.place) (is_step plan i.place (s.office i.place) i.event i.reply i.new i.answered).after
   where
@@ -142,6 +194,7 @@ no_frame : (a : Arrival) → frames_of (reply_to a) ≡ []
 no_frame (arrival.Fresh m) = refl
 no_frame arrival.Acked = refl
 no_frame arrival.Repeat = refl
+no_frame arrival.Kept = refl
 no_frame arrival.Early = refl
 
 none_new : (P : Fields → Type 0) (r : Reply) → frames_of r ≡ [] → (j : ℕ) (f : Fields) → slice_get (frames_of r) j ≡ Some f → P f
@@ -178,16 +231,33 @@ new_frame plan s s' i j f is = by i.event i.answered
 pub old_or_new : (plan : PlanValue) (s s' : State) (i : IsAccepted plan s s') → (k : ℕ) (f : Fields) → slice_get s'.frames k ≡ Some f → (slice_get s.frames k ≡ Some f) ⊎ IsNew plan (pairs_in s) f
 old_or_new plan s s' i k f e = ⊎_elim inl (λ x. inr (new_frame plan s s' i x.0 f x.1)) (one_of s.frames (frames_of i.reply) k f (ap (λ (l : List Fields). slice_get l k) (sym (ap (λ (x : State). x.frames) i.led)) ∙ e))
 
+-- the frames that an event makes are honest too
+pub with_new_frames : (plan : PlanValue) (s s' : State) → Follows plan s → IsAccepted plan s s' → Follow plan s'.frames (pairs_in s)
+with_new_frames plan s s' h i = record {
+  linked = h.linked;
+  honest = λ k f e. ⊎_elim (h.honest k f) (λ n. made_honest (pairs_in s) n.sender n.receiver n.place f h.linked n.made) (old_or_new plan s s' i k f e);
+  tables = h.tables;
+  bars = h.bars;
+}
+
+step_follows : (plan : PlanValue) (frames : List Fields) (pairs : ℕ → Pairs) (a : ℕ) (step : PairStep) → Moves plan pairs a step → Follow plan frames pairs → Follow plan frames (moved pairs a step)
+step_follows plan frames pairs a step m h = record {
+  linked = m.linked;
+  honest = λ k f e. m.honest f (h.honest k f e);
+  tables = tables_go_on plan (tables_of pairs) (tables_of (moved pairs a step)) (fork_event a (pairs a) step) m.tables h.tables;
+  bars = bars_go_on plan (bars_of pairs) (bars_of (moved pairs a step)) (bottle_event a (pairs a) step) m.bars h.bars;
+}
+
+pub kept_follows : (plan : PlanValue) (frames : List Fields) (pairs : ℕ → Pairs) (a v : ℕ) (o : Option Msg) → followed_by plan a v (pairs a) ≡ o → Follow plan frames pairs → Follow plan frames (moved pairs a (ByKept v o))
+kept_follows plan frames pairs a v o e h = step_follows plan frames pairs a (ByKept v o) (kept_moves plan pairs a v o h.linked e) h
+
+-- with its own step alone
+pub own_step_follows : (plan : PlanValue) (s s' : State) (h : Follows plan s) (i : IsAccepted plan s s') → Follow plan s'.frames (moved (pairs_in s) i.place (step_of (s.office i.place) i.event))
+own_step_follows plan s s' h i = step_follows plan s'.frames (pairs_in s) i.place (step_of (s.office i.place) i.event) (moves_on plan s s' i h) (with_new_frames plan s s' h i)
+
 pub follows_on : (plan : PlanValue) (s s' : State) → Follows plan s → IsAccepted plan s s' → Follows plan s'
-follows_on plan s s' h i =
-    let m = moves_on plan s s' i h in
-    let same = pairs_after plan s s' i in
-    record {
-      linked = subst AreLinked (sym same) m.linked;
-      honest = λ k f e. subst (λ p. IsHonest p f) (sym same) (m.honest f (⊎_elim (h.honest k f) (λ n. made_honest (pairs_in s) n.sender n.receiver n.place f h.linked n.made) (old_or_new plan s s' i k f e)));
-      tables = tables_go_on plan (tables_of (pairs_in s)) (tables_of (pairs_in s')) (fork_event i.place (pairs_in s i.place) (step_of (s.office i.place) i.event)) (ap tables_of same ∙ m.tables) h.tables;
-      bars = bars_go_on plan (bars_of (pairs_in s)) (bars_of (pairs_in s')) (bottle_event i.place (pairs_in s i.place) (step_of (s.office i.place) i.event)) (ap bars_of same ∙ m.bars) h.bars;
-    }
+follows_on plan s s' h i = subst (Follow plan s'.frames) (sym (pairs_after plan s s' i))
+    (through_moves plan i.place (Follow plan s'.frames) (λ qs v o e k. kept_follows plan s'.frames qs i.place v o e k) (pairs_in s) (step_of (s.office i.place) i.event) (own_step_follows plan s s' h i))
 
 pub starts : (plan : PlanValue) → Follows plan (starting plan)
 starts plan = record {

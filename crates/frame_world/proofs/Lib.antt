@@ -11,6 +11,7 @@ mod SentFrames
 mod TimelyCounts
 mod WhatWaits
 mod FewWait
+mod NoneEarly
 mod Sessions
 mod SerialRun
 mod SerialSessions

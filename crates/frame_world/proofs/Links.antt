@@ -6,20 +6,23 @@ use Rattle.bottle_values.specs.Maps.{put}
 use Rattle.bottle_values.proofs.Maps.{put_cases}
 use Rattle.frame_codec.specs.declared.message.Msg.{Msg}
 use Rattle.frame_codec.specs.Frame.{Fields}
-use Rattle.window_link.specs.Windows.{Sending, queued, acknowledged}
-use Rattle.window_link.specs.Links.{LinkState, resumed, arrival_at, after_arrival}
+use Rattle.window_link.specs.Windows.{Sending, Receiving, queued, acknowledged}
+use Rattle.window_link.specs.Links.{LinkState, resumed, received_from, arrival_at, after_arrival}
+use Rattle.window_link.specs.Limits.{most_kept}
+use Rattle.token_channel.specs.Channels.{link_then, window_then}
 use Rattle.dining_core.specs.Worlds.{with_way}
 use Rattle.dining_core.proofs.OnTheWay.{way_at, way_off}
 use Rattle.site_core.specs.Pairs.{Pairs, queued_to, sent, fork_sends, bottle_sends}
 use Rattle.site_core.specs.Offices.{frame_on}
 use Rattle.frame_world.specs.Ways.{untaken, between}
-use Rattle.frame_world.proofs.Answers.{PairStep, Stays, ByFork, ByBottle, ByFrame}
-use Rattle.frame_world.proofs.OneLink.{IsLinked, Carries, Waits, linked_queued, untaken_queued, carries_queued, linked_acknowledged, untaken_acknowledged, carries_acknowledged, brought, taken_after, Arrives, Brings, BringsNone, arrives, untaken_next, linked_next}
+use Rattle.frame_world.proofs.Answers.{PairStep, Stays, ByFork, ByBottle, ByFrame, ByKept}
+use Rattle.frame_world.proofs.OneLink.{IsLinked, Carries, Waits, linked_queued, untaken_queued, carries_queued, linked_acknowledged, untaken_acknowledged, carries_acknowledged, brought, taken_after, Arrives, Brings, BringsNone, arrives, untaken_next, linked_next, Keeps, keeps_received, keeps_then, keeps_nothing, acknowledged_same}
 
 pub record AreLinked (pairs : ℕ → Pairs) : Type 0 where
   pub me : (a v : ℕ) → ((pairs a).link v).me ≡ a
   pub peer : (a v : ℕ) → ((pairs a).link v).peer ≡ v
   pub linked : (a v : ℕ) → IsLinked ((pairs a).link v).sending ((pairs v).link a).receiving.taken
+  pub kept : (a v n : ℕ) (m : Msg) → Keeps ((pairs a).link v).receiving n m → Carries ((pairs v).link a).sending n m
 
 -- what holds of each frame that was sent
 pub record IsHonest (pairs : ℕ → Pairs) (f : Fields) : Type 0 where
@@ -77,6 +80,7 @@ sends_of p Stays = None
 sends_of p (ByFork rule) = fork_sends rule
 sends_of p (ByBottle rule) = bottle_sends p.drinker rule
 sends_of p (ByFrame f) = None
+sends_of p (ByKept v o) = None
 
 pub record Goes (pairs : ℕ → Pairs) (a : ℕ) (m : Option (ℕ × Msg)) (pairs' : ℕ → Pairs) : Type 0 where
   pub linked : AreLinked pairs'
@@ -89,6 +93,7 @@ quiet pairs a p' e h = record {
     me = λ x y. ap (λ (l : LinkState). l.me) (same x y) ∙ h.me x y;
     peer = λ x y. ap (λ (l : LinkState). l.peer) (same x y) ∙ h.peer x y;
     linked = λ x y. linked_as _ _ _ _ (ap (λ (l : LinkState). l.sending) (same x y)) (ap (λ (l : LinkState). l.receiving.taken) (same y x)) (h.linked x y);
+    kept = λ x y n m k. subst (λ (l : LinkState). Carries l.sending n m) (sym (same y x)) (h.kept x y n m (subst (λ (l : LinkState). Keeps l.receiving n m) (same x y) k));
   };
   honest = λ f i. record {
     count = subst (λ (l : LinkState). f.count ≤ l.receiving.taken) (sym (same f.from f.to)) i.count;
@@ -111,12 +116,11 @@ queues pairs a v m p' e h = record {
     linked = λ x y. linked_as _ _ _ _ (sendings x y) (takens y x) (way_cases (λ s. IsLinked s ((pairs y).link x).receiving.taken) sending a v (queued (sending a v) m) x y
         (λ i j. linked_as _ _ _ _ refl (ap (λ k. ((pairs k).link x).receiving.taken) j ∙ ap (λ k. ((pairs v).link k).receiving.taken) i) (linked_queued (sending a v) _ m (h.linked a v)))
         (λ ne. h.linked x y));
+    kept = λ x y n z k. subst (λ s. Carries s n z) (sym (sendings y x)) (still_carries y x n z (h.kept x y n z (subst (λ r. Keeps r n z) (receivings x y) k)));
   };
   honest = λ f i. record {
     count = subst (λ t. f.count ≤ t) (sym (takens f.from f.to)) i.count;
-    carries = λ x is. subst (λ s. Carries s f.number x) (sym (sendings f.from f.to)) (way_cases (λ s. Carries s f.number x) sending a v (queued (sending a v) m) f.from f.to
-        (λ ei ej. carries_queued (sending a v) m f.number x (subst (λ k. Carries (sending a k) f.number x) ej (subst (λ k. Carries (sending k f.to) f.number x) ei (i.carries x is))))
-        (λ ne. i.carries x is));
+    carries = λ x is. subst (λ s. Carries s f.number x) (sym (sendings f.from f.to)) (still_carries f.from f.to f.number x (i.carries x is));
   };
   ways = λ x y. ap (λ s. untaken s ((put pairs a p' y).link x).receiving.taken) (sendings x y) ∙ ap (untaken (with_way sending a v (queued (sending a v) m) x y)) (takens y x) ∙ goes x y;
 }
@@ -132,6 +136,14 @@ queues pairs a v m p' e h = record {
 
     takens : (x y : ℕ) → ((put pairs a p' x).link y).receiving.taken ≡ ((pairs x).link y).receiving.taken
     takens = link_kept (λ l. l.receiving.taken) pairs a v p' new e refl
+
+    receivings : (x y : ℕ) → ((put pairs a p' x).link y).receiving ≡ ((pairs x).link y).receiving
+    receivings = link_kept (λ l. l.receiving) pairs a v p' new e refl
+
+    still_carries : (x y n : ℕ) (z : Msg) → Carries (sending x y) n z → Carries (with_way sending a v (queued (sending a v) m) x y) n z
+    still_carries x y n z c = way_cases (λ s. Carries s n z) sending a v (queued (sending a v) m) x y
+        (λ i j. carries_queued (sending a v) m n z (subst (λ k. Carries (sending a k) n z) j (subst (λ k. Carries (sending k y) n z) i c)))
+        (λ ne. c)
 
     goes : (x y : ℕ) → untaken (with_way sending a v (queued (sending a v) m) x y) ((pairs y).link x).receiving.taken ≡ between pairs x y ++ with_way (λ x y. []) a v (m ∷ []) x y
     goes x y = ⊎_elim
@@ -168,8 +180,15 @@ pub record Comes (pairs : ℕ → Pairs) (u a : ℕ) (m : Option Msg) (pairs' : 
 abbrev pub sending_of : (ℕ → Pairs) → ℕ → ℕ → Sending
 sending_of pairs x y = ((pairs x).link y).sending
 
+abbrev pub receiving_of : (ℕ → Pairs) → ℕ → ℕ → Receiving
+receiving_of pairs x y = ((pairs x).link y).receiving
+
 abbrev pub taken_of : (ℕ → Pairs) → ℕ → ℕ → ℕ
 taken_of pairs x y = ((pairs x).link y).receiving.taken
+
+-- each message that is kept is one that was sent
+abbrev AreSent : (ℕ → Pairs) → (ℕ → Pairs) → Type 0
+AreSent pairs pairs' = (x y n : ℕ) (m : Msg) → Keeps (receiving_of pairs' x y) n m → Carries (sending_of pairs y x) n m
 
 -- where the link from a to u is acknowledged, and a has taken so many from u
 module _ (pairs : ℕ → Pairs) (u a count t : ℕ) (p' : Pairs)
@@ -178,6 +197,7 @@ module _ (pairs : ℕ → Pairs) (u a count t : ℕ) (p' : Pairs)
     (more : taken_of pairs a u ≤ t)
     (sendings : (x y : ℕ) → sending_of (put pairs a p') x y ≡ with_way (sending_of pairs) a u (acknowledged (sending_of pairs a u) count) x y)
     (takens : (x y : ℕ) → taken_of (put pairs a p') x y ≡ with_way (taken_of pairs) a u t x y)
+    (keeps : AreSent pairs (put pairs a p'))
   where
     known : (x y : ℕ) → IsLinked (with_way (sending_of pairs) a u (acknowledged (sending_of pairs a u) count) x y) (taken_of pairs y x)
     known x y = way_cases (λ s. IsLinked s (taken_of pairs y x)) (sending_of pairs) a u (acknowledged (sending_of pairs a u) count) x y
@@ -200,6 +220,9 @@ module _ (pairs : ℕ → Pairs) (u a count t : ℕ) (p' : Pairs)
       carries = λ m is. subst (λ s. Carries s f.number m) (sym (sendings f.from f.to)) (kept_carries f.from f.to f.number m (i.carries m is));
     }
 
+    still_kept : (x y n : ℕ) (m : Msg) → Keeps (receiving_of (put pairs a p') x y) n m → Carries (sending_of (put pairs a p') y x) n m
+    still_kept x y n m k = subst (λ s. Carries s n m) (sym (sendings y x)) (kept_carries y x n m (keeps x y n m k))
+
     -- the count that is used takes nothing off the way
     same_way : (x y : ℕ) → untaken (sending_of (put pairs a p') x y) (taken_of (put pairs a p') y x) ≡ untaken (sending_of pairs x y) (with_way (taken_of pairs) a u t y x)
     same_way x y = ap (λ s. untaken s (taken_of (put pairs a p') y x)) (sendings x y) ∙ ap (untaken (with_way (sending_of pairs) a u (acknowledged (sending_of pairs a u) count) x y)) (takens y x)
@@ -213,15 +236,16 @@ module _ (pairs : ℕ → Pairs) (u a count t : ℕ) (p' : Pairs)
 came_nothing : (pairs : ℕ → Pairs) (u a count t : ℕ) (p' : Pairs) → AreLinked pairs → ((x y : ℕ) → ((put pairs a p' x).link y).me ≡ ((pairs x).link y).me) → ((x y : ℕ) → ((put pairs a p' x).link y).peer ≡ ((pairs x).link y).peer) →
     count ≤ taken_of pairs u a → t ≡ taken_of pairs a u →
     ((x y : ℕ) → sending_of (put pairs a p') x y ≡ with_way (sending_of pairs) a u (acknowledged (sending_of pairs a u) count) x y) →
-    ((x y : ℕ) → taken_of (put pairs a p') x y ≡ with_way (taken_of pairs) a u t x y) → Comes pairs u a None (put pairs a p')
-came_nothing pairs u a count t p' h me peer least same sendings takens = record {
+    ((x y : ℕ) → taken_of (put pairs a p') x y ≡ with_way (taken_of pairs) a u t x y) → AreSent pairs (put pairs a p') → Comes pairs u a None (put pairs a p')
+came_nothing pairs u a count t p' h me peer least same sendings takens keeps = record {
   linked = record {
     me = λ x y. me x y ∙ h.me x y;
     peer = λ x y. peer x y ∙ h.peer x y;
-    linked = λ x y. linked_as _ _ _ _ (sendings x y) (takens y x ∙ way_same (taken_of pairs) a u t same y x) (known pairs u a count t p' h least more sendings takens x y);
+    linked = λ x y. linked_as _ _ _ _ (sendings x y) (takens y x ∙ way_same (taken_of pairs) a u t same y x) (known pairs u a count t p' h least more sendings takens keeps x y);
+    kept = still_kept pairs u a count t p' h least more sendings takens keeps;
   };
-  honest = still_honest pairs u a count t p' h least more sendings takens;
-  ways = λ x y. ap (untaken (sending_of pairs x y)) (sym (way_same (taken_of pairs) a u t same y x)) ∙ sym (same_way pairs u a count t p' h least more sendings takens x y);
+  honest = still_honest pairs u a count t p' h least more sendings takens keeps;
+  ways = λ x y. ap (untaken (sending_of pairs x y)) (sym (way_same (taken_of pairs) a u t same y x)) ∙ sym (same_way pairs u a count t p' h least more sendings takens keeps x y);
 }
   where
     more : taken_of pairs a u ≤ t
@@ -230,17 +254,18 @@ came_nothing pairs u a count t p' h me peer least same sendings takens = record 
 came_next : (pairs : ℕ → Pairs) (u a count t : ℕ) (m : Msg) (p' : Pairs) → AreLinked pairs → ((x y : ℕ) → ((put pairs a p' x).link y).me ≡ ((pairs x).link y).me) → ((x y : ℕ) → ((put pairs a p' x).link y).peer ≡ ((pairs x).link y).peer) →
     count ≤ taken_of pairs u a → t ≡ taken_of pairs a u + 1 → Carries (sending_of pairs u a) (taken_of pairs a u + 1) m →
     ((x y : ℕ) → sending_of (put pairs a p') x y ≡ with_way (sending_of pairs) a u (acknowledged (sending_of pairs a u) count) x y) →
-    ((x y : ℕ) → taken_of (put pairs a p') x y ≡ with_way (taken_of pairs) a u t x y) → Comes pairs u a (Some m) (put pairs a p')
-came_next pairs u a count t m p' h me peer least next carries sendings takens = record {
+    ((x y : ℕ) → taken_of (put pairs a p') x y ≡ with_way (taken_of pairs) a u t x y) → AreSent pairs (put pairs a p') → Comes pairs u a (Some m) (put pairs a p')
+came_next pairs u a count t m p' h me peer least next carries sendings takens keeps = record {
   linked = record {
     me = λ x y. me x y ∙ h.me x y;
     peer = λ x y. peer x y ∙ h.peer x y;
     linked = λ x y. linked_as _ _ _ _ (sendings x y) (takens y x) (way_cases (λ k. IsLinked (with_way (sending_of pairs) a u (acknowledged (sending_of pairs a u) count) x y) k) (taken_of pairs) a u t y x
         (λ i j. subst (λ k. IsLinked (with_way (sending_of pairs) a u (acknowledged (sending_of pairs a u) count) x k) t) (sym i) (subst (λ k. IsLinked (with_way (sending_of pairs) a u (acknowledged (sending_of pairs a u) count) k a) t) (sym j) one_more))
-        (λ ne. known pairs u a count t p' h least more sendings takens x y));
+        (λ ne. known pairs u a count t p' h least more sendings takens keeps x y));
+    kept = still_kept pairs u a count t p' h least more sendings takens keeps;
   };
-  honest = still_honest pairs u a count t p' h least more sendings takens;
-  ways = λ x y. taken_one x y ∙ ap (λ l. with_way (λ x y. []) u a (m ∷ []) x y ++ l) (sym (same_way pairs u a count t p' h least more sendings takens x y));
+  honest = still_honest pairs u a count t p' h least more sendings takens keeps;
+  ways = λ x y. taken_one x y ∙ ap (λ l. with_way (λ x y. []) u a (m ∷ []) x y ++ l) (sym (same_way pairs u a count t p' h least more sendings takens keeps x y));
 }
   where
     more : taken_of pairs a u ≤ t
@@ -248,8 +273,8 @@ came_next pairs u a count t m p' h me peer least next carries sendings takens = 
 
     one_more : IsLinked (with_way (sending_of pairs) a u (acknowledged (sending_of pairs a u) count) u a) t
     one_more = subst (IsLinked (with_way (sending_of pairs) a u (acknowledged (sending_of pairs a u) count) u a)) (sym next)
-        (linked_next (with_way (sending_of pairs) a u (acknowledged (sending_of pairs a u) count) u a) (taken_of pairs a u) m (known pairs u a count t p' h least more sendings takens u a)
-        (kept_carries pairs u a count t p' h least more sendings takens u a (taken_of pairs a u + 1) m carries))
+        (linked_next (with_way (sending_of pairs) a u (acknowledged (sending_of pairs a u) count) u a) (taken_of pairs a u) m (known pairs u a count t p' h least more sendings takens keeps u a)
+        (kept_carries pairs u a count t p' h least more sendings takens keeps u a (taken_of pairs a u + 1) m carries))
 
     there : (x y : ℕ) → x ≡ u → y ≡ a → untaken (sending_of pairs x y) (taken_of pairs y x) ≡ (m ∷ []) ++ untaken (sending_of pairs x y) t
     there x y i j = ap (λ k. untaken (sending_of pairs k y) (taken_of pairs y k)) i ∙ ap (λ k. untaken (sending_of pairs u k) (taken_of pairs k u)) j
@@ -268,12 +293,20 @@ came_next pairs u a count t m p' h me peer least next carries sendings takens = 
         off : ((x ≡ u) × (y ≡ a) → ⊥) → ((y ≡ a) × (x ≡ u) → ⊥) → untaken (sending_of pairs x y) (taken_of pairs y x) ≡ with_way (λ x y. []) u a (m ∷ []) x y ++ untaken (sending_of pairs x y) (with_way (taken_of pairs) a u t y x)
         off ne ne' = ap (untaken (sending_of pairs x y)) (sym (way_off (taken_of pairs) a u t y x ne')) ∙ ap (λ l. l ++ untaken (sending_of pairs x y) (with_way (taken_of pairs) a u t y x)) (sym (way_off (λ x y. []) u a (m ∷ []) x y ne))
 
+-- where the window from u changed, and what it keeps was sent
+keeps_way : (pairs : ℕ → Pairs) (a u : ℕ) (p' : Pairs) (r : Receiving) → AreLinked pairs → ((x y : ℕ) → receiving_of (put pairs a p') x y ≡ with_way (receiving_of pairs) a u r x y) →
+    ((n : ℕ) (m : Msg) → Keeps r n m → Carries (sending_of pairs u a) n m) → AreSent pairs (put pairs a p')
+keeps_way pairs a u p' r h receivings here x y n m k = way_cases (λ w. Keeps w n m → Carries (sending_of pairs y x) n m) (receiving_of pairs) a u r x y
+    (λ i j k. subst (λ z. Carries (sending_of pairs z x) n m) (sym j) (subst (λ z. Carries (sending_of pairs u z) n m) (sym i) (here n m k)))
+    (λ ne. h.kept x y n m)
+    (subst (λ w. Keeps w n m) (receivings x y) k)
+
 pub comes_in : (pairs : ℕ → Pairs) (f : Fields) (p' : Pairs) → p'.link ≡ put (pairs f.to).link f.from (after_arrival ((pairs f.to).link f.from) f) → AreLinked pairs → IsHonest pairs f →
     Comes pairs f.from f.to (brought (arrival_at ((pairs f.to).link f.from) f)) (put pairs f.to p')
-comes_in pairs f p' e h i = by (arrives t f.number f.msg)
+comes_in pairs f p' e h i = by (arrives r f.number f.msg)
   where
-    t : ℕ
-    t = taken_of pairs f.to f.from
+    r : Receiving
+    r = receiving_of pairs f.to f.from
 
     new : LinkState
     new = after_arrival ((pairs f.to).link f.from) f
@@ -287,16 +320,52 @@ comes_in pairs f p' e h i = by (arrives t f.number f.msg)
     sendings : (x y : ℕ) → sending_of (put pairs f.to p') x y ≡ with_way (sending_of pairs) f.to f.from (acknowledged (sending_of pairs f.to f.from) f.count) x y
     sendings = link_after (λ l. l.sending) pairs f.to f.from p' new e
 
-    takens : (x y : ℕ) → taken_of (put pairs f.to p') x y ≡ with_way (taken_of pairs) f.to f.from (taken_after t f.number f.msg) x y
+    takens : (x y : ℕ) → taken_of (put pairs f.to p') x y ≡ with_way (taken_of pairs) f.to f.from (taken_after r f.number f.msg) x y
     takens = link_after (λ l. l.receiving.taken) pairs f.to f.from p' new e
 
-    by : Arrives t f.number f.msg → Comes pairs f.from f.to (brought (arrival_at ((pairs f.to).link f.from) f)) (put pairs f.to p')
+    -- what is kept then was kept, or it is the frame's message
+    was_sent : (n : ℕ) (m : Msg) → Keeps (received_from r f.number f.msg) n m → Carries (sending_of pairs f.from f.to) n m
+    was_sent n m k = ⊎_elim (h.kept f.to f.from n m) (λ new. subst (λ z. Carries (sending_of pairs f.from f.to) z m) (sym new.0) (i.carries m new.1)) (keeps_received r f.number f.msg n m k)
+
+    keeps : AreSent pairs (put pairs f.to p')
+    keeps = keeps_way pairs f.to f.from p' (received_from r f.number f.msg) h (link_after (λ l. l.receiving) pairs f.to f.from p' new e) was_sent
+
+    by : Arrives r f.number f.msg → Comes pairs f.from f.to (brought (arrival_at ((pairs f.to).link f.from) f)) (put pairs f.to p')
     by (Brings m is next fresh one) =
         subst (λ k. Comes pairs f.from f.to k (put pairs f.to p')) (sym (ap brought fresh))
-        (came_next pairs f.from f.to f.count (taken_after t f.number f.msg) m p' h me peer i.count one (subst (λ k. Carries (sending_of pairs f.from f.to) k m) next (i.carries m is)) sendings takens)
+        (came_next pairs f.from f.to f.count (taken_after r f.number f.msg) m p' h me peer i.count one (subst (λ k. Carries (sending_of pairs f.from f.to) k m) next (i.carries m is)) sendings takens keeps)
     by (BringsNone nothing same) =
         subst (λ k. Comes pairs f.from f.to k (put pairs f.to p')) (sym nothing)
-        (came_nothing pairs f.from f.to f.count (taken_after t f.number f.msg) p' h me peer i.count same sendings takens)
+        (came_nothing pairs f.from f.to f.count (taken_after r f.number f.msg) p' h me peer i.count same sendings takens keeps)
+
+-- where what is kept of the next number follows, or is thrown out
+module _ (pairs : ℕ → Pairs) (u a : ℕ) (o : Option Msg) (p' : Pairs)
+    (h : AreLinked pairs)
+    (e : p'.link ≡ put (pairs a).link u (link_then ((pairs a).link u) o))
+  where
+    then_me : (x y : ℕ) → ((put pairs a p' x).link y).me ≡ ((pairs x).link y).me
+    then_me = link_kept (λ l. l.me) pairs a u p' (link_then ((pairs a).link u) o) e refl
+
+    then_peer : (x y : ℕ) → ((put pairs a p' x).link y).peer ≡ ((pairs x).link y).peer
+    then_peer = link_kept (λ l. l.peer) pairs a u p' (link_then ((pairs a).link u) o) e refl
+
+    then_sendings : (x y : ℕ) → sending_of (put pairs a p') x y ≡ with_way (sending_of pairs) a u (acknowledged (sending_of pairs a u) (sending_of pairs a u).acked) x y
+    then_sendings x y = link_after (λ l. l.sending) pairs a u p' (link_then ((pairs a).link u) o) e x y ∙ ap (λ s. with_way (sending_of pairs) a u s x y) (sym (acknowledged_same (sending_of pairs a u)))
+
+    then_takens : (x y : ℕ) → taken_of (put pairs a p') x y ≡ with_way (taken_of pairs) a u (window_then (receiving_of pairs a u) o).taken x y
+    then_takens = link_after (λ l. l.receiving.taken) pairs a u p' (link_then ((pairs a).link u) o) e
+
+    then_keeps : AreSent pairs (put pairs a p')
+    then_keeps = keeps_way pairs a u p' (window_then (receiving_of pairs a u) o) h (link_after (λ l. l.receiving) pairs a u p' (link_then ((pairs a).link u) o) e)
+        (λ n m k. h.kept a u n m (keeps_then (receiving_of pairs a u) o n m k))
+
+pub follows_in : (pairs : ℕ → Pairs) (u a : ℕ) (o : Option Msg) (p' : Pairs) → p'.link ≡ put (pairs a).link u (link_then ((pairs a).link u) o) → AreLinked pairs → ((m : Msg) → o ≡ Some m → Keeps (receiving_of pairs a u) (taken_of pairs a u + 1) m) → Comes pairs u a o (put pairs a p')
+follows_in pairs u a None p' e h next =
+    came_nothing pairs u a (sending_of pairs a u).acked (taken_of pairs a u) p' h (then_me pairs u a None p' h e) (then_peer pairs u a None p' h e) (h.linked a u).known refl
+    (then_sendings pairs u a None p' h e) (then_takens pairs u a None p' h e) (then_keeps pairs u a None p' h e)
+follows_in pairs u a (Some m) p' e h next =
+    came_next pairs u a (sending_of pairs a u).acked (taken_of pairs a u + 1) m p' h (then_me pairs u a (Some m) p' h e) (then_peer pairs u a (Some m) p' h e) (h.linked a u).known refl (h.kept a u (taken_of pairs a u + 1) m (next m refl))
+    (then_sendings pairs u a (Some m) p' h e) (then_takens pairs u a (Some m) p' h e) (then_keeps pairs u a (Some m) p' h e)
 
 -- ---- at the start, and a frame that is made
 
@@ -305,6 +374,7 @@ linked_at_start run pairs e = record {
   me = λ a v. ap (λ (l : LinkState). l.me) (e a v);
   peer = λ a v. ap (λ (l : LinkState). l.peer) (e a v);
   linked = λ a v. linked_as _ _ _ _ (ap (λ (l : LinkState). l.sending) (e a v)) (ap (λ (l : LinkState). l.receiving.taken) (e v a)) (record { known = omega arith; most = omega arith });
+  kept = λ a v n m k. absurd (keeps_nothing 0 most_kept n m (subst (λ (l : LinkState). Keeps l.receiving n m) (e a v) k));
 }
 
 pub made_honest : (pairs : ℕ → Pairs) (a v i : ℕ) (f : Fields) → AreLinked pairs → frame_on ((pairs a).link v) i ≡ Some f → IsHonest pairs f

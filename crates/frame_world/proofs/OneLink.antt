@@ -1,16 +1,18 @@
 -- What queueing, acknowledging and taking do to what is on the way on one link.
-use Rattle.std.proofs.Common.{◌≡◌, ℕ, zero, suc, ◌+◌, ◌-◌, ◌≤◌, max, Bool, true, false, cond, List, [], ◌∷◌, ◌++◌, length, drop, Option, None, Some, refl, ap, ◌∙◌, arith, ⊎_elim}
-use Rattle.std.specs.Prelude.{nat_le, ◌==◌, slice_get}
-use Rattle.std.proofs.lemmas.Bool.{eqb-true, cases_lt}
-use Rattle.std.proofs.lemmas.Bool.Decides.{nat_tests}
+use Rattle.std.proofs.Common.{◌≡◌, ℕ, zero, suc, ◌+◌, ◌-◌, ◌≤◌, max, List, [], ◌∷◌, ◌++◌, length, drop, replicate, get_or, Option, None, Some, refl, sym, ap, ◌∙◌, arith, inl, inr, ◌⊎◌, ⊎_elim}
+use Rattle.std.specs.Prelude.{slice_get}
+use Rattle.std.proofs.lemmas.Bool.{cases_lt}
 use Rattle.std.proofs.lemmas.List.{drop-append-le, drop-drop, length-drop}
 use Rattle.std.proofs.lemmas.Option.{slice_get_within}
 use Rattle.frame_codec.specs.declared.message.Msg.{Msg}
 use Rattle.window_link.specs.declared.arrival.Arrival.{Arrival}
 use Rattle.window_link.specs.declared.arrival.Arrival.TheVariants as arrival
-use Rattle.window_link.specs.Windows.{Sending, used, queued, acknowledged}
+use Rattle.window_link.specs.Windows.{Sending, Receiving, used, queued, acknowledged, arrival, next_kept, advanced, without_next, after_message}
 use Rattle.window_link.specs.Links.{brings, received_from}
 use Rattle.window_link.proofs.Invariant.{get-drop}
+use Rattle.window_link.proofs.Arrivals.{Stands, stands}
+use Rattle.window_link.proofs.KeptPlaces.{get-set, get-after, get-with}
+use Rattle.token_channel.specs.Channels.{window_then}
 use Rattle.site_core.proofs.OfficeLimits.{known_used}
 use Rattle.frame_world.specs.Ways.{untaken}
 
@@ -77,29 +79,30 @@ abbrev pub brought : Arrival → Option Msg
 brought (arrival.Fresh m) = Some m
 brought arrival.Acked = None
 brought arrival.Repeat = None
+brought arrival.Kept = None
 brought arrival.Early = None
 
-abbrev pub taken_after : ℕ → ℕ → Option Msg → ℕ
-taken_after t number msg = (received_from (record { taken = t }) number msg).taken
+abbrev pub taken_after : Receiving → ℕ → Option Msg → ℕ
+taken_after r number msg = (received_from r number msg).taken
 
 -- of what arrives, either the next message is taken, or nothing
-pub data Arrives (t number : ℕ) (msg : Option Msg) : Type 0 where
-  Brings : (m : Msg) (is : msg ≡ Some m) (next : number ≡ t + 1) (fresh : brings t number msg ≡ arrival.Fresh m) (one : taken_after t number msg ≡ t + 1) → Arrives t number msg
-  BringsNone : (nothing : brought (brings t number msg) ≡ None) (same : taken_after t number msg ≡ t) → Arrives t number msg
+pub data Arrives (r : Receiving) (number : ℕ) (msg : Option Msg) : Type 0 where
+  Brings : (m : Msg) (is : msg ≡ Some m) (next : number ≡ r.taken + 1) (fresh : brings r.taken number msg ≡ arrival.Fresh m) (one : taken_after r number msg ≡ r.taken + 1) → Arrives r number msg
+  BringsNone : (nothing : brought (brings r.taken number msg) ≡ None) (same : taken_after r number msg ≡ r.taken) → Arrives r number msg
 
-pub arrives : (t number : ℕ) (msg : Option Msg) → Arrives t number msg
-arrives t number None = BringsNone refl refl
-arrives t number (Some m) = go (nat_le number t) (number == t + 1) refl refl
+pub arrives : (r : Receiving) (number : ℕ) (msg : Option Msg) → Arrives r number msg
+arrives r number None = BringsNone refl refl
+arrives r number (Some m) = go (arrival r.taken number m) refl (stands r.taken number m)
   where
-    go : (old next : Bool) → nat_le number t ≡ old → (number == t + 1) ≡ next → Arrives t number (Some m)
-    go true true h k = absurd (grind (arith, nat_tests, h, eqb-true number (t + 1) k))
-    go true false h k = BringsNone (ap (λ b. brought (cond b arrival.Repeat (cond (number == t + 1) (arrival.Fresh m) arrival.Early))) h) (ap (λ b. cond b number t) k)
-    go false true h k = Brings m refl (eqb-true number (t + 1) k)
-        (ap (λ b. cond b arrival.Repeat (cond (number == t + 1) (arrival.Fresh m) arrival.Early)) h ∙ ap (λ b. cond b (arrival.Fresh m) arrival.Early) k)
-        (ap (λ b. cond b number t) k ∙ eqb-true number (t + 1) k)
-    go false false h k = BringsNone
-        (ap (λ b. brought (cond b arrival.Repeat (cond (number == t + 1) (arrival.Fresh m) arrival.Early))) h ∙ ap (λ b. brought (cond b (arrival.Fresh m) arrival.Early)) k)
-        (ap (λ b. cond b number t) k)
+    taken : Arrival → ℕ
+    taken a = (after_message r number m a).taken
+
+    go : (a : Arrival) → arrival r.taken number m ≡ a → Stands r.taken number m a → Arrives r number (Some m)
+    go (arrival.Fresh x) e s = Brings m refl s.0 (e ∙ ap arrival.Fresh (sym s.1)) (ap taken e)
+    go arrival.Acked e s = absurd s
+    go arrival.Repeat e s = BringsNone (ap brought e) (ap taken e)
+    go arrival.Kept e s = BringsNone (ap brought e) (ap taken e)
+    go arrival.Early e s = BringsNone (ap brought e) (ap taken e)
 
 -- the next message is the first on the way
 first_of : (xs : List Msg) (k : ℕ) (m : Msg) → slice_get xs k ≡ Some m → drop k xs ≡ m ∷ drop (suc k) xs
@@ -117,3 +120,62 @@ untaken_next s t m l (Waits k at is) =
 pub linked_next : (s : Sending) (t : ℕ) (m : Msg) → IsLinked s t → Carries s (t + 1) m → IsLinked s (t + 1)
 linked_next s t m l (Known le) = absurd (omega (arith, le, l.known))
 linked_next s t m l (Waits k at is) = record { known = omega (arith, l.known); most = omega (arith, at, slice_get_within s.waiting k m is) }
+
+-- ---- what is kept
+
+-- of this number the message is kept
+pub record Keeps (r : Receiving) (number : ℕ) (m : Msg) : Type 0 where
+  pub place : ℕ
+  pub at : number ≡ r.taken + 1 + place
+  pub is : get_or r.kept place None ≡ Some m
+
+pub keeps_next : (r : Receiving) (m : Msg) → next_kept r ≡ Some m → Keeps r (r.taken + 1) m
+keeps_next r m e = record { place = 0; at = omega arith; is = e }
+
+keeps_advanced : (r : Receiving) (n : ℕ) (m : Msg) → Keeps (advanced r) n m → Keeps r n m
+keeps_advanced r n m h = record { place = suc h.place; at = omega (arith, h.at); is = sym (get-after r.kept h.place) ∙ h.is }
+
+keeps_without : (r : Receiving) (n : ℕ) (m : Msg) → Keeps (without_next r) n m → Keeps r n m
+keeps_without r n m h = elim (get-set r.kept 0 h.place None None (Some m) h.is) [
+  | inl none ↦ let no : None ≡ Some m = none.1 in absurd cc
+  | inr old ↦ record { place = h.place; at = h.at; is = old }
+]
+
+-- what is kept after a message was kept before, or is that message
+pub keeps_received : (r : Receiving) (number : ℕ) (msg : Option Msg) (n : ℕ) (m : Msg) → Keeps (received_from r number msg) n m → Keeps r n m ⊎ ((n ≡ number) × (msg ≡ Some m))
+keeps_received r number None n m h = inl h
+keeps_received r number (Some x) n m h = go (arrival r.taken number x) (stands r.taken number x) h
+  where
+    go : (a : Arrival) → Stands r.taken number x a → Keeps (after_message r number x a) n m → Keeps r n m ⊎ ((n ≡ number) × (Some x ≡ Some m))
+    go (arrival.Fresh y) s k = inl (keeps_advanced r n m k)
+    go arrival.Acked s k = inl k
+    go arrival.Repeat s k = inl k
+    go arrival.Kept s k = elim (get-with r.kept (number - (r.taken + 1)) k.place x m k.is) [
+      | inl old ↦ inl (record { place = k.place; at = k.at; is = old })
+      | inr new ↦ inr (omega (arith, k.at, new.0, s.0), ap Some new.1)
+    ]
+    go arrival.Early s k = inl k
+
+-- and after one that was kept followed, or was thrown out
+pub keeps_then : (r : Receiving) (o : Option Msg) (n : ℕ) (m : Msg) → Keeps (window_then r o) n m → Keeps r n m
+keeps_then r None n m h = keeps_without r n m h
+keeps_then r (Some x) n m h = keeps_advanced r n m h
+
+-- at the start nothing is
+pub keeps_nothing : (taken count n : ℕ) (m : Msg) → Keeps (record { taken = taken; kept = replicate count None }) n m → ⊥
+keeps_nothing taken count n m h = none count h.place h.is
+  where
+    none : (count k : ℕ) → get_or {A = Option Msg} (replicate count None) k None ≡ Some m → ⊥
+    none zero k e = absurd cc
+    none (suc count) zero e = absurd cc
+    none (suc count) (suc k) e = none count k e
+
+-- the count that is known says nothing new
+pub acknowledged_same : (s : Sending) → acknowledged s s.acked ≡ s
+acknowledged_same s =
+    let most : max s.acked s.acked ≡ s.acked = omega arith in
+    let none : s.acked - s.acked ≡ 0 = omega arith in
+    ap (λ n. window n (drop (s.acked - s.acked) s.waiting)) most ∙ ap (λ n. window s.acked (drop n s.waiting)) none
+  where
+    window : ℕ → List Msg → Sending
+    window n ms = record { acked = n; waiting = ms }

@@ -5,6 +5,7 @@ use Rattle.std.specs.List.{list_all}
 use Rattle.std.proofs.lemmas.Bool.{and_parts, or_cases, eqb-true}
 use Rattle.bottle_values.specs.Lists.{num, is_among}
 use Rattle.frame_codec.specs.declared.message.Msg.{Msg}
+use Rattle.frame_codec.specs.Frame.{Fields}
 use Rattle.frame_codec.specs.declared.message.Msg.TheVariants as msg
 use Rattle.office_map.specs.PlanValue.{PlanValue, are_neighbours, neighbours_of}
 use Rattle.office_map.specs.Consistency.{IsConsistent}
@@ -20,8 +21,8 @@ use Rattle.site_core.proofs.PlanFacts.{among_neighbours}
 use Rattle.frame_world.specs.Worlds.{World, opening, run_of}
 use Rattle.frame_world.specs.Ways.{pairs_at, between, bottles_in, tables_of, bars_of}
 use Rattle.frame_world.specs.Headline.{Always, HasOnePlaceEach, NeighboursEatApart, EatersHaveTheirForks, PrecedenceHasNoRing}
-use Rattle.frame_world.proofs.Steps.{State, state_of, seated}
-use Rattle.frame_world.proofs.Following.{pairs_in, Follows, follows}
+use Rattle.frame_world.proofs.Steps.{seated}
+use Rattle.frame_world.proofs.Following.{Follow, follows}
 
 -- as many bottles as messages that carry them
 counted : (r : ℕ) (ms : List Msg) → length (bottles_in r ms) ≡ count_carrying (thing.Bottle r) ms
@@ -46,25 +47,25 @@ all_at f (x ∷ xs) v h e =
 abbrev pub places_of : (ℕ → Pairs) → ℕ → ℕ → Thing → ℕ
 places_of pairs a b t = num (held (pairs a) b t) + (num (held (pairs b) a t) + (count_carrying t (between pairs a b) + count_carrying t (between pairs b a)))
 
-pub each_is_placed : tables.EachHasOnePlace → bars.EachHasOnePlace → (plan : PlanValue) (s : State) → IsConsistent plan → Follows plan s → (a b : ℕ) (t : Thing) → places_of (pairs_in s) a b t ≡ num (is_shared plan a b t)
-each_is_placed forks bottles plan s c f a b t = of t
+pub each_is_placed : tables.EachHasOnePlace → bars.EachHasOnePlace → (plan : PlanValue) (frames : List Fields) (pairs : ℕ → Pairs) → IsConsistent plan → Follow plan frames pairs → (a b : ℕ) (t : Thing) → places_of pairs a b t ≡ num (is_shared plan a b t)
+each_is_placed forks bottles plan frames pairs c f a b t = of t
   where
-    tables_placed : tables.HasOnePlaceEach plan (tables_of (pairs_in s))
+    tables_placed : tables.HasOnePlaceEach plan (tables_of pairs)
     tables_placed = subst (tables.HasOnePlaceEach plan) (sym f.tables.led) (forks plan f.tables.events c)
 
-    bars_placed : bars.HasOnePlaceEach plan (bars_of (pairs_in s))
+    bars_placed : bars.HasOnePlaceEach plan (bars_of pairs)
     bars_placed = subst (bars.HasOnePlaceEach plan) (sym f.bars.led) (bottles plan f.bars.events c)
 
-    of : (t : Thing) → places_of (pairs_in s) a b t ≡ num (is_shared plan a b t)
+    of : (t : Thing) → places_of pairs a b t ≡ num (is_shared plan a b t)
     of thing.Fork = tables_placed.fork a b
     of thing.ForkToken = tables_placed.token a b
-    of (thing.Bottle r) = omega (arith, bars_placed.bottle r a b, counted r (between (pairs_in s) a b), counted r (between (pairs_in s) b a))
+    of (thing.Bottle r) = omega (arith, bars_placed.bottle r a b, counted r (between pairs a b), counted r (between pairs b a))
     of (thing.BottleToken r) = bars_placed.token r a b
 
 pub things_have_one_place : tables.EachHasOnePlace → bars.EachHasOnePlace → Always HasOnePlaceEach
 things_have_one_place forks bottles plan es c a b t =
     let w : World = run_of (opening plan) es in
-    each_is_placed forks bottles plan (state_of w) c (follows plan es) a b t ∙ ap (λ (p : PlanValue). num (is_shared p a b t)) (sym (seated plan es).planned)
+    each_is_placed forks bottles plan w.frames (pairs_at w) c (follows plan es) a b t ∙ ap (λ (p : PlanValue). num (is_shared p a b t)) (sym (seated plan es).planned)
 
 pub neighbours_eat_apart : tables.NeighboursEatApart → Always NeighboursEatApart
 neighbours_eat_apart law plan es c a b near =

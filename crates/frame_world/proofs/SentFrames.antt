@@ -21,12 +21,12 @@ use Rattle.token_channel.specs.declared.fault.ChannelFault.TheVariants as fault
 use Rattle.token_channel.specs.Things.{thing_of, same, count_carrying}
 use Rattle.token_channel.specs.Places.{waits}
 use Rattle.token_channel.specs.Ends.{is_shared}
-use Rattle.token_channel.specs.Channels.{breach_among, fault_among, left_by, link_fault_or, next_of}
+use Rattle.token_channel.specs.Channels.{breach_among, fault_among, left_by, link_fault_or, next_of, link_then}
 use Rattle.token_channel.proofs.HeldUpdates.{same_self, same_is}
 use Rattle.dining_core.specs.Worlds.{with_way}
 use Rattle.dining_core.specs.Worlds as tables
 use Rattle.drinking_core.specs.Worlds as bars
-use Rattle.site_core.specs.Pairs.{Pairs, sent, fork_sends, bottle_sends, held, frame_fault}
+use Rattle.site_core.specs.Pairs.{Pairs, sent, fork_sends, bottle_sends, held, frame_fault, follows}
 use Rattle.site_core.specs.declared.event.Event as office
 use Rattle.site_core.specs.declared.event.Event.TheVariants as event
 use Rattle.site_core.specs.declared.reply.Reply.{Reply}
@@ -44,11 +44,11 @@ use Rattle.frame_world.specs.declared.refusal.WorldRefusal.TheVariants as refusa
 use Rattle.frame_world.specs.Worlds.{World, opening, run_of, site_at, office_at, told, handed, delivered, happens}
 use Rattle.frame_world.specs.Headline.{Always, FramesAreTaken, is_fault}
 use Rattle.frame_world.specs.Ways.{untaken, between}
-use Rattle.frame_world.proofs.Answers.{PairStep, Stays, ByFork, ByBottle, ByFrame, step_of, pair_after}
+use Rattle.frame_world.proofs.Answers.{PairStep, Stays, ByFork, ByBottle, ByFrame, ByKept, step_of, pair_after}
 use Rattle.frame_world.proofs.OneLink.{length_one, still_used, Known, Waits, Carries, Arrives, Brings, BringsNone, arrives, taken_after}
 use Rattle.frame_world.proofs.Links.{AreLinked, IsHonest, queued_link, made_honest, link_after, link_kept, links_kept, way_cases, sending_of, taken_of}
 use Rattle.frame_world.proofs.Steps.{State, state_of, starting, IsAccepted, IsSeated, seated, through}
-use Rattle.frame_world.proofs.Following.{moved, pairs_in, pairs_after, Follows, follows_on, starts, IsNew, old_or_new}
+use Rattle.frame_world.proofs.Following.{moved, pairs_in, through_moves, pairs_after, Follow, Follows, kept_follows, own_step_follows, starts, IsNew, old_or_new}
 use Rattle.frame_world.proofs.PlacesAndForks.{each_is_placed}
 
 -- ---- one thing on the way
@@ -115,12 +115,17 @@ crossed_queued l new f m t most old taken later k x at of = ⊎_elim
 crossed_arrived : (l : LinkState) (g f : Fields) (m : Msg) → Crossed l f m → Crossed (after_arrival l g) f m
 crossed_arrived l g f m old later k x at of =
     let there : slice_get l.sending.waiting (g.count - l.sending.acked + k) ≡ Some x = sym (get-drop l.sending.waiting (g.count - l.sending.acked) k) ∙ at in
-    let known : l.sending.acked + suc (g.count - l.sending.acked + k) ≤ f.count = old (omega (arith, later, grows (arrives l.receiving.taken g.number g.msg))) (g.count - l.sending.acked + k) x there of in
+    let known : l.sending.acked + suc (g.count - l.sending.acked + k) ≤ f.count = old (omega (arith, later, grows (arrives l.receiving g.number g.msg))) (g.count - l.sending.acked + k) x there of in
     ⊎_elim (λ lt. omega (arith, known, lt)) (λ ge. omega (arith, known, ge)) (cases_lt l.sending.acked g.count)
   where
-    grows : Arrives l.receiving.taken g.number g.msg → l.receiving.taken ≤ taken_after l.receiving.taken g.number g.msg
+    grows : Arrives l.receiving g.number g.msg → l.receiving.taken ≤ taken_after l.receiving g.number g.msg
     grows (Brings y is next fresh one) = omega (arith, one)
     grows (BringsNone nothing stays) = omega (arith, stays)
+
+-- a kept message follows, or is thrown out
+crossed_then : (l : LinkState) (o : Option Msg) (f : Fields) (m : Msg) → Crossed l f m → Crossed (link_then l o) f m
+crossed_then l None f m old later k x at of = old later k x at of
+crossed_then l (Some y) f m old later k x at of = old (omega (arith, later)) k x at of
 
 -- ---- what a step does to a link
 
@@ -130,9 +135,9 @@ changed_link pairs a v f p' e b w P stays here = subst P (sym (link_after (λ l.
     (way_cases P (λ x y. (pairs x).link y) a v (f ((pairs a).link v)) b w (λ i j. subst (λ k. P (f ((pairs a).link k))) j (subst (λ k. P (f ((pairs k).link w))) i here)) (λ ne. stays))
 
 -- what every message and every frame leaves, each step leaves
-kept_on_links : (pairs : ℕ → Pairs) (a : ℕ) (step : PairStep) (b w : ℕ) (P : LinkState → Type 0) → P ((pairs b).link w) → ((m : Msg) → P (queued_link ((pairs b).link w) m)) → ((g : Fields) → P (after_arrival ((pairs b).link w) g)) →
+kept_on_links : (pairs : ℕ → Pairs) (a : ℕ) (step : PairStep) (b w : ℕ) (P : LinkState → Type 0) → P ((pairs b).link w) → ((m : Msg) → P (queued_link ((pairs b).link w) m)) → ((g : Fields) → P (after_arrival ((pairs b).link w) g)) → ((o : Option Msg) → P (link_then ((pairs b).link w) o)) →
     P ((moved pairs a step b).link w)
-kept_on_links pairs a step b w P stays queued arrived = go step
+kept_on_links pairs a step b w P stays queued arrived followed = go step
   where
     out : (m : Option (ℕ × Msg)) (p' : Pairs) → p'.link ≡ sent (pairs a).link m → P ((put pairs a p' b).link w)
     out None p' e = subst P (sym (links_kept pairs a p' e b w)) stays
@@ -143,6 +148,7 @@ kept_on_links pairs a step b w P stays queued arrived = go step
     go (ByFork rule) = out (fork_sends rule) (pair_after (pairs a) (ByFork rule)) refl
     go (ByBottle rule) = out (bottle_sends (pairs a).drinker rule) (pair_after (pairs a) (ByBottle rule)) refl
     go (ByFrame g) = changed_link pairs a g.from (λ l. after_arrival l g) (pair_after (pairs a) (ByFrame g)) refl b w P stays (arrived g)
+    go (ByKept v o) = changed_link pairs a v (λ l. link_then l o) (pair_after (pairs a) (ByKept v o)) refl b w P stays (followed o)
 
 -- a frame stays so
 still_crossed : (pairs : ℕ → Pairs) (a : ℕ) (step : PairStep) (f : Fields) (m : Msg) → AreLinked pairs → AreLinked (moved pairs a step) → GoOneWay (moved pairs a step) → IsHonest (moved pairs a step) f → f.msg ≡ Some m →
@@ -162,6 +168,7 @@ still_crossed pairs a step f m l l' one h is old = go step l' one h
     go (ByFork rule) l' one h = out (fork_sends rule) (pair_after (pairs a) (ByFork rule)) refl l' one h
     go (ByBottle rule) l' one h = out (bottle_sends (pairs a).drinker rule) (pair_after (pairs a) (ByBottle rule)) refl l' one h
     go (ByFrame g) l' one h = changed_link pairs a g.from (λ k. after_arrival k g) (pair_after (pairs a) (ByFrame g)) refl f.to f.from (λ k. Crossed k f m) old (crossed_arrived ((pairs f.to).link f.from) g f m old)
+    go (ByKept v o) l' one h = changed_link pairs a v (λ k. link_then k o) (pair_after (pairs a) (ByKept v o)) refl f.to f.from (λ k. Crossed k f m) old (crossed_then ((pairs f.to).link f.from) o f m old)
 
 -- ---- all frames
 
@@ -189,43 +196,48 @@ of_link l i f e = by i e
             made (l.sending.acked + suc i) (slice_get l.sending.waiting (suc i - 1)) (grind (arith, nat_tests, h)) is
         go false h e = absurd cc
 
-pub record AreTimely (plan : PlanValue) (s : State) : Type 0 where
-  pub runs : (a v : ℕ) → ((pairs_in s a).link v).run ≡ plan.run
-  pub run : (k : ℕ) (f : Fields) → slice_get s.frames k ≡ Some f → f.run ≡ plan.run
-  pub near : (k : ℕ) (f : Fields) → slice_get s.frames k ≡ Some f → are_neighbours plan f.from f.to ≡ true
-  pub numbered : (k : ℕ) (f : Fields) → slice_get s.frames k ≡ Some f → f.number ≤ used (sending_of (pairs_in s) f.from f.to)
-  pub crossed : (k : ℕ) (f : Fields) (m : Msg) → slice_get s.frames k ≡ Some f → f.msg ≡ Some m → Crossed ((pairs_in s f.to).link f.from) f m
+-- what holds of offices with these frames
+pub record AreTimely (plan : PlanValue) (frames : List Fields) (pairs : ℕ → Pairs) : Type 0 where
+  pub runs : (a v : ℕ) → ((pairs a).link v).run ≡ plan.run
+  pub run : (k : ℕ) (f : Fields) → slice_get frames k ≡ Some f → f.run ≡ plan.run
+  pub near : (k : ℕ) (f : Fields) → slice_get frames k ≡ Some f → are_neighbours plan f.from f.to ≡ true
+  pub numbered : (k : ℕ) (f : Fields) → slice_get frames k ≡ Some f → f.number ≤ used (sending_of pairs f.from f.to)
+  pub crossed : (k : ℕ) (f : Fields) (m : Msg) → slice_get frames k ≡ Some f → f.msg ≡ Some m → Crossed ((pairs f.to).link f.from) f m
 
 -- a number that a link used stays used
 numbers_grow : (pairs : ℕ → Pairs) (a : ℕ) (step : PairStep) (f : Fields) → f.number ≤ used (sending_of pairs f.from f.to) → f.number ≤ used (sending_of (moved pairs a step) f.from f.to)
 numbers_grow pairs a step f h = kept_on_links pairs a step f.from f.to (λ l. f.number ≤ used l.sending) h
     (λ m. omega (arith, h, length_one (sending_of pairs f.from f.to).waiting m))
     (λ g. omega (arith, h, still_used (sending_of pairs f.from f.to) g.count))
+    (λ o. h)
 
 few : (b : Bool) → num b ≤ 1
 few true = omega arith
 few false = omega arith
 
-one_way : tables.EachHasOnePlace → bars.EachHasOnePlace → (plan : PlanValue) (s : State) → IsConsistent plan → Follows plan s → GoOneWay (pairs_in s)
-one_way forks bottles plan s c h a b t = omega (arith, each_is_placed forks bottles plan s c h a b t, few (is_shared plan a b t))
+one_way : tables.EachHasOnePlace → bars.EachHasOnePlace → (plan : PlanValue) (frames : List Fields) (pairs : ℕ → Pairs) → IsConsistent plan → Follow plan frames pairs → GoOneWay pairs
+one_way forks bottles plan frames pairs c h a b t = omega (arith, each_is_placed forks bottles plan frames pairs c h a b t, few (is_shared plan a b t))
 
-timely_on : tables.EachHasOnePlace → bars.EachHasOnePlace → (plan : PlanValue) (s s' : State) → IsConsistent plan → Follows plan s → Follows plan s' → AreTimely plan s → IsAccepted plan s s' → AreTimely plan s'
-timely_on forks bottles plan s s' c h h' t i = record {
-  runs = λ a v. subst (λ (p : ℕ → Pairs). ((p a).link v).run ≡ plan.run) (sym there) (kept_on_links (pairs_in s) i.place step a v (λ l. l.run ≡ plan.run) (t.runs a v) (λ m. t.runs a v) (λ g. t.runs a v));
-  run = λ k f e. ⊎_elim (t.run k f) (λ n. (of_link ((pairs_in s n.sender).link n.receiver) n.place f n.made).run ∙ t.runs n.sender n.receiver) (old_or_new plan s s' i k f e);
-  near = λ k f e. ⊎_elim (t.near k f) (near_new f) (old_or_new plan s s' i k f e);
-  numbered = λ k f e. subst (λ p. f.number ≤ used (sending_of p f.from f.to)) (sym there)
-      (numbers_grow (pairs_in s) i.place step f (⊎_elim (t.numbered k f) (numbered_new f) (old_or_new plan s s' i k f e)));
-  crossed = λ k f m e is. subst (λ (p : ℕ → Pairs). Crossed ((p f.to).link f.from) f m) (sym there)
-      (still_crossed (pairs_in s) i.place step f m h.linked (subst AreLinked there h'.linked) (subst GoOneWay there (one_way forks bottles plan s' c h')) (subst (λ p. IsHonest p f) there (h'.honest k f e)) is
-      (⊎_elim (λ old. t.crossed k f m old is) (λ n. crossed_new f m n is) (old_or_new plan s s' i k f e)));
+-- the offices follow, and their frames are timely
+pub record FollowTimely (plan : PlanValue) (frames : List Fields) (pairs : ℕ → Pairs) : Type 0 where
+  pub follows : Follow plan frames pairs
+  pub timely : AreTimely plan frames pairs
+
+abbrev pub IsTimely : PlanValue → State → Type 0
+IsTimely plan s = FollowTimely plan s.frames (pairs_in s)
+
+-- the frames that an event makes are timely too
+timely_made : tables.EachHasOnePlace → bars.EachHasOnePlace → (plan : PlanValue) (s s' : State) → IsConsistent plan → IsTimely plan s → IsAccepted plan s s' → AreTimely plan s'.frames (pairs_in s)
+timely_made forks bottles plan s s' c t i = record {
+  runs = t.timely.runs;
+  run = λ k f e. ⊎_elim (t.timely.run k f) (λ n. (of_link ((pairs_in s n.sender).link n.receiver) n.place f n.made).run ∙ t.timely.runs n.sender n.receiver) (old_or_new plan s s' i k f e);
+  near = λ k f e. ⊎_elim (t.timely.near k f) (near_new f) (old_or_new plan s s' i k f e);
+  numbered = λ k f e. ⊎_elim (t.timely.numbered k f) (numbered_new f) (old_or_new plan s s' i k f e);
+  crossed = λ k f m e is. ⊎_elim (λ old. t.timely.crossed k f m old is) (λ n. crossed_new f m n is) (old_or_new plan s s' i k f e);
 }
   where
-    step : PairStep
-    step = step_of (s.office i.place) i.event
-
-    there : pairs_in s' ≡ moved (pairs_in s) i.place step
-    there = pairs_after plan s s' i
+    h : Follows plan s
+    h = t.follows
 
     near_new : (f : Fields) → IsNew plan (pairs_in s) f → are_neighbours plan f.from f.to ≡ true
     near_new f n =
@@ -243,18 +255,38 @@ timely_on forks bottles plan s s' c h h' t i = record {
         let o : IsOfLink ((pairs_in s n.sender).link n.receiver) f = of_link ((pairs_in s n.sender).link n.receiver) n.place f n.made in
         let count : taken_of (pairs_in s) f.from f.to ≡ f.count = ap (λ x. taken_of (pairs_in s) x f.to) (o.from ∙ h.linked.me n.sender n.receiver) ∙ ap (taken_of (pairs_in s) n.sender) (o.to ∙ h.linked.peer n.sender n.receiver) ∙ sym o.count in
         subst (λ x. IsSeen ((pairs_in s f.to).link f.from) x f m) count
-        (seen (pairs_in s) f m h.linked (one_way forks bottles plan s c h) (made_honest (pairs_in s) n.sender n.receiver n.place f h.linked n.made) is)
+        (seen (pairs_in s) f m h.linked (one_way forks bottles plan s.frames (pairs_in s) c h) (made_honest (pairs_in s) n.sender n.receiver n.place f h.linked n.made) is)
 
-timely_at_start : (plan : PlanValue) → AreTimely plan (starting plan)
+-- what a step leaves of them
+timely_step : tables.EachHasOnePlace → bars.EachHasOnePlace → (plan : PlanValue) (frames : List Fields) (pairs : ℕ → Pairs) (a : ℕ) (step : PairStep) → IsConsistent plan → AreLinked pairs → Follow plan frames (moved pairs a step) → AreTimely plan frames pairs → AreTimely plan frames (moved pairs a step)
+timely_step forks bottles plan frames pairs a step c l h' t = record {
+  runs = λ x v. kept_on_links pairs a step x v (λ l. l.run ≡ plan.run) (t.runs x v) (λ m. t.runs x v) (λ g. t.runs x v) (λ o. t.runs x v);
+  run = t.run;
+  near = t.near;
+  numbered = λ k f e. numbers_grow pairs a step f (t.numbered k f e);
+  crossed = λ k f m e is. still_crossed pairs a step f m l h'.linked (one_way forks bottles plan frames (moved pairs a step) c h') (h'.honest k f e) is (t.crossed k f m e is);
+}
+
+timely_on : tables.EachHasOnePlace → bars.EachHasOnePlace → (plan : PlanValue) (s s' : State) → IsConsistent plan → IsTimely plan s → IsAccepted plan s s' → IsTimely plan s'
+timely_on forks bottles plan s s' c t i = subst (FollowTimely plan s'.frames) (sym (pairs_after plan s s' i))
+    (through_moves plan i.place (FollowTimely plan s'.frames) keeps (pairs_in s) step (record { follows = own; timely = timely_step forks bottles plan s'.frames (pairs_in s) i.place step c t.follows.linked own (timely_made forks bottles plan s s' c t i) }))
+  where
+    step : PairStep
+    step = step_of (s.office i.place) i.event
+
+    own : Follow plan s'.frames (moved (pairs_in s) i.place step)
+    own = own_step_follows plan s s' t.follows i
+
+    keeps : (qs : ℕ → Pairs) (v : ℕ) (o : Option Msg) → follows plan i.place v (qs i.place) ≡ o → FollowTimely plan s'.frames qs → FollowTimely plan s'.frames (moved qs i.place (ByKept v o))
+    keeps qs v o e k =
+        let next : Follow plan s'.frames (moved qs i.place (ByKept v o)) = kept_follows plan s'.frames qs i.place v o e k.follows in
+        record { follows = next; timely = timely_step forks bottles plan s'.frames qs i.place (ByKept v o) c k.follows.linked next k.timely }
+
+timely_at_start : (plan : PlanValue) → AreTimely plan [] (pairs_in (starting plan))
 timely_at_start plan = record { runs = λ a v. refl; run = λ k f e. absurd cc; near = λ k f e. absurd cc; numbered = λ k f e. absurd cc; crossed = λ k f m e is. absurd cc }
 
-pub record IsTimely (plan : PlanValue) (s : State) : Type 0 where
-  pub follows : Follows plan s
-  pub timely : AreTimely plan s
-
 pub timely : tables.EachHasOnePlace → bars.EachHasOnePlace → (plan : PlanValue) (es : List WorldEvent) → IsConsistent plan → IsTimely plan (state_of (run_of (opening plan) es))
-timely forks bottles plan es c = through plan (IsTimely plan) (record { follows = starts plan; timely = timely_at_start plan })
-    (λ s s' h i. let f : Follows plan s' = follows_on plan s s' h.follows i in record { follows = f; timely = timely_on forks bottles plan s s' c h.follows f h.timely i }) es
+timely forks bottles plan es c = through plan (IsTimely plan) (record { follows = starts plan; timely = timely_at_start plan }) (λ s s' t i. timely_on forks bottles plan s s' c t i) es
 
 -- ---- a frame that comes
 
@@ -324,7 +356,7 @@ fine forks bottles plan s c t k f e =
     brought_fine : (m : Msg) → f.msg ≡ Some m → l.receiving.taken < f.number → breach_among (is_shared plan f.to f.from) (held p f.from) l f.count m ≡ false
     brought_fine m is later =
         let way : 1 ≤ count_carrying (thing_of m) (between (pairs_in s) f.from f.to) = goes (pairs_in s) f m t.follows.linked honest is later in
-        let one = each_is_placed forks bottles plan s c t.follows f.to f.from (thing_of m) in
+        let one = each_is_placed forks bottles plan s.frames (pairs_in s) c t.follows f.to f.from (thing_of m) in
         no_breach (is_shared plan f.to f.from (thing_of m)) (held p f.from (thing_of m)) (waits (thing_of m) (left_by l f.count))
         (true_of (is_shared plan f.to f.from (thing_of m)) (omega (arith, way, one)))
         (false_of (held p f.from (thing_of m)) (omega (arith, way, one, few (is_shared plan f.to f.from (thing_of m)))))
@@ -376,9 +408,9 @@ send_fine o true None x e = not_now x e
 send_fine o true (Some f) x e = absurd cc
 send_fine o false f x e = not_now x e
 
-take_fine : (o : Office) (f : Fields) (y : Option ChannelFault) (x : offices.Refusal) → y ≡ None → unless_faulty o f y ≡ Err x → IsFine (refusal.Office x)
-take_fine o f None x is e = absurd cc
-take_fine o f (Some y) x is e = absurd cc
+take_fine : (plan : PlanValue) (a : ℕ) (o : Office) (f : Fields) (y : Option ChannelFault) (x : offices.Refusal) → y ≡ None → unless_faulty plan a o f y ≡ Err x → IsFine (refusal.Office x)
+take_fine plan a o f None x is e = absurd cc
+take_fine plan a o f (Some y) x is e = absurd cc
 
 pub sent_frames_are_taken : tables.EachHasOnePlace → bars.EachHasOnePlace → Always FramesAreTaken
 sent_frames_are_taken forks bottles plan es c e r is = by e is
@@ -397,7 +429,7 @@ sent_frames_are_taken forks bottles plan es c e r is = by e is
 
     comes : (k : ℕ) (f : Option Fields) → slice_get w.frames k ≡ f → (delivered w f).0 ≡ Err r → IsFine r
     comes k None at is = no_frame is
-    comes k (Some f) at is = of_office f.to (event.Took f) (λ x. take_fine (office_at w f.to) f (frame_fault plan f.to (office_at w f.to).pairs f) x (fine forks bottles plan (state_of w) c (timely forks bottles plan es c) k f at)) is
+    comes k (Some f) at is = of_office f.to (event.Took f) (λ x. take_fine plan f.to (office_at w f.to) f (frame_fault plan f.to (office_at w f.to).pairs f) x (fine forks bottles plan (state_of w) c (timely forks bottles plan es c) k f at)) is
 
     by : (e : WorldEvent) → (happens w e).0 ≡ Err r → IsFine r
     by (happening.Submit a p) is = of_office a (event.Submit p) (λ x. submit_fine (office_at w a) (record { pairs = (office_at w a).pairs; agenda = submitted (office_at w a).agenda p }) (is_ours plan a p) (is_full (office_at w a).agenda) ((office_at w a).agenda.tickets + 1) x) is

@@ -25,13 +25,14 @@ use Rattle.drinking_core.specs.Drinkers as bottles
 use Rattle.drinking_core.specs.Worlds as bars
 use Rattle.frame_codec.specs.declared.message.Msg.{Msg}
 use Rattle.frame_codec.specs.declared.message.Msg.TheVariants as msg
+use Rattle.frame_codec.specs.Frame.{Fields}
 use Rattle.site_core.specs.declared.session.Session.{Session}
 use Rattle.site_core.specs.declared.rule.Rule.{Rule}
 use Rattle.site_core.specs.declared.rule.Rule.TheVariants as rule
 use Rattle.site_core.specs.declared.event.Event as office
 use Rattle.site_core.specs.declared.event.Event.TheVariants as event
 use Rattle.site_core.specs.declared.reply.Reply.{Reply}
-use Rattle.site_core.specs.Pairs.{arrival_of}
+use Rattle.site_core.specs.Pairs.{Pairs, arrival_of, follows}
 use Rattle.site_core.specs.Agenda.{Agenda, Current, Idle, Gathering, Working, first_needs, started, begun, worked, writes_of}
 use Rattle.site_core.specs.Offices.{Office, may, act, value_in, answer}
 use Rattle.site_core.proofs.PlanFacts.{end_within}
@@ -40,10 +41,10 @@ use Rattle.frame_world.specs.Worlds.{Finished, opening, run_of, ended_as, ended,
 use Rattle.frame_world.specs.Ways.{bars_of}
 use Rattle.frame_world.specs.refinement.PartsLaws.{PartsLaws}
 use Rattle.frame_world.proofs.Steps.{State, state_of, starting, after_reply, IsAccepted, through}
-use Rattle.frame_world.proofs.Answers.{rule_step, step_of, was_submitted, was_done, was_sent, was_taken}
+use Rattle.frame_world.proofs.Answers.{ByFrame, ByKept, rule_step, step_of, all_after, rule_alone, was_submitted, was_done, was_sent, was_taken}
 use Rattle.frame_world.proofs.OneLink.{brought}
 use Rattle.frame_world.proofs.BarsFollow.{bottle_coming, bottle_event, bars_then}
-use Rattle.frame_world.proofs.Following.{pairs_in, Follows, pairs_after, moves_on, follows_on, starts}
+use Rattle.frame_world.proofs.Following.{pairs_in, through_moves, moved, Follow, Follows, pairs_after, kept_moves, kept_follows, own_step_follows, moves_on, follows_on, starts}
 use Rattle.frame_world.proofs.PlacesAndForks.{all_at}
 use Rattle.frame_world.proofs.Sessions.{IsCurrent, IsAtWork, IsSane, needs, sane_on, sane_at_start, agree_reads, needs_are_ours, not_true}
 use Rattle.frame_world.proofs.SerialRun as serial
@@ -93,11 +94,15 @@ nothing_ends a u (Some msg.Fork) = tt
 nothing_ends a u (Some (msg.AskBottle r)) = λ plan w. refl
 nothing_ends a u (Some (msg.Bottle r x)) = λ plan w. refl
 
+-- each bottle keeps its value
+abbrev KeepValues : (ℕ → Pairs) → (ℕ → Pairs) → Type 0
+KeepValues pairs pairs' = (r : ℕ) (v : Value) → bars.HasValue (bars_of pairs) r v → bars.HasValue (bars_of pairs') r v
+
 -- the world goes on, where nothing finished and an office's sessions stay in order
-goes_on : (plan : PlanValue) (s s' : State) (a : ℕ) (e : office.Event) (r : Reply) (o : Office) (ev : Option bars.Event) → bars.ValuesStay → s' ≡ after_reply s a e r o → finished_by a (s.office a).agenda.current e ≡ [] →
-    ((n : ℕ) → HasTickets a n (s.office a).agenda → HasTickets a n o.agenda) → IsNoEnd ev → bars_of (pairs_in s') ≡ bars_then plan (bars_of (pairs_in s)) ev → IsSerial plan s → IsSerial plan s'
-goes_on plan s s' a e r o ev law led none tickets no_end bar_is h = record {
-  values = λ q lt. subst (λ fs. bars.HasValue (bars_of (pairs_in s')) q (values_after plan fs q)) (sym same) (values_stay plan (bars_of (pairs_in s)) (bars_of (pairs_in s')) ev q (values_after plan s.finished q) law no_end bar_is (h.values q lt));
+goes_on : (plan : PlanValue) (s s' : State) (a : ℕ) (e : office.Event) (r : Reply) (o : Office) → s' ≡ after_reply s a e r o → finished_by a (s.office a).agenda.current e ≡ [] →
+    ((n : ℕ) → HasTickets a n (s.office a).agenda → HasTickets a n o.agenda) → KeepValues (pairs_in s) (pairs_in s') → IsSerial plan s → IsSerial plan s'
+goes_on plan s s' a e r o led none tickets stay h = record {
+  values = λ q lt. subst (λ fs. bars.HasValue (bars_of (pairs_in s')) q (values_after plan fs q)) (sym same) (stay q (values_after plan s.finished q) (h.values q lt));
   outcomes = subst (λ fs. outcomes_in fs ≡ outcomes_of (start_map plan) (programs_of fs)) (sym same) h.outcomes;
   tickets = λ x. subst (λ fs. HasTickets x (serial.count_at x (programs_of fs)) (s'.office x).agenda) (sym same)
       (subst (λ (f : ℕ → Office). HasTickets x (serial.count_at x (programs_of s.finished)) (f x).agenda) (sym (ap (λ (k : State). k.office) led))
@@ -272,33 +277,67 @@ finishes_one plan s s' a (Working x reads done) laws inside h current is may off
         ends_session plan s s' a x reads done e (act a (s.office a) rule.Finish) laws h current (is_next plan s a x reads done e h is is_o) offices fin (refl, refl, refl)
         (ap (λ b. b && bottles.may (pairs_in s a).drinker (bottles.Finish (Some e.writes))) inside ∙ may) bar_is
 
+-- a frame's message and those that follow it leave each bottle its value
+record StayInPlace (plan : PlanValue) (s s' : State) (pairs : ℕ → Pairs) : Type 0 where
+  follow : Follow plan s'.frames pairs
+  values : KeepValues (pairs_in s) pairs
+
+frame_keeps_values : (plan : PlanValue) (s s' : State) (f : Fields) → PartsLaws → Follows plan s → (i : IsAccepted plan s s') → step_of (s.office i.place) i.event ≡ ByFrame f → KeepValues (pairs_in s) (pairs_in s')
+frame_keeps_values plan s s' f laws h i is = subst (KeepValues (pairs_in s)) (sym (pairs_after plan s s' i)) all.values
+  where
+    own_event : IsNoEnd (bottle_event i.place (pairs_in s i.place) (step_of (s.office i.place) i.event))
+    own_event = subst (λ k. IsNoEnd (bottle_event i.place (pairs_in s i.place) k)) (sym is) (nothing_ends i.place f.from (brought (arrival_of (pairs_in s i.place) f)))
+
+    own : StayInPlace plan s s' (moved (pairs_in s) i.place (step_of (s.office i.place) i.event))
+    own = record {
+      follow = own_step_follows plan s s' h i;
+      values = λ r v has. values_stay plan (bars_of (pairs_in s)) (bars_of (moved (pairs_in s) i.place (step_of (s.office i.place) i.event))) (bottle_event i.place (pairs_in s i.place) (step_of (s.office i.place) i.event)) r v laws.stay own_event (moves_on plan s s' i h).bars has;
+    }
+
+    keeps : (qs : ℕ → Pairs) (v : ℕ) (o : Option Msg) → follows plan i.place v (qs i.place) ≡ o → StayInPlace plan s s' qs → StayInPlace plan s s' (moved qs i.place (ByKept v o))
+    keeps qs v o e k = record {
+      follow = kept_follows plan s'.frames qs i.place v o e k.follow;
+      values = λ r x has. values_stay plan (bars_of qs) (bars_of (moved qs i.place (ByKept v o))) (bottle_coming i.place v o) r x laws.stay (nothing_ends i.place v o) (kept_moves plan qs i.place v o k.follow.linked e).bars (k.values r x has);
+    }
+
+    all : StayInPlace plan s s' (put (pairs_in s) i.place (all_after plan i.place (pairs_in s i.place) (step_of (s.office i.place) i.event)))
+    all = through_moves plan i.place (StayInPlace plan s s') keeps (pairs_in s) (step_of (s.office i.place) i.event) own
+
+-- what the event leaves, and what its own step is to the bars
+abbrev LeavesPairs : PlanValue → State → State → ℕ → office.Event → Type 0
+LeavesPairs plan s s' a e = pairs_in s' ≡ put (pairs_in s) a (all_after plan a (pairs_in s a) (step_of (s.office a) e))
+
+abbrev StepsBars : PlanValue → State → ℕ → office.Event → Type 0
+StepsBars plan s a e = bars_of (moved (pairs_in s) a (step_of (s.office a) e)) ≡ bars_then plan (bars_of (pairs_in s)) (bottle_event a (pairs_in s a) (step_of (s.office a) e))
+
 -- of any accepted event
 serial_on : (plan : PlanValue) (s s' : State) → PartsLaws → IsKept plan s → IsAccepted plan s s' → IsSerial plan s'
-serial_on plan s s' laws k i = by i.event i.answered i.led (ap bars_of (pairs_after plan s s' i) ∙ (moves_on plan s s' i k.follows).bars)
+serial_on plan s s' laws k i = by i.event refl i.answered i.led (pairs_after plan s s' i) (moves_on plan s s' i k.follows).bars
   where
-    a : ℕ
-    a = i.place
-
-    by : (e : office.Event) → answer plan i.place (s.office i.place) e ≡ Ok (i.reply, i.new) → s' ≡ after_reply s i.place e i.reply i.new → bars_of (pairs_in s') ≡ bars_then plan (bars_of (pairs_in s)) (bottle_event i.place (pairs_in s i.place) (step_of (s.office i.place) e)) → IsSerial plan s'
-    by (event.Submit p) ans led bar_is =
+    by : (e : office.Event) → i.event ≡ e → answer plan i.place (s.office i.place) e ≡ Ok (i.reply, i.new) → s' ≡ after_reply s i.place e i.reply i.new → LeavesPairs plan s s' i.place e → StepsBars plan s i.place e → IsSerial plan s'
+    by (event.Submit p) is ans led left bar_is =
         let t = was_submitted plan i.place (s.office i.place) p i.reply i.new ans in
-        goes_on plan s s' i.place (event.Submit p) i.reply i.new None laws.stay led refl
+        goes_on plan s s' i.place (event.Submit p) i.reply i.new led refl
         (λ n h. subst (λ (o : Office). HasTickets i.place n o.agenda) (sym t.after)
         (subst (λ l. serial.Ticketed i.place n l ((s.office i.place).agenda.tickets + 1)) (append_assoc (at_hand (s.office i.place).agenda.current) (s.office i.place).agenda.queue (record { ticket = (s.office i.place).agenda.tickets + 1; program = p } ∷ []))
         (serial.one_ticket_more i.place n (s.office i.place).agenda.tickets (sessions_in (s.office i.place).agenda) p (eqb-true p.office i.place (and_parts (p.office == i.place) _ t.ours).0) h)))
-        tt bar_is k.serial
-    by (event.Send v j) ans led bar_is =
+        (λ r v. values_stay plan (bars_of (pairs_in s)) (bars_of (pairs_in s')) None r v laws.stay tt (ap bars_of left ∙ bar_is)) k.serial
+    by (event.Send v j) is ans led left bar_is =
         let t = was_sent plan i.place (s.office i.place) v j i.reply i.new ans in
-        goes_on plan s s' i.place (event.Send v j) i.reply i.new None laws.stay led refl (λ n h. subst (λ (o : Office). HasTickets i.place n o.agenda) (sym t.after) h) tt bar_is k.serial
-    by (event.Took f) ans led bar_is =
+        goes_on plan s s' i.place (event.Send v j) i.reply i.new led refl (λ n h. subst (λ (o : Office). HasTickets i.place n o.agenda) (sym t.after) h)
+        (λ r x. values_stay plan (bars_of (pairs_in s)) (bars_of (pairs_in s')) None r x laws.stay tt (ap bars_of left ∙ bar_is)) k.serial
+    by (event.Took f) is ans led left bar_is =
         let t = was_taken plan i.place (s.office i.place) f i.reply i.new ans in
-        goes_on plan s s' i.place (event.Took f) i.reply i.new (bottle_coming i.place f.from (brought (arrival_of (pairs_in s i.place) f))) laws.stay led refl
-        (λ n h. subst (λ (o : Office). HasTickets i.place n o.agenda) (sym t.after) h) (nothing_ends i.place f.from (brought (arrival_of (pairs_in s i.place) f))) bar_is k.serial
-    by (event.Do r) ans led bar_is = of r (was_done plan i.place (s.office i.place) r i.reply i.new ans).guard (was_done plan i.place (s.office i.place) r i.reply i.new ans).after led bar_is
+        goes_on plan s s' i.place (event.Took f) i.reply i.new led refl
+        (λ n h. subst (λ (o : Office). HasTickets i.place n o.agenda) (sym t.after) h) (frame_keeps_values plan s s' f laws k.follows i (ap (step_of (s.office i.place)) is)) k.serial
+    by (event.Do r) is ans led left bar_is =
+        let d = was_done plan i.place (s.office i.place) r i.reply i.new ans in
+        of r d.guard d.after led (ap bars_of (left ∙ ap (put (pairs_in s) i.place) (rule_alone plan i.place (s.office i.place) r)) ∙ bar_is)
       where
         quiet : (r : Rule) (ev : Option bars.Event) → i.new ≡ act i.place (s.office i.place) r → s' ≡ after_reply s i.place (event.Do r) i.reply i.new → finished_by i.place (s.office i.place).agenda.current (event.Do r) ≡ [] →
             ((n : ℕ) → HasTickets i.place n (s.office i.place).agenda → HasTickets i.place n (act i.place (s.office i.place) r).agenda) → IsNoEnd ev → bars_of (pairs_in s') ≡ bars_then plan (bars_of (pairs_in s)) ev → IsSerial plan s'
-        quiet r ev after led none tickets no_end bar_is = goes_on plan s s' i.place (event.Do r) i.reply i.new ev laws.stay led none (λ n h. subst (λ (o : Office). HasTickets i.place n o.agenda) (sym after) (tickets n h)) no_end bar_is k.serial
+        quiet r ev after led none tickets no_end bar_is = goes_on plan s s' i.place (event.Do r) i.reply i.new led none (λ n h. subst (λ (o : Office). HasTickets i.place n o.agenda) (sym after) (tickets n h))
+            (λ q x. values_stay plan (bars_of (pairs_in s)) (bars_of (pairs_in s')) ev q x laws.stay no_end bar_is) k.serial
 
         of : (r : Rule) → may plan i.place (s.office i.place) r ≡ true → i.new ≡ act i.place (s.office i.place) r → s' ≡ after_reply s i.place (event.Do r) i.reply i.new → bars_of (pairs_in s') ≡ bars_then plan (bars_of (pairs_in s)) (bottle_event i.place (pairs_in s i.place) (rule_step (s.office i.place) r)) → IsSerial plan s'
         of rule.Start g after led b = quiet rule.Start (Some (bars.Do i.place (bottles.Start (first_needs (s.office i.place).agenda.queue)))) after led refl (λ n h. started_tickets plan i.place n (s.office i.place).agenda (s.office i.place).agenda.queue (pairs_in s i.place).drinker refl g (k.sane i.place).current h) (λ p w. refl) b
@@ -320,7 +359,7 @@ kept_on plan laws s s' k i = record {
   follows = follows_on plan s s' k.follows i;
   sane = λ x. subst (λ (f : ℕ → Office). IsSane plan x (f x)) (sym (ap (λ (y : State). y.office) i.led))
       (put_cases s.office i.place i.new x (λ (o : Office). IsSane plan x o)
-      (λ e. subst (λ y. IsSane plan y i.new) (sym e) (sane_on plan i.place (s.office i.place) i.event i.reply i.new laws.away (bar_records plan s i.place laws.records k.follows) (bar_peers plan s i.place laws.peers k.follows) i.answered (k.sane i.place)))
+      (λ e. subst (λ y. IsSane plan y i.new) (sym e) (sane_on plan i.place (s.office i.place) i.event i.reply i.new laws.away laws.away_kept (bar_records plan s i.place laws.records k.follows) (bar_peers plan s i.place laws.peers k.follows) i.answered (k.sane i.place)))
       (λ ne. k.sane x));
   serial = serial_on plan s s' laws k i;
 }

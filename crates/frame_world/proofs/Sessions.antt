@@ -9,6 +9,7 @@ use Rattle.bottle_values.specs.Arithmetic.{nought}
 use Rattle.bottle_values.specs.Lists.{is_among}
 use Rattle.bottle_values.specs.Maps.{reads_of}
 use Rattle.bottle_values.proofs.Maps.{put_other}
+use Rattle.frame_codec.specs.declared.message.Msg.{Msg}
 use Rattle.frame_codec.specs.declared.message.Msg.TheVariants as msg
 use Rattle.frame_codec.specs.Frame.{Fields}
 use Rattle.office_map.specs.PlanValue.{PlanValue, is_end, has_ends, peer, records_of}
@@ -19,7 +20,7 @@ use Rattle.session_language.specs.Program.{fits}
 use Rattle.window_link.specs.declared.arrival.Arrival.{Arrival}
 use Rattle.window_link.specs.declared.arrival.Arrival.TheVariants as arrival
 use Rattle.token_channel.specs.Ends.{is_shared}
-use Rattle.token_channel.specs.Channels.{WhatComesWasAway}
+use Rattle.token_channel.specs.Channels.{WhatComesWasAway, WhatFollowsWasAway}
 use Rattle.drinking_core.specs.declared.phase.Phase.{Phase}
 use Rattle.drinking_core.specs.declared.phase.Phase.TheVariants.{Tranquil, Thirsty, Drinking}
 use Rattle.drinking_core.specs.Drinkers.{Drinker, is_drinking, is_thirsty, holds, is_served}
@@ -30,11 +31,12 @@ use Rattle.site_core.specs.declared.rule.Rule.TheVariants as rule
 use Rattle.site_core.specs.declared.event.Event as office
 use Rattle.site_core.specs.declared.event.Event.TheVariants as event
 use Rattle.site_core.specs.declared.reply.Reply.{Reply}
-use Rattle.site_core.specs.Pairs.{Pairs, held, frame_fault, arrival_of, drinker_after}
+use Rattle.site_core.specs.Pairs.{Pairs, held, frame_fault, arrival_of, drinker_after, after_frame, follows, as_arrival, after_kept, after_taking}
 use Rattle.site_core.specs.Agenda.{Current, Idle, Gathering, Working, is_working, first_needs, started, begun, worked, writes_of}
 use Rattle.site_core.specs.Offices.{Office, opened, may, act, is_ours, value_in, answer}
 use Rattle.site_core.proofs.PlanFacts.{among_records}
-use Rattle.site_core.proofs.FramesComing.{passed}
+use Rattle.site_core.proofs.FramesComing.{passed, same_records}
+use Rattle.site_core.proofs.KeptMessages.{through_taking}
 use Rattle.frame_world.specs.Headline.{HasItsBottles}
 use Rattle.frame_world.proofs.Answers.{was_submitted, was_done, was_sent, was_taken}
 use Rattle.frame_world.proofs.PlacesAndForks.{all_at}
@@ -199,24 +201,56 @@ came_current plan a c d (arrival.Fresh (msg.Bottle r x)) away h = same_current p
     there s reads done is q i = let w : IsAtWork plan a s reads d = subst (λ k. IsCurrent plan a k d) is h in all_at (holds d) (needs s) q w.held i
 came_current plan a c d arrival.Acked away h = h
 came_current plan a c d arrival.Repeat away h = h
+came_current plan a c d arrival.Kept away h = h
 came_current plan a c d arrival.Early away h = h
+
+-- nor was one here that follows
+follows_new : (plan : PlanValue) (a v : ℕ) (p : Pairs) (r : ℕ) (x : Value) → WhatFollowsWasAway → ((q : ℕ) → p.drinker.peer q ≡ peer plan a q) → follows plan a v p ≡ Some (msg.Bottle r x) → holds p.drinker r ≡ false
+follows_new plan a v p r x away peers e =
+    let new : (has_ends plan r a v ≡ true) × (((p.drinker.peer r == v) && is_some (p.drinker.bottle r)) ≡ false) = away (is_shared plan a v) (held p v) (p.link v) (msg.Bottle r x) e in
+    ap (λ b. b && is_some (p.drinker.bottle r)) (sym (eq-eqb (p.drinker.peer r) v (peers r ∙ peer_is plan r a v new.0))) ∙ new.1
+
+-- the current session at a bar with the plan's other ends
+record IsCurrentAt (plan : PlanValue) (a : ℕ) (c : Current) (p : Pairs) : Type 0 where
+  current : IsCurrent plan a c p.drinker
+  peers : (q : ℕ) → p.drinker.peer q ≡ peer plan a q
+
+frame_current : (plan : PlanValue) (a : ℕ) (c : Current) (p : Pairs) (f : Fields) → WhatComesWasAway → frame_fault plan a p f ≡ None → IsCurrentAt plan a c p → IsCurrentAt plan a c (after_frame p f)
+frame_current plan a c p f away fine h = record {
+  current = came_current plan a c p.drinker (arrival_of p f) (λ q x e. came_new plan a p f q x away h.peers fine e) h.current;
+  peers = λ q. ap (λ (g : ℕ → ℕ). g q) (same_records p.drinker (arrival_of p f)).1 ∙ h.peers q;
+}
+
+kept_current : (plan : PlanValue) (a v : ℕ) (c : Current) (p : Pairs) → WhatFollowsWasAway → IsCurrentAt plan a c p → IsCurrentAt plan a c (after_kept plan a v p)
+kept_current plan a v c p away h = record {
+  current = came_current plan a c p.drinker (as_arrival (follows plan a v p)) (λ q x e. follows_new plan a v p q x away h.peers (message (follows plan a v p) (msg.Bottle q x) e)) h.current;
+  peers = λ q. ap (λ (g : ℕ → ℕ). g q) (same_records p.drinker (as_arrival (follows plan a v p))).1 ∙ h.peers q;
+}
+  where
+    message : (o : Option Msg) (m : Msg) → as_arrival o ≡ arrival.Fresh m → o ≡ Some m
+    message None m e = absurd cc
+    message (Some n) m e = let same : n ≡ m = cc in ap Some same
+
+-- what a frame brings, and what follows it
+taken_current : (plan : PlanValue) (a : ℕ) (c : Current) (p : Pairs) (f : Fields) → WhatComesWasAway → WhatFollowsWasAway → frame_fault plan a p f ≡ None → IsCurrentAt plan a c p → IsCurrentAt plan a c (after_taking plan a p f)
+taken_current plan a c p f comes goes_on fine h = through_taking plan a (IsCurrentAt plan a c) f (λ q k. kept_current plan a f.from c q goes_on k) p (frame_current plan a c p f comes fine h)
 
 -- ---- any event
 
-pub sane_on : (plan : PlanValue) (a : ℕ) (o : Office) (e : office.Event) (r : Reply) (o' : Office) → WhatComesWasAway → (drinker_of o).records ≡ records_of plan a → ((q : ℕ) → (drinker_of o).peer q ≡ peer plan a q) → answer plan a o e ≡ Ok (r, o') → IsSane plan a o → IsSane plan a o'
-sane_on plan a o (event.Submit p) r o' away own peers ans h =
+pub sane_on : (plan : PlanValue) (a : ℕ) (o : Office) (e : office.Event) (r : Reply) (o' : Office) → WhatComesWasAway → WhatFollowsWasAway → (drinker_of o).records ≡ records_of plan a → ((q : ℕ) → (drinker_of o).peer q ≡ peer plan a q) → answer plan a o e ≡ Ok (r, o') → IsSane plan a o → IsSane plan a o'
+sane_on plan a o (event.Submit p) r o' away goes_on own peers ans h =
     let t = was_submitted plan a o p r o' ans in
     subst (IsSane plan a) (sym t.after) (record { current = h.current; queue = All-append (λ (s : Session). is_ours plan a s.program ≡ true) o.agenda.queue (new p ∷ []) h.queue (All-cons (λ (s : Session). is_ours plan a s.program ≡ true) (new p) [] t.ours (λ i d lt. absurd (omega (arith, lt)))) })
   where
     new : ProgramValue → Session
     new p = record { ticket = o.agenda.tickets + 1; program = p }
-sane_on plan a o (event.Do rule) r o' away own peers ans h =
+sane_on plan a o (event.Do rule) r o' away goes_on own peers ans h =
     let d = was_done plan a o rule r o' ans in
     subst (IsSane plan a) (sym d.after) (rule_sane plan a o rule own d.guard h)
-sane_on plan a o (event.Send v i) r o' away own peers ans h = subst (IsSane plan a) (sym (was_sent plan a o v i r o' ans).after) h
-sane_on plan a o (event.Took f) r o' away own peers ans h =
+sane_on plan a o (event.Send v i) r o' away goes_on own peers ans h = subst (IsSane plan a) (sym (was_sent plan a o v i r o' ans).after) h
+sane_on plan a o (event.Took f) r o' away goes_on own peers ans h =
     let t = was_taken plan a o f r o' ans in
-    subst (IsSane plan a) (sym t.after) (record { current = came_current plan a o.agenda.current (drinker_of o) (arrival_of o.pairs f) (λ q x e. came_new plan a o.pairs f q x away peers t.fine e) h.current; queue = h.queue })
+    subst (IsSane plan a) (sym t.after) (record { current = (taken_current plan a o.agenda.current o.pairs f away goes_on t.fine (record { current = h.current; peers = peers })).current; queue = h.queue })
 
 pub sane_at_start : (plan : PlanValue) (a : ℕ) → IsSane plan a (opened plan a)
 sane_at_start plan a = record { current = refl; queue = λ i d lt. absurd (omega (arith, lt)) }

@@ -20,9 +20,9 @@ use Rattle.dining_core.specs.Worlds.{with_way, one_more}
 use Rattle.dining_core.specs.Worlds as tables
 use Rattle.drinking_core.specs.Drinkers.{Drinker, BottleRule}
 use Rattle.drinking_core.specs.Drinkers as bottles
-use Rattle.site_core.specs.Pairs.{Pairs, bottle_sends, bottle_message, arrival_of, fork_came, diner_after}
+use Rattle.site_core.specs.Pairs.{Pairs, bottle_sends, bottle_message, arrival_of, as_arrival, fork_came, diner_after}
 use Rattle.frame_world.specs.Ways.{between, tables_of}
-use Rattle.frame_world.proofs.Answers.{PairStep, Stays, ByFork, ByBottle, ByFrame, pair_after}
+use Rattle.frame_world.proofs.Answers.{PairStep, Stays, ByFork, ByBottle, ByFrame, ByKept, pair_after}
 use Rattle.frame_world.proofs.OneLink.{brought}
 use Rattle.frame_world.proofs.Links.{Goes, Comes, sends_of}
 use Rattle.frame_world.proofs.WaysBetween.{measured, unmeasured, count_append, nothing_sent, one_sent, nothing_came, one_came}
@@ -40,6 +40,7 @@ fork_event a p Stays = None
 fork_event a p (ByFork rule) = Some (tables.Do a rule)
 fork_event a p (ByBottle rule) = None
 fork_event a p (ByFrame f) = fork_coming a f.from (brought (arrival_of p f))
+fork_event a p (ByKept v o) = fork_coming a v o
 
 abbrev pub tables_then : PlanValue → tables.World → Option tables.Event → tables.World
 tables_then plan w None = w
@@ -157,7 +158,12 @@ pub diner_after_is : (d : Diner) (u : ℕ) (a : Arrival) → diner_after d u a �
 diner_after_is d u (arrival.Fresh m) = refl
 diner_after_is d u arrival.Acked = refl
 diner_after_is d u arrival.Repeat = refl
+diner_after_is d u arrival.Kept = refl
 diner_after_is d u arrival.Early = refl
+
+diner_then_is : (d : Diner) (u : ℕ) (o : Option Msg) → diner_after d u (as_arrival o) ≡ diner_with d u o
+diner_then_is d u None = refl
+diner_then_is d u (Some m) = refl
 
 by_message : (plan : PlanValue) (pairs : ℕ → Pairs) (u a : ℕ) (p' : Pairs) (m : Option Msg) → Comes pairs u a m (put pairs a p') → p'.diner ≡ diner_with (pairs a).diner u m → tables_of (put pairs a p') ≡ tables_then plan (tables_of pairs) (fork_coming a u m)
 by_message plan pairs u a p' None c e =
@@ -184,3 +190,7 @@ bottle_row_leaves_tables pairs a rule g = bottle_goes pairs a (pair_after (pairs
 pub frame_is_taken : (plan : PlanValue) (pairs : ℕ → Pairs) (a : ℕ) (f : Fields) → Comes pairs f.from a (brought (arrival_of (pairs a) f)) (put pairs a (pair_after (pairs a) (ByFrame f))) →
     tables_of (put pairs a (pair_after (pairs a) (ByFrame f))) ≡ tables_then plan (tables_of pairs) (fork_event a (pairs a) (ByFrame f))
 frame_is_taken plan pairs a f c = by_message plan pairs f.from a (pair_after (pairs a) (ByFrame f)) (brought (arrival_of (pairs a) f)) c (diner_after_is (pairs a).diner f.from (arrival_of (pairs a) f))
+
+pub kept_is_taken : (plan : PlanValue) (pairs : ℕ → Pairs) (a v : ℕ) (o : Option Msg) → Comes pairs v a o (put pairs a (pair_after (pairs a) (ByKept v o))) →
+    tables_of (put pairs a (pair_after (pairs a) (ByKept v o))) ≡ tables_then plan (tables_of pairs) (fork_event a (pairs a) (ByKept v o))
+kept_is_taken plan pairs a v o c = by_message plan pairs v a (pair_after (pairs a) (ByKept v o)) o c (diner_then_is (pairs a).diner v o)

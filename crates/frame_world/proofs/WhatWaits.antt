@@ -1,5 +1,5 @@
 -- A thing that an office shares with another is held there, or waits there once, or neither: kept by each step of the office.
-use Rattle.std.proofs.Common.{◌≡◌, ℕ, ◌+◌, ◌-◌, ◌≤◌, Bool, true, false, not, cond, Option, None, Some, is_some, refl, sym, ap, ◌∙◌, arith}
+use Rattle.std.proofs.Common.{◌≡◌, ℕ, ◌+◌, ◌-◌, ◌≤◌, Bool, true, false, not, cond, drop, Option, None, Some, is_some, refl, sym, ap, ◌∙◌, arith}
 use Rattle.std.specs.Prelude.{◌==◌, ◌&&◌}
 use Rattle.std.specs.Option.{option_map_or}
 use Rattle.std.proofs.lemmas.Bool.{and_parts, eqb-true, eq-eqb}
@@ -15,23 +15,25 @@ use Rattle.office_map.proofs.RecordEnds.{peer_is}
 use Rattle.window_link.specs.declared.arrival.Arrival.{Arrival}
 use Rattle.window_link.specs.declared.arrival.Arrival.TheVariants as arrival
 use Rattle.window_link.specs.declared.fault.LinkFault.{LinkFault}
+use Rattle.window_link.specs.Windows.{next_kept}
 use Rattle.window_link.specs.Links.{LinkState, fault_of, arrival_at, after_arrival}
 use Rattle.token_channel.specs.declared.thing.Thing.{Thing}
 use Rattle.token_channel.specs.Things.{thing_of, same, count_carrying, hold}
 use Rattle.token_channel.specs.Places.{waits}
 use Rattle.token_channel.specs.Ends.{is_shared, starts_here}
-use Rattle.token_channel.specs.Channels.{breach_among, fault_among, left_by, link_fault_or, next_of}
+use Rattle.token_channel.specs.Channels.{breach_among, fault_among, left_by, link_fault_or, next_of, link_then}
 use Rattle.token_channel.proofs.HeldUpdates.{same_is, count_carrying-push, count_carrying-drop, count_carrying-none}
 use Rattle.token_channel.proofs.ThingsApart.{no_breach}
+use Rattle.token_channel.proofs.FrameArrival.{follows_unbreached}
 use Rattle.dining_core.specs.Diners.{ForkRule}
 use Rattle.dining_core.specs.Diners as forks
 use Rattle.drinking_core.specs.Drinkers.{Drinker, BottleRule, holds}
 use Rattle.drinking_core.specs.Drinkers as bottles
-use Rattle.site_core.specs.Pairs.{Pairs, opened, held, queued_to, sent, bottle_message, after_fork_rule, after_bottle_rule, frame_fault, arrival_of, arrived, after_frame}
+use Rattle.site_core.specs.Pairs.{Pairs, opened, held, queued_to, sent, bottle_message, after_fork_rule, after_bottle_rule, frame_fault, arrival_of, arrived, after_frame, follows, as_arrival}
 use Rattle.site_core.proofs.FramesComing.{passed, same_records}
 use Rattle.site_core.proofs.PairsOpening.{held_at_start}
 use Rattle.site_core.proofs.HeldUpdates.{with_held, IsFrom, after_ask_fork, after_give_fork, after_ask_bottle, after_give_bottle, after_message, like_started, like_drinking, like_finished, like_diner}
-use Rattle.frame_world.proofs.Answers.{PairStep, Stays, ByFork, ByBottle, ByFrame, pair_after, MayStep}
+use Rattle.frame_world.proofs.Answers.{PairStep, Stays, ByFork, ByBottle, ByFrame, ByKept, pair_after, all_after, MayStep, through_all}
 use Rattle.frame_world.proofs.Links.{queued_link}
 use Rattle.frame_world.proofs.OneLink.{Arrives, Brings, BringsNone, arrives, brought}
 
@@ -158,9 +160,9 @@ unbroken (Some fault) b e = absurd cc
 -- what is fresh of a frame that isn't refused is shared, and doesn't wait once the count is used
 fresh_is_apart : (shared held : Thing → Bool) (l : LinkState) (f : Fields) (m : Msg) → fault_among shared held l f ≡ None → arrival_at l f ≡ arrival.Fresh m →
     (shared (thing_of m) ≡ true) × (waits (thing_of m) (left_by l f.count) ≡ false)
-fresh_is_apart shared held l f m fine fresh = of (arrives l.receiving.taken f.number f.msg)
+fresh_is_apart shared held l f m fine fresh = of (arrives l.receiving f.number f.msg)
   where
-    of : Arrives l.receiving.taken f.number f.msg → (shared (thing_of m) ≡ true) × (waits (thing_of m) (left_by l f.count) ≡ false)
+    of : Arrives l.receiving f.number f.msg → (shared (thing_of m) ≡ true) × (waits (thing_of m) (left_by l f.count) ≡ false)
     of (Brings n is next fresh_too one) =
         let same_one : n ≡ m = cc in
         let this : next_of l f ≡ Some m = ap (λ b. cond b f.msg None) (eq-eqb f.number (l.receiving.taken + 1) next) ∙ is ∙ ap Some same_one in
@@ -196,8 +198,19 @@ frame_apart plan a p f fine h = of (arrival_of p f) refl
         let it = fresh_is_apart (is_shared plan a f.from) (held p f.from) l f m (passed plan a p f fine).1 e in
         message_apart plan a f.from p new m less it.0 it.1 h
     of arrival.Acked e = left_apart plan a p (arrived p f.from new arrival.Acked) f.from new refl (λ u t. refl) less h.apart
+    of arrival.Kept e = left_apart plan a p (arrived p f.from new arrival.Kept) f.from new refl (λ u t. refl) less h.apart
     of arrival.Repeat e = left_apart plan a p (arrived p f.from new arrival.Repeat) f.from new refl (λ u t. refl) less h.apart
     of arrival.Early e = left_apart plan a p (arrived p f.from new arrival.Early) f.from new refl (λ u t. refl) less h.apart
+
+-- what follows is no breach, and what is thrown out brings nothing
+kept_apart : (plan : PlanValue) (a v : ℕ) (p : Pairs) (o : Option Msg) → follows plan a v p ≡ o → StandApart plan a p → AreApart plan a (arrived p v (link_then (p.link v) o) (as_arrival o))
+kept_apart plan a v p None e h = left_apart plan a p (arrived p v (link_then (p.link v) None) arrival.Acked) v (link_then (p.link v) None) refl (λ u t. refl) (λ t. omega arith) h.apart
+kept_apart plan a v p (Some m) e h =
+    let l = p.link v in
+    let it = no_breach (is_shared plan a v (thing_of m)) (held p v (thing_of m)) (waits (thing_of m) (left_by l l.sending.acked))
+    (follows_unbreached (breach_among (is_shared plan a v) (held p v) l l.sending.acked) (next_kept l.receiving) m e) in
+    let none : l.sending.acked - l.sending.acked ≡ 0 = omega arith in
+    message_apart plan a v p (link_then l (Some m)) m (λ t. omega arith) it.0 (ap (λ n. waits (thing_of m) (drop n l.sending.waiting)) (sym none) ∙ it.1) h
 
 -- ---- any step
 
@@ -210,18 +223,24 @@ peer_stays p (ByBottle (bottles.GiveBottle r here)) = refl
 peer_stays p (ByBottle bottles.Drink) = refl
 peer_stays p (ByBottle (bottles.Finish writes)) = (like_finished p.drinker writes).peer
 peer_stays p (ByFrame f) = (same_records p.drinker (arrival_of p f)).1
+peer_stays p (ByKept v o) = (same_records p.drinker (as_arrival o)).1
 
 step_apart : (plan : PlanValue) (a : ℕ) (p : Pairs) (step : PairStep) → MayStep plan a p step → StandApart plan a p → AreApart plan a (pair_after p step)
 step_apart plan a p Stays may h = h.apart
 step_apart plan a p (ByFork rule) may h = fork_apart plan a p rule may h.apart
 step_apart plan a p (ByBottle rule) may h = bottle_apart plan a p rule may h.apart
 step_apart plan a p (ByFrame f) may h = frame_apart plan a p f may h
+step_apart plan a p (ByKept v o) may h = kept_apart plan a v p o may h
 
-pub still_apart : (plan : PlanValue) (a : ℕ) (p : Pairs) (step : PairStep) → MayStep plan a p step → StandApart plan a p → StandApart plan a (pair_after p step)
-still_apart plan a p step may h = record {
+step_stands : (plan : PlanValue) (a : ℕ) (p : Pairs) (step : PairStep) → MayStep plan a p step → StandApart plan a p → StandApart plan a (pair_after p step)
+step_stands plan a p step may h = record {
   peers = λ r. ap (λ (f : ℕ → ℕ). f r) (peer_stays p step) ∙ h.peers r;
   apart = step_apart plan a p step may h;
 }
+
+-- and what follows it
+pub still_apart : (plan : PlanValue) (a : ℕ) (p : Pairs) (step : PairStep) → MayStep plan a p step → StandApart plan a p → StandApart plan a (all_after plan a p step)
+still_apart plan a p step may h = through_all plan a (StandApart plan a) (λ q v o e k. step_stands plan a q (ByKept v o) e k) p step (step_stands plan a p step may h)
 
 -- ---- at the start
 

@@ -1,5 +1,5 @@
 -- What holds of every world that a list of events leads to, good events or refused.
-use Rattle.std.specs.Prelude.{◌≡◌, ◌<◌, ◌≤◌, ℕ, Bool, true, false, ◌&&◌, List, [], ◌∷◌, ◌++◌, length, map, slice_get, Some, Result, Err, All}
+use Rattle.std.specs.Prelude.{◌≡◌, ◌≢◌, ◌<◌, ◌≤◌, ℕ, Bool, true, false, ◌&&◌, List, [], ◌∷◌, ◌++◌, length, map, slice_get, Some, Result, Ok, Err, All}
 use Rattle.std.specs.List.{list_all}
 use Rattle.bottle_values.specs.declared.Value.{Value}
 use Rattle.bottle_values.specs.Lists.{num}
@@ -22,6 +22,7 @@ use Rattle.site_core.specs.declared.session.Session.{Session}
 use Rattle.site_core.specs.declared.event.Event.TheVariants as event
 use Rattle.site_core.specs.declared.event.Entry.{Entry}
 use Rattle.site_core.specs.declared.reply.Reply.{Reply}
+use Rattle.site_core.specs.declared.reply.Reply.TheVariants as reply
 use Rattle.site_core.specs.declared.reply.Refusal as offices
 use Rattle.site_core.specs.declared.reply.Refusal.TheVariants as refused
 use Rattle.site_core.specs.Agenda.{Working, is_working}
@@ -87,6 +88,10 @@ is_fault refusal.NoFrame = false
 -- a frame that was sent isn't refused for what it says: whatever is refused, it is no frame's fault
 abbrev pub FramesAreTaken : World → Type 0
 FramesAreTaken w = (e : WorldEvent) (r : WorldRefusal) → (happens w e).0 ≡ Err r → is_fault r ≡ false
+
+-- and no event is answered that a frame comes too early
+abbrev pub NoneIsEarly : World → Type 0
+NoneIsEarly w = (e : WorldEvent) (r : Reply) → (happens w e).0 ≡ Ok r → r ≢ reply.Early
 
 -- The frame goes on a wire: it has bytes that spell it, and no others do; these spell no other frame; and whichever office
 -- gets them takes this frame.

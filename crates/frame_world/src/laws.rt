@@ -1,6 +1,6 @@
 //! The headline, over definitions: what holds of every world that a list of events leads to.
 
-ghost use Rattle.frame_world.specs.Headline.{Always, HasSerialSessions, HasSerialValues, HasOnePlaceEach, NeighboursEatApart, EatersHaveTheirForks, DrinkersHaveTheirBottles, FramesAreTaken, CountsAreTimely, PrecedenceHasNoRing, FramesInRangeGoByBytes};
+ghost use Rattle.frame_world.specs.Headline.{Always, HasSerialSessions, HasSerialValues, HasOnePlaceEach, NeighboursEatApart, EatersHaveTheirForks, DrinkersHaveTheirBottles, FramesAreTaken, NoneIsEarly, CountsAreTimely, PrecedenceHasNoRing, FramesInRangeGoByBytes};
 ghost use Rattle.frame_world.specs.Waiting.{EachIsHeldOrWaits, FewMessagesWait, NoFrameIsFarAhead};
 ghost use Rattle.frame_world.specs.refinement.PartsLaws.{PartsLaws};
 
@@ -9,7 +9,7 @@ use drinking_core::laws as bars;
 use frame_codec::laws::each_spelling_is_of_one_frame;
 use session_meaning::laws::writes_what_it_has;
 use site_core::laws::links_only_grow;
-use token_channel::laws::{opens_as_the_plan_starts, what_comes_was_away};
+use token_channel::laws::{opens_as_the_plan_starts, what_comes_was_away, what_follows_was_away};
 
 /// The finished sessions read, gave and wrote what they do when they run alone, one after another in finishing order.
 pub fn sessions_are_serial()
@@ -110,11 +110,20 @@ pub fn no_frame_is_far_ahead()
     bars::each_has_one_place();
 }
 
+/// No event is answered that a frame comes too early: the addressee of each frame that was ever sent has a place for its
+/// message, or had it before.
+pub fn none_is_early()
+    ensures { Always NoneIsEarly }
+{
+    no_frame_is_far_ahead();
+}
+
 /// What the parts promise by themselves.
 fn parts_hold()
     ensures { PartsLaws }
 {
     what_comes_was_away();
+    what_follows_was_away();
     writes_what_it_has();
     bars::records_stay();
     bars::peers_stay();
