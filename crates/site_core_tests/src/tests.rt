@@ -110,8 +110,9 @@ static ROWS: [(&str, &str, &[Step], &str); 6] = [
             Step(What::Send, A, 4),
             Step(What::Send, A, 0),
             Step(What::Deliver, 0, 5),
+            Step(What::GiveBottle, B, 2),
         ],
-        "ticket 1; done; done; done; done; frame 1 0; frame 2 0; frame 3 0; kept; taken; taken; frame 3 0; repeat; repeat; refused O1 NotNow; frame 0 0; acked; ",
+        "ticket 1; done; done; done; done; frame 1 0; frame 2 0; frame 3 0; kept; taken; taken; frame 3 0; repeat; repeat; refused O1 NotNow; frame 0 0; acked; done; ",
     ),
     (
         PAIR,
@@ -490,4 +491,23 @@ fn give_a_bottle<R: Abort>(rt: &R, office: &mut Office) {
         .waiting_value(RecordId::new(r))
         .map(|(n, v)| (n, v.number)));
     assert_eq!(rt; waiting, [Some((2, 100)), None]);
+}
+
+/// A fork is kept though the office has it; by its turn it would be a breach, and is thrown out.
+#[test]
+fn a_fork_that_was_kept_is_thrown_out(rt: HostRuntime) -> Result<(), Fail> {
+    let alloc = rt.alloc();
+    let plan = Plan::read(alloc, PAIR.as_bytes())?;
+    let mut offices = opened(alloc, &plan)?;
+    let Some(office) = offices.get_mut(A) else {
+        return Err(Fail::from("an office"));
+    };
+    let fork = Event::Took(Frame::data(42, 1, 0, 2, 0, Msg::Fork));
+    let token = Event::Took(Frame::data(42, 1, 0, 1, 0, Msg::AskFork));
+    assert_eq!(rt; hand_in(office, 0, &fork), Ok(Reply::Kept));
+    assert_eq!(rt; hand_in(office, 0, &token), Ok(Reply::Taken));
+    assert_eq!(rt; office.taken(OfficeId::new(1)), Some(1));
+    let refused = Err(Refusal::Channel(ChannelFault::Breach));
+    assert_eq!(rt; hand_in(office, 0, &fork), refused);
+    Ok(())
 }
