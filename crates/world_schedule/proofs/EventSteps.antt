@@ -59,12 +59,13 @@ arrival_tells : (a : Arrival) → frames_of (reply_to a) ≡ []
 arrival_tells arrival.Acked = refl
 arrival_tells (arrival.Fresh m) = refl
 arrival_tells arrival.Repeat = refl
+arrival_tells arrival.Kept = refl
 arrival_tells arrival.Early = refl
 
 take_tells : (plan : PlanValue) (me : ℕ) (o : Office) (f : Fields) (r : Reply) (o' : Office) → answer plan me o (event.Took f) ≡ Ok (r, o') → frames_of r ≡ []
 take_tells plan me o f r o' h = go (frame_fault plan me o.pairs f) h
   where
-    go : (x : Option ChannelFault) → unless_faulty o f x ≡ Ok (r, o') → frames_of r ≡ []
+    go : (x : Option ChannelFault) → unless_faulty plan me o f x ≡ Ok (r, o') → frames_of r ≡ []
     go None e = sym (ap frames_in e) ∙ arrival_tells (arrival_of o.pairs f)
     go (Some fault) e = absurd cc
 

@@ -30,6 +30,7 @@ use Rattle.site_core.specs.declared.reply.Reply.TheVariants as reply
 use Rattle.site_core.specs.declared.reply.Refusal.TheVariants as refusal
 use Rattle.site_core.specs.Pairs.{Pairs, bottle_came, drinker_after}
 use Rattle.site_core.specs.Pairs as pairs
+use Rattle.site_core.proofs.KeptMessages.{through_taking}
 use Rattle.site_core.specs.Agenda.{Agenda, Current, Idle, Gathering, Working, first_needs, started, begun, worked, writes_of, unfinished, unfinished_current, submitted}
 use Rattle.site_core.specs.Agenda as agenda
 use Rattle.site_core.specs.Offices.{Office, Answer, opened, may, act, is_ours, answer, framed, frame_on, unless_faulty, with_pairs}
@@ -196,6 +197,7 @@ came_phase d (arrival.Fresh (msg.AskBottle r)) = refl
 came_phase d (arrival.Fresh (msg.Bottle r x)) = refl
 came_phase d arrival.Acked = refl
 came_phase d arrival.Repeat = refl
+came_phase d arrival.Kept = refl
 came_phase d arrival.Early = refl
 
 by_event : (plan : PlanValue) (me : ℕ) (ps : List ProgramValue) (fs : List Finished) (o : Office) (e : Event) (r : Reply) (o' : Office) → IsInOrder ps fs o → answer plan me o e ≡ Ok (r, o') →
@@ -224,8 +226,13 @@ by_event plan me ps fs o (event.Send v i) r o' w ok = go (are_neighbours plan me
     go false = quiet ps fs o w
 by_event plan me ps fs o (event.Took f) r o' w ok = go (pairs.frame_fault plan me o.pairs f)
   where
-    go : (x : Option ChannelFault) → IsInOrder (ps ++ []) (fs ++ []) (next_or o (unless_faulty o f x))
-    go None = quiet ps fs (with_pairs o (pairs.after_frame o.pairs f)) (record { sessions = w.sessions; tickets = w.tickets; outcomes = w.outcomes; phase = came_phase o.pairs.drinker (pairs.arrival_of o.pairs f) ∙ w.phase })
+    -- nor does what follows change the phase
+    same_phase : (pairs.after_taking plan me o.pairs f).drinker.phase ≡ o.pairs.drinker.phase
+    same_phase = through_taking plan me (λ (p : Pairs). p.drinker.phase ≡ o.pairs.drinker.phase) f
+        (λ p e. came_phase p.drinker (pairs.as_arrival (pairs.follows plan me f.from p)) ∙ e) o.pairs (came_phase o.pairs.drinker (pairs.arrival_of o.pairs f))
+
+    go : (x : Option ChannelFault) → IsInOrder (ps ++ []) (fs ++ []) (next_or o (unless_faulty plan me o f x))
+    go None = quiet ps fs (with_pairs o (pairs.after_taking plan me o.pairs f)) (record { sessions = w.sessions; tickets = w.tickets; outcomes = w.outcomes; phase = same_phase ∙ w.phase })
     go (Some x) = quiet ps fs o w
 
 by_run : (plan : PlanValue) (me : ℕ) (ps : List ProgramValue) (fs : List Finished) (o : Office) (xs : List Entry) → AreAccepted plan me o xs → IsInOrder ps fs o → IsInOrder (ps ++ programs_in xs) (fs ++ finished_from plan me o xs) (run_of plan me o xs)

@@ -44,7 +44,7 @@ answer_speaks plan me o (event.Send v i) = cond_both (are_neighbours plan me v) 
     made (Some f) e = cc
 answer_speaks plan me o (event.Took f) = go (frame_fault plan me o.pairs f)
   where
-    go : (x : Option ChannelFault) → OfficeSpeaks (unless_faulty o f x)
+    go : (x : Option ChannelFault) → OfficeSpeaks (unless_faulty plan me o f x)
     go None e = cc
     go (Some x) e = cc
 

@@ -9,7 +9,7 @@ ghost use Rattle.frame_world.specs.declared.refusal.WorldRefusal.TheVariants as 
 ghost use Rattle.frame_world.specs.declared.event.WorldEvent.TheVariants as events;
 ghost use Rattle.frame_world.specs.Worlds.{opening, run_of, replies_of, Applies, Stops, site_at, frame_at};
 ghost use Rattle.frame_world.specs.Ways.{bottles_of, pairs_at, tables_of};
-ghost use Rattle.frame_world.specs.Headline.{programs, outcomes, IsReached, HasSerialSessions, HasSerialValues, HasOnePlaceEach, NeighboursEatApart, EatersHaveTheirForks, DrinkersHaveTheirBottles, FramesAreTaken, FramesGoByBytes, CountsAreTimely};
+ghost use Rattle.frame_world.specs.Headline.{programs, outcomes, IsReached, HasSerialSessions, HasSerialValues, HasOnePlaceEach, NeighboursEatApart, EatersHaveTheirForks, DrinkersHaveTheirBottles, FramesAreTaken, NoneIsEarly, FramesGoByBytes, CountsAreTimely};
 ghost use Rattle.dining_core.specs.Worlds.{HasNoRing};
 ghost use Rattle.serial_replay.specs.Serial.{start_map, map_of};
 ghost use Rattle.world_schedule.specs.Readers.{unfinished_in, listed_as};
@@ -23,8 +23,8 @@ use bottle_values::Value;
 use frame_codec::Frame;
 use frame_world::laws::{
     bottles_are_serial, counts_are_timely, frames_go_by_bytes, neighbours_never_eat_at_once,
-    precedence_has_no_ring, sent_frames_are_taken, sessions_are_serial, things_have_one_place,
-    who_drinks_has_its_bottles, who_eats_has_its_forks,
+    none_is_early, precedence_has_no_ring, sent_frames_are_taken, sessions_are_serial,
+    things_have_one_place, who_drinks_has_its_bottles, who_eats_has_its_forks,
 };
 use frame_world::{WorldEvent, WorldRefusal};
 use office_map::{OfficeId, Plan, RecordId};
@@ -173,6 +173,7 @@ impl World {
         ensures drinkers { DrinkersHaveTheirBottles self.new }
         ensures order { HasNoRing self.new.plan (tables_of (pairs_at self.new)) }
         ensures frames { FramesAreTaken self.new }
+        ensures early { NoneIsEarly self.new }
         ensures bytes { FramesGoByBytes self.new }
         ensures counts { CountsAreTimely self.new }
     {
@@ -206,8 +207,8 @@ impl World {
     /// What holds of every world: some events led to it from its plan; the finished sessions have the outcomes, and each
     /// record's one bottle has the value, of the serial run of these sessions in finishing order; each fork, bottle and
     /// request token is at one place; neighbours eat apart, who eats has its forks, who works has its bottles, and
-    /// precedence has no ring. Nor will a frame that was sent be refused for what it says, and each has bytes that are read as
-    /// that frame by every office; its count is no older than its message.
+    /// precedence has no ring. Nor will a frame that was sent be refused for what it says, or come too early to be kept, and
+    /// each has bytes that are read as that frame by every office; its count is no older than its message.
     pub fn is_serial(&self)
         ensures reached { IsReached self.now }
         ensures sessions { HasSerialSessions self.now }
@@ -218,6 +219,7 @@ impl World {
         ensures drinkers { DrinkersHaveTheirBottles self.now }
         ensures order { HasNoRing self.now.plan (tables_of (pairs_at self.now)) }
         ensures frames { FramesAreTaken self.now }
+        ensures early { NoneIsEarly self.now }
         ensures bytes { FramesGoByBytes self.now }
         ensures counts { CountsAreTimely self.now }
     {
@@ -229,6 +231,7 @@ impl World {
         who_drinks_has_its_bottles();
         precedence_has_no_ring();
         sent_frames_are_taken();
+        none_is_early();
         frames_go_by_bytes();
         counts_are_timely();
         let _ = &self.plan;

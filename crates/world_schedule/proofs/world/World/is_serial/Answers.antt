@@ -1,5 +1,5 @@
 use Rattle.std.proofs.Common.{subst}
-use Rattle.frame_world.specs.Headline.{HasSerialSessions, HasSerialValues, HasOnePlaceEach, NeighboursEatApart, EatersHaveTheirForks, DrinkersHaveTheirBottles, FramesAreTaken, FramesGoByBytes, CountsAreTimely}
+use Rattle.frame_world.specs.Headline.{HasSerialSessions, HasSerialValues, HasOnePlaceEach, NeighboursEatApart, EatersHaveTheirForks, DrinkersHaveTheirBottles, FramesAreTaken, NoneIsEarly, FramesGoByBytes, CountsAreTimely}
 use Rattle.frame_world.specs.Worlds.{World}
 use Rattle.frame_world.specs.Ways.{pairs_at, tables_of}
 use Rattle.dining_core.specs.Worlds.{HasNoRing}
@@ -47,6 +47,11 @@ pub returns-clause-frames : goal.returns-clause-frames
 returns-clause-frames c =
     let w = c.self.inside in
     of_world FramesAreTaken w.plan w.offices.items w.frames.items w.finished.items c.args.self.now c.self.invariant c.self.view_is (λ es. c.sent_frames_are_taken.ensures w.plan es c.self.invariant.accepted.consistent)
+
+pub returns-clause-early : goal.returns-clause-early
+returns-clause-early c =
+    let w = c.self.inside in
+    of_world NoneIsEarly w.plan w.offices.items w.frames.items w.finished.items c.args.self.now c.self.invariant c.self.view_is (λ es. c.none_is_early.ensures w.plan es c.self.invariant.accepted.consistent)
 
 pub returns-clause-bytes : goal.returns-clause-bytes
 returns-clause-bytes c =
