@@ -88,7 +88,7 @@ sent_apart plan a p p' v m e held_is here h u t =
 abbrev pub IsLeft : LinkState → LinkState → Type 0
 IsLeft l l' = (t : Thing) → count_carrying t l'.sending.waiting ≤ count_carrying t l.sending.waiting
 
-pub left_apart : (plan : PlanValue) (a : ℕ) (p p' : Pairs) (v : ℕ) (l' : LinkState) → p'.link ≡ put p.link v l' → ((u : ℕ) (t : Thing) → held p' u t ≡ held p u t) → IsLeft (p.link v) l' → AreApart plan a p → AreApart plan a p'
+left_apart : (plan : PlanValue) (a : ℕ) (p p' : Pairs) (v : ℕ) (l' : LinkState) → p'.link ≡ put p.link v l' → ((u : ℕ) (t : Thing) → held p' u t ≡ held p u t) → IsLeft (p.link v) l' → AreApart plan a p → AreApart plan a p'
 left_apart plan a p p' v l' e held_is less h u t = omega (arith, h u t, ap num (held_is u t), go (u == v) refl, ap (λ (f : ℕ → LinkState). count_carrying t (f u).sending.waiting) e)
   where
     go : (b : Bool) → (u == v) ≡ b → count_carrying t (cond b l' (p.link u)).sending.waiting ≤ count_carrying t (p.link u).sending.waiting
@@ -96,7 +96,7 @@ left_apart plan a p p' v l' e held_is less h u t = omega (arith, h u t, ap num (
     go false i = omega arith
 
 -- a thing that is shared and doesn't wait
-pub came_apart : (plan : PlanValue) (a : ℕ) (p p' : Pairs) (v : ℕ) (l' : LinkState) (m : Msg) → p'.link ≡ put p.link v l' → ((u : ℕ) (t : Thing) → held p' u t ≡ with_held (held p) v (thing_of m) true u t) → IsLeft (p.link v) l' →
+came_apart : (plan : PlanValue) (a : ℕ) (p p' : Pairs) (v : ℕ) (l' : LinkState) (m : Msg) → p'.link ≡ put p.link v l' → ((u : ℕ) (t : Thing) → held p' u t ≡ with_held (held p) v (thing_of m) true u t) → IsLeft (p.link v) l' →
     is_shared plan a v (thing_of m) ≡ true → waits (thing_of m) l'.sending.waiting ≡ false → AreApart plan a p → AreApart plan a p'
 came_apart plan a p p' v l' m e held_is less shared none h u t = omega (arith, ap num (held_is u t), go (u == v) refl, ap (λ (f : ℕ → LinkState). count_carrying t (f u).sending.waiting) e)
   where
@@ -177,10 +177,12 @@ from_its_end plan a v p msg.Fork peers e = tt
 from_its_end plan a v p (msg.AskBottle r) peers e = peers r ∙ peer_is plan r a v e
 from_its_end plan a v p (msg.Bottle r x) peers e = peers r ∙ peer_is plan r a v e
 
-pub message_apart : (plan : PlanValue) (a v : ℕ) (p : Pairs) (l' : LinkState) (m : Msg) → IsLeft (p.link v) l' → is_shared plan a v (thing_of m) ≡ true → waits (thing_of m) l'.sending.waiting ≡ false → StandApart plan a p → AreApart plan a (arrived p v l' (arrival.Fresh m))
+-- a message comes
+message_apart : (plan : PlanValue) (a v : ℕ) (p : Pairs) (l' : LinkState) (m : Msg) → IsLeft (p.link v) l' → is_shared plan a v (thing_of m) ≡ true → waits (thing_of m) l'.sending.waiting ≡ false → StandApart plan a p → AreApart plan a (arrived p v l' (arrival.Fresh m))
 message_apart plan a v p l' m less shared none h =
     came_apart plan a p (arrived p v l' (arrival.Fresh m)) v l' m refl (after_message p.diner p.drinker v m (from_its_end plan a v p m h.peers shared)) less shared none h.apart
 
+-- a frame's own message, if it brings one
 frame_apart : (plan : PlanValue) (a : ℕ) (p : Pairs) (f : Fields) → frame_fault plan a p f ≡ None → StandApart plan a p → AreApart plan a (after_frame p f)
 frame_apart plan a p f fine h = of (arrival_of p f) refl
   where
