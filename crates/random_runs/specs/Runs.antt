@@ -8,7 +8,7 @@ use Rattle.frame_world.specs.declared.event.WorldEvent.{WorldEvent}
 use Rattle.frame_world.specs.declared.event.WorldEvent.TheVariants as happening
 use Rattle.frame_world.specs.Worlds.{World, opening, happens, run_of}
 use Rattle.frame_world.specs.Ways.{pairs_at, tables_of}
-use Rattle.frame_world.specs.Headline.{HasSerialSessions, HasSerialValues, HasOnePlaceEach, NeighboursEatApart, EatersHaveTheirForks, DrinkersHaveTheirBottles, FramesAreTaken, FramesGoByBytes, CountsAreTimely}
+use Rattle.frame_world.specs.Headline.{HasSerialSessions, HasSerialValues, HasOnePlaceEach, NeighboursEatApart, EatersHaveTheirForks, DrinkersHaveTheirBottles, FramesAreTaken, NoneIsEarly, FramesGoByBytes, CountsAreTimely}
 use Rattle.run_reports.specs.WorldReport.{world_report}
 
 -- the program that an event submits
@@ -65,6 +65,7 @@ pub record HasHeadline (w : World) : Type 0 where
   pub drinkers : DrinkersHaveTheirBottles w
   pub order : HasNoRing w.plan (tables_of (pairs_at w))
   pub frames : FramesAreTaken w
+  pub early : NoneIsEarly w
   pub bytes : FramesGoByBytes w
   pub counts : CountsAreTimely w
 
