@@ -1,5 +1,5 @@
 -- The kept messages that follow a frame's, one after the other.
-use Rattle.std.proofs.Common.{◌≡◌, ℕ, zero, suc, Bool, true, false, cond, ap, ◌∙◌}
+use Rattle.std.proofs.Common.{◌≡◌, ℕ, zero, suc, true, cond, ap, ◌∙◌}
 use Rattle.std.specs.Prelude.{is_some}
 use Rattle.std.proofs.lemmas.Bool.{cond_both}
 use Rattle.frame_codec.specs.Frame.{Fields}
@@ -9,13 +9,9 @@ use Rattle.window_link.specs.declared.arrival.Arrival.TheVariants as arrival
 use Rattle.token_channel.specs.Channels.{most_following}
 use Rattle.site_core.specs.Pairs.{Pairs, arrival_of, after_frame, follows, after_kept, followed, settled, after_taking}
 
--- ---- as a loop takes them
-
+-- as a loop takes them
 pub followed_more : (plan : PlanValue) (me v : ℕ) (p : Pairs) (n k : ℕ) → n ≡ suc k → is_some (follows plan me v p) ≡ true → followed plan me v n p ≡ followed plan me v k (after_kept plan me v p)
 followed_more plan me v p n k e is = ap (λ x. followed plan me v x p) e ∙ ap (λ b. cond b (followed plan me v k (after_kept plan me v p)) (after_kept plan me v p)) is
-
-pub followed_last : (plan : PlanValue) (me v : ℕ) (p : Pairs) (n k : ℕ) → n ≡ suc k → is_some (follows plan me v p) ≡ false → followed plan me v n p ≡ after_kept plan me v p
-followed_last plan me v p n k e is = ap (λ x. followed plan me v x p) e ∙ ap (λ b. cond b (followed plan me v k (after_kept plan me v p)) (after_kept plan me v p)) is
 
 -- ---- what each step keeps
 

@@ -10,12 +10,12 @@ use Rattle.window_link.specs.declared.arrival.Arrival.TheVariants.{Fresh, Repeat
 use Rattle.window_link.specs.Limits.{most_kept}
 use Rattle.window_link.specs.declared.fault.LinkFault.{LinkFault}
 use Rattle.window_link.specs.Windows.{arrival, next_kept}
-use Rattle.window_link.specs.Links.{LinkState, brings, fault_of}
+use Rattle.window_link.specs.Links.{brings, fault_of}
 use Rattle.token_channel.specs.declared.thing.Thing.{Thing}
 use Rattle.token_channel.specs.declared.thing.SharedThing.{SharedThing}
 use Rattle.token_channel.specs.Things.{thing_of}
 use Rattle.token_channel.specs.Places.{holds, shares, waits}
-use Rattle.token_channel.specs.Channels.{ChannelState, with_taken, next_of, left_by, is_breach, breach_of, link_fault_or, held_after, held_with, breach_among, unless_breach, follows_among, follows, WhatComesIsHeld, WhatComesWasAway, WhatFollowsIsHeld, WhatFollowsWasAway}
+use Rattle.token_channel.specs.Channels.{ChannelState, with_taken, next_of, left_by, is_breach, breach_of, link_fault_or, held_after, held_with, breach_among, unless_breach, follows, WhatComesIsHeld, WhatComesWasAway, WhatFollowsIsHeld, WhatFollowsWasAway}
 use Rattle.token_channel.proofs.ThingsApart.{no_breach, held-changed}
 
 not_below : (taken : ℕ) → nat_le (taken + 1) taken ≡ false

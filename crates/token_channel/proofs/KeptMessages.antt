@@ -1,5 +1,5 @@
 -- The kept messages that follow, one after the other, as a loop takes them.
-use Rattle.std.proofs.Common.{◌≡◌, ℕ, suc, cond, List, [], ◌∷◌, Option, Some, None, is_some, ap, ◌∙◌}
+use Rattle.std.proofs.Common.{◌≡◌, ℕ, suc, cond, [], ◌∷◌, Some, None, is_some, ap, ◌∙◌}
 use Rattle.frame_codec.specs.declared.message.Msg.{Msg}
 use Rattle.token_channel.specs.Channels.{ChannelState, follows, after_kept, followed, following, before}
 

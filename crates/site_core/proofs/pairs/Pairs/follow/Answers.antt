@@ -5,7 +5,6 @@ use Rattle.frame_codec.specs.declared.message.Msg.{Msg}
 use Rattle.office_map.specs.PlanValue.{are_neighbours}
 use Rattle.dining_core.specs.refinement.Tables.{diner_of}
 use Rattle.drinking_core.specs.refinement.Bars.{drinker_of}
-use Rattle.window_link.specs.declared.arrival.Arrival.{Arrival}
 use Rattle.token_channel.specs.Channels.{held_with, link_then}
 use Rattle.site_core.specs.Pairs.{arrived, held_by, follows, as_arrival, after_kept, diner_after, drinker_after}
 use Rattle.site_core.specs.refinement.Slots.{links_of}

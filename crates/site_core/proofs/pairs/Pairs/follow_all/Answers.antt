@@ -1,10 +1,10 @@
-use Rattle.std.proofs.Common.{◌≡◌, suc, ◌+◌, ◌-◌, true, false, sym, ap, ◌∙◌, arith}
-use Rattle.std.specs.Prelude.{not, is_some}
+use Rattle.std.proofs.Common.{◌≡◌, suc, ◌+◌, ◌-◌, true, sym, ap, ◌∙◌, arith}
+use Rattle.std.specs.Prelude.{is_some}
 use Rattle.office_map.specs.PlanValue.{are_neighbours}
 use Rattle.token_channel.specs.Channels.{most_following}
-use Rattle.site_core.specs.Pairs.{follows, after_kept, followed}
+use Rattle.site_core.specs.Pairs.{follows, followed}
 use Rattle.site_core.specs.refinement.PairsOfCode.{pairs_of}
-use Rattle.site_core.proofs.KeptMessages.{followed_more, followed_last}
+use Rattle.site_core.proofs.KeptMessages.{followed_more}
 use Rattle.site_core.proofs.pairs.Pairs.follow_all.Goals as goal
 
 pub follow-requires : goal.follow-requires

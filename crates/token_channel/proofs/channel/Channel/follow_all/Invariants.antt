@@ -1,4 +1,4 @@
-use Rattle.std.proofs.Common.{◌≡◌, ◌++◌, ◌∷◌, ◌+◌, ◌-◌, ◌≤◌, length}
+use Rattle.std.proofs.Common.{◌≡◌, ◌++◌, ◌∷◌, ◌+◌, ◌-◌, length}
 use Rattle.token_channel.specs.Channels.{following, followed, most_following}
 use Rattle.token_channel.proofs.channel.Channel.follow_all.Given as goal
 
