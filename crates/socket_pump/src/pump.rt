@@ -419,9 +419,9 @@ impl Senders {
 
     // A message came, if only once more or before its turn.
     fn note(&mut self, read: &Result<Frame, FrameFault>, answer: &Result<Reply, Refusal>) {
-        let (Ok(frame), Ok(Reply::Taken | Reply::Repeat | Reply::Kept | Reply::Early)) =
-            (read, answer)
-        else {
+        let (Ok(frame), Ok(Reply::Taken | Reply::Repeat | Reply::Kept | Reply::Early)) = (
+            read, answer,
+        ) else {
             return;
         };
         if let Some(heard) = self.heard.get_mut(usize::from(frame.from())) {
