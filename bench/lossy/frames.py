@@ -1,0 +1,73 @@
+#!/usr/bin/env python3
+"""How many frames are made for a finished session, where frames get lost and overtake each other.
+
+usage: frames.py PROGRAM OFFICES SEED
+
+All offices are neighbours, with eight records a pair where there are two of them and one where there are more; each session
+needs all records of its office, and of two offices each has four sessions, of more one. A script goes in rounds: every office
+advances, sends every message that waits, and a count to whom it heard; then what was sent arrives in any order, but for a third,
+which is lost. The script is written round after round, by what `PROGRAM sim` answers to it. Writes how many frames were made for
+each session, where all finished.
+"""
+import random, subprocess, sys, tempfile, os
+
+LOST, MOST_ROUNDS, WINDOW = 1 / 3, 400, 18
+
+
+def texts(offices, each):
+    names = [f"o{i}" for i in range(offices)]
+    pairs = [(a, b) for i, a in enumerate(names) for b in names[i + 1 :]]
+    plan = ["plan 1 run 7"] + [f"office {it} -" for it in names] + [f"pair {a} {b} fork {a}" for a, b in pairs]
+    records = []
+    for a, b in pairs:
+        for k in range(8 if offices == 2 else 1):
+            records.append((f"{a}x{b}_{k}".replace("o", "r", 1), a, b))
+    plan += [f"record {name} {a} {b} 0 at {a}" for name, a, b in records]
+    sessions = []
+    for _ in range(each):
+        for it in names:
+            sessions.append(f"session {it}")
+            sessions += [f"set {name} = read {name} + 1" for name, a, b in records if it in (a, b)]
+            sessions.append("end")
+    return names, "\n".join(plan) + "\n", "\n".join(sessions) + "\n"
+
+
+def main():
+    program, offices, draw = sys.argv[1], int(sys.argv[2]), random.Random(int(sys.argv[3]))
+    each = 4 if offices == 2 else 1
+    names, plan, sessions = texts(offices, each)
+    with tempfile.TemporaryDirectory() as place:
+        paths = [os.path.join(place, it) for it in ("plan", "sessions", "script")]
+        for path, text in zip(paths, (plan, sessions)):
+            open(path, "w").write(text)
+
+        def answers(lines):
+            open(paths[2], "w").write("\n".join(lines) + "\n")
+            return subprocess.run([program, "sim", *paths], capture_output=True, text=True, check=True).stdout.splitlines()
+
+        lines = [f"submit {i + 1}" for i in range(each * offices)]
+        heard = set()
+        for _ in range(MOST_ROUNDS):
+            begun = len(lines)
+            for a in names:
+                lines.append(f"advance {a} 1000")
+                lines += [f"send {a} {b} {i}" for b in names if b != a for i in range(1, WINDOW + 1)]
+                lines += [f"send {a} {b} 0" for b in names if (b, a) in heard]
+            out = answers(lines)
+            # What is refused isn't asked again.
+            kept = [(line, answer) for line, answer in zip(lines[begun:], out[begun:]) if not answer.startswith("refused")]
+            lines[begun:] = [line for line, _ in kept]
+            sent = [(line.split()[1:3], answer.split()[1]) for line, answer in kept if answer.startswith("frame")]
+            arriving = [it for it in sent if draw.random() >= LOST]
+            draw.shuffle(arriving)
+            heard = {tuple(ends) for ends, _ in arriving}
+            lines += [f"deliver {number}" for _, number in arriving]
+            if "unfinished 0" in out:
+                frames = sum(line.startswith("send") for line in lines)
+                print(f"{frames / (each * offices):.1f}")
+                return 0
+    return 1
+
+
+if __name__ == "__main__":
+    sys.exit(main())
