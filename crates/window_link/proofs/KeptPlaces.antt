@@ -5,10 +5,9 @@ use Rattle.std.proofs.lemmas.List.{same_lists, get_or_append_left, get_or-append
 use Rattle.std.proofs.lemmas.Bool.{cases_lt, cases_eq}
 use Rattle.std.proofs.lemmas.Nat.{mod_below}
 use Rattle.frame_codec.specs.declared.message.Msg.{Msg}
-use Rattle.frame_codec.specs.Limits.{sequence_space}
 use Rattle.window_link.specs.Limits.{most_kept}
 use Rattle.window_link.specs.Windows.{Receiving, next_kept, kept_or, kept_with, kept_after, keeping, advanced, without_next}
-use Rattle.window_link.specs.refinement.Places.{from_place, AreNumbers}
+use Rattle.window_link.specs.refinement.Places.{from_place, AreUpTo}
 
 -- a number below twice the count wraps once at most
 wraps : (n j : ℕ) → j < n + n → ((j < n) × (j % n ≡ j)) ⊎ ((n ≤ j) × (j % n ≡ j - n))
@@ -205,29 +204,29 @@ get-with ks i k msg m e = elim (get-set ks i k (kept_or (get_or ks i None) msg) 
     new None is same h = inr (same, cc)
     new (Some there) is same h = inl (ap (λ x. get_or ks x None) same ∙ is ∙ h)
 
--- ---- numbers of what is kept
+-- ---- how far what is kept goes
 
-pub numbers_none : (taken : ℕ) → AreNumbers taken (replicate most_kept None)
-numbers_none taken k msg e = absurd (none most_kept k e)
+up_to_none : (furthest taken : ℕ) → AreUpTo furthest taken (replicate most_kept None)
+up_to_none furthest taken k msg e = absurd (none most_kept k e)
   where
     none : (n k : ℕ) → get_or {A = Option Msg} (replicate n None) k None ≡ Some msg → ⊥
     none zero k h = absurd cc
     none (suc n) zero h = absurd cc
     none (suc n) (suc k) h = none n k h
 
-pub numbers_after : (taken : ℕ) (ks : List (Option Msg)) → AreNumbers taken ks → AreNumbers (taken + 1) (kept_after ks)
-numbers_after taken ks h k msg e = omega (arith, h (suc k) msg (sym (get-after ks k) ∙ e))
+pub up_to_after : (furthest taken : ℕ) (ks : List (Option Msg)) → AreUpTo furthest taken ks → AreUpTo furthest (taken + 1) (kept_after ks)
+up_to_after furthest taken ks h k msg e = omega (arith, h (suc k) msg (sym (get-after ks k) ∙ e))
 
-pub numbers_without : (taken : ℕ) (ks : List (Option Msg)) → AreNumbers taken ks → AreNumbers taken (set ks 0 None)
-numbers_without taken ks h k msg e = elim (get-set ks 0 k None None (Some msg) e) [
+pub up_to_without : (furthest taken : ℕ) (ks : List (Option Msg)) → AreUpTo furthest taken ks → AreUpTo furthest taken (set ks 0 None)
+up_to_without furthest taken ks h k msg e = elim (get-set ks 0 k None None (Some msg) e) [
   | inl none ↦ absurd cc
   | inr old ↦ h k msg old
 ]
 
-pub numbers_with : (taken number : ℕ) (msg : Msg) (ks : List (Option Msg)) → AreNumbers taken ks → taken < number → number < sequence_space → AreNumbers taken (kept_with ks (number - (taken + 1)) msg)
-numbers_with taken number msg ks h least most k m e = elim (get-with ks (number - (taken + 1)) k msg m e) [
-  | inl old ↦ h k m old
-  | inr new ↦ omega (arith, new.0, least, most)
+pub up_to_with : (furthest further taken number : ℕ) (msg : Msg) (ks : List (Option Msg)) → AreUpTo furthest taken ks → furthest ≤ further → number ≤ further → taken < number → AreUpTo further taken (kept_with ks (number - (taken + 1)) msg)
+up_to_with furthest further taken number msg ks h old_in new_in least k m e = elim (get-with ks (number - (taken + 1)) k msg m e) [
+  | inl old ↦ omega (arith, h k m old, old_in)
+  | inr new ↦ omega (arith, new.0, least, new_in)
 ]
 
 -- ---- the window that the code's places are
@@ -272,12 +271,24 @@ shown_still taken place number msg xs size e least near full = go (get_or xs pla
     go None is = absurd (full is)
     go (Some old) is = ap (λ (ks : List (Option Msg)). window taken ks) (keeps_old xs (taken + 1) number msg old size (omega (arith, least)) (omega (arith, near)) (sym (ap (λ p. get_or xs p None) e) ∙ is))
 
-pub next_numbered : (taken : ℕ) (xs : List (Option Msg)) → AreNumbers taken (from_place (taken + 1) xs) → is_some (next_kept (shown taken xs)) ≡ true → taken + 1 < sequence_space
-next_numbered taken xs h e = go (next_kept (shown taken xs)) refl e
+pub next_up_to : (furthest taken : ℕ) (xs : List (Option Msg)) → AreUpTo furthest taken (from_place (taken + 1) xs) → is_some (next_kept (shown taken xs)) ≡ true → taken + 1 ≤ furthest
+next_up_to furthest taken xs h e = go (next_kept (shown taken xs)) refl e
   where
-    go : (o : Option Msg) → next_kept (shown taken xs) ≡ o → is_some o ≡ true → taken + 1 < sequence_space
+    go : (o : Option Msg) → next_kept (shown taken xs) ≡ o → is_some o ≡ true → taken + 1 ≤ furthest
     go None is k = absurd cc
     go (Some m) is k = omega (arith, h 0 m is)
+
+-- where the next number is past the furthest, its place is empty as it is
+pub shown_passed : (furthest taken : ℕ) (xs : List (Option Msg)) → length xs ≡ most_kept → AreUpTo furthest taken (from_place (taken + 1) xs) → furthest < taken + 1 → shown (taken + 1) xs ≡ advanced (shown taken xs)
+shown_passed furthest taken xs size h past =
+    ap (λ ks. shown (taken + 1) ks) (sym (set-get_or xs at None) ∙ ap (set xs at) (sym (kept-from xs size (taken + 1)) ∙ none (next_kept (shown taken xs)) refl)) ∙ shown_advanced taken at xs size refl
+  where
+    at : ℕ
+    at = (taken + 1) % most_kept
+
+    none : (o : Option Msg) → next_kept (shown taken xs) ≡ o → next_kept (shown taken xs) ≡ None
+    none None is = is
+    none (Some m) is = absurd (omega (arith, h 0 m is, past))
 
 -- at the start
 pub none_from : (number : ℕ) → from_place number (replicate most_kept None) ≡ replicate most_kept None
@@ -293,5 +304,5 @@ none_shown taken = ap (λ (ks : List (Option Msg)). window taken ks) (none_from 
     window : ℕ → List (Option Msg) → Receiving
     window t ks = record { taken = t; kept = ks }
 
-pub numbers_shown : (taken : ℕ) → AreNumbers taken (from_place (taken + 1) (replicate most_kept None))
-numbers_shown taken = subst (AreNumbers taken) (sym (none_from (taken + 1))) (numbers_none taken)
+pub up_to_shown : (furthest taken : ℕ) → AreUpTo furthest taken (from_place (taken + 1) (replicate most_kept None))
+up_to_shown furthest taken = subst (AreUpTo furthest taken) (sym (none_from (taken + 1))) (up_to_none furthest taken)

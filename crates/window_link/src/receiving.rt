@@ -16,6 +16,8 @@ pub const MAX_KEPT: usize = 18;
 #[derive(Drop)]
 pub struct ReceiveWindow {
     taken: u64,
+    // Nothing is kept of a number past this one.
+    furthest: u64,
     // A message is kept in the place of its number modulo their count.
     places: [Option<Msg>; MAX_KEPT],
 }
@@ -23,14 +25,14 @@ pub struct ReceiveWindow {
 impl Model for ReceiveWindow {
     ghost use Rattle.std.specs.Prelude.{◌+◌, ◌<◌};
     ghost use Rattle.window_link.specs.Windows.{Receiving};
-    ghost use Rattle.window_link.specs.refinement.Places.{from_place, AreNumbers};
+    ghost use Rattle.window_link.specs.refinement.Places.{from_place, AreUpTo};
     ghost use Rattle.frame_codec.specs.Limits.{sequence_space};
 
     ghost Value = { Receiving };
 
     ghost view = { λ w. record { taken = w.taken; kept = from_place (w.taken + 1) w.places } };
 
-    ghost invariant = { λ w. (w.taken < sequence_space) × AreNumbers w.taken (from_place (w.taken + 1) w.places) };
+    ghost invariant = { λ w. (w.taken < sequence_space) × (w.furthest < sequence_space) × AreUpTo w.furthest w.taken (from_place (w.taken + 1) w.places) };
 }
 
 impl ReceiveWindow {
@@ -41,6 +43,7 @@ impl ReceiveWindow {
     {
         ReceiveWindow {
             taken,
+            furthest: taken,
             places: [None; MAX_KEPT],
         }
     }
@@ -58,12 +61,12 @@ impl ReceiveWindow {
         ensures arrival { result ≡ arrival self.old.taken number msg }
         ensures window { self.new ≡ received self.old number msg }
     {
-        if number <= self.taken {
-            return Arrival::Repeat;
-        }
         if number == self.taken + 1 {
             self.advance();
             return Arrival::Fresh(msg);
+        }
+        if number <= self.taken {
+            return Arrival::Repeat;
         }
         if number > self.taken + MAX_KEPT as u64 {
             return Arrival::Early;
@@ -108,6 +111,7 @@ impl ReceiveWindow {
         let place = place_of(number);
         if self.places[place].is_none() {
             self.places[place] = Some(msg);
+            self.furthest = self.furthest.max(number);
         }
     }
 
@@ -117,7 +121,9 @@ impl ReceiveWindow {
         ensures { self.new ≡ advanced self.old }
     {
         self.taken += 1;
-        self.places[place_of(self.taken)] = None;
+        if self.taken <= self.furthest {
+            self.places[place_of(self.taken)] = None;
+        }
     }
 }
 

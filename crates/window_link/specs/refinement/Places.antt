@@ -1,13 +1,12 @@
 -- The places in which the code keeps messages: each number's place is the number modulo their count.
-use Rattle.std.specs.Prelude.{◌≡◌, ℕ, ◌+◌, ◌%◌, ◌<◌, List, ◌++◌, drop, take, get_or, Option, Some, None}
+use Rattle.std.specs.Prelude.{◌≡◌, ℕ, ◌+◌, ◌%◌, ◌≤◌, List, ◌++◌, drop, take, get_or, Option, Some, None}
 use Rattle.frame_codec.specs.declared.message.Msg.{Msg}
-use Rattle.frame_codec.specs.Limits.{sequence_space}
 use Rattle.window_link.specs.Limits.{most_kept}
 
 -- the places from that of a number on, round the end
 abbrev pub from_place : ℕ → List (Option Msg) → List (Option Msg)
 from_place number places = drop (number % most_kept) places ++ take (number % most_kept) places
 
--- what is kept has a number
-abbrev pub AreNumbers : ℕ → List (Option Msg) → Type 0
-AreNumbers taken kept = (k : ℕ) (msg : Msg) → get_or kept k None ≡ Some msg → taken + 1 + k < sequence_space
+-- nothing is kept of a number past the furthest
+abbrev pub AreUpTo : ℕ → ℕ → List (Option Msg) → Type 0
+AreUpTo furthest taken kept = (k : ℕ) (msg : Msg) → get_or kept k None ≡ Some msg → taken + 1 + k ≤ furthest
