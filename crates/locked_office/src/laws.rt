@@ -11,3 +11,10 @@ pub fn threads_share_a_desk()
 {
     an_office_crosses_threads();
 }
+
+/// A desk may be handed from thread to thread.
+pub fn a_desk_crosses_threads()
+    ensures { IsSend desk.the_row }
+{
+    an_office_crosses_threads();
+}
