@@ -43,7 +43,8 @@ fn add_nth(text: &mut String, world: &World, i: usize) -> Result<(), AllocError>
     }
 }
 
-fn add_unfinished(text: &mut String, count: usize) -> Result<(), AllocError>
+/// The line that says how many sessions haven't finished is added. Where memory runs out, a part of it may be.
+pub fn add_unfinished(text: &mut String, count: usize) -> Result<(), AllocError>
     ensures { OnOk result (string_bytes text.new ≡ string_bytes text.old ++ unfinished_line count) }
 {
     writeln!(text, "unfinished {count}")

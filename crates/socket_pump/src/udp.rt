@@ -1,17 +1,18 @@
 //! A wire over UDP. It tells its failures, and nothing of its datagrams: what becomes of those is the network's.
 
-ghost use Rattle.std.specs.Prelude.{◌≡◌, ◌<◌};
+ghost use Rattle.std.specs.Prelude.{◌≡◌, ◌<◌, IfOk};
 
 use crate::wire::{Wire, WireFailed};
 use mio::net::UdpSocket;
-use mio::{Events, Interest, Poll, Token};
+use mio::{Events, Interest, Poll, Token, Waker};
 use office_map::OfficeId;
 use std::alloc::Global;
 use std::io;
+use std::marker::Model;
 use std::net::{Net, SocketAddr};
 use std::time::Duration;
 
-/// A UDP socket, and where the neighbours are.
+/// A UDP socket, and where the neighbours are. Contracts see how many of its calls failed.
 #[derive(Drop)]
 pub struct UdpWire {
     socket: UdpSocket,
@@ -21,12 +22,22 @@ pub struct UdpWire {
     failures: u64,
 }
 
+impl Model for UdpWire {
+    ghost use Rattle.std.specs.Prelude.{ℕ};
+
+    ghost Value = { ℕ };
+
+    ghost view = { λ w. w.failures };
+}
+
 impl UdpWire {
     /// A socket at this address; at port 0 the system chooses one. No neighbour is known yet.
     ///
     /// # Errors
     /// What the system answers, where the address can't be bound or it has no descriptor left, or where memory runs out.
-    pub fn bind(net: &impl Net, alloc: Global, at: SocketAddr) -> io::Result<UdpWire> {
+    pub fn bind(net: &impl Net, alloc: Global, at: SocketAddr) -> io::Result<UdpWire>
+        ensures { IfOk result (λ w. w ≡ 0) }
+    {
         let mut socket = UdpSocket::bind(net, at)?;
         let poll = Poll::new(net)?;
         poll.registry()
@@ -48,18 +59,29 @@ impl UdpWire {
         self.socket.local_addr()
     }
 
+    /// What ends a wait at this socket, from any thread.
+    ///
+    /// # Errors
+    /// What the system answers, where it has no descriptor left.
+    pub fn waker(&self) -> io::Result<Waker> {
+        Waker::new(self.poll.registry(), Token(1))
+    }
+
     /// Where a neighbour is, from now on.
     pub fn set_peer(&mut self, v: OfficeId, at: SocketAddr)
         requires { v < 16 }
+        ensures { self.new ≡ self.old }
     {
         self.peers[v.index()] = Some(at);
     }
 
-    /// Waits for a datagram, so many milliseconds at most.
+    /// Waits for a datagram, or until it is woken, so many milliseconds at most.
     ///
     /// # Errors
     /// What the system answers.
-    pub fn poll(&mut self, most: u64) -> io::Result<()> {
+    pub fn poll(&mut self, most: u64) -> io::Result<()>
+        ensures { self.new ≡ self.old }
+    {
         self.poll
             .poll(&mut self.events, Some(Duration::from_millis(most)))
     }
@@ -69,7 +91,7 @@ impl Wire for UdpWire {
     ghost use Rattle.socket_pump.specs.Wires.{counted};
     ghost use Rattle.std.specs.Prelude.{false};
 
-    ghost account = { λ w. counted w.failures };
+    ghost account = { λ w. counted w };
 
     ghost tells = { false };
 

@@ -1,0 +1,27 @@
+use Rattle.std.proofs.Common.{◌≡◌, ℕ, ◌+◌, [], ◌∷◌, ◌++◌, length, map, ap, ◌∙◌, arith}
+use Rattle.std.specs.List.{range_with_len}
+use Rattle.std.proofs.lemmas.List.{map-append}
+use Rattle.bottle_values.proofs.Lists.{mapped_more}
+use Rattle.locked_office.specs.Calls.{Key}
+use Rattle.office_runs.specs.refinement.Opening.{opened_key}
+use Rattle.office_runs.proofs.live.open_all.Goals as goal
+
+pub loop-k-preserved : goal.loop-k-preserved
+loop-k-preserved g c =
+    let fewer : length c.first_socket.new.sockets.items + 1 ≡ length c.loop-k.sockets.items = c.in-Some.ensures.some in
+    let left : length c.loop-k.sockets.items + c.loop-k.k ≡ length c.args.plan.now.offices = c.loop-k.invariant.left in
+    let of : ℕ → Key = λ me. (c.args.plan.now, me) in
+    record {
+      left = omega (arith, fewer, left);
+      keys = mapped_more of c.loop-k.k c.new-me.result (map opened_key c.loop-k.offices.items) (map opened_key c.push_back.new.self.items) (opened_key c.in_ok-office.office) c.new-me.ensures c.loop-k.invariant.keys c.in_ok-office.ensures
+          (ap (map opened_key) c.in_ok-push_back.ensures.items ∙ map-append opened_key c.loop-k.offices.items (c.in_ok-office.office ∷ []));
+    }
+
+pub returns : goal.returns
+returns g c =
+    let left : length c.loop-k.sockets.items + c.loop-k.k ≡ length c.args.plan.now.offices = c.loop-k.invariant.left in
+    let end : c.offices-k-end.result ≡ length c.args.plan.now.offices = c.offices-k-end.ensures.count in
+    let test = c.loop-k-test.false in
+    let all : c.loop-k.k ≡ length c.args.plan.now.offices = omega (arith, left, end, test) in
+    let of : ℕ → Key = λ me. (c.args.plan.now, me) in
+    c.loop-k.invariant.keys ∙ ap (λ n. map of (range_with_len 0 n)) all

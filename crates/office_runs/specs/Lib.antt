@@ -1,0 +1,4 @@
+pub mod Addresses
+pub mod Courses
+pub mod Runs
+pub mod refinement

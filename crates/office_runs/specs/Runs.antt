@@ -1,0 +1,55 @@
+-- What is told of offices that ran.
+use Rattle.std.specs.Prelude.{◌≡◌, ◌-◌, ◌==◌, ℕ, Bool, None, List, [], ◌∷◌, ◌++◌, length, map, All}
+use Rattle.std.specs.List.{flat_map, count_by}
+use Rattle.std.specs.String.{string_bytes}
+use Rattle.office_map.specs.PlanValue.{PlanValue}
+use Rattle.session_meaning.specs.ProgramValue.{ProgramValue}
+use Rattle.session_meaning.specs.declared.ending.Outcome.{Outcome}
+use Rattle.site_core.specs.Journals.{Site, IsLegal, office_of}
+use Rattle.locked_office.specs.Calls.{Key, DeskPass, Looks, office_with}
+use Rattle.run_reports.specs.Report.{outcome_line}
+use Rattle.run_reports.specs.WorldReport.{unfinished_line}
+use Rattle.office_runs.specs.Courses.{Standing, Goes, of_office}
+use Rattle.office_runs.specs.declared.report.Ran.{Ran}
+
+-- how many of the sessions are of an office
+abbrev pub count_of : List ProgramValue → ℕ → ℕ
+count_of programs me = count_by (λ (p : ProgramValue). p.office == me) programs
+
+-- the sessions of an office that have finished at the end of its journal, by ticket
+abbrev pub finished_of : Site → List Outcome
+finished_of s = (office_of s).agenda.outcomes
+
+-- those of several offices, one office after the other
+abbrev pub all_finished : List Site → List Outcome
+all_finished = flat_map finished_of
+
+-- their lines, and how many haven't finished
+abbrev pub runs_report : PlanValue → List Site → ℕ → List ℕ
+runs_report p sites n = flat_map (outcome_line p) (all_finished sites) ++ unfinished_line n
+
+abbrev pub key_of : Site → Key
+key_of s = (s.plan, s.me)
+
+-- The text tells of offices with these keys, in this order, what legal journals of theirs tell: which sessions finished, and how many of so many haven't.
+pub record TellsOffices (p : PlanValue) (keys : List Key) (sessions unfinished : ℕ) (text : List ℕ) : Type 0 where
+  pub sites : List Site
+  pub are : map key_of sites ≡ keys
+  pub legal : All IsLegal sites
+  pub left : unfinished ≡ sessions - length (all_finished sites)
+  pub told : text ≡ runs_report p sites unfinished
+
+-- of these offices of the plan
+abbrev pub TellsJournals : PlanValue → List ℕ → ℕ → ℕ → List ℕ → Type 0
+TellsJournals p offices = TellsOffices p (map (λ me. (p, me)) offices)
+
+-- The text tells of an office what its journal tells, which is what came of its sessions of the list, submitted in their order, and of so many turns of its pump; of fewer only where there is a fault.
+pub record TellsCourse (tells : Bool) (p : PlanValue) (me : ℕ) (programs : List ProgramValue) (turns : ℕ) (ran : Ran) : Type 0 where
+  pub first : Standing
+  pub begins : (first.pass.tag ≡ 0) × (first.pass.seen ≡ []) × (first.pass.mine ≡ []) × ((v n : ℕ) → first.last v n ≡ None)
+  pub last : Standing
+  pub goes : Goes ran.fault tells 0 (p, me) first last turns (of_office me programs)
+  pub seen : DeskPass
+  pub looked : Looks (p, me) last.pass seen
+  pub left : ran.unfinished ≡ count_of programs me - length (finished_of (office_with (p, me) seen.seen))
+  pub told : string_bytes ran.text ≡ runs_report p (office_with (p, me) seen.seen ∷ []) ran.unfinished

@@ -1,0 +1,39 @@
+//! Offices that run: at a socket each, turned by a pump, in one thread or in many.
+//!
+//! - [`run::run_office`]: one office, alone in its process. Its sessions are submitted as it takes them, and it turns so many
+//!   times.
+//! - [`live::live`]: all offices of a plan, each with a thread that turns it and one that submits its sessions.
+//! - [`Binds`], [`Socket`], [`Wakes`]: what both need of a network. [`UdpSockets`] is UDP; tests have sockets in memory.
+//! - [`Gate`]: is called before each turn, so that a test can hold an office.
+//! - [`Watch`]: is told once a second how far a run is.
+//!
+//! What is told of a run is what its offices' journals tell (clause `tells`, `specs/Runs.antt`). How often a turn comes, and
+//! that a datagram arrives, is no promise.
+#![tactic(auto)]
+
+mod address;
+mod around;
+mod client;
+mod fault;
+mod finished;
+mod gate;
+pub mod live;
+mod opened;
+mod pace;
+mod report;
+pub mod run;
+mod shared;
+mod socket;
+mod station;
+mod threads;
+mod udp;
+mod watch;
+
+pub use crate::address::without_address;
+pub use crate::around::Around;
+pub use crate::fault::RunFault;
+pub use crate::gate::{Gate, Open};
+pub use crate::report::Ran;
+pub use crate::socket::{Binds, Socket, Wakes};
+pub use crate::udp::UdpSockets;
+pub use crate::watch::{Progress, Quiet, Watch};

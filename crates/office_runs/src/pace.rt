@@ -1,0 +1,86 @@
+//! How long an office waits before a turn, and the time of its turns.
+
+ghost use Rattle.std.specs.Prelude.{◌≤◌};
+
+use socket_pump::Turn;
+use std::rt::Clock;
+use std::time::Instant;
+
+/// The longest wait before a turn, in milliseconds.
+const LONGEST_WAIT: u64 = 5;
+
+/// After how many milliseconds a pump sends a message again.
+const RESEND_AFTER: u64 = 50;
+
+/// After how many milliseconds it is told again how far a run is.
+const TOLD_EACH: u64 = 1000;
+
+/// How many datagrams and rules a turn takes at most: after so many there may be more.
+const MOST_DATAGRAMS: u32 = 32;
+
+const MOST_RULES: u32 = 64;
+
+/// When an office's last turn was, and what is to come.
+#[derive(Drop)]
+pub(crate) struct Pace {
+    start: Instant,
+    /// The time of the last turn, in milliseconds from the start.
+    now: u64,
+    /// There may be more to do at once.
+    busy: bool,
+    /// When the first message is sent again that was sent since the last resend.
+    due: u64,
+    /// When it was last told how far the run is.
+    told: u64,
+}
+
+impl Pace {
+    pub(crate) fn new(start: Instant) -> Pace {
+        Pace {
+            start,
+            now: 0,
+            busy: true,
+            due: 0,
+            told: 0,
+        }
+    }
+
+    /// How long to wait for a datagram before the next turn, in milliseconds.
+    pub(crate) fn wait(&self) -> u64
+        ensures { result ≤ 5 }
+    {
+        if self.busy {
+            0
+        } else if self.due > self.now {
+            (self.due - self.now).min(LONGEST_WAIT)
+        } else {
+            LONGEST_WAIT
+        }
+    }
+
+    /// The time now, in milliseconds from the start; where the clock can't be read, that of the turn before.
+    pub(crate) fn tick<R: Clock>(&mut self, rt: &R) -> u64 {
+        if let Ok(time) = self.start.elapsed(rt) {
+            self.now = u64::try_from(time.as_millis()).unwrap_or(u64::MAX);
+        }
+        self.now
+    }
+
+    /// The turn of this time did this.
+    pub(crate) fn note(&mut self, turn: &Turn) {
+        let came = turn.taken.saturating_add(turn.refused);
+        self.busy = came >= MOST_DATAGRAMS || turn.rules >= MOST_RULES;
+        if turn.sent > 0 && self.due <= self.now {
+            self.due = self.now.saturating_add(RESEND_AFTER);
+        }
+    }
+
+    /// Whether a second has gone since this was last so.
+    pub(crate) fn is_time_to_tell(&mut self) -> bool {
+        if self.now - self.told.min(self.now) < TOLD_EACH {
+            return false;
+        }
+        self.told = self.now;
+        true
+    }
+}

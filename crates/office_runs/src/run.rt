@@ -1,0 +1,176 @@
+//! One office, alone in its process.
+
+ghost use Rattle.std.specs.Prelude.{◌≡◌, ◌<◌, ◌∷◌, ◌-◌, ℕ, [], None, false, length, IfOk};
+ghost use Rattle.std.specs.Result.{result_err};
+ghost use Rattle.std.specs.String.{string_bytes};
+ghost use Rattle.own_lock.specs.Passes.{IsOf};
+ghost use Rattle.site_core.specs.Journals.{IsLegal};
+ghost use Rattle.locked_office.specs.Calls.{Stays, Looks, office_with};
+ghost use Rattle.socket_pump.specs.Last.{last_of};
+ghost use Rattle.office_runs.specs.Courses.{Goes, of_office};
+ghost use Rattle.office_runs.specs.Runs.{TellsCourse, TellsJournals, count_of, finished_of, runs_report};
+ghost use Rattle.office_runs.specs.refinement.Submitting.{standing};
+
+use crate::address::address;
+use crate::around::Around;
+use crate::client::submit_some;
+use crate::fault::RunFault;
+use crate::finished::add_sessions;
+use crate::gate::Gate;
+use crate::opened::{only, open_desk};
+use crate::report::{Ran, count_of, with_unfinished};
+use crate::shared::Shared;
+use crate::socket::{Binds, Socket};
+use crate::station::Station;
+use crate::watch::Watch;
+use locked_office::Desk;
+use office_map::{OfficeId, Plan};
+use own_lock::Pass;
+use session_language::Program;
+use site_core::Office;
+use socket_pump::Pump;
+use std::alloc::{AllocError, Global};
+use std::io::ErrorKind;
+use std::net::{Ipv4Addr, SocketAddr};
+use std::rt::Clock;
+use std::sync::Wait;
+use std::time::Instant;
+
+/// An office at its plan's address, which turns so often. Those of the sessions that are its own are submitted as it takes
+/// them. It takes all its turns, since neighbours may need it after its own sessions have finished.
+///
+/// # Errors
+/// Where nothing was done: `BindFailed`, `NoClock`, `Memory`. What ends a run before its turns are over is told in what it answers,
+/// with what stands.
+pub fn run_office<R: Wait + Clock, B: Binds, G: Gate, W: Watch>(
+    rt: &R,
+    alloc: Global,
+    plan: &Plan,
+    me: OfficeId,
+    programs: &[Program],
+    turns: u64,
+    around: &Around<'_, B, G, W>,
+) -> Result<Ran, RunFault>
+    requires { me < length plan.now.offices }
+    ensures tells { IfOk result (λ r. TellsJournals plan.now (me ∷ []) (count_of programs.now me) r.unfinished (string_bytes r.text)) }
+    ensures ran { IfOk result (λ r. TellsCourse B.Socket.tells plan.now me programs.now turns r) }
+{
+    let mut station = station(rt, alloc, plan, me, around.binds)?;
+    let (desk, passes) = open_desk(alloc, plan, me, 1)?;
+    let Some(mut pass) = only(&desk, passes) else {
+        return Err(RunFault::Memory);
+    };
+    let shared = Shared::new(count_of(programs, me) as u64);
+    let fault = take_turns(
+        rt,
+        &mut station,
+        &desk,
+        &mut pass,
+        me,
+        programs,
+        turns,
+        around.gate,
+        around.watch,
+        &shared,
+    )
+    .err();
+    told(
+        rt,
+        alloc,
+        plan,
+        &desk,
+        &mut pass,
+        count_of(programs, me),
+        fault,
+    )
+}
+
+/// What turns the office: a pump, and a socket at the plan's address that knows those of its neighbours.
+fn station<R: Clock, B: Binds>(
+    rt: &R,
+    alloc: Global,
+    plan: &Plan,
+    me: OfficeId,
+    binds: &B,
+) -> Result<Station<B::Socket>, RunFault>
+    requires { me < length plan.now.offices }
+    ensures key { IfOk result (λ s. s.pump.key ≡ (plan.now, me)) }
+    ensures last { IfOk result (λ s. (v n : ℕ) → last_of s.pump.lasts v n ≡ None) }
+{
+    let Some(at) = address(plan, me) else {
+        let nowhere = SocketAddr::from((Ipv4Addr::UNSPECIFIED, 0));
+        return Err(RunFault::BindFailed(nowhere, ErrorKind::InvalidInput));
+    };
+    let mut socket = match binds.bind(at) {
+        Ok((socket, _)) => socket,
+        Err(error) => return Err(RunFault::BindFailed(at, error.kind())),
+    };
+    for v in plan.neighbours(me) {
+        if let Some(at) = address(plan, *v) {
+            socket.set_peer(*v, at);
+        }
+    }
+    let pump = Pump::open(alloc, plan, me)?;
+    match Instant::now(rt) {
+        Ok(start) => Ok(Station::new(pump, socket, start)),
+        Err(_) => Err(RunFault::NoClock),
+    }
+}
+
+/// The turns, each after those sessions are submitted that the office takes.
+fn take_turns<R: Wait + Clock, S: Socket, G: Gate, W: Watch>(
+    rt: &R,
+    station: &mut Station<S>,
+    desk: &Desk,
+    pass: &mut Pass<Office>,
+    me: OfficeId,
+    programs: &[Program],
+    turns: u64,
+    gate: &G,
+    watch: &W,
+    shared: &Shared,
+) -> Result<(), RunFault>
+    requires key { desk.now.key ≡ station.old.pump.key }
+    requires of { IsOf desk.now pass.old }
+    requires idle { pass.old.holds ≡ false }
+    ensures stays { Stays desk.now pass.old pass.new }
+    ensures goes { Goes (result_err result) S.tells pass.old.tag desk.now.key (standing pass.old (S.account station.old.socket) (last_of station.old.pump.lasts))
+        (standing pass.new (S.account station.new.socket) (last_of station.new.pump.lasts)) turns (of_office me programs.now) }
+{
+    let mut next = 0;
+    for turn in 0..turns {
+        match submit_some(rt, desk, pass, me, programs, &mut next) {
+            Ok(()) => {}
+            Err(fault) => return Err(fault),
+        }
+        gate.before(me);
+        match station.turn(rt, desk, pass, shared) {
+            Ok(()) => {}
+            Err(fault) => return Err(fault),
+        }
+        station.tell(true, watch, shared);
+    }
+    Ok(())
+}
+
+/// What came of it.
+fn told<R: Wait>(
+    rt: &R,
+    alloc: Global,
+    plan: &Plan,
+    desk: &Desk,
+    pass: &mut Pass<Office>,
+    sessions: usize,
+    fault: Option<RunFault>,
+) -> Result<Ran, RunFault>
+    requires of { IsOf desk.now pass.old }
+    requires idle { pass.old.holds ≡ false }
+    ensures looked { IfOk result (λ _. Looks desk.now.key pass.old pass.new) }
+    ensures fault { IfOk result (λ r. r.fault ≡ fault) }
+    ensures text { IfOk result (λ r. string_bytes r.text ≡ runs_report plan.now (office_with desk.now.key pass.new.seen ∷ []) r.unfinished) }
+    ensures left { IfOk result (λ r. r.unfinished ≡ sessions - length (finished_of (office_with desk.now.key pass.new.seen))) }
+{
+    let mut text = String::new(alloc);
+    let finished = add_sessions(rt, desk, pass, plan, &mut text)?;
+    Ok(with_unfinished(text, sessions.saturating_sub(finished), fault)?)
+}

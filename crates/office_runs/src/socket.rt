@@ -1,0 +1,44 @@
+//! Wires that are bound to an address.
+
+ghost use Rattle.std.specs.Prelude.{◌≡◌, ◌<◌};
+
+use office_map::OfficeId;
+use socket_pump::{Wire, WireFailed};
+use std::io;
+use std::net::SocketAddr;
+
+/// A wire that has an address, knows those of the neighbours, and can be waited at.
+pub trait Socket: Wire + Drop {
+    /// The address that it has.
+    ///
+    /// # Errors
+    /// What the system answers.
+    fn address(&self) -> io::Result<SocketAddr>;
+
+    /// Where a neighbour is, from now on.
+    fn set_peer(&mut self, v: OfficeId, at: SocketAddr)
+        requires { v < 16 }
+        ensures { Self.account self.new ≡ Self.account self.old };
+
+    /// Waits for a datagram, or until it is woken, so many milliseconds at most.
+    fn poll(&mut self, most: u64) -> Result<(), WireFailed>
+        ensures { Self.account self.new ≡ Self.account self.old };
+}
+
+/// What wakes who waits at a socket.
+pub trait Wakes: Drop {
+    fn wake(&self);
+}
+
+/// What binds sockets.
+pub trait Binds {
+    type Socket: Socket;
+
+    type Alarm: Wakes;
+
+    /// A socket at this address, and what wakes who waits at it. At port 0 it has one of the system's choice.
+    ///
+    /// # Errors
+    /// What the system answers.
+    fn bind(&self, at: SocketAddr) -> io::Result<(Self::Socket, Self::Alarm)>;
+}

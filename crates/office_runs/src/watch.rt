@@ -1,0 +1,24 @@
+//! How far a run is, for people.
+
+/// How many of a run's sessions finished, of how many, and how many datagrams came, went and were refused.
+#[derive(Clone, Copy, Debug, PartialEq, Eq)]
+pub struct Progress {
+    pub finished: u64,
+    pub sessions: u64,
+    pub came: u64,
+    pub went: u64,
+    pub refused: u64,
+}
+
+/// Who looks on. It is told about once a second while a run goes on.
+pub trait Watch {
+    fn tell(&self, progress: Progress);
+}
+
+/// Nobody.
+#[derive(Clone, Copy, Debug)]
+pub struct Quiet;
+
+impl Watch for Quiet {
+    fn tell(&self, _progress: Progress) {}
+}

@@ -1,0 +1,337 @@
+use crate::tests::memory::{Mailbox, MemorySockets};
+use office_map::{OfficeId, Plan};
+use office_runs::live::live;
+use office_runs::run::run_office;
+use office_runs::{
+    Around, Gate, Open, Progress, Quiet, Ran, RunFault, UdpSockets, Watch, without_address,
+};
+use session_language::{Program, read_sessions};
+use std::alloc::Global;
+use std::io::ErrorKind;
+use std::rt::Clock;
+use std::sync::Wait;
+use std::sync::atomic::{AtomicU64, Ordering};
+use std::test::Fail;
+use std::thread::{Threads, yield_now};
+
+mod memory;
+
+/// Three offices in a row, with a record of each pair.
+const ROW: &str =
+    "plan 1 run 9\noffice a -\noffice b -\noffice c -\npair a b fork b\npair b c fork b\nrecord r a b 1 at a\nrecord s b c 2 at c\n";
+
+const ROW_SESSIONS: &str =
+    "session a\nrepeat 3\nset r = read r * 2\nend\ngive read r\nend\nsession c\nset s = read s + 5\ngive read s\nend\nsession b\nset r = read r + read s\nset s = 0\ngive read r\nend\n";
+
+/// Two offices that have addresses and share nothing.
+const APART: &str =
+    "plan 1 run 3\noffice a 127.0.0.1:47001\noffice b 127.0.0.1:47002\npair a b fork a\n";
+
+const GIVE: &str = "session a\ngive 1\nend\n";
+
+fn plan(alloc: Global, text: &str) -> Result<Plan, Fail> {
+    Ok(Plan::read(alloc, text.as_bytes())?)
+}
+
+fn programs(alloc: Global, plan: &Plan, text: &str) -> Result<Vec<Program>, Fail> {
+    Ok(read_sessions(alloc, text.as_bytes(), plan)?)
+}
+
+/// What a run of the plan's offices on threads answers, over sockets in memory.
+fn live_in_memory<R: Threads + Wait + Clock + Sync, G: Gate + Sync>(
+    rt: &R,
+    alloc: Global,
+    text: &str,
+    sessions: &str,
+    refused: u64,
+    gate: &G,
+) -> Result<Result<Ran, RunFault>, Fail> {
+    let plan = plan(alloc, text)?;
+    let programs = programs(alloc, &plan, sessions)?;
+    let boxes = Mailbox::some(alloc)?;
+    let binds = MemorySockets::new(rt, alloc, &boxes, refused, u64::MAX);
+    let around = Around {
+        binds: &binds,
+        gate,
+        watch: &Quiet,
+    };
+    Ok(live(rt, alloc, &plan, &programs, &around))
+}
+
+/// The sessions of three offices finish, and are told by office.
+#[test]
+fn three_offices_finish_on_threads(rt: HostRuntime) -> Result<(), Fail> {
+    let ran = live_in_memory(&rt, rt.alloc(), ROW, ROW_SESSIONS, u64::MAX, &Open)?;
+    assert!(rt;
+        is_told(
+            ran,
+            &[
+                "a.1 done reads r=",
+                "b.1 done reads r=",
+                "c.1 done reads s=",
+                "unfinished 0"
+            ]
+        )
+    );
+    Ok(())
+}
+
+/// Whether nothing is left, no fault is told, and the lines begin so.
+fn is_told(ran: Result<Ran, RunFault>, lines: &[&str]) -> bool {
+    match ran {
+        Ok(ran) => {
+            ran.unfinished == 0 && ran.fault.is_none() && begins(ran.text.as_str(), lines)
+        }
+        Err(_) => false,
+    }
+}
+
+fn begins(text: &str, lines: &[&str]) -> bool {
+    let mut count = 0usize;
+    for line in text.lines() {
+        if !lines
+            .get(count)
+            .is_some_and(|start| line.starts_with(*start))
+        {
+            return false;
+        }
+        count = count.saturating_add(1);
+    }
+    count == lines.len()
+}
+
+/// Lets the first turn of each of the first two offices go on only when it has seen the other's.
+#[derive(Drop)]
+struct Meeting {
+    seen: [AtomicU64; 2],
+    missed: AtomicU64,
+}
+
+impl Gate for Meeting {
+    fn before(&self, office: OfficeId) {
+        let (Some(own), Some(other)) = (
+            self.seen.get(office.index()),
+            self.seen.get(1usize.saturating_sub(office.index())),
+        ) else {
+            return;
+        };
+        own.store(1, Ordering::SeqCst);
+        for _ in 0..100_000 {
+            if other.load(Ordering::SeqCst) == 1 {
+                return;
+            }
+            yield_now();
+        }
+        self.missed.store(1, Ordering::SeqCst);
+    }
+}
+
+/// Two offices wait for each other's first turn, so they run at the same time.
+#[test]
+fn offices_run_at_the_same_time(rt: HostRuntime) -> Result<(), Fail> {
+    let gate = Meeting {
+        seen: [AtomicU64::new(0), AtomicU64::new(0)],
+        missed: AtomicU64::new(0),
+    };
+    let ran = live_in_memory(&rt, rt.alloc(), ROW, ROW_SESSIONS, u64::MAX, &gate)?;
+    let told = ran.is_ok_and(|ran| ran.unfinished == 0);
+    assert!(rt; told);
+    assert_eq!(rt; gate.missed.load(Ordering::SeqCst), 0);
+    Ok(())
+}
+
+/// Says no to the thread with that number, from 0.
+#[derive(Drop)]
+struct NoThreadAt {
+    asked: AtomicU64,
+    refused: u64,
+}
+
+impl Gate for NoThreadAt {
+    fn before(&self, _office: OfficeId) {}
+
+    fn may_start(&self) -> bool {
+        self.asked.fetch_add(1, Ordering::SeqCst) != self.refused
+    }
+}
+
+/// Whichever thread can't be started, the run ends with that, and says what stands.
+#[test]
+fn a_thread_that_cannot_be_started_is_told(rt: HostRuntime) -> Result<(), Fail> {
+    for refused in 0..6 {
+        let gate = NoThreadAt {
+            asked: AtomicU64::new(0),
+            refused,
+        };
+        let ran = live_in_memory(&rt, rt.alloc(), ROW, ROW_SESSIONS, u64::MAX, &gate)?;
+        assert_eq!(rt; ran.map(|ran| ran.fault), Ok(Some(RunFault::NoThread)));
+    }
+    Ok(())
+}
+
+/// Whichever socket can't be bound, nothing runs.
+#[test]
+fn a_socket_that_cannot_be_bound_is_told(rt: HostRuntime) -> Result<(), Fail> {
+    for refused in 0..3 {
+        let ran = live_in_memory(&rt, rt.alloc(), ROW, ROW_SESSIONS, refused, &Open)?;
+        assert!(rt; is_bind_fault(ran));
+    }
+    Ok(())
+}
+
+fn is_bind_fault(ran: Result<Ran, RunFault>) -> bool {
+    match ran {
+        Err(RunFault::BindFailed(_, kind)) => kind == ErrorKind::AddrInUse,
+        _ => false,
+    }
+}
+
+/// An office alone runs its session in one turn.
+#[test]
+fn an_office_runs_alone(rt: HostRuntime) -> Result<(), Fail> {
+    let ran = alone(&rt, rt.alloc(), 1, u64::MAX, &Quiet)?;
+    assert!(rt; is_told(ran, &["a.1 done reads - writes - gives 1", "unfinished 0"]));
+    Ok(())
+}
+
+/// Where the first call of its socket fails nothing was done yet; where it is the second, the session has finished. Either is told,
+/// with what stands.
+#[test]
+fn a_socket_that_fails_ends_the_run(rt: HostRuntime) -> Result<(), Fail> {
+    let first = alone(&rt, rt.alloc(), 9, 0, &Quiet)?;
+    assert!(rt; is_broken(first, &["unfinished 1"]));
+    let second = alone(&rt, rt.alloc(), 9, 1, &Quiet)?;
+    assert!(rt;
+        is_broken(
+            second,
+            &["a.1 done reads - writes - gives 1", "unfinished 0"]
+        )
+    );
+    Ok(())
+}
+
+/// Whether it ended by a failing socket, and the lines begin so.
+fn is_broken(ran: Result<Ran, RunFault>, lines: &[&str]) -> bool {
+    match ran {
+        Ok(ran) => ran.fault == Some(RunFault::WireFailed) && begins(ran.text.as_str(), lines),
+        Err(_) => false,
+    }
+}
+
+/// How often it was told how far a run is, and how many sessions it had finished at last.
+#[derive(Drop)]
+struct Told {
+    times: AtomicU64,
+    finished: AtomicU64,
+}
+
+impl Watch for Told {
+    fn tell(&self, progress: Progress) {
+        self.times.fetch_add(1, Ordering::SeqCst);
+        self.finished.store(progress.finished, Ordering::SeqCst);
+    }
+}
+
+/// A run of more than a second tells once or twice how far it is.
+#[test]
+fn who_looks_on_is_told(rt: HostRuntime) -> Result<(), Fail> {
+    let told = Told {
+        times: AtomicU64::new(0),
+        finished: AtomicU64::new(0),
+    };
+    let ran = alone(&rt, rt.alloc(), 1_200, u64::MAX, &told)?;
+    assert!(rt; ran.is_ok_and(|ran| ran.fault.is_none()));
+    assert!(rt; told.times.load(Ordering::SeqCst) > 0);
+    assert_eq!(rt; told.finished.load(Ordering::SeqCst), 1);
+    Ok(())
+}
+
+/// What a run of the first office alone answers, of which one session is its own.
+fn alone<R: Wait + Clock, W: Watch>(
+    rt: &R,
+    alloc: Global,
+    turns: u64,
+    fails_at: u64,
+    watch: &W,
+) -> Result<Result<Ran, RunFault>, Fail> {
+    let plan = plan(alloc, APART)?;
+    let programs = programs(alloc, &plan, GIVE)?;
+    let boxes = Mailbox::some(alloc)?;
+    let binds = MemorySockets::new(rt, alloc, &boxes, u64::MAX, fails_at);
+    let around = Around {
+        binds: &binds,
+        gate: &Open,
+        watch,
+    };
+    if plan.offices() == 0 {
+        return Err(Fail::from("an office"));
+    }
+    Ok(run_office(
+        rt,
+        alloc,
+        &plan,
+        OfficeId::new(0),
+        &programs,
+        turns,
+        &around,
+    ))
+}
+
+/// The first office's neighbour has an address, and the third one's hasn't.
+#[test]
+fn an_office_without_an_address_is_found(rt: HostRuntime) -> Result<(), Fail> {
+    let plan = plan(
+        rt.alloc(),
+        "plan 1 run 3\noffice a 127.0.0.1:47001\noffice b 127.0.0.1:47002\noffice c -\npair a b fork a\npair b c fork b\n",
+    )?;
+    assert_eq!(rt; without_address(&plan, OfficeId::new(0)), None);
+    assert_eq!(rt;
+        without_address(&plan, OfficeId::new(1)),
+        Some(OfficeId::new(2))
+    );
+    assert_eq!(rt;
+        without_address(&plan, OfficeId::new(2)),
+        Some(OfficeId::new(2))
+    );
+    Ok(())
+}
+
+/// Two offices hand a record to and fro for 1,000 sessions, over UDP.
+#[test]
+fn a_thousand_sessions_over_udp(rt: HostRuntime) -> Result<(), Fail> {
+    let alloc = rt.alloc();
+    let plan = plan(
+        alloc,
+        "plan 1 run 9\noffice a -\noffice b -\npair a b fork a\nrecord r a b 0 at a\n",
+    )?;
+    let mut text = String::new(alloc);
+    for _ in 0..500 {
+        text.push_str("session a\nset r = read r + 1\nend\nsession b\nset r = read r + 1\nend\n")?;
+    }
+    let programs = programs(alloc, &plan, text.as_str())?;
+    let binds = UdpSockets::new(&rt, alloc);
+    let around = Around {
+        binds: &binds,
+        gate: &Open,
+        watch: &Quiet,
+    };
+    let ran = live(&rt, alloc, &plan, &programs, &around);
+    assert!(rt; has_counted(ran, 1_000, 500_500));
+    Ok(())
+}
+
+/// Whether all sessions finished, so many, and the values that they wrote have this sum.
+fn has_counted(ran: Result<Ran, RunFault>, count: usize, wanted: u64) -> bool {
+    let Ok(ran) = ran else {
+        return false;
+    };
+    let mut sum = 0u64;
+    for line in ran.text.lines() {
+        if let Some(place) = line.find(" writes r=") {
+            let value = line.split_at(place + 10).1;
+            let end = value.find(" ").unwrap_or(0);
+            sum = sum.wrapping_add(value.split_at(end).0.parse::<u64>().unwrap_or(0));
+        }
+    }
+    ran.unfinished == 0 && ran.text.lines().count().checked_sub(1) == Some(count) && sum == wanted
+}

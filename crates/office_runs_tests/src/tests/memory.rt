@@ -1,0 +1,192 @@
+//! Sockets in memory. Their ports are the numbers of mailboxes, from 1.
+
+ghost use Rattle.std.specs.Prelude.{◌≡◌, OnOk, OnErr};
+
+use office_map::OfficeId;
+use office_runs::{Binds, Socket, Wakes};
+use socket_pump::{Datagram, Wire, WireFailed};
+use std::alloc::{AllocError, Global};
+use std::collections::VecDeque;
+use std::io;
+use std::net::{Ipv4Addr, SocketAddr};
+use std::rt::Clock;
+use std::sync::atomic::{AtomicU64, Ordering};
+use std::sync::{Mutex, Wait};
+use std::thread::{sleep, yield_now};
+use std::time::Duration;
+
+/// The datagrams that came to a socket and weren't received.
+#[derive(Drop)]
+pub(crate) struct Mailbox {
+    came: Mutex<VecDeque<Datagram>>,
+}
+
+impl Mailbox {
+    /// As many as a plan may have offices.
+    pub(crate) fn some(alloc: Global) -> Result<Vec<Mailbox>, AllocError> {
+        let mut boxes = Vec::new(alloc);
+        for _ in 0..16 {
+            boxes.push(Mailbox {
+                came: Mutex::new(VecDeque::new(alloc)),
+            })?;
+        }
+        Ok(boxes)
+    }
+}
+
+/// What binds them. The one with this number, from 0, is refused, and of each the call of `receive` or `send` with that number
+/// fails, from 0.
+#[derive(Drop)]
+pub(crate) struct MemorySockets<'a, R: Wait + Clock> {
+    rt: &'a R,
+    alloc: Global,
+    boxes: &'a [Mailbox],
+    bound: AtomicU64,
+    refused: u64,
+    fails_at: u64,
+}
+
+impl<'a, R: Wait + Clock> MemorySockets<'a, R> {
+    pub(crate) fn new(
+        rt: &'a R,
+        alloc: Global,
+        boxes: &'a [Mailbox],
+        refused: u64,
+        fails_at: u64,
+    ) -> MemorySockets<'a, R> {
+        MemorySockets {
+            rt,
+            alloc,
+            boxes,
+            bound: AtomicU64::new(0),
+            refused,
+            fails_at,
+        }
+    }
+}
+
+/// One of them.
+#[derive(Drop)]
+pub(crate) struct MemorySocket<'a, R: Wait + Clock> {
+    rt: &'a R,
+    alloc: Global,
+    boxes: &'a [Mailbox],
+    own: usize,
+    peers: [usize; 16],
+    calls: u64,
+    fails_at: u64,
+    failures: u64,
+}
+
+/// Nobody sleeps at a socket in memory.
+#[derive(Clone, Copy, Drop)]
+pub(crate) struct NoAlarm;
+
+impl Wakes for NoAlarm {
+    fn wake(&self) {}
+}
+
+impl<'a, R: Wait + Clock> Binds for MemorySockets<'a, R> {
+    type Socket = MemorySocket<'a, R>;
+
+    type Alarm = NoAlarm;
+
+    fn bind(&self, at: SocketAddr) -> io::Result<(MemorySocket<'a, R>, NoAlarm)> {
+        let count = self.bound.fetch_add(1, Ordering::SeqCst);
+        if count == self.refused {
+            return Err(io::Error::from(io::ErrorKind::AddrInUse));
+        }
+        let own = if at.port() == 0 {
+            count as usize
+        } else {
+            usize::from(at.port()) - 1
+        };
+        let socket = MemorySocket {
+            rt: self.rt,
+            alloc: self.alloc,
+            boxes: self.boxes,
+            own,
+            peers: [usize::MAX; 16],
+            calls: 0,
+            fails_at: self.fails_at,
+            failures: 0,
+        };
+        Ok((socket, NoAlarm))
+    }
+}
+
+impl<'a, R: Wait + Clock> MemorySocket<'a, R> {
+    ghost use Rattle.socket_pump.specs.Wires.{risen};
+
+    // A call, and how it fails, if it does.
+    fn called(&mut self) -> Result<(), WireFailed>
+        ensures fine { OnOk result (self.new.failures ≡ self.old.failures) }
+        ensures failed { OnErr result (self.new.failures ≡ risen self.old.failures) }
+    {
+        let fails = self.calls == self.fails_at;
+        self.calls = self.calls.saturating_add(1);
+        if !fails {
+            return Ok(());
+        }
+        self.failures = self.failures.saturating_add(1);
+        Err(WireFailed)
+    }
+}
+
+impl<'a, R: Wait + Clock> Wire for MemorySocket<'a, R> {
+    ghost use Rattle.socket_pump.specs.Wires.{counted};
+    ghost use Rattle.std.specs.Prelude.{false};
+
+    ghost account = { λ w. counted w.failures };
+
+    ghost tells = { false };
+
+    fn receive(&mut self, buffer: &mut [u8; 64]) -> Result<Option<usize>, WireFailed> {
+        self.called()?;
+        let Some(mailbox) = self.boxes.get(self.own) else {
+            return Ok(None);
+        };
+        let datagram = mailbox.came.lock(self.rt).pop_front();
+        let Some(datagram) = datagram else {
+            return Ok(None);
+        };
+        let count = datagram.bytes().len().min(64);
+        buffer[..count].copy_from_slice(&datagram.bytes()[..count]);
+        Ok(Some(count))
+    }
+
+    fn send(&mut self, to: OfficeId, bytes: &[u8]) -> Result<(), WireFailed> {
+        self.called()?;
+        let peer = self.peers.get(to.index()).copied().unwrap_or(usize::MAX);
+        let Some(mailbox) = self.boxes.get(peer) else {
+            return Ok(());
+        };
+        let Ok(datagram) = Datagram::of(self.alloc, bytes) else {
+            return Ok(());
+        };
+        let mut came = mailbox.came.lock(self.rt);
+        // Where there is no room it is lost.
+        let _ = came.push_back(datagram);
+        Ok(())
+    }
+}
+
+impl<'a, R: Wait + Clock> Socket for MemorySocket<'a, R> {
+    fn address(&self) -> io::Result<SocketAddr> {
+        let port = u16::try_from(self.own).unwrap_or(0).wrapping_add(1);
+        Ok(SocketAddr::from((Ipv4Addr::LOCALHOST, port)))
+    }
+
+    fn set_peer(&mut self, v: OfficeId, at: SocketAddr) {
+        self.peers[v.index()] = usize::from(at.port()).saturating_sub(1);
+    }
+
+    fn poll(&mut self, most: u64) -> Result<(), WireFailed> {
+        if most > 0 {
+            sleep(self.rt, Duration::from_millis(1));
+        } else {
+            yield_now();
+        }
+        Ok(())
+    }
+}
