@@ -1,5 +1,5 @@
 -- What a fault says of the texts of a command's words, those that are known.
-use Rattle.std.proofs.Common.{◌≡◌, ℕ, zero, suc, List, [], ◌∷◌, take, Contains, Option, Some, None, Ok, refl, sym, subst, arith, inl, inr}
+use Rattle.std.proofs.Common.{◌≡◌, ◌⊎◌, ℕ, zero, suc, List, [], ◌∷◌, take, Contains, Option, Some, Ok, refl, sym, subst, arith, inl, inr}
 use Rattle.input_texts.specs.Words.{HasText, HaveTexts, Unread, unread}
 use Rattle.office_map.specs.PlanValue.{PlanValue}
 use Rattle.session_meaning.specs.ProgramValue.{ProgramValue}
@@ -9,83 +9,112 @@ use Rattle.drink_commands.specs.declared.input.Input.{Input}
 use Rattle.drink_commands.specs.declared.input.Input.TheVariants as inputs
 use Rattle.drink_commands.specs.declared.fault.Why.{Why}
 use Rattle.drink_commands.specs.declared.fault.Fault.{Fault}
-use Rattle.drink_commands.specs.declared.fault.Fault.TheVariants.{Memory, ReadFailed, Refused, WriteFailed}
-use Rattle.drink_commands.specs.Fault.{IsAmong, IsFaultAt, IsWriteFault, input_of}
+use Rattle.drink_commands.specs.declared.fault.Fault.TheVariants.{Memory, ReadFailed, Refused, NoSuchOffice, NoAddress, NoRun, CutShort, WriteFailed}
+use Rattle.drink_commands.specs.Fault.{IsAmong, IsFaultAt, IsWriteFault, refused_input}
 use Rattle.drink_commands.specs.Plans.{IsAcceptedAs}
-use Rattle.drink_commands.specs.Texts.{Accepts, IsJudged, Judges, Known, Refuses, nothing}
+use Rattle.drink_commands.specs.Texts.{Accepts, IsJudgedOr, Judges, Known, Refuses, nothing}
 
-weaker : (input : Input) (P Q : Why → Type 0) (f : Fault) → ((why : Why) → P why → Q why) → IsFaultAt input P f → IsFaultAt input Q f
+pub weaker : (input : Input) (P Q : Why → Type 0) (f : Fault) → ((why : Why) → P why → Q why) → IsFaultAt input P f → IsFaultAt input Q f
 weaker input P Q Memory k h = tt
 weaker input P Q (ReadFailed failed cause) k h = h
 weaker input P Q (Refused why remark) k (e, h) = (e, k why h)
+weaker input P Q (NoSuchOffice offices) k h = h
+weaker input P Q (NoAddress office) k h = h
+weaker input P Q (NoRun cause) k h = h
+weaker input P Q (CutShort cause) k h = h
 weaker input P Q (WriteFailed cause) k h = h
 
 -- a fault at an input of these
-pub among : (asked : List Input) (input : Input) (P : Why → Type 0) (f : Fault) → Contains asked input → IsFaultAt input P f → IsAmong asked (input_of f)
+pub among : (asked : List Input) (input : Input) (P : Why → Type 0) (f : Fault) → Contains asked input → IsFaultAt input P f → IsAmong asked f
 among asked input P Memory at h = tt
 among asked input P (ReadFailed failed cause) at h = subst (Contains asked) (sym h) at
 among asked input P (Refused why remark) at (e, h) = subst (Contains asked) (sym e) at
-among asked input P (WriteFailed cause) at h = absurd h
+among asked input P (NoSuchOffice offices) at h = h
+among asked input P (NoAddress office) at h = h
+among asked input P (NoRun cause) at h = h
+among asked input P (CutShort cause) at h = h
+among asked input P (WriteFailed cause) at h = tt
 
-among_more : (input : Input) (asked : List Input) (o : Option Input) → IsAmong asked o → IsAmong (input ∷ asked) o
-among_more input asked None h = tt
-among_more input asked (Some x) (k, lt, e) = (suc k, omega (arith, lt), e)
+contains_more : (input : Input) (asked : List Input) (x : Input) → Contains asked x → Contains (input ∷ asked) x
+contains_more input asked x (k, lt, e) = (suc k, omega (arith, lt), e)
 
-at_input : (known : Known) (asked : List Input) (f : Fault) → Judges known asked [] f → IsAmong asked (input_of f)
-at_input known [] f h = h
-at_input known (input ∷ asked) f h = h
+pub among_more : (input : Input) (asked : List Input) (f : Fault) → IsAmong asked f → IsAmong (input ∷ asked) f
+among_more input asked Memory h = tt
+among_more input asked (ReadFailed failed cause) h = contains_more input asked failed h
+among_more input asked (Refused why remark) h = contains_more input asked (refused_input why) h
+among_more input asked (NoSuchOffice offices) h = h
+among_more input asked (NoAddress office) h = h
+among_more input asked (NoRun cause) h = h
+among_more input asked (CutShort cause) h = h
+among_more input asked (WriteFailed cause) h = tt
 
-no_input : (f : Fault) → IsWriteFault f → IsAmong [] (input_of f)
+-- the writing failed, and no input is at fault
+pub no_input : (f : Fault) → IsWriteFault f → IsAmong [] f
 no_input Memory h = tt
 no_input (ReadFailed input cause) h = absurd h
 no_input (Refused why remark) h = absurd h
+no_input (NoSuchOffice offices) h = h
+no_input (NoAddress office) h = h
+no_input (NoRun cause) h = h
+no_input (CutShort cause) h = h
 no_input (WriteFailed cause) h = tt
 
-module _ (files : List ℕ → Option (List ℕ)) where
-  -- what the text of a word is, where it was accepted, and what is left then
-  abbrev pub IsTaken : Unread → List ℕ → Unread → Input → Known → Known → Type 0
-  IsTaken u word v input known next = (text : List ℕ) (after : Unread) → HasText files u word text after
-      → Accepts known input text next × (v ≡ after)
+at_input : (P : Fault → Type 0) (known : Known) (asked : List Input) (f : Fault) → Judges P known asked [] f → IsAmong asked f ⊎ P f
+at_input P known [] f h = h
+at_input P known (input ∷ asked) f h = h
 
+-- what is so before an input is asked for is so with it
+with_more : (P : Fault → Type 0) (input : Input) (asked : List Input) (f : Fault) → IsAmong asked f ⊎ P f → IsAmong (input ∷ asked) f ⊎ P f
+with_more P input asked f (inl h) = inl (among_more input asked f h)
+with_more P input asked f (inr h) = inr h
+
+-- what the text of a word is, where it was accepted, and what is left then
+abbrev pub IsTaken : (List ℕ → Option (List ℕ)) → Unread → List ℕ → Unread → Input → Known → Known → Type 0
+IsTaken files u word v input known next = (text : List ℕ) (after : Unread) → HasText files u word text after
+    → Accepts known input text next × (v ≡ after)
+
+-- P holds of the faults that come besides
+module _ (P : Fault → Type 0) (files : List ℕ → Option (List ℕ)) where
   -- a fault says what is so of the texts of these words, whichever are known
-  abbrev pub SaysOf : Unread → List (List ℕ) → Known → List Input → Fault → Type 0
-  SaysOf u words known asked f = (texts : List (List ℕ)) (n : ℕ) → HaveTexts files u (take n words) (take n texts) → Judges known asked (take n texts) f
+  abbrev pub SaysTexts : Unread → List (List ℕ) → Known → List Input → Fault → Type 0
+  SaysTexts u words known asked f = (texts : List (List ℕ)) (n : ℕ) → HaveTexts files u (take n words) (take n texts) → Judges P known asked (take n texts) f
 
   -- at the first of the words
   pub at_first : (u : Unread) (word : List ℕ) (words : List (List ℕ)) (known : Known) (input : Input) (asked : List Input) (f : Fault)
       → IsFaultAt input (λ why. (text : List ℕ) (after : Unread) → HasText files u word text after → Refuses known text why) f
-      → SaysOf u (word ∷ words) known (input ∷ asked) f
-  at_first u word words known input asked f h texts zero has = among (input ∷ asked) input _ f (0, omega arith, refl) h
+      → SaysTexts u (word ∷ words) known (input ∷ asked) f
+  at_first u word words known input asked f h texts zero has = inl (among (input ∷ asked) input _ f (0, omega arith, refl) h)
   at_first u word words known input asked f h [] (suc n) has = absurd has
   at_first u word words known input asked f h (text ∷ texts) (suc n) (after, has, more) = inl (weaker input _ _ f (λ why refused. refused text after has) h)
 
   -- at a later one, where the text of the first is accepted
   pub at_next : (u v : Unread) (word : List ℕ) (words : List (List ℕ)) (known next : Known) (input : Input) (asked : List Input) (f : Fault)
-      → IsTaken u word v input known next → SaysOf v words next asked f → SaysOf u (word ∷ words) known (input ∷ asked) f
-  at_next u v word words known next input asked f taken later texts zero has = among_more input asked (input_of f) (at_input next asked f (later [] 0 tt))
+      → IsTaken files u word v input known next → SaysTexts v words next asked f → SaysTexts u (word ∷ words) known (input ∷ asked) f
+  at_next u v word words known next input asked f taken later texts zero has = with_more P input asked f (at_input P next asked f (later [] 0 tt))
   at_next u v word words known next input asked f taken later [] (suc n) has = absurd has
   at_next u v word words known next input asked f taken later (text ∷ texts) (suc n) (after, has, more) =
       let it = taken text after has in
       inr (next, it.0, later texts n (subst (λ s. HaveTexts files s (take n words) (take n texts)) (sym it.1) more))
 
-  -- at none of them: all are accepted, and the writing failed
-  pub at_end : (u : Unread) (known : Known) (f : Fault) → IsWriteFault f → SaysOf u [] known [] f
-  at_end u known f h texts zero has = no_input f h
-  at_end u known f h [] (suc n) has = no_input f h
+  -- at none of them: all are accepted
+  pub at_end : (u : Unread) (known : Known) (f : Fault) → IsAmong [] f ⊎ P f → SaysTexts u [] known [] f
+  at_end u known f h texts zero has = h
+  at_end u known f h [] (suc n) has = h
   at_end u known f h (text ∷ texts) (suc n) has = absurd has
 
   pub judged : (standard : Option (List ℕ)) (u : Unread) (words : List (List ℕ)) (asked : List Input) (f : Fault) → u ≡ unread standard words
-      → SaysOf u words nothing asked f → IsJudged files standard words asked f
+      → SaysTexts u words nothing asked f → IsJudgedOr P files standard words asked f
   judged standard u words asked f e says texts n known =
       says texts n (subst (λ s. HaveTexts files s (take n words) (take n texts)) (sym e) known.1)
 
+module _ (files : List ℕ → Option (List ℕ)) where
   -- ---- which texts are accepted
 
   abbrev pub TakesPlan : Unread → List ℕ → Unread → PlanValue → Type 0
   TakesPlan u word v p = (text : List ℕ) (after : Unread) → HasText files u word text after → IsAcceptedAs text p × (v ≡ after)
 
   pub plan_taken : (u : Unread) (word : List ℕ) (v : Unread) (p : PlanValue) → TakesPlan u word v p
-      → IsTaken u word v inputs.Plan nothing (record nothing { plan = Some p })
+      → IsTaken files u word v inputs.Plan nothing (record nothing { plan = Some p })
   plan_taken u word v p h text after has = let it = h text after has in ((p, it.0, refl), it.1)
 
   abbrev pub TakesSessions : Unread → List ℕ → Unread → PlanValue → List ProgramValue → Type 0
@@ -93,7 +122,7 @@ module _ (files : List ℕ → Option (List ℕ)) where
       → (sessions_of p text ≡ Ok programs) × (v ≡ after)
 
   pub sessions_taken : (u : Unread) (word : List ℕ) (v : Unread) (p : PlanValue) (programs : List ProgramValue) → TakesSessions u word v p programs
-      → IsTaken u word v inputs.Sessions (record nothing { plan = Some p }) (record nothing { plan = Some p; programs = Some programs })
+      → IsTaken files u word v inputs.Sessions (record nothing { plan = Some p }) (record nothing { plan = Some p; programs = Some programs })
   sessions_taken u word v p programs h text after has = let it = h text after has in ((p, programs, refl, it.0, refl), it.1)
 
   abbrev pub TakesScript : Unread → List ℕ → Unread → PlanValue → List ProgramValue → List Act → Type 0
@@ -102,6 +131,6 @@ module _ (files : List ℕ → Option (List ℕ)) where
 
   pub script_taken : (u : Unread) (word : List ℕ) (v : Unread) (p : PlanValue) (programs : List ProgramValue) (acts : List Act)
       → TakesScript u word v p programs acts
-      → IsTaken u word v inputs.Script (record nothing { plan = Some p; programs = Some programs })
+      → IsTaken files u word v inputs.Script (record nothing { plan = Some p; programs = Some programs })
       (record { plan = Some p; programs = Some programs; acts = Some acts })
   script_taken u word v p programs acts h text after has = let it = h text after has in ((p, programs, acts, refl, refl, it.0, refl), it.1)

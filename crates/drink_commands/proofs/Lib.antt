@@ -2,3 +2,5 @@ pub mod Rows
 pub mod Limits
 pub mod Faults
 pub mod Reported
+pub mod Running
+pub mod Globals

@@ -1,8 +1,10 @@
 -- What a command wrote is what its texts mean.
-use Rattle.std.proofs.Common.{◌≡◌, ℕ, List, [], ◌∷◌, Option, sym, subst, ap, ◌∙◌}
+use Rattle.std.proofs.Common.{◌≡◌, ℕ, Bool, List, [], ◌∷◌, length, Option, Some, sym, subst, ap, ◌∙◌}
+use Rattle.std.specs.List.{range_with_len}
+use Rattle.std.specs.String.{string_bytes}
 use Rattle.std.specs.Io.KnownBytes.{Appends}
 use Rattle.input_texts.specs.Words.{HasText, HaveTexts, StandFor, Unread, unread}
-use Rattle.office_map.specs.PlanValue.{PlanValue}
+use Rattle.office_map.specs.PlanValue.{PlanValue, office_named}
 use Rattle.session_meaning.specs.ProgramValue.{ProgramValue}
 use Rattle.drink_commands.specs.Serial.{Reports, serial_report}
 use Rattle.frame_world.specs.Worlds.{opening}
@@ -11,6 +13,9 @@ use Rattle.script_runs.specs.Runs.{run_of}
 use Rattle.script_runs.specs.Transcript.{transcript, IsSerialRun}
 use Rattle.random_runs.specs.Runs.{Tells}
 use Rattle.drink_commands.specs.Random.{TellsRun}
+use Rattle.office_runs.specs.Runs.{TellsCourse, TellsJournals}
+use Rattle.office_runs.specs.declared.report.Ran.{Ran}
+use Rattle.drink_commands.specs.Run.{IsReached, WritesOffice, WritesOffices}
 use Rattle.drink_commands.specs.Simulation.{Simulates}
 use Rattle.drink_commands.proofs.Faults.{TakesPlan, TakesScript, TakesSessions}
 
@@ -67,4 +72,40 @@ simulated files u v w x a b c a_text b_text c_text p programs acts run old new p
       is_script = (script c_text last (subst (λ s. HasText files s c c_text last) (sym then_it.1) has_last)).0;
       written = subst (λ t. Appends old new t) (e ∙ ap (transcript p) same) written;
       serial = subst (λ xs. IsSerialRun (run_of (opening p) xs)) same serial;
+    }
+
+-- ---- offices that run
+
+pub ran_office : (tells : Bool) (files : List ℕ → Option (List ℕ)) (u v w : Unread) (a word b a_text b_text : List ℕ) (p : PlanValue) (me : ℕ) (programs seen : List ProgramValue)
+    (turns : ℕ) (run : Ran) (old new : Option (List ℕ)) → TakesPlan files u a v p → office_named p word ≡ Some me → IsReached p me → TakesSessions files v b w p programs
+    → HaveTexts files u (a ∷ b ∷ []) (a_text ∷ b_text ∷ []) → seen ≡ programs → TellsCourse tells p me seen turns run → Appends old new (string_bytes run.text)
+    → WritesOffice tells a_text word b_text turns run old new
+ran_office tells files u v w a word b a_text b_text p me programs seen turns run old new plan e reached sessions (after, has, (next, has_next, more)) same told written =
+    let it = plan a_text after has in
+    record {
+      p = p;
+      me = me;
+      programs = programs;
+      is_plan = it.0;
+      is_office = e;
+      is_reached = reached;
+      are_sessions = (sessions b_text next (subst (λ s. HasText files s b b_text next) (sym it.1) has_next)).0;
+      told = subst (λ ps. TellsCourse tells p me ps turns run) same told;
+      written = written;
+    }
+
+pub ran_offices : (files : List ℕ → Option (List ℕ)) (u v w : Unread) (a b a_text b_text : List ℕ) (p : PlanValue) (programs seen : List ProgramValue)
+    (run : Ran) (old new : Option (List ℕ)) → TakesPlan files u a v p → TakesSessions files v b w p programs
+    → HaveTexts files u (a ∷ b ∷ []) (a_text ∷ b_text ∷ []) → seen ≡ programs
+    → TellsJournals p (range_with_len 0 (length p.offices)) (length seen) run.unfinished (string_bytes run.text) → Appends old new (string_bytes run.text)
+    → WritesOffices a_text b_text run old new
+ran_offices files u v w a b a_text b_text p programs seen run old new plan sessions (after, has, (next, has_next, more)) same told written =
+    let it = plan a_text after has in
+    record {
+      p = p;
+      programs = programs;
+      is_plan = it.0;
+      are_sessions = (sessions b_text next (subst (λ s. HasText files s b b_text next) (sym it.1) has_next)).0;
+      told = subst (λ ps. TellsJournals p (range_with_len 0 (length p.offices)) (length ps) run.unfinished (string_bytes run.text)) same told;
+      written = written;
     }

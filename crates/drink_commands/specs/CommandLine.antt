@@ -1,11 +1,11 @@
 -- What a command line asks for: the commands that there are, in the terms of the crate that reads them.
-use Rattle.std.specs.Prelude.{◌≡◌, ◌<◌, ◌^◌, ℕ, List, true, false, Option, Some, option_map, option_and_then, unwrap_or, codes}
+use Rattle.std.specs.Prelude.{◌≡◌, ◌<◌, ◌^◌, ℕ, List, [], ◌∷◌, true, false, Option, Some, option_map, option_and_then, unwrap_or, codes}
 use Rattle.std.specs.Str.{bytes_eq}
 use Rattle.std.specs.Str.Parse.{IsNumeral, without_leading_plus, digits_value}
 use Rattle.clap.specs.Words.{App, Row, Rule, Text, first_of, new_app, new_rule, subcommand_of, with_rule, with_subcommand}
 use Rattle.clap.specs.declared.builder.value_parser.ValueParser.TheVariants as parsers
 use Rattle.drink_commands.specs.declared.command_line.Request.{Request}
-use Rattle.drink_commands.specs.declared.command_line.Request.TheVariants.{Serial, Sim, Random}
+use Rattle.drink_commands.specs.declared.command_line.Request.TheVariants.{Serial, Sim, Random, Run, Live}
 
 -- a word that must be there
 abbrev pub required : Text → Rule
@@ -14,6 +14,10 @@ required id = record (new_rule id) { required = true }
 -- --ID N, which must be there, with a number from the least to the most
 abbrev pub numbered : Text → ℕ → ℕ → Rule
 numbered id least most = record (required id) { long = Some id; value_names = 1; parser = Some (parsers.Unsigned least most) }
+
+-- --ID N, which need not be there, with a number from the least to the most; where it isn't, the usual one is meant
+abbrev pub optional : Text → ℕ → ℕ → Text → Rule
+optional id least most usual = record (new_rule id) { long = Some id; value_names = 1; defaults = usual ∷ []; parser = Some (parsers.Unsigned least most) }
 
 -- serial PLAN SESSIONS
 abbrev pub serial_command : App
@@ -30,12 +34,26 @@ random_words = with_rule (with_rule (new_app (codes "random")) (required (codes 
 abbrev pub random_command : App
 random_command = with_rule (with_rule (with_rule random_words (numbered (codes "seed") 0 18446744073709551615)) (numbered (codes "loss") 0 100)) (numbered (codes "steps") 1 1000000)
 
+-- run PLAN OFFICE SESSIONS [--turns N]
+abbrev pub run_words : App
+run_words = with_rule (with_rule (with_rule (new_app (codes "run")) (required (codes "PLAN"))) (required (codes "OFFICE"))) (required (codes "SESSIONS"))
+
+abbrev pub run_command : App
+run_command = with_rule run_words (optional (codes "turns") 1 100000 (codes "2000"))
+
+-- live PLAN SESSIONS
+abbrev pub live_command : App
+live_command = with_rule (with_rule (new_app (codes "live")) (required (codes "PLAN"))) (required (codes "SESSIONS"))
+
 abbrev pub some_command : App
 some_command = let a = new_app (codes "drink") in record a { top = record a.top { subcommand_required = true; has_version = true } }
 
 -- the program, one of whose commands must be there
+abbrev pub world_commands : App
+world_commands = with_subcommand (with_subcommand (with_subcommand some_command serial_command.top) sim_command.top) random_command.top
+
 abbrev pub program : App
-program = with_subcommand (with_subcommand (with_subcommand some_command serial_command.top) sim_command.top) random_command.top
+program = with_subcommand (with_subcommand world_commands run_command.top) live_command.top
 
 -- the word for an argument of the command; - where there is none
 abbrev pub word_of : Text → Option (List Row) → Text
@@ -56,13 +74,19 @@ IsNumber text n = IsNumeral 10 (without_leading_plus text) → digits_value 10 (
 -- a command of this name, with these arguments, asks for this
 abbrev pub Requests : Text → Option (List Row) → Request → Type 0
 Requests name rows (Serial plan sessions) =
-    (bytes_eq name (codes "sim") ≡ false) × (bytes_eq name (codes "random") ≡ false) × (plan.now ≡ word_of (codes "PLAN") rows) × (sessions.now ≡ word_of (codes "SESSIONS") rows)
+    (bytes_eq name (codes "sim") ≡ false) × (bytes_eq name (codes "random") ≡ false) × (bytes_eq name (codes "run") ≡ false)
+    × (bytes_eq name (codes "live") ≡ false) × (plan.now ≡ word_of (codes "PLAN") rows) × (sessions.now ≡ word_of (codes "SESSIONS") rows)
 Requests name rows (Sim plan sessions script) =
     (bytes_eq name (codes "sim") ≡ true) × (plan.now ≡ word_of (codes "PLAN") rows) × (sessions.now ≡ word_of (codes "SESSIONS") rows)
     × (script.now ≡ word_of (codes "SCRIPT") rows)
 Requests name rows (Random plan sessions schedule) =
     (bytes_eq name (codes "random") ≡ true) × (plan.now ≡ word_of (codes "PLAN") rows) × (sessions.now ≡ word_of (codes "SESSIONS") rows)
     × IsNumber (word_of (codes "seed") rows) schedule.seed × IsNumber (word_of (codes "loss") rows) schedule.loss × IsNumber (word_of (codes "steps") rows) schedule.steps
+Requests name rows (Run plan office sessions turns) =
+    (bytes_eq name (codes "run") ≡ true) × (plan.now ≡ word_of (codes "PLAN") rows) × (office.now ≡ word_of (codes "OFFICE") rows)
+    × (sessions.now ≡ word_of (codes "SESSIONS") rows) × IsNumber (word_of (codes "turns") rows) turns
+Requests name rows (Live plan sessions) =
+    (bytes_eq name (codes "live") ≡ true) × (plan.now ≡ word_of (codes "PLAN") rows) × (sessions.now ≡ word_of (codes "SESSIONS") rows)
 
 -- the words ask for this
 abbrev pub Asks : List Text → Request → Type 0

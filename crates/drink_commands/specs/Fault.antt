@@ -1,11 +1,11 @@
 -- What a fault says.
-use Rattle.std.specs.Prelude.{◌≡◌, List, Contains, Option, Some, None}
+use Rattle.std.specs.Prelude.{◌≡◌, ◌⊎◌, List, Contains, Option, Some, None}
 use Rattle.drink_commands.specs.declared.input.Input.{Input}
 use Rattle.drink_commands.specs.declared.input.Input.TheVariants as inputs
 use Rattle.drink_commands.specs.declared.fault.Why.{Why}
 use Rattle.drink_commands.specs.declared.fault.Why.TheVariants.{Plan, Ring, Sessions, Script}
 use Rattle.drink_commands.specs.declared.fault.Fault.{Fault}
-use Rattle.drink_commands.specs.declared.fault.Fault.TheVariants.{Memory, ReadFailed, Refused, WriteFailed}
+use Rattle.drink_commands.specs.declared.fault.Fault.TheVariants.{Memory, ReadFailed, Refused, NoSuchOffice, NoAddress, NoRun, CutShort, WriteFailed}
 
 -- the input whose text is refused so
 abbrev pub refused_input : Why → Input
@@ -19,6 +19,10 @@ abbrev pub input_of : Fault → Option Input
 input_of Memory = None
 input_of (ReadFailed input cause) = Some input
 input_of (Refused why remark) = Some (refused_input why)
+input_of (NoSuchOffice offices) = None
+input_of (NoAddress office) = Some inputs.Plan
+input_of (NoRun cause) = None
+input_of (CutShort cause) = None
 input_of (WriteFailed cause) = None
 
 -- an input wasn't read, or its text is refused for a reason of which P holds, or memory ran out
@@ -26,16 +30,30 @@ abbrev pub IsFaultAt : Input → (Why → Type 0) → Fault → Type 0
 IsFaultAt input P Memory = Unit {0}
 IsFaultAt input P (ReadFailed failed cause) = failed ≡ input
 IsFaultAt input P (Refused why remark) = (refused_input why ≡ input) × P why
-IsFaultAt input P (WriteFailed cause) = ⊥
+IsFaultAt input P _ = ⊥
 
 -- the writing failed
 abbrev pub IsWriteFault : Fault → Type 0
-IsWriteFault Memory = ⊥
-IsWriteFault (ReadFailed input cause) = ⊥
-IsWriteFault (Refused why remark) = ⊥
 IsWriteFault (WriteFailed cause) = Unit {0}
+IsWriteFault _ = ⊥
 
--- where an input is at fault, it is one of these
-abbrev pub IsAmong : List Input → Option Input → Type 0
-IsAmong inputs None = Unit {0}
-IsAmong inputs (Some input) = Contains inputs input
+-- one of these inputs wasn't read or its text is refused, or memory ran out, or the writing failed
+abbrev pub IsAmong : List Input → Fault → Type 0
+IsAmong inputs Memory = Unit {0}
+IsAmong inputs (ReadFailed input cause) = Contains inputs input
+IsAmong inputs (Refused why remark) = Contains inputs (refused_input why)
+IsAmong inputs (WriteFailed cause) = Unit {0}
+IsAmong inputs _ = ⊥
+
+-- a run can't begin; it ended before its time
+abbrev pub IsNoRun : Fault → Type 0
+IsNoRun (NoRun cause) = Unit {0}
+IsNoRun _ = ⊥
+
+abbrev pub IsCutShort : Fault → Type 0
+IsCutShort (CutShort cause) = Unit {0}
+IsCutShort _ = ⊥
+
+-- a run can't begin, or was cut short
+abbrev pub IsOfRun : Fault → Type 0
+IsOfRun f = IsNoRun f ⊎ IsCutShort f

@@ -8,3 +8,4 @@ pub mod Serial
 pub mod CommandLine
 pub mod Simulation
 pub mod Random
+pub mod Run

@@ -1,5 +1,5 @@
 -- Exit statuses.
-use Rattle.std.specs.Prelude.{◌≡◌, ◌⊎◌, ℕ, List, Option, Result, Ok, Err}
+use Rattle.std.specs.Prelude.{◌≡◌, ◌⊎◌, ℕ, Bool, List, Option, Result, Ok, Err}
 use Rattle.clap.specs.Words.{IsAmong, fault_of}
 use Rattle.clap.specs.declared.error.kind.ErrorKind.{ErrorKind}
 use Rattle.clap.specs.declared.error.kind.ErrorKind.TheVariants.{DisplayHelp, DisplayVersion}
@@ -18,7 +18,7 @@ abbrev pub IsShown : ErrorKind → Type 0
 IsShown kind = (kind ≡ DisplayHelp) ⊎ (kind ≡ DisplayVersion)
 
 -- The words ask for something that was done, or for help or the version.
-abbrev pub IsAnswered : (List ℕ → Option (List ℕ)) → Option (List ℕ) → List (List ℕ) → Option (List ℕ) → Option (List ℕ) → Type 0
-IsAnswered files standard words old new =
-    ((request : Request) × Asks words request × IsDone files standard request old new)
+abbrev pub IsAnswered : Bool → (List ℕ → Option (List ℕ)) → Option (List ℕ) → List (List ℕ) → Option (List ℕ) → Option (List ℕ) → Type 0
+IsAnswered tells files standard words old new =
+    ((request : Request) × Asks words request × IsDone tells files standard request 0 old new)
     ⊎ ((kind : ErrorKind) × IsShown kind × IsAmong kind (fault_of program words))

@@ -8,7 +8,7 @@ use Rattle.session_meaning.specs.ProgramValue.{ProgramValue}
 use Rattle.session_language.specs.Reading.{sessions_of}
 use Rattle.script_runs.specs.Script.{Act, IsScript, RefusesScript}
 use Rattle.drink_commands.specs.Plans.{IsAcceptedAs}
-use Rattle.drink_commands.specs.Fault.{IsAmong, IsFaultAt, input_of}
+use Rattle.drink_commands.specs.Fault.{IsAmong, IsFaultAt}
 use Rattle.drink_commands.specs.declared.input.Input.{Input}
 use Rattle.drink_commands.specs.declared.input.Input.TheVariants as inputs
 use Rattle.drink_commands.specs.declared.fault.Why.{Why}
@@ -44,15 +44,23 @@ Refuses known text (Script r) =
     (p : PlanValue) × (programs : List ProgramValue) × (known.plan ≡ Some p) × (known.programs ≡ Some programs) × RefusesScript p programs text r
 
 -- What a fault says of the texts of these inputs, of which the first are given: each is accepted, up to one that wasn't read or
--- is refused; where none of those is at fault, none before the rest is. Where memory ran out, nothing is said.
-abbrev pub Judges : Known → List Input → List (List ℕ) → Fault → Type 0
-Judges known [] [] f = IsAmong [] (input_of f)
-Judges known [] (text ∷ texts) f = ⊥
-Judges known (input ∷ asked) [] f = IsAmong (input ∷ asked) (input_of f)
-Judges known (input ∷ asked) (text ∷ texts) f =
-    IsFaultAt input (Refuses known text) f ⊎ ((next : Known) × Accepts known input text next × Judges next asked texts f)
+-- is refused; where none of those is at fault, none before the rest is. Where memory ran out, nothing is said. Other faults than
+-- those of texts and of the output come where P holds of them, and all texts are accepted.
+abbrev pub Judges : (Fault → Type 0) → Known → List Input → List (List ℕ) → Fault → Type 0
+Judges P known [] [] f = IsAmong [] f ⊎ P f
+Judges P known [] (text ∷ texts) f = ⊥
+Judges P known (input ∷ asked) [] f = IsAmong (input ∷ asked) f ⊎ P f
+Judges P known (input ∷ asked) (text ∷ texts) f =
+    IsFaultAt input (Refuses known text) f ⊎ ((next : Known) × Accepts known input text next × Judges P next asked texts f)
 
 -- what it says of the words of a command with these inputs, whichever of their texts are known
+abbrev pub IsJudgedOr : (Fault → Type 0) → (List ℕ → Option (List ℕ)) → Option (List ℕ) → List (List ℕ) → List Input → Fault → Type 0
+IsJudgedOr P files standard words asked f = (texts : List (List ℕ)) (n : ℕ) → HaveFirstTexts files standard words texts n
+    → Judges P nothing asked (take n texts) f
+
+-- of a command that has no other faults than those of texts and of the output
+abbrev pub NoOther : Fault → Type 0
+NoOther f = ⊥
+
 abbrev pub IsJudged : (List ℕ → Option (List ℕ)) → Option (List ℕ) → List (List ℕ) → List Input → Fault → Type 0
-IsJudged files standard words asked f = (texts : List (List ℕ)) (n : ℕ) → HaveFirstTexts files standard words texts n
-    → Judges nothing asked (take n texts) f
+IsJudged = IsJudgedOr NoOther

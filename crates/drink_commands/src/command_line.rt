@@ -3,7 +3,7 @@
 ghost use Rattle.std.specs.Prelude.{◌≡◌, IfOk, Some, codes, false, map};
 ghost use Rattle.std.specs.String.{string_bytes};
 ghost use Rattle.clap.specs.Words.{FailsBy, app_of, fault_of, found_of, rows_of, rule_of, with_subcommand};
-ghost use Rattle.drink_commands.specs.CommandLine.{Asks, IsNumber, Requests, numbered, program, random_command, required, serial_command, sim_command, word_of};
+ghost use Rattle.drink_commands.specs.CommandLine.{Asks, IsNumber, Requests, live_command, numbered, optional, program, random_command, required, run_command, serial_command, sim_command, word_of};
 
 use clap::builder::ValueParser;
 use clap::error::ErrorKind;
@@ -30,6 +30,18 @@ pub enum Request<'a> {
         plan: &'a str,
         sessions: &'a str,
         schedule: Schedule,
+    },
+    /// One office of a plan, at its address, with its sessions, for so many turns.
+    Run {
+        plan: &'a str,
+        office: &'a str,
+        sessions: &'a str,
+        turns: u64,
+    },
+    /// All offices of a plan, on this machine.
+    Live {
+        plan: &'a str,
+        sessions: &'a str,
     },
 }
 
@@ -82,6 +94,17 @@ fn requested<'a>(name: &str, found: &ArgMatches<'a>) -> Request<'a>
             schedule: schedule(found),
         };
     }
+    if name == "run" {
+        return Request::Run {
+            plan,
+            office: word(found, "OFFICE"),
+            sessions,
+            turns: number(found, "turns"),
+        };
+    }
+    if name == "live" {
+        return Request::Live { plan, sessions };
+    }
     Request::Serial { plan, sessions }
 }
 
@@ -124,7 +147,9 @@ fn program<'a>(alloc: Global) -> Result<Command<'a>, AllocError>
         .subcommand_required(true);
     let program = with_serial(alloc, program)?;
     let program = with_sim(alloc, program)?;
-    Ok(with_random(alloc, program)?)
+    let program = with_random(alloc, program)?;
+    let program = with_run(alloc, program)?;
+    Ok(with_live(alloc, program)?)
 }
 
 fn with_serial<'a>(alloc: Global, program: Command<'a>) -> Result<Command<'a>, AllocError>
@@ -181,6 +206,38 @@ fn with_random<'a>(alloc: Global, program: Command<'a>) -> Result<Command<'a>, A
     Ok(program)
 }
 
+fn with_run<'a>(alloc: Global, program: Command<'a>) -> Result<Command<'a>, AllocError>
+    ensures { IfOk result (λ c. app_of c ≡ with_subcommand (app_of program.entry) run_command.top) }
+{
+    let plan = required(alloc, "PLAN", PLAN);
+    let office = required(alloc, "OFFICE", OFFICE);
+    let sessions = required(alloc, "SESSIONS", OWN_SESSIONS);
+    let turns = optional(alloc, "turns", TURNS, 1, MOST_TURNS, USUAL_TURNS);
+    let running = Command::new(alloc, "run")
+        .about("Runs one office of a plan at its address, and prints what its sessions did")
+        .after_help(RUNS)
+        .arg(plan)?
+        .arg(office)?
+        .arg(sessions)?
+        .arg(turns)?;
+    let program = program.subcommand(running)?;
+    Ok(program)
+}
+
+fn with_live<'a>(alloc: Global, program: Command<'a>) -> Result<Command<'a>, AllocError>
+    ensures { IfOk result (λ c. app_of c ≡ with_subcommand (app_of program.entry) live_command.top) }
+{
+    let plan = required(alloc, "PLAN", PLAN);
+    let sessions = required(alloc, "SESSIONS", SESSIONS);
+    let live = Command::new(alloc, "live")
+        .about("Runs all offices of a plan on this machine, and prints what the sessions did")
+        .after_help(RUNS)
+        .arg(plan)?
+        .arg(sessions)?;
+    let program = program.subcommand(live)?;
+    Ok(program)
+}
+
 /// A word that has to be there.
 fn required<'a>(alloc: Global, id: &'a str, help: &'a str) -> Arg<'a>
     ensures rule { rule_of result ≡ required id.now }
@@ -202,6 +259,26 @@ fn numbered<'a>(alloc: Global, id: &'a str, help: &'a str, low: u64, high: u64) 
         .value_parser(ValueParser::unsigned(low, high))
 }
 
+/// A number in a range, after its name, that need not be there; where it isn't, this one is meant.
+fn optional<'a>(
+    alloc: Global,
+    id: &'a str,
+    help: &'a str,
+    low: u64,
+    high: u64,
+    usual: &'a str,
+) -> Arg<'a>
+    ensures rule { rule_of result ≡ optional id.now low high usual.now }
+    ensures no_global { result.global ≡ false }
+{
+    Arg::new(alloc, id)
+        .help(help)
+        .long(id)
+        .value_name("N")
+        .value_parser(ValueParser::unsigned(low, high))
+        .default_value(usual)
+}
+
 const VERSION: &str = "0.1";
 
 /// The most deliveries of a hundred that may be lost.
@@ -209,6 +286,12 @@ const MOST_LOSS: u64 = 100;
 
 /// The most steps of a run.
 const MOST_STEPS: u64 = 1_000_000;
+
+/// The most turns of an office.
+const MOST_TURNS: u64 = 100_000;
+
+/// How many it has where no number is given.
+const USUAL_TURNS: &str = "2000";
 
 const PLAN: &str = "The file of the plan, or - for the standard input";
 
@@ -222,6 +305,14 @@ const LOSS: &str = "Of a hundred deliveries that are drawn, how many are lost: 0
 
 const STEPS: &str = "How many steps there are: 1 to 1000000";
 
+const OFFICE: &str =
+    "The name of an office of the plan: it and its neighbours need addresses there";
+
+const OWN_SESSIONS: &str =
+    "The file of the sessions, or - for the standard input; those of the office are run";
+
+const TURNS: &str = "How many turns the office has: 1 to 100000";
+
 /// What stands below the help of a command.
 const INPUTS: &str =
     "Where several of these are -, the standard input is cut at its first lines that are exactly ---:
@@ -231,7 +322,18 @@ A file whose name is - is written ./- instead.
 Exit status: 0 where it was done; 1 where an input is refused or can't be read, where the output
 can't be written, or where memory runs out; 2 where the command line is at fault.";
 
+/// What stands below the help of a command that runs offices.
+const RUNS: &str =
+    "Where both files are -, the standard input is cut at its first line that is exactly ---: up to it
+stands the text of the plan. Each text counts its lines from 1. A file whose name is - is written
+./- instead.
+
+Exit status: 0 where all sessions finished; 1 where some are left, where an input is refused or
+can't be read, where a socket, a thread or the clock can't be had, where the output can't be
+written, or where memory runs out; 2 where the command line is at fault.";
+
 /// What stands below the help of the program.
 const STATUSES: &str =
-    "Exit status: 0 where it was done; 1 where an input is refused or can't be read, where the output
-can't be written, or where memory runs out; 2 where the command line is at fault.";
+    "Exit status: 0 where it was done; 1 where a run leaves sessions, where an input is refused or can't
+be read, where a socket, a thread or the output fails, or where memory runs out; 2 where the command
+line is at fault.";

@@ -1,19 +1,27 @@
 //! The commands, one file each, and what all of them do.
 
-ghost use Rattle.std.specs.Prelude.{◌≡◌, IfErr, OnOk};
+ghost use Rattle.std.specs.Prelude.{◌≡◌, IfErr, IfOk, OnOk};
+ghost use Rattle.std.specs.String.{string_bytes};
 ghost use Rattle.std.specs.Io.KnownBytes.{Appends};
 ghost use Rattle.drink_commands.specs.Fault.{IsWriteFault};
+ghost use Rattle.drink_commands.specs.Run.{EndsWith, IsCutBy, Leaves, status_with};
 
 use crate::fault::Fault;
 use input_texts::failure_kind;
+use office_runs::Ran;
 use std::io::Write;
 
+pub mod live;
 pub mod random;
+pub mod run;
 pub mod serial;
 pub mod sim;
 
 /// The exit status of a command that did what it was asked for.
 pub(crate) const DONE: u8 = 0;
+
+/// That of a run that leaves sessions.
+const LEFT: u8 = 1;
 
 pub(crate) fn write_whole<W: Write>(out: &mut W, text: &str) -> Result<(), Fault>
     ensures written { OnOk result (Appends (W.contents out.old) (W.contents out.new) text.now) }
@@ -26,4 +34,22 @@ pub(crate) fn write_whole<W: Write>(out: &mut W, text: &str) -> Result<(), Fault
         return Err(Fault::WriteFailed(failure_kind(&error)));
     }
     Ok(())
+}
+
+/// What came of a run is written; then, where it was cut short, why is the answer. Otherwise it is the exit status.
+pub(crate) fn write_ran<W: Write>(out: &mut W, ran: &Ran) -> Result<u8, Fault>
+    ensures done { IfOk result (λ status. EndsWith status ran.now × Appends (W.contents out.old) (W.contents out.new) (string_bytes ran.now.text)) }
+    ensures leaves { IfErr result (Leaves ⊥ (λ cause. IsCutBy cause ran.now × Appends (W.contents out.old) (W.contents out.new) (string_bytes ran.now.text))) }
+{
+    write_whole(out, &ran.text)?;
+    match ran.fault {
+        Some(fault) => Err(Fault::CutShort(fault)),
+        None => Ok(status_with(ran.unfinished)),
+    }
+}
+
+fn status_with(left: usize) -> u8
+    ensures { result ≡ status_with left }
+{
+    if left == 0 { DONE } else { LEFT }
 }

@@ -1,11 +1,12 @@
 //! Why a command fails.
 
 ghost use Rattle.std.specs.Prelude.{◌≡◌};
-ghost use Rattle.drink_commands.specs.declared.fault.Fault.TheVariants.{Memory};
+ghost use Rattle.drink_commands.specs.declared.fault.Fault.TheVariants.{Memory, NoRun};
 ghost use Rattle.drink_commands.specs.Fault.{input_of, refused_input};
 
 use crate::input::Input;
 use office_map::{PlanRefusal, Ring};
+use office_runs::RunFault;
 use script_runs::ScriptRefusal;
 use session_language::SessionRefusal;
 use std::alloc::{AllocError, AllocFailed};
@@ -63,6 +64,14 @@ pub enum Fault {
     ReadFailed(Input, ErrorKind),
     /// The text of an input is refused.
     Refused(Why, Remark),
+    /// The plan has no office of the name that was asked for. The text says which it has.
+    NoSuchOffice(String),
+    /// The office of this name has no address in the plan, and would need one.
+    NoAddress(String),
+    /// A run can't begin. Nothing was done.
+    NoRun(RunFault),
+    /// A run ended before its time. What stands was written.
+    CutShort(RunFault),
     /// How much went out isn't known.
     WriteFailed(ErrorKind),
 }
@@ -73,9 +82,14 @@ impl Fault {
         ensures { result ≡ input_of self.now }
     {
         match self {
-            Fault::Memory | Fault::WriteFailed(_) => None,
+            Fault::Memory
+            | Fault::NoSuchOffice(_)
+            | Fault::NoRun(_)
+            | Fault::CutShort(_)
+            | Fault::WriteFailed(_) => None,
             Fault::ReadFailed(input, _) => Some(*input),
             Fault::Refused(why, _) => Some(why.input()),
+            Fault::NoAddress(_) => Some(Input::Plan),
         }
     }
 }
@@ -111,6 +125,26 @@ impl fmt::Display for Fault {
                 write_line(f, why.line(), remark.lines_above)?;
                 write!(f, "{why}: {text}")
             }
+            Fault::NoSuchOffice(offices) => {
+                write!(
+                    f,
+                    "X6 NoSuchOffice: the plan has no office of this name; it has {offices}"
+                )
+            }
+            Fault::NoAddress(office) => {
+                write!(
+                    f,
+                    "X2 NoAddress: the office `{office}` has `-` for its address, and an office runs where it and its neighbours have one"
+                )
+            }
+            Fault::NoRun(fault) => write_run_fault(f, *fault),
+            Fault::CutShort(fault) => {
+                write_run_fault(f, *fault)?;
+                write!(
+                    f,
+                    "; the run ended with it, and what was done before is printed"
+                )
+            }
             Fault::WriteFailed(kind) => {
                 let cause = write_cause(*kind);
                 write!(f, "X5 WriteFailed: the output cannot be written: {cause}")
@@ -136,6 +170,40 @@ fn write_line<W: fmt::Write>(
         write!(f, " (line {whole} of the standard input)")?;
     }
     write!(f, ": ")
+}
+
+/// Why a run can't begin, or ended.
+fn write_run_fault<W: fmt::Write>(f: &mut fmt::Formatter<W>, fault: RunFault) -> fmt::Result {
+    match fault {
+        RunFault::Memory => write!(f, "out of memory"),
+        RunFault::WireFailed => write!(f, "U1 WireFailed: a socket fails"),
+        RunFault::JournalFull => {
+            write!(
+                f,
+                "O4 JournalFull: the journal of an office has no room left"
+            )
+        }
+        RunFault::BindFailed(at, kind) => {
+            let cause = bind_cause(kind);
+            write!(
+                f,
+                "U2 BindFailed: no socket can have the address {at}: {cause}"
+            )
+        }
+        RunFault::NoThread => write!(f, "U3 NoThread: no further thread can be started"),
+        RunFault::NoClock => write!(f, "the clock cannot be read"),
+    }
+}
+
+/// Why a socket can't have an address, for people.
+fn bind_cause(kind: ErrorKind) -> &'static str {
+    match kind {
+        ErrorKind::AddrInUse => "the address is in use",
+        ErrorKind::AddrNotAvailable => "this machine has no such address",
+        ErrorKind::PermissionDenied => "permission denied",
+        ErrorKind::OutOfMemory => "out of memory",
+        _ => "the system has no socket for it",
+    }
 }
 
 /// Why an input can't be read, for people.
@@ -177,6 +245,14 @@ fn device_cause(kind: ErrorKind) -> &'static str {
         ErrorKind::StaleNetworkFileHandle => "its server has it no more",
         ErrorKind::OutOfMemory => "out of memory",
         _ => "its device fails",
+    }
+}
+
+impl From<RunFault> for Fault {
+    ghost from_gives = { λ f e. e ≡ NoRun f };
+
+    fn from(fault: RunFault) -> Fault {
+        Fault::NoRun(fault)
     }
 }
 

@@ -7,6 +7,11 @@
 //!   where an input is refused; its faults say what the texts are, in the order of the words (clause `judged`).
 //! - [`commands::random::run`] is `drink random`. It writes the report of a run of the sessions that is drawn (clause `tells`),
 //!   and nothing where an input is refused (clauses `judged` and `unwritten`).
+//! - [`commands::run::run`] is `drink run`. It writes what a legal journal of the office tells that its words name, and answers
+//!   whether sessions are left (clause `runs`). Its faults say what the texts are, and OFFICE and the addresses under the plan,
+//!   before the sessions (clause `judged`); nothing is written at one but what stands where the run was cut short (clause `leaves`).
+//! - [`commands::live::run`] is `drink live`, with the same clauses, of all offices.
+//! - [`telling::Telling`] says on a terminal how far a run is.
 //! - [`command_line::command_line`] reads the words of a command line as `clap` defines them
 //!   (clauses `request` and `faults`).
 //! - [`program::perform`] carries a request out, from the texts that its words stand for (clause `done`); [`program::answer`]
@@ -14,7 +19,7 @@
 //!   hands it the files, the standard input and the output that the program was started with.
 //!
 //! What is printed, and which events a script means, is in the crates `run_reports` and `script_runs`, which runs may be drawn in
-//! `random_runs`, what a fault says of the texts in
+//! `random_runs`, what is told of offices that run in `office_runs`, what a fault says of the texts in
 //! `specs/Texts.antt`, and which texts words stand for in the crate `input_texts`. Which bytes a file, the standard input or a
 //! terminal gives or takes is outside what is proved.
 #![tactic(auto)]
@@ -25,6 +30,7 @@ pub mod exit;
 pub mod fault;
 pub mod input;
 pub mod program;
+pub mod telling;
 pub mod texts;
 
 pub use program::run;

@@ -1,34 +1,54 @@
 //! What the program does with its words, over what opens files, reads and prints.
 
-ghost use Rattle.std.specs.Prelude.{◌≡◌, ◌≤◌, IfErr, IfOk, OnOk, map};
+ghost use Rattle.std.specs.Prelude.{◌≡◌, ◌≤◌, IfErr, IfOk, map};
 ghost use Rattle.std.specs.String.{string_bytes};
 ghost use Rattle.clap.specs.Values.{kind_of};
-ghost use Rattle.drink_commands.specs.Requests.{IsDone, inputs_of, word_of, words_of};
+ghost use Rattle.drink_commands.specs.Requests.{IsDone, IsJudgedFor, IsStatusOf, word_of};
 ghost use Rattle.drink_commands.specs.Status.{IsAnswered, IsShown, status_of};
-ghost use Rattle.drink_commands.specs.Texts.{IsJudged};
 
 use crate::command_line::{Request, command_line, help};
 use crate::commands;
-use crate::commands::{random, serial, sim};
+use crate::commands::{live, random, run, serial, sim};
 use crate::exit::{Exit, FAILED, MISUSED, Said};
 use crate::fault::Fault;
 use crate::input::Input;
+use crate::telling::Telling;
 use clap::error::ErrorKind;
 use input_texts::{Devices, Sources};
+use office_runs::{Around, Binds, Gate, Open, UdpSockets, Watch};
 use std::alloc::{AllocError, Global};
 use std::io;
-use std::io::Write;
-use std::rt::{Env, Files};
+use std::io::{IsTerminal, Write};
+use std::net::Net;
+use std::rt::{Clock, Env, Files};
+use std::sync::Wait;
+use std::thread::Threads;
 
-/// Does what the command line asks for, and answers the exit status: 0, 1 where the command fails, and 2 where the
-/// command line is at fault.
-pub fn run<R>(rt: &R) -> u8
+/// Does what the command line asks for, and answers the exit status: 0, 1 where the command fails or leaves sessions, and 2 where
+/// the command line is at fault. How far a run of offices is goes to the standard error, while that is a terminal.
+pub fn run<R, E>(rt: &R, error: &E) -> u8
 where
     R: AllocGlobal + Env + Files + std::io::Input + Print + Eprint,
+    R: Threads + Wait + Clock + Net + Sync,
+    E: IsTerminal,
 {
     let devices = Devices::new(rt);
+    let binds = UdpSockets::new(rt, rt.alloc());
+    let watch = Telling::new(rt, error.is_terminal());
+    let around = Around {
+        binds: &binds,
+        gate: &Open,
+        watch: &watch,
+    };
     let exit = match words(rt) {
-        Ok(words) => answer(rt.alloc(), words.as_slice(), &devices, &mut io::writer(rt)),
+        Ok(words) => answer(
+            rt,
+            rt.alloc(),
+            words.as_slice(),
+            &devices,
+            &around,
+            &mut io::writer(rt),
+        ),
         Err(exit) => exit,
     };
     exit.end(rt)
@@ -50,14 +70,25 @@ pub fn words<R: AllocGlobal + Env>(rt: &R) -> Result<Vec<String>, Exit> {
 }
 
 /// Does what these words ask for. The first of them is the program's name. The status is 0 only where what they ask for was
-/// done, or help or the version went out, and nothing is written where it is 2.
-pub fn answer<S: Sources, W: Write>(
+/// done, without sessions that a run of offices leaves, or help or the version went out; and nothing is written where it is 2.
+pub fn answer<R, S, B, G, V, W>(
+    rt: &R,
     alloc: Global,
     words: &[String],
     sources: &S,
+    around: &Around<'_, B, G, V>,
     out: &mut W,
 ) -> Exit
-    ensures done { result.status ≡ 0 → IsAnswered (S.file_text sources.now) (S.standard_text sources.now) (map string_bytes words.now) (W.contents out.old) (W.contents out.new) }
+where
+    R: Threads + Wait + Clock + Sync,
+    S: Sources,
+    B: Binds,
+    B::Socket: Send,
+    B::Alarm: Send,
+    G: Gate + Sync,
+    V: Watch + Sync,
+    W: Write,
+    ensures done { result.status ≡ 0 → IsAnswered B.Socket.tells (S.file_text sources.now) (S.standard_text sources.now) (map string_bytes words.now) (W.contents out.old) (W.contents out.new) }
     ensures unwritten { result.status ≡ 2 → out.new ≡ out.old }
 {
     if words.len() < 2 {
@@ -65,7 +96,7 @@ pub fn answer<S: Sources, W: Write>(
     }
     match command_line(alloc, words) {
         Ok(request) => {
-            let result = perform(alloc, request, sources, out);
+            let result = perform(rt, alloc, request, sources, around, out);
             Exit {
                 status: status(&result),
                 said: said(alloc, request, &result),
@@ -75,16 +106,27 @@ pub fn answer<S: Sources, W: Write>(
     }
 }
 
-/// Carries out a request. The answer is the exit status.
-pub fn perform<S: Sources, W: Write>(
+/// Carries a request out. The answer is the exit status.
+pub fn perform<R, S, B, G, V, W>(
+    rt: &R,
     alloc: Global,
     request: Request,
     sources: &S,
+    around: &Around<'_, B, G, V>,
     out: &mut W,
 ) -> Result<u8, Fault>
-    ensures done { OnOk result (IsDone (S.file_text sources.now) (S.standard_text sources.now) request.entry (W.contents out.old) (W.contents out.new)) }
-    ensures status { IfOk result (λ status. status ≡ 0) }
-    ensures judged { IfErr result (IsJudged (S.file_text sources.now) (S.standard_text sources.now) (words_of request.entry) (inputs_of request.entry)) }
+where
+    R: Threads + Wait + Clock + Sync,
+    S: Sources,
+    B: Binds,
+    B::Socket: Send,
+    B::Alarm: Send,
+    G: Gate + Sync,
+    V: Watch + Sync,
+    W: Write,
+    ensures done { IfOk result (λ status. IsDone B.Socket.tells (S.file_text sources.now) (S.standard_text sources.now) request.entry status (W.contents out.old) (W.contents out.new)) }
+    ensures status { IfOk result (IsStatusOf request.entry) }
+    ensures judged { IfErr result (IsJudgedFor (S.file_text sources.now) (S.standard_text sources.now) request.entry) }
 {
     match request {
         Request::Serial { plan, sessions } => serial::run(alloc, sources, plan, sessions, out),
@@ -98,6 +140,17 @@ pub fn perform<S: Sources, W: Write>(
             sessions,
             schedule,
         } => random::run(alloc, sources, plan, sessions, schedule, out),
+        Request::Run {
+            plan,
+            office,
+            sessions,
+            turns,
+        } => run::run(
+            rt, alloc, sources, plan, office, sessions, turns, around, out,
+        ),
+        Request::Live { plan, sessions } => {
+            live::run(rt, alloc, sources, plan, sessions, around, out)
+        }
     }
 }
 
@@ -111,13 +164,21 @@ fn status(answer: &Result<u8, Fault>) -> u8
     }
 }
 
-/// What is said of a request's answer: nothing, or the fault after the name of its input.
+/// What is said of a request's answer: nothing, or the fault after the word that it is about.
 fn said(alloc: Global, request: Request, answer: &Result<u8, Fault>) -> Said {
     match answer {
         Ok(_) => Said::Nothing,
-        Err(fault) => match fault.input() {
-            Some(input) => said_of(alloc, fault, Some(word_of(request, input))),
-            None => said_of(alloc, fault, None),
+        Err(fault) => said_of(alloc, fault, named(request, fault)),
+    }
+}
+
+/// The word of a request that a fault is about, if it is about one.
+fn named<'a>(request: Request<'a>, fault: &Fault) -> Option<&'a str> {
+    match (request, fault) {
+        (Request::Run { office, .. }, Fault::NoSuchOffice(_)) => Some(office),
+        _ => match fault.input() {
+            Some(input) => Some(word_of(request, input)),
+            None => None,
         },
     }
 }
@@ -160,11 +221,6 @@ fn word_of<'a>(request: Request<'a>, input: Input) -> &'a str
     ensures { result.now ≡ word_of request.entry input }
 {
     match request {
-        Request::Serial { plan, sessions } => match input {
-            Input::Plan => plan,
-            Input::Sessions => sessions,
-            Input::Script => "",
-        },
         Request::Sim {
             plan,
             sessions,
@@ -174,7 +230,10 @@ fn word_of<'a>(request: Request<'a>, input: Input) -> &'a str
             Input::Sessions => sessions,
             Input::Script => script,
         },
-        Request::Random { plan, sessions, .. } => match input {
+        Request::Serial { plan, sessions }
+        | Request::Random { plan, sessions, .. }
+        | Request::Run { plan, sessions, .. }
+        | Request::Live { plan, sessions } => match input {
             Input::Plan => plan,
             Input::Sessions => sessions,
             Input::Script => "",

@@ -13,8 +13,10 @@ use std::test::Fail;
 mod devices;
 mod exits;
 mod random;
+mod running;
 mod scripts;
 mod shell;
+mod sockets;
 mod words;
 
 const PLAN: &str =

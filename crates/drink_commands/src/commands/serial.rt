@@ -5,7 +5,7 @@ ghost use Rattle.std.specs.String.{string_bytes};
 ghost use Rattle.input_texts.specs.Words.{StandFor};
 ghost use Rattle.session_language.specs.Limits.{most_sessions};
 ghost use Rattle.session_language.specs.Program.{fits};
-ghost use Rattle.drink_commands.specs.Fault.{IsAmong, IsWriteFault, input_of};
+ghost use Rattle.drink_commands.specs.Fault.{IsAmong, IsWriteFault};
 ghost use Rattle.drink_commands.specs.Serial.{Reports, serial_report};
 ghost use Rattle.drink_commands.specs.Texts.{IsJudged};
 
@@ -36,7 +36,7 @@ pub fn run<S: Sources, W: Write>(
     ensures status { IfOk result (λ status. status ≡ 0) }
 
     ensures judged { IfErr result (IsJudged (S.file_text sources.now) (S.standard_text sources.now) (plan.now ∷ sessions.now ∷ []) (Input.Plan ∷ Input.Sessions ∷ [])) }
-    ensures input { IfErr result (λ f. IsAmong (Input.Plan ∷ Input.Sessions ∷ []) (input_of f)) }
+    ensures input { IfErr result (IsAmong (Input.Plan ∷ Input.Sessions ∷ [])) }
     ensures unwritten { IfErr result (λ f. IsWriteFault f ⊎ (out.new ≡ out.old)) }
 {
     let words = [plan, sessions];

@@ -1,3 +1,4 @@
+use crate::tests::sockets::answered;
 use crate::tests::words::strings;
 use crate::tests::{MOVE, Memory, PLAN};
 use drink_commands::exit::{Exit, Said};
@@ -11,8 +12,10 @@ use std::fmt::Display;
 use std::io;
 use std::io::{ErrorKind, Write};
 use std::process::Abort;
-use std::rt::Env;
+use std::rt::{Clock, Env};
+use std::sync::Wait;
 use std::test::Fail;
+use std::thread::Threads;
 
 /// A standard error that counts what it is told, and how often it was this.
 #[derive(Drop)]
@@ -154,10 +157,15 @@ impl Write for ShutOutput {
 }
 
 /// What is said with status 1 where the output takes nothing.
-fn told_shut(rt: &(impl Abort + AllocGlobal), words: &[String], kind: ErrorKind, wanted: &str) {
+fn told_shut(
+    rt: &(impl Abort + AllocGlobal + Threads + Wait + Clock + Sync),
+    words: &[String],
+    kind: ErrorKind,
+    wanted: &str,
+) {
     let memory = Memory::new(PLAN, MOVE, "");
     let mut out = ShutOutput { kind };
-    let exit = program::answer(rt.alloc(), words, &memory, &mut out);
+    let exit = answered(rt, words, &memory, &mut out);
     ends(rt, &exit, 1, wanted);
 }
 

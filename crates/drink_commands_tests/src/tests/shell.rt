@@ -1,8 +1,11 @@
+use crate::tests::sockets::answered;
 use crate::tests::words::strings;
 use crate::tests::{MOVE, MOVED, Memory, PLAN};
-use drink_commands::program::answer;
 use std::process::Abort;
+use std::rt::Clock;
+use std::sync::Wait;
 use std::test::Fail;
+use std::thread::Threads;
 
 const SCRIPT: &str = "submit 1\n";
 
@@ -12,7 +15,7 @@ const UNMOVED: &str = "unfinished 1\nvalue x 100\nvalue y 0\n";
 
 /// That the program answers these words so: the exit status, what it prints, and what it says on the standard error.
 fn says(
-    rt: &(impl Abort + AllocGlobal),
+    rt: &(impl Abort + AllocGlobal + Threads + Wait + Clock + Sync),
     memory: &Memory,
     words: &[&str],
     status: u8,
@@ -22,7 +25,7 @@ fn says(
     let alloc = rt.alloc();
     let words = strings(alloc, words)?;
     let mut out = Vec::new(alloc);
-    let exit = answer(alloc, words.as_slice(), memory, &mut out);
+    let exit = answered(rt, words.as_slice(), memory, &mut out);
     assert_eq!(rt; exit.status, status);
     assert_eq!(rt; out.as_slice(), printed.as_bytes());
     assert_eq!(rt; exit.said.text(), said);
@@ -99,7 +102,7 @@ fn cuts_the_standard_input(rt: HostRuntime) -> Result<(), Fail> {
 
 /// That these words fail so, and nothing is written.
 fn fails(
-    rt: &(impl Abort + AllocGlobal),
+    rt: &(impl Abort + AllocGlobal + Threads + Wait + Clock + Sync),
     memory: &Memory<'_>,
     words: &[&str],
     said: &str,
@@ -107,7 +110,7 @@ fn fails(
     let alloc = rt.alloc();
     let words = strings(alloc, words)?;
     let mut out = Vec::new(alloc);
-    let exit = answer(alloc, words.as_slice(), memory, &mut out);
+    let exit = answered(rt, words.as_slice(), memory, &mut out);
     assert_eq!(rt; exit.status, 1);
     assert_eq!(rt; out.len(), 0);
     let expected = format!(in alloc; "drink: {said}\n")?;
@@ -221,9 +224,12 @@ fn faults_say_what_was_found_and_where(rt: HostRuntime) -> Result<(), Fail> {
 
 #[test]
 fn help_goes_out_and_misuse_does_not(rt: HostRuntime) -> Result<(), Fail> {
-    let rows: [(&[&str], u8, bool); 7] = [
+    let rows: [(&[&str], u8, bool); 10] = [
         (&["drink", "--help"], 0, true),
         (&["drink", "serial", "--help"], 0, true),
+        (&["drink", "random", "--help"], 0, true),
+        (&["drink", "run", "--help"], 0, true),
+        (&["drink", "live", "--help"], 0, true),
         (&["drink", "--version"], 0, true),
         (&["drink"], 2, false),
         (&["drink", "serial", "p"], 2, false),
@@ -235,7 +241,7 @@ fn help_goes_out_and_misuse_does_not(rt: HostRuntime) -> Result<(), Fail> {
         let memory = Memory::new(PLAN, MOVE, SCRIPT);
         let words = strings(alloc, words)?;
         let mut out = Vec::new(alloc);
-        let exit = answer(alloc, words.as_slice(), &memory, &mut out);
+        let exit = answered(&rt, words.as_slice(), &memory, &mut out);
         assert_eq!(rt; exit.status, status);
         assert_eq!(rt; out.is_empty(), !goes_out);
         assert_eq!(rt; exit.said.text().is_empty(), goes_out);

@@ -171,6 +171,76 @@ fn other_numbers_are_a_fault(rt: HostRuntime) -> Result<(), Fail> {
     )
 }
 
+/// The words of `run` and `live`, and the usual number of turns where none is given.
+#[test]
+fn reads_the_words_of_run_and_live(rt: HostRuntime) -> Result<(), Fail> {
+    let rows: [(&[&str], u64); 5] = [
+        (&["drink", "run", "p", "a", "s"], 2_000),
+        (&["drink", "run", "p", "a", "s", "--turns", "1"], 1),
+        (&["drink", "run", "--turns=100000", "p", "a", "s"], 100_000),
+        (&["drink", "run", "p", "--turns", "+07", "a", "s"], 7),
+        (
+            &["drink", "run", "--turns", "2000", "--", "p", "a", "s"],
+            2_000,
+        ),
+    ];
+    for (words, turns) in rows {
+        let words = strings(rt.alloc(), words)?;
+        let request = command_line(rt.alloc(), words.as_slice())?;
+        let expected = Request::Run {
+            plan: "p",
+            office: "a",
+            sessions: "s",
+            turns,
+        };
+        assert_eq!(rt; request, expected);
+    }
+    let words = strings(rt.alloc(), &["drink", "live", "-", "s"])?;
+    let request = command_line(rt.alloc(), words.as_slice())?;
+    let expected = Request::Live {
+        plan: "-",
+        sessions: "s",
+    };
+    assert_eq!(rt; request, expected);
+    Ok(())
+}
+
+/// Words of `run` and `live` that are too few or too many, and numbers that aren't in their range.
+static UNRUN: [&[&str]; 14] = [
+    &["drink", "run", "p", "a"],
+    &["drink", "run", "p", "a", "s", "t"],
+    &["drink", "run", "p", "a", "s", "--turns", "0"],
+    &["drink", "run", "p", "a", "s", "--turns", "100001"],
+    &["drink", "run", "p", "a", "s", "--turns", "-1"],
+    &["drink", "run", "p", "a", "s", "--turns", "x"],
+    &["drink", "run", "p", "a", "s", "--turns", ""],
+    &["drink", "run", "p", "a", "s", "--turns"],
+    &[
+        "drink",
+        "run",
+        "p",
+        "a",
+        "s",
+        "--turns",
+        "18446744073709551617",
+    ],
+    &[
+        "drink", "run", "p", "a", "s", "--turns", "1", "--turns", "1",
+    ],
+    &["drink", "run", "p", "a", "s", "--journal", "j"],
+    &["drink", "live", "p"],
+    &["drink", "live", "p", "s", "--turns", "1"],
+    &["drink", "live", "p", "s", "--journals", "d"],
+];
+
+#[test]
+fn other_words_of_runs_are_a_fault(rt: HostRuntime) -> Result<(), Fail> {
+    for words in &UNRUN {
+        is_fault(&rt, *words)?;
+    }
+    Ok(())
+}
+
 fn is_fault(rt: &(impl Abort + AllocGlobal), words: &[&str]) -> Result<(), Fail> {
     let words = strings(rt.alloc(), words)?;
     let Err(error) = command_line(rt.alloc(), words.as_slice()) else {
@@ -182,7 +252,7 @@ fn is_fault(rt: &(impl Abort + AllocGlobal), words: &[&str]) -> Result<(), Fail>
 
 #[test]
 fn other_words_are_a_fault(rt: HostRuntime) -> Result<(), Fail> {
-    let rows: [(&[&str], i32); 12] = [
+    let rows: [(&[&str], i32); 14] = [
         (&["drink"], 2),
         (&["drink", "sim", "p", "s"], 2),
         (&["drink", "sim", "p", "s", "c", "d"], 2),
@@ -195,6 +265,8 @@ fn other_words_are_a_fault(rt: HostRuntime) -> Result<(), Fail> {
         (&["drink", "serial", "--help"], 0),
         (&["drink", "sim", "--help"], 0),
         (&["drink", "random", "--help"], 0),
+        (&["drink", "run", "--help"], 0),
+        (&["drink", "live", "--help"], 0),
     ];
     for (words, status) in rows {
         let words = strings(rt.alloc(), words)?;

@@ -1,12 +1,9 @@
-use Rattle.std.proofs.Common.{◌≡◌, ◌∙◌, ◌||◌, Bool, false, ap, ap₂, rules, codes}
+use Rattle.std.proofs.Common.{◌≡◌, ◌∙◌, false, ap, ap₂, rules, codes}
 use Rattle.clap.specs.Words.{App, app_of, new_app, with_rule, with_subcommand}
 use Rattle.clap.specs.declared.builder.command.Command.TheViews.{out-Command}
 use Rattle.drink_commands.specs.CommandLine.{random_command}
+use Rattle.drink_commands.proofs.Globals.{none_more}
 use Rattle.drink_commands.proofs.command_line.with_random.Goals as goal
-
--- no global argument comes in with one that isn't global
-none_more : (old added new : Bool) → new ≡ (old || added) → old ≡ false → added ≡ false → new ≡ false
-none_more old added new e f g = e ∙ ap₂ (λ x y. x || y) f g
 
 pub returns : goal.returns
 returns c =

@@ -1,12 +1,12 @@
-use Rattle.std.proofs.Common.{◌≡◌, ℕ, List, [], ◌∷◌, Some, sym, subst, ap₂, ◌∙◌, refl, inr, rules}
+use Rattle.std.proofs.Common.{◌≡◌, ℕ, List, [], ◌∷◌, Some, sym, subst, ap₂, ◌∙◌, refl, inl, inr, rules}
 use Rattle.std.proofs.lemmas.Result.{err_from_is_err_and}
 use Rattle.script_runs.specs.Script.{IsScript, acts_with}
 use Rattle.input_texts.specs.Words.{HasText, Unread}
 use Rattle.drink_commands.specs.Fault.{IsFaultAt}
-use Rattle.drink_commands.specs.Texts.{Refuses, nothing}
+use Rattle.drink_commands.specs.Texts.{NoOther, Refuses, nothing}
 use Rattle.drink_commands.specs.declared.input.Input.TheVariants as inputs
 use Rattle.drink_commands.specs.declared.fault.Fault.TheVariants.{Memory}
-use Rattle.drink_commands.proofs.Faults.{at_end, at_first, at_next, judged, plan_taken, script_taken, sessions_taken}
+use Rattle.drink_commands.proofs.Faults.{at_end, at_first, at_next, judged, no_input, plan_taken, script_taken, sessions_taken}
 use Rattle.drink_commands.proofs.Reported.{simulated, started}
 use Rattle.drink_commands.proofs.commands.sim.run.Goals as goal
 
@@ -15,30 +15,30 @@ returns-in_err-plan-clause-judged g c =
     let e = err_from_is_err_and c.from_residual.result c.from_residual.ensures.1 in
     let files = g.S.Sources.file_text c.args.sources.now in
     rw (e.1, e.2)
-    (judged files (g.S.Sources.standard_text c.args.sources.now) c.new-standard.result (c.args.plan.now ∷ c.args.sessions.now ∷ c.args.script.now ∷ []) (inputs.Plan ∷ inputs.Sessions ∷ inputs.Script ∷ []) c.in_err-plan.field-0.0 (search rules)
-    (at_first files c.new-standard.result c.args.plan.now (c.args.sessions.now ∷ c.args.script.now ∷ []) nothing inputs.Plan (inputs.Sessions ∷ inputs.Script ∷ []) c.in_err-plan.field-0.0 c.in_err-plan.ensures.fault))
+    (judged NoOther files (g.S.Sources.standard_text c.args.sources.now) c.new-standard.result (c.args.plan.now ∷ c.args.sessions.now ∷ c.args.script.now ∷ []) (inputs.Plan ∷ inputs.Sessions ∷ inputs.Script ∷ []) c.in_err-plan.field-0.0 (search rules)
+    (at_first NoOther files c.new-standard.result c.args.plan.now (c.args.sessions.now ∷ c.args.script.now ∷ []) nothing inputs.Plan (inputs.Sessions ∷ inputs.Script ∷ []) c.in_err-plan.field-0.0 c.in_err-plan.ensures.fault))
 
 pub returns-in_err-programs-clause-judged : goal.returns-in_err-programs-clause-judged
 returns-in_err-programs-clause-judged g c =
     let e = err_from_is_err_and c.from_residual-in_err-programs.result c.from_residual-in_err-programs.ensures.1 in
     let files = g.S.Sources.file_text c.args.sources.now in
     rw (e.1, e.2)
-    (judged files (g.S.Sources.standard_text c.args.sources.now) c.new-standard.result (c.args.plan.now ∷ c.args.sessions.now ∷ c.args.script.now ∷ []) (inputs.Plan ∷ inputs.Sessions ∷ inputs.Script ∷ []) c.in_err-programs.field-0.0 (search rules)
-    (at_next files c.new-standard.result c.read_plan.new.standard c.args.plan.now (c.args.sessions.now ∷ c.args.script.now ∷ []) nothing (record nothing { plan = Some c.in_ok-plan.plan }) inputs.Plan (inputs.Sessions ∷ inputs.Script ∷ []) c.in_err-programs.field-0.0
+    (judged NoOther files (g.S.Sources.standard_text c.args.sources.now) c.new-standard.result (c.args.plan.now ∷ c.args.sessions.now ∷ c.args.script.now ∷ []) (inputs.Plan ∷ inputs.Sessions ∷ inputs.Script ∷ []) c.in_err-programs.field-0.0 (search rules)
+    (at_next NoOther files c.new-standard.result c.read_plan.new.standard c.args.plan.now (c.args.sessions.now ∷ c.args.script.now ∷ []) nothing (record nothing { plan = Some c.in_ok-plan.plan }) inputs.Plan (inputs.Sessions ∷ inputs.Script ∷ []) c.in_err-programs.field-0.0
     (plan_taken files c.new-standard.result c.args.plan.now c.read_plan.new.standard c.in_ok-plan.plan c.in_ok-plan.ensures.meaning)
-    (at_first files c.read_plan.new.standard c.args.sessions.now (c.args.script.now ∷ []) (record nothing { plan = Some c.in_ok-plan.plan }) inputs.Sessions (inputs.Script ∷ []) c.in_err-programs.field-0.0 c.in_err-programs.ensures.fault)))
+    (at_first NoOther files c.read_plan.new.standard c.args.sessions.now (c.args.script.now ∷ []) (record nothing { plan = Some c.in_ok-plan.plan }) inputs.Sessions (inputs.Script ∷ []) c.in_err-programs.field-0.0 c.in_err-programs.ensures.fault)))
 
 pub returns-in_err-events-clause-judged : goal.returns-in_err-events-clause-judged
 returns-in_err-events-clause-judged g c =
     let e = err_from_is_err_and c.from_residual-in_err-events.result c.from_residual-in_err-events.ensures.1 in
     let files = g.S.Sources.file_text c.args.sources.now in
     rw (e.1, e.2)
-    (judged files (g.S.Sources.standard_text c.args.sources.now) c.new-standard.result (c.args.plan.now ∷ c.args.sessions.now ∷ c.args.script.now ∷ []) (inputs.Plan ∷ inputs.Sessions ∷ inputs.Script ∷ []) c.in_err-events.field-0.0 (search rules)
-    (at_next files c.new-standard.result c.read_plan.new.standard c.args.plan.now (c.args.sessions.now ∷ c.args.script.now ∷ []) nothing (record nothing { plan = Some c.in_ok-plan.plan }) inputs.Plan (inputs.Sessions ∷ inputs.Script ∷ []) c.in_err-events.field-0.0
+    (judged NoOther files (g.S.Sources.standard_text c.args.sources.now) c.new-standard.result (c.args.plan.now ∷ c.args.sessions.now ∷ c.args.script.now ∷ []) (inputs.Plan ∷ inputs.Sessions ∷ inputs.Script ∷ []) c.in_err-events.field-0.0 (search rules)
+    (at_next NoOther files c.new-standard.result c.read_plan.new.standard c.args.plan.now (c.args.sessions.now ∷ c.args.script.now ∷ []) nothing (record nothing { plan = Some c.in_ok-plan.plan }) inputs.Plan (inputs.Sessions ∷ inputs.Script ∷ []) c.in_err-events.field-0.0
     (plan_taken files c.new-standard.result c.args.plan.now c.read_plan.new.standard c.in_ok-plan.plan c.in_ok-plan.ensures.meaning)
-    (at_next files c.read_plan.new.standard c.read_programs.new.standard c.args.sessions.now (c.args.script.now ∷ []) (record nothing { plan = Some c.in_ok-plan.plan }) (record nothing { plan = Some c.in_ok-plan.plan; programs = Some c.in_ok-programs.programs.items }) inputs.Sessions (inputs.Script ∷ []) c.in_err-events.field-0.0
+    (at_next NoOther files c.read_plan.new.standard c.read_programs.new.standard c.args.sessions.now (c.args.script.now ∷ []) (record nothing { plan = Some c.in_ok-plan.plan }) (record nothing { plan = Some c.in_ok-plan.plan; programs = Some c.in_ok-programs.programs.items }) inputs.Sessions (inputs.Script ∷ []) c.in_err-events.field-0.0
     (sessions_taken files c.read_plan.new.standard c.args.sessions.now c.read_programs.new.standard c.in_ok-plan.plan c.in_ok-programs.programs.items c.in_ok-programs.ensures.meaning)
-    (at_first files c.read_programs.new.standard c.args.script.now [] (record nothing { plan = Some c.in_ok-plan.plan; programs = Some c.in_ok-programs.programs.items }) inputs.Script [] c.in_err-events.field-0.0
+    (at_first NoOther files c.read_programs.new.standard c.args.script.now [] (record nothing { plan = Some c.in_ok-plan.plan; programs = Some c.in_ok-programs.programs.items }) inputs.Script [] c.in_err-events.field-0.0
     (subst (λ ps. IsFaultAt inputs.Script (λ why. (text : List ℕ) (after : Unread) → HasText files c.read_programs.new.standard c.args.script.now text after
     → Refuses (record nothing { plan = Some c.in_ok-plan.plan; programs = Some ps }) text why) c.in_err-events.field-0.0) c.deref.ensures.value c.in_err-events.ensures.fault)))))
 
@@ -47,23 +47,23 @@ returns-in_err-printed-clause-judged g c =
     let e = err_from_is_err_and c.from_residual-in_err-printed.result c.from_residual-in_err-printed.ensures.1 in
     let files = g.S.Sources.file_text c.args.sources.now in
     rw (e.1, e.2)
-    (judged files (g.S.Sources.standard_text c.args.sources.now) c.new-standard.result (c.args.plan.now ∷ c.args.sessions.now ∷ c.args.script.now ∷ []) (inputs.Plan ∷ inputs.Sessions ∷ inputs.Script ∷ []) Memory (search rules)
-    (at_first files c.new-standard.result c.args.plan.now (c.args.sessions.now ∷ c.args.script.now ∷ []) nothing inputs.Plan (inputs.Sessions ∷ inputs.Script ∷ []) Memory tt))
+    (judged NoOther files (g.S.Sources.standard_text c.args.sources.now) c.new-standard.result (c.args.plan.now ∷ c.args.sessions.now ∷ c.args.script.now ∷ []) (inputs.Plan ∷ inputs.Sessions ∷ inputs.Script ∷ []) Memory (search rules)
+    (at_first NoOther files c.new-standard.result c.args.plan.now (c.args.sessions.now ∷ c.args.script.now ∷ []) nothing inputs.Plan (inputs.Sessions ∷ inputs.Script ∷ []) Memory tt))
 
 pub returns-in_err-write_whole-clause-judged : goal.returns-in_err-write_whole-clause-judged
 returns-in_err-write_whole-clause-judged g c =
     let e = err_from_is_err_and c.from_residual-in_err-write_whole.result c.from_residual-in_err-write_whole.ensures.1 in
     let files = g.S.Sources.file_text c.args.sources.now in
     rw (e.1, e.2)
-    (judged files (g.S.Sources.standard_text c.args.sources.now) c.new-standard.result (c.args.plan.now ∷ c.args.sessions.now ∷ c.args.script.now ∷ []) (inputs.Plan ∷ inputs.Sessions ∷ inputs.Script ∷ []) c.in_err-write_whole.field-0.0 (search rules)
-    (at_next files c.new-standard.result c.read_plan.new.standard c.args.plan.now (c.args.sessions.now ∷ c.args.script.now ∷ []) nothing (record nothing { plan = Some c.in_ok-plan.plan }) inputs.Plan (inputs.Sessions ∷ inputs.Script ∷ []) c.in_err-write_whole.field-0.0
+    (judged NoOther files (g.S.Sources.standard_text c.args.sources.now) c.new-standard.result (c.args.plan.now ∷ c.args.sessions.now ∷ c.args.script.now ∷ []) (inputs.Plan ∷ inputs.Sessions ∷ inputs.Script ∷ []) c.in_err-write_whole.field-0.0 (search rules)
+    (at_next NoOther files c.new-standard.result c.read_plan.new.standard c.args.plan.now (c.args.sessions.now ∷ c.args.script.now ∷ []) nothing (record nothing { plan = Some c.in_ok-plan.plan }) inputs.Plan (inputs.Sessions ∷ inputs.Script ∷ []) c.in_err-write_whole.field-0.0
     (plan_taken files c.new-standard.result c.args.plan.now c.read_plan.new.standard c.in_ok-plan.plan c.in_ok-plan.ensures.meaning)
-    (at_next files c.read_plan.new.standard c.read_programs.new.standard c.args.sessions.now (c.args.script.now ∷ []) (record nothing { plan = Some c.in_ok-plan.plan }) (record nothing { plan = Some c.in_ok-plan.plan; programs = Some c.in_ok-programs.programs.items }) inputs.Sessions (inputs.Script ∷ []) c.in_err-write_whole.field-0.0
+    (at_next NoOther files c.read_plan.new.standard c.read_programs.new.standard c.args.sessions.now (c.args.script.now ∷ []) (record nothing { plan = Some c.in_ok-plan.plan }) (record nothing { plan = Some c.in_ok-plan.plan; programs = Some c.in_ok-programs.programs.items }) inputs.Sessions (inputs.Script ∷ []) c.in_err-write_whole.field-0.0
     (sessions_taken files c.read_plan.new.standard c.args.sessions.now c.read_programs.new.standard c.in_ok-plan.plan c.in_ok-programs.programs.items c.in_ok-programs.ensures.meaning)
-    (at_next files c.read_programs.new.standard c.read_events.new.standard c.args.script.now [] (record nothing { plan = Some c.in_ok-plan.plan; programs = Some c.in_ok-programs.programs.items }) (record { plan = Some c.in_ok-plan.plan; programs = Some c.in_ok-programs.programs.items; acts = Some (acts_with c.deref.result.now c.in_ok-events.events.items) }) inputs.Script [] c.in_err-write_whole.field-0.0
+    (at_next NoOther files c.read_programs.new.standard c.read_events.new.standard c.args.script.now [] (record nothing { plan = Some c.in_ok-plan.plan; programs = Some c.in_ok-programs.programs.items }) (record { plan = Some c.in_ok-plan.plan; programs = Some c.in_ok-programs.programs.items; acts = Some (acts_with c.deref.result.now c.in_ok-events.events.items) }) inputs.Script [] c.in_err-write_whole.field-0.0
     (script_taken files c.read_programs.new.standard c.args.script.now c.read_events.new.standard c.in_ok-plan.plan c.in_ok-programs.programs.items (acts_with c.deref.result.now c.in_ok-events.events.items)
     (λ text after has. subst (λ ps. IsScript c.in_ok-plan.plan ps text (acts_with c.deref.result.now c.in_ok-events.events.items) × (c.read_events.new.standard ≡ after)) c.deref.ensures.value (c.in_ok-events.ensures.meaning text after has)))
-    (at_end files c.read_events.new.standard (record { plan = Some c.in_ok-plan.plan; programs = Some c.in_ok-programs.programs.items; acts = Some (acts_with c.deref.result.now c.in_ok-events.events.items) }) c.in_err-write_whole.field-0.0 c.in_err-write_whole.ensures.fault)))))
+    (at_end NoOther files c.read_events.new.standard (record { plan = Some c.in_ok-plan.plan; programs = Some c.in_ok-programs.programs.items; acts = Some (acts_with c.deref.result.now c.in_ok-events.events.items) }) c.in_err-write_whole.field-0.0 (inl (no_input c.in_err-write_whole.field-0.0 c.in_err-write_whole.ensures.fault)))))))
 
 pub returns-clause-simulates : goal.returns-clause-simulates
 returns-clause-simulates g c = λ plan_text sessions_text script_text known.

@@ -1,0 +1,183 @@
+-- What a fault of `run` says, and what it leaves.
+use Rattle.std.proofs.Common.{◌≡◌, ◌⊎◌, ◌≤◌, ℕ, zero, suc, List, [], ◌∷◌, take, Option, Some, None, Result, Ok, Err, refl, sym, subst, arith, inl, inr, IfErr, IfOk}
+use Rattle.input_texts.specs.Words.{HaveTexts, HasText, Unread, unread}
+use Rattle.office_map.specs.PlanValue.{PlanValue, office_named}
+use Rattle.office_runs.specs.declared.fault.RunFault.{RunFault}
+use Rattle.drink_commands.specs.declared.input.Input.{Input}
+use Rattle.drink_commands.specs.declared.input.Input.TheVariants as inputs
+use Rattle.drink_commands.specs.declared.fault.Why.{Why}
+use Rattle.drink_commands.specs.declared.fault.Fault.{Fault}
+use Rattle.drink_commands.specs.declared.fault.Fault.TheVariants.{Memory, ReadFailed, Refused, NoSuchOffice, NoAddress, NoRun, CutShort, WriteFailed}
+use Rattle.drink_commands.specs.Fault.{IsAmong, IsFaultAt, IsOfRun}
+use Rattle.drink_commands.specs.Texts.{Judges, NoOther, Refuses, nothing}
+use Rattle.drink_commands.specs.Status.{status_of}
+use Rattle.drink_commands.specs.Run.{IsJudgedRun, IsNoOffice, IsOfOffice, IsReached, IsUnreached, JudgesRun, Leaves, SaysOf, status_with}
+use Rattle.drink_commands.proofs.Faults.{SaysTexts, TakesPlan, among, among_more, weaker}
+
+-- ---- what a fault leaves
+
+-- a fault at an input
+pub at_input : (U : Type 0) (S : RunFault → Type 0) (input : Input) (P : Why → Type 0) (f : Fault) → IsFaultAt input P f → U → Leaves U S f
+at_input U S input P Memory h u = u
+at_input U S input P (ReadFailed failed cause) h u = u
+at_input U S input P (Refused why remark) h u = u
+at_input U S input P (NoSuchOffice offices) h u = u
+at_input U S input P (NoAddress office) h u = u
+at_input U S input P (NoRun cause) h u = u
+at_input U S input P (CutShort cause) h u = absurd h
+at_input U S input P (WriteFailed cause) h u = tt
+
+no_office : (U : Type 0) (S : RunFault → Type 0) (f : Fault) → IsNoOffice f → U → Leaves U S f
+no_office U S Memory h u = u
+no_office U S (ReadFailed failed cause) h u = u
+no_office U S (Refused why remark) h u = u
+no_office U S (NoSuchOffice offices) h u = u
+no_office U S (NoAddress office) h u = u
+no_office U S (NoRun cause) h u = u
+no_office U S (CutShort cause) h u = absurd h
+no_office U S (WriteFailed cause) h u = tt
+
+unreached : (U : Type 0) (S : RunFault → Type 0) (p : PlanValue) (v : ℕ) (f : Fault) → IsUnreached p v f → U → Leaves U S f
+unreached U S p v Memory h u = u
+unreached U S p v (ReadFailed failed cause) h u = u
+unreached U S p v (Refused why remark) h u = u
+unreached U S p v (NoSuchOffice offices) h u = u
+unreached U S p v (NoAddress office) h u = u
+unreached U S p v (NoRun cause) h u = u
+unreached U S p v (CutShort cause) h u = absurd h
+unreached U S p v (WriteFailed cause) h u = tt
+
+-- a fault at the office that is asked for
+pub at_office : (U : Type 0) (S : RunFault → Type 0) (p : PlanValue) (o : Option ℕ) (f : Fault) → SaysOf p NoOther o f → U → Leaves U S f
+at_office U S p None f h u = no_office U S f h u
+at_office U S p (Some me) f (inl (v, e, h)) u = unreached U S p v f h u
+at_office U S p (Some me) f (inr (reached, h)) u = absurd h
+
+-- a run that was cut short, or the writing that failed
+pub at_end : (U : Type 0) (S T : RunFault → Type 0) (f : Fault) → Leaves ⊥ S f → ((cause : RunFault) → S cause → T cause) → Leaves U T f
+at_end U S T Memory h k = absurd h
+at_end U S T (ReadFailed failed cause) h k = absurd h
+at_end U S T (Refused why remark) h k = absurd h
+at_end U S T (NoSuchOffice offices) h k = absurd h
+at_end U S T (NoAddress office) h k = absurd h
+at_end U S T (NoRun cause) h k = absurd h
+at_end U S T (CutShort cause) h k = k cause h
+at_end U S T (WriteFailed cause) h k = tt
+
+pub is_end : (S : RunFault → Type 0) (f : Fault) → Leaves ⊥ S f → IsAmong [] f ⊎ IsOfRun f
+is_end S Memory h = absurd h
+is_end S (ReadFailed failed cause) h = absurd h
+is_end S (Refused why remark) h = absurd h
+is_end S (NoSuchOffice offices) h = absurd h
+is_end S (NoAddress office) h = absurd h
+is_end S (NoRun cause) h = absurd h
+is_end S (CutShort cause) h = inr (inr tt)
+is_end S (WriteFailed cause) h = inl tt
+
+-- ---- what a fault says
+
+of_run : (f : Fault) → IsOfRun f → IsOfOffice f
+of_run Memory (inl h) = h
+of_run Memory (inr h) = h
+of_run (ReadFailed failed cause) (inl h) = h
+of_run (ReadFailed failed cause) (inr h) = h
+of_run (Refused why remark) (inl h) = h
+of_run (Refused why remark) (inr h) = h
+of_run (NoSuchOffice offices) h = tt
+of_run (NoAddress office) h = tt
+of_run (NoRun cause) h = tt
+of_run (CutShort cause) h = tt
+of_run (WriteFailed cause) (inl h) = h
+of_run (WriteFailed cause) (inr h) = h
+
+module _ (asked : List Input) where
+  named : (f : Fault) → IsNoOffice f → IsAmong asked f ⊎ IsOfOffice f
+  named Memory h = inl tt
+  named (ReadFailed failed cause) h = inr h
+  named (Refused why remark) h = inr h
+  named (NoSuchOffice offices) h = inr tt
+  named (NoAddress office) h = inr tt
+  named (NoRun cause) h = inr tt
+  named (CutShort cause) h = inr tt
+  named (WriteFailed cause) h = inl tt
+
+  met : (p : PlanValue) (v : ℕ) (f : Fault) → IsUnreached p v f → IsAmong asked f ⊎ IsOfOffice f
+  met p v Memory h = inl tt
+  met p v (ReadFailed failed cause) h = inr h
+  met p v (Refused why remark) h = inr h
+  met p v (NoSuchOffice offices) h = inr tt
+  met p v (NoAddress office) h = inr tt
+  met p v (NoRun cause) h = inr tt
+  met p v (CutShort cause) h = inr tt
+  met p v (WriteFailed cause) h = inl tt
+
+  asked_for : (p : PlanValue) (o : Option ℕ) (f : Fault) → SaysOf p NoOther o f → IsAmong asked f ⊎ IsOfOffice f
+  asked_for p None f h = named f h
+  asked_for p (Some me) f (inl (v, e, h)) = met p v f h
+  asked_for p (Some me) f (inr (reached, h)) = absurd h
+
+says_more : (p : PlanValue) (P : Fault → Type 0) (o : Option ℕ) (f : Fault) → SaysOf p NoOther o f → SaysOf p P o f
+says_more p P None f h = h
+says_more p P (Some me) f (inl h) = inl h
+says_more p P (Some me) f (inr (reached, h)) = absurd h
+
+module _ (files : List ℕ → Option (List ℕ)) (word : List ℕ) where
+  -- a fault says what is so of the texts of these words, whichever are known
+  abbrev pub SaysRun : Unread → List (List ℕ) → Fault → Type 0
+  SaysRun u words f = (texts : List (List ℕ)) (n : ℕ) → HaveTexts files u (take n words) (take n texts) → JudgesRun word (take n texts) f
+
+  -- at the plan
+  pub at_plan : (u : Unread) (a b : List ℕ) (f : Fault)
+      → IsFaultAt inputs.Plan (λ why. (text : List ℕ) (after : Unread) → HasText files u a text after → Refuses nothing text why) f
+      → SaysRun u (a ∷ b ∷ []) f
+  at_plan u a b f h texts zero has = inl (among (inputs.Plan ∷ inputs.Sessions ∷ []) inputs.Plan _ f (0, omega arith, refl) h)
+  at_plan u a b f h [] (suc n) has = absurd has
+  at_plan u a b f h (text ∷ texts) (suc n) (after, has, more) = inl (weaker inputs.Plan _ _ f (λ why refused. refused text after has) h)
+
+  -- at OFFICE
+  pub at_word : (u v : Unread) (a b : List ℕ) (p : PlanValue) (f : Fault) → TakesPlan files u a v p → SaysOf p NoOther (office_named p word) f
+      → SaysRun u (a ∷ b ∷ []) f
+  at_word u v a b p f taken h texts zero has = asked_for (inputs.Plan ∷ inputs.Sessions ∷ []) p (office_named p word) f h
+  at_word u v a b p f taken h [] (suc n) has = absurd has
+  at_word u v a b p f taken h (text ∷ texts) (suc n) (after, has, more) =
+      inr (p, (taken text after has).0, says_more p _ (office_named p word) f h)
+
+  later_first : (f : Fault) → IsAmong (inputs.Sessions ∷ []) f ⊎ IsOfRun f → IsAmong (inputs.Plan ∷ inputs.Sessions ∷ []) f ⊎ IsOfOffice f
+  later_first f (inl h) = inl (among_more inputs.Plan (inputs.Sessions ∷ []) f h)
+  later_first f (inr h) = inr (of_run f h)
+
+  -- at the sessions, or later
+  pub at_later : (u v : Unread) (a b : List ℕ) (p : PlanValue) (me : ℕ) (f : Fault) → TakesPlan files u a v p → office_named p word ≡ Some me → IsReached p me
+      → SaysTexts IsOfRun files v (b ∷ []) (record nothing { plan = Some p }) (inputs.Sessions ∷ []) f
+      → SaysRun u (a ∷ b ∷ []) f
+  at_later u v a b p me f taken e reached later texts zero has = later_first f (later [] 0 tt)
+  at_later u v a b p me f taken e reached later [] (suc n) has = absurd has
+  at_later u v a b p me f taken e reached later (text ∷ texts) (suc n) (after, has, more) =
+      let it = taken text after has in
+      let rest = later texts n (subst (λ s. HaveTexts files s (take n (b ∷ [])) (take n texts)) (sym it.1) more) in
+      let known = record nothing { plan = Some p } in
+      inr (p, it.0, subst (λ o. SaysOf p (Judges IsOfRun known (inputs.Sessions ∷ []) (take n texts)) o f) (sym e) (inr (reached, rest)))
+
+  pub judged : (standard : Option (List ℕ)) (u : Unread) (a b : List ℕ) (f : Fault) → u ≡ unread standard (a ∷ b ∷ [])
+      → SaysRun u (a ∷ b ∷ []) f → IsJudgedRun files standard a word b f
+  judged standard u a b f e says texts n known =
+      says texts n (subst (λ s. HaveTexts files s (take n (a ∷ b ∷ [])) (take n texts)) (sym e) known.1)
+
+-- ---- the end
+
+pub err_more : {A : Type 0} (r : Result A Fault) (P Q : Fault → Type 0) → ((f : Fault) → P f → Q f) → IfErr r P → IfErr r Q
+err_more (Ok x) P Q k h = tt
+err_more (Err f) P Q k h = k f h
+
+pub ok_more : {A : Type 0} (r : Result A Fault) (P Q : A → Type 0) → ((x : A) → P x → Q x) → IfOk r P → IfOk r Q
+ok_more (Ok x) P Q k h = k x h
+ok_more (Err f) P Q k h = tt
+
+pub one_at_most : (left : ℕ) → status_with left ≤ 1
+one_at_most zero = omega arith
+one_at_most (suc n) = omega arith
+
+-- a status of 0 is that of what was done
+pub done : (r : Result ℕ Fault) (P : ℕ → Type 0) → IfOk r P → status_of r ≡ 0 → P 0
+done (Ok status) P h e = subst P e h
+done (Err f) P h e = absurd (omega (arith, e))

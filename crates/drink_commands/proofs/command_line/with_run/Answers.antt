@@ -1,0 +1,21 @@
+use Rattle.std.proofs.Common.{◌≡◌, ◌∙◌, false, ap, ap₂, rules, codes}
+use Rattle.clap.specs.Words.{App, app_of, new_app, with_rule, with_subcommand}
+use Rattle.clap.specs.declared.builder.command.Command.TheViews.{out-Command}
+use Rattle.drink_commands.specs.CommandLine.{run_command}
+use Rattle.drink_commands.proofs.Globals.{none_more}
+use Rattle.drink_commands.proofs.command_line.with_run.Goals as goal
+
+pub returns : goal.returns
+returns c =
+    let new_is : app_of c.after_help.result ≡ new_app (codes "run") = search rules in
+    let plan = c.in_ok-arg.ensures.shape c.required-plan.ensures.no_global ∙ ap₂ with_rule new_is c.required-plan.ensures.rule in
+    let office = c.in_ok-arg-2.ensures.shape c.required-office.ensures.no_global ∙ ap₂ with_rule plan c.required-office.ensures.rule in
+    let sessions = c.in_ok-arg-3.ensures.shape c.required-sessions.ensures.no_global ∙ ap₂ with_rule office c.required-sessions.ensures.rule in
+    let run_is : app_of c.in_ok-running.running ≡ run_command =
+    c.in_ok-running.ensures.shape c.optional-turns.ensures.no_global ∙ ap₂ with_rule sessions c.optional-turns.ensures.rule in
+    let none : (out-Command c.after_help.result).has_globals ≡ false = search rules in
+    let none_in_office =
+    none_more _ _ _ c.in_ok-arg-2.ensures.globals (none_more _ _ _ c.in_ok-arg.ensures.globals none c.required-plan.ensures.no_global) c.required-office.ensures.no_global in
+    let none_in_sessions = none_more _ _ _ c.in_ok-arg-3.ensures.globals none_in_office c.required-sessions.ensures.no_global in
+    let none_in_all = none_more _ _ _ c.in_ok-running.ensures.globals none_in_sessions c.optional-turns.ensures.no_global in
+    c.in_ok-program.ensures.shape none_in_all ∙ ap (λ (a : App). with_subcommand (app_of c.args.program) a.top) run_is

@@ -1,0 +1,125 @@
+-- What the commands `run` and `live` write, and what their faults say.
+use Rattle.std.specs.Prelude.{◌≡◌, ◌⊎◌, ◌<◌, ℕ, Bool, zero, suc, List, [], ◌∷◌, true, false, length, take, Option, Some, None, Ok}
+use Rattle.std.specs.List.{range_with_len}
+use Rattle.std.specs.String.{string_bytes}
+use Rattle.std.specs.Io.KnownBytes.{Appends}
+use Rattle.input_texts.specs.Words.{HaveFirstTexts, StandFor}
+use Rattle.office_map.specs.PlanValue.{PlanValue, office_named, office_name_of}
+use Rattle.session_meaning.specs.ProgramValue.{ProgramValue}
+use Rattle.session_language.specs.Reading.{sessions_of}
+use Rattle.office_runs.specs.Addresses.{is_without}
+use Rattle.office_runs.specs.Runs.{TellsCourse, TellsJournals}
+use Rattle.office_runs.specs.declared.report.Ran.{Ran}
+use Rattle.office_runs.specs.declared.fault.RunFault.{RunFault}
+use Rattle.drink_commands.specs.Plans.{IsAcceptedAs}
+use Rattle.drink_commands.specs.Fault.{IsAmong, IsFaultAt, IsOfRun}
+use Rattle.drink_commands.specs.Texts.{Judges, Refuses, nothing}
+use Rattle.drink_commands.specs.declared.input.Input.TheVariants as inputs
+use Rattle.drink_commands.specs.declared.fault.Fault.{Fault}
+use Rattle.drink_commands.specs.declared.fault.Fault.TheVariants.{Memory, NoSuchOffice, NoAddress, NoRun, CutShort, WriteFailed}
+
+-- ---- how it ended
+
+-- the exit status where so many sessions are left
+abbrev pub status_with : ℕ → ℕ
+status_with zero = 0
+status_with (suc n) = 1
+
+-- a run had all its time, and leaves so many sessions that this is the status
+abbrev pub EndsWith : ℕ → Ran → Type 0
+EndsWith status ran = (ran.fault ≡ None) × (status ≡ status_with ran.unfinished)
+
+-- it was cut short for this
+abbrev pub IsCutBy : RunFault → Ran → Type 0
+IsCutBy cause ran = ran.fault ≡ Some cause
+
+-- ---- which offices can run
+
+-- this office and its neighbours have addresses
+abbrev pub IsReached : PlanValue → ℕ → Type 0
+IsReached p me = (v : ℕ) → v < length p.offices → is_without p me v ≡ false
+
+-- ---- what is written
+
+-- The two texts mean a plan and sessions under it, and the word names an office of the plan, which has an address, as its
+-- neighbours have. What is told of so many turns of that office with its sessions among those was written after what the writer held.
+pub record WritesOffice (tells : Bool) (plan word sessions : List ℕ) (turns : ℕ) (ran : Ran) (old new : Option (List ℕ)) : Type 0 where
+  pub p : PlanValue
+  pub me : ℕ
+  pub programs : List ProgramValue
+  pub is_plan : IsAcceptedAs plan p
+  pub is_office : office_named p word ≡ Some me
+  pub is_reached : IsReached p me
+  pub are_sessions : sessions_of p sessions ≡ Ok programs
+  pub told : TellsCourse tells p me programs turns ran
+  pub written : Appends old new (string_bytes ran.text)
+
+-- The two texts mean a plan and sessions under it. What is told of a run of all the plan's offices with those sessions was written after
+-- what the writer held.
+pub record WritesOffices (plan sessions : List ℕ) (ran : Ran) (old new : Option (List ℕ)) : Type 0 where
+  pub p : PlanValue
+  pub programs : List ProgramValue
+  pub is_plan : IsAcceptedAs plan p
+  pub are_sessions : sessions_of p sessions ≡ Ok programs
+  pub told : TellsJournals p (range_with_len 0 (length p.offices)) (length programs) ran.unfinished (string_bytes ran.text)
+  pub written : Appends old new (string_bytes ran.text)
+
+-- so it is with the texts that the words stand for, of a run that ended as P says
+abbrev pub RunsOffice : Bool → (List ℕ → Option (List ℕ)) → Option (List ℕ) → (plan word sessions : List ℕ) → ℕ → (Ran → Type 0) → Option (List ℕ) → Option (List ℕ) → Type 0
+RunsOffice tells files standard plan word sessions turns P old new = (plan_text sessions_text : List ℕ)
+    → StandFor files standard (plan ∷ sessions ∷ []) (plan_text ∷ sessions_text ∷ [])
+    → (ran : Ran) × P ran × WritesOffice tells plan_text word sessions_text turns ran old new
+
+abbrev pub RunsOffices : (List ℕ → Option (List ℕ)) → Option (List ℕ) → (plan sessions : List ℕ) → (Ran → Type 0) → Option (List ℕ) → Option (List ℕ) → Type 0
+RunsOffices files standard plan sessions P old new = (plan_text sessions_text : List ℕ)
+    → StandFor files standard (plan ∷ sessions ∷ []) (plan_text ∷ sessions_text ∷ [])
+    → (ran : Ran) × P ran × WritesOffices plan_text sessions_text ran old new
+
+-- ---- what a fault says
+
+-- a fault tells that no office has this name, or memory ran out
+abbrev pub IsNoOffice : Fault → Type 0
+IsNoOffice Memory = Unit {0}
+IsNoOffice (NoSuchOffice offices) = Unit {0}
+IsNoOffice _ = ⊥
+
+-- it tells that this office has no address, by its name, or memory ran out
+abbrev pub IsUnreached : PlanValue → ℕ → Fault → Type 0
+IsUnreached p v Memory = Unit {0}
+IsUnreached p v (NoAddress office) = office_name_of p v ≡ Some (string_bytes office)
+IsUnreached p v _ = ⊥
+
+-- What it says of the office that a word names under a plan, if one has that name: whether it and its neighbours have addresses. P is
+-- what it says where all is as it has to be.
+abbrev pub SaysOf : PlanValue → (Fault → Type 0) → Option ℕ → Fault → Type 0
+SaysOf p P None f = IsNoOffice f
+SaysOf p P (Some me) f = ((v : ℕ) × (is_without p me v ≡ true) × IsUnreached p v f) ⊎ (IsReached p me × P f)
+
+-- an office can't be run, or its run can't begin or was cut short
+abbrev pub IsOfOffice : Fault → Type 0
+IsOfOffice (NoSuchOffice offices) = Unit {0}
+IsOfOffice (NoAddress office) = Unit {0}
+IsOfOffice (NoRun cause) = Unit {0}
+IsOfOffice (CutShort cause) = Unit {0}
+IsOfOffice _ = ⊥
+
+-- What a fault of `run` says of the texts of its words, of which the first are given. The plan is judged first. Under it OFFICE is
+-- looked up, and the addresses are looked at, before anything is said of the sessions. Other faults come where all that is as it has to be.
+abbrev pub JudgesRun : List ℕ → List (List ℕ) → Fault → Type 0
+JudgesRun word [] f = IsAmong (inputs.Plan ∷ inputs.Sessions ∷ []) f ⊎ IsOfOffice f
+JudgesRun word (text ∷ texts) f =
+    IsFaultAt inputs.Plan (Refuses nothing text) f
+    ⊎ ((p : PlanValue) × IsAcceptedAs text p × SaysOf p (Judges IsOfRun (record nothing { plan = Some p }) (inputs.Sessions ∷ []) texts) (office_named p word) f)
+
+abbrev pub IsJudgedRun : (List ℕ → Option (List ℕ)) → Option (List ℕ) → (plan word sessions : List ℕ) → Fault → Type 0
+IsJudgedRun files standard plan word sessions f = (texts : List (List ℕ)) (n : ℕ) → HaveFirstTexts files standard (plan ∷ sessions ∷ []) texts n
+    → JudgesRun word (take n texts) f
+
+-- ---- what stands where a run fails
+
+-- What a fault of a run leaves: what stands, where it was cut short; nobody knows what, where the writing failed; and otherwise nothing
+-- was written.
+abbrev pub Leaves : Type 0 → (RunFault → Type 0) → Fault → Type 0
+Leaves Unwritten Stands (WriteFailed cause) = Unit {0}
+Leaves Unwritten Stands (CutShort cause) = Stands cause
+Leaves Unwritten Stands _ = Unwritten

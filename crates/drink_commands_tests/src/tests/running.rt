@@ -1,0 +1,362 @@
+use crate::tests::sockets::{Deaf, Shut};
+use crate::tests::words::strings;
+use crate::tests::{MOVE, Memory, PLAN};
+use drink_commands::exit::Exit;
+use drink_commands::program::answer;
+use drink_commands::telling::Telling;
+use office_runs::{Around, Binds, Gate, Open, Progress, Quiet, UdpSockets, Watch};
+use std::alloc::Global;
+use std::cell::Cell;
+use std::fmt::Display;
+use std::io;
+use std::io::ErrorKind;
+use std::process::Abort;
+use std::rt::Clock;
+use std::sync::Wait;
+use std::test::Fail;
+use std::thread::Threads;
+
+const TWO: &str =
+    "plan 1 run 3\noffice a 127.0.0.1:47001\noffice b 127.0.0.1:47002\npair a b fork a\n";
+
+const GIVES: &str = "session a\ngive 1\nend\n";
+
+const GAVE: &str = "a.1 done reads - writes - gives 1\nunfinished 0\n";
+
+/// The second office has no address; the third has none, and is no neighbour of the first.
+const HALF: &str = "plan 1 run 3\noffice a 127.0.0.1:47001\noffice b -\npair a b fork a\n";
+
+const APART: &str =
+    "plan 1 run 3\noffice a 127.0.0.1:47001\noffice b 127.0.0.1:47002\noffice c -\npair a b fork a\npair b c fork b\n";
+
+const THREE: &str =
+    "plan 1 run 9\noffice a -\noffice b -\noffice c -\npair a b fork b\npair b c fork b\nrecord r a b 1 at a\nrecord s b c 2 at c\n";
+
+const THREE_SESSIONS: &str =
+    "session a\nrepeat 3\nset r = read r * 2\nend\ngive read r\nend\nsession c\nset s = read s + 5\ngive read s\nend\nsession b\nset r = read r + read s\nset s = 0\ngive read r\nend\n";
+
+/// That these words are answered so: the exit status, what is printed, and what is said on the standard error.
+fn says<B, G>(
+    rt: &(impl Abort + AllocGlobal + Threads + Wait + Clock + Sync),
+    memory: &Memory<'_>,
+    words: &[&str],
+    around: &Around<'_, B, G, Quiet>,
+    expected: (u8, &str, &str),
+) -> Result<(), Fail>
+where
+    B: Binds,
+    B::Socket: Send,
+    B::Alarm: Send,
+    G: Gate + Sync,
+{
+    let words = strings(rt.alloc(), words)?;
+    let mut out = Vec::new(rt.alloc());
+    let exit = answer(rt, rt.alloc(), words.as_slice(), memory, around, &mut out);
+    let (status, printed, said) = expected;
+    assert_eq!(rt; exit.said.text(), said);
+    assert_eq!(rt; out.as_slice(), printed.as_bytes());
+    assert_eq!(rt; exit.status, status);
+    Ok(())
+}
+
+/// A plan, sessions, the words after `drink`, and what they are answered where nothing comes from other offices.
+static RUNS: [(&str, &str, &[&str], (u8, &str, &str)); 14] = [
+    (
+        TWO,
+        GIVES,
+        &["drink", "run", "p", "a", "s", "--turns", "1"],
+        (0, GAVE, ""),
+    ),
+    (
+        APART,
+        GIVES,
+        &["drink", "run", "p", "a", "s", "--turns", "1"],
+        (0, GAVE, ""),
+    ),
+    // Another office's sessions are not its own.
+    (
+        TWO,
+        GIVES,
+        &["drink", "run", "p", "b", "s", "--turns", "2"],
+        (0, "unfinished 0\n", ""),
+    ),
+    (
+        TWO,
+        "",
+        &["drink", "run", "p", "a", "s"],
+        (0, "unfinished 0\n", ""),
+    ),
+    // A session that needs its neighbour's bottle is left.
+    (
+        "plan 1 run 3\noffice a 127.0.0.1:47001\noffice b 127.0.0.1:47002\npair a b fork a\nrecord x a b 5 at b\n",
+        "session a\ngive 1\nend\nsession a\ngive read x\nend\nsession b\ngive read x\nend\n",
+        &["drink", "run", "p", "a", "s", "--turns", "20"],
+        (1, "a.1 done reads - writes - gives 1\nunfinished 1\n", ""),
+    ),
+    // OFFICE before the addresses, those before the sessions.
+    (
+        PLAN,
+        MOVE,
+        &["drink", "run", "p", "c", "missing"],
+        (
+            1,
+            "",
+            "drink: c: X6 NoSuchOffice: the plan has no office of this name; it has a and b\n",
+        ),
+    ),
+    (
+        THREE,
+        MOVE,
+        &["drink", "run", "p", "A\n", "missing"],
+        (
+            1,
+            "",
+            "drink: A\\u{a}: X6 NoSuchOffice: the plan has no office of this name; it has a, b and c\n",
+        ),
+    ),
+    // Of an office and its neighbours the first that has none is named.
+    (
+        PLAN,
+        MOVE,
+        &["drink", "run", "p", "b", "missing"],
+        (
+            1,
+            "",
+            "drink: p: X2 NoAddress: the office `a` has `-` for its address, and an office runs where it and its neighbours have one\n",
+        ),
+    ),
+    (
+        HALF,
+        "x",
+        &["drink", "run", "p", "a", "s"],
+        (
+            1,
+            "",
+            "drink: p: X2 NoAddress: the office `b` has `-` for its address, and an office runs where it and its neighbours have one\n",
+        ),
+    ),
+    (
+        APART,
+        "x",
+        &["drink", "run", "p", "b", "s"],
+        (
+            1,
+            "",
+            "drink: p: X2 NoAddress: the office `c` has `-` for its address, and an office runs where it and its neighbours have one\n",
+        ),
+    ),
+    (
+        TWO,
+        "session c\nend\n",
+        &["drink", "run", "p", "a", "s"],
+        (
+            1,
+            "",
+            "drink: s: line 1: S2 UnknownName: the plan has no office `c`\n",
+        ),
+    ),
+    (
+        TWO,
+        GIVES,
+        &["drink", "run", "p", "a", "missing"],
+        (
+            1,
+            "",
+            "drink: missing: X4 ReadFailed: it cannot be read: no such file\n",
+        ),
+    ),
+    (
+        "plan 2",
+        GIVES,
+        &["drink", "run", "p", "c", "missing"],
+        (
+            1,
+            "",
+            "drink: p: line 1: P1 Header: the first line has to be `plan 1 run N`, with N from 0 to 4294967295, and not `plan 2`\n",
+        ),
+    ),
+    (
+        "plan 2",
+        GIVES,
+        &["drink", "live", "p", "missing"],
+        (
+            1,
+            "",
+            "drink: p: line 1: P1 Header: the first line has to be `plan 1 run N`, with N from 0 to 4294967295, and not `plan 2`\n",
+        ),
+    ),
+];
+
+#[test]
+fn runs_are_told(rt: HostRuntime) -> Result<(), Fail> {
+    let binds = Deaf::new(rt.alloc());
+    let around = Around {
+        binds: &binds,
+        gate: &Open,
+        watch: &Quiet,
+    };
+    for (plan, sessions, words, expected) in &RUNS {
+        let memory = Memory::new(*plan, *sessions, "");
+        says(&rt, &memory, *words, &around, *expected)?;
+    }
+    Ok(())
+}
+
+static REFUSALS: [(ErrorKind, &str); 4] = [
+    (ErrorKind::AddrInUse, "the address is in use"),
+    (
+        ErrorKind::AddrNotAvailable,
+        "this machine has no such address",
+    ),
+    (ErrorKind::PermissionDenied, "permission denied"),
+    (ErrorKind::Uncategorized, "the system has no socket for it"),
+];
+
+/// Where a socket can't be bound, nothing is printed.
+#[test]
+fn an_address_that_cannot_be_bound_is_told(rt: HostRuntime) -> Result<(), Fail> {
+    let alloc = rt.alloc();
+    for (kind, cause) in &REFUSALS {
+        let mut binds = Deaf::new(alloc);
+        binds.refusal = Some(*kind);
+        let around = Around {
+            binds: &binds,
+            gate: &Open,
+            watch: &Quiet,
+        };
+        let memory = Memory::new(TWO, GIVES, "");
+        let said = format!(in alloc;
+            "drink: U2 BindFailed: no socket can have the address 127.0.0.1:47001: {cause}\n"
+        )?;
+        let run = ["drink", "run", "p", "a", "s"];
+        says(&rt, &memory, &run, &around, (1, "", said.as_str()))?;
+        let said = format!(in alloc;
+            "drink: U2 BindFailed: no socket can have the address 127.0.0.1:0: {cause}\n"
+        )?;
+        let live = ["drink", "live", "p", "s"];
+        says(&rt, &memory, &live, &around, (1, "", said.as_str()))?;
+    }
+    Ok(())
+}
+
+const FAILED: &str =
+    "drink: U1 WireFailed: a socket fails; the run ended with it, and what was done before is printed\n";
+
+/// Where a socket fails, what stands is printed: before the first turn's rules nothing, and then what finished in it.
+#[test]
+fn a_failing_socket_ends_a_run(rt: HostRuntime) -> Result<(), Fail> {
+    for (call, printed) in [(0, "unfinished 1\n"), (1, GAVE), (2, GAVE)] {
+        let mut binds = Deaf::new(rt.alloc());
+        binds.fails_at = Some(call);
+        let around = Around {
+            binds: &binds,
+            gate: &Open,
+            watch: &Quiet,
+        };
+        let memory = Memory::new(TWO, GIVES, "");
+        let words = ["drink", "run", "p", "a", "s", "--turns", "3"];
+        says(&rt, &memory, &words, &around, (1, printed, FAILED))?;
+    }
+    Ok(())
+}
+
+/// Where no thread can be started, none of the sessions is run.
+#[test]
+fn live_without_threads_is_told(rt: HostRuntime) -> Result<(), Fail> {
+    let binds = Deaf::new(rt.alloc());
+    let around = Around {
+        binds: &binds,
+        gate: &Shut,
+        watch: &Quiet,
+    };
+    let memory = Memory::new(THREE, THREE_SESSIONS, "");
+    let said =
+        "drink: U3 NoThread: no further thread can be started; the run ended with it, and what was done before is printed\n";
+    let words = ["drink", "live", "p", "s"];
+    says(&rt, &memory, &words, &around, (1, "unfinished 3\n", said))
+}
+
+/// What `live` prints of three offices over UDP, whichever of their sessions came first at a record.
+#[test]
+fn live_finishes_three_sessions(rt: HostRuntime) -> Result<(), Fail> {
+    let binds = UdpSockets::new(&rt, rt.alloc());
+    let around = Around {
+        binds: &binds,
+        gate: &Open,
+        watch: &Quiet,
+    };
+    let memory = Memory::new(THREE, THREE_SESSIONS, "");
+    let words = strings(rt.alloc(), &["drink", "live", "p", "s"])?;
+    let mut out = Vec::new(rt.alloc());
+    let exit = answer(
+        &rt,
+        rt.alloc(),
+        words.as_slice(),
+        &memory,
+        &around,
+        &mut out,
+    );
+    assert_eq!(rt; exit.said.text(), "");
+    assert_eq!(rt; exit.status, 0);
+    let text = String::from_utf8(out)?;
+    let begins = [
+        "a.1 done reads r=",
+        "b.1 done reads r=",
+        "c.1 done reads s=",
+        "unfinished 0",
+    ];
+    let mut count = 0;
+    for line in text.as_str().lines() {
+        assert!(rt; count < 4 && line.starts_with(begins[count]));
+        count += 1;
+    }
+    assert_eq!(rt; count, 4);
+    Ok(())
+}
+
+/// A standard error that counts what it is told, and how often it was this.
+#[derive(Drop)]
+struct Ear<'a> {
+    alloc: Global,
+    wanted: &'a str,
+    told: Cell<u32>,
+    right: Cell<u32>,
+}
+
+impl Eprint for Ear<'_> {
+    fn eprint<D: Display + Drop>(&self, value: D) -> io::Result<()> {
+        let text = format!(in self.alloc; "{value}")?;
+        self.told.set(self.told.get().saturating_add(1));
+        if text.as_str() == self.wanted {
+            self.right.set(self.right.get().saturating_add(1));
+        }
+        Ok(())
+    }
+
+    fn eprintln<D: Display + Drop>(&self, value: D) -> io::Result<()> {
+        self.eprint(format!(in self.alloc; "{value}\n")?)
+    }
+}
+
+/// A terminal is told how far a run is, and nothing else is.
+#[test]
+fn a_terminal_is_told_how_far_a_run_is(rt: HostRuntime) {
+    for (is_terminal, times) in [(true, 1), (false, 0)] {
+        let ear = Ear {
+            alloc: rt.alloc(),
+            wanted: "drink: 12 of 40 sessions finished; 310 datagrams came, 305 went, 7 were refused\n",
+            told: Cell::new(0),
+            right: Cell::new(0),
+        };
+        let telling = Telling::new(&ear, is_terminal);
+        telling.tell(Progress {
+            finished: 12,
+            sessions: 40,
+            came: 310,
+            went: 305,
+            refused: 7,
+        });
+        assert_eq!(rt; ear.told.get(), times);
+        assert_eq!(rt; ear.right.get(), times);
+    }
+}

@@ -1,0 +1,121 @@
+//! What a run of offices has around it, in memory.
+
+use crate::tests::Memory;
+use drink_commands::exit::Exit;
+use drink_commands::program::answer;
+use office_map::OfficeId;
+use office_runs::{Around, Binds, Gate, Open, Quiet, Socket, Wakes};
+use socket_pump::{MemoryWire, Wire, WireFailed};
+use std::alloc::Global;
+use std::io;
+use std::io::{ErrorKind, Write};
+use std::net::SocketAddr;
+use std::rt::Clock;
+use std::sync::Wait;
+use std::thread::Threads;
+
+/// Sockets in memory, at which nothing comes and from which nothing arrives.
+#[derive(Drop)]
+pub struct Deaf {
+    alloc: Global,
+    /// The call of each socket that fails.
+    pub fails_at: Option<u64>,
+    /// What is answered in place of a socket.
+    pub refusal: Option<ErrorKind>,
+}
+
+impl Deaf {
+    pub fn new(alloc: Global) -> Deaf {
+        Deaf {
+            alloc,
+            fails_at: None,
+            refusal: None,
+        }
+    }
+}
+
+impl Binds for Deaf {
+    type Socket = DeafSocket;
+
+    type Alarm = Bell;
+
+    fn bind(&self, at: SocketAddr) -> io::Result<(DeafSocket, Bell)> {
+        if let Some(kind) = self.refusal {
+            return Err(io::Error::from(kind));
+        }
+        let mut wire = MemoryWire::new(self.alloc);
+        if let Some(call) = self.fails_at {
+            wire.fail_at(call);
+        }
+        Ok((DeafSocket { wire, at }, Bell))
+    }
+}
+
+#[derive(Drop)]
+pub struct DeafSocket {
+    wire: MemoryWire,
+    at: SocketAddr,
+}
+
+impl Wire for DeafSocket {
+    ghost use Rattle.std.specs.Prelude.{true};
+
+    ghost account = { λ s. s.wire };
+
+    ghost tells = { true };
+
+    fn receive(&mut self, buffer: &mut [u8; 64]) -> Result<Option<usize>, WireFailed> {
+        self.wire.receive(buffer)
+    }
+
+    fn send(&mut self, to: OfficeId, bytes: &[u8]) -> Result<(), WireFailed> {
+        self.wire.send(to, bytes)
+    }
+}
+
+impl Socket for DeafSocket {
+    fn address(&self) -> io::Result<SocketAddr> {
+        Ok(self.at)
+    }
+
+    fn set_peer(&mut self, _v: OfficeId, _at: SocketAddr) {}
+
+    fn poll(&mut self, _most: u64) -> Result<(), WireFailed> {
+        Ok(())
+    }
+}
+
+#[derive(Drop)]
+pub struct Bell;
+
+impl Wakes for Bell {
+    fn wake(&self) {}
+}
+
+/// Lets no thread start.
+#[derive(Clone, Copy)]
+pub struct Shut;
+
+impl Gate for Shut {
+    fn before(&self, _office: OfficeId) {}
+
+    fn may_start(&self) -> bool {
+        false
+    }
+}
+
+/// What the program answers these words, where sockets are in memory.
+pub fn answered<W: Write>(
+    rt: &(impl AllocGlobal + Threads + Wait + Clock + Sync),
+    words: &[String],
+    memory: &Memory<'_>,
+    out: &mut W,
+) -> Exit {
+    let binds = Deaf::new(rt.alloc());
+    let around = Around {
+        binds: &binds,
+        gate: &Open,
+        watch: &Quiet,
+    };
+    answer(rt, rt.alloc(), words, memory, &around, out)
+}
