@@ -18,9 +18,6 @@ ghost use Rattle.bottle_values.specs.Bytes.{bytes_of, twos_complement};
 use std::fmt;
 use thiserror::Error;
 
-#[cfg(test)]
-mod tests;
-
 /// The value of a record. It prints as its number, in decimal.
 #[derive(Clone, Copy, Debug, PartialEq, Eq)]
 pub struct Value {

@@ -17,8 +17,6 @@ mod phase;
 mod places;
 mod shared_fork;
 mod table;
-#[cfg(test)]
-mod tests;
 
 pub use fault::NotNow;
 pub use phase::Phase;

@@ -15,8 +15,6 @@ pub mod laws;
 mod phase;
 mod places;
 mod shared_bottle;
-#[cfg(test)]
-mod tests;
 
 pub use bar::Bar;
 pub use phase::Phase;

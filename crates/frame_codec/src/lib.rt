@@ -26,6 +26,3 @@ pub use fault::FrameFault;
 pub use frame::{Frame, MAX_NUMBER};
 pub use message::Msg;
 pub use version_01::{MAX_LENGTH, decode, encode};
-
-#[cfg(test)]
-mod tests;

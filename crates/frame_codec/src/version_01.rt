@@ -116,6 +116,3 @@ fn write_message(msg: Msg, out: &mut [u8]) -> usize
         }
     }
 }
-
-#[cfg(test)]
-mod tests;

@@ -11,8 +11,6 @@ mod environment;
 mod evaluate;
 pub mod replay;
 mod stop;
-#[cfg(test)]
-mod tests;
 mod walk;
 
 pub use crate::replay::{Replay, serial};

@@ -22,8 +22,6 @@ mod progress;
 mod records;
 mod register;
 mod state;
-#[cfg(test)]
-mod tests;
 mod way;
 mod work;
 

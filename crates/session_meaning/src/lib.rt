@@ -23,8 +23,6 @@ pub mod needs;
 mod node;
 pub mod operands;
 mod slots;
-#[cfg(test)]
-mod tests;
 mod tree;
 mod variables;
 mod working_copy;

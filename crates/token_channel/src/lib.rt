@@ -28,6 +28,3 @@ pub use channel::Channel;
 pub use fault::ChannelFault;
 pub use taken::Taken;
 pub use thing::{SharedThing, Thing};
-
-#[cfg(test)]
-mod tests;

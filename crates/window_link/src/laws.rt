@@ -20,6 +20,3 @@ pub fn streams_stay_lawful()
 pub fn no_frame_is_refused()
     ensures { NoFrameIsRefused }
 {}
-
-#[cfg(test)]
-mod tests;

@@ -26,6 +26,3 @@ pub use fault::LinkFault;
 pub use link::Link;
 pub use receiving::MAX_KEPT;
 pub use sending::MAX_WAITING;
-
-#[cfg(test)]
-mod tests;

@@ -1,6 +1,5 @@
 ghost use Rattle.std.specs.Prelude.{◌<◌};
 
-use super::*;
 use bottle_values::Value;
 use frame_codec::{Frame, Msg};
 use office_map::{OfficeId, Plan};
@@ -9,6 +8,7 @@ use rand_pcg::Pcg32;
 use std::alloc::{AllocError, Global};
 use std::process::Abort;
 use std::test::Fail;
+use token_channel::{Channel, ChannelFault, Taken, Thing, laws};
 use window_link::{Arrival, LinkFault};
 
 const ONE_RECORD: &str =

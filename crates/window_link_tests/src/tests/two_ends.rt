@@ -1,14 +1,15 @@
 ghost use Rattle.std.specs.Prelude.{◌<◌, IsTrue};
 
-use super::*;
-use crate::arrival::Arrival;
-use crate::link::Link;
 use frame_codec::{Frame, Msg};
 use rand_core::utils::NextWord;
 use rand_pcg::Pcg32;
 use std::alloc::{AllocError, Global};
 use std::process::Abort;
 use std::test::Fail;
+use window_link::laws::{
+    End, LinkEvent, LinkReply, Posted, Two, no_frame_is_refused, streams_stay_lawful,
+};
+use window_link::{Arrival, Link};
 
 fn happens(
     rt: &impl Abort,

@@ -1,6 +1,6 @@
 ghost use Rattle.std.specs.Prelude.{◌≡◌};
 
-use super::*;
+use bottle_values::{Overflow, Value};
 use std::test::Fail;
 
 fn value(number: i64) -> Value {

@@ -3,12 +3,10 @@
 use super::PLAN;
 use super::draws::{Draws, session};
 use super::walk::{Doing, Walk};
-use crate::code::Code;
-use crate::progress::Progress;
-use crate::work::Work;
 use bottle_values::Value;
 use office_map::Plan;
-use session_language::{End, Ending, Program, RecordValues, read_sessions};
+use session_language::{End, Program, RecordValues, read_sessions};
+use session_machine::{Code, Progress, Work};
 use std::alloc::{AllocError, Global};
 use std::process::Abort;
 use std::test::Fail;

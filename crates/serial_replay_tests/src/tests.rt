@@ -1,6 +1,6 @@
-use crate::replay::{Replay, serial};
 use bottle_values::Value;
 use office_map::{Plan, RecordId};
+use serial_replay::{Replay, serial};
 use session_language::{End, Ending, Outcome, read_sessions};
 use std::alloc::{AllocError, Global};
 use std::fmt::Write;

@@ -1,6 +1,6 @@
 ghost use Rattle.std.specs.Prelude.{◌≡◌, ◌<◌};
 
-use super::*;
+use dining_core::{NotNow, Phase, Table};
 use office_map::{OfficeId, Plan};
 use std::alloc::Global;
 use std::process::Abort;

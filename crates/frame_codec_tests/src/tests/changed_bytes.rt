@@ -2,8 +2,8 @@
 // one, so a byte that is read at a wrong place shows. In each table a row is a place, the byte that is put there, and
 // what is read then.
 
-use super::*;
-use crate::frame::MAX_NUMBER;
+use bottle_values::Value;
+use frame_codec::{Frame, FrameFault, MAX_NUMBER, Msg, decode};
 use std::process::Abort;
 use std::test::Fail;
 

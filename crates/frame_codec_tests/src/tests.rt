@@ -1,10 +1,12 @@
 ghost use Rattle.std.specs.Prelude.{◌≡◌, ◌<◌, ◌^◌, Ok};
 ghost use Rattle.frame_codec.specs.Limits.{sequence_space};
 
-use super::*;
 use bottle_values::Value;
+use frame_codec::{Frame, FrameFault, MAX_LENGTH, MAX_NUMBER, Msg, decode, encode, laws};
 use std::process::Abort;
 use std::test::Fail;
+
+mod changed_bytes;
 
 const BOTTLE: [u8; 37] =
     *b"\x44\x50\x01\x01\x00\x00\x00\x2a\x00\x01\x00\x00\x00\x00\x00\x00\x00\x01\x00\x00\x00\x00\x00\x00\x00\x00\x04\x00\x05\xff\xff\xff\xff\xff\xff\xff\xff";

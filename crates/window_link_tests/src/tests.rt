@@ -1,10 +1,12 @@
 ghost use Rattle.std.specs.Prelude.{◌<◌};
 ghost use Rattle.frame_codec.specs.Limits.{sequence_space};
 
-use super::*;
 use frame_codec::{Frame, Msg};
 use std::process::Abort;
 use std::test::Fail;
+use window_link::{Arrival, Link, LinkFault};
+
+mod two_ends;
 
 #[test]
 fn the_greatest_number_is_the_last(rt: HostRuntime) {

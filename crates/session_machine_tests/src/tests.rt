@@ -1,13 +1,11 @@
 //! Sessions in pieces of 1, 2 and 1,000, with lengths and endings worked out by hand.
 
-use crate::code::Code;
-use crate::progress::Progress;
-use crate::work::Work;
 use bottle_values::Value;
 use office_map::{Plan, RecordId};
 use session_language::{
     End, Ending, LangFault, Program, RecordValues, SessionRefusal, Statement, read_sessions,
 };
+use session_machine::{Code, Progress, Work};
 use std::alloc::{AllocError, Global};
 use std::fmt::Write;
 use std::process::Abort;

@@ -2,9 +2,9 @@ ghost use Rattle.std.specs.Prelude.{◌≡◌};
 ghost use Rattle.drinking_core.specs.refinement.Bars.{drinker_of};
 ghost use Rattle.bottle_values.specs.Lists.{is_among};
 
-use super::*;
 use bottle_values::Value;
 use dining_core::Table;
+use drinking_core::{Bar, Phase};
 use office_map::{OfficeId, Plan, RecordId};
 use std::alloc::{AllocError, Global};
 use std::fmt::Write;

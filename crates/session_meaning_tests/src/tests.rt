@@ -1,6 +1,6 @@
-use crate::ending::{End, Ending, Gives, Outcome, RecordValues};
 use bottle_values::Value;
 use office_map::{OfficeId, RecordId};
+use session_meaning::{End, Ending, Gives, Outcome, RecordValues};
 use std::test::Fail;
 
 #[test]
