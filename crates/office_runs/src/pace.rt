@@ -2,23 +2,15 @@
 
 ghost use Rattle.std.specs.Prelude.{◌≤◌};
 
-use socket_pump::Turn;
+use socket_pump::{MOST_DATAGRAMS, MOST_RULES, RESEND_AFTER, Turn};
 use std::rt::Clock;
 use std::time::Instant;
 
 /// The longest wait before a turn, in milliseconds.
 const LONGEST_WAIT: u64 = 5;
 
-/// After how many milliseconds a pump sends a message again.
-const RESEND_AFTER: u64 = 50;
-
 /// After how many milliseconds it is told again how far a run is.
 const TOLD_EACH: u64 = 1000;
-
-/// How many datagrams and rules a turn takes at most: after so many there may be more.
-const MOST_DATAGRAMS: u32 = 32;
-
-const MOST_RULES: u32 = 64;
 
 /// When an office's last turn was, and what is to come.
 #[derive(Drop)]
@@ -66,7 +58,7 @@ impl Pace {
         self.now
     }
 
-    /// The turn of this time did this.
+    /// The turn of this time did this. Where it took as many datagrams or rules as one may, there may be more.
     pub(crate) fn note(&mut self, turn: &Turn) {
         let came = turn.taken.saturating_add(turn.refused);
         self.busy = came >= MOST_DATAGRAMS || turn.rules >= MOST_RULES;

@@ -12,8 +12,8 @@ mod pump;
 mod udp;
 mod wire;
 
-pub use crate::last::Lasts;
+pub use crate::last::{Lasts, RESEND_AFTER};
 pub use crate::memory::{Datagram, MemoryWire};
-pub use crate::pump::{Pump, PumpFault, Turn};
+pub use crate::pump::{MOST_DATAGRAMS, MOST_RULES, Pump, PumpFault, Turn};
 pub use crate::udp::UdpWire;
 pub use crate::wire::{Wire, WireFailed};

@@ -26,10 +26,10 @@ use std::sync::Wait;
 use thiserror::Error;
 
 /// The most datagrams of a turn.
-const MOST_DATAGRAMS: u32 = 32;
+pub const MOST_DATAGRAMS: u32 = 32;
 
 /// The most rules of a turn.
-const MOST_RULES: u32 = 64;
+pub const MOST_RULES: u32 = 64;
 
 /// What a turn did: datagrams that the office took and that it refused, rules, and frames that went out.
 #[derive(Clone, Copy, Debug, PartialEq, Eq)]
