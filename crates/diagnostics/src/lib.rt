@@ -19,5 +19,5 @@ mod shown;
 
 pub use plan::of_plan;
 pub use ring::of_ring;
-pub use script::of_script;
+pub use script::{ScriptLimits, of_script};
 pub use sessions::of_sessions;

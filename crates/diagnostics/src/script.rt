@@ -12,22 +12,35 @@ use std::alloc::{AllocError, Global};
 const RULES: &str =
     "start, hungry, askfork OFFICE, givefork OFFICE, eat, leave, askbottle RECORD, givebottle RECORD, drink, work N and finish";
 
-/// What is said of the refusal of a script's line under this plan, where the file has so many sessions. The line's number
-/// is 0 where the text is too long.
+/// The greatest numbers of a script: bytes of its text, rules of an `advance`, instructions of a `work`.
+#[derive(Clone, Copy)]
+pub struct ScriptLimits {
+    pub bytes: usize,
+    pub rules: u16,
+    pub instructions: u16,
+}
+
+/// What is said of the refusal of a script's line under this plan and these limits, where the file has so many sessions. The
+/// line's number is 0 where the text is too long.
 pub fn of_script(
     alloc: Global,
     text: &[u8],
     plan: &Plan,
     sessions: usize,
+    limits: ScriptLimits,
     line: u64,
 ) -> Result<String, AllocError> {
     let mut said = String::new(alloc);
     match line_at(text, line) {
-        None => said.push_str("the text has more than 16777216 bytes")?,
+        None => {
+            let most = limits.bytes;
+            write!(said, "the text has more than {most} bytes")?;
+        }
         Some(line) => {
             let refused = Refused {
                 plan,
                 sessions,
+                limits,
                 line,
             };
             if !say_unreadable(&mut said, line)? {
@@ -38,11 +51,12 @@ pub fn of_script(
     Ok(said)
 }
 
-/// A line, the plan that its offices are of, and how many sessions its file has.
+/// A line, the plan that its offices are of, how many sessions its file has, and the limits.
 #[derive(Clone, Copy)]
 struct Refused<'a> {
     plan: &'a Plan,
     sessions: usize,
+    limits: ScriptLimits,
     line: &'a [u8],
 }
 
@@ -96,7 +110,12 @@ fn say_do(said: &mut String, refused: Refused<'_>, words: &[&[u8]]) -> Result<()
     if !is_office(refused.plan, words[1]) {
         return say_no_office(said, refused.plan, words[1]);
     }
-    say_rule(said, words[2], word_at(words, 3))
+    say_rule(
+        said,
+        words[2],
+        word_at(words, 3),
+        refused.limits.instructions,
+    )
 }
 
 fn say_advance(said: &mut String, refused: Refused<'_>, words: &[&[u8]]) -> Result<(), AllocError> {
@@ -106,12 +125,9 @@ fn say_advance(said: &mut String, refused: Refused<'_>, words: &[&[u8]]) -> Resu
     if !is_office(refused.plan, words[1]) {
         return say_no_office(said, refused.plan, words[1]);
     }
-    say_word(
-        said,
-        "",
-        words[2],
-        " is no number of rules, which is 1 to 1000",
-    )
+    let word = Quoted(words[2]);
+    let most = refused.limits.rules;
+    write!(said, "{word} is no number of rules, which is 1 to {most}")
 }
 
 fn say_send(said: &mut String, refused: Refused<'_>, words: &[&[u8]]) -> Result<(), AllocError> {
@@ -133,30 +149,28 @@ fn say_send(said: &mut String, refused: Refused<'_>, words: &[&[u8]]) -> Result<
 }
 
 /// What a rule is done to, or nothing, doesn't fit it.
-fn say_rule(said: &mut String, rule: &[u8], argument: &[u8]) -> Result<(), AllocError> {
-    let (needed, after) = match rule {
+fn say_rule(said: &mut String, rule: &[u8], argument: &[u8], most: u16) -> Result<(), AllocError> {
+    let (article, thing) = match rule {
         b"start" | b"hungry" | b"eat" | b"leave" | b"drink" | b"finish" => {
             return say_word(said, "nothing may follow the rule, and not ", argument, "");
         }
-        b"askfork" | b"givefork" => (
-            "an office",
-            " is no office of the plan, and the rule needs one",
-        ),
-        b"askbottle" | b"givebottle" => (
-            "a record",
-            " is no record of the plan, and the rule needs one",
-        ),
-        b"work" => (
-            "a number of instructions",
-            " is no number of instructions, which is 1 to 1000",
-        ),
+        b"askfork" | b"givefork" => ("an", "office"),
+        b"askbottle" | b"givebottle" => ("a", "record"),
+        b"work" => ("a", "number of instructions"),
         _ => return say_no_rule(said, rule),
     };
     if argument.is_empty() {
         let rule = Quoted(rule);
-        return write!(said, "the rule {rule} needs {needed} after it");
+        return write!(said, "the rule {rule} needs {article} {thing} after it");
     }
-    say_word(said, "", argument, after)
+    let argument = Quoted(argument);
+    match rule {
+        b"work" => write!(said, "{argument} is no {thing}, which is 1 to {most}"),
+        _ => write!(
+            said,
+            "{argument} is no {thing} of the plan, and the rule needs one"
+        ),
+    }
 }
 
 fn say_no_rule(said: &mut String, rule: &[u8]) -> Result<(), AllocError> {

@@ -1,4 +1,4 @@
-use diagnostics::{of_plan, of_ring, of_script, of_sessions};
+use diagnostics::{ScriptLimits, of_plan, of_ring, of_script, of_sessions};
 use office_map::{Plan, PlanFault};
 use session_language::{LangFault, read_sessions};
 use std::alloc::{AllocError, Global};
@@ -428,8 +428,8 @@ static SESSIONS: [Row; 59] = [
         "",
     ),
     (
-        "session a\ngive read R12\n",
-        "the plan has no record `R12`; it has `r12`, and capital letters count",
+        "session a\ngive read X\n",
+        "the plan has no record `X`; it has `x`, and capital letters count",
         "",
     ),
     (
@@ -797,11 +797,17 @@ fn said_under(alloc: Global, plan: &Plan, text: &str) -> Result<String, AllocErr
     }
 }
 
+const LIMITS: ScriptLimits = ScriptLimits {
+    bytes: 16_777_216,
+    rules: 1000,
+    instructions: 1000,
+};
+
 /// What is said of a script whose second line this is, under the plan above.
 fn said_of_script(alloc: Global, line: &str) -> Result<String, AllocError> {
     let text = format!(in alloc; "submit 1\n{line}\n")?;
     match Plan::read(alloc, PLAN.as_bytes()) {
-        Ok(plan) => of_script(alloc, text.as_bytes(), &plan, 2, 2),
+        Ok(plan) => of_script(alloc, text.as_bytes(), &plan, 2, LIMITS, 2),
         Err(_) => String::from_str(alloc, "no plan"),
     }
 }

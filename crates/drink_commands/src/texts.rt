@@ -14,13 +14,20 @@ ghost use Rattle.drink_commands.specs.Texts.{Refuses, nothing};
 
 use crate::fault::{Fault, Remark, Why};
 use crate::input::Input;
-use diagnostics::{of_plan, of_ring, of_script, of_sessions};
+use diagnostics::{ScriptLimits, of_plan, of_ring, of_script, of_sessions};
 use input_texts::{InputFault, Sources, StandardInput};
 use office_map::{Plan, PlanFault};
-use script_runs::{ScriptEvent, ScriptFault, script};
+use script_runs::{MAX_BYTES, MAX_RULES, ScriptEvent, ScriptFault, script};
 use session_language::{LangFault, Program, read_sessions};
+use site_core::LONGEST_PIECE;
 use std::alloc::Global;
 use std::io::Read;
+
+const SCRIPT_LIMITS: ScriptLimits = ScriptLimits {
+    bytes: MAX_BYTES,
+    rules: MAX_RULES,
+    instructions: LONGEST_PIECE,
+};
 
 /// The text of an input.
 fn text<S: Sources>(
@@ -133,7 +140,14 @@ pub fn read_events<S: Sources>(
         Err(ScriptFault::Refused(refusal)) => {
             let remark = Remark {
                 lines_above: lines_above(standard, word),
-                text: of_script(alloc, &text, plan, programs.len(), refusal.line)?,
+                text: of_script(
+                    alloc,
+                    &text,
+                    plan,
+                    programs.len(),
+                    SCRIPT_LIMITS,
+                    refusal.line,
+                )?,
             };
             Err(Fault::Refused(Why::Script(refusal), remark))
         }

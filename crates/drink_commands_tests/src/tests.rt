@@ -11,6 +11,7 @@ use std::process::Abort;
 use std::test::Fail;
 
 mod devices;
+mod ear;
 mod exits;
 mod random;
 mod running;

@@ -23,5 +23,5 @@ pub mod transcript;
 
 pub use crate::event::ScriptEvent;
 pub use crate::fault::{ScriptFault, ScriptRefusal};
-pub use crate::limits::MAX_BYTES;
+pub use crate::limits::{MAX_BYTES, MAX_RULES};
 pub use crate::said::Said;

@@ -4,4 +4,4 @@
 pub const MAX_BYTES: usize = 16_777_216;
 
 /// The most rules of one line.
-pub(crate) const MAX_RULES: u16 = 1000;
+pub const MAX_RULES: u16 = 1000;

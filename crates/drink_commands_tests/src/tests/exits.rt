@@ -1,3 +1,4 @@
+use crate::tests::ear::Ear;
 use crate::tests::sockets::answered;
 use crate::tests::words::strings;
 use crate::tests::{MOVE, Memory, PLAN};
@@ -6,9 +7,7 @@ use drink_commands::fault::Fault;
 use drink_commands::input::Input;
 use drink_commands::program;
 use std::alloc::Global;
-use std::cell::Cell;
 use std::env::FillError;
-use std::fmt::Display;
 use std::io;
 use std::io::{ErrorKind, Write};
 use std::process::Abort;
@@ -17,42 +16,12 @@ use std::sync::Wait;
 use std::test::Fail;
 use std::thread::Threads;
 
-/// A standard error that counts what it is told, and how often it was this.
-#[derive(Drop)]
-struct Ear<'a> {
-    alloc: Global,
-    wanted: &'a str,
-    told: Cell<u32>,
-    right: Cell<u32>,
-}
-
-impl Eprint for Ear<'_> {
-    fn eprint<D: Display + Drop>(&self, value: D) -> io::Result<()> {
-        let text = format!(in self.alloc; "{value}")?;
-        self.told.set(self.told.get().saturating_add(1));
-        if text.as_str() == self.wanted {
-            self.right.set(self.right.get().saturating_add(1));
-        }
-        Ok(())
-    }
-
-    fn eprintln<D: Display + Drop>(&self, value: D) -> io::Result<()> {
-        self.eprint(format!(in self.alloc; "{value}\n")?)
-    }
-}
-
 /// That the end of a program says this text, once, or nothing where there is none; and answers this status.
 fn ends(rt: &(impl Abort + AllocGlobal), exit: &Exit, status: u8, wanted: &str) {
-    let ear = Ear {
-        alloc: rt.alloc(),
-        wanted,
-        told: Cell::new(0),
-        right: Cell::new(0),
-    };
+    let ear = Ear::new(rt.alloc(), wanted);
     assert_eq!(rt; exit.end(&ear), status);
     let times = if wanted.is_empty() { 0 } else { 1 };
-    assert_eq!(rt; ear.told.get(), times);
-    assert_eq!(rt; ear.right.get(), times);
+    ear.heard(rt, times);
 }
 
 #[test]

@@ -1,3 +1,4 @@
+use crate::tests::ear::Ear;
 use crate::tests::sockets::{Deaf, Shut};
 use crate::tests::words::strings;
 use crate::tests::{MOVE, Memory, PLAN};
@@ -6,9 +7,6 @@ use drink_commands::program::answer;
 use drink_commands::telling::Telling;
 use office_runs::{Around, Binds, Gate, Open, Progress, Quiet, UdpSockets, Watch};
 use std::alloc::Global;
-use std::cell::Cell;
-use std::fmt::Display;
-use std::io;
 use std::io::ErrorKind;
 use std::process::Abort;
 use std::rt::Clock;
@@ -314,40 +312,14 @@ fn live_finishes_three_sessions(rt: HostRuntime) -> Result<(), Fail> {
     Ok(())
 }
 
-/// A standard error that counts what it is told, and how often it was this.
-#[derive(Drop)]
-struct Ear<'a> {
-    alloc: Global,
-    wanted: &'a str,
-    told: Cell<u32>,
-    right: Cell<u32>,
-}
-
-impl Eprint for Ear<'_> {
-    fn eprint<D: Display + Drop>(&self, value: D) -> io::Result<()> {
-        let text = format!(in self.alloc; "{value}")?;
-        self.told.set(self.told.get().saturating_add(1));
-        if text.as_str() == self.wanted {
-            self.right.set(self.right.get().saturating_add(1));
-        }
-        Ok(())
-    }
-
-    fn eprintln<D: Display + Drop>(&self, value: D) -> io::Result<()> {
-        self.eprint(format!(in self.alloc; "{value}\n")?)
-    }
-}
-
 /// A terminal is told how far a run is, and nothing else is.
 #[test]
 fn a_terminal_is_told_how_far_a_run_is(rt: HostRuntime) {
     for (is_terminal, times) in [(true, 1), (false, 0)] {
-        let ear = Ear {
-            alloc: rt.alloc(),
-            wanted: "drink: 12 of 40 sessions finished; 310 datagrams came, 305 went, 7 were refused\n",
-            told: Cell::new(0),
-            right: Cell::new(0),
-        };
+        let ear = Ear::new(
+            rt.alloc(),
+            "drink: 12 of 40 sessions finished; 310 datagrams came, 305 went, 7 were refused\n",
+        );
         let telling = Telling::new(&ear, is_terminal);
         telling.tell(Progress {
             finished: 12,
@@ -356,7 +328,6 @@ fn a_terminal_is_told_how_far_a_run_is(rt: HostRuntime) {
             went: 305,
             refused: 7,
         });
-        assert_eq!(rt; ear.told.get(), times);
-        assert_eq!(rt; ear.right.get(), times);
+        ear.heard(&rt, times);
     }
 }

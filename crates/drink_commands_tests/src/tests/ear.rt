@@ -1,0 +1,46 @@
+use std::alloc::Global;
+use std::cell::Cell;
+use std::fmt::Display;
+use std::io;
+use std::process::Abort;
+
+/// A standard error that counts what it is told, and how often it was this.
+#[derive(Drop)]
+pub struct Ear<'a> {
+    alloc: Global,
+    wanted: &'a str,
+    told: Cell<u32>,
+    right: Cell<u32>,
+}
+
+impl<'a> Ear<'a> {
+    pub fn new(alloc: Global, wanted: &'a str) -> Ear<'a> {
+        Ear {
+            alloc,
+            wanted,
+            told: Cell::new(0),
+            right: Cell::new(0),
+        }
+    }
+
+    /// That it was told so often, and this each time.
+    pub fn heard(&self, rt: &impl Abort, times: u32) {
+        assert_eq!(rt; self.told.get(), times);
+        assert_eq!(rt; self.right.get(), times);
+    }
+}
+
+impl Eprint for Ear<'_> {
+    fn eprint<D: Display + Drop>(&self, value: D) -> io::Result<()> {
+        let text = format!(in self.alloc; "{value}")?;
+        self.told.set(self.told.get().saturating_add(1));
+        if text.as_str() == self.wanted {
+            self.right.set(self.right.get().saturating_add(1));
+        }
+        Ok(())
+    }
+
+    fn eprintln<D: Display + Drop>(&self, value: D) -> io::Result<()> {
+        self.eprint(format!(in self.alloc; "{value}\n")?)
+    }
+}
