@@ -9,7 +9,7 @@ use Rattle.session_meaning.specs.ProgramValue.{ProgramValue}
 use Rattle.locked_office.specs.Calls.{Key, DeskPass, Looks, office_with}
 use Rattle.office_runs.specs.declared.fault.RunFault.{RunFault}
 use Rattle.office_runs.specs.declared.report.Ran.{Ran}
-use Rattle.office_runs.specs.Courses.{Standing, Goes, of_office}
+use Rattle.office_runs.specs.Rounds.{Standing, Goes, of_office}
 use Rattle.std.proofs.lemmas.List.{append-nil, map-append, length-append}
 use Rattle.std.proofs.lemmas.List.Concat.{flat_map-append}
 use Rattle.session_meaning.specs.declared.ending.Outcome.{Outcome}
@@ -56,14 +56,14 @@ tells_runs p me k x q sessions count unfinished text key all looks left told =
     }
 
 pub tells_run : (tells : Bool) (p : PlanValue) (me : ℕ) (programs : List ProgramValue) (turns : ℕ) (ran : Ran) (k : Key) (a b : Standing) (q : DeskPass) (sessions : ℕ) (fault : Option RunFault) → k ≡ (p, me) → sessions ≡ count_of programs me →
-    (a.pass.tag ≡ 0) × (a.pass.seen ≡ []) × (a.pass.mine ≡ []) × ((v n : ℕ) → a.last v n ≡ None) → Goes fault tells a.pass.tag k a b turns (of_office me programs) → Looks k b.pass q → ran.fault ≡ fault →
+    (a.pass.tag ≡ 0) × (a.pass.seen ≡ []) × (a.pass.mine ≡ []) × ((v n : ℕ) → a.last v n ≡ None) → Goes fault tells a.pass.tag k turns a b (of_office me programs) → Looks k b.pass q → ran.fault ≡ fault →
     string_bytes ran.text ≡ runs_report p (office_with k q.seen ∷ []) ran.unfinished → ran.unfinished ≡ sessions - length (finished_of (office_with k q.seen)) → TellsCourse tells p me programs turns ran
 tells_run tells p me programs turns ran k a b q sessions fault key all begins goes looks same told left = record {
   first = a;
   begins = begins;
   last = b;
-  goes = subst (λ (x : Option RunFault). Goes x tells 0 (p, me) a b turns (of_office me programs)) (sym same)
-      (subst (λ (x : Key). Goes fault tells 0 x a b turns (of_office me programs)) key (subst (λ (t : ℕ). Goes fault tells t k a b turns (of_office me programs)) begins.0 goes));
+  goes = subst (λ (x : Option RunFault). Goes x tells 0 (p, me) turns a b (of_office me programs)) (sym same)
+      (subst (λ (x : Key). Goes fault tells 0 x turns a b (of_office me programs)) key (subst (λ (t : ℕ). Goes fault tells t k turns a b (of_office me programs)) begins.0 goes));
   seen = q;
   looked = subst (λ (x : Key). Looks x b.pass q) key looks;
   left = subst (λ (x : Key). ran.unfinished ≡ count_of programs me - length (finished_of (office_with x q.seen))) key (left ∙ ap (λ n. n - length (finished_of (office_with k q.seen))) all);

@@ -9,7 +9,7 @@ use Rattle.site_core.specs.Journals.{Site, IsLegal, office_of}
 use Rattle.locked_office.specs.Calls.{Key, DeskPass, Looks, office_with}
 use Rattle.run_reports.specs.Report.{outcome_line}
 use Rattle.run_reports.specs.WorldReport.{unfinished_line}
-use Rattle.office_runs.specs.Courses.{Standing, Goes, of_office}
+use Rattle.office_runs.specs.Rounds.{Standing, Goes, of_office}
 use Rattle.office_runs.specs.declared.report.Ran.{Ran}
 
 -- how many of the sessions are of an office
@@ -43,12 +43,12 @@ pub record TellsOffices (p : PlanValue) (keys : List Key) (sessions unfinished :
 abbrev pub TellsJournals : PlanValue → List ℕ → ℕ → ℕ → List ℕ → Type 0
 TellsJournals p offices = TellsOffices p (map (λ me. (p, me)) offices)
 
--- The text tells of an office what its journal tells, which is what came of its sessions of the list, submitted in their order, and of so many turns of its pump; of fewer only where there is a fault.
+-- The text tells of an office what its journal tells, which is what came of so many rounds with its sessions of the list; of fewer only where a fault ended one.
 pub record TellsCourse (tells : Bool) (p : PlanValue) (me : ℕ) (programs : List ProgramValue) (turns : ℕ) (ran : Ran) : Type 0 where
   pub first : Standing
   pub begins : (first.pass.tag ≡ 0) × (first.pass.seen ≡ []) × (first.pass.mine ≡ []) × ((v n : ℕ) → first.last v n ≡ None)
   pub last : Standing
-  pub goes : Goes ran.fault tells 0 (p, me) first last turns (of_office me programs)
+  pub goes : Goes ran.fault tells 0 (p, me) turns first last (of_office me programs)
   pub seen : DeskPass
   pub looked : Looks (p, me) last.pass seen
   pub left : ran.unfinished ≡ count_of programs me - length (finished_of (office_with (p, me) seen.seen))

@@ -1,3 +1,3 @@
 -- What ties the code to the definitions beside this folder.
-pub mod Submitting
+pub mod Standings
 pub mod Opening

@@ -1,20 +1,17 @@
 //! Who submits an office's sessions.
 
-ghost use Rattle.std.specs.Prelude.{◌≡◌, ◌∷◌, [], Bool, false, length, drop};
+ghost use Rattle.std.specs.Prelude.{◌≡◌, ◌==◌, false, true, drop, OnOk, IfErr};
 ghost use Rattle.own_lock.specs.Passes.{IsOf};
 ghost use Rattle.locked_office.specs.Calls.{Stays};
-ghost use Rattle.socket_pump.specs.Wires.{Account};
-ghost use Rattle.socket_pump.specs.Turns.{Times};
-ghost use Rattle.office_runs.specs.Courses.{Works, of_office};
-ghost use Rattle.office_runs.specs.refinement.Submitting.{left_of, standing};
+ghost use Rattle.office_runs.specs.Rounds.{Fills, StopsFilling, of_office};
+ghost use Rattle.office_runs.specs.refinement.Standings.{Answered, PassedOver};
 
 use crate::fault::RunFault;
 use locked_office::Desk;
 use office_map::OfficeId;
 use own_lock::Pass;
 use session_language::Program;
-use site_core::laws::steps_add_their_entry;
-use site_core::{Office, Refusal};
+use site_core::Office;
 use std::sync::Wait;
 
 /// Submits those of the sessions that are an office's, from the `next`-th of the list on, in order, until its queue is full or
@@ -33,8 +30,8 @@ pub(crate) fn submit_some<R: Wait>(
     requires of { IsOf desk.now pass.old }
     requires idle { pass.old.holds ≡ false }
     ensures stays { Stays desk.now pass.old pass.new }
-    ensures works { (tells : Bool) (a : Account) (l : Times) → Works tells pass.old.tag desk.now.key (standing pass.old a l) (standing pass.new a l) 0
-        (of_office me (drop next.old programs.now)) (of_office me (drop next.new programs.now)) }
+    ensures fills { OnOk result (Fills pass.old.tag desk.now.key pass.old pass.new (of_office me (drop next.old programs.now)) (of_office me (drop next.new programs.now))) }
+    ensures stops { IfErr result (λ fault. StopsFilling pass.old.tag desk.now.key pass.old pass.new (of_office me (drop next.old programs.now)) fault) }
 {
     while *next < programs.len() {
         match submit_one(rt, desk, pass, me, &programs[*next]) {
@@ -58,8 +55,8 @@ fn submit_one<R: Wait>(
     requires of { IsOf desk.now pass.old }
     requires idle { pass.old.holds ≡ false }
     ensures stays { Stays desk.now pass.old pass.new }
-    ensures works { (tells : Bool) (a : Account) (l : Times) → Works tells pass.old.tag desk.now.key (standing pass.old a l) (standing pass.new a l) 0
-        (of_office me (program.now ∷ [])) (left_of result (of_office me (program.now ∷ []))) }
+    ensures own { (program.now.office == me) ≡ true → Answered pass.old.tag desk.now.key program.now result pass.old pass.new }
+    ensures other { (program.now.office == me) ≡ false → PassedOver result pass.old pass.new }
 {
     if program.office() == me {
         submit_own(rt, desk, pass, program)
@@ -78,13 +75,13 @@ fn submit_own<R: Wait>(
     requires of { IsOf desk.now pass.old }
     requires idle { pass.old.holds ≡ false }
     ensures stays { Stays desk.now pass.old pass.new }
-    ensures works { (tells : Bool) (a : Account) (l : Times) → Works tells pass.old.tag desk.now.key (standing pass.old a l) (standing pass.new a l) 0
-        (program.now ∷ []) (left_of result (program.now ∷ [])) }
+    ensures answered { Answered pass.old.tag desk.now.key program.now result pass.old pass.new }
 {
-    steps_add_their_entry();
     match desk.submit(rt, pass, program) {
         Ok(_) => Ok(true),
-        Err(Refusal::QueueFull) => Ok(false),
-        Err(refusal) => Err(RunFault::of_refusal(refusal)),
+        Err(refusal) => match RunFault::of_refusal(refusal) {
+            None => Ok(false),
+            Some(fault) => Err(fault),
+        },
     }
 }

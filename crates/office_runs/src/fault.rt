@@ -2,6 +2,7 @@
 
 ghost use Rattle.std.specs.Prelude.{◌≡◌};
 ghost use Rattle.office_runs.specs.declared.fault.RunFault.TheVariants.{Memory};
+ghost use Rattle.office_runs.specs.Rounds.{fault_of, run_fault};
 
 use site_core::Refusal;
 use socket_pump::PumpFault;
@@ -26,15 +27,20 @@ pub enum RunFault {
 }
 
 impl RunFault {
-    /// What an office refuses, where that is want of room.
-    pub(crate) fn of_refusal(refusal: Refusal) -> RunFault {
+    /// As what it is told that an office refuses a session; that its queue is full is no fault.
+    pub(crate) fn of_refusal(refusal: Refusal) -> Option<RunFault>
+        ensures { result ≡ fault_of refusal }
+    {
         match refusal {
-            Refusal::JournalFull => RunFault::JournalFull,
-            _ => RunFault::Memory,
+            Refusal::QueueFull => None,
+            Refusal::JournalFull => Some(RunFault::JournalFull),
+            _ => Some(RunFault::Memory),
         }
     }
 
-    pub(crate) fn of_pump(fault: PumpFault) -> RunFault {
+    pub(crate) fn of_pump(fault: PumpFault) -> RunFault
+        ensures { result ≡ run_fault fault }
+    {
         match fault {
             PumpFault::WireFailed => RunFault::WireFailed,
             PumpFault::JournalFull => RunFault::JournalFull,

@@ -7,9 +7,9 @@ ghost use Rattle.own_lock.specs.Passes.{IsOf};
 ghost use Rattle.site_core.specs.Journals.{IsLegal};
 ghost use Rattle.locked_office.specs.Calls.{Stays, Looks, office_with};
 ghost use Rattle.socket_pump.specs.Last.{last_of};
-ghost use Rattle.office_runs.specs.Courses.{Goes, of_office};
+ghost use Rattle.office_runs.specs.Rounds.{Goes, of_office};
 ghost use Rattle.office_runs.specs.Runs.{TellsCourse, TellsJournals, count_of, finished_of, runs_report};
-ghost use Rattle.office_runs.specs.refinement.Submitting.{standing};
+ghost use Rattle.office_runs.specs.refinement.Standings.{standing};
 
 use crate::address::address;
 use crate::around::Around;
@@ -134,8 +134,8 @@ fn take_turns<R: Wait + Clock, S: Socket, G: Gate, W: Watch>(
     requires of { IsOf desk.now pass.old }
     requires idle { pass.old.holds ≡ false }
     ensures stays { Stays desk.now pass.old pass.new }
-    ensures goes { Goes (result_err result) S.tells pass.old.tag desk.now.key (standing pass.old (S.account station.old.socket) (last_of station.old.pump.lasts))
-        (standing pass.new (S.account station.new.socket) (last_of station.new.pump.lasts)) turns (of_office me programs.now) }
+    ensures goes { Goes (result_err result) S.tells pass.old.tag desk.now.key turns (standing pass.old (S.account station.old.socket) (last_of station.old.pump.lasts))
+        (standing pass.new (S.account station.new.socket) (last_of station.new.pump.lasts)) (of_office me programs.now) }
 {
     let mut next = 0;
     for turn in 0..turns {

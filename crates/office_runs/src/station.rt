@@ -1,12 +1,11 @@
 //! What turns an office: its pump, its socket, and the time of its turns.
 
-ghost use Rattle.std.specs.Prelude.{◌≡◌, List, false, OnOk, OnErr};
+ghost use Rattle.std.specs.Prelude.{◌≡◌, false, OnOk, IfErr};
 ghost use Rattle.own_lock.specs.Passes.{IsOf};
-ghost use Rattle.session_meaning.specs.ProgramValue.{ProgramValue};
 ghost use Rattle.locked_office.specs.Calls.{Stays};
 ghost use Rattle.socket_pump.specs.Last.{last_of};
-ghost use Rattle.office_runs.specs.Courses.{Ends, Works};
-ghost use Rattle.office_runs.specs.refinement.Submitting.{standing};
+ghost use Rattle.office_runs.specs.Rounds.{BreaksOff, Turns};
+ghost use Rattle.office_runs.specs.refinement.Standings.{standing};
 
 use crate::fault::RunFault;
 use crate::finished::count_finished;
@@ -58,10 +57,10 @@ impl<S: Socket> Station<S> {
         requires idle { pass.old.holds ≡ false }
         ensures key { self.new.pump.key ≡ self.old.pump.key }
         ensures stays { Stays desk.now pass.old pass.new }
-        ensures works { OnOk result ((ss : List ProgramValue) → Works S.tells pass.old.tag desk.now.key
-            (standing pass.old (S.account self.old.socket) (last_of self.old.pump.lasts)) (standing pass.new (S.account self.new.socket) (last_of self.new.pump.lasts)) 1 ss ss) }
-        ensures ends { OnErr result ((ss : List ProgramValue) → Ends S.tells pass.old.tag desk.now.key
-            (standing pass.old (S.account self.old.socket) (last_of self.old.pump.lasts)) (standing pass.new (S.account self.new.socket) (last_of self.new.pump.lasts)) 1 ss) }
+        ensures turns { OnOk result (Turns S.tells pass.old.tag desk.now.key
+            (standing pass.old (S.account self.old.socket) (last_of self.old.pump.lasts)) (standing pass.new (S.account self.new.socket) (last_of self.new.pump.lasts))) }
+        ensures breaks_off { IfErr result (BreaksOff S.tells pass.old.tag desk.now.key
+            (standing pass.old (S.account self.old.socket) (last_of self.old.pump.lasts)) (standing pass.new (S.account self.new.socket) (last_of self.new.pump.lasts))) }
     {
         let wait = self.pace.wait();
         match self.socket.poll(wait) {

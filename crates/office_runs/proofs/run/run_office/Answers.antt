@@ -1,11 +1,10 @@
-use Rattle.std.proofs.Common.{◌≡◌, ◌-◌, [], ◌∷◌, length, refl, ap, ◌∙◌}
+use Rattle.std.proofs.Common.{◌≡◌, ◌-◌, [], ◌∷◌, length, ap, ◌∙◌}
 use Rattle.std.specs.Result.{result_err}
 use Rattle.std.specs.String.{string_bytes}
 use Rattle.locked_office.specs.Calls.{DeskPass, Looks, office_with}
 use Rattle.socket_pump.specs.Last.{last_of}
-use Rattle.office_runs.specs.declared.report.Ran.{Ran}
 use Rattle.office_runs.specs.Runs.{count_of, finished_of, runs_report, TellsCourse, TellsJournals}
-use Rattle.office_runs.specs.refinement.Submitting.{standing}
+use Rattle.office_runs.specs.refinement.Standings.{standing}
 use Rattle.office_runs.proofs.Telling.{ok_all, tells_run, tells_runs}
 use Rattle.office_runs.proofs.run.run_office.Goals as goal
 

@@ -1,8 +1,8 @@
 use Rattle.std.proofs.Common.{◌≡◌, ◌≤◌, drop}
 use Rattle.locked_office.specs.Calls.{Stays}
 use Rattle.socket_pump.specs.Last.{last_of}
-use Rattle.office_runs.specs.Courses.{Works, of_office}
-use Rattle.office_runs.specs.refinement.Submitting.{standing}
+use Rattle.office_runs.specs.Rounds.{Rounds, of_office}
+use Rattle.office_runs.specs.refinement.Standings.{standing}
 use Rattle.office_runs.proofs.run.take_turns.Given as goal
 
 -- what was done so far
@@ -11,6 +11,6 @@ invariant-loop-turn g l = record {
   stays : Stays l.desk l.fn.pass l.pass;
   key : l.desk.key ≡ l.station.pump.key;
   few : l.turn ≤ l.turns;
-  works : Works g.S.Wire.tells l.fn.pass.tag l.desk.key (standing l.fn.pass (g.S.Wire.account l.fn.station.socket) (last_of l.fn.station.pump.lasts)) (standing l.pass (g.S.Wire.account l.station.socket) (last_of l.station.pump.lasts)) l.turn
+  rounds : Rounds g.S.Wire.tells l.fn.pass.tag l.desk.key l.turn (standing l.fn.pass (g.S.Wire.account l.fn.station.socket) (last_of l.fn.station.pump.lasts)) (standing l.pass (g.S.Wire.account l.station.socket) (last_of l.station.pump.lasts))
       (of_office l.me l.programs) (of_office l.me (drop l.next l.programs));
 }

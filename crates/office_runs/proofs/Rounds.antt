@@ -1,0 +1,147 @@
+-- Sessions that an office takes one after the other, and its rounds.
+use Rattle.std.proofs.Common.{◌≡◌, ℕ, suc, ◌==◌, ◌+◌, ◌<◌, ◌≤◌, Bool, true, false, cond, List, [], ◌∷◌, ◌++◌, length, get_or, drop, Ok, Err, inl, inr, refl, sym, ap, subst, ◌∙◌, append_assoc, arith}
+use Rattle.std.proofs.lemmas.List.{drop_all}
+use Rattle.std.proofs.Math.Seq.{drop-cons}
+use Rattle.session_meaning.specs.ProgramValue.{ProgramValue}
+use Rattle.site_core.specs.declared.reply.Refusal.TheVariants as refusal
+use Rattle.locked_office.specs.Calls.{Key, DeskPass, Looks}
+use Rattle.socket_pump.specs.declared.pump.Turn.{Turn}
+use Rattle.socket_pump.specs.declared.pump.PumpFault.{PumpFault}
+use Rattle.socket_pump.specs.Wires.{Account}
+use Rattle.socket_pump.specs.Turns.{Times, Turned, Stage}
+use Rattle.office_runs.specs.declared.fault.RunFault.{RunFault}
+use Rattle.office_runs.specs.declared.fault.RunFault.TheVariants.{WireFailed}
+use Rattle.office_runs.specs.Rounds.{Standing, of_office, run_fault, Takes, TakesAll, Refuses, Lacks, Fills, StopsFilling, Turns, BreaksOff, Rounds, EndsEarly}
+use Rattle.office_runs.specs.refinement.Standings.{standing, Answered, PassedOver}
+
+-- ---- sessions that are taken
+
+takes_append : (tag : ℕ) (k : Key) (xs : List ProgramValue) (s : ProgramValue) (p m q : DeskPass) → TakesAll tag k xs p m → Takes tag k s m q → TakesAll tag k (xs ++ s ∷ []) p q
+takes_append tag k [] s p m q same t = (q, subst (λ (x : DeskPass). Takes tag k s x q) (sym same) t, refl)
+takes_append tag k (x ∷ xs) s p m q (n, t, ts) u = (n, t, takes_append tag k xs s n m q ts u)
+
+-- the first of these sessions were taken, and of the others nothing was done yet
+pub record Given (tag : ℕ) (k : Key) (p q : DeskPass) (sessions left : List ProgramValue) : Type 0 where
+  pub given : List ProgramValue
+  pub are : given ++ left ≡ sessions
+  pub takes : TakesAll tag k given p q
+
+pub none_given : (tag : ℕ) (k : Key) (p : DeskPass) (ss : List ProgramValue) → Given tag k p p ss ss
+none_given tag k p ss = record { given = []; are = refl; takes = refl }
+
+one_given : (tag : ℕ) (k : Key) (p m q : DeskPass) (ss : List ProgramValue) (s : ProgramValue) (left : List ProgramValue) → Given tag k p m ss (s ∷ left) → Takes tag k s m q → Given tag k p q ss left
+one_given tag k p m q ss s left g t = record {
+  given = g.given ++ s ∷ [];
+  are = append_assoc g.given (s ∷ []) left ∙ g.are;
+  takes = takes_append tag k g.given s p m q g.takes t;
+}
+
+full : (tag : ℕ) (k : Key) (p m q : DeskPass) (ss : List ProgramValue) (s : ProgramValue) (left : List ProgramValue) → Given tag k p m ss (s ∷ left) → Refuses tag k s refusal.QueueFull m q → Fills tag k p q ss (s ∷ left)
+full tag k p m q ss s left g r = record { given = g.given; are = g.are; mid = m; takes = g.takes; full = r }
+
+all_given : (tag : ℕ) (k : Key) (p q : DeskPass) (ss : List ProgramValue) → Given tag k p q ss [] → Fills tag k p q ss []
+all_given tag k p q ss g = record { given = g.given; are = g.are; mid = q; takes = g.takes; full = refl }
+
+stops : (tag : ℕ) (k : Key) (p m q : DeskPass) (ss : List ProgramValue) (s : ProgramValue) (left : List ProgramValue) (f : RunFault) → Given tag k p m ss (s ∷ left) → Lacks tag k s f m q → StopsFilling tag k p q ss f
+stops tag k p m q ss s left f g l = record { given = g.given; next = s; left = left; are = g.are; mid = m; takes = g.takes; lacks = l }
+
+-- ---- sessions of a list, from a place on
+
+either_way : {X : Type 0} (b : Bool) → (b ≡ true → X) → (b ≡ false → X) → X
+either_way true f g = f refl
+either_way false f g = g refl
+
+own_next : (me n : ℕ) (ps : List ProgramValue) (s : ProgramValue) → n < length ps → s ≡ get_or ps n s → of_office me (drop n ps) ≡ cond (s.office == me) (s ∷ of_office me (drop (n + 1) ps)) (of_office me (drop (n + 1) ps))
+own_next me n ps s within is =
+    let next : suc n ≡ n + 1 = omega arith in
+    ap (of_office me) (drop-cons ps n s within) ∙ ap (λ x. of_office me (x ∷ drop (suc n) ps)) (sym is) ∙ ap (λ m. cond (s.office == me) (s ∷ of_office me (drop m ps)) (of_office me (drop m ps))) next
+
+own_first : (me n : ℕ) (ps : List ProgramValue) (s : ProgramValue) → n < length ps → s ≡ get_or ps n s → (s.office == me) ≡ true → of_office me (drop n ps) ≡ s ∷ of_office me (drop (n + 1) ps)
+own_first me n ps s within is own = own_next me n ps s within is ∙ ap (λ b. cond b (s ∷ of_office me (drop (n + 1) ps)) (of_office me (drop (n + 1) ps))) own
+
+others_first : (me n : ℕ) (ps : List ProgramValue) (s : ProgramValue) → n < length ps → s ≡ get_or ps n s → (s.office == me) ≡ false → of_office me (drop n ps) ≡ of_office me (drop (n + 1) ps)
+others_first me n ps s within is other = own_next me n ps s within is ∙ ap (λ b. cond b (s ∷ of_office me (drop (n + 1) ps)) (of_office me (drop (n + 1) ps))) other
+
+-- it was taken, or is another office's
+pub one_gone : (tag t : ℕ) (k : Key) (p m q : DeskPass) (ss : List ProgramValue) (me n : ℕ) (ps : List ProgramValue) (s : ProgramValue) (b : Bool) → b ≡ true → t ≡ tag → n < length ps → s ≡ get_or ps n s → Given tag k p m ss (of_office me (drop n ps)) →
+    ((s.office == me) ≡ true → Answered t k s (Ok b) m q) → ((s.office == me) ≡ false → PassedOver (Ok b) m q) → Given tag k p q ss (of_office me (drop (n + 1) ps))
+one_gone tag t k p m q ss me n ps s b yes' same within is g own other = either_way (s.office == me)
+    (λ h. one_given tag k p m q ss s (of_office me (drop (n + 1) ps)) (subst (λ x. Given tag k p m ss x) (own_first me n ps s within is h) g) (subst (λ (x : ℕ). Takes x k s m q) same (subst (λ (x : Bool). Answered t k s (Ok x) m q) yes' (own h))))
+    (λ h. subst (λ (x : DeskPass). Given tag k p x ss (of_office me (drop (n + 1) ps))) (sym (subst (λ (x : Bool). PassedOver (Ok x) m q) yes' (other h))) (subst (λ x. Given tag k p m ss x) (others_first me n ps s within is h) g))
+
+-- the queue is full
+pub one_waits : (tag t : ℕ) (k : Key) (p m q : DeskPass) (ss : List ProgramValue) (me n : ℕ) (ps : List ProgramValue) (s : ProgramValue) (b : Bool) → b ≡ false → t ≡ tag → n < length ps → s ≡ get_or ps n s → Given tag k p m ss (of_office me (drop n ps)) →
+    ((s.office == me) ≡ true → Answered t k s (Ok b) m q) → ((s.office == me) ≡ false → PassedOver (Ok b) m q) → Fills tag k p q ss (of_office me (drop n ps))
+one_waits tag t k p m q ss me n ps s b no' same within is g own other = either_way (s.office == me)
+    (λ h. subst (λ x. Fills tag k p q ss x) (sym (own_first me n ps s within is h))
+    (full tag k p m q ss s (of_office me (drop (n + 1) ps)) (subst (λ x. Given tag k p m ss x) (own_first me n ps s within is h) g) (subst (λ (x : ℕ). Refuses x k s refusal.QueueFull m q) same (subst (λ (x : Bool). Answered t k s (Ok x) m q) no' (own h)))))
+    (λ h. absurd (subst (λ (x : Bool). PassedOver (Ok x) m q) no' (other h)))
+
+-- there is no room for it
+pub one_lacks : (tag t : ℕ) (k : Key) (p m q : DeskPass) (ss : List ProgramValue) (me n : ℕ) (ps : List ProgramValue) (s : ProgramValue) (f : RunFault) → t ≡ tag → n < length ps → s ≡ get_or ps n s → Given tag k p m ss (of_office me (drop n ps)) →
+    ((s.office == me) ≡ true → Answered t k s (Err f) m q) → ((s.office == me) ≡ false → PassedOver (Err f) m q) → StopsFilling tag k p q ss f
+one_lacks tag t k p m q ss me n ps s f same within is g own other = either_way (s.office == me)
+    (λ h. stops tag k p m q ss s (of_office me (drop (n + 1) ps)) f (subst (λ x. Given tag k p m ss x) (own_first me n ps s within is h) g) (subst (λ (x : ℕ). Lacks x k s f m q) same (own h)))
+    (λ h. absurd (other h))
+
+-- none is left
+pub none_left : (tag : ℕ) (k : Key) (p q : DeskPass) (ss : List ProgramValue) (me n : ℕ) (ps : List ProgramValue) → length ps ≤ n → Given tag k p q ss (of_office me (drop n ps)) → Fills tag k p q ss (of_office me (drop n ps))
+none_left tag k p q ss me n ps beyond g =
+    let gone : of_office me (drop n ps) ≡ [] = ap (of_office me) (drop_all n ps beyond) in
+    subst (λ x. Fills tag k p q ss x) (sym gone) (all_given tag k p q ss (subst (λ x. Given tag k p q ss x) gone g))
+
+-- ---- turns
+
+-- a turn, whose socket tells what it told before the wait
+pub turned : (tells : Bool) (tag : ℕ) (k : Key) (p q : DeskPass) (a polled b : Account) (l m : Times) (now : ℕ) (t : Turn) → polled ≡ a → Turned tells tag k l now p polled t b q m → Turns tells tag k (standing p a l) (standing q b m)
+turned tells tag k p q a polled b l m now t same h = record { now = now; turn = t; after = q; turned = subst (λ (x : Account). Turned tells tag k l now p x t b q m) same h; looked = inl refl }
+
+-- a turn, and then a look
+pub turned_and_looked : (tells : Bool) (tag : ℕ) (k : Key) (p q r : DeskPass) (a polled b : Account) (l m : Times) (now : ℕ) (t : Turn) → polled ≡ a → Turned tells tag k l now p polled t b q m → Looks k q r → Turns tells tag k (standing p a l) (standing r b m)
+turned_and_looked tells tag k p q r a polled b l m now t same h looks = record { now = now; turn = t; after = q; turned = subst (λ (x : Account). Turned tells tag k l now p x t b q m) same h; looked = inr looks }
+
+-- no turn was begun
+pub not_begun : (tells : Bool) (tag : ℕ) (k : Key) (p : DeskPass) (a polled : Account) (l : Times) → polled ≡ a → BreaksOff tells tag k (standing p a l) (standing p polled l) WireFailed
+not_begun tells tag k p a polled l same = inl (ap (λ (x : Account). standing p x l) (sym same), refl)
+
+-- a turn broke off
+pub broken_off : (tells : Bool) (tag : ℕ) (k : Key) (p q : DeskPass) (a polled b : Account) (l m : Times) (now : ℕ) (f : PumpFault) (fault : RunFault) → polled ≡ a → fault ≡ run_fault f → Stage tells tag k l now p polled f b q m →
+    BreaksOff tells tag k (standing p a l) (standing q b m) fault
+broken_off tells tag k p q a polled b l m now f fault same told h = inr (now, f, subst (λ (x : Account). Stage tells tag k l now p x f b q m) same h, told)
+
+-- ---- rounds
+
+-- calls of a pass that has its tag still
+fills_still : (tag t : ℕ) (k : Key) (p q : DeskPass) (ss left : List ProgramValue) → t ≡ tag → Fills t k p q ss left → Fills tag k p q ss left
+fills_still tag t k p q ss left same h = subst (λ (x : ℕ). Fills x k p q ss left) same h
+
+pub one_round : (tells : Bool) (tag t u : ℕ) (k : Key) (n : ℕ) (a : Standing) (p q r : DeskPass) (w b : Account) (l m : Times) (ss mid left : List ProgramValue) → t ≡ tag → u ≡ tag → Rounds tells tag k n a (standing p w l) ss mid → Fills t k p q mid left →
+    Turns tells u k (standing q w l) (standing r b m) → Rounds tells tag k (n + 1) a (standing r b m) ss left
+one_round tells tag t u k n a p q r w b l m ss mid left same still rounds fills turns =
+    let next : suc n ≡ n + 1 = omega arith in
+    subst (λ (x : ℕ). Rounds tells tag k x a (standing r b m) ss left) next
+    (standing p w l, mid, rounds, record { filled = q; fills = fills_still tag t k p q mid left same fills; turns = subst (λ (x : ℕ). Turns tells x k (standing q w l) (standing r b m)) still turns })
+
+-- it ends at its sessions
+pub ends_at_sessions : (tells : Bool) (tag t : ℕ) (k : Key) (n turns : ℕ) (a : Standing) (p q : DeskPass) (w : Account) (l : Times) (ss mid : List ProgramValue) (fault : RunFault) → n < turns → t ≡ tag → Rounds tells tag k n a (standing p w l) ss mid →
+    StopsFilling t k p q mid fault → EndsEarly tells tag k turns a (standing q w l) ss fault
+ends_at_sessions tells tag t k n turns a p q w l ss mid fault few same rounds stop = record {
+  taken = n;
+  few = few;
+  at = standing p w l;
+  left = mid;
+  rounds = rounds;
+  ends = inl (subst (λ (x : ℕ). StopsFilling x k p q mid fault) same stop, refl);
+}
+
+-- it ends in its turn
+pub ends_in_turn : (tells : Bool) (tag t u : ℕ) (k : Key) (n turns : ℕ) (a : Standing) (p q : DeskPass) (w : Account) (l : Times) (b : Standing) (ss mid left : List ProgramValue) (fault : RunFault) → n < turns → t ≡ tag → u ≡ tag →
+    Rounds tells tag k n a (standing p w l) ss mid → Fills t k p q mid left → BreaksOff tells u k (standing q w l) b fault → EndsEarly tells tag k turns a b ss fault
+ends_in_turn tells tag t u k n turns a p q w l b ss mid left fault few same still rounds fills breaks = record {
+  taken = n;
+  few = few;
+  at = standing p w l;
+  left = mid;
+  rounds = rounds;
+  ends = inr (q, left, fills_still tag t k p q mid left same fills, subst (λ (x : ℕ). BreaksOff tells x k (standing q w l) b fault) still breaks);
+}
