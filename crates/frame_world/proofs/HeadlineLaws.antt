@@ -1,5 +1,5 @@
 -- The headline: finished sessions, bottles, and who drinks.
-use Rattle.std.proofs.Common.{◌≡◌, ℕ, ◌+◌, ◌<◌, Bool, true, false, cond, [], ◌∷◌, ◌++◌, length, None, Some, refl, sym, ap, subst, ◌∙◌, arith, ⊎_elim}
+use Rattle.std.proofs.Common.{◌≡◌, ℕ, ◌+◌, ◌<◌, Bool, true, false, cond, [], ◌∷◌, ◌++◌, length, map, None, Some, refl, sym, ap, subst, ◌∙◌, arith, ⊎_elim}
 use Rattle.std.specs.Prelude.{slice_get, ◌==◌, ◌&&◌, ◌||◌, option_map}
 use Rattle.std.specs.Option.{option_map_or}
 use Rattle.std.proofs.lemmas.Bool.{and_parts, or_cases, eqb-true, ne_eqb}
@@ -13,14 +13,14 @@ use Rattle.drinking_core.specs.Worlds.{Spot, With, Toward, is_with, is_toward, i
 use Rattle.drinking_core.specs.Worlds as bars
 use Rattle.frame_world.specs.Worlds.{World, opening, run_of, office_at}
 use Rattle.frame_world.specs.Ways.{pairs_at, toward, bottles_in, listed, bottles_between, bars_of}
-use Rattle.frame_world.specs.Headline.{programs, Always, HasSerialSessions, HasSerialValues, DrinkersHaveTheirBottles}
+use Rattle.frame_world.specs.Headline.{programs, office_and_ending, Always, HasSerialSessions, HasSerialValues, DrinkersHaveTheirBottles}
 use Rattle.frame_world.specs.refinement.PartsLaws.{PartsLaws}
 use Rattle.frame_world.proofs.Steps.{state_of, seated}
 use Rattle.frame_world.proofs.Sessions.{drinks_where_it_works, has_its_bottles}
 use Rattle.frame_world.proofs.SerialSessions.{IsKept, kept}
 
 pub sessions_are_serial : PartsLaws → Always HasSerialSessions
-sessions_are_serial laws plan es c = (kept plan laws es).serial.outcomes ∙ ap (λ (p : PlanValue). outcomes_of (start_map p) (programs (run_of (opening plan) es))) (sym (seated plan es).planned)
+sessions_are_serial laws plan es c = (kept plan laws es).serial.outcomes ∙ ap (λ (p : PlanValue). map office_and_ending (outcomes_of (start_map p) (programs (run_of (opening plan) es)))) (sym (seated plan es).planned)
 
 pub who_drinks_has_its_bottles : PartsLaws → Always DrinkersHaveTheirBottles
 who_drinks_has_its_bottles laws plan es c = record {

@@ -15,5 +15,7 @@ mod NoneEarly
 mod Sessions
 mod SerialRun
 mod SerialSessions
+pub mod RisingTickets
+pub mod Tickets
 mod HeadlineLaws
 mod FrameBytes

@@ -1,10 +1,8 @@
 -- A serial run with one program more, and what its writes change.
-use Rattle.std.proofs.Common.{◌≡◌, ℕ, zero, suc, ◌+◌, ◌<◌, true, cond, List, [], ◌∷◌, ◌++◌, length, map, refl, sym, ap, subst, ◌∙◌, arith, inl, inr, ◌⊎◌, ⊎_elim, append_assoc, append-nil}
+use Rattle.std.proofs.Common.{◌≡◌, ℕ, zero, suc, ◌<◌, true, cond, List, [], ◌∷◌, ◌++◌, length, map, refl, sym, ap, subst, ◌∙◌, arith, inl, inr, ◌⊎◌, ⊎_elim, append_assoc, append-nil}
 use Rattle.std.specs.Prelude.{get_or, ◌==◌, All, Contains}
-use Rattle.std.specs.List.{count_by}
-use Rattle.std.proofs.lemmas.Bool.{eqb-true, eq-eqb, ne_eqb, cases_eq, or_cases, or_left, or_right}
+use Rattle.std.proofs.lemmas.Bool.{eqb-true, eq-eqb, cases_eq, or_cases, or_left, or_right}
 use Rattle.std.proofs.lemmas.List.Elements.{All-head, All-tail}
-use Rattle.std.proofs.lemmas.List.Sums.{sum_by_push}
 use Rattle.bottle_values.specs.declared.Value.{Value}
 use Rattle.bottle_values.specs.Lists.{is_among}
 use Rattle.bottle_values.specs.Maps.{put, reads_of, write_all}
@@ -14,7 +12,6 @@ use Rattle.session_meaning.specs.ProgramValue.{ProgramValue}
 use Rattle.session_meaning.specs.Needs.{needs_of}
 use Rattle.session_meaning.specs.Laws.{WritesWhatItHas}
 use Rattle.serial_replay.specs.Serial.{ending_on, map_after, map_of, ticket_of, outcomes_after}
-use Rattle.site_core.specs.declared.session.Session.{Session}
 
 -- ---- one program more
 
@@ -67,27 +64,3 @@ pub written_needed : WritesWhatItHas → (p : ProgramValue) (m : ℕ → Value) 
 written_needed law p m r e =
     keys_among (needs_of p.body) (ending_on p m).writes r
     (subst (λ l. All (λ (w : ℕ × Value). Contains l w.0) (ending_on p m).writes) (records_read (needs_of p.body) m) (law p (reads_of (needs_of p.body) m))) e
-
--- ---- tickets
-
--- how many programs of an office
-abbrev pub count_at : ℕ → List ProgramValue → ℕ
-count_at a ps = count_by (λ (q : ProgramValue). q.office == a) ps
-
--- the sessions of an office, after so many, have the next tickets up to the last one given
-abbrev pub Ticketed : ℕ → ℕ → List Session → ℕ → Type 0
-Ticketed a n [] t = n ≡ t
-Ticketed a n (s ∷ ss) t = (s.ticket ≡ n + 1) × (s.program.office ≡ a) × Ticketed a (n + 1) ss t
-
-pub one_ticket_more : (a n t : ℕ) (ss : List Session) (p : ProgramValue) → p.office ≡ a → Ticketed a n ss t → Ticketed a n (ss ++ record { ticket = t + 1; program = p } ∷ []) (t + 1)
-one_ticket_more a n t [] p e h = (ap (λ k. k + 1) (sym h), e, ap (λ k. k + 1) h)
-one_ticket_more a n t (s ∷ ss) p e h = (h.0, h.1, one_ticket_more a (n + 1) t ss p e h.2)
-
-pub counted_here : (a : ℕ) (ps : List ProgramValue) (p : ProgramValue) → p.office ≡ a → count_at a (ps ++ p ∷ []) ≡ count_at a ps + 1
-counted_here a ps p e = sum_by_push (λ (q : ProgramValue). cond {A = ℕ} (q.office == a) 1 0) ps p ∙ ap (λ b. count_at a ps + cond {A = ℕ} b 1 0) (eq-eqb p.office a e)
-
-pub counted_elsewhere : (x : ℕ) (ps : List ProgramValue) (p : ProgramValue) → (p.office ≡ x → ⊥) → count_at x (ps ++ p ∷ []) ≡ count_at x ps
-counted_elsewhere x ps p ne =
-    let pushed : count_at x (ps ++ p ∷ []) ≡ count_at x ps + cond {A = ℕ} (p.office == x) 1 0 = sum_by_push (λ (q : ProgramValue). cond {A = ℕ} (q.office == x) 1 0) ps p in
-    let none : cond {A = ℕ} (p.office == x) 1 0 ≡ 0 = ap (λ b. cond {A = ℕ} b 1 0) (ne_eqb p.office x ne) in
-    omega (arith, pushed, none)

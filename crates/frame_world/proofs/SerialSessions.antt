@@ -1,5 +1,5 @@
 -- Over every list of events the finished sessions are a serial run, and each bottle has its value.
-use Rattle.std.proofs.Common.{◌≡◌, ℕ, ◌+◌, ◌<◌, Bool, true, false, cond, List, [], ◌∷◌, ◌++◌, length, map, Option, None, Some, Ok, refl, sym, ap, subst, ◌∙◌, ⊎_elim, append_assoc, append-nil}
+use Rattle.std.proofs.Common.{◌≡◌, ℕ, ◌<◌, Bool, true, false, cond, List, [], ◌∷◌, ◌++◌, length, map, Option, None, Some, Ok, refl, sym, ap, subst, ◌∙◌, ⊎_elim, append-nil}
 use Rattle.std.specs.Prelude.{nat_lt, slice_get, ◌==◌, ◌&&◌, is_some, unwrap_or, option_map, pos}
 use Rattle.std.proofs.lemmas.Bool.{and_parts, eqb-true}
 use Rattle.std.proofs.lemmas.List.{map_push}
@@ -19,7 +19,7 @@ use Rattle.session_meaning.specs.Meaning.{alone}
 use Rattle.session_meaning.specs.Length.{length_on}
 use Rattle.session_meaning.specs.Laws.{WritesWhatItHas}
 use Rattle.session_machine.specs.Pieces.{ending_after}
-use Rattle.serial_replay.specs.Serial.{start_map, ending_on, map_after, map_of, ticket_of, outcomes_of}
+use Rattle.serial_replay.specs.Serial.{start_map, ending_on, map_after, map_of, outcomes_of}
 use Rattle.drinking_core.specs.Drinkers.{Drinker, is_drinking, holds, value_after}
 use Rattle.drinking_core.specs.Drinkers as bottles
 use Rattle.drinking_core.specs.Worlds as bars
@@ -33,15 +33,16 @@ use Rattle.site_core.specs.declared.event.Event as office
 use Rattle.site_core.specs.declared.event.Event.TheVariants as event
 use Rattle.site_core.specs.declared.reply.Reply.{Reply}
 use Rattle.site_core.specs.Pairs.{Pairs, arrival_of, follows}
-use Rattle.site_core.specs.Agenda.{Agenda, Current, Idle, Gathering, Working, first_needs, started, begun, worked, writes_of}
-use Rattle.site_core.specs.Offices.{Office, may, act, value_in, answer}
+use Rattle.site_core.specs.Agenda.{Current, Idle, Gathering, Working, first_needs, writes_of}
+use Rattle.site_core.specs.Offices.{Office, may, value_in, answer}
 use Rattle.site_core.proofs.PlanFacts.{end_within}
 use Rattle.frame_world.specs.declared.event.WorldEvent.{WorldEvent}
 use Rattle.frame_world.specs.Worlds.{Finished, opening, run_of, ended_as, ended, finished_by}
+use Rattle.frame_world.specs.Headline.{office_and_ending}
 use Rattle.frame_world.specs.Ways.{bars_of}
 use Rattle.frame_world.specs.refinement.PartsLaws.{PartsLaws}
 use Rattle.frame_world.proofs.Steps.{State, state_of, starting, after_reply, IsAccepted, through}
-use Rattle.frame_world.proofs.Answers.{ByFrame, ByKept, rule_step, step_of, all_after, rule_alone, was_submitted, was_done, was_sent, was_taken}
+use Rattle.frame_world.proofs.Answers.{ByFrame, ByKept, rule_step, step_of, all_after, rule_alone, was_done}
 use Rattle.frame_world.proofs.OneLink.{brought}
 use Rattle.frame_world.proofs.BarsFollow.{bottle_coming, bottle_event, bars_then}
 use Rattle.frame_world.proofs.Following.{pairs_in, through_moves, moved, Follow, Follows, pairs_after, kept_moves, kept_follows, own_step_follows, moves_on, follows_on, starts}
@@ -59,22 +60,9 @@ outcomes_in fs = map (λ (f : Finished). f.outcome) fs
 abbrev pub values_after : PlanValue → List Finished → ℕ → Value
 values_after plan fs = map_of (start_map plan) (programs_of fs)
 
--- the current session and those that wait
-abbrev at_hand : Current → List Session
-at_hand Idle = []
-at_hand (Gathering s) = s ∷ []
-at_hand (Working s reads done) = s ∷ []
-
-abbrev pub sessions_in : Agenda → List Session
-sessions_in a = at_hand a.current ++ a.queue
-
-abbrev HasTickets : ℕ → ℕ → Agenda → Type 0
-HasTickets a n g = serial.Ticketed a n (sessions_in g) g.tickets
-
 pub record IsSerial (plan : PlanValue) (s : State) : Type 0 where
   pub values : (r : ℕ) → r < length plan.records → bars.HasValue (bars_of (pairs_in s)) r (values_after plan s.finished r)
-  pub outcomes : outcomes_in s.finished ≡ outcomes_of (start_map plan) (programs_of s.finished)
-  pub tickets : (a : ℕ) → HasTickets a (serial.count_at a (programs_of s.finished)) (s.office a).agenda
+  pub outcomes : map office_and_ending (outcomes_in s.finished) ≡ map office_and_ending (outcomes_of (start_map plan) (programs_of s.finished))
 
 -- ---- events that finish nothing
 
@@ -98,17 +86,12 @@ nothing_ends a u (Some (msg.Bottle r x)) = λ plan w. refl
 abbrev KeepValues : (ℕ → Pairs) → (ℕ → Pairs) → Type 0
 KeepValues pairs pairs' = (r : ℕ) (v : Value) → bars.HasValue (bars_of pairs) r v → bars.HasValue (bars_of pairs') r v
 
--- the world goes on, where nothing finished and an office's sessions stay in order
+-- the world goes on, where nothing finished
 goes_on : (plan : PlanValue) (s s' : State) (a : ℕ) (e : office.Event) (r : Reply) (o : Office) → s' ≡ after_reply s a e r o → finished_by a (s.office a).agenda.current e ≡ [] →
-    ((n : ℕ) → HasTickets a n (s.office a).agenda → HasTickets a n o.agenda) → KeepValues (pairs_in s) (pairs_in s') → IsSerial plan s → IsSerial plan s'
-goes_on plan s s' a e r o led none tickets stay h = record {
+    KeepValues (pairs_in s) (pairs_in s') → IsSerial plan s → IsSerial plan s'
+goes_on plan s s' a e r o led none stay h = record {
   values = λ q lt. subst (λ fs. bars.HasValue (bars_of (pairs_in s')) q (values_after plan fs q)) (sym same) (stay q (values_after plan s.finished q) (h.values q lt));
-  outcomes = subst (λ fs. outcomes_in fs ≡ outcomes_of (start_map plan) (programs_of fs)) (sym same) h.outcomes;
-  tickets = λ x. subst (λ fs. HasTickets x (serial.count_at x (programs_of fs)) (s'.office x).agenda) (sym same)
-      (subst (λ (f : ℕ → Office). HasTickets x (serial.count_at x (programs_of s.finished)) (f x).agenda) (sym (ap (λ (k : State). k.office) led))
-      (put_cases s.office a o x (λ (k : Office). HasTickets x (serial.count_at x (programs_of s.finished)) k.agenda)
-      (λ i. subst (λ k. HasTickets k (serial.count_at k (programs_of s.finished)) o.agenda) (sym i) (tickets (serial.count_at a (programs_of s.finished)) (h.tickets a)))
-      (λ ne. h.tickets x)));
+  outcomes = subst (λ fs. map office_and_ending (outcomes_in fs) ≡ map office_and_ending (outcomes_of (start_map plan) (programs_of fs))) (sym same) h.outcomes;
 }
   where
     same : s'.finished ≡ s.finished
@@ -169,14 +152,11 @@ values_written plan s a x reads e w' r wlaw flaw next fin is h =
         (serial.unwritten (ending_on x.program m).writes m r)
 
 -- what an office does by finishing
-module _ (plan : PlanValue) (s s' : State) (a : ℕ) (x : Session) (reads : List (ℕ × Value)) (done : ℕ) (e : Ending) (o : Office)
+module _ (plan : PlanValue) (s s' : State) (a : ℕ) (x : Session) (reads : List (ℕ × Value)) (e : Ending)
     (laws : PartsLaws)
     (h : IsSerial plan s)
-    (current : (s.office a).agenda.current ≡ Working x reads done)
     (next : IsNext plan s a x reads e)
-    (offices : s'.office ≡ put s.office a o)
     (finishes : s'.finished ≡ s.finished ++ record { program = x.program; outcome = record { office = a; ticket = x.ticket; ending = e } } ∷ [])
-    (agenda : (o.agenda.queue ≡ (s.office a).agenda.queue) × (o.agenda.tickets ≡ (s.office a).agenda.tickets) × (o.agenda.current ≡ Idle))
     (fin : bars.finishes plan (bars_of (pairs_in s)) (bars.Do a (bottles.Finish (Some e.writes))) ≡ true)
     (bar_is : bars_of (pairs_in s') ≡ bars.happens plan (bars_of (pairs_in s)) (bars.Do a (bottles.Finish (Some e.writes))))
   where
@@ -192,34 +172,21 @@ module _ (plan : PlanValue) (s s' : State) (a : ℕ) (x : Session) (reads : List
     new_map : values_after plan s'.finished ≡ map_after x.program (values_after plan s.finished)
     new_map = ap (map_of (start_map plan)) order ∙ serial.map_push_one (start_map plan) ps x.program
 
-    -- its ticket is the next one
-    ticketed : serial.Ticketed a (serial.count_at a ps) (x ∷ (s.office a).agenda.queue) (s.office a).agenda.tickets
-    ticketed = subst (λ c. serial.Ticketed a (serial.count_at a ps) (at_hand c ++ (s.office a).agenda.queue) (s.office a).agenda.tickets) current (h.tickets a)
+    outcome : office_and_ending f.outcome ≡ office_and_ending (serial.outcome_of ps x.program (values_after plan s.finished))
+    outcome = ap (λ k. (k, e)) (sym next.office) ∙ ap (λ k. (x.program.office, k)) next.ending
 
-    outcome : f.outcome ≡ serial.outcome_of ps x.program (values_after plan s.finished)
-    outcome =
-        ap (λ k. record { office = k; ticket = x.ticket; ending = e }) (sym next.office)
-        ∙ ap (λ k. record { office = x.program.office; ticket = k; ending = e }) (ticketed.0 ∙ ap (λ k. serial.count_at k ps + 1) (sym next.office))
-        ∙ ap (λ k. record { office = x.program.office; ticket = ticket_of ps x.program; ending = k }) next.ending
-
-    finished_tickets : (y : ℕ) → HasTickets y (serial.count_at y (programs_of s'.finished)) (s'.office y).agenda
-    finished_tickets y =
-        subst (λ l. HasTickets y (serial.count_at y l) (s'.office y).agenda) (sym order)
-        (subst (λ (g : ℕ → Office). HasTickets y (serial.count_at y (ps ++ x.program ∷ [])) (g y).agenda) (sym offices)
-        (put_cases s.office a o y (λ (k : Office). HasTickets y (serial.count_at y (ps ++ x.program ∷ [])) k.agenda)
-        (λ i. subst (λ k. HasTickets k (serial.count_at k (ps ++ x.program ∷ [])) o.agenda) (sym i)
-        (subst (λ n. HasTickets a n o.agenda) (sym (serial.counted_here a ps x.program next.office))
-        (subst (λ c. serial.Ticketed a (serial.count_at a ps + 1) (at_hand c ++ o.agenda.queue) o.agenda.tickets) (sym agenda.2)
-        (subst (λ q. serial.Ticketed a (serial.count_at a ps + 1) q o.agenda.tickets) (sym agenda.0)
-        (subst (λ t. serial.Ticketed a (serial.count_at a ps + 1) (s.office a).agenda.queue t) (sym agenda.1) ticketed.2)))))
-        (λ ne. subst (λ n. HasTickets y n (s.office y).agenda) (sym (serial.counted_elsewhere y ps x.program (λ k. ne (sym k ∙ next.office)))) (h.tickets y))))
+    -- the serial run with one program more
+    run_more : map office_and_ending (outcomes_of (start_map plan) (ps ++ x.program ∷ []))
+        ≡ map office_and_ending (outcomes_of (start_map plan) ps) ++ office_and_ending (serial.outcome_of ps x.program (values_after plan s.finished)) ∷ []
+    run_more = ap (map office_and_ending) (serial.outcomes_push [] (start_map plan) ps x.program)
+        ∙ map_push office_and_ending (outcomes_of (start_map plan) ps) (serial.outcome_of ps x.program (values_after plan s.finished))
 
     ends_session : IsSerial plan s'
     ends_session = record {
       values = λ r lt. subst (λ (m : ℕ → Value). bars.HasValue (bars_of (pairs_in s')) r (m r)) (sym new_map) (values_written plan s a x reads e (bars_of (pairs_in s')) r laws.written laws.finishing next fin bar_is (h.values r lt));
-      outcomes = ap outcomes_in finishes ∙ map_push (λ (g : Finished). g.outcome) s.finished f ∙ ap (λ l. l ++ f.outcome ∷ []) h.outcomes ∙ ap (λ k. outcomes_of (start_map plan) ps ++ k ∷ []) outcome
-          ∙ sym (serial.outcomes_push [] (start_map plan) ps x.program) ∙ ap (outcomes_of (start_map plan)) (sym order);
-      tickets = finished_tickets;
+      outcomes = ap (map office_and_ending) (ap outcomes_in finishes ∙ map_push (λ (g : Finished). g.outcome) s.finished f) ∙ map_push office_and_ending (outcomes_in s.finished) f.outcome
+          ∙ ap (λ l. l ++ office_and_ending f.outcome ∷ []) h.outcomes ∙ ap (λ k. map office_and_ending (outcomes_of (start_map plan) ps) ++ k ∷ []) outcome
+          ∙ sym run_more ∙ ap (λ l. map office_and_ending (outcomes_of (start_map plan) l)) (sym order);
     }
 
 -- ---- any event
@@ -236,36 +203,13 @@ bar_records plan s a law h = subst (λ (w : bars.World). (w.drinker a).records �
 bar_peers : (plan : PlanValue) (s : State) (a : ℕ) → bars.PeersStay → Follows plan s → (r : ℕ) → (pairs_in s a).drinker.peer r ≡ peer plan a r
 bar_peers plan s a law h r = subst (λ (w : bars.World). (w.drinker a).peer r ≡ peer plan a r) (sym h.bars.led) (law plan h.bars.events a r)
 
--- Start takes the first waiting session where none is current
-started_tickets : (plan : PlanValue) (a n : ℕ) (g : Agenda) (queue : List Session) (d : Drinker) → g.queue ≡ queue → (bottles.is_tranquil d.phase && is_some (first_needs queue)) ≡ true → IsCurrent plan a g.current d → HasTickets a n g → HasTickets a n (started g queue)
-started_tickets plan a n g [] d e may c h = h
-started_tickets plan a n g (x ∷ rest) d e may c h = subst (λ q. serial.Ticketed a n q g.tickets) (idle g.current c ∙ e) h
-  where
-    calm : bottles.is_tranquil d.phase ≡ true
-    calm = (and_parts (bottles.is_tranquil d.phase) true may).0
-
-    idle : (k : Current) → IsCurrent plan a k d → at_hand k ++ g.queue ≡ g.queue
-    idle Idle c = refl
-    idle (Gathering y) c = absurd (not_true (bottles.is_tranquil d.phase) calm (ap bottles.is_tranquil c.phase))
-    idle (Working y reads done) c = absurd (not_true (bottles.is_tranquil d.phase) calm (ap bottles.is_tranquil c.phase))
-
-begun_tickets : (a n : ℕ) (values : ℕ → Value) (c : Current) (queue : List Session) (t : ℕ) → serial.Ticketed a n (at_hand c ++ queue) t → serial.Ticketed a n (at_hand (begun values c) ++ queue) t
-begun_tickets a n values Idle queue t h = h
-begun_tickets a n values (Gathering x) queue t h = h
-begun_tickets a n values (Working x reads done) queue t h = h
-
-worked_tickets : (a n k : ℕ) (c : Current) (queue : List Session) (t : ℕ) → serial.Ticketed a n (at_hand c ++ queue) t → serial.Ticketed a n (at_hand (worked k c) ++ queue) t
-worked_tickets a n k Idle queue t h = h
-worked_tickets a n k (Gathering x) queue t h = h
-worked_tickets a n k (Working x reads done) queue t h = h
-
 -- an accepted Finish
-finishes_one : (plan : PlanValue) (s s' : State) (a : ℕ) (c : Current) → PartsLaws → nat_lt a (length plan.offices) ≡ true → IsSerial plan s → (s.office a).agenda.current ≡ c → IsCurrent plan a c (pairs_in s a).drinker →
-    bottles.may (pairs_in s a).drinker (bottles.Finish (writes_of c)) ≡ true → s'.office ≡ put s.office a (act a (s.office a) rule.Finish) → s'.finished ≡ s.finished ++ ended a c →
+finishes_one : (plan : PlanValue) (s s' : State) (a : ℕ) (c : Current) → PartsLaws → nat_lt a (length plan.offices) ≡ true → IsSerial plan s → IsCurrent plan a c (pairs_in s a).drinker →
+    bottles.may (pairs_in s a).drinker (bottles.Finish (writes_of c)) ≡ true → s'.finished ≡ s.finished ++ ended a c →
     bars_of (pairs_in s') ≡ bars.happens plan (bars_of (pairs_in s)) (bars.Do a (bottles.Finish (writes_of c))) → IsSerial plan s'
-finishes_one plan s s' a Idle laws inside h current is may offices fin bar_is = absurd (not_true false (and_parts (is_drinking (pairs_in s a).drinker.phase) false may).1 refl)
-finishes_one plan s s' a (Gathering x) laws inside h current is may offices fin bar_is = absurd (not_true false (and_parts (is_drinking (pairs_in s a).drinker.phase) false may).1 refl)
-finishes_one plan s s' a (Working x reads done) laws inside h current is may offices fin bar_is = by (ending_after x.program reads done) refl may fin bar_is
+finishes_one plan s s' a Idle laws inside h is may fin bar_is = absurd (not_true false (and_parts (is_drinking (pairs_in s a).drinker.phase) false may).1 refl)
+finishes_one plan s s' a (Gathering x) laws inside h is may fin bar_is = absurd (not_true false (and_parts (is_drinking (pairs_in s a).drinker.phase) false may).1 refl)
+finishes_one plan s s' a (Working x reads done) laws inside h is may fin bar_is = by (ending_after x.program reads done) refl may fin bar_is
   where
     writes : Option Ending → Option (List (ℕ × Value))
     writes o = option_map (λ (e : Ending). e.writes) o
@@ -274,7 +218,7 @@ finishes_one plan s s' a (Working x reads done) laws inside h current is may off
         bars_of (pairs_in s') ≡ bars.happens plan (bars_of (pairs_in s)) (bars.Do a (bottles.Finish (writes o))) → IsSerial plan s'
     by None is_o may fin bar_is = absurd (not_true false (and_parts (is_drinking (pairs_in s a).drinker.phase) false may).1 refl)
     by (Some e) is_o may fin bar_is =
-        ends_session plan s s' a x reads done e (act a (s.office a) rule.Finish) laws h current (is_next plan s a x reads done e h is is_o) offices fin (refl, refl, refl)
+        ends_session plan s s' a x reads e laws h (is_next plan s a x reads done e h is is_o) fin
         (ap (λ b. b && bottles.may (pairs_in s a).drinker (bottles.Finish (Some e.writes))) inside ∙ may) bar_is
 
 -- a frame's message and those that follow it leave each bottle its value
@@ -316,43 +260,37 @@ serial_on plan s s' laws k i = by i.event refl i.answered i.led (pairs_after pla
   where
     by : (e : office.Event) → i.event ≡ e → answer plan i.place (s.office i.place) e ≡ Ok (i.reply, i.new) → s' ≡ after_reply s i.place e i.reply i.new → LeavesPairs plan s s' i.place e → StepsBars plan s i.place e → IsSerial plan s'
     by (event.Submit p) is ans led left bar_is =
-        let t = was_submitted plan i.place (s.office i.place) p i.reply i.new ans in
         goes_on plan s s' i.place (event.Submit p) i.reply i.new led refl
-        (λ n h. subst (λ (o : Office). HasTickets i.place n o.agenda) (sym t.after)
-        (subst (λ l. serial.Ticketed i.place n l ((s.office i.place).agenda.tickets + 1)) (append_assoc (at_hand (s.office i.place).agenda.current) (s.office i.place).agenda.queue (record { ticket = (s.office i.place).agenda.tickets + 1; program = p } ∷ []))
-        (serial.one_ticket_more i.place n (s.office i.place).agenda.tickets (sessions_in (s.office i.place).agenda) p (eqb-true p.office i.place (and_parts (p.office == i.place) _ t.ours).0) h)))
         (λ r v. values_stay plan (bars_of (pairs_in s)) (bars_of (pairs_in s')) None r v laws.stay tt (ap bars_of left ∙ bar_is)) k.serial
     by (event.Send v j) is ans led left bar_is =
-        let t = was_sent plan i.place (s.office i.place) v j i.reply i.new ans in
-        goes_on plan s s' i.place (event.Send v j) i.reply i.new led refl (λ n h. subst (λ (o : Office). HasTickets i.place n o.agenda) (sym t.after) h)
+        goes_on plan s s' i.place (event.Send v j) i.reply i.new led refl
         (λ r x. values_stay plan (bars_of (pairs_in s)) (bars_of (pairs_in s')) None r x laws.stay tt (ap bars_of left ∙ bar_is)) k.serial
     by (event.Took f) is ans led left bar_is =
-        let t = was_taken plan i.place (s.office i.place) f i.reply i.new ans in
         goes_on plan s s' i.place (event.Took f) i.reply i.new led refl
-        (λ n h. subst (λ (o : Office). HasTickets i.place n o.agenda) (sym t.after) h) (frame_keeps_values plan s s' f laws k.follows i (ap (step_of (s.office i.place)) is)) k.serial
+        (frame_keeps_values plan s s' f laws k.follows i (ap (step_of (s.office i.place)) is)) k.serial
     by (event.Do r) is ans led left bar_is =
         let d = was_done plan i.place (s.office i.place) r i.reply i.new ans in
-        of r d.guard d.after led (ap bars_of (left ∙ ap (put (pairs_in s) i.place) (rule_alone plan i.place (s.office i.place) r)) ∙ bar_is)
+        of r d.guard led (ap bars_of (left ∙ ap (put (pairs_in s) i.place) (rule_alone plan i.place (s.office i.place) r)) ∙ bar_is)
       where
-        quiet : (r : Rule) (ev : Option bars.Event) → i.new ≡ act i.place (s.office i.place) r → s' ≡ after_reply s i.place (event.Do r) i.reply i.new → finished_by i.place (s.office i.place).agenda.current (event.Do r) ≡ [] →
-            ((n : ℕ) → HasTickets i.place n (s.office i.place).agenda → HasTickets i.place n (act i.place (s.office i.place) r).agenda) → IsNoEnd ev → bars_of (pairs_in s') ≡ bars_then plan (bars_of (pairs_in s)) ev → IsSerial plan s'
-        quiet r ev after led none tickets no_end bar_is = goes_on plan s s' i.place (event.Do r) i.reply i.new led none (λ n h. subst (λ (o : Office). HasTickets i.place n o.agenda) (sym after) (tickets n h))
+        quiet : (r : Rule) (ev : Option bars.Event) → s' ≡ after_reply s i.place (event.Do r) i.reply i.new → finished_by i.place (s.office i.place).agenda.current (event.Do r) ≡ [] →
+            IsNoEnd ev → bars_of (pairs_in s') ≡ bars_then plan (bars_of (pairs_in s)) ev → IsSerial plan s'
+        quiet r ev led none no_end bar_is = goes_on plan s s' i.place (event.Do r) i.reply i.new led none
             (λ q x. values_stay plan (bars_of (pairs_in s)) (bars_of (pairs_in s')) ev q x laws.stay no_end bar_is) k.serial
 
-        of : (r : Rule) → may plan i.place (s.office i.place) r ≡ true → i.new ≡ act i.place (s.office i.place) r → s' ≡ after_reply s i.place (event.Do r) i.reply i.new → bars_of (pairs_in s') ≡ bars_then plan (bars_of (pairs_in s)) (bottle_event i.place (pairs_in s i.place) (rule_step (s.office i.place) r)) → IsSerial plan s'
-        of rule.Start g after led b = quiet rule.Start (Some (bars.Do i.place (bottles.Start (first_needs (s.office i.place).agenda.queue)))) after led refl (λ n h. started_tickets plan i.place n (s.office i.place).agenda (s.office i.place).agenda.queue (pairs_in s i.place).drinker refl g (k.sane i.place).current h) (λ p w. refl) b
-        of rule.Hungry g after led b = quiet rule.Hungry None after led refl (λ n h. h) tt b
-        of (rule.AskFork v) g after led b = quiet (rule.AskFork v) None after led refl (λ n h. h) tt b
-        of (rule.GiveFork v) g after led b = quiet (rule.GiveFork v) None after led refl (λ n h. h) tt b
-        of rule.Eat g after led b = quiet rule.Eat None after led refl (λ n h. h) tt b
-        of rule.Leave g after led b = quiet rule.Leave None after led refl (λ n h. h) tt b
-        of (rule.AskBottle r) g after led b = quiet (rule.AskBottle r) (Some (bars.Do i.place (bottles.AskBottle r))) after led refl (λ n h. h) (λ p w. refl) b
-        of (rule.GiveBottle r) g after led b = quiet (rule.GiveBottle r) (Some (bars.Do i.place (bottles.GiveBottle r (pairs_in s i.place).diner.held))) after led refl (λ n h. h) (λ p w. refl) b
-        of rule.Drink g after led b = quiet rule.Drink (Some (bars.Do i.place bottles.Drink)) after led refl (λ n h. begun_tickets i.place n (value_in (pairs_in s i.place).drinker) (s.office i.place).agenda.current (s.office i.place).agenda.queue (s.office i.place).agenda.tickets h) (λ p w. refl) b
-        of (rule.Work n) g after led b = quiet (rule.Work n) None after led refl (λ m h. worked_tickets i.place m n (s.office i.place).agenda.current (s.office i.place).agenda.queue (s.office i.place).agenda.tickets h) tt b
-        of rule.Finish g after led b =
-            finishes_one plan s s' i.place (s.office i.place).agenda.current laws i.inside k.serial refl (k.sane i.place).current g
-            (ap (λ (x : State). x.office) led ∙ ap (put s.office i.place) after) (ap (λ (x : State). x.finished) led) b
+        of : (r : Rule) → may plan i.place (s.office i.place) r ≡ true → s' ≡ after_reply s i.place (event.Do r) i.reply i.new → bars_of (pairs_in s') ≡ bars_then plan (bars_of (pairs_in s)) (bottle_event i.place (pairs_in s i.place) (rule_step (s.office i.place) r)) → IsSerial plan s'
+        of rule.Start g led b = quiet rule.Start (Some (bars.Do i.place (bottles.Start (first_needs (s.office i.place).agenda.queue)))) led refl (λ p w. refl) b
+        of rule.Hungry g led b = quiet rule.Hungry None led refl tt b
+        of (rule.AskFork v) g led b = quiet (rule.AskFork v) None led refl tt b
+        of (rule.GiveFork v) g led b = quiet (rule.GiveFork v) None led refl tt b
+        of rule.Eat g led b = quiet rule.Eat None led refl tt b
+        of rule.Leave g led b = quiet rule.Leave None led refl tt b
+        of (rule.AskBottle r) g led b = quiet (rule.AskBottle r) (Some (bars.Do i.place (bottles.AskBottle r))) led refl (λ p w. refl) b
+        of (rule.GiveBottle r) g led b = quiet (rule.GiveBottle r) (Some (bars.Do i.place (bottles.GiveBottle r (pairs_in s i.place).diner.held))) led refl (λ p w. refl) b
+        of rule.Drink g led b = quiet rule.Drink (Some (bars.Do i.place bottles.Drink)) led refl (λ p w. refl) b
+        of (rule.Work n) g led b = quiet (rule.Work n) None led refl tt b
+        of rule.Finish g led b =
+            finishes_one plan s s' i.place (s.office i.place).agenda.current laws i.inside k.serial (k.sane i.place).current g
+            (ap (λ (x : State). x.finished) led) b
 
 kept_on : (plan : PlanValue) → PartsLaws → (s s' : State) → IsKept plan s → IsAccepted plan s s' → IsKept plan s'
 kept_on plan laws s s' k i = record {
@@ -375,7 +313,7 @@ kept_at_start : (plan : PlanValue) → PartsLaws → IsKept plan (starting plan)
 kept_at_start plan laws = record {
   follows = starts plan;
   sane = λ a. sane_at_start plan a;
-  serial = record { values = λ r lt. first_values plan r laws.begin lt; outcomes = refl; tickets = λ a. refl };
+  serial = record { values = λ r lt. first_values plan r laws.begin lt; outcomes = refl };
 }
 
 pub kept : (plan : PlanValue) → PartsLaws → (es : List WorldEvent) → IsKept plan (state_of (run_of (opening plan) es))

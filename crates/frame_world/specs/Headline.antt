@@ -8,6 +8,7 @@ use Rattle.frame_codec.specs.Frame.{Fields, IsFrame}
 use Rattle.frame_codec.specs.Version01.{Spells, spelling}
 use Rattle.office_map.specs.PlanValue.{PlanValue, are_neighbours}
 use Rattle.office_map.specs.Consistency.{IsConsistent, IsAccepted}
+use Rattle.session_meaning.specs.declared.ending.Ending.{Ending}
 use Rattle.session_meaning.specs.declared.ending.Outcome.{Outcome}
 use Rattle.session_meaning.specs.ProgramValue.{ProgramValue}
 use Rattle.session_meaning.specs.Needs.{needs_of}
@@ -42,9 +43,13 @@ programs w = map (λ (f : Finished). f.program) w.finished
 abbrev pub outcomes : World → List Outcome
 outcomes w = map (λ (f : Finished). f.outcome) w.finished
 
+-- where a session finished, and how it ended
+abbrev pub office_and_ending : Outcome → ℕ × Ending
+office_and_ending o = (o.office, o.ending)
+
 -- the finished sessions read, gave and wrote what they do when they run alone, one after the other in that order
 abbrev pub HasSerialSessions : World → Type 0
-HasSerialSessions w = outcomes w ≡ outcomes_of (start_map w.plan) (programs w)
+HasSerialSessions w = map office_and_ending (outcomes w) ≡ map office_and_ending (outcomes_of (start_map w.plan) (programs w))
 
 -- each record has one bottle, with the value that the record has after that serial run
 abbrev pub HasSerialValues : World → Type 0

@@ -1,5 +1,6 @@
 pub mod Worlds
 pub mod Ways
 pub mod Headline
+pub mod Tickets
 pub mod Waiting
 pub mod refinement

@@ -1,6 +1,7 @@
 //! The headline, over definitions: what holds of every world that a list of events leads to.
 
 ghost use Rattle.frame_world.specs.Headline.{Always, HasSerialSessions, HasSerialValues, HasOnePlaceEach, NeighboursEatApart, EatersHaveTheirForks, DrinkersHaveTheirBottles, FramesAreTaken, NoneIsEarly, CountsAreTimely, PrecedenceHasNoRing, FramesInRangeGoByBytes};
+ghost use Rattle.frame_world.specs.Tickets.{HaveTheirTickets, TicketsRise, TellsEachOffice};
 ghost use Rattle.frame_world.specs.Waiting.{EachIsHeldOrWaits, FewMessagesWait, NoFrameIsFarAhead};
 ghost use Rattle.frame_world.specs.refinement.PartsLaws.{PartsLaws};
 
@@ -8,7 +9,7 @@ use dining_core::laws as tables;
 use drinking_core::laws as bars;
 use frame_codec::laws::each_spelling_is_of_one_frame;
 use session_meaning::laws::writes_what_it_has;
-use site_core::laws::links_only_grow;
+use site_core::laws::{links_only_grow, sessions_go_in_order};
 use token_channel::laws::{opens_as_the_plan_starts, what_comes_was_away, what_follows_was_away};
 
 /// The finished sessions read, gave and wrote what they do when they run alone, one after another in finishing order.
@@ -17,6 +18,23 @@ pub fn sessions_are_serial()
 {
     parts_hold();
 }
+
+/// Each finished session has the ticket that was answered when it was submitted.
+pub fn finished_have_their_tickets()
+    ensures { Always HaveTheirTickets }
+{}
+
+/// The finished sessions of an office have rising tickets, so no ticket of it stands twice.
+pub fn tickets_rise()
+    ensures { Always TicketsRise }
+{
+    sessions_go_in_order();
+}
+
+/// What an office tells of its finished sessions is what the finishing list has of it, in the same order.
+pub fn each_office_is_told()
+    ensures { Always TellsEachOffice }
+{}
 
 /// Each record has one bottle, which has the value of that serial run.
 pub fn bottles_are_serial()

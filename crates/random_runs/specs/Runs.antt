@@ -9,6 +9,7 @@ use Rattle.frame_world.specs.declared.event.WorldEvent.TheVariants as happening
 use Rattle.frame_world.specs.Worlds.{World, opening, happens, run_of}
 use Rattle.frame_world.specs.Ways.{pairs_at, tables_of}
 use Rattle.frame_world.specs.Headline.{HasSerialSessions, HasSerialValues, HasOnePlaceEach, NeighboursEatApart, EatersHaveTheirForks, DrinkersHaveTheirBottles, FramesAreTaken, NoneIsEarly, FramesGoByBytes, CountsAreTimely}
+use Rattle.frame_world.specs.Tickets.{HaveTheirTickets, TicketsRise, TellsEachOffice}
 use Rattle.run_reports.specs.WorldReport.{world_report}
 
 -- the program that an event submits
@@ -58,6 +59,9 @@ pub record IsRun (p : PlanValue) (programs : List ProgramValue) (w : World) : Ty
 -- all that holds of each world to which events lead
 pub record HasHeadline (w : World) : Type 0 where
   pub sessions : HasSerialSessions w
+  pub tickets : HaveTheirTickets w
+  pub rise : TicketsRise w
+  pub offices : TellsEachOffice w
   pub bottles : HasSerialValues w
   pub places : HasOnePlaceEach w
   pub apart : NeighboursEatApart w

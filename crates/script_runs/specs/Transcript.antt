@@ -15,11 +15,12 @@ use Rattle.site_core.specs.declared.reply.Reply.{Reply}
 use Rattle.site_core.specs.declared.reply.Reply.TheVariants as reply
 use Rattle.site_core.specs.declared.reply.Refusal as offices
 use Rattle.site_core.specs.declared.reply.Refusal.TheVariants as refused
-use Rattle.serial_replay.specs.Serial.{start_map, map_of, outcomes_of}
+use Rattle.serial_replay.specs.Serial.{start_map, map_of}
 use Rattle.frame_world.specs.declared.refusal.WorldRefusal.{WorldRefusal}
 use Rattle.frame_world.specs.declared.refusal.WorldRefusal.TheVariants as refusal
 use Rattle.frame_world.specs.Worlds.{World, opening}
-use Rattle.frame_world.specs.Headline.{programs, outcomes}
+use Rattle.frame_world.specs.Headline.{programs, HasSerialSessions}
+use Rattle.frame_world.specs.Tickets.{HaveTheirTickets, TicketsRise}
 use Rattle.world_schedule.specs.Readers.{unfinished_in}
 use Rattle.script_runs.specs.declared.said.Said.{Said}
 use Rattle.script_runs.specs.declared.said.Said.TheVariants.{Replied, Rules}
@@ -98,7 +99,10 @@ abbrev pub transcript : PlanValue → List Act → List ℕ
 transcript p acts = flat_map told_line (all_told (opening p) acts) ++ told_report (run_of (opening p) acts)
 
 -- what the report tells of the finished sessions and of the values is what these sessions do when they run alone, one
--- after another, in the order in which it tells them
+-- after another, in the order in which it tells them; and their tickets are those that were answered when they were
+-- submitted, and rise at each office
 pub record IsSerialRun (w : World) : Type 0 where
-  pub sessions : outcomes w ≡ outcomes_of (start_map w.plan) (programs w)
+  pub sessions : HasSerialSessions w
+  pub tickets : HaveTheirTickets w
+  pub rise : TicketsRise w
   pub values : (r : ℕ) → r < length w.plan.records → bottle_value w r ≡ map_of (start_map w.plan) (programs w) r

@@ -1,9 +1,10 @@
 -- What each kind of event leaves beside the offices.
-use Rattle.std.proofs.Common.{◌≡◌, ℕ, ◌+◌, Bool, true, false, cond, List, [], ◌∷◌, ◌++◌, length, map, get_or, Option, None, Some, option_map, Ok, Err, refl, sym, ap, subst, ◌∙◌, arith, append-nil}
-use Rattle.std.specs.Prelude.{Result, All, IfOk, OnErr, is_some}
+use Rattle.std.proofs.Common.{◌≡◌, ℕ, ◌+◌, ◌<◌, Bool, true, false, cond, List, [], ◌∷◌, ◌++◌, length, map, get_or, set, Option, None, Some, option_map, Ok, Err, refl, sym, ap, subst, ◌∙◌, arith, append-nil}
+use Rattle.std.specs.Prelude.{Result, All, AllPairs, IfOk, OnErr, is_some}
 use Rattle.std.specs.List.{range_with_len}
 use Rattle.std.proofs.lemmas.Bool.{and_parts}
-use Rattle.std.proofs.lemmas.List.Elements.{All-nil}
+use Rattle.std.proofs.lemmas.List.{map-append, get_or-set_same}
+use Rattle.std.proofs.lemmas.List.Elements.{All-nil, All-tail}
 use Rattle.std.proofs.lemmas.List.FromFn.{length-map-range_with_len, get_or-map-range_with_len}
 use Rattle.frame_codec.specs.Frame.{Fields, IsFrame}
 use Rattle.window_link.specs.declared.arrival.Arrival.{Arrival}
@@ -20,18 +21,25 @@ use Rattle.site_core.specs.declared.event.Event.{Event}
 use Rattle.site_core.specs.declared.event.Event.TheVariants as event
 use Rattle.site_core.specs.declared.reply.Reply.{Reply}
 use Rattle.site_core.specs.declared.reply.Reply.TheVariants as reply
+use Rattle.site_core.specs.declared.reply.Refusal.{Refusal}
 use Rattle.site_core.specs.declared.reply.Refusal.TheVariants as refused
 use Rattle.site_core.specs.Replies.{reply_to}
 use Rattle.site_core.specs.Pairs.{frame_fault, arrival_of}
 use Rattle.site_core.specs.Agenda.{Current, Idle, Gathering, Working, writes_of, is_full, submitted}
 use Rattle.site_core.specs.Offices.{Office, Answer, may, act, is_ours, answer, unless_faulty}
-use Rattle.site_core.specs.Journals.{Site, office_of}
-use Rattle.site_core.proofs.OfficeLimits.{legal_empty}
+use Rattle.site_core.specs.Journals.{Site, next_or, office_of, noted, Steps, IsLegal}
+use Rattle.site_core.specs.Tickets.{SessionsGoInOrder}
+use Rattle.site_core.proofs.OfficeLimits.{legal_empty, office_noted}
 use Rattle.frame_world.specs.declared.refusal.WorldRefusal.{WorldRefusal}
 use Rattle.frame_world.specs.Worlds.{Finished, silent, frames_of, finished_by, ended, ended_as}
+use Rattle.frame_world.proofs.RisingTickets.{IsBelow, office_tickets_rise}
+use Rattle.frame_world.proofs.Tickets.{outcomes_grow}
 use Rattle.world_schedule.specs.declared.finished.Finished as mark
-use Rattle.world_schedule.specs.refinement.WorldOfCode.{finished_of, IsSiteOf, IsKnown, IsWorld}
-use Rattle.world_schedule.proofs.WorldSteps.{Accepts, Beside, Nothing, Last}
+use Rattle.world_schedule.specs.Readers.{listed_as}
+use Rattle.world_schedule.specs.refinement.WorldOfCode.{finishes, finished_of, IsSiteOf, IsKnown, IsWorld}
+use Rattle.world_schedule.proofs.FinishedSessions.{outcomes_in, outcomes_told, finished_noted, IsFoundIn, each_is_found}
+use Rattle.world_schedule.proofs.SiteSteps.{Stepped, Refused, OutOfMemory, Accepted, stepped}
+use Rattle.world_schedule.proofs.WorldSteps.{Accepts, Lists, Beside}
 
 -- ---- replies
 
@@ -69,16 +77,38 @@ take_tells plan me o f r o' h = go (frame_fault plan me o.pairs f) h
     go None e = sym (ap frames_in e) ∙ arrival_tells (arrival_of o.pairs f)
     go (Some fault) e = absurd cc
 
+-- ---- what an office finishes it finds
+
+found_then : SessionsGoInOrder → (s : Site) (e : Event) (r : Reply) (o : Office) → IsLegal s → Accepts s e r o → All (IsFoundIn (finished_of (noted s 0 e r))) (finishes s e)
+found_then law s e r o legal accepts =
+    let s' : Site = noted s 0 e r in
+    let now : office_of s' ≡ o = office_noted s 0 e r ∙ ap (next_or (office_of s)) accepts in
+    let told : (office_of s').agenda.outcomes ≡ outcomes_in (finished_of s') =
+    ap (λ (k : Office). k.agenda.outcomes) now ∙ outcomes_grow s.plan s.me (office_of s) e r o accepts ∙ ap (λ l. l ++ outcomes_in (finishes s e)) (outcomes_told s legal)
+    ∙ sym (map-append (λ (f : Finished). f.outcome) (finished_of s) (finishes s e)) ∙ ap outcomes_in (sym (finished_noted s 0 e r)) in
+    let found : All (IsFoundIn (finished_of s')) (finished_of s') = each_is_found (finished_of s') (subst (λ l. AllPairs IsBelow l) told (office_tickets_rise law s')) in
+    all_right (IsFoundIn (finished_of s')) (finished_of s) (finishes s e) (subst (λ l. All (IsFoundIn (finished_of s')) l) (finished_noted s 0 e r) found)
+  where
+    all_right : (P : Finished → Type 0) (fs more : List Finished) → All P (fs ++ more) → All P more
+    all_right P [] more h = h
+    all_right P (f ∷ fs) more h = all_right P fs more (All-tail P f (fs ++ more) h)
+
 -- ---- what is beside
+
+lists_nothing : (s : Site) (e : Event) (r : Reply) (marks : List mark.Finished) → finishes s e ≡ [] → Lists s e r marks marks
+lists_nothing s e r marks nothing = record {
+  pushed = sym (append-nil marks) ∙ ap (λ l. marks ++ map listed_as l) (sym nothing);
+  found = subst (All (IsFoundIn (finished_of (noted s 0 e r)))) (sym nothing) (All-nil (IsFoundIn (finished_of (noted s 0 e r))));
+}
 
 -- nothing is added
 unmoved : (plan : PlanValue) (sites : List Site) (a : ℕ) (e : Event) (result : Result Reply WorldRefusal) (sites' : List Site) (frames : List Fields) (marks : List mark.Finished) →
-    ((r : Reply) (o : Office) → Accepts (get_or sites a (silent plan a)) e r o → frames_of r ≡ []) → finished_by a (office_of (get_or sites a (silent plan a))).agenda.current e ≡ [] → Beside plan sites a e result sites' frames frames marks marks
-unmoved plan sites a e result sites' frames marks tells finishes = record {
+    ((r : Reply) (o : Office) → Accepts (get_or sites a (silent plan a)) e r o → frames_of r ≡ []) → finishes (get_or sites a (silent plan a)) e ≡ [] → Beside plan sites a e result sites' frames frames marks marks
+unmoved plan sites a e result sites' frames marks tells nothing = record {
   kept = λ r o h is. sym (append-nil frames) ∙ ap (λ l. frames ++ l) (sym (tells r o h));
   unsent = λ x is. refl;
   fit = λ r o h is. subst (All IsFrame) (sym (tells r o h)) (All-nil IsFrame);
-  listed = λ r o h is. Nothing finishes refl;
+  listed = λ r o lt h is. lists_nothing (get_or sites a (silent plan a)) e r marks nothing;
   unlisted = λ x is. refl;
 }
 
@@ -108,7 +138,7 @@ quiet_rule a c rule.Finish n = absurd (n refl)
 pub beside_rule : (plan : PlanValue) (sites : List Site) (a : ℕ) (x : Rule) (result : Result Reply WorldRefusal) (sites' : List Site) (frames : List Fields) (marks : List mark.Finished) → (x ≡ rule.Finish → ⊥) → Beside plan sites a (event.Do x) result sites' frames frames marks marks
 beside_rule plan sites a x result sites' frames marks n =
     let s = get_or sites a (silent plan a) in
-    unmoved plan sites a (event.Do x) result sites' frames marks (λ r o h. (rule_holds s.plan s.me (office_of s) x r o h).1) (quiet_rule a (office_of s).agenda.current x n)
+    unmoved plan sites a (event.Do x) result sites' frames marks (λ r o h. (rule_holds s.plan s.me (office_of s) x r o h).1) (quiet_rule s.me (office_of s).agenda.current x n)
 
 -- a session finishes where its work has ended
 one_ended : (a : ℕ) (c : Current) → is_some (writes_of c) ≡ true → (f : Finished) × (ended a c ≡ f ∷ [])
@@ -120,18 +150,43 @@ one_ended a (Working s reads done) h = go (ending_after s.program reads done) re
     go None is e = absurd cc
     go (Some x) is e = (record { program = s.program; outcome = record { office = a; ticket = s.ticket; ending = x } }, ap (ended_as a s) is)
 
-pub beside_finish : (plan : PlanValue) (sites : List Site) (a : ℕ) (result : Result Reply WorldRefusal) (sites' : List Site) (frames : List Fields) (marks marks' : List mark.Finished) →
-    ((r : Reply) → result ≡ Ok r → marks' ≡ marks ++ record { office = a; ticket = length (finished_of (get_or sites' a (silent plan a))) } ∷ []) → ((x : WorldRefusal) → result ≡ Err x → marks' ≡ marks) →
+-- an office that finishes a session finishes one, whose outcome comes last
+pub record FinishesOne (s s' : Site) : Type 0 where
+  pub session : Finished
+  pub one : finishes s (event.Do rule.Finish) ≡ session ∷ []
+  pub last : (office_of s').agenda.outcomes ≡ (office_of s).agenda.outcomes ++ session.outcome ∷ []
+
+finishes_one : (s s' : Site) (r : Reply) → Steps s 0 (event.Do rule.Finish) (Ok r) s' → FinishesOne s s'
+finishes_one s s' r steps = go (stepped s (event.Do rule.Finish) (Ok r) s' steps)
+  where
+    go : Stepped s (event.Do rule.Finish) (Ok r) s' → FinishesOne s s'
+    go (Refused x told kept is) = absurd cc
+    go (OutOfMemory told kept ok) = absurd cc
+    go (Accepted x o accepts told grown is) =
+        let one = one_ended s.me (office_of s).agenda.current (and_parts _ _ (rule_holds s.plan s.me (office_of s) rule.Finish x o accepts).0).1 in
+        let now : office_of s' ≡ o = ap office_of grown ∙ office_noted s 0 (event.Do rule.Finish) x ∙ ap (next_or (office_of s)) accepts in
+        record {
+          session = one.0;
+          one = one.1;
+          last = ap (λ (k : Office). k.agenda.outcomes) now ∙ outcomes_grow s.plan s.me (office_of s) (event.Do rule.Finish) x o accepts ∙ ap (λ l. (office_of s).agenda.outcomes ++ outcomes_in l) one.1;
+        }
+
+-- so one of several offices does
+pub finishes_there : (sites : List Site) (i k : ℕ) (s next s' : Site) (answer : Result Reply Refusal) (r : Reply) → i < length sites → k ≡ i → s' ≡ get_or (set sites i next) k s' → Steps s 0 (event.Do rule.Finish) answer next → answer ≡ Ok r → FinishesOne s s'
+finishes_there sites i k s next s' answer r lt same there steps is =
+    subst (FinishesOne s) (sym (there ∙ ap (λ x. get_or (set sites i next) x s') same ∙ get_or-set_same sites i next s' lt))
+    (finishes_one s next r (subst (λ x. Steps s 0 (event.Do rule.Finish) x next) is steps))
+
+pub beside_finish : (plan : PlanValue) (sites : List Site) (a : ℕ) (result : Result Reply WorldRefusal) (sites' : List Site) (frames : List Fields) (marks marks' : List mark.Finished) → SessionsGoInOrder → (a < length sites → IsLegal (get_or sites a (silent plan a))) →
+    ((r : Reply) → result ≡ Ok r → marks' ≡ marks ++ map listed_as (finishes (get_or sites a (silent plan a)) (event.Do rule.Finish))) → ((x : WorldRefusal) → result ≡ Err x → marks' ≡ marks) →
     Beside plan sites a (event.Do rule.Finish) result sites' frames frames marks marks'
-beside_finish plan sites a result sites' frames marks marks' pushed same =
+beside_finish plan sites a result sites' frames marks marks' law legal pushed same =
     let s = get_or sites a (silent plan a) in
     record {
       kept = λ r o h is. sym (append-nil frames) ∙ ap (λ l. frames ++ l) (sym (rule_holds s.plan s.me (office_of s) rule.Finish r o h).1);
       unsent = λ x is. refl;
       fit = λ r o h is. subst (All IsFrame) (sym (rule_holds s.plan s.me (office_of s) rule.Finish r o h).1) (All-nil IsFrame);
-      listed = λ r o h is.
-          let one = one_ended a (office_of s).agenda.current (and_parts _ _ (rule_holds s.plan s.me (office_of s) rule.Finish r o h).0).1 in
-          Last one.0 one.1 (pushed r is);
+      listed = λ r o lt h is. record { pushed = pushed r is; found = found_then law s (event.Do rule.Finish) r o (legal lt) h };
       unlisted = same;
     }
 
@@ -142,7 +197,7 @@ beside_send plan sites a v i result sites' frames frames' marks sent fit same = 
   kept = λ r o h is. sent r is;
   unsent = same;
   fit = λ r o h is. fit r is;
-  listed = λ r o h is. Nothing refl refl;
+  listed = λ r o lt h is. lists_nothing (get_or sites a (silent plan a)) (event.Send v i) r marks refl;
   unlisted = λ x is. refl;
 }
 

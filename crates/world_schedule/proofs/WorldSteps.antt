@@ -1,9 +1,11 @@
 -- The world that the code keeps, after an event.
-use Rattle.std.proofs.Common.{◌≡◌, ◌≢◌, ℕ, ◌+◌, ◌-◌, ◌<◌, Bool, true, false, cond, List, [], ◌∷◌, ◌++◌, length, map, get_or, set, Ok, Err, ◌⊎◌, inl, inr, refl, sym, ap, subst, ◌∙◌, arith, ⊎_elim, append-nil}
-use Rattle.std.specs.Prelude.{Result, IsOk, nat_le, All}
+use Rattle.std.proofs.Common.{◌≡◌, ◌≢◌, ℕ, ◌<◌, Bool, true, false, cond, List, [], ◌∷◌, ◌++◌, length, map, get_or, set, Some, Ok, Err, ◌⊎◌, inl, inr, refl, sym, ap, subst, ◌∙◌, arith, ⊎_elim, append-nil}
+use Rattle.std.specs.Prelude.{Result, IsOk, nat_le, find, is_some, unwrap_or, All}
+use Rattle.std.specs.Option.{option_or}
 use Rattle.std.proofs.lemmas.Bool.{lt-ltb, le-ltb, cases_eq}
-use Rattle.std.proofs.lemmas.List.{length_push, get_or_push, length-append, length-set, set-get_or, get_or-set_same, get_or-set_other, get_or_append_left, map-append}
-use Rattle.std.proofs.lemmas.List.Elements.{All-weaker, All-head, All-tail, All-push, All-append}
+use Rattle.std.proofs.lemmas.List.{length-set, set-get_or, get_or-set_same, get_or-set_other, map-append}
+use Rattle.std.proofs.lemmas.List.Elements.{All-nil, All-cons, All-weaker, All-head, All-tail, All-append}
+use Rattle.std.proofs.lemmas.List.Folds.{find-append}
 use Rattle.frame_codec.specs.Frame.{Fields, IsFrame}
 use Rattle.office_map.specs.PlanValue.{PlanValue}
 use Rattle.site_core.specs.declared.event.Event.{Event}
@@ -20,9 +22,11 @@ use Rattle.frame_world.specs.declared.refusal.WorldRefusal.TheVariants as refusa
 use Rattle.frame_world.specs.Worlds.{World, Answer, Finished, silent, site_at, office_at, frames_of, finished_by, told, handed, happens, run_of, opening, OrMemory}
 use Rattle.frame_world.specs.Headline.{IsReached}
 use Rattle.world_schedule.specs.declared.finished.Finished as mark
-use Rattle.world_schedule.specs.refinement.WorldOfCode.{no_session, finished_of, finished_in, world_in, IsSiteOf, IsKnown, IsWorld}
+use Rattle.world_schedule.specs.Readers.{listed_as}
+use Rattle.world_schedule.specs.refinement.WorldOfCode.{finishes, no_session, finished_of, has_ticket, found_in, finished_in, world_in, IsSiteOf, IsKnown, IsWorld}
 use Rattle.world_schedule.specs.refinement.Handing.{Hands, Nobody, Asked, passed_on}
-use Rattle.world_schedule.proofs.FinishedSessions.{finished_noted}
+use Rattle.frame_world.proofs.Tickets.{finished_at}
+use Rattle.world_schedule.proofs.FinishedSessions.{finished_noted, found_some, IsFoundIn}
 use Rattle.world_schedule.proofs.SiteSteps.{still_legal, Stepped, Refused, OutOfMemory, Accepted, stepped}
 
 -- an event that an office accepts, and what it leaves
@@ -101,17 +105,20 @@ longer plan sites a e r b lt = ⊎_elim here elsewhere (cases_eq b a)
     elsewhere : b ≢ a → (more : List Finished) × (finished_of (get_or (with_entry plan sites a e r) b (silent plan b)) ≡ finished_of (get_or sites b (silent plan b)) ++ more)
     elsewhere ne = ([], ap finished_of (get_or-set_other sites a b (noted (get_or sites a (silent plan a)) 0 e r) (silent plan b) ne) ∙ sym (append-nil (finished_of (get_or sites b (silent plan b)))))
 
-known_longer : (plan : PlanValue) (sites : List Site) (a : ℕ) (e : Event) (r : Reply) (m : mark.Finished) → a < length sites → IsKnown plan sites m → IsKnown plan (with_entry plan sites a e r) m
-known_longer plan sites a e r m lt (office, positive, few) =
+-- what an office found by ticket it finds there again
+found_longer : (plan : PlanValue) (sites : List Site) (a : ℕ) (e : Event) (r : Reply) (m : mark.Finished) → a < length sites → IsKnown plan sites m → found_in plan (with_entry plan sites a e r) m ≡ found_in plan sites m
+found_longer plan sites a e r m lt (office, found) =
     let l = longer plan sites a e r m.office lt in
-    let before = finished_of (get_or sites m.office (silent plan m.office)) in
-    (omega (arith, office, length-set sites a (noted (get_or sites a (silent plan a)) 0 e r)), positive, omega (arith, few, ap length l.1, length-append before l.0))
+    let before : List Finished = finished_of (get_or sites m.office (silent plan m.office)) in
+    let is : found_in plan sites m ≡ Some (finished_in plan sites m) = found_some (found_in plan sites m) no_session found in
+    ap (find (has_ticket m.ticket)) l.1 ∙ find-append (has_ticket m.ticket) before l.0 ∙ ap (λ o. option_or o (find (has_ticket m.ticket) l.0)) is ∙ sym is
+
+known_longer : (plan : PlanValue) (sites : List Site) (a : ℕ) (e : Event) (r : Reply) (m : mark.Finished) → a < length sites → IsKnown plan sites m → IsKnown plan (with_entry plan sites a e r) m
+known_longer plan sites a e r m lt known =
+    (omega (arith, known.0, length-set sites a (noted (get_or sites a (silent plan a)) 0 e r)), ap is_some (found_longer plan sites a e r m lt known) ∙ known.1)
 
 same_finished : (plan : PlanValue) (sites : List Site) (a : ℕ) (e : Event) (r : Reply) (m : mark.Finished) → a < length sites → IsKnown plan sites m → finished_in plan (with_entry plan sites a e r) m ≡ finished_in plan sites m
-same_finished plan sites a e r m lt (office, positive, few) =
-    let l = longer plan sites a e r m.office lt in
-    let before = finished_of (get_or sites m.office (silent plan m.office)) in
-    ap (λ fs. get_or fs (m.ticket - 1) no_session) l.1 ∙ get_or_append_left before l.0 no_session (m.ticket - 1) (omega (arith, positive, few))
+same_finished plan sites a e r m lt known = ap (λ o. unwrap_or o no_session) (found_longer plan sites a e r m lt known)
 
 same_map : {X Y : Type 0} (P : X → Type 0) (f g : X → Y) → ((x : X) → P x → f x ≡ g x) → (xs : List X) → All P xs → map f xs ≡ map g xs
 same_map P f g same [] h = refl
@@ -122,58 +129,52 @@ same_list plan sites a e r marks lt = same_map (IsKnown plan sites) (finished_in
 
 -- ---- the lists beside the offices
 
--- the list of what finished stays, where the event finishes nothing, or it gets the last session of the office
-pub data Lists (plan : PlanValue) (sites : List Site) (a : ℕ) (e : Event) (sites' : List Site) (marks marks' : List mark.Finished) : Type 0 where
-  Nothing : (finishes : finished_by a (office_of (get_or sites a (silent plan a))).agenda.current e ≡ []) (kept : marks' ≡ marks) → Lists plan sites a e sites' marks marks'
-  Last : (f : Finished) (finishes : finished_by a (office_of (get_or sites a (silent plan a))).agenda.current e ≡ f ∷ []) (pushed : marks' ≡ marks ++ record { office = a; ticket = length (finished_of (get_or sites' a (silent plan a))) } ∷ []) → Lists plan sites a e sites' marks marks'
+-- what the event finishes is listed, and the office finds it by its ticket
+pub record Lists (s : Site) (e : Event) (r : Reply) (marks marks' : List mark.Finished) : Type 0 where
+  pub pushed : marks' ≡ marks ++ map listed_as (finishes s e)
+  pub found : All (IsFoundIn (finished_of (noted s 0 e r))) (finishes s e)
 
 pub record Beside (plan : PlanValue) (sites : List Site) (a : ℕ) (e : Event) (result : Result Reply WorldRefusal) (sites' : List Site) (frames frames' : List Fields) (marks marks' : List mark.Finished) : Type 0 where
   pub kept : (r : Reply) (o : Office) → Accepts (get_or sites a (silent plan a)) e r o → result ≡ Ok r → frames' ≡ frames ++ frames_of r
   pub unsent : (x : WorldRefusal) → result ≡ Err x → frames' ≡ frames
   pub fit : (r : Reply) (o : Office) → Accepts (get_or sites a (silent plan a)) e r o → result ≡ Ok r → All IsFrame (frames_of r)
-  pub listed : (r : Reply) (o : Office) → Accepts (get_or sites a (silent plan a)) e r o → result ≡ Ok r → Lists plan sites a e sites' marks marks'
+  pub listed : (r : Reply) (o : Office) → a < length sites → Accepts (get_or sites a (silent plan a)) e r o → result ≡ Ok r → Lists (get_or sites a (silent plan a)) e r marks marks'
   pub unlisted : (x : WorldRefusal) → result ≡ Err x → marks' ≡ marks
-
-last_of : (fs fs' : List Finished) (f : Finished) → fs' ≡ fs ++ f ∷ [] → (0 < length fs') × (get_or fs' (length fs' - 1) no_session ≡ f)
-last_of fs fs' f is =
-    let count : length fs' ≡ length fs + 1 = ap length is ∙ length_push fs f in
-    let before : length fs ≡ length fs' - 1 = omega (arith, count) in
-    (omega (arith, count), ap (λ l. get_or l (length fs' - 1) no_session) is ∙ get_or_push fs f no_session (length fs' - 1) before)
 
 abbrev Listed : PlanValue → List Site → List Finished → List mark.Finished → Type 0
 Listed plan sites' fs ms = (map (finished_in plan sites') ms ≡ fs) × All (IsKnown plan sites') ms
 
-one_listed : (plan : PlanValue) (sites' : List Site) (fs : List Finished) (f : Finished) (ms : List mark.Finished) (m : mark.Finished) → Listed plan sites' fs ms → finished_in plan sites' m ≡ f → IsKnown plan sites' m → Listed plan sites' (fs ++ f ∷ []) (ms ++ m ∷ [])
-one_listed plan sites' fs f ms m (told, known) is here = (
-  map-append (finished_in plan sites') ms (m ∷ []) ∙ ap (λ l. l ++ finished_in plan sites' m ∷ []) told ∙ ap (λ x. fs ++ x ∷ []) is,
-  All-push (IsKnown plan sites') ms m known here,
-)
+-- sessions of one office that it finds
+all_listed : (plan : PlanValue) (sites' : List Site) (a : ℕ) (fs : List Finished) → a < length sites' → All (λ (f : Finished). f.outcome.office ≡ a) fs → All (IsFoundIn (finished_of (get_or sites' a (silent plan a)))) fs → Listed plan sites' fs (map listed_as fs)
+all_listed plan sites' a [] lt here found = (refl, All-nil (IsKnown plan sites'))
+all_listed plan sites' a (f ∷ fs) lt here found =
+    let of : f.outcome.office ≡ a = All-head (λ (g : Finished). g.outcome.office ≡ a) f fs here in
+    let is : found_in plan sites' (listed_as f) ≡ Some f =
+    ap (λ k. find (has_ticket f.outcome.ticket) (finished_of (get_or sites' k (silent plan k)))) of ∙ All-head (IsFoundIn (finished_of (get_or sites' a (silent plan a)))) f fs found in
+    let rest = all_listed plan sites' a fs lt (All-tail (λ (g : Finished). g.outcome.office ≡ a) f fs here) (All-tail (IsFoundIn (finished_of (get_or sites' a (silent plan a)))) f fs found) in (
+      ap (λ o. unwrap_or o no_session ∷ map (finished_in plan sites') (map listed_as fs)) is ∙ ap (λ l. f ∷ l) rest.0,
+      All-cons (IsKnown plan sites') (listed_as f) (map listed_as fs) (omega (arith, lt, of), ap is_some is) rest.1,
+    )
 
 -- what an accepted event lists
 listed_more : (plan : PlanValue) (sites : List Site) (a : ℕ) (e : Event) (r : Reply) (marks marks' : List mark.Finished) → a < length sites → IsSiteOf plan a (get_or sites a (silent plan a)) → All (IsKnown plan sites) marks →
-    Lists plan sites a e (with_entry plan sites a e r) marks marks' →
+    Lists (get_or sites a (silent plan a)) e r marks marks' →
     Listed plan (with_entry plan sites a e r) (map (finished_in plan sites) marks ++ finished_by a (office_of (get_or sites a (silent plan a))).agenda.current e) marks'
-listed_more plan sites a e r marks marks' lt is known lists = go lists
-  where
-    same : Listed plan (with_entry plan sites a e r) (map (finished_in plan sites) marks) marks
-    same = (same_list plan sites a e r marks lt known, All-weaker (IsKnown plan sites) (IsKnown plan (with_entry plan sites a e r)) (λ m. known_longer plan sites a e r m lt) marks known)
-
-    go : Lists plan sites a e (with_entry plan sites a e r) marks marks' → Listed plan (with_entry plan sites a e r) (map (finished_in plan sites) marks ++ finished_by a (office_of (get_or sites a (silent plan a))).agenda.current e) marks'
-    go (Nothing none kept) =
-        subst (λ l. Listed plan (with_entry plan sites a e r) (map (finished_in plan sites) marks ++ l) marks') (sym none)
-        (subst (λ l. Listed plan (with_entry plan sites a e r) l marks') (sym (append-nil (map (finished_in plan sites) marks)))
-        (subst (Listed plan (with_entry plan sites a e r) (map (finished_in plan sites) marks)) (sym kept) same))
-    go (Last f one pushed) =
-        let s = get_or sites a (silent plan a) in
-        let sites' = with_entry plan sites a e r in
-        let finished' = finished_of (get_or sites' a (silent plan a)) in
-        let now : finished' ≡ finished_of s ++ f ∷ [] = ap finished_of (at_entry plan sites a e r (silent plan a) lt) ∙ finished_noted s 0 e r
-        ∙ ap (λ me. finished_of s ++ finished_by me (office_of s).agenda.current e) is.1 ∙ ap (λ l. finished_of s ++ l) one in
-        let end = last_of (finished_of s) finished' f now in
-        subst (λ l. Listed plan sites' (map (finished_in plan sites) marks ++ l) marks') (sym one)
-        (subst (Listed plan sites' (map (finished_in plan sites) marks ++ f ∷ [])) (sym pushed)
-        (one_listed plan sites' (map (finished_in plan sites) marks) f marks (record { office = a; ticket = length finished' }) same end.1
-        (omega (arith, lt, length-set sites a (noted s 0 e r)), end.0, omega arith)))
+listed_more plan sites a e r marks marks' lt is known lists =
+    let s : Site = get_or sites a (silent plan a) in
+    let sites' : List Site = with_entry plan sites a e r in
+    let fs : List Finished = finishes s e in
+    let within : a < length sites' = omega (arith, lt, length-set sites a (noted s 0 e r)) in
+    let here : All (λ (f : Finished). f.outcome.office ≡ a) fs = subst (λ k. All (λ (f : Finished). f.outcome.office ≡ k) fs) is.1 (finished_at s.me (office_of s).agenda.current e) in
+    let found : All (IsFoundIn (finished_of (get_or sites' a (silent plan a)))) fs = subst (λ x. All (IsFoundIn (finished_of x)) fs) (sym (at_entry plan sites a e r (silent plan a) lt)) lists.found in
+    let one = all_listed plan sites' a fs within here found in
+    let old : All (IsKnown plan sites') marks = All-weaker (IsKnown plan sites) (IsKnown plan sites') (λ m. known_longer plan sites a e r m lt) marks known in
+    let all : Listed plan sites' (map (finished_in plan sites) marks ++ fs) (marks ++ map listed_as fs) = (
+      map-append (finished_in plan sites') marks (map listed_as fs) ∙ ap (λ l. l ++ map (finished_in plan sites') (map listed_as fs)) (same_list plan sites a e r marks lt known) ∙ ap (λ l. map (finished_in plan sites) marks ++ l) one.0,
+      All-append (IsKnown plan sites') marks (map listed_as fs) old one.1,
+    ) in
+    subst (λ me. Listed plan sites' (map (finished_in plan sites) marks ++ finished_by me (office_of s).agenda.current e) marks') is.1
+    (subst (Listed plan sites' (map (finished_in plan sites) marks ++ fs)) (sym lists.pushed) all)
 
 -- ---- the step of the definition
 
@@ -188,7 +189,7 @@ applies plan sites sites' frames frames' marks marks' a e result world hands bes
         ⊎_elim (λ m. inl (is ∙ ap Err m.0, same, m.1)) (λ h. inr (is ∙ sym (ap (λ y. y.0) h), same ∙ sym (ap (λ y. y.1) h))) why
     go (Grown lt r o accepts is kept h) =
         let w = world_in plan sites frames marks in
-        let lists = listed_more plan sites a e r marks marks' lt (world.each a lt) world.known (subst (λ l. Lists plan sites a e l marks marks') kept (beside.listed r o accepts is)) in
+        let lists = listed_more plan sites a e r marks marks' lt (world.each a lt) world.known (beside.listed r o lt accepts is) in
         let grows : world_in plan sites' frames' marks' ≡ grown w a e r =
         ap (λ l. world_in plan l frames' marks') kept ∙ ap (λ l. world_in plan (with_entry plan sites a e r) l marks') (beside.kept r o accepts is)
         ∙ ap (λ l. record { plan = plan; sites = with_entry plan sites a e r; frames = frames ++ frames_of r; finished = l }) lists.0 in
@@ -238,7 +239,7 @@ stays plan sites sites' frames frames' marks marks' a e result ev world hands be
       reached = reached;
     }
     go (Grown lt r o accepts told kept h) =
-        let lists = listed_more plan sites a e r marks marks' lt (world.each a lt) world.known (subst (λ l. Lists plan sites a e l marks marks') kept (beside.listed r o accepts told)) in
+        let lists = listed_more plan sites a e r marks marks' lt (world.each a lt) world.known (beside.listed r o lt accepts told) in
         record {
           accepted = world.accepted;
           count = ap length kept ∙ length-set sites a (noted (get_or sites a (silent plan a)) 0 e r) ∙ world.count;

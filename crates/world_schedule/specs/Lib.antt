@@ -1,3 +1,2 @@
-pub mod Tickets
 pub mod Readers
 pub mod refinement

@@ -1,6 +1,7 @@
 -- What can be asked of a world.
 use Rattle.std.specs.Prelude.{ℕ}
 use Rattle.std.specs.List.{sum_by}
+use Rattle.session_meaning.specs.declared.ending.Outcome.{Outcome}
 use Rattle.site_core.specs.Agenda.{unfinished}
 use Rattle.site_core.specs.Journals.{Site, office_of}
 use Rattle.frame_world.specs.Worlds.{World, Finished}
@@ -10,6 +11,9 @@ use Rattle.world_schedule.specs.declared.finished.Finished as entry
 abbrev pub unfinished_in : World → ℕ
 unfinished_in w = sum_by (λ (s : Site). unfinished (office_of s).agenda) w.sites
 
--- the office and the ticket of a finished session
+-- the office and the ticket of an outcome, and so of a finished session
+abbrev pub mark_of : Outcome → entry.Finished
+mark_of o = record { office = o.office; ticket = o.ticket }
+
 abbrev pub listed_as : Finished → entry.Finished
-listed_as f = record { office = f.outcome.office; ticket = f.outcome.ticket }
+listed_as f = mark_of f.outcome

@@ -2,7 +2,7 @@
 
 use office_map::OfficeId;
 
-/// A session that finished: its office, and its number there, from 1.
+/// A session that finished: its office, and its ticket there.
 #[derive(Clone, Copy, Debug, PartialEq, Eq)]
 pub struct Finished {
     pub office: OfficeId,

@@ -1,8 +1,9 @@
 //! An event that is handed to one of the offices.
 
-ghost use Rattle.std.specs.Prelude.{◌≡◌, ◌<◌, ◌++◌, ◌∷◌, [], Err, length, get_or, is_ok, nat_le, vec_len, All, IfOk, OnOk, OnErr, if◌then◌else◌};
+ghost use Rattle.std.specs.Prelude.{◌≡◌, ◌<◌, ◌++◌, ◌∷◌, [], List, Err, length, map, get_or, is_ok, nat_le, vec_len, All, IfOk, OnOk, OnErr, if◌then◌else◌};
 ghost use Rattle.std.specs.Vec.{vec_capacity};
 ghost use Rattle.frame_codec.specs.Frame.{IsFrame};
+ghost use Rattle.session_meaning.specs.declared.ending.Outcome.{Outcome};
 ghost use Rattle.site_core.specs.Limits.{most_entries};
 ghost use Rattle.site_core.specs.declared.event.Event.TheVariants as events;
 ghost use Rattle.site_core.specs.declared.reply.Refusal.TheVariants as refusals;
@@ -10,14 +11,15 @@ ghost use Rattle.site_core.specs.declared.rule.Rule.TheVariants as rules;
 ghost use Rattle.site_core.specs.Journals.{Site, Steps, office_of};
 ghost use Rattle.site_core.specs.Offices.{answer};
 ghost use Rattle.frame_world.specs.Worlds.{frames_of};
-ghost use Rattle.world_schedule.specs.refinement.WorldOfCode.{finished_of};
+ghost use Rattle.world_schedule.specs.Readers.{mark_of, listed_as};
+ghost use Rattle.world_schedule.specs.refinement.WorldOfCode.{finishes};
 ghost use Rattle.world_schedule.specs.refinement.Handing.{Hands, passed_on};
 
 use crate::finished::Finished;
 use frame_codec::Frame;
 use frame_world::WorldRefusal;
 use office_map::OfficeId;
-use session_language::Program;
+use session_language::{Outcome, Program};
 use site_core::{Journal, MAX_ENTRIES, Office, Reply, Rule};
 
 /// A session is submitted at an office.
@@ -55,7 +57,7 @@ pub(crate) fn finish(
     at: OfficeId,
 ) -> Result<Reply, WorldRefusal>
     ensures office { Hands offices.old.items at (events.Do rules.Finish) result offices.new.items }
-    ensures listed { OnOk result ((d : Site) → finished.new.items ≡ finished.old.items ++ record { office = at; ticket = length (finished_of (get_or offices.new.items at d)) } ∷ []) }
+    ensures listed { OnOk result ((d : Site) → finished.new.items ≡ finished.old.items ++ map listed_as (finishes (get_or offices.old.items at d) (events.Do rules.Finish))) }
     ensures unlisted { OnErr result (finished.new.items ≡ finished.old.items) }
 {
     if at.index() >= offices.len() {
@@ -67,7 +69,7 @@ pub(crate) fn finish(
     };
     match offices[at.index()].act(0, Rule::Finish) {
         Ok(reply) => {
-            let last = last_of(&offices[at.index()], at);
+            let last = last_of(&offices[at.index()]);
             finished.push_reserved(last);
             Ok(reply)
         }
@@ -96,14 +98,22 @@ fn unless_full(journal: &Journal) -> site_core::Refusal
 }
 
 /// What an office finished last.
-fn last_of(office: &Office, at: OfficeId) -> Finished
-    ensures { result ≡ record { office = at; ticket = length (finished_of office.now) } }
+fn last_of(office: &Office) -> Finished
+    requires { 0 < length (office_of office.now).agenda.outcomes }
+    ensures { (before : List Outcome) (last : Outcome) → (office_of office.now).agenda.outcomes ≡ before ++ last ∷ [] → result ≡ mark_of last }
 {
-    let _ = office.journal();
-    let count = office.outcomes().len();
+    let outcomes = office.outcomes();
+    let last = outcomes.len() - 1;
+    mark_of(&outcomes[last])
+}
+
+/// What is listed of a session with this outcome.
+fn mark_of(outcome: &Outcome) -> Finished
+    ensures { result ≡ mark_of outcome.now }
+{
     Finished {
-        office: at,
-        ticket: count as u32,
+        office: outcome.office,
+        ticket: outcome.ticket,
     }
 }
 

@@ -19,10 +19,10 @@
 //! `Memory` is answered only where the event would be accepted, and then nothing changed. No reader looks through all
 //! frames, entries or sessions.
 //!
-//! Definitions: `specs/Readers.antt` and `specs/Tickets.antt` for what readers tell; all else is `frame_world`'s. What ties
-//! the code to them is in `specs/refinement`. That a ticket is the place among the sessions of its office is proved in
-//! `proofs/FinishedSessions.antt`, each event in `proofs/WorldSteps.antt` and `proofs/EventSteps.antt`, runs in
-//! `proofs/Runs.antt`, the one bottle in `proofs/BottleValues.antt`.
+//! Definitions: `specs/Readers.antt` for what readers tell; all else is `frame_world`'s. What ties the code to them is in
+//! `specs/refinement`. That a finished session is found by its ticket is proved in `proofs/FinishedSessions.antt`, each
+//! event in `proofs/WorldSteps.antt` and `proofs/EventSteps.antt`, runs in `proofs/Runs.antt`, the one bottle in
+//! `proofs/BottleValues.antt`.
 #![tactic(auto)]
 
 mod finished;

@@ -1,6 +1,6 @@
 //! All offices of a plan, and what happens to them.
 
-ghost use Rattle.std.specs.Prelude.{◌≡◌, ◌<◌, ◌^◌, ◌↔◌, ◌∷◌, [], Err, IsTrue, length, map, slice_get, All, IfOk, OnOk, IfErr};
+ghost use Rattle.std.specs.Prelude.{◌≡◌, ◌<◌, ◌^◌, ◌↔◌, ◌∷◌, [], Err, IsTrue, length, map, slice_get, IfOk, OnOk, IfErr};
 ghost use Rattle.std.specs.Option.{option_copied};
 ghost use Rattle.site_core.specs.Agenda.{unfinished};
 ghost use Rattle.site_core.specs.Journals.{office_of, IsLegal};
@@ -10,10 +10,10 @@ ghost use Rattle.frame_world.specs.declared.event.WorldEvent.TheVariants as even
 ghost use Rattle.frame_world.specs.Worlds.{opening, run_of, replies_of, Applies, Stops, site_at, frame_at};
 ghost use Rattle.frame_world.specs.Ways.{bottles_of, pairs_at, tables_of};
 ghost use Rattle.frame_world.specs.Headline.{programs, outcomes, IsReached, HasSerialSessions, HasSerialValues, HasOnePlaceEach, NeighboursEatApart, EatersHaveTheirForks, DrinkersHaveTheirBottles, FramesAreTaken, NoneIsEarly, FramesGoByBytes, CountsAreTimely};
+ghost use Rattle.frame_world.specs.Tickets.{HaveTheirTickets, TicketsRise, TellsEachOffice};
 ghost use Rattle.dining_core.specs.Worlds.{HasNoRing};
 ghost use Rattle.serial_replay.specs.Serial.{start_map, map_of};
 ghost use Rattle.world_schedule.specs.Readers.{unfinished_in, listed_as};
-ghost use Rattle.world_schedule.specs.Tickets.{HasItsTicket};
 
 use crate::finished::Finished;
 use crate::happening;
@@ -22,13 +22,15 @@ use crate::values::bottle_between;
 use bottle_values::Value;
 use frame_codec::Frame;
 use frame_world::laws::{
-    bottles_are_serial, counts_are_timely, frames_go_by_bytes, neighbours_never_eat_at_once,
-    none_is_early, precedence_has_no_ring, sent_frames_are_taken, sessions_are_serial,
-    things_have_one_place, who_drinks_has_its_bottles, who_eats_has_its_forks,
+    bottles_are_serial, counts_are_timely, each_office_is_told, finished_have_their_tickets,
+    frames_go_by_bytes, neighbours_never_eat_at_once, none_is_early, precedence_has_no_ring,
+    sent_frames_are_taken, sessions_are_serial, things_have_one_place, tickets_rise,
+    who_drinks_has_its_bottles, who_eats_has_its_forks,
 };
 use frame_world::{WorldEvent, WorldRefusal};
 use office_map::{OfficeId, Plan, RecordId};
 use session_language::{Outcome, Program};
+use site_core::laws::sessions_go_in_order;
 use site_core::{Journal, Office, Reply, Rule};
 use std::alloc::{AllocError, Global};
 use std::marker::Model;
@@ -123,6 +125,8 @@ impl World {
         ensures { Applies self.old (events.Do at rule.now) result self.new }
     {
         if let Rule::Finish = rule {
+            // Tickets rise, so what is listed is found again by its ticket.
+            sessions_go_in_order();
             return happening::finish(&mut self.offices, &mut self.finished, at);
         }
         happening::act(&mut self.offices, at, rule)
@@ -166,6 +170,9 @@ impl World {
         ensures world { OnOk result (self.new ≡ run_of self.old events.now) }
         ensures stopped { IfErr result (λ s. Stops self.old events.now s.done self.new) }
         ensures sessions { HasSerialSessions self.new }
+        ensures tickets { HaveTheirTickets self.new }
+        ensures rise { TicketsRise self.new }
+        ensures offices { TellsEachOffice self.new }
         ensures bottles { HasSerialValues self.new }
         ensures places { HasOnePlaceEach self.new }
         ensures apart { NeighboursEatApart self.new }
@@ -204,14 +211,18 @@ impl World {
         Ok(replies)
     }
 
-    /// What holds of every world: some events led to it from its plan; the finished sessions have the outcomes, and each
-    /// record's one bottle has the value, of the serial run of these sessions in finishing order; each fork, bottle and
-    /// request token is at one place; neighbours eat apart, who eats has its forks, who works has its bottles, and
-    /// precedence has no ring. Nor will a frame that was sent be refused for what it says, or come too early to be kept, and
-    /// each has bytes that are read as that frame by every office; its count is no older than its message.
+    /// What holds of every world: some events led to it from its plan; the finished sessions ended as they do in the serial
+    /// run of these sessions in finishing order, and each record's one bottle has the value of that run; each of them has
+    /// the ticket that was answered when it was submitted, and those of an office rise; each fork, bottle and request token
+    /// is at one place; neighbours eat apart, who eats has its forks, who works has its bottles, and precedence has no
+    /// ring. Nor will a frame that was sent be refused for what it says, or come too early to be kept, and each has bytes
+    /// that are read as that frame by every office; its count is no older than its message.
     pub fn is_serial(&self)
         ensures reached { IsReached self.now }
         ensures sessions { HasSerialSessions self.now }
+        ensures tickets { HaveTheirTickets self.now }
+        ensures rise { TicketsRise self.now }
+        ensures offices { TellsEachOffice self.now }
         ensures bottles { HasSerialValues self.now }
         ensures places { HasOnePlaceEach self.now }
         ensures apart { NeighboursEatApart self.now }
@@ -224,6 +235,9 @@ impl World {
         ensures counts { CountsAreTimely self.now }
     {
         sessions_are_serial();
+        finished_have_their_tickets();
+        tickets_rise();
+        each_office_is_told();
         bottles_are_serial();
         things_have_one_place();
         neighbours_never_eat_at_once();
@@ -282,11 +296,15 @@ impl World {
         self.frames.get(k - 1).copied()
     }
 
-    /// Which sessions finished, in finishing order. [`World::outcome`] tells how they ended.
+    /// Which sessions finished, in finishing order. Each has the ticket that was answered when it was submitted, and those
+    /// of an office rise. [`World::outcome`] tells how they ended.
     pub fn finished(&self) -> &[Finished]
         ensures listed { result.now ≡ map listed_as self.now.finished }
-        ensures tickets { All (HasItsTicket self.now) self.now.finished }
+        ensures tickets { HaveTheirTickets self.now }
+        ensures rise { TicketsRise self.now }
+        ensures offices { TellsEachOffice self.now }
     {
+        self.is_serial();
         self.finished.as_slice()
     }
 
@@ -296,7 +314,7 @@ impl World {
     {
         let finished = self.finished.get(i)?;
         let office = &self.offices[finished.office.index()];
-        nth(office.outcomes(), finished.ticket as usize - 1)
+        office.outcome(finished.ticket)
     }
 
     /// The value of a record: that of its bottle, which an office holds, or which is on the way.
@@ -324,19 +342,13 @@ impl World {
     }
 }
 
-/// The outcome at this place, from 0.
-fn nth(outcomes: &[Outcome], i: usize) -> Option<&Outcome>
-    ensures { option_copied result ≡ slice_get outcomes.now i }
-{
-    outcomes.get(i)
-}
-
 /// How many sessions that were submitted at an office haven't finished.
 fn unfinished_at(office: &Office) -> usize
     ensures sessions { result ≡ unfinished (office_of office.now).agenda }
     ensures few { result < 2 ^ 32 }
 {
-    let _ = office.journal();
+    // Each session that was submitted has finished, is the current one, or waits.
+    sessions_go_in_order();
     office.tickets() as usize - office.outcomes().len()
 }
 

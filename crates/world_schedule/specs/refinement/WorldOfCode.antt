@@ -1,18 +1,23 @@
--- The world that the code keeps: of a finished session it keeps the office and the number there.
-use Rattle.std.specs.Prelude.{◌≡◌, ℕ, ◌-◌, ◌<◌, ◌≤◌, List, [], ◌∷◌, ◌++◌, length, map, get_or, All}
+-- The world that the code keeps: of a finished session it keeps the office and the ticket.
+use Rattle.std.specs.Prelude.{◌≡◌, ℕ, ◌<◌, Bool, true, ◌==◌, List, [], ◌∷◌, ◌++◌, length, map, get_or, find, Option, is_some, unwrap_or, All}
 use Rattle.frame_codec.specs.Frame.{Fields, IsFrame}
 use Rattle.office_map.specs.PlanValue.{PlanValue}
 use Rattle.office_map.specs.Consistency.{IsAccepted}
 use Rattle.session_meaning.specs.declared.ending.End.TheVariants.{Done}
 use Rattle.session_meaning.specs.Tree.{Nothing}
+use Rattle.site_core.specs.declared.event.Event.{Event}
 use Rattle.site_core.specs.declared.event.Entry.{Entry}
 use Rattle.site_core.specs.Offices.{Office, opened}
-use Rattle.site_core.specs.Journals.{Site, after, IsLegal}
+use Rattle.site_core.specs.Journals.{Site, office_of, after, IsLegal}
 use Rattle.frame_world.specs.Worlds.{World, Finished, silent, finished_by}
 use Rattle.frame_world.specs.Headline.{IsReached}
 use Rattle.world_schedule.specs.declared.finished.Finished as mark
 
--- the sessions that an office finishes by these entries, in order
+-- the sessions that an office finishes by an event
+abbrev pub finishes : Site → Event → List Finished
+finishes s e = finished_by s.me (office_of s).agenda.current e
+
+-- those that it finishes by these entries, in order
 abbrev pub finished_from : PlanValue → ℕ → Office → List Entry → List Finished
 finished_from plan me o [] = []
 finished_from plan me o (x ∷ xs) = finished_by me o.agenda.current x.event ++ finished_from plan me (after plan me o x.event) xs
@@ -28,9 +33,15 @@ no_session = record {
   outcome = record { office = 0; ticket = 0; ending = record { end = Done; reads = []; writes = []; gives = [] } };
 }
 
--- the session that the office finished as its ticket-th
+abbrev pub has_ticket : ℕ → Finished → Bool
+has_ticket ticket f = f.outcome.ticket == ticket
+
+-- the session that the office finished with that ticket
+abbrev pub found_in : PlanValue → List Site → mark.Finished → Option Finished
+found_in plan sites m = find (has_ticket m.ticket) (finished_of (get_or sites m.office (silent plan m.office)))
+
 abbrev pub finished_in : PlanValue → List Site → mark.Finished → Finished
-finished_in plan sites m = get_or (finished_of (get_or sites m.office (silent plan m.office))) (m.ticket - 1) no_session
+finished_in plan sites m = unwrap_or (found_in plan sites m) no_session
 
 abbrev pub world_in : PlanValue → List Site → List Fields → List mark.Finished → World
 world_in plan sites frames marks = record { plan = plan; sites = sites; frames = frames; finished = map (finished_in plan sites) marks }
@@ -39,9 +50,9 @@ world_in plan sites frames marks = record { plan = plan; sites = sites; frames =
 abbrev pub IsSiteOf : PlanValue → ℕ → Site → Type 0
 IsSiteOf plan a s = (s.plan ≡ plan) × (s.me ≡ a) × IsLegal s
 
--- the office finished so many
+-- the office finished one
 abbrev pub IsKnown : PlanValue → List Site → mark.Finished → Type 0
-IsKnown plan sites m = (m.office < length sites) × (0 < m.ticket) × (m.ticket ≤ length (finished_of (get_or sites m.office (silent plan m.office))))
+IsKnown plan sites m = (m.office < length sites) × (is_some (found_in plan sites m) ≡ true)
 
 -- there is each office of an accepted plan, events led to them, and each frame is in the format's ranges
 pub record IsWorld (plan : PlanValue) (sites : List Site) (frames : List Fields) (marks : List mark.Finished) : Type 0 where

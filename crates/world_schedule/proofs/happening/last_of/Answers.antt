@@ -1,14 +1,12 @@
-use Rattle.std.proofs.Common.{arith, ap, ◌∙◌, length, ◌≤◌, subst}
-use Rattle.site_core.specs.Limits.{most_entries}
-use Rattle.world_schedule.proofs.FinishedSessions.{length_outcomes, few_finished}
+use Rattle.std.proofs.Common.{◌≡◌, ◌-◌, ◌++◌, ◌∷◌, [], List, length, get_or, arith, ap, ◌∙◌}
+use Rattle.std.proofs.lemmas.List.{length_push, get_or_push}
+use Rattle.session_meaning.specs.declared.ending.Outcome.{Outcome}
+use Rattle.world_schedule.specs.Readers.{mark_of}
 use Rattle.world_schedule.proofs.happening.last_of.Goals as goal
 
-pub overflow_cast-result : goal.overflow_cast-result
-overflow_cast-result c =
-    let s = c.args.office.now in
-    let few : length s.entries ≤ most_entries = subst (λ (l : _). length l ≤ most_entries) c.journal.ensures.entries c.journal.ensures.few in
-    let same = ap length c.outcomes-count.ensures in
-    omega (arith, few, same, few_finished s c.journal.ensures.legal, length_outcomes s c.journal.ensures.legal)
-
 pub returns : goal.returns
-returns c = ap (λ n. record { office = c.args.at; ticket = n }) (ap length c.outcomes-count.ensures ∙ length_outcomes c.args.office.now c.journal.ensures.legal)
+returns c = λ before last is.
+    let told : List Outcome = c.outcomes-outcomes.result.now in
+    let o : Outcome = c.index-outcomes-last.result in
+    let all : told ≡ before ++ last ∷ [] = c.outcomes-outcomes.ensures ∙ is in
+    c.mark_of.ensures ∙ ap mark_of (c.index-outcomes-last.is ∙ ap (λ l. get_or l (length told - 1) o) all ∙ get_or_push before last o (length told - 1) (omega (arith, ap length all, length_push before last)))

@@ -1,4 +1,4 @@
-use Rattle.std.proofs.Common.{◌≡◌, ◌++◌, ◌∷◌, [], length, get_or, refl, sym, subst}
+use Rattle.std.proofs.Common.{◌≡◌, ◌++◌, map, get_or, refl, sym, subst}
 use Rattle.std.proofs.lemmas.Result.{on_ok_weaker}
 use Rattle.site_core.specs.declared.event.Event.TheVariants as event
 use Rattle.site_core.specs.declared.rule.Rule.TheVariants as rule
@@ -6,7 +6,8 @@ use Rattle.site_core.specs.declared.reply.Reply.{Reply}
 use Rattle.site_core.specs.Journals.{Site}
 use Rattle.frame_world.specs.declared.event.WorldEvent.TheVariants as happening
 use Rattle.frame_world.specs.Worlds.{OrMemory, handed, silent}
-use Rattle.world_schedule.specs.refinement.WorldOfCode.{finished_of, world_in}
+use Rattle.world_schedule.specs.Readers.{listed_as}
+use Rattle.world_schedule.specs.refinement.WorldOfCode.{finishes, world_in}
 use Rattle.world_schedule.proofs.WorldSteps.{applies, stays}
 use Rattle.world_schedule.proofs.EventSteps.{beside_finish, beside_rule, of_ok, of_err}
 use Rattle.world_schedule.proofs.world.World.act.Goals as goal
@@ -16,9 +17,9 @@ invariant_of-self c =
     let w = c.self.inside in
     let marks' = c.finish.new.finished.items in
     stays w.plan w.offices.items c.finish.new.offices.items w.frames.items w.frames.items w.finished.items marks' c.args.at (event.Do rule.Finish) c.finish.result (happening.Do c.args.at rule.Finish) c.self.invariant c.finish.ensures.office
-    (beside_finish w.plan w.offices.items c.args.at c.finish.result c.finish.new.offices.items w.frames.items w.finished.items marks'
-    (of_ok (λ (r : Reply). marks' ≡ w.finished.items ++ record { office = c.args.at; ticket = length (finished_of (get_or c.finish.new.offices.items c.args.at (silent w.plan c.args.at))) } ∷ []) c.finish.result
-    (on_ok_weaker c.finish.result (λ (h : (d : Site) → marks' ≡ w.finished.items ++ record { office = c.args.at; ticket = length (finished_of (get_or c.finish.new.offices.items c.args.at d)) } ∷ []). h (silent w.plan c.args.at)) c.finish.ensures.listed))
+    (beside_finish w.plan w.offices.items c.args.at c.finish.result c.finish.new.offices.items w.frames.items w.finished.items marks' c.sessions_go_in_order.ensures (λ lt. (c.self.invariant.each c.args.at lt).2)
+    (of_ok (λ (r : Reply). marks' ≡ w.finished.items ++ map listed_as (finishes (get_or w.offices.items c.args.at (silent w.plan c.args.at)) (event.Do rule.Finish))) c.finish.result
+    (on_ok_weaker c.finish.result (λ (h : (d : Site) → marks' ≡ w.finished.items ++ map listed_as (finishes (get_or w.offices.items c.args.at d) (event.Do rule.Finish))). h (silent w.plan c.args.at)) c.finish.ensures.listed))
     (of_err (marks' ≡ w.finished.items) c.finish.result c.finish.ensures.unlisted)) refl
 
 pub returns-in-Finish : goal.returns-in-Finish
@@ -28,9 +29,9 @@ returns-in-Finish c =
     subst (λ x. OrMemory c.args.self.now (handed c.args.self.now c.args.at (event.Do x)) c.finish.result (world_in w.plan c.finish.new.offices.items w.frames.items marks')) (sym c.in-Finish.is)
     (subst (λ x. OrMemory x (handed x c.args.at (event.Do rule.Finish)) c.finish.result (world_in w.plan c.finish.new.offices.items w.frames.items marks')) c.self.view_is
     (applies w.plan w.offices.items c.finish.new.offices.items w.frames.items w.frames.items w.finished.items marks' c.args.at (event.Do rule.Finish) c.finish.result c.self.invariant c.finish.ensures.office
-    (beside_finish w.plan w.offices.items c.args.at c.finish.result c.finish.new.offices.items w.frames.items w.finished.items marks'
-    (of_ok (λ (r : Reply). marks' ≡ w.finished.items ++ record { office = c.args.at; ticket = length (finished_of (get_or c.finish.new.offices.items c.args.at (silent w.plan c.args.at))) } ∷ []) c.finish.result
-    (on_ok_weaker c.finish.result (λ (h : (d : Site) → marks' ≡ w.finished.items ++ record { office = c.args.at; ticket = length (finished_of (get_or c.finish.new.offices.items c.args.at d)) } ∷ []). h (silent w.plan c.args.at)) c.finish.ensures.listed))
+    (beside_finish w.plan w.offices.items c.args.at c.finish.result c.finish.new.offices.items w.frames.items w.finished.items marks' c.sessions_go_in_order.ensures (λ lt. (c.self.invariant.each c.args.at lt).2)
+    (of_ok (λ (r : Reply). marks' ≡ w.finished.items ++ map listed_as (finishes (get_or w.offices.items c.args.at (silent w.plan c.args.at)) (event.Do rule.Finish))) c.finish.result
+    (on_ok_weaker c.finish.result (λ (h : (d : Site) → marks' ≡ w.finished.items ++ map listed_as (finishes (get_or w.offices.items c.args.at d) (event.Do rule.Finish))). h (silent w.plan c.args.at)) c.finish.ensures.listed))
     (of_err (marks' ≡ w.finished.items) c.finish.result c.finish.ensures.unlisted))))
 
 pub invariant_of-self-2 : goal.invariant_of-self-2

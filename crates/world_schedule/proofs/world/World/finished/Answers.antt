@@ -1,17 +1,10 @@
 use Rattle.std.proofs.Common.{◌≡◌, map, subst, ◌∙◌}
-use Rattle.std.specs.Prelude.{All}
 use Rattle.frame_world.specs.Worlds.{World}
 use Rattle.world_schedule.specs.Readers.{listed_as}
-use Rattle.world_schedule.specs.Tickets.{HasItsTicket}
-use Rattle.world_schedule.proofs.Finishing.{listed, have_their_tickets}
+use Rattle.world_schedule.proofs.Finishing.{listed}
 use Rattle.world_schedule.proofs.world.World.finished.Goals as goal
 
 pub returns-clause-listed : goal.returns-clause-listed
 returns-clause-listed c =
     let w = c.self.inside in
     c.as_slice.ensures.value ∙ subst (λ (v : World). w.finished.items ≡ map listed_as v.finished) c.self.view_is (listed w.plan w.offices.items w.frames.items w.finished.items c.self.invariant)
-
-pub returns-clause-tickets : goal.returns-clause-tickets
-returns-clause-tickets c =
-    let w = c.self.inside in
-    subst (λ (v : World). All (HasItsTicket v) v.finished) c.self.view_is (have_their_tickets w.plan w.offices.items w.frames.items w.finished.items c.self.invariant)

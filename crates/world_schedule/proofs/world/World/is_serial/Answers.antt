@@ -1,5 +1,6 @@
 use Rattle.std.proofs.Common.{subst}
 use Rattle.frame_world.specs.Headline.{HasSerialSessions, HasSerialValues, HasOnePlaceEach, NeighboursEatApart, EatersHaveTheirForks, DrinkersHaveTheirBottles, FramesAreTaken, NoneIsEarly, FramesGoByBytes, CountsAreTimely}
+use Rattle.frame_world.specs.Tickets.{HaveTheirTickets, TicketsRise, TellsEachOffice}
 use Rattle.frame_world.specs.Worlds.{World}
 use Rattle.frame_world.specs.Ways.{pairs_at, tables_of}
 use Rattle.dining_core.specs.Worlds.{HasNoRing}
@@ -11,6 +12,21 @@ pub returns-clause-sessions : goal.returns-clause-sessions
 returns-clause-sessions c =
     let w = c.self.inside in
     of_world HasSerialSessions w.plan w.offices.items w.frames.items w.finished.items c.args.self.now c.self.invariant c.self.view_is (λ es. c.sessions_are_serial.ensures w.plan es c.self.invariant.accepted.consistent)
+
+pub returns-clause-tickets : goal.returns-clause-tickets
+returns-clause-tickets c =
+    let w = c.self.inside in
+    of_world HaveTheirTickets w.plan w.offices.items w.frames.items w.finished.items c.args.self.now c.self.invariant c.self.view_is (λ es. c.finished_have_their_tickets.ensures w.plan es c.self.invariant.accepted.consistent)
+
+pub returns-clause-rise : goal.returns-clause-rise
+returns-clause-rise c =
+    let w = c.self.inside in
+    of_world TicketsRise w.plan w.offices.items w.frames.items w.finished.items c.args.self.now c.self.invariant c.self.view_is (λ es. c.tickets_rise.ensures w.plan es c.self.invariant.accepted.consistent)
+
+pub returns-clause-offices : goal.returns-clause-offices
+returns-clause-offices c =
+    let w = c.self.inside in
+    of_world TellsEachOffice w.plan w.offices.items w.frames.items w.finished.items c.args.self.now c.self.invariant c.self.view_is (λ es. c.each_office_is_told.ensures w.plan es c.self.invariant.accepted.consistent)
 
 pub returns-clause-bottles : goal.returns-clause-bottles
 returns-clause-bottles c =
