@@ -1,0 +1,31 @@
+#!/bin/sh
+# Measures offices at UDP sockets of this machine, on as many threads as they have: the median of nine runs each, beside a plain
+# round trip of a datagram in the same run, which goes to another socket of the same thread and back. And counts the instructions
+# of a turn without work, the system's calls left out. Needs rt and valgrind, and four processors with no other work.
+#
+#   sh bench/live/run.sh
+set -eu
+here=$(cd "$(dirname "$0")" && pwd)
+top=$here/../..
+uses="office_runs socket_pump locked_office own_lock site_core session_language office_map"
+. "$top/bench/shared/crate.sh"
+built=$work/crates/$program/out/$program
+
+# The median of what nine runs with these words write.
+median() {
+    for _ in 1 2 3 4 5 6 7 8 9; do
+        "$built" "$@"
+    done | sort -n | sed -n 5p
+}
+
+trip=$(median trips 20000)
+alone=$(median alone 2000)
+echo "a round trip: $trip ns"
+echo "a session that fetches its bottle, alone on two offices: $alone ns, $((alone * 10 / trip)) tenths of a round trip"
+for offices in 2 4 16; do
+    echo "ring of $offices, 1024 sessions: $(median ring 1024 $offices) a second"
+    echo "$offices offices, all neighbours, 1024 sessions: $(median pairs 1024 $offices) a second"
+done
+for offices in 2 4 6 16; do
+    echo "a turn without work, $((offices - 1)) neighbours: $((($(instructions idle 10000 $offices) - $(instructions idle 0 $offices)) / 10000)) instructions"
+done
