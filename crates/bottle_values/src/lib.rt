@@ -19,7 +19,7 @@ use std::fmt;
 use thiserror::Error;
 
 /// The value of a record. It prints as its number, in decimal.
-#[derive(Clone, Copy, Debug, PartialEq, Eq)]
+#[derive(Clone, Copy, Debug, PartialEq, Eq, Hash)]
 pub struct Value {
     pub number: i64,
 }

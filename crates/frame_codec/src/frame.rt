@@ -12,7 +12,7 @@ pub const MAX_NUMBER: u64 = (1 << 48) - 1;
 
 /// A frame whose fields are in the format's ranges. It is data, with a message and its number, or an
 /// acknowledgement, with no message and the number 0.
-#[derive(Clone, Copy, Debug, PartialEq, Eq)]
+#[derive(Clone, Copy, Debug, PartialEq, Eq, Hash)]
 pub struct Frame {
     run: u32,
     from: u8,

@@ -13,7 +13,7 @@ pub const BOTTLE: u8 = 4;
 
 /// A message about the fork or one bottle of a pair. A bottle is named by its record's number.
 /// The default is what a place for messages holds while it has none.
-#[derive(Clone, Copy, Debug, Default, PartialEq, Eq)]
+#[derive(Clone, Copy, Debug, Default, PartialEq, Eq, Hash)]
 pub enum Msg {
     /// The fork's request token.
     #[default]
