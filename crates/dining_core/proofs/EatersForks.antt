@@ -17,7 +17,7 @@ use Rattle.bottle_values.proofs.Maps.{put_cases}
 no_true : false ≡ true → ⊥
 no_true e = absurd cc
 
-both_ways : {P : Type 0} (b : Bool) → b ≡ true → b ≡ false → P
+pub both_ways : {P : Type 0} (b : Bool) → b ≡ true → b ≡ false → P
 both_ways true e f = absurd cc
 both_ways false e f = absurd cc
 
@@ -64,6 +64,13 @@ after_run plan w (e ∷ es) h = after_run plan (happens plan w e) es (after_even
 pub eaters_have_their_forks : (plan : PlanValue) (es : List Event) (a : ℕ) → HasItsForks ((run plan (opening plan) es).diner a)
 eaters_have_their_forks plan es = after_run plan (opening plan) es (λ a e. absurd (no_true e))
 
+-- who has all forks has each neighbour's
+pub has_each : (plan : PlanValue) (es : List Event) (a v : ℕ) → IsConsistent plan → are_neighbours plan a v ≡ true →
+    list_all ((run plan (opening plan) es).diner a).held ((run plan (opening plan) es).diner a).neighbours ≡ true → ((run plan (opening plan) es).diner a).held v ≡ true
+has_each plan es a v c near all =
+    let d : Diner = (run plan (opening plan) es).diner a in
+    of_each d.held (are_neighbours plan a) (length plan.offices) v (subst (λ (ns : List ℕ). list_all d.held ns ≡ true) (neighbours_stay plan es a) all) (near_within plan a v c near) near
+
 pub neighbours_eat_apart : (plan : PlanValue) (es : List Event) (u v : ℕ) → IsConsistent plan → are_neighbours plan u v ≡ true →
     (is_eating ((run plan (opening plan) es).diner u).phase && is_eating ((run plan (opening plan) es).diner v).phase) ≡ false
 neighbours_eat_apart plan es u v h near = ⊎_elim (λ both. absurd (never both)) (λ apart. apart) (cases_Bool (is_eating (w.diner u).phase && is_eating (w.diner v).phase))
@@ -75,9 +82,7 @@ neighbours_eat_apart plan es u v h near = ⊎_elim (λ both. absurd (never both)
     places = each_has_one_place plan es h
 
     has : (x y : ℕ) → are_neighbours plan x y ≡ true → is_eating (w.diner x).phase ≡ true → (w.diner x).held y ≡ true
-    has x y n e = of_each (w.diner x).held (are_neighbours plan x) (length plan.offices) y
-        (subst (λ (ns : List ℕ). list_all (w.diner x).held ns ≡ true) (neighbours_stay plan es x) (eaters_have_their_forks plan es x e))
-        (near_within plan x y h n) n
+    has x y n e = has_each plan es x y h n (eaters_have_their_forks plan es x e)
 
     never : (is_eating (w.diner u).phase && is_eating (w.diner v).phase) ≡ true → ⊥
     never both =

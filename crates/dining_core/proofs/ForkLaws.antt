@@ -238,7 +238,7 @@ ring_after plan w (TokenComes a v) true q h p r = absurd (no_true q)
 ring_after plan w (ForkComes a v) true q h p r = absurd (no_true q)
 
 -- the events so far, and those to come
-run_more : (plan : PlanValue) (w : World) (es : List Event) (e : Event) → run plan w (es ++ e ∷ []) ≡ happens plan (run plan w es) e
+pub run_more : (plan : PlanValue) (w : World) (es : List Event) (e : Event) → run plan w (es ++ e ∷ []) ≡ happens plan (run plan w es) e
 run_more plan w [] e = refl
 run_more plan w (x ∷ es) e = run_more plan (happens plan w x) es e
 

@@ -5,3 +5,5 @@ pub mod ForkPlaces
 pub mod EaterLast
 pub mod ForkLaws
 pub mod EatersForks
+pub mod CleanForks
+pub mod Standstill

@@ -1,6 +1,7 @@
 //! Laws of all tables with the forks and request tokens on the way.
 
 ghost use Rattle.dining_core.specs.Worlds.{EachHasOnePlace, StrangersShareNothing, NeighboursStay, EatersHaveTheirForks, NeighboursEatApart, ForksStartDirty, OnlyEatingTurns, TheEaterComesLast, NeverARing, StartsInThePlansOrder, NoRingFromAnAcceptedPlan};
+ghost use Rattle.dining_core.specs.Standstill.{CleanForksAreForTheHungry, TheThirstyWaitForAnEater};
 
 /// After every list of events the fork of two neighbours is at one of them, or on the way, and so is its request token.
 pub fn each_has_one_place()
@@ -55,4 +56,15 @@ pub fn starts_in_the_plans_order()
 /// From every plan that is accepted, after every list of events, precedence has no ring.
 pub fn no_ring_from_an_accepted_plan()
     ensures { NoRingFromAnAcceptedPlan }
+{}
+
+/// After every list of events an office that has a clean fork is hungry.
+pub fn clean_forks_are_for_the_hungry()
+    ensures { CleanForksAreForTheHungry }
+{}
+
+/// Whichever offices are thirsty: from every plan that is accepted, after every list of events, where no office may do a
+/// rule, nothing is on the way and an office is thirsty, one that is thirsty eats.
+pub fn the_thirsty_wait_for_an_eater()
+    ensures { TheThirstyWaitForAnEater }
 {}

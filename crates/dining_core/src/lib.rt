@@ -6,7 +6,8 @@
 //!   `specs/refinement/Tables.antt`, says which office a table means.
 //! - [`laws`] has all tables with the forks and request tokens on the way (`specs/Worlds.antt`): each fork and each
 //!   token has one place, two neighbours never eat at once, from an accepted plan precedence never has a ring, and only
-//!   eating turns it, which puts the eater last.
+//!   eating turns it, which puts the eater last. Where all stand still (`specs/Standstill.antt`) and an office is
+//!   thirsty, one that is thirsty eats.
 //!
 //! No call takes memory but [`Table::open`]. It stands on `office_map`, `bottle_values` and `thiserror`.
 #![tactic(auto)]
