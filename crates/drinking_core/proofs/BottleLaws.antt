@@ -11,7 +11,7 @@ use Rattle.office_map.specs.declared.entries.RecordEntry.{RecordEntry}
 use Rattle.office_map.specs.PlanValue.{PlanValue, is_end, has_ends, lies_between, has_end, start_end, peer}
 use Rattle.office_map.proofs.RecordEnds.{has_peer, has_ends_both, between_cases}
 use Rattle.dining_core.specs.Worlds.{with_way, one_more}
-use Rattle.drinking_core.specs.Drinkers.{Drinker, BottleRule, Start, AskBottle, GiveBottle, Drink, Finish, is_thirsty, is_drinking, holds, may, act, started, finished, with_token, with_bottle, value_after, token_end, start_bottle, start_token}
+use Rattle.drinking_core.specs.Drinkers.{Drinker, BottleRule, Start, AskBottle, GiveBottle, Drink, Finish, Withdraw, is_thirsty, is_drinking, holds, may, act, started, finished, with_token, with_bottle, value_after, token_end, start_bottle, start_token}
 use Rattle.drinking_core.specs.Worlds.{World, opening, Event, Do, TokenComes, BottleComes, bottle_sent, done, bottle_taken, token_taken, does, happens, run, Spot, With, Toward, is_with, is_toward, is_at_ends, IsBottleAt, IsTokenAt, HasItsSpots, finishes, HasValue}
 use Rattle.drinking_core.proofs.UniqueSpot.{changed, unchanged, way_there, way_elsewhere, same_at, moved_off, moved_on, none_on_way, present, found_first, found_one, one_spot, written}
 use Rattle.drinking_core.proofs.StayingParts.{peers_after}
@@ -126,6 +126,7 @@ ends_one (AskBottle r) = false
 ends_one (GiveBottle r forks) = false
 ends_one Drink = false
 ends_one (Finish w) = true
+ends_one Withdraw = false
 
 bottle_rule : (P : Spot → Type 0) (w : World) (a r : ℕ) (rule : BottleRule) (spot : Spot) (v : Value) → Leads P w r → ends_one rule ≡ false → may (w.drinker a) rule ≡ true → IsBottleAt w r spot v → P spot → Moved P (done w a rule) r v
 bottle_rule P w a r (Start s) spot v leads f g at p = record { spot = spot; at = bottle_still w a (started (w.drinker a) s) w.bottles_on_way w.tokens_on_way r spot v (ap (λ (b : ℕ → Option Value). b r) (started_bottle (w.drinker a) s)) (λ b c. refl) at; end = p }
@@ -137,6 +138,7 @@ bottle_rule P w a r (AskBottle q) spot v leads f g at p = record {
 bottle_rule P w a r (GiveBottle q forks) spot v leads f g at p = bottle_gives P w a q r forks spot v leads g at p
 bottle_rule P w a r Drink spot v leads f g at p = record { spot = spot; at = bottle_still w a (act (w.drinker a) Drink) w.bottles_on_way w.tokens_on_way r spot v refl (λ b c. refl) at; end = p }
 bottle_rule P w a r (Finish ws) spot v leads f g at p = absurd (no_true (sym f))
+bottle_rule P w a r Withdraw spot v leads f g at p = record { spot = spot; at = bottle_still w a (act (w.drinker a) Withdraw) w.bottles_on_way w.tokens_on_way r spot v refl (λ b c. refl) at; end = p }
 
 if_done : (P : Spot → Type 0) (plan : PlanValue) (w : World) (a r : ℕ) (rule : BottleRule) (spot : Spot) (v : Value) → Leads P w r → ends_one rule ≡ false → IsBottleAt w r spot v → P spot → Moved P (cond (does plan w a rule) (done w a rule) w) r v
 if_done P plan w a r rule spot v leads f at p =
@@ -187,6 +189,7 @@ bottle_after P plan w (Do a (Start s)) r spot v leads f at p = if_done P plan w 
 bottle_after P plan w (Do a (AskBottle q)) r spot v leads f at p = if_done P plan w a r (AskBottle q) spot v leads refl at p
 bottle_after P plan w (Do a (GiveBottle q forks)) r spot v leads f at p = if_done P plan w a r (GiveBottle q forks) spot v leads refl at p
 bottle_after P plan w (Do a Drink) r spot v leads f at p = if_done P plan w a r Drink spot v leads refl at p
+bottle_after P plan w (Do a Withdraw) r spot v leads f at p = if_done P plan w a r Withdraw spot v leads refl at p
 
 pub values_stay : (plan : PlanValue) (w : World) (e : Event) (r : ℕ) (v : Value) → finishes plan w e ≡ false → HasValue w r v → HasValue (happens plan w e) r v
 values_stay plan w e r v f h =
@@ -257,6 +260,7 @@ token_rule P w a r (GiveBottle q forks) spot leads g at p = record {
 }
 token_rule P w a r Drink spot leads g at p = record { spot = spot; at = token_still w a (act (w.drinker a) Drink) w.bottles_on_way w.tokens_on_way r spot refl (λ b c. refl) at; end = p }
 token_rule P w a r (Finish ws) spot leads g at p = record { spot = spot; at = token_still w a (finished (w.drinker a) ws) w.bottles_on_way w.tokens_on_way r spot (ap (λ (t : ℕ → Bool). t r) (finished_token (w.drinker a) ws)) (λ b c. refl) at; end = p }
+token_rule P w a r Withdraw spot leads g at p = record { spot = spot; at = token_still w a (act (w.drinker a) Withdraw) w.bottles_on_way w.tokens_on_way r spot refl (λ b c. refl) at; end = p }
 
 token_comes : (P : Spot → Type 0) (w : World) (a u q r n : ℕ) (spot : Spot) → Leads P w r → w.tokens_on_way q u a ≡ n → IsTokenAt w r spot → P spot → TokenMoved P (token_taken w a u q n) r
 token_comes P w a u q r zero spot leads e at p = record { spot = spot; at = at; end = p }
@@ -341,6 +345,7 @@ bottle_ends plan w e false r spot v f leads at p = (v, bottle_after (λ s. is_at
 bottle_ends plan w (Do a (Finish None)) true r spot v f leads at p = absurd (no_true (sym (never (nat_lt a (length plan.offices)) (is_drinking (w.drinker a).phase)) ∙ f))
 bottle_ends plan w (Do a (Finish (Some ws))) true r spot v f leads at p = (cond (is_with spot a) (value_after ws r v) v, record { spot = spot; at = finishing_writes plan w a ws r spot v f at; end = p })
 bottle_ends plan w (Do a (Start s)) true r spot v f leads at p = absurd (no_true f)
+bottle_ends plan w (Do a Withdraw) true r spot v f leads at p = absurd (no_true f)
 bottle_ends plan w (Do a (AskBottle q)) true r spot v f leads at p = absurd (no_true f)
 bottle_ends plan w (Do a (GiveBottle q forks)) true r spot v f leads at p = absurd (no_true f)
 bottle_ends plan w (Do a Drink) true r spot v f leads at p = absurd (no_true f)

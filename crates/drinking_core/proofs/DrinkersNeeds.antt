@@ -6,7 +6,7 @@ use Rattle.std.proofs.lemmas.Bool.{cond_both, eqb-true, and_parts, and_from}
 use Rattle.bottle_values.specs.declared.Value.{Value}
 use Rattle.bottle_values.specs.Maps.{put}
 use Rattle.office_map.specs.PlanValue.{PlanValue}
-use Rattle.drinking_core.specs.Drinkers.{Drinker, BottleRule, Start, AskBottle, GiveBottle, Drink, Finish, is_thirsty, is_drinking, is_served, holds, may, act, with_token, with_bottle}
+use Rattle.drinking_core.specs.Drinkers.{Drinker, BottleRule, Start, AskBottle, GiveBottle, Drink, Finish, Withdraw, is_thirsty, is_drinking, is_served, holds, may, act, with_token, with_bottle}
 use Rattle.drinking_core.specs.Worlds.{World, opening, Event, Do, TokenComes, BottleComes, done, bottle_taken, token_taken, does, happens, run, HasWhatItNeeds}
 
 no_true : false ≡ true → ⊥
@@ -46,6 +46,7 @@ needs_after d (GiveBottle r forks) g h = λ e.
 needs_after d Drink g h = λ e. (and_parts (is_thirsty d.phase) (list_all (is_served d) d.records) g).1
 needs_after d (Finish None) g h = h
 needs_after d (Finish (Some ws)) g h = λ e. absurd (no_true e)
+needs_after d Withdraw g h = λ e. absurd (no_true e)
 
 needs_bottle : (d : Drinker) (r : ℕ) (x : Value) → HasWhatItNeeds d → HasWhatItNeeds (with_bottle d r x)
 needs_bottle d r x h = λ e. all_more (is_served d) (is_served (with_bottle d r x)) (λ q s. came (q == r) (d.needed q) (d.bottle q) x s) d.records (h e)

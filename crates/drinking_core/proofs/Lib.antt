@@ -9,3 +9,4 @@ pub mod UnknownRecords
 pub mod BottlePlaces
 pub mod DrinkersNeeds
 pub mod FreedRecords
+pub mod Standstill

@@ -154,14 +154,25 @@ freed_at (p ∷ ps) (suc q) = freed_at ps q
 pub none_needed : (ps : List SharedBottle) (q : ℕ) → needed_in (map freed_place ps) q ≡ false
 none_needed ps q = ap (λ (p : SharedBottle). p.needed) (freed_at ps q)
 
+-- a bar that needs nothing any more
+pub session_is_withdrawn : (records : List ℕ) (ps : List SharedBottle) →
+    drinker_of (record { records = records; phase = Tranquil; places = map freed_place ps }) ≡ record { records = records; phase = Tranquil; needed = λ r. false; bottle = bottle_in ps; token = token_in ps; peer = peer_in ps }
+session_is_withdrawn records ps =
+    made_same records Tranquil _ _ _ _ _ _ _ _
+    (fun_ext (none_needed ps))
+    (fun_ext (λ q. ap (λ (p : SharedBottle). p.bottle) (freed_at ps q)))
+    (fun_ext (λ q. ap (λ (p : SharedBottle). p.token) (freed_at ps q)))
+    (fun_ext (λ q. ap (λ (p : SharedBottle). p.peer) (freed_at ps q)))
+
 pub session_ends : (records : List ℕ) (ws : List (ℕ × Value)) (ps : List SharedBottle) →
     drinker_of (record { records = records; phase = Tranquil; places = map freed_place (with_writes ws ps) }) ≡ record { records = records; phase = Tranquil; needed = λ r. false; bottle = λ r. option_map (value_after ws r) (bottle_in ps r); token = token_in ps; peer = peer_in ps }
 session_ends records ws ps =
-    made_same records Tranquil _ _ _ _ _ _ _ _
-    (fun_ext (none_needed (with_writes ws ps)))
-    (fun_ext (λ q. ap (λ (p : SharedBottle). p.bottle) (freed_at (with_writes ws ps) q) ∙ written_bottle ws ps q))
-    (fun_ext (λ q. ap (λ (p : SharedBottle). p.token) (freed_at (with_writes ws ps) q) ∙ kept_written (λ (p : SharedBottle). p.token) (λ v p. refl) ws ps q))
-    (fun_ext (λ q. ap (λ (p : SharedBottle). p.peer) (freed_at (with_writes ws ps) q) ∙ kept_written (λ (p : SharedBottle). p.peer) (λ v p. refl) ws ps q))
+    session_is_withdrawn records (with_writes ws ps)
+    ∙ made_same records Tranquil _ _ _ _ _ _ _ _
+    refl
+    (fun_ext (written_bottle ws ps))
+    (fun_ext (kept_written (λ (p : SharedBottle). p.token) (λ v p. refl) ws ps))
+    (fun_ext (kept_written (λ (p : SharedBottle). p.peer) (λ v p. refl) ws ps))
 
 pub kept_end : (records : List ℕ) (ph : Phase) (ps ps' : List SharedBottle) (ws : List (ℕ × Value)) (m : ℕ) → IsBarOf records ph ps m → ps' ≡ map freed_place (with_writes ws ps) → IsBarOf records Tranquil ps' 0
 kept_end records ph ps ps' ws m k is = record {

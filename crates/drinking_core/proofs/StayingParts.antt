@@ -3,7 +3,7 @@ use Rattle.std.proofs.Common.{◌≡◌, ℕ, zero, suc, List, [], ◌∷◌, No
 use Rattle.std.proofs.lemmas.Bool.{cond_both}
 use Rattle.bottle_values.specs.declared.Value.{Value}
 use Rattle.office_map.specs.PlanValue.{PlanValue, records_of, peer}
-use Rattle.drinking_core.specs.Drinkers.{Drinker, BottleRule, Start, AskBottle, GiveBottle, Drink, Finish, act, with_token, with_bottle}
+use Rattle.drinking_core.specs.Drinkers.{Drinker, BottleRule, Start, AskBottle, GiveBottle, Drink, Finish, Withdraw, act, with_token, with_bottle}
 use Rattle.drinking_core.specs.Worlds.{World, opening, Event, Do, TokenComes, BottleComes, done, does, bottle_taken, token_taken, happens, run}
 use Rattle.drinking_core.proofs.UniqueSpot.{unchanged}
 
@@ -48,6 +48,7 @@ ends_stay = record { rule = of; token = λ d r. refl; bottle = λ d r x. refl }
     of d Drink = refl
     of d (Finish None) = refl
     of d (Finish (Some ws)) = refl
+    of d Withdraw = refl
 
 pub peers_after : (plan : PlanValue) (w : World) (e : Event) (a : ℕ) → ((happens plan w e).drinker a).peer ≡ (w.drinker a).peer
 peers_after plan w e a = ap (λ (p : List ℕ × (ℕ → ℕ)). p.1) (after_event ends_of ends_stay plan w e a)

@@ -8,7 +8,7 @@ use Rattle.bottle_values.specs.Maps.{put}
 use Rattle.bottle_values.proofs.Maps.{put_cases}
 use Rattle.office_map.specs.PlanValue.{PlanValue}
 use Rattle.dining_core.specs.Worlds.{with_way, one_more}
-use Rattle.drinking_core.specs.Drinkers.{Drinker, BottleRule, Start, AskBottle, GiveBottle, Drink, Finish, is_thirsty, is_drinking, holds, may, act, with_token, with_bottle, value_after, start_bottle, start_token}
+use Rattle.drinking_core.specs.Drinkers.{Drinker, BottleRule, Start, AskBottle, GiveBottle, Drink, Finish, Withdraw, is_thirsty, is_drinking, holds, may, act, with_token, with_bottle, value_after, start_bottle, start_token}
 use Rattle.drinking_core.specs.Worlds.{World, opening, Event, Do, TokenComes, BottleComes, bottle_sent, done, does, bottle_taken, token_taken, happens, run, IsNowhere}
 
 no_true : false ≡ true → ⊥
@@ -61,6 +61,7 @@ after_rule w a (GiveBottle q forks) r g h =
 after_rule w a Drink r g h = put_nowhere w a (act (w.drinker a) Drink) w.bottles_on_way w.tokens_on_way r h (h.bottle a) (h.token a) h.bottles_on_way h.tokens_on_way
 after_rule w a (Finish None) r g h = put_nowhere w a (act (w.drinker a) (Finish None)) w.bottles_on_way w.tokens_on_way r h (h.bottle a) (h.token a) h.bottles_on_way h.tokens_on_way
 after_rule w a (Finish (Some ws)) r g h = put_nowhere w a (act (w.drinker a) (Finish (Some ws))) w.bottles_on_way w.tokens_on_way r h (ap (option_map (value_after ws r)) (h.bottle a)) (h.token a) h.bottles_on_way h.tokens_on_way
+after_rule w a Withdraw r g h = put_nowhere w a (act (w.drinker a) Withdraw) w.bottles_on_way w.tokens_on_way r h (h.bottle a) (h.token a) h.bottles_on_way h.tokens_on_way
 
 after_token : (w : World) (a v q n r : ℕ) → w.tokens_on_way q v a ≡ n → IsNowhere w r → IsNowhere (token_taken w a v q n) r
 after_token w a v q zero r e h = h

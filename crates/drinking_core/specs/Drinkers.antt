@@ -20,13 +20,15 @@ pub record Drinker : Type 0 where
   pub peer : ℕ → ℕ
 
 -- the rules: Start with the records of the first waiting session, if one waits; GiveBottle with the neighbours whose
--- fork is held; Finish with what the session wrote, if its work has ended
+-- fork is held; Finish with what the session wrote, if its work has ended; Withdraw takes a session back that waits for
+-- its bottles
 pub data BottleRule : Type 0 where
   Start : (session : Option (List ℕ)) → BottleRule
   AskBottle : (r : ℕ) → BottleRule
   GiveBottle : (r : ℕ) (forks : ℕ → Bool) → BottleRule
   Drink : BottleRule
   Finish : (writes : Option (List (ℕ × Value))) → BottleRule
+  Withdraw : BottleRule
 
 abbrev pub is_tranquil : Phase → Bool
 is_tranquil Tranquil = true
@@ -57,6 +59,7 @@ may d (AskBottle r) = is_thirsty d.phase && (d.needed r && (not (holds d r) && d
 may d (GiveBottle r forks) = d.token r && (holds d r && not (d.needed r && (is_drinking d.phase || forks (d.peer r))))
 may d Drink = is_thirsty d.phase && list_all (is_served d) d.records
 may d (Finish writes) = is_drinking d.phase && is_some writes
+may d Withdraw = is_thirsty d.phase
 
 -- the value of a record after these writes
 abbrev pub value_after : List (ℕ × Value) → ℕ → Value → Value
@@ -78,6 +81,7 @@ act d (AskBottle r) = record d { token = put d.token r false }
 act d (GiveBottle r forks) = record d { bottle = put d.bottle r None }
 act d Drink = record d { phase = Drinking }
 act d (Finish writes) = finished d writes
+act d Withdraw = record d { phase = Tranquil; needed = λ r. false }
 
 -- a request token that comes is held
 abbrev pub with_token : Drinker → ℕ → Drinker

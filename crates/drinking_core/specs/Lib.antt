@@ -1,3 +1,4 @@
 pub mod Drinkers
 pub mod Worlds
+pub mod Standstill
 pub mod refinement

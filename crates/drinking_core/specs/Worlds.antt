@@ -8,7 +8,7 @@ use Rattle.office_map.specs.declared.entries.RecordEntry.{RecordEntry}
 use Rattle.office_map.specs.PlanValue.{PlanValue, are_neighbours, records_of, is_end, has_ends, peer, start_end}
 use Rattle.office_map.specs.Consistency.{IsConsistent}
 use Rattle.dining_core.specs.Worlds.{with_way, one_more, places}
-use Rattle.drinking_core.specs.Drinkers.{Drinker, BottleRule, Start, AskBottle, GiveBottle, Drink, Finish, is_drinking, is_served, holds, may, act, with_token, with_bottle, value_after, opened}
+use Rattle.drinking_core.specs.Drinkers.{Drinker, BottleRule, Start, AskBottle, GiveBottle, Drink, Finish, Withdraw, is_drinking, is_served, holds, may, act, with_token, with_bottle, value_after, opened}
 
 -- each office; and of each record the bottles, with their values and the first one first, and how many request tokens
 -- an office sent to another, who hasn't taken them
@@ -39,6 +39,7 @@ bottles_after way a d (AskBottle r) = way
 bottles_after way a d (GiveBottle r forks) = bottle_sent way r a (d.peer r) (d.bottle r)
 bottles_after way a d Drink = way
 bottles_after way a d (Finish writes) = way
+bottles_after way a d Withdraw = way
 
 -- and so does the token of a bottle that is asked for
 abbrev pub tokens_after : (ℕ → ℕ → ℕ → ℕ) → ℕ → Drinker → BottleRule → ℕ → ℕ → ℕ → ℕ
@@ -47,6 +48,7 @@ tokens_after way a d (AskBottle r) = put way r (one_more (way r) a (d.peer r))
 tokens_after way a d (GiveBottle r forks) = way
 tokens_after way a d Drink = way
 tokens_after way a d (Finish writes) = way
+tokens_after way a d Withdraw = way
 
 abbrev pub done : World → ℕ → BottleRule → World
 done w a rule = record {
@@ -159,6 +161,7 @@ finishes plan w (Do a (AskBottle r)) = false
 finishes plan w (Do a (GiveBottle r forks)) = false
 finishes plan w (Do a Drink) = false
 finishes plan w (Do a (Finish writes)) = does plan w a (Finish writes)
+finishes plan w (Do a Withdraw) = false
 finishes plan w (TokenComes a v r) = false
 finishes plan w (BottleComes a v r) = false
 

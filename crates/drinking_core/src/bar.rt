@@ -4,7 +4,7 @@ ghost use Rattle.std.specs.Prelude.{◌≡◌, ◌<◌, ◌↔◌, length, IsErr
 ghost use Rattle.std.specs.List.{list_all};
 ghost use Rattle.std.specs.Option.{ForSome, option_copied};
 ghost use Rattle.dining_core.specs.refinement.Tables.{diner_of};
-ghost use Rattle.drinking_core.specs.Drinkers.{Start, AskBottle, GiveBottle, Drink, Finish, may, act, with_token, with_bottle, is_served, is_drinking, holds, opened};
+ghost use Rattle.drinking_core.specs.Drinkers.{Start, AskBottle, GiveBottle, Drink, Finish, Withdraw, may, act, with_token, with_bottle, is_served, is_drinking, holds, opened};
 ghost use Rattle.drinking_core.specs.refinement.Bars.{drinker_of};
 ghost use Rattle.bottle_values.specs.Lists.{is_among};
 
@@ -129,6 +129,13 @@ impl Bar {
         self.phase.is_thirsty() && self.has_needed()
     }
 
+    /// Whether [`Bar::withdraw`] would be done now.
+    pub fn may_withdraw(&self) -> bool
+        ensures { result ≡ may (drinker_of self.now) Withdraw }
+    {
+        self.phase.is_thirsty()
+    }
+
     /// A tranquil office begins with the first waiting session, which needs these records; none where no session waits.
     pub fn start(&mut self, session: Option<&[RecordId]>) -> Result<(), NotNow>
         requires { ForSome session (λ rs. All (λ r. is_among (drinker_of self.old).records r ≡ true) rs.now) }
@@ -228,6 +235,22 @@ impl Bar {
         }
         self.phase = Phase::Tranquil;
         places::write_all(&mut self.places, writes);
+        places::free_all(&mut self.places, &self.records);
+        self.missing = 0;
+        Ok(())
+    }
+
+    /// A thirsty office's session is withdrawn: the office is tranquil again and needs no record. A bottle that was asked
+    /// for still comes.
+    pub fn withdraw(&mut self) -> Result<(), NotNow>
+        ensures not_now { IsErr result ↔ (may (drinker_of self.old) Withdraw ≡ false) }
+        ensures done { OnOk result (drinker_of self.new ≡ act (drinker_of self.old) Withdraw) }
+        ensures unchanged { OnErr result (self.new ≡ self.old) }
+    {
+        if !self.may_withdraw() {
+            return Err(NotNow);
+        }
+        self.phase = Phase::Tranquil;
         places::free_all(&mut self.places, &self.records);
         self.missing = 0;
         Ok(())

@@ -1,6 +1,7 @@
 //! Laws of all bars with the bottles and request tokens on the way.
 
 ghost use Rattle.drinking_core.specs.Worlds.{EachHasItsSpots, EachHasOnePlace, StrangersShareNothing, UnknownRecordsAreNowhere, RecordsStay, PeersStay, NoOtherSpot, BottlesStartWithTheirValues, ValuesStay, FinishingWrites, DrinkersHaveWhatTheyNeed};
+ghost use Rattle.drinking_core.specs.Standstill.{TheThirstyLackAFork};
 
 /// After every list of events the bottle of each record is with one of its ends or on the way from one to the other,
 /// and so is the bottle's request token.
@@ -57,4 +58,10 @@ pub fn finishing_writes()
 /// After every list of events an office that drinks has the bottle of each of its records that its session needs.
 pub fn drinkers_have_what_they_need()
     ensures { DrinkersHaveWhatTheyNeed }
+{}
+
+/// Whichever forks each office holds: after every list of events, where no office drinks or may do a rule, and nothing is
+/// on the way, a thirsty office lacks a fork.
+pub fn the_thirsty_lack_a_fork()
+    ensures { TheThirstyLackAFork }
 {}

@@ -5,7 +5,8 @@
 //!   exactly where the guard is false (clause `not_now`), and else its effect (clause `done`). The rows are `may` and
 //!   `act` in `specs/Drinkers.antt`; `drinker_of`, in `specs/refinement/Bars.antt`, says which office a bar means.
 //! - [`laws`] has all bars with the bottles and request tokens on the way (`specs/Worlds.antt`): each bottle and each
-//!   token has one place, and only the end of a session changes the value of a bottle.
+//!   token has one place, and only the end of a session changes the value of a bottle. Where all stand still
+//!   (`specs/Standstill.antt`), a thirsty office lacks a fork.
 //!
 //! No call takes memory but [`Bar::open`]. It stands on `dining_core`, `office_map` and `bottle_values`.
 #![tactic(auto)]

@@ -87,6 +87,8 @@ enum Rule {
     FinishesNone,
     /// It ends with the first so many of these writes.
     Finishes(usize, (u16, i64), (u16, i64), (u16, i64)),
+    /// The session is taken back.
+    Withdraws,
 }
 
 #[derive(Clone, Copy)]
@@ -109,11 +111,12 @@ use Question::{
 };
 use Rule::{
     AsksBottle, Drinks, Finishes, FinishesNone, GivesBottle, Starts, StartsEmpty, StartsNone,
+    Withdraws,
 };
 use Step::{Asks, BottleComes, Does, ForkGoesOver, Opens, TokenComes};
 
 /// Where a step is, and whether it is done, or the answer to the question.
-static STEPS: [(Office, Step, bool); 86] = [
+static STEPS: [(Office, Step, bool); 112] = [
     // A bottle starts where the plan says.
     (A, Opens, true),
     (A, Asks(Records), true),
@@ -208,6 +211,35 @@ static STEPS: [(Office, Step, bool); 86] = [
     (A, Does(Finishes(1, (0, 9), (0, 0), (0, 0))), true),
     (A, Asks(HasValue(0, 9)), true),
     (A, Does(GivesBottle(0)), true),
+    // A session that waits for its bottles is withdrawn: nothing is needed, and what was asked for comes.
+    (A, Opens, true),
+    (A, Does(Withdraws), false),
+    (A, Does(Starts(1)), true),
+    (A, Does(AsksBottle(1)), true),
+    (A, Does(Withdraws), true),
+    (A, Asks(Tranquil), true),
+    (A, Asks(Needs(1)), false),
+    (A, Asks(HasToken(1)), false),
+    (A, Asks(HasValue(0, 100)), true),
+    (A, Does(Withdraws), false),
+    (A, Does(AsksBottle(1)), false),
+    (A, BottleComes(1, 5), true),
+    (A, Asks(HasValue(1, 5)), true),
+    (A, Does(Starts(1)), true),
+    (A, Asks(HasNeeded), true),
+    // One that works isn't.
+    (A, Does(Drinks), true),
+    (A, Does(Withdraws), false),
+    (A, Asks(Needs(1)), true),
+    (A, Does(Finishes(0, (0, 0), (0, 0), (0, 0))), true),
+    (A, Does(Withdraws), false),
+    // A bottle that was kept for a withdrawn session is given.
+    (A, Opens, true),
+    (A, TokenComes(0), true),
+    (A, Does(Starts(0)), true),
+    (A, Does(GivesBottle(0)), false),
+    (A, Does(Withdraws), true),
+    (A, Does(GivesBottle(0)), true),
 ];
 
 #[test]
@@ -266,6 +298,7 @@ fn does(rt: &impl Abort, seat: &mut Seat, rule: Rule) -> bool {
             let writes = [entry(first), entry(second), entry(third)];
             finishes(rt, &mut seat.bar, count, &writes)
         }
+        Rule::Withdraws => seat.bar.withdraw().is_ok(),
     }
 }
 
