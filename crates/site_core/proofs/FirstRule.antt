@@ -1,6 +1,6 @@
 -- The first rule of a list that may be done, looked for one after the other.
 use Rattle.std.proofs.Common.{◌≡◌, ℕ, zero, suc, ◌+◌, ◌<◌, Bool, true, false, cond, List, [], ◌∷◌, ◌++◌, length, map, take, get_or, Option, None, Some, refl, sym, ap, ◌∙◌, arith}
-use Rattle.std.specs.Prelude.{find}
+use Rattle.std.specs.Prelude.{◌&&◌, find}
 use Rattle.std.proofs.lemmas.List.{take_more, map-append}
 
 pub skipped : {A : Type 0} (p : A → Bool) (x : A) (xs : List A) → find p (x ∷ xs) ≡ None → (p x ≡ false) × (find p xs ≡ None)
@@ -50,3 +50,14 @@ not_yet p f xs i x d lt is none e =
     ap (λ l. find p (map f l)) (take_more xs i d lt) ∙ ap (find p) (map-append f (take i xs) (get_or xs i d ∷ []))
     ∙ find_append p (map f (take i xs)) (f (get_or xs i d) ∷ []) none
     ∙ ap (λ b. cond b (Some (f (get_or xs i d))) None) (ap (λ z. p (f z)) (sym is) ∙ e)
+
+-- where no rule of a kind may be done, none is found
+pub none_found : {A : Type 0} (p : A → Bool) (f : ℕ → A) (xs : List ℕ) → ((x : ℕ) → p (f x) ≡ false) → find p (map f xs) ≡ None
+none_found p f [] barred = refl
+none_found p f (x ∷ xs) barred = ap (λ b. cond b (Some (f x)) (find p (map f xs))) (barred x) ∙ none_found p f xs barred
+
+-- a guard of three parts is false where its second part is
+pub barred : (a b c : Bool) → b ≡ false → (a && (b && c)) ≡ false
+barred true false c h = refl
+barred false false c h = refl
+barred a true c h = absurd cc

@@ -177,6 +177,15 @@ like_drinking k = record { records = refl; peer = refl; held = same }
     same d u (Bottle r) = refl
     same d u (BottleToken r) = refl
 
+pub like_withdrawn : (k : Drinker) → IsLike k (bottles.act k bottles.Withdraw)
+like_withdrawn k = record { records = refl; peer = refl; held = same }
+  where
+    same : (d : Diner) (u : ℕ) (t : Thing) → held_by d (bottles.act k bottles.Withdraw) u t ≡ held_by d k u t
+    same d u Fork = refl
+    same d u ForkToken = refl
+    same d u (Bottle r) = refl
+    same d u (BottleToken r) = refl
+
 pub like_finished : (k : Drinker) (writes : Option (List (ℕ × Value))) → IsLike k (bottles.act k (bottles.Finish writes))
 like_finished k None = record { records = refl; peer = refl; held = λ d u t. refl }
 like_finished k (Some ws) = record { records = refl; peer = refl; held = same }

@@ -5,12 +5,14 @@ pub mod PlanFacts
 pub mod PairsOpening
 pub mod FramesComing
 pub mod KeptMessages
+pub mod Withdrawing
 pub mod SessionsAreOurs
 pub mod OfficeLimits
 pub mod OfficeSteps
 pub mod FirstRule
 pub mod NoneNext
 pub mod SessionsInOrder
+pub mod WithdrawnSessions
 pub mod OfficeCrosses
 mod LinksGrow
 mod WantOfRoom

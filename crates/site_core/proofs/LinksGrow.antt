@@ -27,6 +27,7 @@ use Rattle.site_core.specs.Offices.{Office, Answer, may, act, is_ours, framed, f
 use Rattle.site_core.specs.Journals.{next_or, after, run_of, office_of}
 use Rattle.site_core.specs.Growing.{Grows, LinksOnlyGrow}
 use Rattle.site_core.proofs.KeptMessages.{through_taking}
+use Rattle.site_core.proofs.Withdrawing.{either_withdrawn, after_withdrawal}
 
 same : (l : LinkState) → Grows l l
 same l = record { acked = omega arith; used = omega arith; taken = omega arith }
@@ -136,6 +137,9 @@ event_grows plan me o (event.Took f) v = go (frame_fault plan me o.pairs f)
     go : (x : Option ChannelFault) → Onward o v (unless_faulty plan me o f x)
     go None = taking_grows plan me o.pairs f v
     go (Some fault) = same (o.pairs.link v)
+event_grows plan me o (event.Withdraw t) v =
+    let l = o.pairs.link v in
+    after_withdrawal (λ (x : Office). Grows l (x.pairs.link v)) o t (same l) (either_withdrawn (λ (x : Office). Grows l (x.pairs.link v)) o t (λ e. same l) (λ e. same l))
 
 -- ---- journals
 

@@ -1,10 +1,10 @@
 -- What an office can have done by the end of its journal: no link used more numbers than there are entries, no more tickets
 -- were given, and the sessions that wait are of the office.
 use Rattle.std.proofs.Common.{◌≡◌, ℕ, zero, suc, ◌+◌, ◌-◌, ◌≤◌, ◌<◌, Bool, true, false, cond, List, [], ◌∷◌, ◌++◌, length, drop, Option, None, Some, Ok, Err, refl, sym, ap, subst, arith, length-append, ⊎_elim}
-use Rattle.std.specs.Prelude.{nat_lt, nat_le, not, All}
+use Rattle.std.specs.Prelude.{◌==◌, nat_lt, nat_le, not, All}
 use Rattle.std.proofs.lemmas.Bool.{eq-eqb, ne_eqb, cases_eq, cases_lt}
 use Rattle.std.proofs.lemmas.Bool.Decides.{nat_tests}
-use Rattle.std.proofs.lemmas.List.Elements.{All-tail, All-cons, All-append}
+use Rattle.std.proofs.lemmas.List.Elements.{All-tail, All-cons, All-append, All-filter}
 use Rattle.bottle_values.specs.Maps.{put}
 use Rattle.frame_codec.specs.declared.message.Msg.{Msg}
 use Rattle.frame_codec.specs.Frame.{Fields}
@@ -32,10 +32,11 @@ use Rattle.site_core.specs.Pairs.{Pairs, queued_to, sent, fork_sends, bottle_sen
 use Rattle.site_core.specs.Pairs as pairs
 use Rattle.site_core.specs.Agenda.{Agenda, submitted, started, finished}
 use Rattle.site_core.specs.Agenda as agenda
-use Rattle.site_core.specs.Offices.{Office, may, act, is_ours, submit, framed, frame_on, unless_faulty, answer, opened}
+use Rattle.site_core.specs.Offices.{Office, may, act, withdrawn, is_ours, submit, framed, frame_on, unless_faulty, answer, opened}
 use Rattle.site_core.specs.Journals.{Site, next_or, after, run_of, office_of, noted, AreAccepted, IsLegal}
 use Rattle.site_core.proofs.FramesComing.{passed}
 use Rattle.site_core.proofs.KeptMessages.{through_taking}
+use Rattle.site_core.proofs.Withdrawing.{either_withdrawn, after_withdrawal}
 
 -- ---- the end of a journal
 
@@ -182,6 +183,15 @@ by_rule plan me n o rule.Drink w = record { numbers = more n o.pairs.link w.numb
 by_rule plan me n o (rule.Work k) w = record { numbers = more n o.pairs.link w.numbers; tickets = omega (arith, w.tickets); ours = w.ours }
 by_rule plan me n o rule.Finish w = record { numbers = more n o.pairs.link w.numbers; tickets = omega (arith, w.tickets); ours = w.ours }
 
+by_withdrawal : (plan : PlanValue) (me n : ℕ) (o : Office) (t : ℕ) → IsWithin plan me n o → IsWithin plan me (n + 1) (withdrawn o t)
+by_withdrawal plan me n o t w = either_withdrawn (IsWithin plan me (n + 1)) o t
+    (λ e. record {
+      numbers = more n o.pairs.link w.numbers;
+      tickets = omega (arith, w.tickets);
+      ours = All-filter (λ (s : Session). not (s.ticket == t)) (λ (s : Session). is_ours plan me s.program ≡ true) o.agenda.queue w.ours;
+    })
+    (λ e. record { numbers = more n o.pairs.link w.numbers; tickets = omega (arith, w.tickets); ours = w.ours })
+
 by_event : (plan : PlanValue) (me n : ℕ) (o : Office) (e : Event) → IsWithin plan me n o → IsWithin plan me (n + 1) (after plan me o e)
 by_event plan me n o (event.Submit p) w = after_submit plan me n o p w
 by_event plan me n o (event.Do r) w = go (may plan me o r)
@@ -203,6 +213,7 @@ by_event plan me n o (event.Took f) w = go (frame_fault plan me o.pairs f) refl
     go : (x : Option ChannelFault) → frame_fault plan me o.pairs f ≡ x → IsWithin plan me (n + 1) (next_or o (unless_faulty plan me o f x))
     go None e = record { numbers = more n (pairs.after_taking plan me o.pairs f).link (after_taking plan me n o.pairs f w.numbers e); tickets = omega (arith, w.tickets); ours = w.ours }
     go (Some x) e = loosen plan me n (n + 1) o (omega arith) w
+by_event plan me n o (event.Withdraw t) w = after_withdrawal (IsWithin plan me (n + 1)) o t (loosen plan me n (n + 1) o (omega arith) w) (by_withdrawal plan me n o t w)
 
 by_run : (plan : PlanValue) (me n : ℕ) (o : Office) (xs : List Entry) → IsWithin plan me n o → IsWithin plan me (n + length xs) (run_of plan me o xs)
 by_run plan me n o [] w = loosen plan me n (n + 0) o (omega arith) w

@@ -7,7 +7,6 @@ use Rattle.site_core.specs.Limits.{most_entries}
 use Rattle.site_core.specs.declared.event.Event.{Event}
 use Rattle.site_core.specs.declared.event.Event.TheVariants as event
 use Rattle.site_core.specs.declared.event.Entry.{Entry}
-use Rattle.site_core.specs.declared.rule.Rule.{Rule}
 use Rattle.site_core.specs.declared.session.Session.{Session}
 use Rattle.site_core.specs.declared.reply.Reply.{Reply}
 use Rattle.site_core.specs.declared.reply.Reply.TheVariants as reply
@@ -21,7 +20,7 @@ use Rattle.site_core.specs.Pairs.{Pairs, frame_fault, arrival_of, after_taking}
 use Rattle.site_core.specs.Pairs as pairs
 use Rattle.site_core.specs.Agenda.{Agenda}
 use Rattle.site_core.specs.Agenda as agenda
-use Rattle.site_core.specs.Offices.{Office, Answer, may, act, is_ours, frame_on, framed, unless_faulty, with_pairs, answer, opened}
+use Rattle.site_core.specs.Offices.{Office, Answer, done_if, is_ours, frame_on, framed, unless_faulty, with_pairs, answer, opened}
 use Rattle.site_core.specs.Journals.{Site, office_of, noted, after, next_or, step, Steps, Adds, IsLegal, recorded}
 use Rattle.site_core.specs.refinement.PairsOfCode.{PairsValue, pairs_of, IsOf, HaveRoom}
 use Rattle.site_core.specs.refinement.AgendaOfCode.{AgendaValue, Means}
@@ -107,14 +106,14 @@ no_room s s' tag e r o why is same full fills (inr m) = subst (λ w. Steps s tag
         other k = cc
     go false h = h
 
--- a rule for which there is no room
-pub no_room_for_rule : (s s' : Site) (tag : ℕ) (r : Rule) (why told : Refusal) → s' ≡ s → told ≡ cond (may s.plan s.me (office_of s) r) why refusal.NotNow → (why ≡ refusal.JournalFull → Full s) → (Full s → why ≡ refusal.JournalFull) →
-    (why ≡ refusal.JournalFull) ⊎ (why ≡ refusal.Memory) → Steps s tag (event.Do r) (Err told) s'
-no_room_for_rule s s' tag r why told same tells full fills either = go (may s.plan s.me (office_of s) r) refl tells
+-- an event that a guard decides, for which there is no room
+pub no_room_for : (s s' : Site) (tag : ℕ) (e : Event) (guard : Office → Bool) (effect : Office → Office) → ((o : Office) → answer s.plan s.me o e ≡ done_if (guard o) (effect o)) → (why told : Refusal) → s' ≡ s → told ≡ cond (guard (office_of s)) why refusal.NotNow →
+    (why ≡ refusal.JournalFull → Full s) → (Full s → why ≡ refusal.JournalFull) → (why ≡ refusal.JournalFull) ⊎ (why ≡ refusal.Memory) → Steps s tag e (Err told) s'
+no_room_for s s' tag e guard effect answers why told same tells full fills either = go (guard (office_of s)) refl tells
   where
-    go : (b : Bool) → may s.plan s.me (office_of s) r ≡ b → told ≡ cond b why refusal.NotNow → Steps s tag (event.Do r) (Err told) s'
-    go true h e = subst (λ w. Steps s tag (event.Do r) (Err w) s') (sym e) (no_room s s' tag (event.Do r) reply.Done (act s.me (office_of s) r) why (ap (λ b. cond b (Ok (reply.Done, act s.me (office_of s) r)) (Err refusal.NotNow)) h) same full fills either)
-    go false h e = subst (λ w. Steps s tag (event.Do r) (Err w) s') (sym e) (refused s s' tag (event.Do r) refusal.NotNow (ap (λ b. cond b (Ok (reply.Done, act s.me (office_of s) r)) (Err refusal.NotNow)) h) same)
+    go : (b : Bool) → guard (office_of s) ≡ b → told ≡ cond b why refusal.NotNow → Steps s tag e (Err told) s'
+    go true h k = subst (λ w. Steps s tag e (Err w) s') (sym k) (no_room s s' tag e reply.Done (effect (office_of s)) why (answers (office_of s) ∙ ap (λ b. done_if b (effect (office_of s))) h) same full fills either)
+    go false h k = subst (λ w. Steps s tag e (Err w) s') (sym k) (refused s s' tag e refusal.NotNow (answers (office_of s) ∙ ap (λ b. done_if b (effect (office_of s))) h) same)
 
 -- ---- rules
 
@@ -132,17 +131,15 @@ not_full false h = refl
 same_office : (p : PairsValue) (o : Office) → pairs_of p ≡ o.pairs → office_at p o.agenda ≡ o
 same_office p o e = ap (λ x. record { pairs = x; agenda = o.agenda }) e
 
-rule_answer : (s : Site) (r : Rule) → may s.plan s.me (office_of s) r ≡ true → answer s.plan s.me (office_of s) (event.Do r) ≡ Ok (reply.Done, act s.me (office_of s) r)
-rule_answer s r e = ap (λ b. cond b (Ok (reply.Done, act s.me (office_of s) r)) (Err refusal.NotNow)) e
-
-pub done_rule : (p p' : PairsValue) (v v' : AgendaValue) (entries entries' : List Entry) (tag : ℕ) (r : Rule) → IsAtEnd p v entries → IsOf p.plan p.me p' →
-    ((a : Agenda) → Means v a → may p.plan p.me (office_at p a) r ≡ false → ⊥) → ((a : Agenda) → Means v a → Stands p' v' (act p.me (office_at p a) r)) → tag < 16 → (nat_le most_entries (length entries) ≡ true → ⊥) →
-    entries' ≡ entries ++ record { tag = tag; event = event.Do r; reply = reply.Done } ∷ [] → IsAtEnd p' v' entries'
-done_rule p p' v v' entries entries' tag r h of can done lt room grown =
+-- an event that a guard decides, and its entry
+pub done_event : (p p' : PairsValue) (v v' : AgendaValue) (entries entries' : List Entry) (tag : ℕ) (e : Event) (guard : Office → Bool) (effect : Office → Office) → ((o : Office) → answer p.plan p.me o e ≡ done_if (guard o) (effect o)) → IsAtEnd p v entries → IsOf p.plan p.me p' →
+    ((a : Agenda) → Means v a → guard (office_at p a) ≡ false → ⊥) → ((a : Agenda) → Means v a → Stands p' v' (effect (office_at p a))) → tag < 16 → (nat_le most_entries (length entries) ≡ true → ⊥) →
+    entries' ≡ entries ++ record { tag = tag; event = e; reply = reply.Done } ∷ [] → IsAtEnd p' v' entries'
+done_event p p' v v' entries entries' tag e guard effect answers h of can done lt room grown =
     let o = office_of (site_of p entries) in
     let same = same_office p o h.stands.0 in
-    let ok : may p.plan p.me o r ≡ true = ap (λ x. may p.plan p.me x r) (sym same) ∙ decided (may p.plan p.me (office_at p o.agenda) r) (can o.agenda h.stands.1) in
-    goes_on p p' v v' entries entries' tag (event.Do r) reply.Done (act p.me o r) h of (rule_answer (site_of p entries) r ok) (subst (λ x. Stands p' v' (act p.me x r)) same (done o.agenda h.stands.1)) lt (not_full _ room) grown
+    let ok : guard o ≡ true = ap guard (sym same) ∙ decided (guard (office_at p o.agenda)) (can o.agenda h.stands.1) in
+    goes_on p p' v v' entries entries' tag e reply.Done (effect o) h of (answers o ∙ ap (λ b. done_if b (effect o)) ok) (subst (λ x. Stands p' v' (effect x)) same (done o.agenda h.stands.1)) lt (not_full _ room) grown
 
 -- what the office's definition says of its rules, where it is told of the code's
 pub told_of : {A : Type 0} (p : PairsValue) (v : AgendaValue) (entries : List Entry) (f : Office → A) (x : A) → IsAtEnd p v entries → ((a : Agenda) → Means v a → x ≡ f (office_at p a)) → x ≡ f (office_of (site_of p entries))

@@ -1,12 +1,16 @@
 -- Sessions finish in the order of their tickets.
-use Rattle.std.proofs.Common.{◌≡◌, ℕ, zero, suc, ◌+◌, ◌<◌, ◌≤◌, Bool, true, false, cond, List, [], ◌∷◌, ◌++◌, length, map, get_or, Option, None, Some, Ok, Err, refl, sym, ap, subst, ◌∙◌, arith, append_assoc}
-use Rattle.std.specs.Prelude.{◌&&◌, is_some, IfSome, slice_get, option_map, nat_lt}
+use Rattle.std.proofs.Common.{◌≡◌, ℕ, zero, suc, ◌+◌, ◌<◌, ◌≤◌, Bool, true, false, cond, List, [], ◌∷◌, ◌++◌, length, map, get_or, Option, None, Some, Result, Ok, Err, refl, sym, ap, subst, ◌∙◌, arith, append_assoc, ⊎_elim, Less, Equal, Greater}
+use Rattle.std.specs.Prelude.{◌==◌, ◌&&◌, not, filter, is_some, IfSome, slice_get, option_map, nat_lt}
+use Rattle.std.specs.List.{HoldsAt}
 use Rattle.std.specs.Option.{option_copied}
 use denote.Bor.{Bor}
-use Rattle.std.specs.List.{range_with_len}
-use Rattle.std.proofs.lemmas.Bool.{eq-eqb, ne_eqb}
+use Rattle.std.specs.Result.{MatchResult}
+use Rattle.std.specs.Ordering.{nat_cmp, ordering_index}
+use Rattle.std.specs.List.Sorted.{IsSearchInRange, IsBinarySearchResult, IsPartitionPoint}
+use Rattle.std.proofs.lemmas.Cmp.{ranked}
+use Rattle.std.proofs.lemmas.Bool.{eq-eqb, ne_eqb, cases_lt}
 use Rattle.std.proofs.lemmas.Bool.Decides.{nat_tests}
-use Rattle.std.proofs.lemmas.List.{map-append}
+use Rattle.std.proofs.lemmas.List.{map-append, get_or_default}
 use Rattle.std.proofs.lemmas.Option.{slice_get_past, slice_get_read}
 use Rattle.bottle_values.specs.declared.Value.{Value}
 use Rattle.frame_codec.specs.declared.message.Msg.{Msg}
@@ -31,13 +35,14 @@ use Rattle.site_core.specs.declared.event.Entry.{Entry}
 use Rattle.site_core.specs.declared.reply.Reply.TheVariants as reply
 use Rattle.site_core.specs.declared.reply.Refusal.TheVariants as refusal
 use Rattle.site_core.specs.Pairs.{Pairs, bottle_came, drinker_after, frame_fault, after_taking}
-use Rattle.site_core.specs.Agenda.{Agenda, Current, Idle, Gathering, Working, submitted, started, first_needs, begun, worked, ending_of, writes_of, outcome_of, outcome_as, with_current, finished}
+use Rattle.site_core.specs.Agenda.{Agenda, Current, Idle, Gathering, Working, submitted, without_waiting, started, first_needs, begun, worked, ending_of, writes_of, outcome_of, outcome_as, with_current, finished}
 use Rattle.site_core.specs.Agenda as agenda
-use Rattle.site_core.specs.Offices.{Office, may, act, is_ours, submit, framed, frame_on, unless_faulty, opened}
+use Rattle.site_core.specs.Offices.{Office, may, act, withdrawn, is_ours, submit, framed, frame_on, unless_faulty, opened}
 use Rattle.site_core.specs.Journals.{next_or, after, run_of, office_of}
 use Rattle.site_core.specs.Readers.{outcome_with}
-use Rattle.site_core.specs.Tickets.{current_tickets, GoInOrder, SessionsGoInOrder}
+use Rattle.site_core.specs.Tickets.{current_tickets, Rise, GoInOrder, SessionsGoInOrder}
 use Rattle.site_core.proofs.KeptMessages.{through_taking}
+use Rattle.site_core.proofs.Withdrawing.{either_withdrawn, after_withdrawal}
 
 abbrev tickets_of : List Session → List ℕ
 tickets_of = map (λ (s : Session). s.ticket)
@@ -50,27 +55,48 @@ record IsInOrder (o : Office) : Type 0 where
   order : GoInOrder o.agenda
   idle : bottles.is_tranquil o.pairs.drinker.phase ≡ true → o.agenda.current ≡ Idle
 
--- ---- a session more
+-- ---- tickets that rise
 
-count_more : (k n : ℕ) → range_with_len k (n + 1) ≡ range_with_len k n ++ (k + n) ∷ []
-count_more k n = let on : n + 1 ≡ suc n = omega arith in ap (range_with_len k) on ∙ go k n
+rise_from : (k j n : ℕ) (ts : List ℕ) → j ≤ k → Rise k ts n → Rise j ts n
+rise_from k j n [] le h = omega (arith, le, h)
+rise_from k j n (t ∷ ts) le h = (omega (arith, le, h.0), h.1)
+
+-- a list whose end is changed, where the new end rises too
+rise_behind : (k n m : ℕ) (xs ys zs : List ℕ) → ((j : ℕ) → Rise j ys n → Rise j zs m) → Rise k (xs ++ ys) n → Rise k (xs ++ zs) m
+rise_behind k n m [] ys zs f h = f k h
+rise_behind k n m (x ∷ xs) ys zs f h = (h.0, rise_behind x n m xs ys zs f h.1)
+
+rise_without : (k n : ℕ) (ts rest : List ℕ) → Rise k (ts ++ rest) n → Rise k rest n
+rise_without k n [] rest h = h
+rise_without k n (t ∷ ts) rest h = rise_from t k n rest (omega (arith, h.0)) (rise_without t n ts rest h.1)
+
+one_more : (k n : ℕ) (ts : List ℕ) → Rise k ts n → Rise k (ts ++ (n + 1) ∷ []) (n + 1)
+one_more k n [] h = (omega (arith, h), omega arith)
+one_more k n (t ∷ ts) h = (h.0, one_more t n ts h.1)
+
+one_less : (k n ticket : ℕ) (queue : List Session) → Rise k (tickets_of queue) n → Rise k (tickets_of (filter (λ (s : Session). not (s.ticket == ticket)) queue)) n
+one_less k n ticket [] h = h
+one_less k n ticket (s ∷ queue) h = go (s.ticket == ticket) (one_less s.ticket n ticket queue h.1)
   where
-    go : (k n : ℕ) → range_with_len k (suc n) ≡ range_with_len k n ++ (k + n) ∷ []
-    go k zero = let last : k ≡ k + 0 = omega arith in ap (λ (x : ℕ). x ∷ []) last
-    go k (suc n) = let last : k + 1 + n ≡ k + suc n = omega arith in ap (λ (l : List ℕ). k ∷ l) (go (k + 1) n ∙ ap (λ (x : ℕ). range_with_len (k + 1) n ++ x ∷ []) last)
+    others : List Session
+    others = filter (λ (s : Session). not (s.ticket == ticket)) queue
+
+    go : (b : Bool) → Rise s.ticket (tickets_of others) n → Rise k (tickets_of (cond (not b) (s ∷ others) others)) n
+    go true rest = rise_from s.ticket k n (tickets_of others) (omega (arith, h.0)) rest
+    go false rest = (h.0, rest)
+
+-- ---- a session more
 
 order_submitted : (a : Agenda) (p : ProgramValue) → GoInOrder a → GoInOrder (submitted a p)
 order_submitted a p h =
     let out = finished_tickets a.outcomes in
     let cur = current_tickets a.current in
     let one : List ℕ = (a.tickets + 1) ∷ [] in
-    let last : a.tickets + 1 ≡ 1 + a.tickets = omega arith in
-    ap (λ (l : List ℕ). out ++ (cur ++ l)) (map-append (λ (s : Session). s.ticket) a.queue (record { ticket = a.tickets + 1; program = p } ∷ []))
-    ∙ ap (λ (l : List ℕ). out ++ l) (sym (append_assoc cur (tickets_of a.queue) one))
-    ∙ sym (append_assoc out (cur ++ tickets_of a.queue) one)
-    ∙ ap (λ (l : List ℕ). l ++ one) h
-    ∙ ap (λ (x : ℕ). range_with_len 1 a.tickets ++ x ∷ []) last
-    ∙ sym (count_more 1 a.tickets)
+    subst (λ (l : List ℕ). Rise 0 l (a.tickets + 1))
+    (append_assoc out (cur ++ tickets_of a.queue) one
+    ∙ ap (λ (l : List ℕ). out ++ l) (append_assoc cur (tickets_of a.queue) one)
+    ∙ ap (λ (l : List ℕ). out ++ (cur ++ l)) (sym (map-append (λ (s : Session). s.ticket) a.queue (record { ticket = a.tickets + 1; program = p } ∷ []))))
+    (one_more 0 a.tickets (out ++ (cur ++ tickets_of a.queue)) h)
 
 by_submit : (plan : PlanValue) (me : ℕ) (o : Office) (p : ProgramValue) → IsInOrder o → IsInOrder (next_or o (submit plan me o p))
 by_submit plan me o p w = go (is_ours plan me p) (agenda.is_full o.agenda)
@@ -80,46 +106,64 @@ by_submit plan me o p w = go (is_ours plan me p) (agenda.is_full o.agenda)
     go false b = w
     go true false = record { order = order_submitted o.agenda p w.order; idle = w.idle }
 
+-- ---- a session less
+
+order_without_waiting : (a : Agenda) (ticket : ℕ) → GoInOrder a → GoInOrder (without_waiting a ticket)
+order_without_waiting a ticket h =
+    let left : List Session = (without_waiting a ticket).queue in
+    rise_behind 0 a.tickets a.tickets (finished_tickets a.outcomes) (current_tickets a.current ++ tickets_of a.queue) (current_tickets a.current ++ tickets_of left)
+    (λ j. rise_behind j a.tickets a.tickets (current_tickets a.current) (tickets_of a.queue) (tickets_of left) (λ k. one_less k a.tickets ticket a.queue)) h
+
+order_without_current : (a : Agenda) → GoInOrder a → GoInOrder (with_current a Idle)
+order_without_current a h =
+    rise_behind 0 a.tickets a.tickets (finished_tickets a.outcomes) (current_tickets a.current ++ tickets_of a.queue) (tickets_of a.queue) (λ j. rise_without j a.tickets (current_tickets a.current) (tickets_of a.queue)) h
+
+by_withdrawal : (o : Office) (ticket : ℕ) → IsInOrder o → IsInOrder (withdrawn o ticket)
+by_withdrawal o ticket w = either_withdrawn IsInOrder o ticket
+    (λ h. record { order = order_without_waiting o.agenda ticket w.order; idle = w.idle })
+    (λ h. record { order = order_without_current o.agenda w.order; idle = λ e. refl })
+
 -- ---- rules
 
 both_true : (a b : Bool) → (a && b) ≡ true → (a ≡ true) × (b ≡ true)
 both_true true b e = (refl, e)
 both_true false b e = absurd cc
 
-tickets_begun : (values : ℕ → Value) (c : Current) → current_tickets (begun values c) ≡ current_tickets c
+pub tickets_begun : (values : ℕ → Value) (c : Current) → current_tickets (begun values c) ≡ current_tickets c
 tickets_begun values Idle = refl
 tickets_begun values (Gathering s) = refl
 tickets_begun values (Working s reads done) = refl
 
-tickets_worked : (n : ℕ) (c : Current) → current_tickets (worked n c) ≡ current_tickets c
+pub tickets_worked : (n : ℕ) (c : Current) → current_tickets (worked n c) ≡ current_tickets c
 tickets_worked n Idle = refl
 tickets_worked n (Gathering s) = refl
 tickets_worked n (Working s reads done) = refl
 
 order_with : (a : Agenda) (c : Current) → current_tickets c ≡ current_tickets a.current → GoInOrder a → GoInOrder (with_current a c)
-order_with a c same h = ap (λ (l : List ℕ). finished_tickets a.outcomes ++ (l ++ tickets_of a.queue)) same ∙ h
+order_with a c same h = subst (λ (l : List ℕ). Rise 0 (finished_tickets a.outcomes ++ (l ++ tickets_of a.queue)) a.tickets) (sym same) h
 
 by_start : (o : Office) (queue : List Session) → o.agenda.queue ≡ queue → bottles.may o.pairs.drinker (bottles.Start (first_needs queue)) ≡ true → IsInOrder o →
     GoInOrder (started o.agenda queue) × (bottles.is_tranquil (bottles.started o.pairs.drinker (first_needs queue)).phase ≡ true → (started o.agenda queue).current ≡ Idle)
 by_start o [] is m w = (w.order, w.idle)
 by_start o (s ∷ rest) is m w =
     let none : o.agenda.current ≡ Idle = w.idle (both_true (bottles.is_tranquil o.pairs.drinker.phase) true m).0 in (
-      ap (λ (c : Current). finished_tickets o.agenda.outcomes ++ (current_tickets c ++ tickets_of (s ∷ rest))) (sym none)
-          ∙ ap (λ (q : List Session). finished_tickets o.agenda.outcomes ++ (current_tickets o.agenda.current ++ tickets_of q)) (sym is) ∙ w.order,
+      subst (λ (c : Current). Rise 0 (finished_tickets o.agenda.outcomes ++ (current_tickets c ++ tickets_of (s ∷ rest))) o.agenda.tickets) none
+          (subst (λ (q : List Session). Rise 0 (finished_tickets o.agenda.outcomes ++ (current_tickets o.agenda.current ++ tickets_of q)) o.agenda.tickets) is w.order),
       λ e. absurd cc,
     )
 
-order_finished : (me : ℕ) (a : Agenda) (c : Current) → a.current ≡ c → is_some (writes_of c) ≡ true → GoInOrder a → finished_tickets (a.outcomes ++ outcome_of me c) ++ tickets_of a.queue ≡ range_with_len 1 a.tickets
+order_finished : (me : ℕ) (a : Agenda) (c : Current) → a.current ≡ c → is_some (writes_of c) ≡ true → GoInOrder a → Rise 0 (finished_tickets (a.outcomes ++ outcome_of me c) ++ tickets_of a.queue) a.tickets
 order_finished me a Idle is m h = absurd cc
 order_finished me a (Gathering s) is m h = absurd cc
 order_finished me a (Working s reads done) is m h = go (ending_after s.program reads done) m
   where
-    go : (e : Option Ending) → is_some (option_map (λ (x : Ending). x.writes) e) ≡ true → finished_tickets (a.outcomes ++ outcome_as me s.ticket e) ++ tickets_of a.queue ≡ range_with_len 1 a.tickets
+    go : (e : Option Ending) → is_some (option_map (λ (x : Ending). x.writes) e) ≡ true → Rise 0 (finished_tickets (a.outcomes ++ outcome_as me s.ticket e) ++ tickets_of a.queue) a.tickets
     go None k = absurd cc
     go (Some e) k =
-        ap (λ (l : List ℕ). l ++ tickets_of a.queue) (map-append (λ (o : Outcome). o.ticket) a.outcomes (record { office = me; ticket = s.ticket; ending = e } ∷ []))
-        ∙ append_assoc (finished_tickets a.outcomes) (s.ticket ∷ []) (tickets_of a.queue)
-        ∙ ap (λ (c : Current). finished_tickets a.outcomes ++ (current_tickets c ++ tickets_of a.queue)) (sym is) ∙ h
+        subst (λ (l : List ℕ). Rise 0 l a.tickets)
+        (ap (λ (c : Current). finished_tickets a.outcomes ++ (current_tickets c ++ tickets_of a.queue)) is
+        ∙ sym (append_assoc (finished_tickets a.outcomes) (s.ticket ∷ []) (tickets_of a.queue))
+        ∙ ap (λ (l : List ℕ). l ++ tickets_of a.queue) (sym (map-append (λ (o : Outcome). o.ticket) a.outcomes (record { office = me; ticket = s.ticket; ending = e } ∷ [])))) h
 
 by_rule : (plan : PlanValue) (me : ℕ) (o : Office) (r : Rule) → may plan me o r ≡ true → IsInOrder o → IsInOrder (act me o r)
 by_rule plan me o rule.Start m w = let s = by_start o o.agenda.queue refl m w in record { order = s.0; idle = s.1 }
@@ -175,6 +219,7 @@ by_event plan me o (event.Took f) w = go (frame_fault plan me o.pairs f)
     go : (x : Option ChannelFault) → IsInOrder (next_or o (unless_faulty plan me o f x))
     go None = record { order = w.order; idle = λ e. w.idle (sym (ap bottles.is_tranquil (phase_taken plan me o.pairs f)) ∙ e) }
     go (Some x) = w
+by_event plan me o (event.Withdraw t) w = after_withdrawal IsInOrder o t w (by_withdrawal o t w)
 
 by_run : (plan : PlanValue) (me : ℕ) (o : Office) (xs : List Entry) → IsInOrder o → IsInOrder (run_of plan me o xs)
 by_run plan me o [] w = w
@@ -182,44 +227,69 @@ by_run plan me o (x ∷ xs) w = by_run plan me (after plan me o x.event) xs (by_
 
 pub in_order : SessionsGoInOrder
 unfolding office_of
-in_order s = (by_run s.plan s.me (opened s.plan s.me) s.entries (record { order = refl; idle = λ e. refl })).order
+in_order s = (by_run s.plan s.me (opened s.plan s.me) s.entries (record { order = omega arith; idle = λ e. refl })).order
 
 -- ---- the outcome of a ticket
 
-abbrev tail_of : List ℕ → List ℕ
-tail_of [] = []
-tail_of (x ∷ xs) = xs
+module _ (n : ℕ) (rest : List ℕ) where
+  -- the tickets of those that finished rise
+  above : (k : ℕ) (os : List Outcome) → Rise k (finished_tickets os ++ rest) n → (i : ℕ) (d : Outcome) → i < length os → k < (get_or os i d).ticket
+  above k [] h i d lt = absurd (omega (arith, lt))
+  above k (o ∷ os) h zero d lt = h.0
+  above k (o ∷ os) h (suc i) d lt = let later : o.ticket < (get_or os i d).ticket = above o.ticket os h.1 i d (omega (arith, lt)) in omega (arith, h.0, later)
 
-abbrev head_of : List ℕ → ℕ
-head_of [] = 0
-head_of (x ∷ xs) = x
+  rising : (k : ℕ) (os : List Outcome) → Rise k (finished_tickets os ++ rest) n → (i j : ℕ) (d : Outcome) → i ≤ j → j < length os → (get_or os i d).ticket ≤ (get_or os j d).ticket
+  rising k [] h i j d le lt = absurd (omega (arith, lt))
+  rising k (o ∷ os) h zero zero d le lt = omega arith
+  rising k (o ∷ os) h zero (suc j) d le lt = let later : o.ticket < (get_or os j d).ticket = above o.ticket os h.1 j d (omega (arith, lt)) in omega (arith, later)
+  rising k (o ∷ os) h (suc i) zero d le lt = absurd (omega (arith, le))
+  rising k (o ∷ os) h (suc i) (suc j) d le lt = rising o.ticket os h.1 i j d (omega (arith, le)) (omega (arith, lt))
 
-found : (outcomes : List Outcome) (rest : List ℕ) (k n i : ℕ) → finished_tickets outcomes ++ rest ≡ range_with_len k n → outcome_with outcomes (k + i) ≡ slice_get outcomes i
-found [] rest k n i e = refl
-found (o ∷ os) rest k zero i e = absurd cc
-found (o ∷ os) rest k (suc n) zero e =
-    let here : o.ticket ≡ k = ap head_of e in
-    let first : o.ticket ≡ k + 0 = omega (arith, here) in
-    ap (λ b. cond b (Some o) (outcome_with os (k + 0))) (eq-eqb o.ticket (k + 0) first)
-found (o ∷ os) rest k (suc n) (suc i) e =
-    let first : o.ticket ≡ k = ap head_of e in
-    let on : k + suc i ≡ k + 1 + i = omega arith in
-    ap (λ b. cond b (Some o) (outcome_with os (k + suc i))) (ne_eqb o.ticket (k + suc i) (λ (same : o.ticket ≡ k + suc i). absurd (omega (arith, first, same))))
-    ∙ ap (outcome_with os) on ∙ found os rest (k + 1) n i (ap tail_of e)
+  -- so an outcome is the first with its ticket
+  first_with : (k : ℕ) (os : List Outcome) → Rise k (finished_tickets os ++ rest) n → (i : ℕ) (d : Outcome) → i < length os → outcome_with os (get_or os i d).ticket ≡ Some (get_or os i d)
+  first_with k [] h i d lt = absurd (omega (arith, lt))
+  first_with k (o ∷ os) h zero d lt = ap (λ b. cond b (Some o) (outcome_with os o.ticket)) (eq-eqb o.ticket o.ticket refl)
+  first_with k (o ∷ os) h (suc i) d lt =
+      let x : Outcome = get_or os i d in
+      let later : o.ticket < x.ticket = above o.ticket os h.1 i d (omega (arith, lt)) in
+      ap (λ b. cond b (Some o) (outcome_with os x.ticket)) (ne_eqb o.ticket x.ticket (λ (same : o.ticket ≡ x.ticket). absurd (omega (arith, later, same)))) ∙ first_with o.ticket os h.1 i d (omega (arith, lt))
 
-none_before : (outcomes : List Outcome) (rest : List ℕ) (k n : ℕ) → 0 < k → finished_tickets outcomes ++ rest ≡ range_with_len k n → outcome_with outcomes 0 ≡ None
-none_before [] rest k n lt e = refl
-none_before (o ∷ os) rest k zero lt e = absurd cc
-none_before (o ∷ os) rest k (suc n) lt e =
-    let first : o.ticket ≡ k = ap head_of e in
-    ap (λ b. cond b (Some o) (outcome_with os 0)) (ne_eqb o.ticket 0 (λ (same : o.ticket ≡ 0). absurd (omega (arith, lt, first, same))))
-    ∙ none_before os rest (k + 1) n (omega arith) (ap tail_of e)
+none_with : (os : List Outcome) (t : ℕ) → ((i : ℕ) (d : Outcome) → i < length os → (get_or os i d).ticket ≡ t → ⊥) → outcome_with os t ≡ None
+none_with [] t h = refl
+none_with (o ∷ os) t h = ap (λ b. cond b (Some o) (outcome_with os t)) (ne_eqb o.ticket t (h 0 o (omega arith))) ∙ none_with os t (λ i d lt. h (suc i) d (omega (arith, lt)))
 
-pub no_ticket : (a : Agenda) → GoInOrder a → outcome_with a.outcomes 0 ≡ None
-no_ticket a h = none_before a.outcomes _ 1 a.tickets (omega arith) h
+higher : (a b t : ℕ) → a ≤ b → ordering_index (nat_cmp a t) ≤ ordering_index (nat_cmp b t)
+higher a b t le = grind (arith, nat_tests, le)
 
-pub at_ticket : (a : Agenda) (i : ℕ) → GoInOrder a → outcome_with a.outcomes (1 + i) ≡ slice_get a.outcomes i
-at_ticket a i h = found a.outcomes _ 1 a.tickets i h
+found_at : (k n : ℕ) (os : List Outcome) (rest : List ℕ) (t i : ℕ) → Rise k (finished_tickets os ++ rest) n → i < length os → HoldsAt (λ (o : Outcome). nat_cmp o.ticket t ≡ Equal) os i → slice_get os i ≡ outcome_with os t
+found_at k n [] rest t i h lt there = absurd (omega (arith, lt))
+found_at k n (o ∷ os) rest t i h lt there =
+    let x : Outcome = get_or (o ∷ os) i o in
+    let same : x.ticket ≡ t = ranked x.ticket t Equal (sym (there o)) in
+    slice_get_read (o ∷ os) (length (o ∷ os)) i x refl lt (get_or_default (o ∷ os) i o x lt) ∙ sym (first_with n rest k (o ∷ os) h i o lt) ∙ ap (outcome_with (o ∷ os)) same
+
+found_or_none : (a : Agenda) (t : ℕ) (r : Result ℕ ℕ) → GoInOrder a → IsSearchInRange r (length a.outcomes) → IsBinarySearchResult (λ (o : Outcome). nat_cmp o.ticket t) a.outcomes r →
+    MatchResult r (λ i. slice_get a.outcomes i ≡ outcome_with a.outcomes t) (λ i. None ≡ outcome_with a.outcomes t)
+found_or_none a t (Ok i) h lt there = found_at 0 a.tickets a.outcomes _ t i h lt there
+found_or_none a t (Err i) h le parted = sym (none_with a.outcomes t neither)
+  where
+    ticket_at : ℕ → Outcome → ℕ
+    ticket_at j d = (get_or a.outcomes j d).ticket
+
+    parts : IsPartitionPoint (λ (o : Outcome). nat_cmp o.ticket t ≡ Less) (λ (o : Outcome). nat_cmp o.ticket t ≡ Greater) a.outcomes i
+    parts = parted (λ j k d below lt. higher (ticket_at j d) (ticket_at k d) t (rising a.tickets _ 0 a.outcomes h j k d below lt))
+
+    neither : (j : ℕ) (d : Outcome) → j < length a.outcomes → ticket_at j d ≡ t → ⊥
+    neither j d lt same = ⊎_elim
+        (λ before. let less : ticket_at j d < t = ranked (ticket_at j d) t Less (sym (parts.0 j d (omega arith) before)) in omega (arith, less, same))
+        (λ behind. let more : t < ticket_at j d = ranked (ticket_at j d) t Greater (sym (parts.1 j d behind lt)) in omega (arith, more, same))
+        (cases_lt j i)
+
+-- what a binary search by tickets finds
+pub searched : (os : List Outcome) (a : Agenda) (t : ℕ) (r : Result ℕ ℕ) → os ≡ a.outcomes → GoInOrder a → IsSearchInRange r (length os) → IsBinarySearchResult (λ (o : Outcome). nat_cmp o.ticket t) os r →
+    MatchResult r (λ i. slice_get os i ≡ outcome_with a.outcomes t) (λ i. None ≡ outcome_with a.outcomes t)
+searched os a t r same h = subst (λ (l : List Outcome). IsSearchInRange r (length l) → IsBinarySearchResult (λ (o : Outcome). nat_cmp o.ticket t) l r → MatchResult r (λ i. slice_get l i ≡ outcome_with a.outcomes t) (λ i. None ≡ outcome_with a.outcomes t))
+    (sym same) (found_or_none a t r h)
 
 -- what a slice tells of its i-th element
 pub looked_up : (outcomes : List Outcome) (i : ℕ) (found : Option (Bor Outcome)) → is_some found ≡ nat_lt i (length outcomes) → IfSome found (λ (x : Bor Outcome). x.now ≡ get_or outcomes i x.now) → option_copied found ≡ slice_get outcomes i

@@ -15,7 +15,7 @@ use Rattle.site_core.specs.declared.reply.Refusal.TheVariants as refusal
 use Rattle.site_core.specs.Limits.{most_entries}
 use Rattle.site_core.specs.Pairs.{frame_fault}
 use Rattle.site_core.specs.Agenda.{is_full, submitted}
-use Rattle.site_core.specs.Offices.{Office, Answer, may, act, is_ours, framed, frame_on, unless_faulty, answer}
+use Rattle.site_core.specs.Offices.{Office, Answer, may, act, may_withdraw, withdrawn, done_if, is_ours, framed, frame_on, unless_faulty, answer}
 use Rattle.site_core.specs.Journals.{Site, office_of, noted, recorded, FullAtTheLimit}
 use Rattle.site_core.specs.RuleOrder.{rules_in_order}
 use Rattle.site_core.specs.RulesInTurn.{NextIsDoneWhereThereIsRoom}
@@ -44,6 +44,11 @@ never_full plan me o (event.Took f) h = go (frame_fault plan me o.pairs f) h
     go : (x : Option ChannelFault) → unless_faulty plan me o f x ≡ Err refusal.JournalFull → ⊥
     go None k = absurd cc
     go (Some fault) k = absurd cc
+never_full plan me o (event.Withdraw t) h = go (may_withdraw o t) h
+  where
+    go : (b : Bool) → done_if b (withdrawn o t) ≡ Err refusal.JournalFull → ⊥
+    go true k = absurd cc
+    go false k = absurd cc
 
 -- what is refused of an answer that accepts
 full_or_not : (s : Site) (tag : ℕ) (e : Event) (x : Reply × Office) (why : Refusal) → Err why ≡ (recorded s tag e (Ok x)).0 → (why ≡ refusal.JournalFull) × (most_entries ≤ length s.entries)

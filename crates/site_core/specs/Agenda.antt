@@ -1,5 +1,6 @@
 -- The sessions of an office: those that wait, the current one, and how those ended that finished.
-use Rattle.std.specs.Prelude.{ℕ, ◌+◌, Bool, true, false, not, nat_le, ◌&&◌, is_some, List, [], ◌∷◌, ◌++◌, length, Option, None, Some, option_map}
+use Rattle.std.specs.Prelude.{ℕ, ◌+◌, Bool, true, false, not, nat_le, ◌==◌, ◌&&◌, is_some, List, [], ◌∷◌, ◌++◌, length, filter, Option, None, Some, option_map}
+use Rattle.std.specs.List.{list_any}
 use Rattle.bottle_values.specs.declared.Value.{Value}
 use Rattle.bottle_values.specs.Maps.{reads_of}
 use Rattle.session_meaning.specs.declared.ending.Ending.{Ending}
@@ -49,6 +50,22 @@ submitted a p = record {
   current = a.current;
   outcomes = a.outcomes;
 }
+
+-- ---- withdrawing
+
+-- the session with the ticket waits
+abbrev pub is_waiting : List Session → ℕ → Bool
+is_waiting queue ticket = list_any (λ (s : Session). s.ticket == ticket) queue
+
+-- it is the current one, and waits for its bottles
+abbrev pub is_gathering : Current → ℕ → Bool
+is_gathering Idle ticket = false
+is_gathering (Gathering s) ticket = s.ticket == ticket
+is_gathering (Working s reads done) ticket = false
+
+-- all that wait but that one
+abbrev pub without_waiting : Agenda → ℕ → Agenda
+without_waiting a ticket = record { queue = filter (λ (s : Session). not (s.ticket == ticket)) a.queue; tickets = a.tickets; current = a.current; outcomes = a.outcomes }
 
 -- ---- the current session
 

@@ -1,5 +1,5 @@
 -- An office, the guard and the effect of each of its rules, and what it answers to an event.
-use Rattle.std.specs.Prelude.{ℕ, zero, suc, ◌+◌, Bool, ◌==◌, nat_le, ◌&&◌, if◌then◌else◌, length, Option, None, Some, Result, Ok, Err, unwrap_or}
+use Rattle.std.specs.Prelude.{ℕ, zero, suc, ◌+◌, Bool, ◌==◌, nat_le, ◌&&◌, ◌||◌, if◌then◌else◌, length, Option, None, Some, Result, Ok, Err, unwrap_or}
 use Rattle.bottle_values.specs.declared.Value.{Value}
 use Rattle.bottle_values.specs.Arithmetic.{nought}
 use Rattle.frame_codec.specs.Frame.{Fields}
@@ -22,7 +22,7 @@ use Rattle.site_core.specs.declared.reply.Refusal.TheVariants as refusal
 use Rattle.site_core.specs.Replies.{reply_to}
 use Rattle.site_core.specs.Pairs.{Pairs, is_thirsty, after_fork_rule, after_bottle_rule, frame_fault, arrival_of, after_taking}
 use Rattle.site_core.specs.Pairs as pairs
-use Rattle.site_core.specs.Agenda.{Agenda, is_full, submitted, first_needs, started, begun, may_work, worked, writes_of, with_current, finished}
+use Rattle.site_core.specs.Agenda.{Agenda, Idle, is_full, submitted, is_waiting, is_gathering, without_waiting, first_needs, started, begun, may_work, worked, writes_of, with_current, finished}
 use Rattle.site_core.specs.Agenda as agenda
 
 -- what it shares with its neighbours, and its sessions
@@ -86,8 +86,25 @@ submit plan me o p =
     else Ok (reply.Ticket (o.agenda.tickets + 1), record { pairs = o.pairs; agenda = submitted o.agenda p }))
     else Err refusal.NotOurs
 
+-- Done, and this office after it, where the guard holds
+abbrev pub done_if : Bool → Office → Answer
+done_if guard o = if guard then Ok (reply.Done, o) else Err refusal.NotNow
+
 abbrev pub do_rule : PlanValue → ℕ → Office → Rule → Answer
-do_rule plan me o rule = if may plan me o rule then Ok (reply.Done, act me o rule) else Err refusal.NotNow
+do_rule plan me o rule = done_if (may plan me o rule) (act me o rule)
+
+-- the session with the ticket waits, or it is the current one and its office is thirsty
+abbrev pub may_withdraw : Office → ℕ → Bool
+may_withdraw o ticket = is_waiting o.agenda.queue ticket || (is_gathering o.agenda.current ticket && bottles.may o.pairs.drinker bottles.Withdraw)
+
+-- it waits no more, or the office is tranquil and has no current session
+abbrev pub withdrawn : Office → ℕ → Office
+withdrawn o ticket =
+    if is_waiting o.agenda.queue ticket then record { pairs = o.pairs; agenda = without_waiting o.agenda ticket }
+    else record { pairs = after_bottle_rule o.pairs bottles.Withdraw; agenda = with_current o.agenda Idle }
+
+abbrev pub withdraw : Office → ℕ → Answer
+withdraw o ticket = done_if (may_withdraw o ticket) (withdrawn o ticket)
 
 -- the frame of the i-th message that waits on a link, from 1, or one with the count alone
 abbrev pub frame_on : LinkState → ℕ → Option Fields
@@ -114,3 +131,4 @@ answer plan me o (event.Submit p) = submit plan me o p
 answer plan me o (event.Do rule) = do_rule plan me o rule
 answer plan me o (event.Send v i) = send plan me o v i
 answer plan me o (event.Took f) = take plan me o f
+answer plan me o (event.Withdraw ticket) = withdraw o ticket

@@ -81,6 +81,7 @@ bottle_sends d (bottles.AskBottle r) = Some (d.peer r, msg.AskBottle r)
 bottle_sends d (bottles.GiveBottle r held) = bottle_message (d.peer r) r (d.bottle r)
 bottle_sends d bottles.Drink = None
 bottle_sends d (bottles.Finish writes) = None
+bottle_sends d bottles.Withdraw = None
 
 abbrev pub after_fork_rule : Pairs → ForkRule → Pairs
 after_fork_rule p rule = record { diner = forks.act p.diner rule; drinker = p.drinker; link = sent p.link (fork_sends rule) }

@@ -1,10 +1,14 @@
--- In which order an office takes its sessions.
-use Rattle.std.specs.Prelude.{◌≡◌, ℕ, List, [], ◌∷◌, ◌++◌, map}
-use Rattle.std.specs.List.{range_with_len}
+-- In which order an office takes its sessions, and what a withdrawn one leaves.
+use Rattle.std.specs.Prelude.{◌≡◌, ℕ, ◌<◌, ◌≤◌, true, false, List, [], ◌∷◌, ◌++◌, map, None}
+use Rattle.office_map.specs.PlanValue.{PlanValue}
 use Rattle.session_meaning.specs.declared.ending.Outcome.{Outcome}
 use Rattle.site_core.specs.declared.session.Session.{Session}
+use Rattle.site_core.specs.declared.event.Event.TheVariants.{Withdraw}
+use Rattle.site_core.specs.declared.event.Entry.{Entry}
 use Rattle.site_core.specs.Agenda.{Agenda, Current, Idle, Gathering, Working}
+use Rattle.site_core.specs.Offices.{Office, may_withdraw}
 use Rattle.site_core.specs.Journals.{Site, office_of}
+use Rattle.site_core.specs.Readers.{outcome_with}
 
 abbrev pub current_tickets : Current → List ℕ
 current_tickets Idle = []
@@ -15,10 +19,26 @@ current_tickets (Working s reads done) = s.ticket ∷ []
 abbrev pub tickets_in_turn : Agenda → List ℕ
 tickets_in_turn a = map (λ (o : Outcome). o.ticket) a.outcomes ++ (current_tickets a.current ++ map (λ (s : Session). s.ticket) a.queue)
 
--- these are 1, 2, 3 and so on, as many as were given
+-- they rise, from more than k to at most n
+abbrev pub Rise : ℕ → List ℕ → ℕ → Type 0
+Rise k [] n = k ≤ n
+Rise k (t ∷ ts) n = (k < t) × Rise t ts n
+
+-- these rise, and are among those that were given
 abbrev pub GoInOrder : Agenda → Type 0
-GoInOrder a = tickets_in_turn a ≡ range_with_len 1 a.tickets
+GoInOrder a = Rise 0 (tickets_in_turn a) a.tickets
 
 -- so sessions finish in the order in which they were submitted
 abbrev pub SessionsGoInOrder : Type 0
 SessionsGoInOrder = (s : Site) → GoInOrder (office_of s).agenda
+
+-- the session with the ticket has no outcome and may not be withdrawn, and the tickets that are still to come are greater
+pub record IsWithdrawn (o : Office) (ticket : ℕ) : Type 0 where
+  pub outcome : outcome_with o.agenda.outcomes ticket ≡ None
+  pub again : may_withdraw o ticket ≡ false
+  pub given : ticket ≤ o.agenda.tickets
+
+-- so it is of a session that was withdrawn, however the journal goes on
+abbrev pub WithdrawnForGood : Type 0
+WithdrawnForGood = (plan : PlanValue) (me : ℕ) (es more : List Entry) (x : Entry) (ticket : ℕ) → x.event ≡ Withdraw ticket →
+    may_withdraw (office_of (record { plan = plan; me = me; entries = es })) ticket ≡ true → IsWithdrawn (office_of (record { plan = plan; me = me; entries = es ++ x ∷ more })) ticket

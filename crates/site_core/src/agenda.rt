@@ -6,7 +6,7 @@ ghost use Rattle.bottle_values.specs.declared.Value as bottle;
 ghost use Rattle.session_meaning.specs.ProgramValue.{ProgramValue};
 ghost use Rattle.site_core.specs.declared.agenda.Phase.TheVariants as phases;
 ghost use Rattle.site_core.specs.Agenda as sessions;
-ghost use Rattle.site_core.specs.Agenda.{empty, is_full, submitted, first_needs, started, gathering, begun, may_work, worked, ending_of, writes_of, with_current, finished};
+ghost use Rattle.site_core.specs.Agenda.{empty, unfinished, is_full, submitted, is_waiting, is_gathering, without_waiting, first_needs, started, gathering, begun, may_work, worked, ending_of, writes_of, with_current, finished};
 ghost use Rattle.session_meaning.specs.Needs.{needs_of};
 ghost use Rattle.bottle_values.specs.Maps.{reads_of};
 ghost use Rattle.site_core.specs.refinement.AgendaOfCode.{Means};
@@ -74,11 +74,18 @@ impl Agenda {
     pub fn is_full(&self) -> bool
         ensures { (a : sessions.Agenda) → Means self.now a → result ≡ is_full a }
     {
+        self.unfinished() >= MAX_UNFINISHED
+    }
+
+    /// How many sessions are submitted and neither finished nor withdrawn.
+    pub fn unfinished(&self) -> usize
+        ensures { (a : sessions.Agenda) → Means self.now a → result ≡ unfinished a }
+    {
         let current = match &self.current {
             Phase::Idle => 0,
             _ => 1,
         };
-        current + self.queue.len() >= MAX_UNFINISHED
+        current + self.queue.len()
     }
 
     /// How many sessions were submitted.
@@ -107,6 +114,37 @@ impl Agenda {
         self.queue.push_back(Session { ticket, program })?;
         self.tickets = ticket;
         Ok(ticket)
+    }
+
+    /// Whether the session with that ticket waits.
+    pub fn is_waiting(&self, ticket: u32) -> bool
+        ensures { result ≡ is_waiting self.now.queue ticket }
+    {
+        self.queue.iter().any(|session| session.ticket == ticket)
+    }
+
+    /// Whether it is the current one, and waits for its bottles.
+    pub fn is_gathering(&self, ticket: u32) -> bool
+        ensures { (a : sessions.Agenda) → Means self.now a → result ≡ is_gathering a.current ticket }
+    {
+        match &self.current {
+            Phase::Gathering(session) => session.ticket == ticket,
+            _ => false,
+        }
+    }
+
+    /// The session with that ticket waits no more.
+    pub fn withdraw_waiting(&mut self, ticket: u32)
+        ensures { (a : sessions.Agenda) → Means self.old a → Means self.new (without_waiting a ticket) }
+    {
+        self.queue.retain(|session| session.ticket != ticket);
+    }
+
+    /// There is no current session any more.
+    pub fn withdraw_current(&mut self)
+        ensures { (a : sessions.Agenda) → Means self.old a → Means self.new (with_current a sessions.Idle) }
+    {
+        self.current = Phase::Idle;
     }
 
     /// The records that the first waiting session needs.

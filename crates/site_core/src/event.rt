@@ -24,6 +24,8 @@ pub enum Event {
     Send(OfficeId, usize),
     /// A frame comes.
     Took(Frame),
+    /// The session with that ticket is withdrawn.
+    Withdraw(u32),
 }
 
 impl Event {
@@ -36,6 +38,7 @@ impl Event {
             Event::Do(rule) => Ok(Event::Do(*rule)),
             Event::Send(v, i) => Ok(Event::Send(*v, *i)),
             Event::Took(frame) => Ok(Event::Took(*frame)),
+            Event::Withdraw(ticket) => Ok(Event::Withdraw(*ticket)),
         }
     }
 }
@@ -78,6 +81,17 @@ impl Entry {
         Entry {
             tag,
             event: Event::Do(rule),
+            reply: Reply::Done,
+        }
+    }
+
+    /// A session was withdrawn.
+    pub(crate) fn of_withdrawal(tag: u8, ticket: u32) -> Entry
+        ensures { result ≡ record { tag = tag; event = events.Withdraw ticket; reply = replies.Done } }
+    {
+        Entry {
+            tag,
+            event: Event::Withdraw(ticket),
             reply: Reply::Done,
         }
     }

@@ -5,7 +5,7 @@ ghost use Rattle.site_core.specs.contracts.office.Office as office;
 ghost use Rattle.site_core.specs.Journals.{StepsAddTheirEntry, FullAtTheLimit};
 ghost use Rattle.site_core.specs.RuleOrder.{NoneNextIsAtRest};
 ghost use Rattle.site_core.specs.RulesInTurn.{NextIsDoneWhereThereIsRoom};
-ghost use Rattle.site_core.specs.Tickets.{SessionsGoInOrder};
+ghost use Rattle.site_core.specs.Tickets.{SessionsGoInOrder, WithdrawnForGood};
 ghost use Rattle.site_core.specs.Growing.{LinksOnlyGrow};
 
 /// An accepted event adds its one entry, with its reply, and a refused one adds nothing.
@@ -21,6 +21,11 @@ pub fn full_at_the_limit()
 /// An office takes its sessions one after another as they were submitted, so they finish in the order of their tickets.
 pub fn sessions_go_in_order()
     ensures { SessionsGoInOrder }
+{}
+
+/// A session that was withdrawn never finishes and isn't withdrawn again, and its ticket is given to no other.
+pub fn withdrawn_for_good()
+    ensures { WithdrawnForGood }
 {}
 
 /// Where no rule comes next, no rule of any kind may be done, of whatever neighbour or record, and with a piece of whatever

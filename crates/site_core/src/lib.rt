@@ -2,8 +2,9 @@
 //!
 //! - An [`Office`] is what its journal tells: a contract sees the plan, the office's number and the list of entries, and
 //!   `office_of` (`specs/Journals.antt`) is the office that these lead to from the opening. Each event is one step
-//!   ([`Office::step`], or [`Office::submit`], [`Office::act`], [`Office::send`], [`Office::take`] for one kind of them):
-//!   `Steps` says which reply or refusal it gets, and that an accepted one adds its one entry and a refused one nothing.
+//!   ([`Office::step`], or [`Office::submit`], [`Office::act`], [`Office::send`], [`Office::take`], [`Office::withdraw`] for
+//!   one kind of them): `Steps` says which reply or refusal it gets, and that an accepted one adds its one entry and a
+//!   refused one nothing.
 //! - What an office answers is `answer`, in `specs/Offices.antt`; `may` and `act` there are the guard and the effect of
 //!   each [`Rule`]. They hand the rows of forks to `dining_core`, those of bottles to `drinking_core`, the numbering of
 //!   messages to `window_link`, and what a frame may bring to `token_channel`: no row stands twice. A session's work is

@@ -7,6 +7,7 @@ ghost use Rattle.office_map.specs.PlanValue.{are_neighbours, is_end, peer};
 ghost use Rattle.token_channel.specs.declared.thing.Thing.TheVariants as things;
 ghost use Rattle.token_channel.specs.Things.{count_carrying};
 ghost use Rattle.site_core.specs.Limits.{most_entries};
+ghost use Rattle.site_core.specs.Agenda.{unfinished};
 ghost use Rattle.site_core.specs.Offices.{may};
 ghost use Rattle.site_core.specs.RuleOrder.{next_rule, IsAtRest};
 ghost use Rattle.site_core.specs.Readers.{outcome_with, waiting_on, TellsBottle};
@@ -80,8 +81,8 @@ impl Office {
     {
         let room = self.journal.make_room();
         if let Err(refusal) = room {
-            let refused = rules::unless_enabled(&self.pairs, &self.agenda, &rule, refusal);
-            return Err(refused);
+            let enabled = rules::may(&self.pairs, &self.agenda, &rule);
+            return Err(rules::unless_guarded(enabled, refusal));
         }
         rules::do_rule(self.alloc, &mut self.pairs, &mut self.agenda, &rule)?;
         let entry = Entry::of_rule(tag, rule);
@@ -116,6 +117,27 @@ impl Office {
         let entry = Entry::of_session(tag, copy, ticket);
         self.journal.push(entry);
         Ok(Reply::Ticket(ticket))
+    }
+
+    /// Withdraws the session with that ticket, which waits, or waits for its bottles. It is neither finished nor unfinished
+    /// then, and its ticket isn't given again.
+    ///
+    /// # Errors
+    /// `NotNow` where no session with that ticket waits, and the current one isn't that or drinks; then `JournalFull`, then
+    /// `Memory`. Nothing changed.
+    pub fn withdraw(&mut self, tag: u8, ticket: u32) -> Result<Reply, Refusal>
+        requires { tag < 16 }
+        ensures { Steps self.old tag (events.Withdraw ticket) result self.new }
+    {
+        let room = self.journal.make_room();
+        if let Err(refusal) = room {
+            let withdrawable = rules::may_withdraw(&self.pairs, &self.agenda, ticket);
+            return Err(rules::unless_guarded(withdrawable, refusal));
+        }
+        rules::withdraw(&mut self.pairs, &mut self.agenda, ticket)?;
+        let entry = Entry::of_withdrawal(tag, ticket);
+        self.journal.push(entry);
+        Ok(Reply::Done)
     }
 
     /// Makes a frame for a neighbour: of the `i`-th message that waits for it, from 1, or with 0 of the count alone.
@@ -173,7 +195,7 @@ impl Office {
     /// Any event.
     ///
     /// # Errors
-    /// As [`Office::submit`], [`Office::act`], [`Office::send`] and [`Office::take`].
+    /// As [`Office::submit`], [`Office::act`], [`Office::send`], [`Office::take`] and [`Office::withdraw`].
     pub fn step(&mut self, tag: u8, event: &Event) -> Result<Reply, Refusal>
         requires { tag < 16 }
         ensures { Steps self.old tag event.now result self.new }
@@ -183,6 +205,7 @@ impl Office {
             Event::Do(rule) => self.act(tag, *rule),
             Event::Send(v, i) => self.send(tag, *v, *i),
             Event::Took(frame) => self.take(tag, frame),
+            Event::Withdraw(ticket) => self.withdraw(tag, *ticket),
         }
     }
 
@@ -217,16 +240,24 @@ impl Office {
         self.agenda.outcomes()
     }
 
-    /// How the session with that ticket ended; none where it hasn't finished.
+    /// How the session with that ticket ended; none where it hasn't finished, or was withdrawn.
     pub fn outcome(&self, ticket: u32) -> Option<&Outcome>
         ensures { option_copied result ≡ outcome_with (office_of self.now).agenda.outcomes ticket }
     {
+        // Sessions finish in the order of their tickets.
         sessions_go_in_order();
-        if ticket == 0 {
-            return None;
+        let outcomes = self.outcomes();
+        match outcomes.binary_search_by_key(&ticket, |outcome| outcome.ticket) {
+            Ok(i) => outcomes.get(i),
+            Err(_) => None,
         }
-        // Sessions finish in the order of their tickets, which begin with 1.
-        self.outcomes().get(ticket as usize - 1)
+    }
+
+    /// How many sessions were submitted, and have neither finished nor been withdrawn.
+    pub fn unfinished(&self) -> usize
+        ensures { result ≡ unfinished (office_of self.now).agenda }
+    {
+        self.agenda.unfinished()
     }
 
     /// How many sessions were submitted.

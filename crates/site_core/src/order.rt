@@ -15,6 +15,7 @@ use crate::limits::USUAL_PIECE;
 use crate::pairs::Pairs;
 use crate::rule::Rule;
 use crate::rules::may;
+use dining_core::Phase;
 
 /// The first rule that may be done, in the order in which an office looks at them.
 pub fn next_rule(pairs: &Pairs, agenda: &Agenda) -> Option<Rule>
@@ -82,10 +83,13 @@ fn give_fork(pairs: &Pairs, agenda: &Agenda) -> Option<Rule>
     None
 }
 
-/// A bottle that is asked for, of the least record.
+/// A bottle that is asked for, of the least record. An office that is not thirsty asks for none, and looks at none.
 fn ask_bottle(pairs: &Pairs, agenda: &Agenda) -> Option<Rule>
     ensures { (a : sessions.Agenda) → Means agenda.now a → result ≡ find (offices.may pairs.now.plan pairs.now.me (office_at pairs.now a)) (map rules.AskBottle (records_of pairs.now.plan pairs.now.me)) }
 {
+    if !pairs.bar().phase().is_thirsty() {
+        return None;
+    }
     for r in pairs.records() {
         if may(pairs, agenda, &Rule::AskBottle(*r)) {
             return Some(Rule::AskBottle(*r));
@@ -94,10 +98,13 @@ fn ask_bottle(pairs: &Pairs, agenda: &Agenda) -> Option<Rule>
     None
 }
 
-/// A fork that is asked for, of the least neighbour.
+/// A fork that is asked for, of the least neighbour. An office that is not hungry asks for none, and looks at none.
 fn ask_fork(pairs: &Pairs, agenda: &Agenda) -> Option<Rule>
     ensures { (a : sessions.Agenda) → Means agenda.now a → result ≡ find (offices.may pairs.now.plan pairs.now.me (office_at pairs.now a)) (map rules.AskFork (neighbours_of pairs.now.plan pairs.now.me)) }
 {
+    if !matches!(pairs.table().phase(), Phase::Hungry) {
+        return None;
+    }
     for v in pairs.neighbours() {
         if may(pairs, agenda, &Rule::AskFork(*v)) {
             return Some(Rule::AskFork(*v));

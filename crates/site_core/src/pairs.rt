@@ -252,6 +252,17 @@ impl Pairs {
         Ok(())
     }
 
+    /// A thirsty office's session is withdrawn.
+    pub fn withdraw(&mut self) -> Result<(), NotNow>
+        ensures office { IsOf self.old.plan self.old.me self.new }
+        ensures not_now { IsErr result ↔ (bottles.may (pairs_of self.old).drinker bottles.Withdraw ≡ false) }
+        ensures done { OnOk result (pairs_of self.new ≡ after_bottle_rule (pairs_of self.old) bottles.Withdraw) }
+        ensures unchanged { OnErr result (self.new ≡ self.old) }
+    {
+        self.bar.withdraw()?;
+        Ok(())
+    }
+
     /// The channel to that office, if it is a neighbour.
     pub fn channel(&self, v: OfficeId) -> Option<&Channel>
         ensures near { IsSome result ↔ (are_neighbours self.now.plan self.now.me v ≡ true) }

@@ -16,7 +16,7 @@ use window_link::Arrival;
 pub enum Reply {
     /// The number of a submitted session at its office, from 1.
     Ticket(u32),
-    /// A rule was done.
+    /// A rule was done, or a session withdrawn.
     Done,
     /// The frame that is to be sent.
     Frame(Frame),
@@ -56,7 +56,8 @@ pub enum Refusal {
     /// The channel to the frame's sender refuses it, or there is none.
     #[error(transparent)]
     Channel(ChannelFault),
-    /// The rule's guard is false, or there is no such neighbour, record or waiting message.
+    /// The rule's guard is false, or there is no such neighbour, record or waiting message, or no session with that ticket that
+    /// may be withdrawn.
     #[error("O1 NotNow")]
     NotNow,
     /// The program is of another office, or needs a record that isn't of this office.

@@ -170,15 +170,37 @@ pub fn may(pairs: &Pairs, agenda: &Agenda, rule: &Rule) -> bool
     }
 }
 
-/// Why a rule is refused for which there is no room: its guard comes first.
-pub fn unless_enabled(pairs: &Pairs, agenda: &Agenda, rule: &Rule, refusal: Refusal) -> Refusal
-    ensures { (a : sessions.Agenda) → Means agenda.now a → result ≡ (if offices.may pairs.now.plan pairs.now.me (office_at pairs.now a) rule.now then refusal else refusals.NotNow) }
+/// Whether the session with that ticket may be withdrawn.
+pub fn may_withdraw(pairs: &Pairs, agenda: &Agenda, ticket: u32) -> bool
+    ensures { (a : sessions.Agenda) → Means agenda.now a → result ≡ offices.may_withdraw (office_at pairs.now a) ticket }
 {
-    if may(pairs, agenda, rule) {
-        refusal
-    } else {
-        Refusal::NotNow
+    agenda.is_waiting(ticket) || (agenda.is_gathering(ticket) && pairs.bar().may_withdraw())
+}
+
+/// The session with that ticket is taken out of those that wait, or the current one ends without an outcome.
+pub fn withdraw(pairs: &mut Pairs, agenda: &mut Agenda, ticket: u32) -> Result<(), NotNow>
+    ensures office { IsOf pairs.old.plan pairs.old.me pairs.new }
+    ensures not_now { (a : sessions.Agenda) → Means agenda.old a → IsErr result ↔ (offices.may_withdraw (office_at pairs.old a) ticket ≡ false) }
+    ensures done { (a : sessions.Agenda) → Means agenda.old a → OnOk result (Stands pairs.new agenda.new (offices.withdrawn (office_at pairs.old a) ticket)) }
+    ensures unchanged { OnErr result ((pairs.new ≡ pairs.old) × (agenda.new ≡ agenda.old)) }
+{
+    if agenda.is_waiting(ticket) {
+        agenda.withdraw_waiting(ticket);
+        return Ok(());
     }
+    if !agenda.is_gathering(ticket) {
+        return Err(NotNow);
+    }
+    pairs.withdraw()?;
+    agenda.withdraw_current();
+    Ok(())
+}
+
+/// Why an event is refused for which there is no room: its guard comes first.
+pub fn unless_guarded(guard: bool, refusal: Refusal) -> Refusal
+    ensures { result ≡ (if guard then refusal else refusals.NotNow) }
+{
+    if guard { refusal } else { Refusal::NotNow }
 }
 
 /// Whether a program is of the office, and needs no record of another.

@@ -35,13 +35,17 @@ const GIVES: &str = "session a\ngive 1\nend\nsession b\ngive 2\nend\n";
 
 const READS_ALL: &str = "session a\ngive read x + read y + read z\nend\n";
 
+/// Two sessions of one record.
+const TWO_OF_X: &str = "session a\nset x = 1\nend\nsession a\ngive read x\nend\n";
+
 /// The two offices of each plan.
 const A: usize = 0;
 
 const B: usize = 1;
 
 /// What a step is: a session is submitted, by its place in the text; a rule, with its record or its size; the message of that
-/// place is framed for the other office; the frame of that place is taken by its addressee; the next rule.
+/// place is framed for the other office; the frame of that place is taken by its addressee; the session with that ticket is
+/// withdrawn; the next rule.
 #[derive(Clone, Copy)]
 enum What {
     Submit,
@@ -58,6 +62,7 @@ enum What {
     Finish,
     Send,
     Deliver,
+    Withdraw,
     Next,
 }
 
@@ -66,7 +71,7 @@ enum What {
 struct Step(What, usize, u16);
 
 /// A plan, sessions, steps, and what is answered. A frame is told by its number and its count.
-static ROWS: [(&str, &str, &[Step], &str); 6] = [
+static ROWS: [(&str, &str, &[Step], &str); 7] = [
     (
         PAIR,
         MOVE,
@@ -215,6 +220,23 @@ static ROWS: [(&str, &str, &[Step], &str); 6] = [
         ],
         "refused O2 NotOurs; ticket 1; done; done; done; done; done; refused O1 NotNow; refused O1 NotNow; done; refused O1 NotNow; refused O1 NotNow; refused O1 NotNow; refused O1 NotNow; done; refused O1 NotNow; 0.1 Done reads writes gives 1; ",
     ),
+    (
+        PAIR,
+        TWO_OF_X,
+        &[
+            Step(What::Submit, A, 0),
+            Step(What::Submit, A, 1),
+            Step(What::Start, A, 0),
+            Step(What::Withdraw, A, 1),
+            Step(What::Withdraw, A, 1),
+            Step(What::Start, A, 0),
+            Step(What::Drink, A, 0),
+            Step(What::Withdraw, A, 2),
+            Step(What::Work, A, 100),
+            Step(What::Finish, A, 0),
+        ],
+        "ticket 1; ticket 2; done; done; refused O1 NotNow; done; done; refused O1 NotNow; done; done; 0.2 Done reads 0=100 writes gives 100; ",
+    ),
 ];
 
 #[test]
@@ -324,6 +346,7 @@ fn event_of(alloc: Global, programs: &[Program], step: Step) -> Result<Option<Ev
             None => Ok(None),
         },
         What::Send => Ok(Some(Event::Send(other(at), n as usize))),
+        What::Withdraw => Ok(Some(Event::Withdraw(n as u32))),
         _ => Ok(rule_of(step).map(Event::Do)),
     }
 }
@@ -420,6 +443,59 @@ fn fill_queue<R: Abort>(rt: &R, office: &mut Office, program: &Program) {
     assert_eq!(rt; submit(office, program), Ok(Reply::Ticket(65)));
     assert_eq!(rt; office.tickets(), 65);
     assert_eq!(rt; office.journal().len(), MAX_UNFINISHED + 5);
+}
+
+/// A withdrawn session makes room, has no outcome, and its ticket isn't given again.
+#[test]
+fn a_withdrawn_session_makes_room(rt: HostRuntime) -> Result<(), Fail> {
+    let alloc = rt.alloc();
+    let plan = Plan::read(alloc, PAIR.as_bytes())?;
+    let programs = read_sessions(alloc, GIVES.as_bytes(), &plan)?;
+    let mut offices = opened(alloc, &plan)?;
+    let (Some(office), Some(program)) = (offices.get_mut(A), programs.get(0)) else {
+        return Err(Fail::from("an office and a session"));
+    };
+    for _ in 0..MAX_UNFINISHED {
+        assert!(rt; submit(office, program).is_ok());
+    }
+    withdraw_two(&rt, office, program);
+    finish_three(&rt, office);
+    Ok(())
+}
+
+/// The current one and a waiting one, of 64.
+fn withdraw_two<R: Abort>(rt: &R, office: &mut Office, program: &Program) {
+    assert_eq!(rt; act(office, Rule::Start), Ok(Reply::Done));
+    assert_eq!(rt; office.withdraw(3, 1), Ok(Reply::Done));
+    assert_eq!(rt; office.withdraw(3, 3), Ok(Reply::Done));
+    assert_eq!(rt; office.unfinished(), 62);
+    for ticket in [65, 66] {
+        assert_eq!(rt; submit(office, program), Ok(Reply::Ticket(ticket)));
+    }
+    assert_eq!(rt; office.unfinished(), MAX_UNFINISHED);
+    assert_eq!(rt; submit(office, program), Err(Refusal::QueueFull));
+    assert_eq!(rt; office.withdraw(3, 66), Ok(Reply::Done));
+    assert_eq!(rt; submit(office, program), Ok(Reply::Ticket(67)));
+    assert_eq!(rt; office.tickets(), 67);
+}
+
+/// Those with the tickets 2, 4 and 5.
+fn finish_three<R: Abort>(rt: &R, office: &mut Office) {
+    for _ in 0..3 {
+        for rule in [Rule::Start, Rule::Drink, Rule::Work(100), Rule::Finish] {
+            assert_eq!(rt; act(office, rule), Ok(Reply::Done));
+        }
+    }
+    for ticket in [0, 1, 3, 6, 66, 68] {
+        assert!(rt; office.outcome(ticket).is_none());
+    }
+    for ticket in [2, 4, 5] {
+        assert_eq!(rt;
+            office.outcome(ticket).map(|outcome| outcome.ticket),
+            Some(ticket)
+        );
+    }
+    assert_eq!(rt; office.unfinished(), 61);
 }
 
 fn submit(office: &mut Office, program: &Program) -> Result<Reply, Refusal> {

@@ -41,8 +41,9 @@ static FRAMES: [(u8, u8, u8, u8, [&str; 3]); 13] = [
 ];
 
 /// An event at office `a`, and what is told of it at each of the offices: a session of the other office, one of its own, a rule
-/// whose guard is false, one whose guard holds, a message that doesn't wait, and the count.
-static EVENTS: [(Step, [&str; 3]); 6] = [
+/// whose guard is false, one whose guard holds, a message that doesn't wait, the count, a ticket that wasn't given, and one that
+/// may be withdrawn.
+static EVENTS: [(Step, [&str; 3]); 8] = [
     (Step(What::Submit, A, 1), ["refused O2 NotOurs; "; 3]),
     (
         Step(What::Submit, A, 0),
@@ -66,6 +67,15 @@ static EVENTS: [(Step, [&str; 3]); 6] = [
         Step(What::Send, A, 0),
         [
             "frame 0 1; ",
+            "refused O4 JournalFull; ",
+            "refused O4 JournalFull; ",
+        ],
+    ),
+    (Step(What::Withdraw, A, 65), ["refused O1 NotNow; "; 3]),
+    (
+        Step(What::Withdraw, A, 1),
+        [
+            "done; ",
             "refused O4 JournalFull; ",
             "refused O4 JournalFull; ",
         ],

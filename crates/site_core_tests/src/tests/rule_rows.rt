@@ -3,7 +3,7 @@
 
 use self::Step::{
     AskBottle, AskFork, BottleGiven, BottleWanted, Drink, Eat, Finish, ForkGiven, ForkWanted,
-    GiveBottle, GiveFork, Hungry, Leave, Start, Submit, Work,
+    GiveBottle, GiveFork, Hungry, Leave, Start, Submit, Withdraw, Work,
 };
 use super::opened;
 use super::shown::{shown, tell_messages};
@@ -56,8 +56,9 @@ const OF_X_Y: usize = 3;
 
 const OF_V: usize = 4;
 
-/// What happens at the office: a session is submitted; a rule is done; or a message comes from a neighbour that took all that
-/// was sent to it: it wants the fork, or a bottle; it gives the fork, or a bottle with a value.
+/// What happens at the office: a session is submitted; a rule is done; the session with a ticket is withdrawn; or a message
+/// comes from a neighbour that took all that was sent to it: it wants the fork, or a bottle; it gives the fork, or a bottle with
+/// a value.
 #[derive(Clone, Copy)]
 pub enum Step {
     Submit(usize),
@@ -72,13 +73,15 @@ pub enum Step {
     Drink,
     Work(u16),
     Finish,
+    Withdraw(u32),
     ForkWanted(u8),
     ForkGiven(u8),
     BottleWanted(u8, u16),
     BottleGiven(u8, u16, i64),
 }
 
-/// The part of the guard that alone is false (none: all hold), what happened before, the rule, and what is told of it.
+/// The part of the guard that alone is false (none: all hold), what happened before, the rule or the withdrawal, and what is
+/// told of it.
 struct Row(&'static str, &'static [Step], Step, &'static str);
 
 /// What is told where the guard is false, of an office that stays as it was.
@@ -90,7 +93,7 @@ const NOT_NOW: &str = "O1 NotNow";
 ///
 /// That a needed bottle is away and its office isn't thirsty never happens, nor that work has ended and its office isn't
 /// drinking: there two parts are false.
-static ROWS: [Row; 85] = [
+static ROWS: [Row; 106] = [
     // Start: tranquil, and a session waits. The first that waits becomes the current one; the office is thirsty and needs its records.
     Row(
         "",
@@ -593,6 +596,146 @@ static ROWS: [Row; 85] = [
         Finish,
         NOT_NOW,
     ),
+    // Withdraw: the ticket's session waits, or is the current one and the office is thirsty. It waits no more, or the office is
+    // tranquil and needs no record; forks and bottles stay.
+    Row(
+        "",
+        &[Submit(OF_Y)],
+        Withdraw(1),
+        "may; here x=100 v=9; b 1 0 0; c 1 0 0; 1 submitted; sends",
+    ),
+    Row(
+        "",
+        &[Submit(OF_Y), Submit(OF_NONE)],
+        Withdraw(1),
+        "may start; here x=100 v=9; b 1 0 0; c 1 0 0; 2 submitted; sends",
+    ),
+    Row(
+        "",
+        &[Submit(OF_Y), Submit(OF_X), Withdraw(1)],
+        Start,
+        "may hungry, drink; here x=100 v=9; b 1 0 0; c 1 0 0; 2 submitted; sends",
+    ),
+    Row(
+        "",
+        &[Submit(OF_Y), Submit(OF_X), Submit(OF_V), Withdraw(3)],
+        Start,
+        "may hungry, askbottle y; here x=100 v=9; b 1 0 0; c 1 0 0; 3 submitted; sends",
+    ),
+    Row(
+        "",
+        &[Submit(OF_NONE), Submit(OF_Y), Start, Drink],
+        Withdraw(2),
+        "may work 1; here x=100 v=9; b 1 0 0; c 1 0 0; 2 submitted; sends",
+    ),
+    Row(
+        "",
+        &[Submit(OF_Y), Submit(OF_NONE), Start],
+        Withdraw(2),
+        "may hungry, askbottle y; here x=100 v=9; b 1 0 0; c 1 0 0; 2 submitted; sends",
+    ),
+    Row(
+        "",
+        &[Submit(OF_Y), Start],
+        Withdraw(1),
+        "may; here x=100 v=9; b 1 0 0; c 1 0 0; 1 submitted; sends",
+    ),
+    Row(
+        "",
+        &[Submit(OF_X), Submit(OF_Y), Start],
+        Withdraw(1),
+        "may start; here x=100 v=9; b 1 0 0; c 1 0 0; 2 submitted; sends",
+    ),
+    Row(
+        "",
+        &[Submit(OF_Y), Start, Hungry],
+        Withdraw(1),
+        "may askfork c; here x=100 v=9; b 1 0 0; c 1 0 0; 1 submitted; sends",
+    ),
+    Row(
+        "",
+        &[
+            Submit(OF_Y),
+            Start,
+            Hungry,
+            AskFork(C),
+            ForkGiven(C),
+            Withdraw(1),
+        ],
+        Eat,
+        "may leave; here x=100 v=9; b 1 0 0; c 2 0 1; 1 submitted; sends",
+    ),
+    Row(
+        "",
+        &[Submit(OF_Y), Start, Hungry, AskFork(C), ForkGiven(C), Eat],
+        Withdraw(1),
+        "may leave; here x=100 v=9; b 1 0 0; c 2 0 1; 1 submitted; sends",
+    ),
+    Row(
+        "",
+        &[
+            Submit(OF_Y),
+            Start,
+            AskBottle(Y),
+            Withdraw(1),
+            BottleGiven(B, Y, 5),
+            Submit(OF_Y),
+        ],
+        Start,
+        "may hungry, drink; here x=100 y=5 v=9; b 2 0 1; c 1 0 0; 2 submitted; sends",
+    ),
+    Row(
+        "",
+        &[Submit(OF_X), Start, BottleWanted(B, X)],
+        Withdraw(1),
+        "may givebottle x; here x=100 v=9; b 1 0 1; c 1 0 0; 1 submitted; sends",
+    ),
+    Row("waits or is the current one", &[], Withdraw(0), NOT_NOW),
+    Row("waits or is the current one", &[], Withdraw(1), NOT_NOW),
+    Row(
+        "waits or is the current one",
+        &[Submit(OF_Y), Start, Submit(OF_X)],
+        Withdraw(3),
+        NOT_NOW,
+    ),
+    Row(
+        "waits or is the current one",
+        &[Submit(OF_Y), Withdraw(1), Submit(OF_X)],
+        Withdraw(1),
+        NOT_NOW,
+    ),
+    Row(
+        "waits or is the current one",
+        &[Submit(OF_Y), Start, Withdraw(1), Submit(OF_X), Start],
+        Withdraw(1),
+        NOT_NOW,
+    ),
+    Row(
+        "waits or is the current one",
+        &[
+            Submit(OF_NONE),
+            Submit(OF_Y),
+            Start,
+            Drink,
+            Work(3),
+            Finish,
+            Start,
+        ],
+        Withdraw(1),
+        NOT_NOW,
+    ),
+    Row(
+        "the office is thirsty",
+        &[Submit(OF_NONE), Start, Drink],
+        Withdraw(1),
+        NOT_NOW,
+    ),
+    Row(
+        "the office is thirsty",
+        &[Submit(OF_NONE), Start, Drink, Work(3)],
+        Withdraw(1),
+        NOT_NOW,
+    ),
 ];
 
 /// Who hands in what is looked at.
@@ -620,8 +763,8 @@ fn told(
     rule: Step,
 ) -> Result<String, Fail> {
     let mut offices = opened(alloc, plan)?;
-    let (Some(office), Some(rule)) = (offices.get_mut(0), rule_of(rule)) else {
-        return Err(Fail::from("an office and a rule"));
+    let Some(office) = offices.get_mut(0) else {
+        return Err(Fail::from("an office"));
     };
     for step in before {
         let event = event_of(alloc, office, programs, *step)?;
@@ -629,7 +772,10 @@ fn told(
             return Ok(String::from_str(alloc, "a step before is refused")?);
         }
     }
-    answered(alloc, office, rule)
+    match event_of(alloc, office, programs, rule)? {
+        Some(event) => answered(alloc, office, &event),
+        None => Err(Fail::from("an event")),
+    }
 }
 
 fn goes(office: &mut Office, event: Option<Event>) -> bool {
@@ -639,21 +785,21 @@ fn goes(office: &mut Office, event: Option<Event>) -> bool {
     }
 }
 
-fn answered(alloc: Global, office: &mut Office, rule: Rule) -> Result<String, Fail> {
+fn answered(alloc: Global, office: &mut Office, event: &Event) -> Result<String, Fail> {
     let entries = office.journal().len();
-    let enabled = office.enabled(rule);
+    let enabled = enabled(office, event);
     let before = shown(alloc, office)?;
-    let reply = office.step(TAG, &Event::Do(rule));
+    let reply = office.step(TAG, event);
     let mut after = shown(alloc, office)?;
     if let Err(refusal) = reply {
         let stays = before.as_str() == after.as_str() && office.journal().len() == entries;
-        if enabled || !stays {
+        if enabled == Some(true) || !stays {
             after.push_str(", though refused")?;
             return Ok(after);
         }
         return Ok(format!(in alloc; "{refusal}")?);
     }
-    if !enabled || !is_entered(office, entries, rule) {
+    if enabled == Some(false) || !is_entered(office, entries, event) {
         after.push_str(", though not enabled or not entered")?;
     }
     tell_messages(&mut after, office, "b", B)?;
@@ -661,17 +807,27 @@ fn answered(alloc: Global, office: &mut Office, rule: Rule) -> Result<String, Fa
     Ok(after)
 }
 
-/// The journal has one entry more than so many, of this rule.
-fn is_entered(office: &Office, entries: usize, rule: Rule) -> bool {
+/// What the office says of a rule beforehand. Of a withdrawal it says nothing.
+fn enabled(office: &Office, event: &Event) -> Option<bool> {
+    match event {
+        Event::Do(rule) => Some(office.enabled(*rule)),
+        _ => None,
+    }
+}
+
+/// The journal has one entry more than so many, of this event.
+fn is_entered(office: &Office, entries: usize, event: &Event) -> bool {
     let journal = office.journal();
     let Some(entry) = journal.get(entries) else {
         return false;
     };
     let alone = journal.get(entries.saturating_add(1)).is_none();
-    let Event::Do(done) = &entry.event else {
-        return false;
+    let same = match (&entry.event, event) {
+        (Event::Do(done), Event::Do(rule)) => *done == *rule,
+        (Event::Withdraw(done), Event::Withdraw(ticket)) => *done == *ticket,
+        _ => false,
     };
-    alone && entry.tag == TAG && *done == rule && entry.reply == Reply::Done
+    alone && same && entry.tag == TAG && entry.reply == Reply::Done
 }
 
 fn event_of(
@@ -685,6 +841,7 @@ fn event_of(
             Some(program) => Ok(Some(Event::Submit(program.copy(alloc)?))),
             None => Ok(None),
         },
+        Withdraw(ticket) => Ok(Some(Event::Withdraw(ticket))),
         ForkWanted(v) => Ok(comes(office, v, Msg::AskFork)),
         ForkGiven(v) => Ok(comes(office, v, Msg::Fork)),
         BottleWanted(v, r) => Ok(comes(office, v, Msg::AskBottle(r))),

@@ -1,19 +1,20 @@
-use Rattle.std.proofs.Common.{Err, cond, ap, subst, ◌∙◌, ◌++◌, ◌∷◌, []}
+use Rattle.std.proofs.Common.{Err, cond, refl, ap, subst, ◌∙◌, ◌++◌, ◌∷◌, []}
 use Rattle.site_core.specs.declared.event.Event.TheVariants as event
 use Rattle.site_core.specs.declared.reply.Refusal.TheVariants as refusal
-use Rattle.site_core.specs.Offices.{may}
+use Rattle.site_core.specs.Offices.{may, act}
 use Rattle.site_core.specs.Journals.{Steps}
 use Rattle.site_core.specs.refinement.OfficeOfCode.{site_of}
-use Rattle.site_core.proofs.OfficeSteps.{have_room, are_ours, no_room_for_rule, done_rule, told_of, not_err, err_is}
+use Rattle.site_core.proofs.OfficeSteps.{have_room, are_ours, no_room_for, done_event, told_of, not_err, err_is}
 use Rattle.site_core.proofs.office.Office.act.Goals as goal
 
 pub returns-in-Err : goal.returns-in-Err
 returns-in-Err c =
     let s = c.self.inside in
-    let before = site_of s.pairs s.journal.entries in
-    let told = told_of s.pairs s.agenda s.journal.entries (λ o. cond (may s.pairs.plan s.pairs.me o c.args.rule) c.in-Err.refusal refusal.NotNow) c.unless_enabled-refused.result c.self.invariant c.unless_enabled-refused.ensures in
-    subst (λ x. Steps x c.args.tag (event.Do c.args.rule) (Err c.unless_enabled-refused.result) (site_of s.pairs c.make_room-room.new.self.entries)) c.self.view_is
-    (no_room_for_rule before (site_of s.pairs c.make_room-room.new.self.entries) c.args.tag c.args.rule c.in-Err.refusal c.unless_enabled-refused.result (ap (site_of s.pairs) c.in-Err.ensures.unchanged) told
+    let left = site_of s.pairs c.make_room-room.new.self.entries in
+    let told = told_of s.pairs s.agenda s.journal.entries (λ o. cond (may s.pairs.plan s.pairs.me o c.args.rule) c.in-Err.refusal refusal.NotNow) c.unless_guarded.result c.self.invariant
+    (λ a m. c.unless_guarded.ensures ∙ ap (λ b. cond b c.in-Err.refusal refusal.NotNow) (c.may-enabled.ensures a m)) in
+    subst (λ x. Steps x c.args.tag (event.Do c.args.rule) (Err c.unless_guarded.result) left) c.self.view_is
+    (no_room_for (site_of s.pairs s.journal.entries) left c.args.tag (event.Do c.args.rule) (λ o. may s.pairs.plan s.pairs.me o c.args.rule) (λ o. act s.pairs.me o c.args.rule) (λ o. refl) c.in-Err.refusal c.unless_guarded.result (ap (site_of s.pairs) c.in-Err.ensures.unchanged) told
     (λ e. c.in-Err.ensures.full.0 (ap Err e)) (λ f. err_is _ _ (c.in-Err.ensures.full.1 f)) c.in-Err.ensures.known)
 
 pub do_rule-requires-clause-room : goal.do_rule-requires-clause-room
@@ -25,6 +26,6 @@ do_rule-requires-clause-ours c = are_ours c.self.inside.pairs c.self.inside.agen
 pub invariant_of-self-2 : goal.invariant_of-self-2
 invariant_of-self-2 c =
     let s = c.self.inside in
-    done_rule s.pairs c.do_rule.new.pairs s.agenda c.do_rule.new.agenda s.journal.entries c.push.new.self.entries c.args.tag c.args.rule c.self.invariant c.in_ok-do_rule.ensures.office
+    done_event s.pairs c.do_rule.new.pairs s.agenda c.do_rule.new.agenda s.journal.entries c.push.new.self.entries c.args.tag (event.Do c.args.rule) (λ o. may s.pairs.plan s.pairs.me o c.args.rule) (λ o. act s.pairs.me o c.args.rule) (λ o. refl) c.self.invariant c.in_ok-do_rule.ensures.office
     (λ a m e. not_err _ _ ((c.in_ok-do_rule.ensures.not_now a m).1 e)) c.in_ok-do_rule.ensures.done c.requires (λ e. not_err _ _ (c.in_default.ensures.full.1 e))
     (c.push.ensures ∙ ap (λ l. l ++ c.of_rule-entry.result ∷ []) c.make_room-room.ensures.unchanged ∙ ap (λ x. s.journal.entries ++ x ∷ []) c.of_rule-entry.ensures)

@@ -1,20 +1,30 @@
-use Rattle.std.proofs.Common.{◌≡◌, ◌+◌, ◌-◌, List, sym, ap, ◌∙◌, arith}
+use Rattle.std.proofs.Common.{◌≡◌, None, subst, ◌∙◌, rules}
 use Rattle.std.specs.Prelude.{slice_get}
-use Rattle.session_meaning.specs.declared.ending.Outcome.{Outcome}
+use Rattle.std.specs.Result.{MatchResult}
+use Rattle.std.proofs.lemmas.List.Sorted.{answers_always}
 use Rattle.site_core.specs.Readers.{outcome_with}
 use Rattle.site_core.specs.Journals.{office_of}
-use Rattle.site_core.proofs.SessionsInOrder.{no_ticket, at_ticket, looked_up}
+use Rattle.site_core.proofs.SessionsInOrder.{searched, looked_up}
 use Rattle.site_core.proofs.office.Office.outcome.Goals as goal
 
-pub returns-then-ticket-eq0 : goal.returns-then-ticket-eq0
-returns-then-ticket-eq0 c =
-    let a = (office_of c.args.self.now).agenda in
-    sym (ap (outcome_with a.outcomes) c.if-ticket-eq0.true ∙ no_ticket a (c.sessions_go_in_order.ensures c.args.self.now))
+pub returns-in-Ok : goal.returns-in-Ok
+returns-in-Ok c =
+    let s = c.args.self.now in
+    let os = c.outcomes-outcomes.result.now in
+    let a = (office_of s).agenda in
+    let search_by = c.binary_search_by_key.ensures in
+    let by_key = search_by.position (λ o. o.ticket) (answers_always _ _ _ (λ f x r g called. search rules)) in
+    let found = searched os a c.args.ticket c.binary_search_by_key.result c.outcomes-outcomes.ensures (c.sessions_go_in_order.ensures s) search_by.bound by_key in
+    let there = c.get.ensures.lookup in
+    looked_up os c.in-Ok.i c.get.result there.0 there.1
+    ∙ subst (λ r. MatchResult r (λ i. slice_get os i ≡ outcome_with a.outcomes c.args.ticket) (λ i. None ≡ outcome_with a.outcomes c.args.ticket)) c.in-Ok.is found
 
-pub returns : goal.returns
-returns c =
-    let a = (office_of c.args.self.now).agenda in
-    let from_one : 1 + (c.args.ticket - 1) ≡ c.args.ticket = omega (arith, c.if-ticket-eq0.false) in
-    let found = c.get.ensures.lookup in
-    looked_up c.outcomes.result.now (c.args.ticket - 1) c.get.result found.0 found.1 ∙ ap (λ (l : List Outcome). slice_get l (c.args.ticket - 1)) c.outcomes.ensures
-    ∙ sym (at_ticket a (c.args.ticket - 1) (c.sessions_go_in_order.ensures c.args.self.now)) ∙ ap (outcome_with a.outcomes) from_one
+pub returns-in-Err : goal.returns-in-Err
+returns-in-Err c =
+    let s = c.args.self.now in
+    let os = c.outcomes-outcomes.result.now in
+    let a = (office_of s).agenda in
+    let search_by = c.binary_search_by_key.ensures in
+    let by_key = search_by.position (λ o. o.ticket) (answers_always _ _ _ (λ f x r g called. search rules)) in
+    let found = searched os a c.args.ticket c.binary_search_by_key.result c.outcomes-outcomes.ensures (c.sessions_go_in_order.ensures s) search_by.bound by_key in
+    subst (λ r. MatchResult r (λ i. slice_get os i ≡ outcome_with a.outcomes c.args.ticket) (λ i. None ≡ outcome_with a.outcomes c.args.ticket)) c.in-Err.is found
