@@ -1,6 +1,6 @@
 -- What an accepted event leaves of an office, and what of it is a row of the forks or of the bottles.
 use Rattle.std.proofs.Common.{◌≡◌, ℕ, Bool, true, false, cond, Option, None, Some, Ok, Err, refl, sym, ap, ◌∙◌}
-use Rattle.std.specs.Prelude.{◌+◌}
+use Rattle.std.specs.Prelude.{◌+◌, ◌&&◌, ◌||◌}
 use Rattle.std.proofs.lemmas.Bool.{and_parts}
 use Rattle.frame_codec.specs.declared.message.Msg.{Msg}
 use Rattle.frame_codec.specs.Frame.{Fields}
@@ -21,9 +21,9 @@ use Rattle.site_core.specs.declared.reply.Reply.TheVariants as reply
 use Rattle.site_core.specs.declared.reply.Refusal.TheVariants as refused
 use Rattle.site_core.specs.Replies.{reply_to}
 use Rattle.site_core.specs.Pairs.{Pairs, is_thirsty, after_fork_rule, after_bottle_rule, frame_fault, arrival_of, arrived, after_frame, follows, as_arrival, after_taking}
-use Rattle.site_core.specs.Agenda.{is_full, submitted, first_needs, writes_of}
+use Rattle.site_core.specs.Agenda.{Idle, is_full, submitted, first_needs, writes_of, is_waiting, is_gathering, without_waiting, with_current}
 use Rattle.site_core.proofs.KeptMessages.{through_taking}
-use Rattle.site_core.specs.Offices.{Office, Answer, may, act, is_ours, submit, do_rule, framed, frame_on, send, unless_faulty, with_pairs, answer}
+use Rattle.site_core.specs.Offices.{Office, Answer, may, act, is_ours, submit, do_rule, framed, frame_on, send, unless_faulty, with_pairs, may_withdraw, withdrawn, withdraw, done_if, answer}
 
 -- what an event is to an office's pairs: nothing, a row of the forks or of the bottles, or a frame's own message, after
 -- which each kept one is a step of its own: it follows, or nothing does and what is kept is thrown out
@@ -47,11 +47,17 @@ rule_step o rule.Drink = ByBottle bottles.Drink
 rule_step o (rule.Work n) = Stays
 rule_step o rule.Finish = ByBottle (bottles.Finish (writes_of o.agenda.current))
 
+-- a session that is withdrawn as it waits is nothing to the pairs; of the current one the bar becomes tranquil
+abbrev pub withdrawal_step : Bool → PairStep
+withdrawal_step true = Stays
+withdrawal_step false = ByBottle bottles.Withdraw
+
 abbrev pub step_of : Office → office.Event → PairStep
 step_of o (event.Submit p) = Stays
 step_of o (event.Do rule) = rule_step o rule
 step_of o (event.Send v i) = Stays
 step_of o (event.Took f) = ByFrame f
+step_of o (event.Withdraw t) = withdrawal_step (is_waiting o.agenda.queue t)
 
 abbrev pub pair_after : Pairs → PairStep → Pairs
 pair_after p Stays = p
@@ -113,6 +119,18 @@ was_done plan a o rule r o' e = go (may plan a o rule) refl e
     go : (b : Bool) → may plan a o rule ≡ b → cond {A = Answer} b (Ok (reply.Done, act a o rule)) (Err refused.NotNow) ≡ Ok (r, o') → Done plan a o rule r o'
     go false h k = absurd cc
     go true h k = let x = same_answer _ r o' k in record { guard = h; told = x.0; after = x.1 }
+
+pub record Withdrawn (o : Office) (t : ℕ) (r : Reply) (o' : Office) : Type 0 where
+  pub guard : may_withdraw o t ≡ true
+  pub told : r ≡ reply.Done
+  pub after : o' ≡ withdrawn o t
+
+pub was_withdrawn : (o : Office) (t : ℕ) (r : Reply) (o' : Office) → withdraw o t ≡ Ok (r, o') → Withdrawn o t r o'
+was_withdrawn o t r o' e = go (may_withdraw o t) refl e
+  where
+    go : (b : Bool) → may_withdraw o t ≡ b → done_if b (withdrawn o t) ≡ Ok (r, o') → Withdrawn o t r o'
+    go false h k = absurd cc
+    go true h k = let x = same_answer (reply.Done, withdrawn o t) r o' k in record { guard = h; told = x.0; after = x.1 }
 
 pub record Sent (plan : PlanValue) (a : ℕ) (o : Office) (v i : ℕ) (r : Reply) (o' : Office) : Type 0 where
   pub near : are_neighbours plan a v ≡ true
@@ -187,6 +205,23 @@ rule_alone plan a o rule.Drink = refl
 rule_alone plan a o (rule.Work n) = refl
 rule_alone plan a o rule.Finish = refl
 
+-- nor a withdrawal
+pub withdrawal_alone : (plan : PlanValue) (a : ℕ) (p : Pairs) (waiting : Bool) → all_after plan a p (withdrawal_step waiting) ≡ pair_after p (withdrawal_step waiting)
+withdrawal_alone plan a p true = refl
+withdrawal_alone plan a p false = refl
+
+withdrawal_may : (plan : PlanValue) (a : ℕ) (p : Pairs) (waiting gathering : Bool) → (waiting || (gathering && bottles.may p.drinker bottles.Withdraw)) ≡ true → MayStep plan a p (withdrawal_step waiting)
+withdrawal_may plan a p true gathering h = tt
+withdrawal_may plan a p false gathering h = (and_parts gathering (bottles.may p.drinker bottles.Withdraw) h).1
+
+-- what the pairs are then
+withdrawal_after : (plan : PlanValue) (a : ℕ) (o : Office) (t : ℕ) → (withdrawn o t).pairs ≡ all_after plan a o.pairs (withdrawal_step (is_waiting o.agenda.queue t))
+withdrawal_after plan a o t = of (is_waiting o.agenda.queue t)
+  where
+    of : (b : Bool) → (cond {A = Office} b (record { pairs = o.pairs; agenda = without_waiting o.agenda t }) (record { pairs = after_bottle_rule o.pairs bottles.Withdraw; agenda = with_current o.agenda Idle })).pairs ≡ all_after plan a o.pairs (withdrawal_step b)
+    of true = refl
+    of false = refl
+
 pub is_step : (plan : PlanValue) (a : ℕ) (o : Office) (e : office.Event) (r : Reply) (o' : Office) → answer plan a o e ≡ Ok (r, o') → IsStepOf plan a o e o'
 is_step plan a o (event.Submit p) r o' e = record { may = tt; after = ap (λ (x : Office). x.pairs) (was_submitted plan a o p r o' e).after }
 is_step plan a o (event.Do rule) r o' e =
@@ -196,3 +231,9 @@ is_step plan a o (event.Send v i) r o' e = record { may = tt; after = ap (λ (x 
 is_step plan a o (event.Took f) r o' e =
     let t = was_taken plan a o f r o' e in
     record { may = t.fine; after = ap (λ (x : Office). x.pairs) t.after }
+is_step plan a o (event.Withdraw t) r o' e =
+    let x = was_withdrawn o t r o' e in
+    record {
+      may = withdrawal_may plan a o.pairs (is_waiting o.agenda.queue t) (is_gathering o.agenda.current t) x.guard;
+      after = ap (λ (q : Office). q.pairs) x.after ∙ withdrawal_after plan a o t;
+    }

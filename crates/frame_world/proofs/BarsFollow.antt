@@ -153,6 +153,7 @@ by_bottle pairs a (bottles.AskBottle r) g =
     are_bars (put pairs a p') _ (bottles_at pairs) _ (drinkers_put pairs a p') (no_bottles_sent pairs (put pairs a p') a ((pairs a).drinker.peer r) (msg.AskBottle r) g (λ q. refl)) (token_sent pairs (put pairs a p') a ((pairs a).drinker.peer r) r g)
 by_bottle pairs a (bottles.GiveBottle r held) g = given pairs a r ((pairs a).drinker.peer r) (pair_after (pairs a) (ByBottle (bottles.GiveBottle r held))) ((pairs a).drinker.bottle r) _ g refl
 by_bottle pairs a bottles.Drink g = nothing_goes pairs a (pair_after (pairs a) (ByBottle bottles.Drink)) _ g refl
+by_bottle pairs a bottles.Withdraw g = nothing_goes pairs a (pair_after (pairs a) (ByBottle bottles.Withdraw)) _ g refl
 by_bottle pairs a (bottles.Finish writes) g = nothing_goes pairs a (pair_after (pairs a) (ByBottle (bottles.Finish writes))) _ g refl
 
 -- ---- rows of the forks: no event of the bars

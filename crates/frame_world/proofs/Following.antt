@@ -27,7 +27,8 @@ use Rattle.frame_world.specs.declared.event.WorldEvent.{WorldEvent}
 use Rattle.frame_world.specs.Worlds.{opening, run_of, frames_of}
 use Rattle.frame_world.specs.Ways.{tables_of, bars_of}
 use Rattle.frame_world.proofs.Steps.{State, state_of, starting, MayCome, IsAccepted, through}
-use Rattle.frame_world.proofs.Answers.{PairStep, Stays, ByFork, ByBottle, ByFrame, ByKept, rule_step, step_of, pair_after, all_after, MayStep, through_all, was_submitted, was_done, was_sent, was_taken, is_step}
+use Rattle.frame_world.proofs.Answers.{PairStep, Stays, ByFork, ByBottle, ByFrame, ByKept, rule_step, step_of, pair_after, all_after, MayStep, through_all, was_submitted, was_done, was_sent, was_taken, is_step, was_withdrawn, withdrawal_step}
+use Rattle.site_core.specs.Agenda.{is_waiting}
 use Rattle.frame_world.proofs.OneLink.{Keeps, keeps_next}
 use Rattle.frame_world.proofs.Links.{AreLinked, IsHonest, goes_out, comes_in, follows_in, receiving_of, taken_of, linked_at_start, made_honest}
 use Rattle.frame_world.proofs.TablesFollow.{fork_event, tables_then, fork_row, bottle_row_leaves_tables, put_kept}
@@ -172,6 +173,10 @@ rule_arrives pairs a o rule.Drink = tt
 rule_arrives pairs a o (rule.Work n) = tt
 rule_arrives pairs a o rule.Finish = tt
 
+withdrawal_arrives : (pairs : ℕ → Pairs) (a : ℕ) (waiting : Bool) → Arrived pairs a (withdrawal_step waiting)
+withdrawal_arrives pairs a true = tt
+withdrawal_arrives pairs a false = tt
+
 arrived : (plan : PlanValue) (s s' : State) (i : IsAccepted plan s s') → ((k : ℕ) (f : Fields) → slice_get s.frames k ≡ Some f → IsHonest (pairs_in s) f) → Arrived (pairs_in s) i.place (step_of (s.office i.place) i.event)
 arrived plan s s' i honest = by i.event i.comes
   where
@@ -180,6 +185,7 @@ arrived plan s s' i honest = by i.event i.comes
     by (event.Do rule) c = rule_arrives (pairs_in s) i.place (s.office i.place) rule
     by (event.Send v n) c = tt
     by (event.Took f) c = (c.0, honest c.1 f c.2)
+    by (event.Withdraw t) c = withdrawal_arrives (pairs_in s) i.place (is_waiting (s.office i.place).agenda.queue t)
 
 pub moves_on : (plan : PlanValue) (s s' : State) (i : IsAccepted plan s s') → Follows plan s → Moves plan (pairs_in s) i.place (step_of (s.office i.place) i.event)
 moves_on plan s s' i h = moves plan (pairs_in s) i.place (step_of (s.office i.place) i.event) i.inside h.linked (is_step plan i.place (s.office i.place) i.event i.reply i.new i.answered).may (arrived plan s s' i h.honest)
@@ -219,6 +225,7 @@ new_frame plan s s' i j f is = by i.event i.answered
     by (event.Submit p) ans = none_new (IsNew plan (pairs_in s)) i.reply (ap frames_of (was_submitted plan a (s.office a) p i.reply i.new ans).told) j f is
     by (event.Do rule) ans = none_new (IsNew plan (pairs_in s)) i.reply (ap frames_of (was_done plan a (s.office a) rule i.reply i.new ans).told) j f is
     by (event.Took g) ans = none_new (IsNew plan (pairs_in s)) i.reply (ap frames_of (was_taken plan a (s.office a) g i.reply i.new ans).told ∙ no_frame (arrival_of (s.office a).pairs g)) j f is
+    by (event.Withdraw t) ans = none_new (IsNew plan (pairs_in s)) i.reply (ap frames_of (was_withdrawn (s.office a) t i.reply i.new ans).told) j f is
     by (event.Send v n) ans =
         let t = was_sent plan a (s.office a) v n i.reply i.new ans in
         first t.frame j (ap (λ (l : List Fields). slice_get l j) (ap frames_of (sym t.told)) ∙ is) (record { sender = a; receiver = v; place = n; near = t.near; made = t.made })

@@ -18,4 +18,6 @@ mod SerialSessions
 pub mod RisingTickets
 pub mod Tickets
 mod HeadlineLaws
+mod Standstill
+mod StepsTaken
 mod FrameBytes

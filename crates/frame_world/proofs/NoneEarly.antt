@@ -25,7 +25,7 @@ use Rattle.frame_world.specs.Worlds.{World, opening, run_of, site_at, office_at,
 use Rattle.frame_world.specs.Ways.{pairs_at}
 use Rattle.frame_world.specs.Headline.{Always, NoneIsEarly}
 use Rattle.frame_world.specs.Waiting.{NoFrameIsFarAhead}
-use Rattle.frame_world.proofs.Answers.{was_submitted, was_done, was_sent, was_taken}
+use Rattle.frame_world.proofs.Answers.{was_submitted, was_done, was_sent, was_taken, was_withdrawn}
 
 -- what is told of an accepted event is the office's reply
 handed_reply : (w : World) (a : ℕ) (e : office.Event) (P : Reply → Type 0) → ((r : Reply) (o : Office) → answer (site_at w a).plan (site_at w a).me (office_at w a) e ≡ Ok (r, o) → P r) → (r : Reply) → (handed w a e).0 ≡ Ok r → P r
@@ -77,6 +77,10 @@ none_is_early near plan es c e r is = by e is
     by (happening.Submit a p) is = of_office a (event.Submit p) (λ x o ans early.
         let t = was_submitted (site_at w a).plan (site_at w a).me (office_at w a) p x o ans in
         let no : reply.Ticket ((office_at w a).agenda.tickets + 1) ≡ reply.Early = sym t.told ∙ early in
+        absurd cc) is
+    by (happening.Withdraw a ticket) is = of_office a (event.Withdraw ticket) (λ x o ans early.
+        let t = was_withdrawn (office_at w a) ticket x o ans in
+        let no : reply.Done ≡ reply.Early = sym t.told ∙ early in
         absurd cc) is
     by (happening.Do a rule) is = of_office a (event.Do rule) (λ x o ans early.
         let t = was_done (site_at w a).plan (site_at w a).me (office_at w a) rule x o ans in

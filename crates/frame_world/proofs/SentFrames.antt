@@ -35,7 +35,7 @@ use Rattle.site_core.specs.declared.reply.Refusal as offices
 use Rattle.site_core.specs.declared.reply.Refusal.TheVariants as refused
 use Rattle.site_core.specs.Limits.{most_entries}
 use Rattle.site_core.specs.Agenda.{is_full, submitted}
-use Rattle.site_core.specs.Offices.{Office, Answer, may, act, is_ours, framed, frame_on, unless_faulty, answer}
+use Rattle.site_core.specs.Offices.{Office, Answer, may, act, is_ours, framed, frame_on, unless_faulty, answer, may_withdraw, withdrawn}
 use Rattle.site_core.specs.Journals.{Site, office_of, noted, recorded, step}
 use Rattle.frame_world.specs.declared.event.WorldEvent.{WorldEvent}
 use Rattle.frame_world.specs.declared.event.WorldEvent.TheVariants as happening
@@ -433,6 +433,7 @@ sent_frames_are_taken forks bottles plan es c e r is = by e is
 
     by : (e : WorldEvent) → (happens w e).0 ≡ Err r → IsFine r
     by (happening.Submit a p) is = of_office a (event.Submit p) (λ x. submit_fine (office_at w a) (record { pairs = (office_at w a).pairs; agenda = submitted (office_at w a).agenda p }) (is_ours plan a p) (is_full (office_at w a).agenda) ((office_at w a).agenda.tickets + 1) x) is
+    by (happening.Withdraw a t) is = of_office a (event.Withdraw t) (λ x. rule_fine (withdrawn (office_at w a) t) (may_withdraw (office_at w a) t) x) is
     by (happening.Do a rule) is = of_office a (event.Do rule) (λ x. rule_fine (act a (office_at w a) rule) (may plan a (office_at w a) rule) x) is
     by (happening.Send a v i) is = of_office a (event.Send v i) (λ x. send_fine (office_at w a) (are_neighbours plan a v) (frame_on ((office_at w a).pairs.link v) i) x) is
     by (happening.Deliver zero) is = no_frame is

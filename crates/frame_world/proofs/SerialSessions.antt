@@ -42,7 +42,8 @@ use Rattle.frame_world.specs.Headline.{office_and_ending}
 use Rattle.frame_world.specs.Ways.{bars_of}
 use Rattle.frame_world.specs.refinement.PartsLaws.{PartsLaws}
 use Rattle.frame_world.proofs.Steps.{State, state_of, starting, after_reply, IsAccepted, through}
-use Rattle.frame_world.proofs.Answers.{ByFrame, ByKept, rule_step, step_of, all_after, rule_alone, was_done}
+use Rattle.frame_world.proofs.Answers.{ByFrame, ByKept, rule_step, step_of, all_after, rule_alone, was_done, withdrawal_step, withdrawal_alone}
+use Rattle.site_core.specs.Agenda.{is_waiting}
 use Rattle.frame_world.proofs.OneLink.{brought}
 use Rattle.frame_world.proofs.BarsFollow.{bottle_coming, bottle_event, bars_then}
 use Rattle.frame_world.proofs.Following.{pairs_in, through_moves, moved, Follow, Follows, pairs_after, kept_moves, kept_follows, own_step_follows, moves_on, follows_on, starts}
@@ -254,6 +255,10 @@ LeavesPairs plan s s' a e = pairs_in s' ≡ put (pairs_in s) a (all_after plan a
 abbrev StepsBars : PlanValue → State → ℕ → office.Event → Type 0
 StepsBars plan s a e = bars_of (moved (pairs_in s) a (step_of (s.office a) e)) ≡ bars_then plan (bars_of (pairs_in s)) (bottle_event a (pairs_in s a) (step_of (s.office a) e))
 
+withdrawing_ends_nothing : (a : ℕ) (p : Pairs) (waiting : Bool) → IsNoEnd (bottle_event a p (withdrawal_step waiting))
+withdrawing_ends_nothing a p true = tt
+withdrawing_ends_nothing a p false = λ plan w. refl
+
 -- of any accepted event
 serial_on : (plan : PlanValue) (s s' : State) → PartsLaws → IsKept plan s → IsAccepted plan s s' → IsSerial plan s'
 serial_on plan s s' laws k i = by i.event refl i.answered i.led (pairs_after plan s s' i) (moves_on plan s s' i k.follows).bars
@@ -268,6 +273,11 @@ serial_on plan s s' laws k i = by i.event refl i.answered i.led (pairs_after pla
     by (event.Took f) is ans led left bar_is =
         goes_on plan s s' i.place (event.Took f) i.reply i.new led refl
         (frame_keeps_values plan s s' f laws k.follows i (ap (step_of (s.office i.place)) is)) k.serial
+    by (event.Withdraw t) is ans led left bar_is =
+        let waiting : Bool = is_waiting (s.office i.place).agenda.queue t in
+        goes_on plan s s' i.place (event.Withdraw t) i.reply i.new led refl
+        (λ r v. values_stay plan (bars_of (pairs_in s)) (bars_of (pairs_in s')) (bottle_event i.place (pairs_in s i.place) (withdrawal_step waiting)) r v laws.stay (withdrawing_ends_nothing i.place (pairs_in s i.place) waiting)
+        (ap bars_of (left ∙ ap (put (pairs_in s) i.place) (withdrawal_alone plan i.place (pairs_in s i.place) waiting)) ∙ bar_is)) k.serial
     by (event.Do r) is ans led left bar_is =
         let d = was_done plan i.place (s.office i.place) r i.reply i.new ans in
         of r d.guard led (ap bars_of (left ∙ ap (put (pairs_in s) i.place) (rule_alone plan i.place (s.office i.place) r)) ∙ bar_is)

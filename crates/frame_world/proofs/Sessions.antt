@@ -3,7 +3,7 @@ use Rattle.std.proofs.Common.{◌≡◌, ℕ, ◌+◌, Bool, true, false, List, 
 use Rattle.std.specs.Prelude.{◌==◌, ◌&&◌, ◌||◌, not, is_some, unwrap_or, nat_lt, All}
 use Rattle.std.specs.List.{list_all}
 use Rattle.std.proofs.lemmas.Bool.{and_parts, eqb-true, eq-eqb, or_left, or_right}
-use Rattle.std.proofs.lemmas.List.Elements.{All-head, All-tail, All-cons, All-append}
+use Rattle.std.proofs.lemmas.List.Elements.{All-head, All-tail, All-cons, All-append, All-filter}
 use Rattle.bottle_values.specs.declared.Value.{Value}
 use Rattle.bottle_values.specs.Arithmetic.{nought}
 use Rattle.bottle_values.specs.Lists.{is_among}
@@ -37,8 +37,9 @@ use Rattle.site_core.specs.Offices.{Office, opened, may, act, is_ours, value_in,
 use Rattle.site_core.proofs.PlanFacts.{among_records}
 use Rattle.site_core.proofs.FramesComing.{passed, same_records}
 use Rattle.site_core.proofs.KeptMessages.{through_taking}
+use Rattle.site_core.proofs.Withdrawing.{either_withdrawn}
 use Rattle.frame_world.specs.Headline.{HasItsBottles}
-use Rattle.frame_world.proofs.Answers.{was_submitted, was_done, was_sent, was_taken}
+use Rattle.frame_world.proofs.Answers.{was_submitted, was_done, was_sent, was_taken, was_withdrawn}
 use Rattle.frame_world.proofs.PlacesAndForks.{all_at}
 
 abbrev pub needs : Session → List ℕ
@@ -251,6 +252,11 @@ sane_on plan a o (event.Send v i) r o' away goes_on own peers ans h = subst (IsS
 sane_on plan a o (event.Took f) r o' away goes_on own peers ans h =
     let t = was_taken plan a o f r o' ans in
     subst (IsSane plan a) (sym t.after) (record { current = (taken_current plan a o.agenda.current o.pairs f away goes_on t.fine (record { current = h.current; peers = peers })).current; queue = h.queue })
+sane_on plan a o (event.Withdraw t) r o' away goes_on own peers ans h =
+    subst (IsSane plan a) (sym (was_withdrawn o t r o' ans).after)
+    (either_withdrawn (IsSane plan a) o t
+    (λ waits. record { current = h.current; queue = All-filter (λ (s : Session). not (s.ticket == t)) (λ (s : Session). is_ours plan a s.program ≡ true) o.agenda.queue h.queue })
+    (λ none. record { current = refl; queue = h.queue }))
 
 pub sane_at_start : (plan : PlanValue) (a : ℕ) → IsSane plan a (opened plan a)
 sane_at_start plan a = record { current = refl; queue = λ i d lt. absurd (omega (arith, lt)) }

@@ -43,6 +43,7 @@ abbrev pub MayCome : List Fields → ℕ → office.Event → Type 0
 MayCome frames a (event.Submit p) = Unit {0}
 MayCome frames a (event.Do rule) = Unit {0}
 MayCome frames a (event.Send v i) = Unit {0}
+MayCome frames a (event.Withdraw t) = Unit {0}
 MayCome frames a (event.Took f) = (f.to ≡ a) × (k : ℕ) × (slice_get frames k ≡ Some f)
 
 abbrev pub entry_of : office.Event → Reply → Entry
@@ -186,6 +187,7 @@ handed_leaves plan w a e h come = by_place (nat_lt a (length w.sites)) refl
 
 pub happens_leaves : (plan : PlanValue) (w : World) (e : WorldEvent) → IsSeated plan w → Left plan w (happens w e).1
 happens_leaves plan w (happening.Submit a p) h = handed_leaves plan w a (event.Submit p) h tt
+happens_leaves plan w (happening.Withdraw a t) h = handed_leaves plan w a (event.Withdraw t) h tt
 happens_leaves plan w (happening.Do a rule) h = handed_leaves plan w a (event.Do rule) h tt
 happens_leaves plan w (happening.Send a v i) h = handed_leaves plan w a (event.Send v i) h tt
 happens_leaves plan w (happening.Deliver zero) h = left_as_it_was plan w w h refl

@@ -138,6 +138,7 @@ no_fork_goes d (bottles.GiveBottle r held) = of (d.bottle r)
     of None = tt
     of (Some y) = (refl, refl)
 no_fork_goes d bottles.Drink = tt
+no_fork_goes d bottles.Withdraw = tt
 no_fork_goes d (bottles.Finish writes) = tt
 
 bottle_goes : (pairs : ℕ → Pairs) (a : ℕ) (p' : Pairs) (m : Option (ℕ × Msg)) → p'.diner ≡ (pairs a).diner → CarriesNoFork m → Goes pairs a m (put pairs a p') → tables_of (put pairs a p') ≡ tables_of pairs

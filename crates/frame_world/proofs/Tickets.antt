@@ -1,9 +1,9 @@
 -- Over every list of events each office tells of its own sessions in the list, and each has the ticket that its Submit was answered.
 use Rattle.std.proofs.Common.{◌≡◌, ℕ, zero, suc, ◌+◌, Bool, cond, List, [], ◌∷◌, ◌++◌, length, map, Option, None, Some, Ok, refl, sym, ap, subst, ◌∙◌, arith, ⊎_elim, append_assoc, append-nil}
-use Rattle.std.specs.Prelude.{◌==◌, get_or, All, AllPairs, filter, slice_get}
+use Rattle.std.specs.Prelude.{◌==◌, get_or, All, AllPairs, filter, slice_get, not}
 use Rattle.std.proofs.lemmas.Bool.{cases_eq, eq-eqb, ne_eqb}
 use Rattle.std.proofs.lemmas.List.{map-append, length-append}
-use Rattle.std.proofs.lemmas.List.Elements.{All-nil, All-cons, All-head, All-tail, All-append, All-weaker, filter-append}
+use Rattle.std.proofs.lemmas.List.Elements.{All-nil, All-cons, All-head, All-tail, All-append, All-weaker, All-filter, filter-append}
 use Rattle.bottle_values.specs.declared.Value.{Value}
 use Rattle.bottle_values.specs.Maps.{put}
 use Rattle.bottle_values.proofs.Maps.{put_at, put_other, put_cases}
@@ -20,7 +20,7 @@ use Rattle.site_core.specs.declared.event.Event.TheVariants as event
 use Rattle.site_core.specs.declared.event.Entry.{Entry}
 use Rattle.site_core.specs.declared.reply.Reply.{Reply}
 use Rattle.site_core.specs.declared.reply.Reply.TheVariants as reply
-use Rattle.site_core.specs.Agenda.{Agenda, Current, Idle, Gathering, Working, started, begun, worked, submitted}
+use Rattle.site_core.specs.Agenda.{Agenda, Current, Idle, Gathering, Working, started, begun, worked, submitted, without_waiting, with_current}
 use Rattle.site_core.specs.Agenda as agenda
 use Rattle.site_core.specs.Offices.{Office, act, value_in, answer}
 use Rattle.site_core.specs.Tickets.{SessionsGoInOrder}
@@ -29,7 +29,8 @@ use Rattle.frame_world.specs.Worlds.{World, Finished, opening, run_of, ended_as,
 use Rattle.frame_world.specs.Headline.{Always, outcomes}
 use Rattle.frame_world.specs.Tickets.{submitted_by, submitted_in, submitted_as, session_of, HaveTheirTickets, TicketsRise, TellsEachOffice}
 use Rattle.frame_world.proofs.Steps.{State, state_of, starting, entry_of, IsAccepted, through}
-use Rattle.frame_world.proofs.Answers.{was_submitted, was_done, was_sent, was_taken}
+use Rattle.frame_world.proofs.Answers.{was_submitted, was_done, was_sent, was_taken, was_withdrawn}
+use Rattle.site_core.proofs.Withdrawing.{either_withdrawn}
 use Rattle.frame_world.proofs.RisingTickets.{IsBelow, office_tickets_rise, rise_by_office}
 
 -- ---- the sessions of an office
@@ -106,6 +107,7 @@ finished_at a c (event.Submit p) = All-nil (IsAt a)
 finished_at a c (event.Do r) = rule_at a c r
 finished_at a c (event.Send v i) = All-nil (IsAt a)
 finished_at a c (event.Took f) = All-nil (IsAt a)
+finished_at a c (event.Withdraw t) = All-nil (IsAt a)
 
 -- ---- what an accepted event leaves of the sessions
 
@@ -115,6 +117,10 @@ outcomes_in fs = map (λ (f : Finished). f.outcome) fs
 all_right : (P : Session → Type 0) (xs ys : List Session) → All P (xs ++ ys) → All P ys
 all_right P [] ys h = h
 all_right P (x ∷ xs) ys h = all_right P xs ys (All-tail P x (xs ++ ys) h)
+
+all_without : (p : Session → Bool) (P : Session → Type 0) (xs ys : List Session) → All P (xs ++ ys) → All P (xs ++ filter p ys)
+all_without p P [] ys h = All-filter p P ys h
+all_without p P (x ∷ xs) ys h = All-cons P x (xs ++ filter p ys) (All-head P x (xs ++ ys) h) (all_without p P xs ys (All-tail P x (xs ++ ys) h))
 
 module _ (P : Session → Type 0) (a : ℕ) where
   -- sessions come in as they are submitted, and go as they finish
@@ -215,6 +221,10 @@ module _ (P : Session → Type 0) (a : ℕ) where
   by_event plan o (event.Do x) r o' ok = subst (λ (q : Office). Keeps o.agenda (event.Do x) r q.agenda) (sym (was_done plan a o x r o' ok).after) (by_rule o x r)
   by_event plan o (event.Send v i) r o' ok = subst (λ (q : Office). Keeps o.agenda (event.Send v i) r q.agenda) (sym (was_sent plan a o v i r o' ok).after) (moves o.agenda (event.Send v i) r o.agenda refl refl refl refl (λ h. h))
   by_event plan o (event.Took f) r o' ok = subst (λ (q : Office). Keeps o.agenda (event.Took f) r q.agenda) (sym (was_taken plan a o f r o' ok).after) (moves o.agenda (event.Took f) r o.agenda refl refl refl refl (λ h. h))
+  by_event plan o (event.Withdraw t) r o' ok = subst (λ (q : Office). Keeps o.agenda (event.Withdraw t) r q.agenda) (sym (was_withdrawn o t r o' ok).after)
+      (either_withdrawn (λ (q : Office). Keeps o.agenda (event.Withdraw t) r q.agenda) o t
+      (λ waits. moves o.agenda (event.Withdraw t) r (without_waiting o.agenda t) refl refl refl refl (all_without (λ (s : Session). not (s.ticket == t)) P (at_hand o.agenda.current) o.agenda.queue))
+      (λ none. moves o.agenda (event.Withdraw t) r (with_current o.agenda Idle) refl refl refl refl (all_right P (at_hand o.agenda.current) o.agenda.queue)))
 
 -- what finishes is told last
 pub outcomes_grow : (plan : PlanValue) (a : ℕ) (o : Office) (e : office.Event) (r : Reply) (o' : Office) → answer plan a o e ≡ Ok (r, o') → o'.agenda.outcomes ≡ o.agenda.outcomes ++ map (λ (f : Finished). f.outcome) (finished_by a o.agenda.current e)

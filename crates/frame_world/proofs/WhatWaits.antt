@@ -32,7 +32,7 @@ use Rattle.drinking_core.specs.Drinkers as bottles
 use Rattle.site_core.specs.Pairs.{Pairs, opened, held, queued_to, sent, bottle_message, after_fork_rule, after_bottle_rule, frame_fault, arrival_of, arrived, after_frame, follows, as_arrival}
 use Rattle.site_core.proofs.FramesComing.{passed, same_records}
 use Rattle.site_core.proofs.PairsOpening.{held_at_start}
-use Rattle.site_core.proofs.HeldUpdates.{with_held, IsFrom, after_ask_fork, after_give_fork, after_ask_bottle, after_give_bottle, after_message, like_started, like_drinking, like_finished, like_diner}
+use Rattle.site_core.proofs.HeldUpdates.{with_held, IsFrom, after_ask_fork, after_give_fork, after_ask_bottle, after_give_bottle, after_message, like_started, like_drinking, like_finished, like_diner, like_withdrawn}
 use Rattle.frame_world.proofs.Answers.{PairStep, Stays, ByFork, ByBottle, ByFrame, ByKept, pair_after, all_after, MayStep, through_all}
 use Rattle.frame_world.proofs.Links.{queued_link}
 use Rattle.frame_world.proofs.OneLink.{Arrives, Brings, BringsNone, arrives, brought}
@@ -148,6 +148,7 @@ bottle_apart plan a p (bottles.GiveBottle r here) may h = of (p.drinker.bottle r
     of (Some x) e = sent_apart plan a p (after_bottle_rule p (bottles.GiveBottle r here)) (p.drinker.peer r) (msg.Bottle r x) (ap (λ o. sent p.link (bottle_message (p.drinker.peer r) r o)) e)
         (after_give_bottle p.diner p.drinker r (p.drinker.peer r) x here refl) (for_its_end p.drinker r (holds p.drinker r) held_here) h
 bottle_apart plan a p bottles.Drink may h = quiet_apart plan a p (after_bottle_rule p bottles.Drink) refl ((like_drinking p.drinker).held p.diner) h
+bottle_apart plan a p bottles.Withdraw may h = quiet_apart plan a p (after_bottle_rule p bottles.Withdraw) refl ((like_withdrawn p.drinker).held p.diner) h
 bottle_apart plan a p (bottles.Finish writes) may h = quiet_apart plan a p (after_bottle_rule p (bottles.Finish writes)) refl ((like_finished p.drinker writes).held p.diner) h
 
 -- ---- frames
@@ -223,6 +224,7 @@ peer_stays p (ByBottle (bottles.Start session)) = (like_started p.drinker sessio
 peer_stays p (ByBottle (bottles.AskBottle r)) = refl
 peer_stays p (ByBottle (bottles.GiveBottle r here)) = refl
 peer_stays p (ByBottle bottles.Drink) = refl
+peer_stays p (ByBottle bottles.Withdraw) = refl
 peer_stays p (ByBottle (bottles.Finish writes)) = (like_finished p.drinker writes).peer
 peer_stays p (ByFrame f) = (same_records p.drinker (arrival_of p f)).1
 peer_stays p (ByKept v o) = (same_records p.drinker (as_arrival o)).1

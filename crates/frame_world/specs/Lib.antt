@@ -3,4 +3,5 @@ pub mod Ways
 pub mod Headline
 pub mod Tickets
 pub mod Waiting
+pub mod Standstill
 pub mod refinement

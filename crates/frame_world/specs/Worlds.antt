@@ -107,6 +107,7 @@ delivered w (Some f) = handed w f.to (event.Took f)
 
 abbrev pub happens : World → WorldEvent → Answer
 happens w (happening.Submit a p) = handed w a (event.Submit p)
+happens w (happening.Withdraw a ticket) = handed w a (event.Withdraw ticket)
 happens w (happening.Do a rule) = handed w a (event.Do rule)
 happens w (happening.Send a v i) = handed w a (event.Send v i)
 happens w (happening.Deliver k) = delivered w (frame_at w k)

@@ -9,6 +9,8 @@ use site_core::Rule;
 pub enum WorldEvent {
     /// A session is submitted at an office.
     Submit(OfficeId, Program),
+    /// A session is withdrawn at an office: the one with this ticket.
+    Withdraw(OfficeId, u32),
     /// An office does a rule.
     Do(OfficeId, Rule),
     /// An office makes a frame for a neighbour: of the i-th message that waits for it, from 1, or with 0 of the count

@@ -2,6 +2,7 @@
 
 ghost use Rattle.frame_world.specs.Headline.{Always, HasSerialSessions, HasSerialValues, HasOnePlaceEach, NeighboursEatApart, EatersHaveTheirForks, DrinkersHaveTheirBottles, FramesAreTaken, NoneIsEarly, CountsAreTimely, PrecedenceHasNoRing, FramesInRangeGoByBytes};
 ghost use Rattle.frame_world.specs.Tickets.{HaveTheirTickets, TicketsRise, TellsEachOffice};
+ghost use Rattle.frame_world.specs.Standstill.{NeverStuck, RulesAreDone, MessagesAreTaken};
 ghost use Rattle.frame_world.specs.Waiting.{EachIsHeldOrWaits, FewMessagesWait, NoFrameIsFarAhead};
 ghost use Rattle.frame_world.specs.refinement.PartsLaws.{PartsLaws};
 
@@ -9,7 +10,7 @@ use dining_core::laws as tables;
 use drinking_core::laws as bars;
 use frame_codec::laws::each_spelling_is_of_one_frame;
 use session_meaning::laws::writes_what_it_has;
-use site_core::laws::{links_only_grow, sessions_go_in_order};
+use site_core::laws::{links_only_grow, none_next_is_at_rest, sessions_go_in_order};
 use token_channel::laws::{opens_as_the_plan_starts, what_comes_was_away, what_follows_was_away};
 
 /// The finished sessions read, gave and wrote what they do when they run alone, one after another in finishing order.
@@ -134,6 +135,31 @@ pub fn none_is_early()
     ensures { Always NoneIsEarly }
 {
     no_frame_is_far_ahead();
+}
+
+/// From every accepted plan there is something to do in every world, or no session is left: what comes next is a rule that
+/// may be done, or a message that is next, or else no office has a session that is current or waits.
+pub fn never_stuck()
+    ensures { NeverStuck }
+{
+    parts_hold();
+    who_eats_has_its_forks();
+    none_next_is_at_rest();
+    tables::each_has_one_place();
+    tables::the_thirsty_wait_for_an_eater();
+    bars::the_thirsty_lack_a_fork();
+}
+
+/// A rule that may be done is answered Done, unless the office's journal is full.
+pub fn rules_are_done()
+    ensures { Always RulesAreDone }
+{}
+
+/// The message that is next for a neighbour is sent, and its frame is taken, unless one of the two journals is full.
+pub fn messages_are_taken()
+    ensures { Always MessagesAreTaken }
+{
+    sent_frames_are_taken();
 }
 
 /// What the parts promise by themselves.

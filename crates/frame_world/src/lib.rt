@@ -12,7 +12,7 @@
 //!   a record; the tables (`dining_core`) and the bars (`drinking_core`) that the offices are.
 //! - `specs/Headline.antt`: what holds of every world; [`laws`] has it proved. `specs/Tickets.antt`: which tickets the
 //!   finished sessions have. `specs/Waiting.antt`: how much waits at an office, and how far ahead of its addressee a frame
-//!   is.
+//!   is. `specs/Standstill.antt`: what a world does next, left to itself, and that it can be done.
 //!
 //! How it is proved: what happens to an office is, to tables and bars, an event of theirs or nothing
 //! (`proofs/TablesFollow.antt`, `proofs/BarsFollow.antt`), which needs of the links that each frame says the truth, and
@@ -23,12 +23,15 @@
 //! hand came by its journal, and what it finishes it tells last. Above the links a frame is looked at once more: that it
 //! isn't refused (`proofs/SentFrames.antt`), and that its bytes say the same as it (`proofs/FrameBytes.antt`). What waits
 //! is looked at office by office, with no need of the others (`proofs/WhatWaits.antt`, `proofs/FewWait.antt`); so no frame
-//! comes too early (`proofs/NoneEarly.antt`).
+//! comes too early (`proofs/NoneEarly.antt`). Where no rule may be done and nothing is on the way, the laws of tables and
+//! bars leave no office thirsty, so none has a session left (`proofs/Standstill.antt`).
 #![tactic(auto)]
 
 mod event;
 pub mod laws;
+mod next_step;
 mod refusal;
 
 pub use crate::event::WorldEvent;
+pub use crate::next_step::NextStep;
 pub use crate::refusal::WorldRefusal;
