@@ -26,7 +26,7 @@ use Rattle.site_core.specs.declared.reply.Refusal.TheVariants as refused
 use Rattle.site_core.specs.Replies.{reply_to}
 use Rattle.site_core.specs.Pairs.{frame_fault, arrival_of}
 use Rattle.site_core.specs.Agenda.{Current, Idle, Gathering, Working, writes_of, is_full, submitted}
-use Rattle.site_core.specs.Offices.{Office, Answer, may, act, is_ours, answer, unless_faulty}
+use Rattle.site_core.specs.Offices.{Office, Answer, may, act, is_ours, answer, unless_faulty, may_withdraw, withdrawn, withdraw, done_if}
 use Rattle.site_core.specs.Journals.{Site, next_or, office_of, noted, Steps, IsLegal}
 use Rattle.site_core.specs.Tickets.{SessionsGoInOrder}
 use Rattle.site_core.proofs.OfficeLimits.{legal_empty, office_noted}
@@ -62,6 +62,13 @@ rule_holds plan me o x r o' h = go (may plan me o x) refl h
     go : (b : Bool) → may plan me o x ≡ b → cond {A = Answer} b (Ok (reply.Done, act me o x)) (Err refused.NotNow) ≡ Ok (r, o') → (may plan me o x ≡ true) × (frames_of r ≡ [])
     go true is e = (is, sym (ap frames_in e))
     go false is e = absurd cc
+
+withdraw_tells : (o : Office) (ticket : ℕ) (r : Reply) (o' : Office) → withdraw o ticket ≡ Ok (r, o') → frames_of r ≡ []
+withdraw_tells o ticket r o' h = go (may_withdraw o ticket) h
+  where
+    go : (b : Bool) → done_if b (withdrawn o ticket) ≡ Ok (r, o') → frames_of r ≡ []
+    go true e = sym (ap frames_in e)
+    go false e = absurd cc
 
 arrival_tells : (a : Arrival) → frames_of (reply_to a) ≡ []
 arrival_tells arrival.Acked = refl
@@ -116,6 +123,11 @@ pub beside_submit : (plan : PlanValue) (sites : List Site) (a : ℕ) (p : Progra
 beside_submit plan sites a p result sites' frames marks =
     let s = get_or sites a (silent plan a) in
     unmoved plan sites a (event.Submit p) result sites' frames marks (λ r o h. submit_tells s.plan s.me (office_of s) p r o h) refl
+
+pub beside_withdraw : (plan : PlanValue) (sites : List Site) (a ticket : ℕ) (result : Result Reply WorldRefusal) (sites' : List Site) (frames : List Fields) (marks : List mark.Finished) → Beside plan sites a (event.Withdraw ticket) result sites' frames frames marks marks
+beside_withdraw plan sites a ticket result sites' frames marks =
+    let s = get_or sites a (silent plan a) in
+    unmoved plan sites a (event.Withdraw ticket) result sites' frames marks (λ r o h. withdraw_tells (office_of s) ticket r o h) refl
 
 pub beside_take : (plan : PlanValue) (sites : List Site) (a : ℕ) (f : Fields) (result : Result Reply WorldRefusal) (sites' : List Site) (frames : List Fields) (marks : List mark.Finished) → Beside plan sites a (event.Took f) result sites' frames frames marks marks
 beside_take plan sites a f result sites' frames marks =

@@ -1,10 +1,8 @@
 -- The sessions that an office finished: their outcomes are the office's, and each is found by its ticket.
-use Rattle.std.proofs.Common.{◌≡◌, ℕ, suc, ◌+◌, ◌<◌, Bool, true, false, cond, List, [], ◌∷◌, ◌++◌, length, map, get_or, Option, None, Some, option_map, refl, sym, ap, subst, ◌∙◌, arith, append_assoc, append-nil}
+use Rattle.std.proofs.Common.{◌≡◌, ℕ, suc, ◌+◌, ◌<◌, ◌≤◌, Bool, true, false, cond, List, [], ◌∷◌, ◌++◌, length, map, get_or, Option, None, Some, option_map, refl, sym, ap, subst, ◌∙◌, arith, append_assoc, append-nil}
 use Rattle.std.specs.Prelude.{◌==◌, All, AllPairs, find, is_some, unwrap_or}
-use Rattle.std.specs.List.{range_with_len}
 use Rattle.std.proofs.lemmas.Bool.{eq-eqb, ne_eqb}
 use Rattle.std.proofs.lemmas.List.{map-append, length-append, length-map}
-use Rattle.std.proofs.lemmas.List.FromFn.{length-range_with_len}
 use Rattle.std.proofs.lemmas.List.Elements.{All-nil, All-cons, All-head, All-tail, All-append}
 use Rattle.office_map.specs.PlanValue.{PlanValue}
 use Rattle.session_meaning.specs.declared.ending.Outcome.{Outcome}
@@ -16,7 +14,7 @@ use Rattle.site_core.specs.Agenda.{Agenda, Current, Idle, Gathering, Working, un
 use Rattle.site_core.specs.Offices.{Office, opened}
 use Rattle.site_core.specs.Journals.{Site, after, run_of, office_of, noted, AreAccepted, IsLegal}
 use Rattle.site_core.specs.Readers.{outcome_with}
-use Rattle.site_core.specs.Tickets.{current_tickets, SessionsGoInOrder}
+use Rattle.site_core.specs.Tickets.{current_tickets, Rise, SessionsGoInOrder}
 use Rattle.frame_world.specs.Worlds.{Finished, finished_by}
 use Rattle.frame_world.proofs.RisingTickets.{IsBelow}
 use Rattle.frame_world.proofs.Tickets.{finished_at, outcomes_grow}
@@ -120,27 +118,28 @@ each_is_found (x ∷ fs) h =
         let lt : x.outcome.ticket < f.outcome.ticket = above k d within in
         ap (λ b. cond b (Some x) (find (has_ticket f.outcome.ticket) fs)) (ne_eqb x.outcome.ticket f.outcome.ticket (λ e. omega (arith, lt, e))) ∙ rest k d within
 
--- ---- how many tickets were given
+-- ---- how many sessions are left
+
+rise_within : (k n : ℕ) (ts : List ℕ) → Rise k ts n → k + length ts ≤ n
+rise_within k n [] h = omega (arith, h)
+rise_within k n (t ∷ ts) h = omega (arith, h.0, rise_within t n ts h.1)
 
 current_count : (c : Current) → length (current_tickets c) ≡ unfinished_current c
 current_count Idle = refl
 current_count (Gathering s) = refl
 current_count (Working s reads done) = refl
 
--- those of the sessions that finished and of those that haven't, as long as each session that is submitted is one of these
-pub tickets_count : SessionsGoInOrder → (s : Site) → (office_of s).agenda.tickets ≡ length (office_of s).agenda.outcomes + unfinished (office_of s).agenda
-tickets_count law s =
+-- no more than tickets were given
+pub unfinished_within : SessionsGoInOrder → (s : Site) → unfinished (office_of s).agenda ≤ (office_of s).agenda.tickets
+unfinished_within law s =
     let a : Agenda = (office_of s).agenda in
     let finished : List ℕ = map (λ (o : Outcome). o.ticket) a.outcomes in
     let waiting : List ℕ = map (λ (x : Session). x.ticket) a.queue in
-    let all : length (finished ++ (current_tickets a.current ++ waiting)) ≡ length (range_with_len 1 a.tickets) = ap length (law s) in
     omega (
       arith,
-      all,
-      length-range_with_len 1 a.tickets,
+      rise_within 0 a.tickets (finished ++ (current_tickets a.current ++ waiting)) (law s),
       length-append finished (current_tickets a.current ++ waiting),
       length-append (current_tickets a.current) waiting,
-      length-map a.outcomes (λ (o : Outcome). o.ticket),
       length-map a.queue (λ (x : Session). x.ticket),
       current_count a.current,
     )

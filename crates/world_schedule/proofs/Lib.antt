@@ -8,3 +8,4 @@ pub mod Finishing
 pub mod BottlesOnTheWay
 pub mod BottleValues
 pub mod Headline
+pub mod NextSteps

@@ -16,7 +16,7 @@ use Rattle.site_core.specs.declared.reply.Refusal as offices
 use Rattle.site_core.specs.declared.reply.Refusal.TheVariants as refused
 use Rattle.site_core.specs.Pairs.{frame_fault}
 use Rattle.site_core.specs.Agenda.{is_full, submitted}
-use Rattle.site_core.specs.Offices.{Office, may, act, is_ours, answer, framed, frame_on, unless_faulty}
+use Rattle.site_core.specs.Offices.{Office, may, act, may_withdraw, withdrawn, is_ours, answer, framed, frame_on, unless_faulty}
 use Rattle.site_core.specs.Offices as answers
 use Rattle.site_core.specs.Journals.{Site, office_of, noted, step, recorded}
 use Rattle.frame_world.specs.declared.event.WorldEvent.{WorldEvent}
@@ -37,6 +37,7 @@ answer_speaks plan me o (event.Submit p) =
     let good : answers.Answer = Ok (reply.Ticket (o.agenda.tickets + 1), record { pairs = o.pairs; agenda = submitted o.agenda p }) in
     cond_both (is_ours plan me p) (cond (is_full o.agenda) full good) (Err refused.NotOurs) OfficeSpeaks (λ _. cond_both (is_full o.agenda) full good OfficeSpeaks (λ _ e. cc) (λ _ e. cc)) (λ _ e. cc)
 answer_speaks plan me o (event.Do x) = cond_both (may plan me o x) (Ok (reply.Done, act me o x)) (Err refused.NotNow) OfficeSpeaks (λ _ e. cc) (λ _ e. cc)
+answer_speaks plan me o (event.Withdraw ticket) = cond_both (may_withdraw o ticket) (Ok (reply.Done, withdrawn o ticket)) (Err refused.NotNow) OfficeSpeaks (λ _ e. cc) (λ _ e. cc)
 answer_speaks plan me o (event.Send v i) = cond_both (are_neighbours plan me v) (framed o (frame_on (o.pairs.link v) i)) (Err refused.NotNow) OfficeSpeaks (λ _. made (frame_on (o.pairs.link v) i)) (λ _ e. cc)
   where
     made : (f : Option Fields) → OfficeSpeaks (framed o f)
@@ -65,6 +66,7 @@ handed_speaks w a e =
 
 speaks : (w : World) (e : WorldEvent) → Speaks (happens w e)
 speaks w (happening.Submit a p) = handed_speaks w a (event.Submit p)
+speaks w (happening.Withdraw a ticket) = handed_speaks w a (event.Withdraw ticket)
 speaks w (happening.Do a x) = handed_speaks w a (event.Do x)
 speaks w (happening.Send a v i) = handed_speaks w a (event.Send v i)
 speaks w (happening.Deliver k) = go (frame_at w k)

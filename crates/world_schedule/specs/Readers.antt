@@ -7,7 +7,7 @@ use Rattle.site_core.specs.Journals.{Site, office_of}
 use Rattle.frame_world.specs.Worlds.{World, Finished}
 use Rattle.world_schedule.specs.declared.finished.Finished as entry
 
--- how many submitted sessions of all offices haven't finished
+-- how many submitted sessions of all offices have neither finished nor been withdrawn
 abbrev pub unfinished_in : World → ℕ
 unfinished_in w = sum_by (λ (s : Site). unfinished (office_of s).agenda) w.sites
 

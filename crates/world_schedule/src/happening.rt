@@ -36,6 +36,20 @@ pub(crate) fn submit(
     passed_on(offices[at.index()].submit(0, program))
 }
 
+/// A session is withdrawn at an office.
+pub(crate) fn withdraw(
+    offices: &mut Vec<Office>,
+    at: OfficeId,
+    ticket: u32,
+) -> Result<Reply, WorldRefusal>
+    ensures { Hands offices.old.items at (events.Withdraw ticket) result offices.new.items }
+{
+    if at.index() >= offices.len() {
+        return Err(WorldRefusal::NoOffice);
+    }
+    passed_on(offices[at.index()].withdraw(0, ticket))
+}
+
 /// An office does a rule.
 pub(crate) fn act(
     offices: &mut Vec<Office>,

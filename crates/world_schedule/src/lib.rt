@@ -3,10 +3,10 @@
 //! finishing order, from the plan's values; and each record has one bottle, which carries that serial run's value.
 //!
 //! - A [`World`] is what `frame_world` defines: a contract sees the plan, the offices' journals, every frame that was
-//!   ever sent, and the finished sessions. Each event ([`World::apply`], or [`World::submit`], [`World::act`],
-//!   [`World::send`], [`World::deliver`] for one kind of them) is that definition's `happens`: the office of that number
-//!   takes its step, a frame that it makes is kept, and a session that it finishes is listed. Any frame of the list may
-//!   come at any time, as often as it likes, or never.
+//!   ever sent, and the finished sessions. Each event ([`World::apply`], or [`World::submit`], [`World::withdraw`],
+//!   [`World::act`], [`World::send`], [`World::deliver`] for one kind of them) is that definition's `happens`: the office
+//!   of that number takes its step, a frame that it makes is kept, and a session that it finishes is listed. Any frame of
+//!   the list may come at any time, as often as it likes, or never.
 //! - [`World::run`] does events in order, and stops only where memory runs out, at an event that is accepted there, or
 //!   before the first one for want of room for the replies; [`Stopped`] tells after how many.
 //! - [`World::is_serial`] tells what holds of every world, and [`World::run`] ensures it of the world that it leaves.
@@ -15,6 +15,8 @@
 //!   [`World::frame`] tells what was sent. [`World::finished`] tells which sessions finished, by office and ticket, and
 //!   [`World::outcome`] how one ended; the world keeps no program and no outcome a second time. [`World::value_of`] reads
 //!   a record's value off its bottle: where an office holds it, or else in the message that carries it.
+//! - [`World::next_step`] tells what comes next, left to itself: a rule that may be done, or a message that is next, as long
+//!   as a session is left. So no schedule leads to a world that stands still.
 //!
 //! `Memory` is answered only where the event would be accepted, and then nothing changed. No reader looks through all
 //! frames, entries or sessions.
@@ -27,6 +29,7 @@
 
 mod finished;
 mod happening;
+mod next;
 mod opening;
 mod values;
 mod world;

@@ -10,24 +10,25 @@ ghost use Rattle.frame_world.specs.declared.event.WorldEvent.TheVariants as even
 ghost use Rattle.frame_world.specs.Worlds.{opening, run_of, replies_of, Applies, Stops, site_at, frame_at};
 ghost use Rattle.frame_world.specs.Ways.{bottles_of, pairs_at, tables_of};
 ghost use Rattle.frame_world.specs.Headline.{programs, outcomes, IsReached, HasSerialSessions, HasSerialValues, HasOnePlaceEach, NeighboursEatApart, EatersHaveTheirForks, DrinkersHaveTheirBottles, FramesAreTaken, NoneIsEarly, FramesGoByBytes, CountsAreTimely};
+ghost use Rattle.frame_world.specs.Standstill.{next_step, place_of, IsStep, IsNextMessage};
 ghost use Rattle.frame_world.specs.Tickets.{HaveTheirTickets, TicketsRise, TellsEachOffice};
 ghost use Rattle.dining_core.specs.Worlds.{HasNoRing};
 ghost use Rattle.serial_replay.specs.Serial.{start_map, map_of};
 ghost use Rattle.world_schedule.specs.Readers.{unfinished_in, listed_as};
 
 use crate::finished::Finished;
-use crate::happening;
 use crate::opening::offices_of;
 use crate::values::bottle_between;
+use crate::{happening, next};
 use bottle_values::Value;
 use frame_codec::Frame;
 use frame_world::laws::{
     bottles_are_serial, counts_are_timely, each_office_is_told, finished_have_their_tickets,
-    frames_go_by_bytes, neighbours_never_eat_at_once, none_is_early, precedence_has_no_ring,
-    sent_frames_are_taken, sessions_are_serial, things_have_one_place, tickets_rise,
-    who_drinks_has_its_bottles, who_eats_has_its_forks,
+    frames_go_by_bytes, neighbours_never_eat_at_once, never_stuck, none_is_early,
+    precedence_has_no_ring, sent_frames_are_taken, sessions_are_serial, things_have_one_place,
+    tickets_rise, who_drinks_has_its_bottles, who_eats_has_its_forks,
 };
-use frame_world::{WorldEvent, WorldRefusal};
+use frame_world::{NextStep, WorldEvent, WorldRefusal};
 use office_map::{OfficeId, Plan, RecordId};
 use session_language::{Outcome, Program};
 use site_core::laws::sessions_go_in_order;
@@ -101,6 +102,7 @@ impl World {
     {
         match event {
             WorldEvent::Submit(at, program) => self.submit(*at, program),
+            WorldEvent::Withdraw(at, ticket) => self.withdraw(*at, *ticket),
             WorldEvent::Do(at, rule) => self.act(*at, rule),
             WorldEvent::Send(from, to, i) => self.send(*from, *to, *i),
             WorldEvent::Deliver(k) => self.deliver(*k),
@@ -115,6 +117,16 @@ impl World {
         ensures { Applies self.old (events.Submit at program.now) result self.new }
     {
         happening::submit(&mut self.offices, at, program)
+    }
+
+    /// The event that the session with this ticket is withdrawn at an office. It is neither finished nor unfinished then.
+    ///
+    /// # Errors
+    /// As [`World::apply`].
+    pub fn withdraw(&mut self, at: OfficeId, ticket: u32) -> Result<Reply, WorldRefusal>
+        ensures { Applies self.old (events.Withdraw at ticket) result self.new }
+    {
+        happening::withdraw(&mut self.offices, at, ticket)
     }
 
     /// The event that an office does a rule.
@@ -330,7 +342,7 @@ impl World {
         bottle_between(first, second, r).unwrap()
     }
 
-    /// How many submitted sessions haven't finished.
+    /// How many sessions were submitted, and have neither finished nor been withdrawn.
     pub fn unfinished(&self) -> usize
         ensures { result ≡ unfinished_in self.now }
     {
@@ -340,16 +352,51 @@ impl World {
         }
         unfinished
     }
+
+    /// What it does next, left to itself: the next rule of the least office that has one, or else the next message of the
+    /// least office that has one, to the least neighbour; nothing only where no session is left. That is there to be done:
+    /// the rule's guard holds, and the message waits, one past those that were taken. Precedence has no ring then.
+    pub fn next_step(&self) -> NextStep
+        ensures step { result ≡ next_step self.now }
+        ensures stands { IsStep self.now result }
+        ensures order { HasNoRing self.now.plan (tables_of (pairs_at self.now)) }
+    {
+        never_stuck();
+        precedence_has_no_ring();
+        // Steps hold rules, and the check finds that type of another crate by a local of it.
+        let _rule: Option<Rule> = None;
+        let _ = &self.plan;
+        if self.unfinished() == 0 {
+            return NextStep::AllFinished;
+        }
+        if let Some(rule) = next::next_rule(self) {
+            return rule;
+        }
+        // A session is left, so where no rule is next a message is.
+        next::next_message(self).unwrap_or(NextStep::AllFinished)
+    }
+
+    /// Where the message of that number, which is next for a neighbour, stands among those that wait for it, from 1.
+    pub fn place_of(&self, from: OfficeId, to: OfficeId, number: u64) -> usize
+        requires { IsNextMessage self.now from to number }
+        ensures { result ≡ place_of self.now from to number }
+    {
+        // The plan is consistent, so neighbours are offices of it.
+        let _ = self.plan().offices();
+        let (first, _) = self.office(from).waiting(to).unwrap();
+        number.saturating_sub(first - 1) as usize
+    }
 }
 
-/// How many sessions that were submitted at an office haven't finished.
+/// How many sessions of an office are current or wait.
 fn unfinished_at(office: &Office) -> usize
     ensures sessions { result ≡ unfinished (office_of office.now).agenda }
     ensures few { result < 2 ^ 32 }
 {
-    // Each session that was submitted has finished, is the current one, or waits.
+    // Their tickets rise, so they are no more than the tickets that were given.
     sessions_go_in_order();
-    office.tickets() as usize - office.outcomes().len()
+    let _ = office.tickets();
+    office.unfinished()
 }
 
 /// Whether it is want of memory.

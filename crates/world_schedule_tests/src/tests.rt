@@ -1,7 +1,7 @@
 //! Rows of events with what a world answers and tells.
 
 use frame_codec::{Frame, MAX_LENGTH, encode};
-use frame_world::{WorldEvent, WorldRefusal};
+use frame_world::{NextStep, WorldEvent, WorldRefusal};
 use office_map::{OfficeId, Plan, RecordId};
 use session_language::{Outcome, Program, read_sessions};
 use site_core::{Reply, Rule};
@@ -34,15 +34,18 @@ const READS_ALL: &str = "session a\ngive read x + read y + read z\nend\n";
 
 const GIVES: &str = "session a\ngive 1\nend\nsession b\ngive 2\nend\n";
 
+const SETS_AND_GIVES: &str = "session a\nset x = 1\nend\nsession a\ngive read x\nend\n";
+
 /// One of each office: the first doubles three times, the second adds, and the third needs what both wrote.
 const THREE: &str =
     "session a\nrepeat 3\nset r = read r * 2\nend\ngive read r\nend\nsession c\nset s = read s + 5\ngive read s\nend\nsession b\nset r = read r + read s\nset s = 0\ngive read r\nend\n";
 
-/// What a step is: a session is submitted, by its place in the text; a rule, with its record, its neighbour or its size;
+/// What a step is: a session is submitted, by its place in the text, or withdrawn, by its ticket; a rule, with its record, its neighbour or its size;
 /// the message of that place is framed for a neighbour; the frame of that place is delivered.
 #[derive(Clone, Copy)]
 enum What {
     Submit,
+    Withdraw,
     Start,
     Hungry,
     AskFork,
@@ -69,7 +72,7 @@ const B: u8 = 1;
 const C: u8 = 2;
 
 /// A plan, sessions, steps, and what is told of them.
-static ROWS: [(&str, &str, &[Step], &str); 5] = [
+static ROWS: [(&str, &str, &[Step], &str); 6] = [
     (
         PAIR,
         MOVE,
@@ -182,9 +185,27 @@ static ROWS: [(&str, &str, &[Step], &str); 5] = [
     ),
     (
         PAIR,
+        SETS_AND_GIVES,
+        &[
+            Step(What::Submit, A, 0),
+            Step(What::Submit, A, 1),
+            Step(What::Start, A, 0),
+            Step(What::Withdraw, A, 1),
+            Step(What::Withdraw, A, 1),
+            Step(What::Start, A, 0),
+            Step(What::Drink, A, 0),
+            Step(What::Withdraw, A, 2),
+            Step(What::Work, A, 100),
+            Step(What::Finish, A, 0),
+        ],
+        "ticket 1; ticket 2; done; done; refused O1 NotNow; done; done; refused O1 NotNow; done; done; 0.2 Done reads 0=100 writes gives 100; unfinished 0; values 100 0",
+    ),
+    (
+        PAIR,
         GIVES,
         &[
             Step(What::Submit, C, 0),
+            Step(What::Withdraw, C, 1),
             Step(What::Start, C, 0),
             Step(What::SendTo(A), C, 0),
             Step(What::Deliver, 0, 0),
@@ -196,7 +217,7 @@ static ROWS: [(&str, &str, &[Step], &str); 5] = [
             Step(What::Deliver, 0, 1),
             Step(What::Deliver, 0, 1),
         ],
-        "refused N2 NoOffice; refused N2 NoOffice; refused N2 NoOffice; refused N1 NoFrame; refused N1 NoFrame; refused O2 NotOurs; refused O1 NotNow; frame 445001020000002a000100000000000000000000000000000000; refused N1 NoFrame; acked; acked; unfinished 0; values 100 0",
+        "refused N2 NoOffice; refused N2 NoOffice; refused N2 NoOffice; refused N2 NoOffice; refused N1 NoFrame; refused N1 NoFrame; refused O2 NotOurs; refused O1 NotNow; frame 445001020000002a000100000000000000000000000000000000; refused N1 NoFrame; acked; acked; unfinished 0; values 100 0",
     ),
 ];
 
@@ -259,6 +280,7 @@ fn event_of(
             Some(program) => Ok(Some(WorldEvent::Submit(at, program.copy(alloc)?))),
             None => Ok(None),
         },
+        What::Withdraw => Ok(Some(WorldEvent::Withdraw(at, n as u32))),
         What::SendTo(to) => Ok(Some(WorldEvent::Send(at, OfficeId::new(to), n as usize))),
         What::Deliver => Ok(Some(WorldEvent::Deliver(n as usize))),
         _ => Ok(rule_of(what, n).map(|rule| WorldEvent::Do(at, rule))),
@@ -380,4 +402,58 @@ fn tell_all<R: Abort>(rt: &R, world: &World) {
     assert_eq!(rt; world.finished().len(), 1);
     assert!(rt; world.finished().first() == Some(&first));
     assert!(rt; world.outcome(1).is_none());
+}
+
+/// A step of the world, left to itself, if one is left: whether it was done.
+fn goes_on(world: &mut World) -> Option<bool> {
+    match world.next_step() {
+        NextStep::Rule(office, rule) => Some(world.act(office, &rule) == Ok(Reply::Done)),
+        NextStep::Message(from, to, number) => {
+            let i = world.place_of(from, to, number);
+            let sent = world.send(from, to, i).is_ok();
+            let last = world.frames();
+            Some(sent && world.deliver(last) == Ok(Reply::Taken))
+        }
+        NextStep::AllFinished => None,
+    }
+}
+
+/// How many steps are done until none is left, 100 at most.
+fn settled<R: Abort>(rt: &R, world: &mut World) -> usize {
+    for done in 0..100 {
+        match goes_on(world) {
+            Some(ok) => assert!(rt; ok),
+            None => return done,
+        }
+    }
+    100
+}
+
+/// A session that moves an amount takes ten steps: four rules until it asks, and six from there on.
+#[test]
+fn a_world_goes_on_until_no_session_is_left(rt: HostRuntime) -> Result<(), Fail> {
+    let alloc = rt.alloc();
+    let plan = Plan::read(alloc, PAIR.as_bytes())?;
+    let programs = read_sessions(alloc, MOVE.as_bytes(), &plan)?;
+    let a = OfficeId::new(A);
+    let b = OfficeId::new(B);
+    let mut world = World::open(alloc, plan)?;
+    assert!(rt; world.next_step() == NextStep::AllFinished);
+    for program in programs.as_slice() {
+        assert!(rt; world.submit(a, program) == Ok(Reply::Ticket(1)));
+    }
+    assert!(rt; world.next_step() == NextStep::Rule(a, Rule::Start));
+    for rule in [
+        Rule::Start,
+        Rule::Hungry,
+        Rule::Eat,
+        Rule::AskBottle(RecordId::new(1)),
+    ] {
+        assert!(rt; world.act(a, &rule) == Ok(Reply::Done));
+    }
+    assert!(rt; world.next_step() == NextStep::Message(a, b, 1));
+    assert_eq!(rt; settled(&rt, &mut world), 6);
+    assert_eq!(rt; world.finished().len(), 1);
+    assert_eq!(rt; world.unfinished(), 0);
+    Ok(())
 }

@@ -50,7 +50,7 @@ world_in plan sites frames marks = record { plan = plan; sites = sites; frames =
 abbrev pub IsSiteOf : PlanValue → ℕ → Site → Type 0
 IsSiteOf plan a s = (s.plan ≡ plan) × (s.me ≡ a) × IsLegal s
 
--- the office finished one
+-- the office finished a session with that ticket
 abbrev pub IsKnown : PlanValue → List Site → mark.Finished → Type 0
 IsKnown plan sites m = (m.office < length sites) × (is_some (found_in plan sites m) ≡ true)
 

@@ -4,7 +4,7 @@ ghost use Rattle.std.specs.Prelude.{All, IfOk, IsTrue};
 ghost use Rattle.session_language.specs.Program.{fits};
 
 use super::foretold::{Seen, seen_of};
-use super::{describe, tell_outcomes, tell_values};
+use super::{describe, goes_on, tell_outcomes, tell_values};
 use frame_world::WorldRefusal;
 use office_map::Plan;
 use serial_replay::{Replay, serial};
@@ -45,7 +45,8 @@ static DRAWN: [(u8, Shape, u64, usize); 5] = [
     (16, Shape::Ring, 50000, 20_000),
 ];
 
-/// Of drawn events, with frames that get lost, come again or come late, the finished sessions are those of their serial run,
+/// Of drawn events, with frames that get lost, come again or come late, and with sessions that are withdrawn, and of all that
+/// comes next then until no session is left, the finished sessions are those of their serial run,
 /// and so are the values. Each event is answered as the readers foretell. The first thousand, as one run in another world, get
 /// the same answers. Every kind of answer comes but those of bytes that are no frame, of a frame that is refused, of a full
 /// journal and of want of memory; and one of the worlds sends 20,000 frames.
@@ -59,6 +60,8 @@ fn drawn_schedules_are_serial(rt: HostRuntime) -> Result<(), Fail> {
         let sessions = sessions_text(alloc, *offices, *shape)?;
         let drawn = drawn(alloc, plan.as_str(), sessions.as_str(), *seed, *events)?;
         assert_eq!(rt; drawn.seen.strange, None, "the first of {seed}");
+        assert!(rt; drawn.settled, "of {seed}");
+        assert!(rt; drawn.seen.withdrawn.len() > 50, "of {seed}");
         assert!(rt; drawn.told.len() > 1000, "of {seed}");
         assert_eq!(rt; drawn.told.as_str(), drawn.alone.as_str(), "of {seed}");
         assert_eq!(rt; drawn.again, 1000, "of {seed}");
@@ -128,6 +131,8 @@ fn lines_of(
 struct Course {
     /// What was answered.
     seen: Seen,
+    /// Whether the world went on by itself then until no session was left.
+    settled: bool,
     /// What the world tells.
     told: String,
     /// What the serial run of its finished sessions tells.
@@ -147,15 +152,29 @@ fn drawn(
     let programs = read_sessions(alloc, sessions.as_bytes(), &read)?;
     let mut world = World::open(alloc, read)?;
     let seen = seen_of(alloc, &mut world, &programs, seed, events)?;
+    let settled = settles(&mut world);
     let told = finishing(alloc, &world)?;
     let alone = alone_in_order(alloc, &world, &programs)?;
     let again = run_again(alloc, plan, &seen)?;
     Ok(Course {
         seen,
+        settled,
         told,
         alone,
         again,
     })
+}
+
+/// Whether no session is left after a million steps at most, each of which is done.
+fn settles(world: &mut World) -> bool {
+    for _ in 0..1_000_000 {
+        match goes_on(world) {
+            Some(true) => {}
+            Some(false) => return false,
+            None => return world.unfinished() == 0,
+        }
+    }
+    false
 }
 
 /// How many answers of one run of the first events are as they were.

@@ -20,6 +20,8 @@ pub struct Seen {
     pub kinds: u16,
     /// Every frame.
     pub sent: Vec<Frame>,
+    /// Every session that was withdrawn, by office and ticket.
+    pub withdrawn: Vec<(OfficeId, u32)>,
     /// The first thousand events, and their answers.
     pub events: Vec<WorldEvent>,
     pub replies: Vec<Result<Reply, WorldRefusal>>,
@@ -38,13 +40,14 @@ pub fn seen_of(
         strange: None,
         kinds: 0,
         sent: Vec::new(alloc),
+        withdrawn: Vec::new(alloc),
         events: Vec::new(alloc),
         replies: Vec::new(alloc),
     };
     for n in 0..events {
         let event = event_of(alloc, world, programs, words.next_word())?;
         let rules_agree = rules_agree(world, &event);
-        let foretold = foretold(world, seen.sent.as_slice(), &event);
+        let foretold = foretold(world, &seen, &event);
         let reply = world.apply(&event);
         note(&mut seen, event, reply)?;
         let frames_agree = world.frames() == seen.sent.len();
@@ -63,6 +66,9 @@ fn note(
     seen.kinds |= kind_of(&reply);
     if let Ok(Reply::Frame(frame)) = &reply {
         seen.sent.push(*frame)?;
+    }
+    if let (WorldEvent::Withdraw(at, ticket), Ok(_)) = (&event, &reply) {
+        seen.withdrawn.push((*at, *ticket))?;
     }
     if seen.events.len() < 1000 {
         seen.events.push(event)?;
@@ -89,8 +95,8 @@ fn kind_of(reply: &Result<Reply, WorldRefusal>) -> u16 {
     }
 }
 
-/// An event, of the bits of a drawn number: an office goes on, or tries a rule, or gets a session, or sends what waits for a
-/// neighbour, or one of the last frames comes.
+/// An event, of the bits of a drawn number: an office goes on, or tries a rule, or gets a session or loses one of its last, or
+/// sends what waits for a neighbour, or one of the last frames comes.
 fn event_of(
     alloc: Global,
     world: &World,
@@ -103,6 +109,7 @@ fn event_of(
     let small = ((draw >> 49) % 32) as usize;
     match (draw >> 55) % 16 {
         0 | 1 | 2 | 3 | 4 => go_on(alloc, world, programs, at),
+        5 if small < 8 => Ok(withdrawal(world, at, small as u32)),
         5 => {
             let at = id_below(offices.saturating_add(1), draw >> 33);
             Ok(WorldEvent::Do(at, rule_of(draw, to, small)))
@@ -121,6 +128,15 @@ fn event_of(
 
 fn id_below(bound: u64, draw: u64) -> OfficeId {
     OfficeId::new((draw.checked_rem(bound).unwrap_or(0) % 256) as u8)
+}
+
+/// A session is withdrawn that was submitted after so many at most.
+fn withdrawal(world: &World, at: OfficeId, after: u32) -> WorldEvent {
+    let tickets = match world.offices().get(at.index()) {
+        Some(office) => office.tickets(),
+        None => 0,
+    };
+    WorldEvent::Withdraw(at, tickets.saturating_sub(after))
 }
 
 /// The office does its next rule, or gets a session.
@@ -197,17 +213,23 @@ fn is_foretold(forecast: Forecast, reply: &Result<Reply, WorldRefusal>) -> bool 
     }
 }
 
-/// What is foretold of an event, in a world in which these frames were sent.
-fn foretold(world: &World, sent: &[Frame], event: &WorldEvent) -> Forecast {
+/// What is foretold of an event, in a world of which this was seen.
+fn foretold(world: &World, seen: &Seen, event: &WorldEvent) -> Forecast {
     let at = match event {
-        WorldEvent::Deliver(k) => return Forecast::Answer(delivered(world, sent, *k)),
-        WorldEvent::Submit(at, _) | WorldEvent::Do(at, _) | WorldEvent::Send(at, _, _) => *at,
+        WorldEvent::Deliver(k) => return Forecast::Answer(delivered(world, &seen.sent, *k)),
+        WorldEvent::Submit(at, _)
+        | WorldEvent::Withdraw(at, _)
+        | WorldEvent::Do(at, _)
+        | WorldEvent::Send(at, _, _) => *at,
     };
     let Some(office) = world.offices().get(at.index()) else {
         return Forecast::Answer(Err(WorldRefusal::NoOffice));
     };
     match event {
         WorldEvent::Submit(_, program) => Forecast::Answer(submitted(office, program)),
+        WorldEvent::Withdraw(_, ticket) => {
+            Forecast::Answer(withdrawn(office, &seen.withdrawn, *ticket))
+        }
         WorldEvent::Do(_, rule) if office.enabled(*rule) => Forecast::Answer(Ok(Reply::Done)),
         WorldEvent::Send(_, to, i) => framed(office, *to, *i),
         _ => Forecast::Answer(refused(Refusal::NotNow)),
@@ -221,14 +243,46 @@ fn refused(refusal: Refusal) -> Result<Reply, WorldRefusal> {
 /// A session gets the next ticket, but where it is another's, or 64 are unfinished.
 fn submitted(office: &Office, program: &Program) -> Result<Reply, WorldRefusal> {
     let tickets = office.tickets();
-    let unfinished = (tickets as usize).saturating_sub(office.outcomes().len());
     if program.office() != office.number() {
         refused(Refusal::NotOurs)
-    } else if unfinished == MAX_UNFINISHED {
+    } else if office.unfinished() == MAX_UNFINISHED {
         refused(Refusal::QueueFull)
     } else {
         Ok(Reply::Ticket(tickets.saturating_add(1)))
     }
+}
+
+/// A session is withdrawn where it has neither finished nor been withdrawn, and isn't the one that drinks, which is the first
+/// that is left.
+fn withdrawn(
+    office: &Office,
+    gone: &[(OfficeId, u32)],
+    ticket: u32,
+) -> Result<Reply, WorldRefusal> {
+    let first = first_left(office, gone);
+    let is_left = ticket >= first
+        && ticket <= office.tickets()
+        && !gone.contains(&(office.number(), ticket));
+    let drinks = office.enabled(Rule::Work(1)) || office.enabled(Rule::Finish);
+    if is_left && !(drinks && ticket == first) {
+        Ok(Reply::Done)
+    } else {
+        refused(Refusal::NotNow)
+    }
+}
+
+/// The least ticket that has neither finished nor been withdrawn.
+fn first_left(office: &Office, gone: &[(OfficeId, u32)]) -> u32 {
+    let next = match office.outcomes().last() {
+        Some(outcome) => outcome.ticket.saturating_add(1),
+        None => 1,
+    };
+    for ticket in next..office.tickets() {
+        if !gone.contains(&(office.number(), ticket)) {
+            return ticket;
+        }
+    }
+    office.tickets().max(next)
 }
 
 /// A frame has the count of what was taken, and the number of the message in its turn, or 0.

@@ -1,0 +1,29 @@
+use Rattle.std.proofs.Common.{◌≡◌, ◌<◌, ◌≤◌, length, sym, ap, ◌∙◌, arith}
+use Rattle.office_map.specs.PlanValue.{PlanValue}
+use Rattle.frame_world.specs.Standstill.{message_from}
+use Rattle.world_schedule.proofs.NextSteps.{found_in, none_yet, none_in}
+use Rattle.world_schedule.proofs.next.next_message.Goals as goal
+
+pub returns-in-Some : goal.returns-in-Some
+returns-in-Some c =
+    let w = c.args.world.now in
+    let size : c.offices-a-end.result ≡ length w.plan.offices = c.offices-a-end.ensures.count ∙ ap (λ (p : PlanValue). length p.offices) c.plan.ensures in
+    let test = c.loop-a-test.true in
+    let lt : c.loop-a.a < length w.plan.offices = omega (arith, size, test) in
+    sym (found_in (message_from w) (length w.plan.offices) c.loop-a.a c.loop-a.invariant c.new.result c.in-Some.message lt c.new.ensures (sym c.message_from.ensures ∙ c.in-Some.is))
+
+pub loop-a-preserved : goal.loop-a-preserved
+loop-a-preserved c =
+    let w = c.args.world.now in
+    let size : c.offices-a-end.result ≡ length w.plan.offices = c.offices-a-end.ensures.count ∙ ap (λ (p : PlanValue). length p.offices) c.plan.ensures in
+    let test = c.loop-a-test.true in
+    let lt : c.loop-a.a < length w.plan.offices = omega (arith, size, test) in
+    none_yet (message_from w) (length w.plan.offices) c.loop-a.a c.loop-a.invariant c.new.result lt c.new.ensures (sym c.message_from.ensures ∙ c.in_default.is)
+
+pub returns : goal.returns
+returns c =
+    let w = c.args.world.now in
+    let size : c.offices-a-end.result ≡ length w.plan.offices = c.offices-a-end.ensures.count ∙ ap (λ (p : PlanValue). length p.offices) c.plan.ensures in
+    let test = c.loop-a-test.false in
+    let le : length w.plan.offices ≤ c.loop-a.a = omega (arith, size, test) in
+    sym (none_in (message_from w) (length w.plan.offices) c.loop-a.a c.loop-a.invariant le)
