@@ -13,6 +13,7 @@ use world_schedule::{Finished, World};
 
 mod drawn;
 mod foretold;
+mod settling;
 
 /// Two offices, and two records of theirs.
 const PAIR: &str =
@@ -354,8 +355,13 @@ fn tell_values(text: &mut String, world: &World) -> Result<(), AllocError> {
 fn describe(text: &mut String, outcome: &Outcome) -> Result<(), AllocError> {
     let office = outcome.office.number();
     let ticket = outcome.ticket;
+    write!(text, "{office}.{ticket}")?;
+    describe_ending(text, outcome)
+}
+
+fn describe_ending(text: &mut String, outcome: &Outcome) -> Result<(), AllocError> {
     let end = outcome.ending.end;
-    write!(text, "{office}.{ticket} {end:?} reads")?;
+    write!(text, " {end:?} reads")?;
     for (r, value) in outcome.ending.reads.as_slice() {
         write!(text, " {}={}", r.number(), value.number)?;
     }

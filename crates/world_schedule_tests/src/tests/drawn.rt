@@ -4,11 +4,11 @@ ghost use Rattle.std.specs.Prelude.{All, IfOk, IsTrue};
 ghost use Rattle.session_language.specs.Program.{fits};
 
 use super::foretold::{Seen, seen_of};
-use super::{describe, goes_on, tell_outcomes, tell_values};
+use super::{describe_ending, goes_on, tell_values};
 use frame_world::WorldRefusal;
 use office_map::Plan;
 use serial_replay::{Replay, serial};
-use session_language::{Program, read_sessions};
+use session_language::{Outcome, Program, read_sessions};
 use site_core::Reply;
 use std::alloc::{AllocError, Global};
 use std::fmt::Write;
@@ -36,6 +36,9 @@ impl Shape {
     }
 }
 
+/// How many sessions of each office there are.
+pub const EACH: u32 = 2;
+
 /// Offices, pairs, a number from which the events are drawn, and how many of them.
 static DRAWN: [(u8, Shape, u64, usize); 5] = [
     (2, Shape::All, 1, 240_000),
@@ -61,9 +64,9 @@ fn drawn_schedules_are_serial(rt: HostRuntime) -> Result<(), Fail> {
         let drawn = drawn(alloc, plan.as_str(), sessions.as_str(), *seed, *events)?;
         assert_eq!(rt; drawn.seen.strange, None, "the first of {seed}");
         assert!(rt; drawn.settled, "of {seed}");
-        assert!(rt; drawn.seen.withdrawn.len() > 50, "of {seed}");
+        assert!(rt; drawn.seen.withdrawn > 50, "of {seed}");
         assert!(rt; drawn.told.len() > 1000, "of {seed}");
-        assert_eq!(rt; drawn.told.as_str(), drawn.alone.as_str(), "of {seed}");
+        assert!(rt; drawn.told == drawn.alone, "of {seed}");
         assert_eq!(rt; drawn.again, 1000, "of {seed}");
         kinds |= drawn.seen.kinds;
         most = most.max(drawn.seen.sent.len());
@@ -131,7 +134,7 @@ fn lines_of(
 struct Course {
     /// What was answered.
     seen: Seen,
-    /// Whether the world went on by itself then until no session was left.
+    /// Whether the world went on by itself then until each session had finished, but those that were withdrawn.
     settled: bool,
     /// What the world tells.
     told: String,
@@ -152,9 +155,9 @@ fn drawn(
     let programs = read_sessions(alloc, sessions.as_bytes(), &read)?;
     let mut world = World::open(alloc, read)?;
     let seen = seen_of(alloc, &mut world, &programs, seed, events)?;
-    let settled = settles(&mut world);
+    let settled = settles(&mut world) && is_all(&world, seen.withdrawn);
     let told = finishing(alloc, &world)?;
-    let alone = alone_in_order(alloc, &world, &programs)?;
+    let alone = alone_in_order(alloc, &world, &programs, EACH)?;
     let again = run_again(alloc, plan, &seen)?;
     Ok(Course {
         seen,
@@ -166,7 +169,7 @@ fn drawn(
 }
 
 /// Whether no session is left after a million steps at most, each of which is done.
-fn settles(world: &mut World) -> bool {
+pub fn settles(world: &mut World) -> bool {
     for _ in 0..1_000_000 {
         match goes_on(world) {
             Some(true) => {}
@@ -175,6 +178,15 @@ fn settles(world: &mut World) -> bool {
         }
     }
     false
+}
+
+/// Whether those that finished and so many others are all sessions that were submitted.
+fn is_all(world: &World, others: usize) -> bool {
+    let mut tickets: usize = 0;
+    for office in world.offices() {
+        tickets = tickets.saturating_add(office.tickets() as usize);
+    }
+    tickets == world.finished().len().saturating_add(others)
 }
 
 /// How many answers of one run of the first events are as they were.
@@ -194,33 +206,46 @@ fn same(replies: &[Result<Reply, WorldRefusal>], others: &[Result<Reply, WorldRe
     replies.iter().zip(others).filter(|(a, b)| a == b).count()
 }
 
-/// The session that an office gets after so many tickets.
-pub fn session_of(programs: &[Program], at: u8, tickets: u32) -> Option<&Program> {
-    programs.get(at as usize * 2 + (tickets % 2) as usize)
+/// The session that an office gets after so many tickets, where there are so many of each office, which come in turn.
+pub fn session_of(programs: &[Program], each: u32, at: u8, tickets: u32) -> Option<&Program> {
+    let which = tickets.checked_rem(each)?;
+    programs.get(at as usize * each as usize + which as usize)
 }
 
-/// What finished, and the values.
-fn finishing(alloc: Global, world: &World) -> Result<String, AllocError> {
+/// What finished, but for tickets, and the values.
+pub fn finishing(alloc: Global, world: &World) -> Result<String, AllocError> {
     let mut text = String::new(alloc);
-    tell_outcomes(&mut text, world)?;
+    for i in 0..world.finished().len() {
+        if let Some(outcome) = world.outcome(i) {
+            describe_at_office(&mut text, outcome)?;
+        }
+    }
     tell_values(&mut text, world)?;
     Ok(text)
 }
 
+/// Where a session ended, and how. The serial run counts tickets without those of the sessions that were withdrawn.
+fn describe_at_office(text: &mut String, outcome: &Outcome) -> Result<(), AllocError> {
+    let office = outcome.office.number();
+    write!(text, "{office}")?;
+    describe_ending(text, outcome)
+}
+
 /// What the serial run of the finished sessions tells.
-fn alone_in_order(
+pub fn alone_in_order(
     alloc: Global,
     world: &World,
     programs: &[Program],
+    each: u32,
 ) -> Result<String, AllocError> {
-    let finished = finished_programs(alloc, world.plan(), programs, world.finished())?;
+    let finished = finished_programs(alloc, world.plan(), programs, each, world.finished())?;
     let mut text = String::new(alloc);
     if finished.len() > 20_000 {
         return Ok(text);
     }
     let Replay { outcomes, values } = serial(alloc, world.plan(), &finished)?;
     for outcome in &outcomes {
-        describe(&mut text, outcome)?;
+        describe_at_office(&mut text, outcome)?;
     }
     text.push_str("values")?;
     for value in &values {
@@ -234,6 +259,7 @@ fn finished_programs(
     alloc: Global,
     plan: &Plan,
     programs: &[Program],
+    each: u32,
     finished: &[Finished],
 ) -> Result<Vec<Program>, AllocError>
     ensures { IfOk result (λ ps. All (λ p. IsTrue (fits plan.now p)) ps.items) }
@@ -241,7 +267,7 @@ fn finished_programs(
     let mut found = Vec::new(alloc);
     for one in finished {
         let before = one.ticket.saturating_sub(1);
-        if let Some(program) = session_of(programs, one.office.number(), before) {
+        if let Some(program) = session_of(programs, each, one.office.number(), before) {
             push_fitting(plan, &mut found, program.copy(alloc)?)?;
         }
     }

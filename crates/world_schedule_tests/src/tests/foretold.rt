@@ -1,6 +1,6 @@
 //! Drawn events, and what the readers of a world foretell of each.
 
-use super::drawn::session_of;
+use super::drawn::{EACH, session_of};
 use frame_codec::Frame;
 use frame_world::{WorldEvent, WorldRefusal};
 use office_map::{OfficeId, RecordId};
@@ -20,8 +20,10 @@ pub struct Seen {
     pub kinds: u16,
     /// Every frame.
     pub sent: Vec<Frame>,
-    /// Every session that was withdrawn, by office and ticket.
-    pub withdrawn: Vec<(OfficeId, u32)>,
+    /// The sessions that were submitted, in that order, and have neither finished nor been withdrawn.
+    pub left: Vec<(OfficeId, u32)>,
+    /// How many were withdrawn.
+    pub withdrawn: usize,
     /// The first thousand events, and their answers.
     pub events: Vec<WorldEvent>,
     pub replies: Vec<Result<Reply, WorldRefusal>>,
@@ -40,7 +42,8 @@ pub fn seen_of(
         strange: None,
         kinds: 0,
         sent: Vec::new(alloc),
-        withdrawn: Vec::new(alloc),
+        left: Vec::new(alloc),
+        withdrawn: 0,
         events: Vec::new(alloc),
         replies: Vec::new(alloc),
     };
@@ -67,14 +70,50 @@ fn note(
     if let Ok(Reply::Frame(frame)) = &reply {
         seen.sent.push(*frame)?;
     }
-    if let (WorldEvent::Withdraw(at, ticket), Ok(_)) = (&event, &reply) {
-        seen.withdrawn.push((*at, *ticket))?;
-    }
+    note_session(seen, &event, &reply)?;
     if seen.events.len() < 1000 {
         seen.events.push(event)?;
         seen.replies.push(reply)?;
     }
     Ok(())
+}
+
+/// A session is left from when it is submitted until it finishes, first of its office, or is withdrawn.
+fn note_session(
+    seen: &mut Seen,
+    event: &WorldEvent,
+    reply: &Result<Reply, WorldRefusal>,
+) -> Result<(), AllocError> {
+    match (event, reply) {
+        (WorldEvent::Submit(at, _), Ok(Reply::Ticket(ticket))) => seen.left.push((*at, *ticket))?,
+        (WorldEvent::Withdraw(at, ticket), Ok(_)) => {
+            seen.withdrawn = seen.withdrawn.saturating_add(1);
+            strike(&mut seen.left, (*at, *ticket));
+        }
+        (WorldEvent::Do(at, Rule::Finish), Ok(_)) => {
+            if let Some(first) = first_left(&seen.left, *at) {
+                strike(&mut seen.left, (*at, first));
+            }
+        }
+        _ => {}
+    }
+    Ok(())
+}
+
+fn strike(left: &mut Vec<(OfficeId, u32)>, session: (OfficeId, u32)) {
+    if let Some(i) = left.iter().position(|one| *one == session) {
+        left.remove(i);
+    }
+}
+
+/// The least ticket of an office's sessions that are left.
+fn first_left(left: &[(OfficeId, u32)], office: OfficeId) -> Option<u32> {
+    for (at, ticket) in left {
+        if *at == office {
+            return Some(*ticket);
+        }
+    }
+    None
 }
 
 fn kind_of(reply: &Result<Reply, WorldRefusal>) -> u16 {
@@ -168,7 +207,7 @@ fn submission(
         Some(office) => office.tickets(),
         None => 0,
     };
-    match session_of(programs, whose.number(), tickets) {
+    match session_of(programs, EACH, whose.number(), tickets) {
         Some(program) => Ok(WorldEvent::Submit(at, program.copy(alloc)?)),
         None => Ok(WorldEvent::Deliver(0)),
     }
@@ -228,7 +267,7 @@ fn foretold(world: &World, seen: &Seen, event: &WorldEvent) -> Forecast {
     match event {
         WorldEvent::Submit(_, program) => Forecast::Answer(submitted(office, program)),
         WorldEvent::Withdraw(_, ticket) => {
-            Forecast::Answer(withdrawn(office, &seen.withdrawn, *ticket))
+            Forecast::Answer(withdrawn(office, &seen.left, *ticket))
         }
         WorldEvent::Do(_, rule) if office.enabled(*rule) => Forecast::Answer(Ok(Reply::Done)),
         WorldEvent::Send(_, to, i) => framed(office, *to, *i),
@@ -252,37 +291,20 @@ fn submitted(office: &Office, program: &Program) -> Result<Reply, WorldRefusal> 
     }
 }
 
-/// A session is withdrawn where it has neither finished nor been withdrawn, and isn't the one that drinks, which is the first
-/// that is left.
+/// A session is withdrawn where it is left, and isn't the one that drinks, which is the first of those.
 fn withdrawn(
     office: &Office,
-    gone: &[(OfficeId, u32)],
+    left: &[(OfficeId, u32)],
     ticket: u32,
 ) -> Result<Reply, WorldRefusal> {
-    let first = first_left(office, gone);
-    let is_left = ticket >= first
-        && ticket <= office.tickets()
-        && !gone.contains(&(office.number(), ticket));
+    let at = office.number();
     let drinks = office.enabled(Rule::Work(1)) || office.enabled(Rule::Finish);
-    if is_left && !(drinks && ticket == first) {
+    let is_at_work = drinks && first_left(left, at) == Some(ticket);
+    if left.contains(&(at, ticket)) && !is_at_work {
         Ok(Reply::Done)
     } else {
         refused(Refusal::NotNow)
     }
-}
-
-/// The least ticket that has neither finished nor been withdrawn.
-fn first_left(office: &Office, gone: &[(OfficeId, u32)]) -> u32 {
-    let next = match office.outcomes().last() {
-        Some(outcome) => outcome.ticket.saturating_add(1),
-        None => 1,
-    };
-    for ticket in next..office.tickets() {
-        if !gone.contains(&(office.number(), ticket)) {
-            return ticket;
-        }
-    }
-    office.tickets().max(next)
 }
 
 /// A frame has the count of what was taken, and the number of the message in its turn, or 0.
