@@ -20,7 +20,7 @@ use Rattle.site_core.specs.Growing.{link_to}
 use Rattle.locked_office.specs.Sends.{WaitsFor, SendsNumber}
 use Rattle.locked_office.specs.refinement.Holding.{Holds, GivesBack}
 use Rattle.locked_office.specs.refinement.Places.{place_in, place_at, framed_as}
-use Rattle.locked_office.proofs.Giving.{grew_none, did, still, event_grew}
+use Rattle.locked_office.proofs.Giving.{did, still, event_grew}
 
 -- ---- where it stands
 
@@ -108,8 +108,3 @@ number_did law desk p q t v n k result held s s' h same tag at few steps seen le
     let mine = subst (λ m. Steps s m (Send v k) result s') tag steps in
     did (λ x x'. SendsNumber p.tag v n (framed_as result) x x') desk p q s s' (still desk p held s h same) (event_grew law p t (Send v k) result s s' tag steps)
     (number_sent s s' p.tag v n k result (ap (λ (o : Site). place_at o v n) same ∙ at) (subst (λ (o : Site). length (link_to o v).sending.waiting ≤ 18) (sym same) few) mine) seen legal back
-
-pub number_none : (desk : LockView Key) (p q : DeskPass) (v n : ℕ) (s : Site) → Holds desk p s → place_at s v n ≡ None → q.seen ≡ s.entries → IsLegal s → GivesBack p q s →
-    Did (λ x x'. SendsNumber p.tag v n (Ok None) x x') desk.key p q
-number_none desk p q v n s h none seen legal back =
-    did (λ x x'. SendsNumber p.tag v n (Ok None) x x') desk p q s s h (grew_none p.tag s s refl) (refl, not_there s v n none) seen legal back

@@ -10,7 +10,7 @@ use Rattle.site_core.specs.declared.reply.Reply.{Reply}
 use Rattle.site_core.specs.declared.reply.Refusal.{Refusal}
 use Rattle.site_core.specs.Journals.{Site, IsLegal, noted, Steps, Receives, Enters, Adds, StepsAddTheirEntry}
 use Rattle.locked_office.specs.declared.advance.Stopped.{Stopped}
-use Rattle.locked_office.specs.Calls.{Key, DeskPass, tag_of, office_with, Stays, Did, Does}
+use Rattle.locked_office.specs.Calls.{Key, DeskPass, tag_of, office_with, Did, Does}
 use Rattle.site_core.specs.RulesInTurn.{extended, AreNext}
 use Rattle.locked_office.specs.Advance.{Advances}
 use Rattle.locked_office.specs.refinement.Holding.{Holds, Came, GivesBack}
@@ -114,10 +114,6 @@ nothing_added desk p s h = adds_only desk p s s h (grew_none p.tag s s refl)
 pub looked : (desk : LockView Key) (p q : DeskPass) (s : Site) → Holds desk p s → q.seen ≡ s.entries → IsLegal s → GivesBack p q s → Did (λ x x'. x' ≡ x) desk.key p q
 looked desk p q s h seen legal back = did (λ x x'. x' ≡ x) desk p q s s h (grew_none p.tag s s refl) refl seen legal back
 
--- what the pass has seen is the office's journal
-pub seen_is : (desk : LockView Key) (p q : DeskPass) (s : Site) → Holds desk p s → q.seen ≡ s.entries → s ≡ office_with desk.key q.seen
-seen_is desk p q s h seen = ap (λ (k : Key). office_with k s.entries) h.key ∙ ap (office_with desk.key) (sym seen)
-
 -- ---- taking the office
 
 pub came : (p m : DeskPass) (es : List Entry) → m ≡ pass_after_take p es → IsPrefix p.seen es → Came p m
@@ -134,6 +130,3 @@ takes desk p m s of is key = record {
 -- what was done while the pass held the office, told from before it did
 pub does : (what : ℕ → Site → Site → Type 0) (k : Key) (p m q : DeskPass) → Came p m → Did (what m.tag) k m q → Does (what p.tag) k p q
 does what k p m q c d = (c.0, subst (λ (x : DeskPass). Did (what x.tag) k x q) c.1 d)
-
-pub stays_from : (desk : LockView Key) (p m q : DeskPass) → Came p m → Stays desk m q → Stays desk p q
-stays_from desk p m q c s = (s.0, s.1 ∙ ap (λ (x : DeskPass). x.tag) c.1, s.2)

@@ -1,5 +1,5 @@
 -- Rules that are done one after the other.
-use Rattle.std.proofs.Common.{◌≡◌, ℕ, ◌+◌, ◌<◌, ◌≤◌, List, [], ◌∷◌, ◌++◌, length, None, Some, Ok, Err, refl, sym, ap, subst, ◌∙◌, arith, append_assoc, append-nil, length-append}
+use Rattle.std.proofs.Common.{◌≡◌, ℕ, ◌+◌, ◌<◌, List, [], ◌∷◌, ◌++◌, length, Some, Err, refl, sym, ap, subst, ◌∙◌, arith, append_assoc, append-nil, length-append}
 use Rattle.site_core.specs.declared.event.Event.TheVariants.{Do}
 use Rattle.site_core.specs.declared.event.Entry.{Entry}
 use Rattle.site_core.specs.declared.reply.Reply.{Reply}
@@ -26,9 +26,6 @@ next_more : (tag : ℕ) (s : Site) (xs : List Entry) (x : Entry) (r : Rule) → 
 next_more tag s [] x r a n e t = (r, sym (ap next_at (extended_none s)) ∙ n, e, t, tt)
 next_more tag s (y ∷ ys) x r a n e t = (a.0, a.1, a.2, a.3, next_more tag (extended s (y ∷ [])) ys x r a.4 (ap next_at (extended_twice s (y ∷ []) ys) ∙ n) e t)
 
-pub none_done : (tag : ℕ) (s : Site) → HasDone tag 0 s s
-none_done tag s = record { done = []; next = tt; added = sym (extended_none s); count = refl }
-
 pub one_more : (tag n : ℕ) (s s' s'' : Site) (r : Rule) (reply : Reply) → HasDone tag n s s' → next_at s' ≡ Some r → s'' ≡ noted s' tag (Do r) reply → HasDone tag (n + 1) s s''
 one_more tag n s s' s'' r reply h next is =
     let x : Entry = record { tag = tag; event = Do r; reply = reply } in
@@ -38,12 +35,6 @@ one_more tag n s s' s'' r reply h next is =
       added = is ∙ ap (λ (o : Site). extended o (x ∷ [])) h.added ∙ extended_twice s h.done (x ∷ []);
       count = omega (arith, length-append h.done (x ∷ []), h.count);
     }
-
-pub all_done : (tag n most : ℕ) (s s' : Site) → HasDone tag n s s' → n ≤ most → most ≤ n → Advances tag most (Ok most) s s'
-all_done tag n most s s' h le ge = record { done = h.done; next = h.next; added = h.added; count = omega (arith, h.count, le, ge); ends = (omega arith, λ (lt : most < most). absurd (omega (arith, lt))) }
-
-pub no_more : (tag n most : ℕ) (s s' : Site) → HasDone tag n s s' → n < most → next_at s' ≡ None → Advances tag most (Ok n) s s'
-no_more tag n most s s' h lt none = record { done = h.done; next = h.next; added = h.added; count = h.count; ends = (omega (arith, lt), λ (_ : n < most). none) }
 
 pub stops : (tag n most : ℕ) (s s' s'' : Site) (r : Rule) (why : Refusal) → HasDone tag n s s' → n < most → next_at s' ≡ Some r → Steps s' tag (Do r) (Err why) s'' → LacksRoom s' why → s'' ≡ s' →
     Advances tag most (Err (record { done = n; refusal = why })) s s''

@@ -15,6 +15,10 @@ pub record WaitsFor (s : Site) (v n : ℕ) : Type 0 where
   pub unknown : (link_to s v).sending.acked < n
   pub sent : n ≤ used (link_to s v).sending
 
+-- a message waits, for whichever neighbour
+abbrev pub SomeWaits : Site → Type 0
+SomeWaits s = (v : ℕ) × (n : ℕ) × WaitsFor s v n
+
 -- a frame was made for v, of the message of that number, which waited, with no more than 18 that did
 pub record SendsMessage (tag v n : ℕ) (f : Fields) (s s' : Site) : Type 0 where
   pub waits : WaitsFor s v n

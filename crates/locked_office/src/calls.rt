@@ -1,6 +1,6 @@
 //! What each call does with the office that its pass holds. It gives the office back.
 
-ghost use Rattle.std.specs.Prelude.{◌≡◌, ◌≢◌, ◌+◌, ◌≤◌, [], true, None, IfOk, IfSome, OnErr, length, take, drop};
+ghost use Rattle.std.specs.Prelude.{◌≡◌, ◌≢◌, ◌+◌, ◌≤◌, ◌↔◌, ℕ, [], true, None, IsTrue, IfOk, IfSome, OnErr, length, take, drop};
 ghost use Rattle.own_lock.specs.Entries.{AddsOnly};
 ghost use Rattle.own_lock.specs.Passes.{IsOf};
 ghost use Rattle.site_core.specs.declared.event.Event.TheVariants as events;
@@ -10,7 +10,7 @@ ghost use Rattle.site_core.specs.Limits.{most_entries};
 ghost use Rattle.locked_office.specs.Calls.{Stays, Did, tag_of, office_with};
 ghost use Rattle.locked_office.specs.Advance.{Advances};
 ghost use Rattle.locked_office.specs.Outcomes.{outcome_of, waiting_for};
-ghost use Rattle.locked_office.specs.Sends.{SendsNumber};
+ghost use Rattle.locked_office.specs.Sends.{WaitsFor, SomeWaits, SendsNumber};
 ghost use Rattle.locked_office.specs.refinement.Places.{place_at, framed_as};
 ghost use Rattle.locked_office.specs.refinement.Holding.{Holds, GivesBack};
 
@@ -52,6 +52,23 @@ pub fn submit(
 {
     steps_add_their_entry();
     let reply = held.state().submit(pass.tag(), program);
+    give_back(lock, pass, held);
+    reply
+}
+
+/// A session is withdrawn.
+pub fn withdraw(
+    lock: &OwnLock<Office>,
+    pass: &mut Pass<Office>,
+    mut held: Held<Office>,
+    ticket: u32,
+) -> Result<Reply, Refusal>
+    requires { Holds lock.now pass.old held }
+    ensures stays { Stays lock.now pass.old pass.new }
+    ensures did { Did (λ s s'. Steps s pass.old.tag (events.Withdraw ticket) result s') lock.now.key pass.old pass.new }
+{
+    steps_add_their_entry();
+    let reply = held.state().withdraw(pass.tag(), ticket);
     give_back(lock, pass, held);
     reply
 }
@@ -206,6 +223,38 @@ fn waits(office: &Office, v: OfficeId) -> Result<(u64, usize), Refusal>
     ensures range { IfOk result (λ w. w.0 + w.1 ≤ most_entries + 1) }
 {
     office.waiting(v).ok_or(Refusal::NotNow)
+}
+
+/// Whether a message waits is looked up.
+pub fn some_waits(lock: &OwnLock<Office>, pass: &mut Pass<Office>, held: Held<Office>) -> bool
+    requires { Holds lock.now pass.old held }
+    ensures stays { Stays lock.now pass.old pass.new }
+    ensures looked { Did (λ s s'. s' ≡ s) lock.now.key pass.old pass.new }
+    ensures waits { IsTrue result ↔ SomeWaits (office_with lock.now.key pass.new.seen) }
+{
+    let some = any_waits(held.get());
+    give_back(lock, pass, held);
+    some
+}
+
+fn any_waits(office: &Office) -> bool
+    ensures { IsTrue result ↔ SomeWaits office.now }
+{
+    for k in 0..office.plan().offices() {
+        if one_waits(office, OfficeId::new(k as u8)) {
+            return true;
+        }
+    }
+    false
+}
+
+fn one_waits(office: &Office, v: OfficeId) -> bool
+    ensures { IsTrue result ↔ ((n : ℕ) × WaitsFor office.now v n) }
+{
+    match office.waiting(v) {
+        Some((_, count)) => count > 0,
+        None => false,
+    }
 }
 
 /// A part of the journal is copied.

@@ -1,6 +1,6 @@
 //! The desk of an office.
 
-ghost use Rattle.std.specs.Prelude.{◌≡◌, ◌≢◌, ◌+◌, ◌<◌, ◌≤◌, false, None, [], IfOk, IfErr, IfSome, OnErr, take, drop};
+ghost use Rattle.std.specs.Prelude.{◌≡◌, ◌≢◌, ◌+◌, ◌<◌, ◌≤◌, ◌↔◌, IsTrue, false, None, [], IfOk, IfErr, IfSome, OnErr, take, drop};
 ghost use mathlib.Core.List.{IsPrefix};
 ghost use Rattle.own_lock.specs.Entries.{longer, tagged};
 ghost use Rattle.own_lock.specs.Passes.{IsOf, AreFresh, AreIdle};
@@ -10,7 +10,7 @@ ghost use Rattle.site_core.specs.Limits.{most_entries};
 ghost use Rattle.locked_office.specs.Calls.{Stays, Does, Looks, tag_of, office_with};
 ghost use Rattle.locked_office.specs.Advance.{Advances};
 ghost use Rattle.locked_office.specs.Outcomes.{outcome_of, waiting_for};
-ghost use Rattle.locked_office.specs.Sends.{SendsNumber};
+ghost use Rattle.locked_office.specs.Sends.{SomeWaits, SendsNumber};
 ghost use Rattle.locked_office.specs.refinement.Holding.{Holds, Came};
 
 use crate::advance::Stopped;
@@ -157,6 +157,44 @@ impl Desk {
         Ok(calls::submit(&self.lock, pass, held, program))
     }
 
+    /// Withdraws the session with that ticket.
+    ///
+    /// # Errors
+    /// As [`Office::withdraw`].
+    pub fn withdraw<R: Wait>(
+        &self,
+        rt: &R,
+        pass: &mut Pass<Office>,
+        ticket: u32,
+    ) -> Result<Reply, Refusal>
+        requires of { IsOf self.now pass.old }
+        requires idle { pass.old.holds ≡ false }
+        ensures stays { Stays self.now pass.old pass.new }
+        ensures withdrawn { Does (λ s s'. Steps s pass.old.tag (events.Withdraw ticket) result s') self.now.key pass.old pass.new }
+    {
+        let held = self.hold(rt, pass);
+        calls::withdraw(&self.lock, pass, held, ticket)
+    }
+
+    /// Withdraws the session with that ticket, if no other pass has the office.
+    ///
+    /// # Errors
+    /// `Busy` where another pass has it. Nothing changed.
+    pub fn try_withdraw(
+        &self,
+        pass: &mut Pass<Office>,
+        ticket: u32,
+    ) -> Result<Result<Reply, Refusal>, Busy>
+        requires of { IsOf self.now pass.old }
+        requires idle { pass.old.holds ≡ false }
+        ensures stays { Stays self.now pass.old pass.new }
+        ensures withdrawn { IfOk result (λ answer. Does (λ s s'. Steps s pass.old.tag (events.Withdraw ticket) answer s') self.now.key pass.old pass.new) }
+        ensures busy { IfErr result (λ _. pass.new ≡ pass.old) }
+    {
+        let held = self.try_hold(pass)?;
+        Ok(calls::withdraw(&self.lock, pass, held, ticket))
+    }
+
     /// Takes in bytes that come.
     ///
     /// # Errors
@@ -256,7 +294,7 @@ impl Desk {
         calls::advance(&self.lock, pass, held, most)
     }
 
-    /// How the session with that ticket ended; none where it hasn't finished, and then no memory is taken.
+    /// How the session with that ticket ended; none where it hasn't finished or was withdrawn, and then no memory is taken.
     pub fn outcome<R: Wait>(
         &self,
         rt: &R,
@@ -316,6 +354,18 @@ impl Desk {
     {
         let held = self.hold(rt, pass);
         calls::waiting(&self.lock, pass, held, v)
+    }
+
+    /// Whether a message waits, for whichever neighbour.
+    pub fn some_waits<R: Wait>(&self, rt: &R, pass: &mut Pass<Office>) -> bool
+        requires of { IsOf self.now pass.old }
+        requires idle { pass.old.holds ≡ false }
+        ensures stays { Stays self.now pass.old pass.new }
+        ensures looked { Looks self.now.key pass.old pass.new }
+        ensures waits { IsTrue result ↔ SomeWaits (office_with self.now.key pass.new.seen) }
+    {
+        let held = self.hold(rt, pass);
+        calls::some_waits(&self.lock, pass, held)
     }
 
     /// Copies of the first so many entries of the journal from this place on, from 0; of fewer where it ends before. Where there

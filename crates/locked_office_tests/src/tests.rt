@@ -96,7 +96,7 @@ fn submits_after<R: Wait + Abort>(
     let mut b = last(desk, passes)?;
     let mut a = last(desk, passes)?;
     let busy = while_held(desk, &mut a, &mut b, program);
-    assert_eq!(rt; busy, Some(3));
+    assert_eq!(rt; busy, Some(4));
     let ticket = try_submit(desk, &mut b, program);
     assert_eq!(rt; ticket, Some(Ok(Reply::Ticket(1))));
     assert_eq!(rt; tags(rt, desk, &mut b, 10), Ok([0, 1, 0, 0]));
@@ -132,7 +132,8 @@ fn count_busy(desk: &Desk, pass: &mut Pass<Office>, program: &Program) -> u32
     let submitted = try_submit(desk, pass, program).is_none();
     let taken = try_took(desk, pass, GIVES).is_none();
     let told = try_outcome(desk, pass, 1).is_none();
-    submitted as u32 + taken as u32 + told as u32
+    let withdrawn = try_withdraw(desk, pass, 1).is_none();
+    submitted as u32 + taken as u32 + told as u32 + withdrawn as u32
 }
 
 /// A session fetches a bottle through the desk.
@@ -260,6 +261,50 @@ fn fill<R: Wait + Abort>(rt: &R, desk: &Desk, pass: &mut Pass<Office>, program: 
     assert_eq!(rt; submit(rt, desk, pass, program), Err(Refusal::QueueFull));
 }
 
+/// Two sessions of one record.
+const TWO_OF_X: &str = "session a\nset x = 1\nend\nsession a\ngive read x\nend\n";
+
+/// Sessions that wait are withdrawn at a desk, each once.
+#[test]
+fn waiting_sessions_are_withdrawn(rt: HostRuntime) -> Result<(), Fail> {
+    let programs = programs(rt.alloc(), PAIR, TWO_OF_X)?;
+    let (desk, mut passes) = opened(rt.alloc(), PAIR, 1)?;
+    assert!(rt; are_withdrawn(&rt, &desk, &mut passes, &programs));
+    Ok(())
+}
+
+/// Whether there are a pass and both sessions, and these are submitted, and withdrawn in both ways.
+fn are_withdrawn<R: Wait + Abort>(
+    rt: &R,
+    desk: &Desk,
+    passes: &mut Vec<Pass<Office>>,
+    programs: &[Program],
+) -> bool
+    requires { AreIdle desk.now passes.old.items }
+{
+    let (Some(first), Some(second)) = (programs.get(0), programs.get(1)) else {
+        return false;
+    };
+    let Some(mut pass) = last(desk, passes) else {
+        return false;
+    };
+    assert_eq!(rt; submit(rt, desk, &mut pass, first), Ok(Reply::Ticket(1)));
+    assert_eq!(rt; submit(rt, desk, &mut pass, second), Ok(Reply::Ticket(2)));
+    withdraws_both(rt, desk, &mut pass);
+    tags(rt, desk, &mut pass, 99) == Ok([4, 0, 0, 0])
+}
+
+fn withdraws_both<R: Wait + Abort>(rt: &R, desk: &Desk, pass: &mut Pass<Office>)
+    requires { IsOf desk.now pass.old × (pass.old.holds ≡ false) }
+    ensures { IsOf desk.now pass.new × (pass.new.holds ≡ false) }
+{
+    assert_eq!(rt; withdraw(rt, desk, pass, 1), Ok(Reply::Done));
+    assert_eq!(rt; try_withdraw(desk, pass, 2), Some(Ok(Reply::Done)));
+    assert_eq!(rt; withdraw(rt, desk, pass, 1), Err(Refusal::NotNow));
+    assert_eq!(rt; try_withdraw(desk, pass, 2), Some(Err(Refusal::NotNow)));
+    assert_eq!(rt; advance(rt, desk, pass, 9), Ok(0));
+}
+
 // ---- calls of which tests know what they answer
 
 fn try_submit(
@@ -271,6 +316,13 @@ fn try_submit(
     ensures { IsOf desk.now pass.new × (pass.new.holds ≡ false) }
 {
     desk.try_submit(pass, program).ok()
+}
+
+fn try_withdraw(desk: &Desk, pass: &mut Pass<Office>, ticket: u32) -> Option<Result<Reply, Refusal>>
+    requires { IsOf desk.now pass.old × (pass.old.holds ≡ false) }
+    ensures { IsOf desk.now pass.new × (pass.new.holds ≡ false) }
+{
+    desk.try_withdraw(pass, ticket).ok()
 }
 
 fn try_took(desk: &Desk, pass: &mut Pass<Office>, bytes: &[u8]) -> Option<Result<Reply, Refusal>>
@@ -337,6 +389,18 @@ fn submit<R: Wait>(
     ensures { IsOf desk.now pass.new × (pass.new.holds ≡ false) }
 {
     desk.submit(rt, pass, program)
+}
+
+fn withdraw<R: Wait>(
+    rt: &R,
+    desk: &Desk,
+    pass: &mut Pass<Office>,
+    ticket: u32,
+) -> Result<Reply, Refusal>
+    requires { IsOf desk.now pass.old × (pass.old.holds ≡ false) }
+    ensures { IsOf desk.now pass.new × (pass.new.holds ≡ false) }
+{
+    desk.withdraw(rt, pass, ticket)
 }
 
 fn took<R: Wait>(
