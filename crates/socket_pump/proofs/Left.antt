@@ -40,13 +40,6 @@ sees_self p = ([], λ i. record p { seen = sym (append-nil p.seen) i })
 pub sees_both : (p m q : DeskPass) → Sees p m → Sees m q → Sees p q
 sees_both p m q s t = subst (λ (x : DeskPass). Sees x q → Sees p q) (sym s.1) (λ x. (s.0 ++ x.0, x.1 ∙ (λ i. record p { seen = append_assoc p.seen s.0 x.0 i }))) t
 
--- a call that adds nothing only sees
-pub sees_left : (k : Key) (p q : DeskPass) (l : Left k p q) → l.added ≡ [] → Sees p q
-sees_left k p q l none = (
-  l.between,
-  l.is ∙ (ap (λ (es : List Entry). record p { seen = (p.seen ++ l.between) ++ es; mine = p.mine ++ es }) none ∙ (λ i. record p { seen = append-nil (p.seen ++ l.between) i; mine = append-nil p.mine i })),
-)
-
 -- what was added is what the journal has more
 pub added_is : (k : Key) (p q : DeskPass) (l : Left k p q) (es : List Entry) → q.seen ≡ (p.seen ++ l.between) ++ es → l.added ≡ es
 added_is k p q l es e = append_cancel_left (p.seen ++ l.between) l.added es (sym (ap (λ (x : DeskPass). x.seen) l.is) ∙ e)

@@ -11,7 +11,7 @@ use Rattle.site_core.specs.Readers.{waiting_on}
 use Rattle.site_core.specs.Growing.{link_at, LinksOnlyGrow}
 use Rattle.locked_office.specs.Calls.{Key, DeskPass, office_with, Looks}
 use Rattle.locked_office.specs.Outcomes.{waiting_for}
-use Rattle.locked_office.specs.Sends.{WaitsFor}
+use Rattle.locked_office.specs.Sends.{WaitsFor, SomeWaits}
 use Rattle.socket_pump.specs.declared.pump.PumpFault.{PumpFault}
 use Rattle.socket_pump.specs.Wires.{Account}
 use Rattle.socket_pump.specs.Last.{IsDue}
@@ -22,7 +22,7 @@ use Rattle.socket_pump.proofs.Telling.{sees_begins, sends_begins, grows_on, wait
 
 -- ---- what waits for a neighbour
 
-looked : (k : Key) (p q : DeskPass) → p.holds ≡ false → Looks k p q → Sees p q
+pub looked : (k : Key) (p q : DeskPass) → p.holds ≡ false → Looks k p q → Sees p q
 looked k p q idle d = unchanged (λ s s'. s' ≡ s) k p q d idle (ap (λ (s : Site). s.entries) d.1.done)
 
 -- no neighbour: nothing waits for it
@@ -130,8 +130,12 @@ pub record SpokeBelow (tells : Bool) (tag : ℕ) (k : Key) (last then : Times) (
   pub ahead : (v i : ℕ) → below ≤ v → then v i ≡ last v i
   pub done : (v : ℕ) → v < below → SentTo k last now p q made v
 
-pub below_starts : (tells : Bool) (tag : ℕ) (k : Key) (last : Times) (now : ℕ) (p : DeskPass) (a : Account) → Sees p p → SpokeBelow tells tag k last last now p a 0 a p 0
-below_starts tells tag k last now p a sees = record { made = []; spoke = spoke_none tells tag k last now p p a sees; before = λ v i s. elim s [ ]; ahead = λ v i le. refl; done = λ v lt. absurd (omega (arith, lt)) }
+pub below_starts : (tells : Bool) (tag : ℕ) (k : Key) (last : Times) (now : ℕ) (p q : DeskPass) (a : Account) → Sees p q → SpokeBelow tells tag k last last now p a 0 a q 0
+below_starts tells tag k last now p q a sees = record { made = []; spoke = spoke_none tells tag k last now p q a sees; before = λ v i s. elim s [ ]; ahead = λ v i le. refl; done = λ v lt. absurd (omega (arith, lt)) }
+
+-- where no message waits, nothing is to be told
+pub silent_to_all : (tells : Bool) (tag : ℕ) (k : Key) (last : Times) (now : ℕ) (p q : DeskPass) (a : Account) → p.holds ≡ false → Looks k p q → (SomeWaits (office_with k q.seen) → ⊥) → SpokeToAll tells tag k last last now p a 0 a q
+silent_to_all tells tag k last now p q a idle d none = ([], spoke_none tells tag k last now p q a (looked k p q idle d), λ v i x y due. absurd (none (v, i, y)))
 
 pub below_on : LinksOnlyGrow → (tells : Bool) (tag : ℕ) (k : Key) (last mid then : Times) (now : ℕ) (p m q : DeskPass) (a b d : Account) (sent more v : ℕ) → SpokeBelow tells tag k last mid now p a sent b m v → SpokeTo tells tag k mid then now m b more d q v →
     ((u i : ℕ) → (u ≡ v → ⊥) → then u i ≡ mid u i) → SpokeBelow tells tag k last then now p a (sent + more) d q (v + 1)

@@ -28,9 +28,6 @@ use Rattle.socket_pump.proofs.Left.{does_later, sees_self, sees_both}
 abbrev pub Begins : DeskPass → DeskPass → Type 0
 Begins p q = (more : List Entry) × (q.seen ≡ p.seen ++ more)
 
-pub begins_self : (p : DeskPass) → Begins p p
-begins_self p = ([], sym (append-nil p.seen))
-
 pub begins_both : (p m q : DeskPass) → Begins p m → Begins m q → Begins p q
 begins_both p m q x y = (x.0 ++ y.0, y.1 ∙ (ap (λ l. l ++ y.0) x.1 ∙ append_assoc p.seen x.0 y.0))
 

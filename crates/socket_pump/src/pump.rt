@@ -143,7 +143,7 @@ impl Pump {
         })
     }
 
-    // All messages that are due, to all neighbours. Those who got one need no count.
+    // All messages that are due, to all neighbours. Those who got one need no count. Where none waits, one look tells it.
     fn tell<R: Wait, W: Wire>(
         &mut self,
         rt: &R,
@@ -164,6 +164,9 @@ impl Pump {
             (λ f. Broken W.tells pass.old.tag desk.now.key (last_of self.old.lasts) (last_of self.new.lasts) now pass.old (W.account wire.old) f (W.account wire.new) pass.new) }
     {
         links_only_grow();
+        if !desk.some_waits(rt, pass) {
+            return Ok(0);
+        }
         let mut sent = 0;
         for k in 0..self.plan.offices() {
             let v = OfficeId::new(k as u8);

@@ -5,9 +5,9 @@ use Rattle.locked_office.specs.Calls.{Key}
 use Rattle.socket_pump.specs.declared.last.Lasts.{Lasts}
 use Rattle.socket_pump.specs.Last.{PumpView, last_of}
 use Rattle.socket_pump.specs.refinement.Stages.{SpokeTo, BrokenWith, AreFor}
-use Rattle.socket_pump.proofs.Left.{sees_self}
-use Rattle.socket_pump.proofs.Near.{near_within, near_as}
-use Rattle.socket_pump.proofs.Speaking.{SpokeBelow, below_starts, below_on, below_past, below_broke, spoken_to_all}
+use Rattle.office_map.proofs.RecordEnds.{near_within}
+use Rattle.socket_pump.proofs.Near.{near_as}
+use Rattle.socket_pump.proofs.Speaking.{looked, silent_to_all, SpokeBelow, below_starts, below_on, below_past, below_broke, spoken_to_all}
 use Rattle.socket_pump.proofs.pump.Pump.tell.Goals as goal
 
 pub loop-k-init : goal.loop-k-init
@@ -18,9 +18,10 @@ loop-k-init g c =
     record {
       plan = refl;
       me = refl;
-      stays = (c.requires.of, refl, c.requires.idle);
+      stays = c.some_waits.ensures.stays;
       few = omega arith;
-      below = subst (λ (l : Lasts). SpokeBelow g.W.Wire.tells p.tag c.args.desk.now.key (last_of c.args.self.now.lasts) (last_of l) c.args.now p a 0 a p 0) same (below_starts g.W.Wire.tells p.tag c.args.desk.now.key (last_of c.args.self.now.lasts) c.args.now p a (sees_self p));
+      below = subst (λ (l : Lasts). SpokeBelow g.W.Wire.tells p.tag c.args.desk.now.key (last_of c.args.self.now.lasts) (last_of l) c.args.now p a 0 a c.some_waits.new.pass 0) same
+          (below_starts g.W.Wire.tells p.tag c.args.desk.now.key (last_of c.args.self.now.lasts) c.args.now p c.some_waits.new.pass a (looked c.args.desk.now.key p c.some_waits.new.pass c.requires.idle c.some_waits.ensures.looked));
     }
 
 pub returns-in-Err-clause-told : goal.returns-in-Err-clause-told
@@ -75,3 +76,8 @@ returns-clause-told g c =
     let count : length k.0.offices ≡ length c.self.inside.plan.offices = ap (λ (x : PlanValue). length x.offices) plan in
     spoken_to_all g.W.Wire.tells c.args.pass.now.tag k (last_of c.args.self.now.lasts) (last_of l.self-inside.last) c.args.now c.args.pass.now l.pass (g.W.Wire.account c.args.wire.now) (g.W.Wire.account l.wire) l.sent l.k
     (λ v near. omega (arith, near_within k.0 k.1 v ok near, count, c.offices-k-end.ensures.count)) l.invariant.below
+
+pub returns-then-not-some_waits-clause-told : goal.returns-then-not-some_waits-clause-told
+returns-then-not-some_waits-clause-told g c =
+    silent_to_all g.W.Wire.tells c.args.pass.now.tag c.args.desk.now.key (last_of c.args.self.now.lasts) c.args.now c.args.pass.now c.some_waits.new.pass (g.W.Wire.account c.args.wire.now) c.requires.idle c.some_waits.ensures.looked
+    (λ some. let yes = c.some_waits.ensures.waits.1 some in absurd cc)
