@@ -21,7 +21,7 @@ use Rattle.frame_world.specs.Worlds as worlds
 use Rattle.frame_world.specs.Headline.{IsReached}
 use Rattle.frame_world.proofs.Steps.{IsSeated, seated, happens_leaves}
 use Rattle.script_runs.specs.declared.said.Said.{Said}
-use Rattle.script_runs.specs.declared.said.Said.TheVariants.{Replied, Rules}
+use Rattle.script_runs.specs.declared.said.Said.TheVariants.{Replied, Rules, Settled, Open}
 use Rattle.script_runs.specs.Runs.{Told, advanced, by_rule, further}
 use Rattle.script_runs.specs.Advancing.{entries_of, Ends, Advances, OfficesAdvanceByTheirNextRules}
 
@@ -56,6 +56,8 @@ did w a r = by_place (nat_lt a (length w.sites))
 abbrev EndsAfter : ℕ → ℕ → ℕ → ℕ → Result Said WorldRefusal → World → Type 0
 EndsAfter a before left done (Ok (Rules n)) w = (n ≡ before + done) × (done ≤ left) × (done < left → next_at (site_at w a) ≡ None)
 EndsAfter a before left done (Ok (Replied r)) w = ⊥
+EndsAfter a before left done (Ok (Settled n)) w = ⊥
+EndsAfter a before left done (Ok (Open n)) w = ⊥
 EndsAfter a before left done (Err e) w = (done < left) × (r : Rule) × (next_at (site_at w a) ≡ Some r) × ((happens w (happening.Do a r)).0 ≡ Err e)
 
 record AdvancesAfter (w : World) (a before left : ℕ) (t : Told) : Type 0 where
@@ -80,6 +82,8 @@ stays w a before left said ends = record {
 one_more : (a before left done : ℕ) (said : Result Said WorldRefusal) (w : World) → EndsAfter a (before + 1) left done said w → EndsAfter a before (suc left) (suc done) said w
 one_more a before left done (Ok (Rules n)) w (count, few, none) = (omega (arith, count), omega (arith, few), λ lt. none (omega (arith, lt)))
 one_more a before left done (Ok (Replied r)) w h = absurd h
+one_more a before left done (Ok (Settled n)) w h = absurd h
+one_more a before left done (Ok (Open n)) w h = absurd h
 one_more a before left done (Err e) w (few, r, next, refused) = (omega (arith, few), r, next, refused)
 
 -- a rule was done, and what comes after it follows
@@ -126,6 +130,8 @@ advances plan w a before (suc left) h lt = go (next_rule w.plan a (office_at w a
 all : (a most done : ℕ) (said : Result Said WorldRefusal) (w : World) → EndsAfter a 0 most done said w → Ends a most done said w
 all a most done (Ok (Rules n)) w (count, few, none) = (omega (arith, count), omega (arith, count, few), λ lt. none (omega (arith, count, lt)))
 all a most done (Ok (Replied r)) w h = h
+all a most done (Ok (Settled n)) w h = h
+all a most done (Ok (Open n)) w h = h
 all a most done (Err e) w h = h
 
 in_plan : (w : World) (a most : ℕ) → IsReached w → a < length w.plan.offices → Advances w a most (advanced w a 0 most)

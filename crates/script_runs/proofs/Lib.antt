@@ -2,3 +2,4 @@ mod Scripts
 mod ScriptLines
 mod Steps
 mod Advancing
+mod Settling

@@ -24,7 +24,7 @@ use Rattle.site_core.specs.declared.rule.Rule.TheVariants as rule
 use Rattle.script_runs.specs.declared.event.ScriptEvent.{ScriptEvent}
 use Rattle.script_runs.specs.declared.event.ScriptEvent.TheVariants as event
 use Rattle.run_reports.specs.Report.{office_name, record_name}
-use Rattle.script_runs.specs.Script.{Act, delivery, office_by, record_by, counted, count_by, done_by, advanced_by, sent_by, said_by, said_of, nth, act_with, acts_with, act_of}
+use Rattle.script_runs.specs.Script.{Act, delivery, office_by, record_by, counted, count_by, done_by, advanced_by, withdrawn_by, sent_by, said_by, said_of, nth, act_with, acts_with, act_of}
 use Rattle.script_runs.specs.ScriptLines.{rule_words, event_words, line_of, script_of, IsRuleOf, IsEventOf, LinesReadBack, ScriptsReadBack}
 
 -- words with a space between are cut into those words
@@ -152,6 +152,9 @@ module _ (p : PlanValue) (ok : IsConsistent p) where
 
   line_is : (sessions : ℕ) (e : ScriptEvent) → sessions < 2 ^ 63 → IsEventOf p sessions e → IsLineOf (event_words p e) (line_of p e)
   line_is sessions (event.Submit n) few h = two_words _ _ (word (codes "submit") (omega arith) refl) (number_is_word n (omega (arith, few, h.1)))
+  line_is sessions (event.Withdraw o n) few h =
+      longer _ _ _ (word (codes "withdraw") (omega arith) refl) (two_words (office_name p o) (decimal n) (name_is_word _ (office_name_good o h.0)) (number_is_word n (omega (arith, h.2))))
+  line_is sessions (event.Settle n) few h = two_words _ _ (word (codes "settle") (omega arith) refl) (number_is_word n (omega (arith, h.1)))
   line_is sessions (event.Do o r) few h = longer _ _ _ (word (codes "do") (omega arith) refl) (rule_line o r h.0 h.1)
   line_is sessions (event.Advance o n) few h = longer _ _ _ (word (codes "advance") (omega arith) refl) (two_words (office_name p o) (decimal n) (name_is_word _ (office_name_good o h.0)) (number_is_word n (omega (arith, h.2))))
   line_is sessions (event.Send o v i) few h =
@@ -177,6 +180,8 @@ module _ (p : PlanValue) (ok : IsConsistent p) where
 
   words_say : (sessions : ℕ) (e : ScriptEvent) → sessions < 2 ^ 63 → IsEventOf p sessions e → said_by p (event_words p e) ≡ Some e
   words_say sessions (event.Submit n) few h = ap (option_map event.Submit) (number_again n (omega (arith, few, h.1)))
+  words_say sessions (event.Withdraw o n) few h = ap₂ withdrawn_by (office_again o h.0) (count_again 4294967295 n h.1 h.2 (omega (arith, h.2)))
+  words_say sessions (event.Settle n) few h = ap (option_map event.Settle) (count_again 1000000 n h.0 h.1 (omega (arith, h.1)))
   words_say sessions (event.Do o r) few h = rule_said o r h.0 h.1
   words_say sessions (event.Advance o n) few h = ap₂ advanced_by (office_again o h.0) (count_again 1000 n h.1 h.2 (omega (arith, h.2)))
   words_say sessions (event.Send o v i) few h = ap₂ (λ x y. sent_by x y (number_of (decimal i))) (office_again o h.0) (office_again v h.1) ∙ ap (sent_by (Some o) (Some v)) (number_again i h.2)
@@ -205,6 +210,8 @@ is_event : (p : PlanValue) (programs : List ProgramValue) (e : ScriptEvent) → 
 is_event p programs (event.Submit n) h =
     let some : (n == 0) ≡ false = let low = h.0 in grind (arith, nat_tests) in
     some_of _ (nth programs n) (ap (λ b. is_some (if b then None else slice_get programs (n - 1))) some ∙ there programs (n - 1) (omega (arith, h.0, h.1)))
+is_event p programs (event.Withdraw o n) h = refl
+is_event p programs (event.Settle n) h = refl
 is_event p programs (event.Do o r) h = refl
 is_event p programs (event.Advance o n) h = refl
 is_event p programs (event.Send o v i) h = refl
@@ -216,6 +223,8 @@ one_more (Some w) ws h = refl
 
 says : (p : PlanValue) (e : ScriptEvent) → says_something (line_of p e) ≡ true
 says p (event.Submit n) = refl
+says p (event.Withdraw o n) = refl
+says p (event.Settle n) = refl
 says p (event.Do o r) = refl
 says p (event.Advance o n) = refl
 says p (event.Send o v i) = refl

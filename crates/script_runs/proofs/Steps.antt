@@ -21,13 +21,16 @@ use Rattle.frame_world.specs.declared.event.WorldEvent.TheVariants as happening
 use Rattle.frame_world.specs.declared.refusal.WorldRefusal.{WorldRefusal}
 use Rattle.frame_world.specs.declared.refusal.WorldRefusal.TheVariants as refusal
 use Rattle.frame_world.specs.Worlds.{World, Answer, site_at, office_at, told, handed, delivered, happens, OrMemory}
+use Rattle.frame_world.specs.declared.next_step.NextStep.{NextStep}
+use Rattle.frame_world.specs.Standstill.{next_step}
 use Rattle.script_runs.specs.declared.event.ScriptEvent.{ScriptEvent}
 use Rattle.script_runs.specs.declared.said.Said.{Said}
 use Rattle.script_runs.specs.declared.said.Said.TheVariants.{Rules}
-use Rattle.script_runs.specs.Script.{Act, Happens, Advances, act_with, acts_with}
-use Rattle.script_runs.specs.Runs.{Told, as_said, does, run_of, all_told, advanced, by_rule, further}
+use Rattle.script_runs.specs.Script.{Act, Advances, Settles, act_with, acts_with}
+use Rattle.script_runs.specs.Runs.{Told, does, run_of, all_told, advanced, by_rule, further, stepped, by_step, settled}
+use Rattle.script_runs.specs.Runs as runs
 use Rattle.script_runs.specs.Transcript.{told_line}
-use Rattle.script_runs.specs.refinement.Steps.{Says}
+use Rattle.script_runs.specs.refinement.Steps.{Says, Answered, AnswersStep}
 
 -- the lines of what is told of a run
 abbrev pub lines_of : World → List Act → List ℕ
@@ -61,10 +64,6 @@ module _ (programs : List ProgramValue) (w : World) (es : List ScriptEvent) (i :
       ∙ sym (ap (flat_map told_line) (told_append w before here))
       ∙ sym (ap (lines_of w) one_more)
 
--- what a world answered is said of its event
-pub says_reply : (w w' : World) (e : WorldEvent) (r : Result Reply WorldRefusal) → OrMemory w (happens w e) r w' → Says (does w (Happens e)) (as_said r) w'
-says_reply w w' e r h = ⊎_elim (λ m. inl (ap as_said m.0)) (λ is. inr (ap as_said is.0, is.1)) h
-
 -- no event changes the plan
 told_plan : (w : World) (a : ℕ) (e : office.Event) (x : Result Reply offices.Refusal × Site) → (told w a e x).1.plan ≡ w.plan
 told_plan w a e (Ok r, s) = refl
@@ -79,6 +78,7 @@ handed_plan w a e = go (nat_lt a (length w.sites))
 
 pub plan_stays : (w : World) (e : WorldEvent) → (happens w e).1.plan ≡ w.plan
 plan_stays w (happening.Submit a p) = handed_plan w a (site_event.Submit p)
+plan_stays w (happening.Withdraw a ticket) = handed_plan w a (site_event.Withdraw ticket)
 plan_stays w (happening.Do a r) = handed_plan w a (site_event.Do r)
 plan_stays w (happening.Send a v i) = handed_plan w a (site_event.Send v i)
 plan_stays w (happening.Deliver zero) = refl
@@ -89,10 +89,6 @@ plan_stays w (happening.Deliver (suc k)) = of (slice_get w.frames k)
     of (Some f) = handed_plan w f.to (site_event.Took f)
 
 -- ---- rules, left to itself
-
--- where no more may be done, that is told
-pub none_left : (w : World) (a done n : ℕ) → n ≡ done → advanced w a done (n - done) ≡ (Ok (Rules done), w)
-none_left w a done n e = let left : n - done ≡ 0 = omega (arith, e) in ap (advanced w a done) left
 
 -- where there is no rule, neither
 pub no_rule : (w : World) (a done n : ℕ) → done < n → next_rule w.plan a (office_at w a) ≡ None → advanced w a done (n - done) ≡ (Ok (Rules done), w)
@@ -131,17 +127,8 @@ says_rules w w' a n said inside e =
 inside_is : (a n : ℕ) → a < n → nat_lt a n ≡ true
 inside_is a n lt = grind (arith, nat_tests)
 
-pub nobody_says : (w : World) (a n : ℕ) → length w.plan.offices ≤ a → Says (does w (Advances a n)) (Err refusal.NoOffice) w
-nobody_says w a n beyond =
-    let outside : nat_lt a (length w.plan.offices) ≡ false = grind (arith, nat_tests, beyond) in
-    let told : does w (Advances a n) ≡ (Err refusal.NoOffice, w) = ap (λ b. cond b (advanced w a 0 n) (Err refusal.NoOffice, w)) outside in
-    inr (sym (ap (λ (t : Told). t.0) told), sym (ap (λ (t : Told). t.1) told))
-
 pub stops : (w v : World) (a done n : ℕ) → a < length w.plan.offices → advanced w a 0 n ≡ advanced v a done (n - done) → done < n → next_rule v.plan a (office_at v a) ≡ None → Says (does w (Advances a n)) (Ok (Rules done)) v
 stops w v a done n inside same lt e = says_rules w v a n (Ok (Rules done)) (inside_is a (length w.plan.offices) inside) (same ∙ no_rule v a done n lt e)
-
-pub all_done : (w v : World) (a done n : ℕ) → a < length w.plan.offices → advanced w a 0 n ≡ advanced v a done (n - done) → n ≤ done → done ≤ n → Says (does w (Advances a n)) (Ok (Rules done)) v
-all_done w v a done n inside same ge le = says_rules w v a n (Ok (Rules done)) (inside_is a (length w.plan.offices) inside) (same ∙ none_left v a done n (omega (arith, ge, le)))
 
 pub is_refused : (w v v' : World) (a done n : ℕ) (r : Rule) (x : WorldRefusal) (res : Result Reply WorldRefusal) → a < length w.plan.offices → advanced w a 0 n ≡ advanced v a done (n - done) → done < n → next_rule v.plan a (office_at v a) ≡ Some r →
     res ≡ Err x → OrMemory v (happens v (happening.Do a r)) res v' → Says (does w (Advances a n)) (Err x) v'
@@ -165,3 +152,49 @@ is_done w v v' a done n r x res plan same lt next is h = ⊎_elim
       same = same ∙ rule_done v v' a done n r x lt next (sym is ∙ k.0) k.1;
     })
     h
+
+-- ---- steps of the world, left to itself
+
+-- and one whose frame is made comes
+pub made : (w v v' : World) (e : WorldEvent) (r : Result Reply WorldRefusal) (x : Reply) (k : ℕ) (r' : Result Reply WorldRefusal) → r ≡ Ok x → OrMemory w (happens w e) r v → k ≡ length v.frames → OrMemory v (happens v (happening.Deliver k)) r' v' →
+    Answered (runs.delivered (happens w e)) r' v'
+made w v v' e r x k r' is h last h' = ⊎_elim
+    (λ m. absurd (let both : ◌≡◌ {A = Result Reply WorldRefusal} (Ok x) (Err (refusal.Office refused.Memory)) = sym is ∙ m.0 in cc))
+    (λ n.
+    let same : happens w e ≡ (Ok x, v) = ap₂ (λ y u. (y, u)) (sym n.0 ∙ is) (sym n.1) in
+    let all : happens v (happening.Deliver k) ≡ runs.delivered (happens w e) = ap (λ j. happens v (happening.Deliver j)) last ∙ ap runs.delivered (sym same) in
+    ⊎_elim (λ m. inl m.0) (λ a. inr (a.0 ∙ ap (λ y. y.0) all, a.1 ∙ ap (λ y. y.1) all)) h')
+    h
+
+-- what was told of the steps is said of the act
+says_steps : (w w' : World) (n : ℕ) (said : Result Said WorldRefusal) → settled w 0 n ≡ (said, w') → Says (does w (Settles n)) said w'
+says_steps w w' n said e = inr (sym (ap (λ (t : Told). t.0) e), sym (ap (λ (t : Told). t.1) e))
+
+one_step : (w : World) (done n : ℕ) → done < n → settled w done (n - done) ≡ by_step (λ v. settled v (done + 1) (n - (done + 1))) w done (stepped w (next_step w))
+one_step w done n lt = let left : n - done ≡ suc (n - (done + 1)) = omega (arith, lt) in ap (settled w done) left
+
+-- one is refused
+pub step_refused : (w v v' : World) (done n : ℕ) (step : NextStep) (x : WorldRefusal) → settled w 0 n ≡ settled v done (n - done) → done < n → step ≡ next_step v → AnswersStep v (stepped v step) (Some (Err x)) v' → Says (does w (Settles n)) (Err x) v'
+step_refused w v v' done n step x same lt is h = go (stepped v step) (ap (stepped v) is) h
+  where
+    go : (o : Option Answer) → o ≡ stepped v (next_step v) → AnswersStep v o (Some (Err x)) v' → Says (does w (Settles n)) (Err x) v'
+    go None e k = absurd k
+    go (Some a) e k = ⊎_elim
+        (λ m. inl (let y : x ≡ refusal.Office refused.Memory = (let both : ◌≡◌ {A = Result Reply WorldRefusal} (Err x) (Err (refusal.Office refused.Memory)) = m in cc) in ap Err y))
+        (λ t.
+        let all : a ≡ (Err x, v') = ap₂ (λ y u. (y, u)) (sym t.0) (sym t.1) in
+        says_steps w v' n (Err x) (same ∙ one_step v done n lt ∙ ap (by_step (λ u. settled u (done + 1) (n - (done + 1))) v done) (sym e) ∙ ap (further (λ u. settled u (done + 1) (n - (done + 1)))) all))
+        k
+
+-- one is done, and it goes on
+pub step_done : (w v v' : World) (done n : ℕ) (step : NextStep) (x : Reply) → settled w 0 n ≡ settled v done (n - done) → done < n → step ≡ next_step v → AnswersStep v (stepped v step) (Some (Ok x)) v' → settled w 0 n ≡ settled v' (done + 1) (n - (done + 1))
+step_done w v v' done n step x same lt is h = go (stepped v step) (ap (stepped v) is) h
+  where
+    go : (o : Option Answer) → o ≡ stepped v (next_step v) → AnswersStep v o (Some (Ok x)) v' → settled w 0 n ≡ settled v' (done + 1) (n - (done + 1))
+    go None e k = absurd k
+    go (Some a) e k = ⊎_elim
+        (λ m. absurd (let both : ◌≡◌ {A = Result Reply WorldRefusal} (Ok x) (Err (refusal.Office refused.Memory)) = m in cc))
+        (λ t.
+        let all : a ≡ (Ok x, v') = ap₂ (λ y u. (y, u)) (sym t.0) (sym t.1) in
+        same ∙ one_step v done n lt ∙ ap (by_step (λ u. settled u (done + 1) (n - (done + 1))) v done) (sym e) ∙ ap (further (λ u. settled u (done + 1) (n - (done + 1)))) all)
+        k

@@ -11,7 +11,7 @@ use Rattle.frame_world.specs.Worlds.{World, site_at, happens}
 use Rattle.frame_world.specs.Worlds as worlds
 use Rattle.frame_world.specs.Headline.{IsReached}
 use Rattle.script_runs.specs.declared.said.Said.{Said}
-use Rattle.script_runs.specs.declared.said.Said.TheVariants.{Replied, Rules}
+use Rattle.script_runs.specs.declared.said.Said.TheVariants.{Replied, Rules, Settled, Open}
 use Rattle.script_runs.specs.Script as scripts
 use Rattle.script_runs.specs.Runs.{Told, does}
 
@@ -23,6 +23,8 @@ entries_of = map (λ r. record { tag = 0; event = event.Do r; reply = Done })
 abbrev pub Ends : ℕ → ℕ → ℕ → Result Said WorldRefusal → World → Type 0
 Ends a most done (Ok (Rules n)) w = (n ≡ done) × (n ≤ most) × (n < most → next_at (site_at w a) ≡ None)
 Ends a most done (Ok (Replied r)) w = ⊥
+Ends a most done (Ok (Settled n)) w = ⊥
+Ends a most done (Ok (Open n)) w = ⊥
 Ends a most done (Err e) w = (done < most) × (r : Rule) × (next_at (site_at w a) ≡ Some r) × ((happens w (happening.Do a r)).0 ≡ Err e)
 
 -- The office's journal grows by rules, of which each is the next one there; they are all that happens, and no other journal

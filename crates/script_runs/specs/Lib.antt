@@ -3,5 +3,6 @@ pub mod Script
 pub mod ScriptLines
 pub mod Runs
 pub mod Advancing
+pub mod Settling
 pub mod Transcript
 pub mod refinement

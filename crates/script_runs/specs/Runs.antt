@@ -6,10 +6,13 @@ use Rattle.site_core.specs.RuleOrder.{next_rule}
 use Rattle.frame_world.specs.declared.event.WorldEvent.TheVariants as happening
 use Rattle.frame_world.specs.declared.refusal.WorldRefusal.{WorldRefusal}
 use Rattle.frame_world.specs.declared.refusal.WorldRefusal.TheVariants as refusal
+use Rattle.frame_world.specs.declared.next_step.NextStep.{NextStep}
+use Rattle.frame_world.specs.declared.next_step.NextStep.TheVariants as next
 use Rattle.frame_world.specs.Worlds.{World, Answer, office_at, happens}
+use Rattle.frame_world.specs.Standstill.{next_step, place_of}
 use Rattle.script_runs.specs.declared.said.Said.{Said}
-use Rattle.script_runs.specs.declared.said.Said.TheVariants.{Replied, Rules}
-use Rattle.script_runs.specs.Script.{Act, Happens, Advances}
+use Rattle.script_runs.specs.declared.said.Said.TheVariants.{Replied, Rules, Settled, Open}
+use Rattle.script_runs.specs.Script.{Act, Happens, Advances, Settles}
 
 -- what is said, and the world then
 abbrev pub Told : Type 0
@@ -37,9 +40,37 @@ abbrev pub advanced : World → ℕ → ℕ → ℕ → Told
 advanced w a done zero = (Ok (Rules done), w)
 advanced w a done (suc left) = by_rule (λ v. advanced v a (done + 1) left) w a done (next_rule w.plan a (office_at w a))
 
+-- a frame that was made, the last of all, comes
+abbrev pub delivered : Answer → Answer
+delivered (Ok r, w) = happens w (happening.Deliver (length w.frames))
+delivered (Err e, w) = (Err e, w)
+
+-- what is answered of a step, and the world then: of a message its frame is made, and comes
+abbrev pub stepped : World → NextStep → Option Answer
+stepped w (next.Rule a r) = Some (happens w (happening.Do a r))
+stepped w (next.Message a b number) = Some (delivered (happens w (happening.Send a b (place_of w a b number))))
+stepped w next.AllFinished = None
+
+-- where so many steps were done, the next one, if there is one
+abbrev pub by_step : (World → Told) → World → ℕ → Option Answer → Told
+by_step go_on w done None = (Ok (Settled done), w)
+by_step go_on w done (Some x) = further go_on x
+
+-- what is told of so many steps, where no more may be done
+abbrev pub at_most : ℕ → NextStep → Said
+at_most done (next.Rule a r) = Open done
+at_most done (next.Message a b number) = Open done
+at_most done next.AllFinished = Settled done
+
+-- the steps that a world does, left to itself: so many were done, and so many more may be
+abbrev pub settled : World → ℕ → ℕ → Told
+settled w done zero = (Ok (at_most done (next_step w)), w)
+settled w done (suc left) = by_step (λ v. settled v (done + 1) left) w done (stepped w (next_step w))
+
 abbrev pub does : World → Act → Told
 does w (Happens e) = replied (happens w e)
 does w (Advances a n) = if nat_lt a (length w.plan.offices) then advanced w a 0 n else (Err refusal.NoOffice, w)
+does w (Settles n) = settled w 0 n
 
 -- one after the other
 abbrev pub run_of : World → List Act → World

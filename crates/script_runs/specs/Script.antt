@@ -17,7 +17,7 @@ use Rattle.script_runs.specs.declared.event.ScriptEvent.TheVariants as event
 use Rattle.script_runs.specs.declared.fault.ScriptRefusal.{ScriptRefusal}
 use Rattle.script_runs.specs.declared.fault.ScriptFault.{ScriptFault}
 use Rattle.script_runs.specs.declared.fault.ScriptFault.TheVariants.{Refused, Memory}
-use Rattle.script_runs.specs.Limits.{most_bytes, most_rules}
+use Rattle.script_runs.specs.Limits.{most_bytes, most_rules, most_steps, last_ticket}
 
 -- ---- words
 
@@ -68,10 +68,15 @@ delivery k = if k == 0 then None else Some (event.Deliver k)
 abbrev pub deliver_of : List ℕ → Option ScriptEvent
 deliver_of number = and_then (number_of number) delivery
 
+-- settle N: at most so many steps of the world, left to itself
+abbrev pub settle_of : List ℕ → Option ScriptEvent
+settle_of number = option_map event.Settle (count_by most_steps number)
+
 abbrev pub numbered_line : List ℕ → List ℕ → Option ScriptEvent
 numbered_line keyword number =
     if bytes_eq keyword (codes "submit") then submit_of number
-    else (if bytes_eq keyword (codes "deliver") then deliver_of number else None)
+    else (if bytes_eq keyword (codes "deliver") then deliver_of number
+    else (if bytes_eq keyword (codes "settle") then settle_of number else None))
 
 -- do OFFICE RULE
 abbrev pub done_by : Option ℕ → Option Rule → Option ScriptEvent
@@ -85,10 +90,17 @@ advanced_by None n = None
 advanced_by (Some office) None = None
 advanced_by (Some office) (Some n) = Some (event.Advance office n)
 
+-- withdraw OFFICE T: the session with this ticket
+abbrev pub withdrawn_by : Option ℕ → Option ℕ → Option ScriptEvent
+withdrawn_by None ticket = None
+withdrawn_by (Some office) None = None
+withdrawn_by (Some office) (Some ticket) = Some (event.Withdraw office ticket)
+
 abbrev pub office_line : PlanValue → List ℕ → List ℕ → List ℕ → Option ScriptEvent
 office_line p keyword office word =
     if bytes_eq keyword (codes "do") then done_by (office_by p office) (rule_named word)
-    else (if bytes_eq keyword (codes "advance") then advanced_by (office_by p office) (count_by most_rules word) else None)
+    else (if bytes_eq keyword (codes "advance") then advanced_by (office_by p office) (count_by most_rules word)
+    else (if bytes_eq keyword (codes "withdraw") then withdrawn_by (office_by p office) (count_by last_ticket word) else None))
 
 -- send OFFICE NEIGHBOUR I: the I-th message that waits for the neighbour, or with 0 the count alone
 abbrev pub sent_by : Option ℕ → Option ℕ → Option ℕ → Option ScriptEvent
@@ -114,10 +126,11 @@ said_of p line = and_then (plain_words line) (said_by p)
 
 -- ---- what it asks for
 
--- an event of the world; or that an office does so many rules, left to itself
+-- an event of the world; or that an office does so many rules, or the world so many steps, left to itself
 pub data Act : Type 0 where
   Happens : (e : WorldEvent) → Act
   Advances : (office n : ℕ) → Act
+  Settles : (n : ℕ) → Act
 
 -- the n-th program of the file, from 1
 abbrev pub nth : List ProgramValue → ℕ → Option ProgramValue
@@ -130,8 +143,10 @@ submission program = Happens (happening.Submit program.office program)
 -- what an event asks for, where its session is in the file
 abbrev pub act_with : List ProgramValue → ScriptEvent → Option Act
 act_with programs (event.Submit n) = option_map submission (nth programs n)
+act_with programs (event.Withdraw office ticket) = Some (Happens (happening.Withdraw office ticket))
 act_with programs (event.Do office r) = Some (Happens (happening.Do office r))
 act_with programs (event.Advance office n) = Some (Advances office n)
+act_with programs (event.Settle n) = Some (Settles n)
 act_with programs (event.Send office neighbour i) = Some (Happens (happening.Send office neighbour i))
 act_with programs (event.Deliver k) = Some (Happens (happening.Deliver k))
 

@@ -10,7 +10,7 @@ use Rattle.site_core.specs.declared.rule.Rule.TheVariants as rule
 use Rattle.site_core.specs.Limits.{longest_piece}
 use Rattle.script_runs.specs.declared.event.ScriptEvent.{ScriptEvent}
 use Rattle.script_runs.specs.declared.event.ScriptEvent.TheVariants as event
-use Rattle.script_runs.specs.Limits.{most_bytes, most_rules}
+use Rattle.script_runs.specs.Limits.{most_bytes, most_rules, most_steps, last_ticket}
 use Rattle.run_reports.specs.Report.{office_name, record_name}
 use Rattle.script_runs.specs.Script.{said_of, acts_with, IsScript}
 
@@ -31,8 +31,10 @@ rule_words p rule.Finish = codes "finish" ∷ []
 -- an event's words
 abbrev pub event_words : PlanValue → ScriptEvent → List (List ℕ)
 event_words p (event.Submit n) = codes "submit" ∷ decimal n ∷ []
+event_words p (event.Withdraw office ticket) = codes "withdraw" ∷ office_name p office ∷ decimal ticket ∷ []
 event_words p (event.Do office r) = codes "do" ∷ office_name p office ∷ rule_words p r
 event_words p (event.Advance office n) = codes "advance" ∷ office_name p office ∷ decimal n ∷ []
+event_words p (event.Settle n) = codes "settle" ∷ decimal n ∷ []
 event_words p (event.Send office neighbour i) = codes "send" ∷ office_name p office ∷ office_name p neighbour ∷ decimal i ∷ []
 event_words p (event.Deliver k) = codes "deliver" ∷ decimal k ∷ []
 
@@ -61,8 +63,10 @@ IsRuleOf p rule.Finish = Unit {0}
 -- the session of an event is one of so many, its offices and its record are the plan's, and numbers are in their ranges
 abbrev pub IsEventOf : PlanValue → ℕ → ScriptEvent → Type 0
 IsEventOf p sessions (event.Submit n) = (1 ≤ n) × (n ≤ sessions)
+IsEventOf p sessions (event.Withdraw office ticket) = (office < length p.offices) × (1 ≤ ticket) × (ticket ≤ last_ticket)
 IsEventOf p sessions (event.Do office r) = (office < length p.offices) × IsRuleOf p r
 IsEventOf p sessions (event.Advance office n) = (office < length p.offices) × (1 ≤ n) × (n ≤ most_rules)
+IsEventOf p sessions (event.Settle n) = (1 ≤ n) × (n ≤ most_steps)
 IsEventOf p sessions (event.Send office neighbour i) = (office < length p.offices) × (neighbour < length p.offices) × (i < 2 ^ 63)
 IsEventOf p sessions (event.Deliver k) = (1 ≤ k) × (k < 2 ^ 63)
 

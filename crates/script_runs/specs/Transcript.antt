@@ -23,7 +23,7 @@ use Rattle.frame_world.specs.Headline.{programs, HasSerialSessions}
 use Rattle.frame_world.specs.Tickets.{HaveTheirTickets, TicketsRise}
 use Rattle.world_schedule.specs.Readers.{unfinished_in}
 use Rattle.script_runs.specs.declared.said.Said.{Said}
-use Rattle.script_runs.specs.declared.said.Said.TheVariants.{Replied, Rules}
+use Rattle.script_runs.specs.declared.said.Said.TheVariants.{Replied, Rules, Settled, Open}
 use Rattle.run_reports.specs.WorldReport.{bottle_value, world_report}
 use Rattle.script_runs.specs.Script.{Act}
 use Rattle.script_runs.specs.Runs.{Told, run_of, all_told}
@@ -80,6 +80,8 @@ reply_text k reply.Early = codes "early"
 abbrev pub said_text : ℕ → Result Said WorldRefusal → List ℕ
 said_text k (Ok (Replied r)) = reply_text k r
 said_text k (Ok (Rules n)) = codes "rules " ++ decimal n
+said_text k (Ok (Settled n)) = codes "settled " ++ (decimal n ++ codes " finished")
+said_text k (Ok (Open n)) = codes "settled " ++ (decimal n ++ codes " open")
 said_text k (Err r) = codes "refused " ++ refusal_text r
 
 abbrev pub said_line : ℕ → Result Said WorldRefusal → List ℕ

@@ -2,6 +2,9 @@
 
 ghost use Rattle.script_runs.specs.Advancing.{OfficesAdvanceByTheirNextRules};
 ghost use Rattle.script_runs.specs.ScriptLines.{LinesReadBack, ScriptsReadBack};
+ghost use Rattle.script_runs.specs.Settling.{WorldsSettleByTheirNextSteps};
+
+use frame_world::laws::{messages_are_taken, never_stuck, rules_are_done};
 
 /// The line that prints an event of a script reads back as that event, and as nothing else.
 pub fn lines_read_back()
@@ -18,3 +21,14 @@ pub fn scripts_read_back()
 pub fn offices_advance_by_their_next_rules()
     ensures { OfficesAdvanceByTheirNextRules }
 {}
+
+/// A world that is told to settle takes the steps that come next, one after the other, each of which is accepted: until no
+/// office has a session left, which is told as finished; or as many as were asked for, where one has, which is told as open;
+/// or until one is refused, where a journal is full. Nothing else happens.
+pub fn worlds_settle_by_their_next_steps()
+    ensures { WorldsSettleByTheirNextSteps }
+{
+    never_stuck();
+    rules_are_done();
+    messages_are_taken();
+}

@@ -5,8 +5,9 @@
 //! - [`transcript::transcript`] runs one from the plan's opening, and answers what is printed: a line for each event, and
 //!   then the report of the world that it leads to (clause `text`). What the report tells of sessions and values is what
 //!   these sessions do alone, one after another in the order of the report (clause `serial`).
-//! - [`laws`] says that the line which prints an event reads back as that event, and that an office which is told to
-//!   advance does the rules that come next (`specs/Advancing.antt`).
+//! - [`laws`] says that the line which prints an event reads back as that event, that an office which is told to advance
+//!   does the rules that come next (`specs/Advancing.antt`), and that a world which is told to settle takes the steps that
+//!   come next (`specs/Settling.antt`).
 //!
 //! Which acts a line asks for is in `specs/Script.antt`, what they do in `specs/Runs.antt`, over the world of
 //! `frame_world`; what is printed in `specs/Transcript.antt`, and the lines of outcomes and of values in the crate
@@ -23,5 +24,5 @@ pub mod transcript;
 
 pub use crate::event::ScriptEvent;
 pub use crate::fault::{ScriptFault, ScriptRefusal};
-pub use crate::limits::{MAX_BYTES, MAX_RULES};
+pub use crate::limits::{MAX_BYTES, MAX_RULES, MAX_STEPS};
 pub use crate::said::Said;

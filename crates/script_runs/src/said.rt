@@ -9,4 +9,8 @@ pub enum Said {
     Replied(Reply),
     /// How many rules an office did, left to itself.
     Rules(u16),
+    /// After how many steps no session was left.
+    Settled(u32),
+    /// How many steps were done, where more are left.
+    Open(u32),
 }

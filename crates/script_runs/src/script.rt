@@ -3,11 +3,11 @@
 ghost use Rattle.std.specs.Prelude.{◌≡◌, Bool, IfOk, IfErr, IfSome, List, is_some, map, option_map, true, ℕ};
 ghost use Rattle.std.specs.Str.{bytes_eq};
 ghost use Rattle.office_map.specs.PlanText.{and_then};
-ghost use Rattle.script_runs.specs.Script.{IsScript, IsFaultOf, act_of, said_of, said_by, act_with, acts_with, numbered_line, submit_of, nth, deliver_of, office_line, long_line, done_by, advanced_by, sent_by, rule_named, rule_with, office_by, record_by, count_by};
+ghost use Rattle.script_runs.specs.Script.{IsScript, IsFaultOf, act_of, said_of, said_by, act_with, acts_with, numbered_line, submit_of, nth, deliver_of, settle_of, office_line, long_line, done_by, advanced_by, withdrawn_by, sent_by, rule_named, rule_with, office_by, record_by, count_by};
 
 use crate::event::ScriptEvent;
 use crate::fault::{ScriptFault, ScriptRefusal};
-use crate::limits::{MAX_BYTES, MAX_RULES};
+use crate::limits::{MAX_BYTES, MAX_RULES, MAX_STEPS};
 use office_map::statements::Statements;
 use office_map::text::{is_plain, name, number, words};
 use office_map::{OfficeId, Plan, RecordId};
@@ -117,6 +117,9 @@ fn numbered_line(keyword: &[u8], word: &[u8]) -> Option<ScriptEvent>
     if is(keyword, "deliver") {
         return deliver(word);
     }
+    if is(keyword, "settle") {
+        return settle(word);
+    }
     None
 }
 
@@ -137,6 +140,12 @@ fn deliver(word: &[u8]) -> Option<ScriptEvent>
     Some(ScriptEvent::Deliver(k as usize))
 }
 
+fn settle(word: &[u8]) -> Option<ScriptEvent>
+    ensures { result ≡ settle_of word.now }
+{
+    Some(ScriptEvent::Settle(great_count_by(MAX_STEPS, word)?))
+}
+
 fn office_line(plan: &Plan, keyword: &[u8], office: &[u8], word: &[u8]) -> Option<ScriptEvent>
     ensures { result ≡ office_line plan.now keyword.now office.now word.now }
 {
@@ -145,6 +154,9 @@ fn office_line(plan: &Plan, keyword: &[u8], office: &[u8], word: &[u8]) -> Optio
     }
     if is(keyword, "advance") {
         return advanced(office_by(plan, office), count_by(MAX_RULES, word));
+    }
+    if is(keyword, "withdraw") {
+        return withdrawn(office_by(plan, office), great_count_by(u32::MAX, word));
     }
     None
 }
@@ -183,6 +195,13 @@ fn advanced(office: Option<OfficeId>, n: Option<u16>) -> Option<ScriptEvent>
 {
     let office = office?;
     Some(ScriptEvent::Advance(office, n?))
+}
+
+fn withdrawn(office: Option<OfficeId>, ticket: Option<u32>) -> Option<ScriptEvent>
+    ensures { result ≡ withdrawn_by office ticket }
+{
+    let office = office?;
+    Some(ScriptEvent::Withdraw(office, ticket?))
 }
 
 fn sent(
@@ -245,6 +264,17 @@ fn count_by(most: u16, word: &[u8]) -> Option<u16>
         return None;
     }
     Some(n as u16)
+}
+
+/// The same, where the most is greater.
+fn great_count_by(most: u32, word: &[u8]) -> Option<u32>
+    ensures { result ≡ count_by most word.now }
+{
+    let n = number(word)?;
+    if n < 1 || n > u64::from(most) {
+        return None;
+    }
+    Some(n as u32)
 }
 
 fn office_by(plan: &Plan, word: &[u8]) -> Option<OfficeId>

@@ -6,18 +6,20 @@ ghost use Rattle.std.specs.String.{string_bytes};
 ghost use Rattle.hex.specs.Hex.{encode_lower};
 ghost use Rattle.frame_codec.specs.Version01.{spelling};
 ghost use Rattle.site_core.specs.declared.reply.Reply.TheVariants as replies;
-ghost use Rattle.frame_world.specs.Worlds.{opening};
+ghost use Rattle.frame_world.specs.declared.event.WorldEvent.TheVariants as events;
+ghost use Rattle.frame_world.specs.Worlds.{opening, happens};
+ghost use Rattle.frame_world.specs.Standstill.{place_of, IsStep, IsNextMessage};
 ghost use Rattle.script_runs.specs.Script.{act_with, acts_with};
-ghost use Rattle.script_runs.specs.Runs.{as_said, run_of, all_told, does};
+ghost use Rattle.script_runs.specs.Runs.{as_said, run_of, all_told, at_most, does, delivered, stepped};
 ghost use Rattle.script_runs.specs.Script as scripts;
 ghost use Rattle.script_runs.specs.Transcript.{told_line, said_line, reply_text, refusal_text, office_refusal_text, frame_fault_text, channel_fault_text, link_fault_text, transcript, IsSerialRun};
-ghost use Rattle.script_runs.specs.refinement.Steps.{Answers, Says};
+ghost use Rattle.script_runs.specs.refinement.Steps.{Answers, Says, Answered, AnswersStep};
 
 use crate::event::ScriptEvent;
 use crate::said::Said;
 use crate::script::nth;
 use frame_codec::{Frame, FrameFault, MAX_LENGTH, encode};
-use frame_world::WorldRefusal;
+use frame_world::{NextStep, WorldRefusal};
 use office_map::{OfficeId, Plan};
 use run_reports::world::add_world;
 use session_language::Program;
@@ -87,8 +89,10 @@ fn happen(
             let program = nth(programs, n)?;
             Some(replied(world.submit(program.office(), program)))
         }
+        ScriptEvent::Withdraw(office, ticket) => Some(replied(world.withdraw(office, ticket))),
         ScriptEvent::Do(office, rule) => Some(replied(world.act(office, &rule))),
         ScriptEvent::Advance(office, n) => Some(advance(world, office, n)),
+        ScriptEvent::Settle(n) => Some(settle(world, n)),
         ScriptEvent::Send(office, neighbour, i) => Some(replied(world.send(office, neighbour, i))),
         ScriptEvent::Deliver(k) => Some(replied(world.deliver(k))),
     }
@@ -123,6 +127,62 @@ fn advance(world: &mut World, office: OfficeId, n: u16) -> Result<Said, WorldRef
     Ok(Said::Rules(done))
 }
 
+/// The world does so many steps at most, left to itself.
+fn settle(world: &mut World, most: u32) -> Result<Said, WorldRefusal>
+    ensures { Says (does world.old (scripts.Settles most)) result world.new }
+{
+    let mut done = 0;
+    while done < most {
+        let step = world.next_step();
+        match take_step(world, step) {
+            None => return Ok(Said::Settled(done)),
+            Some(Err(refusal)) => return Err(refusal),
+            Some(Ok(_)) => done += 1,
+        }
+    }
+    Ok(at_most(done, world.next_step()))
+}
+
+/// What is said where so many steps were done, all that were asked for, and this one is next.
+fn at_most(done: u32, next: NextStep) -> Said
+    ensures { result ≡ at_most done next }
+{
+    match next {
+        NextStep::Rule(_, _) => Said::Open(done),
+        NextStep::Message(_, _, _) => Said::Open(done),
+        NextStep::AllFinished => Said::Settled(done),
+    }
+}
+
+/// A step of the world, where one is left.
+fn take_step(world: &mut World, step: NextStep) -> Option<Result<Reply, WorldRefusal>>
+    requires { IsStep world.now step }
+    ensures { AnswersStep world.old (stepped world.old step) result world.new }
+{
+    match step {
+        NextStep::Rule(office, rule) => Some(world.act(office, &rule)),
+        NextStep::Message(from, to, number) => Some(send_and_deliver(world, from, to, number)),
+        NextStep::AllFinished => None,
+    }
+}
+
+/// The frame of the message with that number is made, and comes.
+fn send_and_deliver(
+    world: &mut World,
+    from: OfficeId,
+    to: OfficeId,
+    number: u64,
+) -> Result<Reply, WorldRefusal>
+    requires { IsNextMessage world.now from to number }
+    ensures { Answered (delivered (happens world.old (events.Send from to (place_of world.old from to number)))) result world.new }
+{
+    let i = world.place_of(from, to, number);
+    if let Err(refusal) = world.send(from, to, i) {
+        return Err(refusal);
+    }
+    world.deliver(world.frames())
+}
+
 /// The line of what is said, where so many frames were sent.
 fn add_said(
     alloc: Global,
@@ -135,6 +195,8 @@ fn add_said(
     match said {
         Ok(Said::Replied(reply)) => add_reply(alloc, text, frames, reply)?,
         Ok(Said::Rules(n)) => write!(text, "rules {n}")?,
+        Ok(Said::Settled(n)) => write!(text, "settled {n} finished")?,
+        Ok(Said::Open(n)) => write!(text, "settled {n} open")?,
         Err(refusal) => {
             let refusal = refusal_text(refusal);
             write!(text, "refused {refusal}")?;

@@ -1,8 +1,10 @@
 -- What a step of a script answers, and the world after it.
 use Rattle.std.specs.Prelude.{◌≡◌, Option, None, Some, Result, Err, ◌⊎◌}
+use Rattle.site_core.specs.declared.reply.Reply.{Reply}
 use Rattle.site_core.specs.declared.reply.Refusal.TheVariants as refused
 use Rattle.frame_world.specs.declared.refusal.WorldRefusal.{WorldRefusal}
 use Rattle.frame_world.specs.declared.refusal.WorldRefusal.TheVariants as refusal
+use Rattle.frame_world.specs.Worlds as worlds
 use Rattle.frame_world.specs.Worlds.{World}
 use Rattle.script_runs.specs.declared.said.Said.{Said}
 use Rattle.script_runs.specs.Script.{Act}
@@ -18,3 +20,14 @@ Answers w None None w' = w' ≡ w
 Answers w None (Some said) w' = ⊥
 Answers w (Some x) None w' = ⊥
 Answers w (Some x) (Some said) w' = Says (does w x) said w'
+
+-- that is answered, and the world is so; or memory ran out
+abbrev pub Answered : worlds.Answer → Result Reply WorldRefusal → World → Type 0
+Answered x reply w' = (reply ≡ Err (refusal.Office refused.Memory)) ⊎ ((reply ≡ x.0) × (w' ≡ x.1))
+
+-- a step is answered, and where there is none nothing happens
+abbrev pub AnswersStep : World → Option worlds.Answer → Option (Result Reply WorldRefusal) → World → Type 0
+AnswersStep w None None w' = w' ≡ w
+AnswersStep w None (Some reply) w' = ⊥
+AnswersStep w (Some x) None w' = ⊥
+AnswersStep w (Some x) (Some reply) w' = Answered x reply w'

@@ -1,0 +1,12 @@
+use Rattle.std.proofs.Common.{◌≡◌, ◌≤◌, ◌-◌}
+use Rattle.script_runs.specs.Runs.{settled}
+use Rattle.script_runs.proofs.transcript.settle.Given as goal
+
+abbrev pub invariant-loop-done : goal.invariant-loop-done
+invariant-loop-done l = record {
+  few : l.done ≤ l.most;
+  same : settled l.initial.world 0 l.most ≡ settled l.world l.done (l.most - l.done);
+}
+
+abbrev pub decreases-loop-done : goal.decreases-loop-done
+decreases-loop-done l = l.most - l.done
