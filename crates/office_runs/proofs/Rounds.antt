@@ -1,6 +1,5 @@
 -- Sessions that an office takes one after the other, and its rounds.
-use Rattle.std.proofs.Common.{◌≡◌, ℕ, suc, ◌==◌, ◌+◌, ◌<◌, ◌≤◌, Bool, true, false, cond, List, [], ◌∷◌, ◌++◌, length, get_or, drop, Ok, Err, inl, inr, refl, sym, ap, subst, ◌∙◌, append_assoc, arith}
-use Rattle.std.proofs.lemmas.List.{drop_all}
+use Rattle.std.proofs.Common.{◌≡◌, ℕ, suc, ◌==◌, ◌+◌, ◌<◌, Bool, true, false, cond, List, [], ◌∷◌, ◌++◌, length, get_or, drop, Ok, Err, inl, inr, refl, sym, ap, subst, ◌∙◌, append_assoc, arith}
 use Rattle.std.proofs.Math.Seq.{drop-cons}
 use Rattle.session_meaning.specs.ProgramValue.{ProgramValue}
 use Rattle.site_core.specs.declared.reply.Refusal.TheVariants as refusal
@@ -26,9 +25,6 @@ pub record Given (tag : ℕ) (k : Key) (p q : DeskPass) (sessions left : List Pr
   pub are : given ++ left ≡ sessions
   pub takes : TakesAll tag k given p q
 
-pub none_given : (tag : ℕ) (k : Key) (p : DeskPass) (ss : List ProgramValue) → Given tag k p p ss ss
-none_given tag k p ss = record { given = []; are = refl; takes = refl }
-
 one_given : (tag : ℕ) (k : Key) (p m q : DeskPass) (ss : List ProgramValue) (s : ProgramValue) (left : List ProgramValue) → Given tag k p m ss (s ∷ left) → Takes tag k s m q → Given tag k p q ss left
 one_given tag k p m q ss s left g t = record {
   given = g.given ++ s ∷ [];
@@ -38,9 +34,6 @@ one_given tag k p m q ss s left g t = record {
 
 full : (tag : ℕ) (k : Key) (p m q : DeskPass) (ss : List ProgramValue) (s : ProgramValue) (left : List ProgramValue) → Given tag k p m ss (s ∷ left) → Refuses tag k s refusal.QueueFull m q → Fills tag k p q ss (s ∷ left)
 full tag k p m q ss s left g r = record { given = g.given; are = g.are; mid = m; takes = g.takes; full = r }
-
-all_given : (tag : ℕ) (k : Key) (p q : DeskPass) (ss : List ProgramValue) → Given tag k p q ss [] → Fills tag k p q ss []
-all_given tag k p q ss g = record { given = g.given; are = g.are; mid = q; takes = g.takes; full = refl }
 
 stops : (tag : ℕ) (k : Key) (p m q : DeskPass) (ss : List ProgramValue) (s : ProgramValue) (left : List ProgramValue) (f : RunFault) → Given tag k p m ss (s ∷ left) → Lacks tag k s f m q → StopsFilling tag k p q ss f
 stops tag k p m q ss s left f g l = record { given = g.given; next = s; left = left; are = g.are; mid = m; takes = g.takes; lacks = l }
@@ -83,12 +76,6 @@ pub one_lacks : (tag t : ℕ) (k : Key) (p m q : DeskPass) (ss : List ProgramVal
 one_lacks tag t k p m q ss me n ps s f same within is g own other = either_way (s.office == me)
     (λ h. stops tag k p m q ss s (of_office me (drop (n + 1) ps)) f (subst (λ x. Given tag k p m ss x) (own_first me n ps s within is h) g) (subst (λ (x : ℕ). Lacks x k s f m q) same (own h)))
     (λ h. absurd (other h))
-
--- none is left
-pub none_left : (tag : ℕ) (k : Key) (p q : DeskPass) (ss : List ProgramValue) (me n : ℕ) (ps : List ProgramValue) → length ps ≤ n → Given tag k p q ss (of_office me (drop n ps)) → Fills tag k p q ss (of_office me (drop n ps))
-none_left tag k p q ss me n ps beyond g =
-    let gone : of_office me (drop n ps) ≡ [] = ap (of_office me) (drop_all n ps beyond) in
-    subst (λ x. Fills tag k p q ss x) (sym gone) (all_given tag k p q ss (subst (λ x. Given tag k p q ss x) gone g))
 
 -- ---- turns
 

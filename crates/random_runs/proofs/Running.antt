@@ -32,9 +32,6 @@ taken_append w (x ∷ xs) ys (h, hs) k = (h, taken_append (happens w x).1 xs ys 
 pub stays : (w : World) (sessions : List ProgramValue) → Leads w w sessions sessions
 stays w sessions = record { events = []; led = refl; home = All-nil IsAtHome; taken = tt; once = IsPermutation-refl sessions }
 
-pub rests : (w : World) → Moves w w
-rests w sessions = stays w sessions
-
 -- one after the other
 pub follows : (u v w : World) (a b c : List ProgramValue) → Leads u v a b → Leads v w b c → Leads u w a c
 follows u v w a b c f g = record {

@@ -15,6 +15,7 @@ use Rattle.run_reports.specs.WorldReport.{world_report}
 -- the program that an event submits
 abbrev pub submitted_by : WorldEvent → List ProgramValue
 submitted_by (happening.Submit a p) = p ∷ []
+submitted_by (happening.Withdraw a ticket) = []
 submitted_by (happening.Do a rule) = []
 submitted_by (happening.Send a v i) = []
 submitted_by (happening.Deliver k) = []
@@ -23,9 +24,10 @@ submitted_by (happening.Deliver k) = []
 abbrev pub submitted : List WorldEvent → List ProgramValue
 submitted = flat_map submitted_by
 
--- a session is submitted at its own office
+-- a session is submitted at its own office, and none is withdrawn
 abbrev pub IsAtHome : WorldEvent → Type 0
 IsAtHome (happening.Submit a p) = a ≡ p.office
+IsAtHome (happening.Withdraw a ticket) = ⊥
 IsAtHome (happening.Do a rule) = Unit {0}
 IsAtHome (happening.Send a v i) = Unit {0}
 IsAtHome (happening.Deliver k) = Unit {0}
@@ -33,6 +35,7 @@ IsAtHome (happening.Deliver k) = Unit {0}
 -- a session that is submitted is taken by its office
 abbrev pub IsTaken : World → WorldEvent → Type 0
 IsTaken w (happening.Submit a p) = IsOk (happens w (happening.Submit a p)).0
+IsTaken w (happening.Withdraw a ticket) = Unit {0}
 IsTaken w (happening.Do a rule) = Unit {0}
 IsTaken w (happening.Send a v i) = Unit {0}
 IsTaken w (happening.Deliver k) = Unit {0}
@@ -43,7 +46,7 @@ AreTaken w [] = Unit {0}
 AreTaken w (e ∷ es) = IsTaken w e × AreTaken (happens w e).1 es
 
 -- Events lead from one world to the other. They submit sessions of a list, each as often as it stands there at most and at its
--- own office, which takes it; those that are left are the other list.
+-- own office, which takes it, and withdraw none; those that are left are the other list.
 pub record Leads (w w' : World) (sessions left : List ProgramValue) : Type 0 where
   pub events : List WorldEvent
   pub led : run_of w events ≡ w'
