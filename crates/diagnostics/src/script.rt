@@ -12,11 +12,12 @@ use std::alloc::{AllocError, Global};
 const RULES: &str =
     "start, hungry, askfork OFFICE, givefork OFFICE, eat, leave, askbottle RECORD, givebottle RECORD, drink, work N and finish";
 
-/// The greatest numbers of a script: bytes of its text, rules of an `advance`, instructions of a `work`.
+/// The greatest numbers of a script: bytes of its text, rules of an `advance`, steps of a `settle`, instructions of a `work`.
 #[derive(Clone, Copy)]
 pub struct ScriptLimits {
     pub bytes: usize,
     pub rules: u16,
+    pub steps: u32,
     pub instructions: u16,
 }
 
@@ -67,13 +68,15 @@ fn say_words(said: &mut String, refused: Refused<'_>, words: &[&[u8]]) -> Result
         b"deliver" => say_deliver(said, line, words),
         b"do" => say_do(said, refused, words),
         b"advance" => say_advance(said, refused, words),
+        b"withdraw" => say_withdraw(said, refused, words),
+        b"settle" => say_settle(said, refused, words),
         b"send" => say_send(said, refused, words),
         other => {
             say_word(
                 said,
                 "",
                 other,
-                " begins no line of a script; these are `submit N`, `do OFFICE RULE`, `advance OFFICE N`, `send OFFICE NEIGHBOUR I` and `deliver K`",
+                " begins no line of a script; these are `submit N`, `withdraw OFFICE T`, `do OFFICE RULE`, `advance OFFICE N`, `settle N`, `send OFFICE NEIGHBOUR I` and `deliver K`",
             )?;
             say_other_text(said, Text::Script, line)
         }
@@ -128,6 +131,31 @@ fn say_advance(said: &mut String, refused: Refused<'_>, words: &[&[u8]]) -> Resu
     let word = Quoted(words[2]);
     let most = refused.limits.rules;
     write!(said, "{word} is no number of rules, which is 1 to {most}")
+}
+
+fn say_withdraw(
+    said: &mut String,
+    refused: Refused<'_>,
+    words: &[&[u8]],
+) -> Result<(), AllocError> {
+    if words.len() != 3 {
+        return say_expected(said, refused.line, "`withdraw OFFICE T`");
+    }
+    if !is_office(refused.plan, words[1]) {
+        return say_no_office(said, refused.plan, words[1]);
+    }
+    let word = Quoted(words[2]);
+    let last = u32::MAX;
+    write!(said, "{word} is no ticket, which is 1 to {last}")
+}
+
+fn say_settle(said: &mut String, refused: Refused<'_>, words: &[&[u8]]) -> Result<(), AllocError> {
+    if words.len() != 2 {
+        return say_expected(said, refused.line, "`settle N`");
+    }
+    let word = Quoted(words[1]);
+    let most = refused.limits.steps;
+    write!(said, "{word} is no number of steps, which is 1 to {most}")
 }
 
 fn say_send(said: &mut String, refused: Refused<'_>, words: &[&[u8]]) -> Result<(), AllocError> {

@@ -179,7 +179,10 @@ pub(crate) fn say_other_text(said: &mut String, read: Text, line: &[u8]) -> Resu
         | b"else"
         | b"repeat"
         | b"end" => (Text::Sessions, "a text of sessions"),
-        b"submit" | b"do" | b"advance" | b"send" | b"deliver" => (Text::Script, "a script"),
+        b"submit" | b"withdraw" | b"do" | b"advance" | b"settle" | b"send" | b"deliver" => (
+            Text::Script,
+            "a script",
+        ),
         _ => return Ok(()),
     };
     if begun == read {

@@ -480,7 +480,7 @@ static SESSIONS: [Row; 59] = [
 ];
 
 /// The second line of a script of two sessions.
-static SCRIPTS: [Row; 29] = [
+static SCRIPTS: [Row; 34] = [
     (
         "submit 3",
         "there is no session `3`: they are counted from 1, and the file has 2",
@@ -540,7 +540,7 @@ static SCRIPTS: [Row; 29] = [
     ),
     (
         "session a",
-        "`session` begins no line of a script; these are `submit N`, `do OFFICE RULE`, `advance OFFICE N`, `send OFFICE NEIGHBOUR I` and `deliver K`; ",
+        "`session` begins no line of a script; these are `submit N`, `withdraw OFFICE T`, `do OFFICE RULE`, `advance OFFICE N`, `settle N`, `send OFFICE NEIGHBOUR I` and `deliver K`; ",
         "it is a line of a text of sessions: name the texts in the order of the command, and part those on one standard input by a line `---`",
     ),
     (
@@ -585,6 +585,27 @@ static SCRIPTS: [Row; 29] = [
         "",
     ),
     (
+        "withdraw a",
+        "expected `withdraw OFFICE T`, and found ",
+        "`withdraw a`",
+    ),
+    ("withdraw q 1", "the plan has no office `q`", ""),
+    (
+        "withdraw a 4294967296",
+        "`4294967296` is no ticket, which is 1 to 4294967295",
+        "",
+    ),
+    (
+        "settle a 1",
+        "expected `settle N`, and found ",
+        "`settle a 1`",
+    ),
+    (
+        "settle 1000001",
+        "`1000001` is no number of steps, which is 1 to 1000000",
+        "",
+    ),
+    (
         "send a b",
         "expected `send OFFICE NEIGHBOUR I`, and found ",
         "`send a b`",
@@ -599,7 +620,7 @@ static SCRIPTS: [Row; 29] = [
     (
         "go on",
         "`go` begins no line of a script; these are ",
-        "`submit N`, `do OFFICE RULE`, `advance OFFICE N`, `send OFFICE NEIGHBOUR I` and `deliver K`",
+        "`submit N`, `withdraw OFFICE T`, `do OFFICE RULE`, `advance OFFICE N`, `settle N`, `send OFFICE NEIGHBOUR I` and `deliver K`",
     ),
     (
         "do a\u{7f}",
@@ -800,6 +821,7 @@ fn said_under(alloc: Global, plan: &Plan, text: &str) -> Result<String, AllocErr
 const LIMITS: ScriptLimits = ScriptLimits {
     bytes: 16_777_216,
     rules: 1000,
+    steps: 1_000_000,
     instructions: 1000,
 };
 
