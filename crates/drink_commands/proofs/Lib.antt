@@ -3,4 +3,3 @@ pub mod Limits
 pub mod Faults
 pub mod Reported
 pub mod Running
-pub mod Globals

@@ -5,7 +5,6 @@ pub mod Texts
 pub mod Requests
 pub mod Status
 pub mod Serial
-pub mod CommandLine
 pub mod Simulation
 pub mod Random
 pub mod Run

@@ -10,8 +10,8 @@ use Rattle.drink_commands.specs.Texts.{IsJudged, IsJudgedOr}
 use Rattle.drink_commands.specs.declared.input.Input.{Input}
 use Rattle.drink_commands.specs.declared.input.Input.TheVariants as inputs
 use Rattle.drink_commands.specs.declared.fault.Fault.{Fault}
-use Rattle.drink_commands.specs.declared.command_line.Request.{Request}
-use Rattle.drink_commands.specs.declared.command_line.Request.TheVariants.{Serial, Sim, Random, Run, Live}
+use Rattle.command_words.specs.declared.command_line.Request.{Request}
+use Rattle.command_words.specs.declared.command_line.Request.TheVariants.{Serial, Sim, Random, Run, Live}
 
 -- the words of the request's inputs; the word of one
 abbrev pub words_of : Request → List (List ℕ)

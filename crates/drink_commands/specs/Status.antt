@@ -3,9 +3,9 @@ use Rattle.std.specs.Prelude.{◌≡◌, ◌⊎◌, ℕ, Bool, List, Option, Res
 use Rattle.clap.specs.Words.{IsAmong, fault_of}
 use Rattle.clap.specs.declared.error.kind.ErrorKind.{ErrorKind}
 use Rattle.clap.specs.declared.error.kind.ErrorKind.TheVariants.{DisplayHelp, DisplayVersion}
-use Rattle.drink_commands.specs.CommandLine.{Asks, program}
+use Rattle.command_words.specs.CommandLine.{Asks, program}
 use Rattle.drink_commands.specs.Requests.{IsDone}
-use Rattle.drink_commands.specs.declared.command_line.Request.{Request}
+use Rattle.command_words.specs.declared.command_line.Request.{Request}
 use Rattle.drink_commands.specs.declared.fault.Fault.{Fault}
 
 -- of a command that was done, what it answers; of one that failed, 1

@@ -12,19 +12,16 @@
 //!   before the sessions (clause `judged`); nothing is written at one but what stands where the run was cut short (clause `leaves`).
 //! - [`commands::live::run`] is `drink live`, with the same clauses, of all offices.
 //! - [`telling::Telling`] says on a terminal how far a run is.
-//! - [`command_line::command_line`] reads the words of a command line as `clap` defines them
-//!   (clauses `request` and `faults`).
 //! - [`program::perform`] carries a request out, from the texts that its words stand for (clause `done`); [`program::answer`]
 //!   does what the words of a command line ask for, with status 0 only where that was done (clause `done`), and [`run`]
 //!   hands it the files, the standard input and the output that the program was started with.
 //!
-//! What is printed, and which events a script means, is in the crates `run_reports` and `script_runs`, which runs may be drawn in
-//! `random_runs`, what is told of offices that run in `office_runs`, what a fault says of the texts in
-//! `specs/Texts.antt`, and which texts words stand for in the crate `input_texts`. Which bytes a file, the standard input or a
-//! terminal gives or takes is outside what is proved.
+//! What the words of a command line ask for is in the crate `command_words`. What is printed, and which events a script means,
+//! is in `run_reports` and `script_runs`, which runs may be drawn in `random_runs`, what is told of offices that run in
+//! `office_runs`, what a fault says of the texts in `specs/Texts.antt`, and which texts words stand for in `input_texts`. Which
+//! bytes a file, the standard input or a terminal gives or takes is outside what is proved.
 #![tactic(auto)]
 
-pub mod command_line;
 pub mod commands;
 pub mod exit;
 pub mod fault;

@@ -6,7 +6,6 @@ ghost use Rattle.clap.specs.Values.{kind_of};
 ghost use Rattle.drink_commands.specs.Requests.{IsDone, IsJudgedFor, IsStatusOf, word_of};
 ghost use Rattle.drink_commands.specs.Status.{IsAnswered, IsShown, status_of};
 
-use crate::command_line::{Request, command_line, help};
 use crate::commands;
 use crate::commands::{live, random, run, serial, sim};
 use crate::exit::{Exit, FAILED, MISUSED, Said};
@@ -14,6 +13,7 @@ use crate::fault::Fault;
 use crate::input::Input;
 use crate::telling::Telling;
 use clap::error::ErrorKind;
+use command_words::command_line::{Request, command_line, help};
 use input_texts::{Devices, Sources};
 use office_runs::{Around, Binds, Gate, Open, UdpSockets, Watch};
 use std::alloc::{AllocError, Global};

@@ -17,7 +17,7 @@ use crate::input::Input;
 use diagnostics::{ScriptLimits, of_plan, of_ring, of_script, of_sessions};
 use input_texts::{InputFault, Sources, StandardInput};
 use office_map::{Plan, PlanFault};
-use script_runs::{MAX_BYTES, MAX_RULES, ScriptEvent, ScriptFault, script};
+use script_runs::{MAX_BYTES, MAX_RULES, MAX_STEPS, ScriptEvent, ScriptFault, script};
 use session_language::{LangFault, Program, read_sessions};
 use site_core::LONGEST_PIECE;
 use std::alloc::Global;
@@ -26,6 +26,7 @@ use std::io::Read;
 const SCRIPT_LIMITS: ScriptLimits = ScriptLimits {
     bytes: MAX_BYTES,
     rules: MAX_RULES,
+    steps: MAX_STEPS,
     instructions: LONGEST_PIECE,
 };
 

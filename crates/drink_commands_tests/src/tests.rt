@@ -4,7 +4,7 @@ use drink_commands::input::Input;
 use input_texts::Sources;
 use office_map as plans;
 use session_language as sessions;
-use std::alloc::Global;
+use std::alloc::{AllocError, Global};
 use std::io;
 use std::io::{ErrorKind, Read};
 use std::process::Abort;
@@ -18,7 +18,14 @@ mod running;
 mod scripts;
 mod shell;
 mod sockets;
-mod words;
+
+pub fn strings(alloc: Global, words: &[&str]) -> Result<Vec<String>, AllocError> {
+    let mut strings = Vec::new(alloc);
+    for word in words {
+        strings.push(String::from_str(alloc, *word)?)?;
+    }
+    Ok(strings)
+}
 
 const PLAN: &str =
     "plan 1 run 42\noffice a -\noffice b -\npair a b fork a\nrecord x a b 100 at a\nrecord y a b 0 at b\n";

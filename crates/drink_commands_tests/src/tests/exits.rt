@@ -1,7 +1,6 @@
 use crate::tests::ear::Ear;
 use crate::tests::sockets::answered;
-use crate::tests::words::strings;
-use crate::tests::{MOVE, Memory, PLAN};
+use crate::tests::{MOVE, Memory, PLAN, strings};
 use drink_commands::exit::{Exit, Said};
 use drink_commands::fault::Fault;
 use drink_commands::input::Input;

@@ -1,7 +1,6 @@
 use crate::tests::ear::Ear;
 use crate::tests::sockets::{Deaf, Shut};
-use crate::tests::words::strings;
-use crate::tests::{MOVE, Memory, PLAN};
+use crate::tests::{MOVE, Memory, PLAN, strings};
 use drink_commands::exit::Exit;
 use drink_commands::program::answer;
 use drink_commands::telling::Telling;

@@ -27,8 +27,10 @@ const ALONE: &str = "plan 1 run 7\noffice a -\noffice b -\n";
 
 const GIVES: &str = "session a\ngive 1\nend\n";
 
+const SETS_AND_GIVES: &str = "session a\nset x = 1\nend\nsession a\ngive read x\nend\n";
+
 /// A plan, sessions, a script, and what `sim` writes.
-static ROWS: [(&str, &str, &str, &str); 9] = [
+static ROWS: [(&str, &str, &str, &str); 16] = [
     // A session that moves an amount, and a frame that comes twice.
     (
         PLAN,
@@ -78,6 +80,54 @@ static ROWS: [(&str, &str, &str, &str); 9] = [
         TWO,
         "submit 01\n\n # two more \n\tdeliver   9223372036854775807 \r\ndo a work 1000\nsend a a 0\nsend a b 1\ndo a askfork a",
         "ticket 1\nrefused N1 NoFrame\nrefused O1 NotNow\nrefused O1 NotNow\nrefused O1 NotNow\nrefused O1 NotNow\nunfinished 1\nvalue x 100\nvalue y 0\n",
+    ),
+    // A session is withdrawn while it waits for its bottles, and none while it drinks.
+    (
+        PLAN,
+        SETS_AND_GIVES,
+        "submit 1\nsubmit 2\ndo a start\nwithdraw a 1\nwithdraw a 1\ndo a start\ndo a drink\nwithdraw a 2\ndo a work 100\ndo a finish\n",
+        "ticket 1\nticket 2\ndone\ndone\nrefused O1 NotNow\ndone\ndone\nrefused O1 NotNow\ndone\ndone\na.2 done reads x=100 writes - gives 100\nunfinished 0\nvalue x 100\nvalue y 0\n",
+    ),
+    // Left to itself, at once and in two parts, and where no session is left.
+    (
+        PLAN,
+        MOVE,
+        "submit 1\nsettle 100\n",
+        "ticket 1\nsettled 10 finished\na.1 done reads x=100 y=0 writes x=70 y=30 gives 70 30\nunfinished 0\nvalue x 70\nvalue y 30\n",
+    ),
+    (
+        PLAN,
+        MOVE,
+        "submit 1\nsettle 6\nsettle 4\n",
+        "ticket 1\nsettled 6 open\nsettled 4 finished\na.1 done reads x=100 y=0 writes x=70 y=30 gives 70 30\nunfinished 0\nvalue x 70\nvalue y 30\n",
+    ),
+    (
+        PLAN,
+        MOVE,
+        "settle 1\n",
+        "settled 0 finished\nunfinished 0\nvalue x 100\nvalue y 0\n",
+    ),
+    // The first office goes first, and as many steps are left over as there are.
+    (
+        PLAN,
+        TWO,
+        "submit 2\nsubmit 1\nsettle 1000000\n",
+        "ticket 1\nticket 1\nsettled 8 finished\na.1 done reads - writes - gives 1\nb.1 done reads - writes - gives 2\nunfinished 0\nvalue x 100\nvalue y 0\n",
+    ),
+    // A session that was withdrawn takes no step, and one that has finished isn't withdrawn.
+    (
+        PLAN,
+        SETS_AND_GIVES,
+        "submit 1\nsubmit 2\nwithdraw a 1\nsettle 1000000\nwithdraw a 2\n",
+        "ticket 1\nticket 2\ndone\nsettled 4 finished\nrefused O1 NotNow\na.2 done reads x=100 writes - gives 100\nunfinished 0\nvalue x 100\nvalue y 0\n",
+    ),
+    // Where a session is withdrawn whose office eats and has asked for a bottle, no session is left. The next one finds the
+    // forks used and the bottle asked for.
+    (
+        PLAN,
+        MOVE,
+        "submit 1\nsettle 4\nwithdraw a 1\nsettle 1\nsubmit 1\nsettle 1000000\n",
+        "ticket 1\nsettled 4 open\ndone\nsettled 0 finished\nticket 2\nsettled 10 finished\na.2 done reads x=100 y=0 writes x=70 y=30 gives 70 30\nunfinished 0\nvalue x 70\nvalue y 30\n",
     ),
     // In finishing order.
     (
@@ -360,7 +410,13 @@ fn other_lines_are_refused(rt: HostRuntime) {
         ("submit 1\n\n# send\nadvance a 1\nadvance a 0", 5),
         ("advance a 1001", 1),
         ("advance c 1", 1),
-        ("settle 1", 1),
+        ("settle 0", 1),
+        ("settle 1000000\nsettle 1000001", 2),
+        ("settle a 1", 1),
+        ("withdraw a", 1),
+        ("withdraw a 0", 1),
+        ("withdraw a 4294967295\nwithdraw a 4294967296", 2),
+        ("withdraw c 1", 1),
         ("do a eat a", 1),
         ("do a askfork c", 1),
         ("do c start", 1),

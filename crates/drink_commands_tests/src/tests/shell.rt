@@ -1,6 +1,5 @@
 use crate::tests::sockets::answered;
-use crate::tests::words::strings;
-use crate::tests::{MOVE, MOVED, Memory, PLAN};
+use crate::tests::{MOVE, MOVED, Memory, PLAN, strings};
 use std::process::Abort;
 use std::rt::Clock;
 use std::sync::Wait;
@@ -163,7 +162,7 @@ fn faults_name_their_input(rt: HostRuntime) -> Result<(), Fail> {
         ),
         (
             &["drink", "sim", "p", "s", "s"],
-            "s: line 1: X1 Script: `session` begins no line of a script; these are `submit N`, `do OFFICE RULE`, `advance OFFICE N`, `send OFFICE NEIGHBOUR I` and `deliver K`; it is a line of a text of sessions: name the texts in the order of the command, and part those on one standard input by a line `---`",
+            "s: line 1: X1 Script: `session` begins no line of a script; these are `submit N`, `withdraw OFFICE T`, `do OFFICE RULE`, `advance OFFICE N`, `settle N`, `send OFFICE NEIGHBOUR I` and `deliver K`; it is a line of a text of sessions: name the texts in the order of the command, and part those on one standard input by a line `---`",
         ),
         (
             &["drink", "sim", "p", "s", "endless"],

@@ -1,4 +1,4 @@
-use drink_commands::command_line::{Request, command_line};
+use command_words::command_line::{Request, command_line};
 use random_runs::Schedule;
 use std::alloc::{AllocError, Global};
 use std::process::Abort;

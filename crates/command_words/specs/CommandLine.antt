@@ -4,8 +4,8 @@ use Rattle.std.specs.Str.{bytes_eq}
 use Rattle.std.specs.Str.Parse.{IsNumeral, without_leading_plus, digits_value}
 use Rattle.clap.specs.Words.{App, Row, Rule, Text, first_of, new_app, new_rule, subcommand_of, with_rule, with_subcommand}
 use Rattle.clap.specs.declared.builder.value_parser.ValueParser.TheVariants as parsers
-use Rattle.drink_commands.specs.declared.command_line.Request.{Request}
-use Rattle.drink_commands.specs.declared.command_line.Request.TheVariants.{Serial, Sim, Random, Run, Live}
+use Rattle.command_words.specs.declared.command_line.Request.{Request}
+use Rattle.command_words.specs.declared.command_line.Request.TheVariants.{Serial, Sim, Random, Run, Live}
 
 -- a word that must be there
 abbrev pub required : Text → Rule

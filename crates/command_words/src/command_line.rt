@@ -2,8 +2,9 @@
 
 ghost use Rattle.std.specs.Prelude.{◌≡◌, IfOk, Some, codes, false, map};
 ghost use Rattle.std.specs.String.{string_bytes};
-ghost use Rattle.clap.specs.Words.{FailsBy, app_of, fault_of, found_of, rows_of, rule_of, with_subcommand};
-ghost use Rattle.drink_commands.specs.CommandLine.{Asks, IsNumber, Requests, live_command, numbered, optional, program, random_command, required, run_command, serial_command, sim_command, word_of};
+ghost use Rattle.clap.specs.Words.{App, FailsBy, app_of, fault_of, found_of, rows_of, rule_of, with_subcommand};
+ghost use Rattle.clap.specs.declared.builder.command.Command.TheViews.{out-Command as fields_of};
+ghost use Rattle.command_words.specs.CommandLine.{Asks, IsNumber, Requests, live_command, numbered, optional, program, random_command, required, run_command, serial_command, sim_command, word_of};
 
 use clap::builder::ValueParser;
 use clap::error::ErrorKind;
@@ -145,97 +146,86 @@ fn program<'a>(alloc: Global) -> Result<Command<'a>, AllocError>
         .after_help(STATUSES)
         .version(VERSION)
         .subcommand_required(true);
-    let program = with_serial(alloc, program)?;
-    let program = with_sim(alloc, program)?;
-    let program = with_random(alloc, program)?;
-    let program = with_run(alloc, program)?;
-    Ok(with_live(alloc, program)?)
+    let program = with_command(program, serial(alloc))?;
+    let program = with_command(program, sim(alloc))?;
+    let program = with_command(program, random(alloc))?;
+    let program = with_command(program, run(alloc))?;
+    with_command(program, live(alloc))
 }
 
-fn with_serial<'a>(alloc: Global, program: Command<'a>) -> Result<Command<'a>, AllocError>
-    ensures { IfOk result (λ c. app_of c ≡ with_subcommand (app_of program.entry) serial_command.top) }
+/// The program with one command more, where there was memory for that.
+fn with_command<'a>(
+    program: Command<'a>,
+    command: Result<Command<'a>, AllocError>,
+) -> Result<Command<'a>, AllocError>
+    ensures { IfOk result (λ p. (a : App) → IfOk command.entry (λ c. (app_of c ≡ a) × ((fields_of c).has_globals ≡ false)) → app_of p ≡ with_subcommand (app_of program.entry) a.top) }
 {
-    let plan = required(alloc, "PLAN", PLAN);
-    let sessions = required(alloc, "SESSIONS", SESSIONS);
-    let serial = Command::new(alloc, "serial")
+    program.subcommand(command?)
+}
+
+fn serial<'a>(alloc: Global) -> Result<Command<'a>, AllocError>
+    ensures command { IfOk result (λ c. app_of c ≡ serial_command) }
+    ensures local { IfOk result (λ c. (fields_of c).has_globals ≡ false) }
+{
+    Command::new(alloc, "serial")
         .about("Runs the sessions alone, one after another, and prints what each did")
         .after_help(INPUTS)
-        .arg(plan)?
-        .arg(sessions)?;
-    let program = program.subcommand(serial)?;
-    Ok(program)
+        .arg(required(alloc, "PLAN", PLAN))?
+        .arg(required(alloc, "SESSIONS", SESSIONS))
 }
 
-fn with_sim<'a>(alloc: Global, program: Command<'a>) -> Result<Command<'a>, AllocError>
-    ensures { IfOk result (λ c. app_of c ≡ with_subcommand (app_of program.entry) sim_command.top) }
+fn sim<'a>(alloc: Global) -> Result<Command<'a>, AllocError>
+    ensures command { IfOk result (λ c. app_of c ≡ sim_command) }
+    ensures local { IfOk result (λ c. (fields_of c).has_globals ≡ false) }
 {
-    let plan = required(alloc, "PLAN", PLAN);
-    let sessions = required(alloc, "SESSIONS", SESSIONS);
-    let script = required(alloc, "SCRIPT", SCRIPT);
-    let sim = Command::new(alloc, "sim")
+    Command::new(alloc, "sim")
         .about(
             "Runs a script on the offices of a plan, and prints its replies and what the sessions did",
         )
         .after_help(INPUTS)
-        .arg(plan)?
-        .arg(sessions)?
-        .arg(script)?;
-    let program = program.subcommand(sim)?;
-    Ok(program)
+        .arg(required(alloc, "PLAN", PLAN))?
+        .arg(required(alloc, "SESSIONS", SESSIONS))?
+        .arg(required(alloc, "SCRIPT", SCRIPT))
 }
 
-fn with_random<'a>(alloc: Global, program: Command<'a>) -> Result<Command<'a>, AllocError>
-    ensures { IfOk result (λ c. app_of c ≡ with_subcommand (app_of program.entry) random_command.top) }
+fn random<'a>(alloc: Global) -> Result<Command<'a>, AllocError>
+    ensures command { IfOk result (λ c. app_of c ≡ random_command) }
+    ensures local { IfOk result (λ c. (fields_of c).has_globals ≡ false) }
 {
-    let plan = required(alloc, "PLAN", PLAN);
-    let sessions = required(alloc, "SESSIONS", SESSIONS);
-    let seed = numbered(alloc, "seed", SEED, 0, u64::MAX);
-    let loss = numbered(alloc, "loss", LOSS, 0, MOST_LOSS);
-    let steps = numbered(alloc, "steps", STEPS, 1, MOST_STEPS);
-    let random = Command::new(alloc, "random")
+    Command::new(alloc, "random")
         .about(
             "Runs the sessions on the offices of a plan as it is drawn, and prints what they did",
         )
         .after_help(INPUTS)
-        .arg(plan)?
-        .arg(sessions)?
-        .arg(seed)?
-        .arg(loss)?
-        .arg(steps)?;
-    let program = program.subcommand(random)?;
-    Ok(program)
+        .arg(required(alloc, "PLAN", PLAN))?
+        .arg(required(alloc, "SESSIONS", SESSIONS))?
+        .arg(numbered(alloc, "seed", SEED, 0, u64::MAX))?
+        .arg(numbered(alloc, "loss", LOSS, 0, MOST_LOSS))?
+        .arg(numbered(alloc, "steps", STEPS, 1, MOST_STEPS))
 }
 
-fn with_run<'a>(alloc: Global, program: Command<'a>) -> Result<Command<'a>, AllocError>
-    ensures { IfOk result (λ c. app_of c ≡ with_subcommand (app_of program.entry) run_command.top) }
+fn run<'a>(alloc: Global) -> Result<Command<'a>, AllocError>
+    ensures command { IfOk result (λ c. app_of c ≡ run_command) }
+    ensures local { IfOk result (λ c. (fields_of c).has_globals ≡ false) }
 {
-    let plan = required(alloc, "PLAN", PLAN);
-    let office = required(alloc, "OFFICE", OFFICE);
-    let sessions = required(alloc, "SESSIONS", OWN_SESSIONS);
-    let turns = optional(alloc, "turns", TURNS, 1, MOST_TURNS, USUAL_TURNS);
-    let running = Command::new(alloc, "run")
+    Command::new(alloc, "run")
         .about("Runs one office of a plan at its address, and prints what its sessions did")
         .after_help(RUNS)
-        .arg(plan)?
-        .arg(office)?
-        .arg(sessions)?
-        .arg(turns)?;
-    let program = program.subcommand(running)?;
-    Ok(program)
+        .arg(required(alloc, "PLAN", PLAN))?
+        .arg(required(alloc, "OFFICE", OFFICE))?
+        .arg(required(alloc, "SESSIONS", OWN_SESSIONS))?
+        .arg(optional(alloc, "turns", TURNS, 1, MOST_TURNS, USUAL_TURNS))
 }
 
-fn with_live<'a>(alloc: Global, program: Command<'a>) -> Result<Command<'a>, AllocError>
-    ensures { IfOk result (λ c. app_of c ≡ with_subcommand (app_of program.entry) live_command.top) }
+fn live<'a>(alloc: Global) -> Result<Command<'a>, AllocError>
+    ensures command { IfOk result (λ c. app_of c ≡ live_command) }
+    ensures local { IfOk result (λ c. (fields_of c).has_globals ≡ false) }
 {
-    let plan = required(alloc, "PLAN", PLAN);
-    let sessions = required(alloc, "SESSIONS", SESSIONS);
-    let live = Command::new(alloc, "live")
+    Command::new(alloc, "live")
         .about("Runs all offices of a plan on this machine, and prints what the sessions did")
         .after_help(RUNS)
-        .arg(plan)?
-        .arg(sessions)?;
-    let program = program.subcommand(live)?;
-    Ok(program)
+        .arg(required(alloc, "PLAN", PLAN))?
+        .arg(required(alloc, "SESSIONS", SESSIONS))
 }
 
 /// A word that has to be there.

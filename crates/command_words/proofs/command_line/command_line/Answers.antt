@@ -2,9 +2,9 @@ use Rattle.std.proofs.Common.{◌≡◌, ◌∙◌, List, [], Option, Some, None
 use Rattle.std.specs.String.{string_bytes}
 use Rattle.clap.specs.Words.{App, Row, Text, app_of, fault_of, found_of, is_simple, is_simple_and_free, rows_of, subcommand_of}
 use Rattle.clap.proofs.OnLiterals.{clap_on_literals}
-use Rattle.drink_commands.specs.declared.command_line.Request.{Request}
-use Rattle.drink_commands.specs.CommandLine.{Asks, Requests, arguments_of, command_of, program}
-use Rattle.drink_commands.proofs.command_line.command_line.Goals as goal
+use Rattle.command_words.specs.declared.command_line.Request.{Request}
+use Rattle.command_words.specs.CommandLine.{Asks, Requests, arguments_of, command_of, program}
+use Rattle.command_words.proofs.command_line.command_line.Goals as goal
 
 is_free : is_simple_and_free program ≡ true
 unfolding clap_on_literals
