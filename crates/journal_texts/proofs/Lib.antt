@@ -1,0 +1,7 @@
+mod ReadLines
+mod Journals
+mod LegalEntries
+mod WrittenLines
+mod WrittenSoFar
+mod OneJournal
+mod WholeLines

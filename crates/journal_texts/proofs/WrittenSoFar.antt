@@ -1,0 +1,69 @@
+-- The entries of a journal, written one after the other.
+use Rattle.std.proofs.Common.{◌≡◌, ℕ, ◌+◌, List, [], ◌∷◌, ◌++◌, length, take, Option, Some, None, sym, ap, ◌∙◌, subst, arith, append_assoc, inl, inr, Bor}
+use Rattle.std.specs.Prelude.{All, slice_get}
+use Rattle.std.specs.List.{flat_map}
+use Rattle.std.specs.Option.{option_copied}
+use Rattle.std.proofs.lemmas.Bool.{cases_lt}
+use Rattle.std.proofs.lemmas.Grind.{flat_map-append}
+use Rattle.std.proofs.lemmas.List.{take_more, take_all, append-nil}
+use Rattle.std.proofs.lemmas.List.Elements.{All-nil, All-cons, All-append}
+use Rattle.std.proofs.lemmas.Option.{slice_get_within, get_or_from_slice_get, slice_get-get_or}
+use Rattle.office_map.specs.PlanValue.{PlanValue}
+use Rattle.office_map.specs.Consistency.{IsConsistent}
+use Rattle.site_core.specs.declared.event.Event.{Event}
+use Rattle.site_core.specs.declared.event.Event.TheVariants as event
+use Rattle.site_core.specs.declared.event.Entry.{Entry}
+use Rattle.site_core.specs.declared.reply.Reply.{Reply}
+use Rattle.site_core.specs.Journals.{IsLegal}
+use Rattle.journal_texts.specs.Written.{header_line, entry_line, journal_text}
+use Rattle.journal_texts.specs.refinement.WrittenValues.{HasText, EntryReadsBack}
+use Rattle.journal_texts.proofs.LegalEntries.{IsEventOf, IsEntryOf, legal_entries}
+
+-- what is accepted has a text
+pub has_text : (p : PlanValue) (e : Event) (r : Reply) → IsEventOf p e r → HasText p e
+has_text p (event.Submit x) r h = h.0
+has_text p (event.Do done) r h = tt
+has_text p (event.Send v i) r h = tt
+has_text p (event.Took f) r h = tt
+has_text p (event.Withdraw t) r h = tt
+
+-- the entry at a place
+pub entry_at : (P : Entry → Type 0) (xs : List Entry) (i : ℕ) (x : Entry) → All P xs → slice_get xs i ≡ Some x → P x
+entry_at P xs i x all at = subst P (get_or_from_slice_get xs i x x at) (all i x (slice_get_within xs i x at))
+
+-- what stands at a place
+pub entry_in : (xs : List Entry) (i : ℕ) (o : Option (Bor Entry)) (e : Bor Entry) → option_copied o ≡ slice_get xs i → o ≡ Some e → slice_get xs i ≡ Some e.now
+entry_in xs i o e h is = sym h ∙ ap option_copied is
+
+pub text_at : (p : PlanValue) (me : ℕ) (xs : List Entry) (i : ℕ) (o : Option (Bor Entry)) (e : Bor Entry) → IsConsistent p → IsLegal (record { plan = p; me = me; entries = xs }) → option_copied o ≡ slice_get xs i → o ≡ Some e → HasText p e.now.event
+text_at p me xs i o e ok legal h is = let x = entry_at (IsEntryOf p) xs i e.now (legal_entries p me xs ok legal) (entry_in xs i o e h is) in has_text p e.now.event e.now.reply x.event
+
+pub none_in : (xs : List Entry) (i : ℕ) (o : Option (Bor Entry)) → option_copied o ≡ slice_get xs i → o ≡ None → slice_get xs i ≡ None
+none_in xs i o h is = sym h ∙ ap option_copied is
+
+longer : (xs : List Entry) (i : ℕ) (x : Entry) → slice_get xs i ≡ Some x → take (i + 1) xs ≡ take i xs ++ x ∷ []
+longer xs i x at = take_more xs i x (slice_get_within xs i x at) ∙ ap (λ y. take i xs ++ y ∷ []) (get_or_from_slice_get xs i x x at)
+
+pub one_written : (p : PlanValue) (o : ℕ) (xs : List Entry) (i : ℕ) (x : Entry) (text grown : List ℕ) → slice_get xs i ≡ Some x → text ≡ journal_text p o (take i xs) → grown ≡ text ++ entry_line p x
+    → grown ≡ journal_text p o (take (i + 1) xs)
+one_written p o xs i x text grown at so_far g =
+    let one : flat_map (entry_line p) (x ∷ []) ≡ entry_line p x = append-nil (entry_line p x) in
+    let more : journal_text p o (take i xs ++ x ∷ []) ≡ journal_text p o (take i xs) ++ entry_line p x =
+    ap (λ l. header_line p o ++ l) (flat_map-append (entry_line p) (take i xs) (x ∷ []) ∙ ap (λ l. flat_map (entry_line p) (take i xs) ++ l) one)
+    ∙ sym (append_assoc (header_line p o) (flat_map (entry_line p) (take i xs)) (entry_line p x)) in
+    g ∙ ap (λ t. t ++ entry_line p x) so_far ∙ sym more ∙ ap (journal_text p o) (sym (longer xs i x at))
+
+pub one_read_back : (p : PlanValue) (xs : List Entry) (i : ℕ) (x : Entry) → slice_get xs i ≡ Some x → All (EntryReadsBack p) (take i xs) → EntryReadsBack p x → All (EntryReadsBack p) (take (i + 1) xs)
+one_read_back p xs i x at all h =
+    subst (All (EntryReadsBack p)) (sym (longer xs i x at)) (All-append (EntryReadsBack p) (take i xs) (x ∷ []) all (All-cons (EntryReadsBack p) x [] h (All-nil (EntryReadsBack p))))
+
+-- all are written where there is no entry any more
+past : (xs : List Entry) (i : ℕ) (d : Entry) → slice_get xs i ≡ None → take i xs ≡ xs
+past xs i d none = elim (cases_lt i (length xs)) [
+  | inl lt ↦ cc (sym (slice_get-get_or xs i d lt) ∙ none)
+  | inr ge ↦ take_all i xs ge
+]
+
+pub all_taken : (xs : List Entry) (i : ℕ) → slice_get xs i ≡ None → take i xs ≡ xs
+all_taken [] i none = take_all i [] (omega arith)
+all_taken (x ∷ xs) i none = past (x ∷ xs) i x none

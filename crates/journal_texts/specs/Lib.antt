@@ -1,0 +1,5 @@
+pub mod Limits
+pub mod Lines
+pub mod JournalText
+pub mod Written
+pub mod refinement

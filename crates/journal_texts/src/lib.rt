@@ -1,0 +1,24 @@
+//! The journals of offices as texts.
+//!
+//! - [`text`] writes the journal of an office: a first line with the run and the office's name, and then a line for each entry
+//!   (clause `text`). What is written is the text of that journal (clause `reads_back`).
+//! - [`read_journal`] reads a text of a journal under a plan: whose it is, its entries, and whether it ends with them (clause
+//!   `meaning`), or its first fault (clause `fault`).
+//! - Both speak of one relation, `IsJournal` of `specs/JournalText.antt`, and [`laws`] says that a text is one journal at most, and
+//!   none where it has a fault. So what was written is read as what it was written for.
+//!
+//! What a line says is in `specs/Lines.antt`, how it is written in `specs/Written.antt`; the words are those of `run_words`.
+#![tactic(auto)]
+
+mod fault;
+mod header;
+mod journal_text;
+pub mod laws;
+mod line;
+mod reading;
+mod writing;
+
+pub use crate::fault::{JournalFault, JournalRefusal, JournalRule};
+pub use crate::journal_text::JournalText;
+pub use crate::reading::read_journal;
+pub use crate::writing::text;

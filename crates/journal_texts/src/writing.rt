@@ -1,0 +1,154 @@
+//! Writing a journal.
+
+ghost use Rattle.std.specs.Prelude.{◌≡◌, ◌<◌, ◌^◌, ◌++◌, ◌∷◌, [], length, true, IfOk, OnOk, IsTrue};
+ghost use Rattle.std.specs.Fmt.{decimal};
+ghost use Rattle.std.specs.String.{string_bytes};
+ghost use Rattle.session_language.specs.Program.{fits};
+ghost use Rattle.site_core.specs.Journals.{IsLegal};
+ghost use Rattle.site_core.specs.declared.event.Event.TheVariants as events;
+ghost use Rattle.site_core.specs.declared.reply.Reply.TheVariants as replies;
+ghost use Rattle.run_words.specs.Digits.{frame_digits};
+ghost use Rattle.run_words.specs.Words.{line_of_words};
+ghost use Rattle.journal_texts.specs.JournalText.{IsJournal};
+ghost use Rattle.journal_texts.specs.Written.{header_line, event_words, reply_words, entry_line, journal_text};
+ghost use Rattle.journal_texts.specs.refinement.WrittenValues.{HasText, FrameReadsBack, EventReadsBack, ReplyReadsBack, EntryReadsBack};
+
+use frame_codec::Frame;
+use office_map::{OfficeId, Plan};
+use run_words::digits::{digits, frame_digits};
+use run_words::rules::add_rule;
+use run_words::words::office_name;
+use session_language::Program;
+use site_core::{Entry, Event, Journal, Reply};
+use std::alloc::{AllocError, Global};
+
+/// The text of an office's journal: a first line, and then a line for each entry.
+#[tactic(auto, using(crate::proofs::WrittenSoFar::text_at))]
+pub fn text(
+    alloc: Global,
+    journal: &Journal,
+    plan: &Plan,
+    office: OfficeId,
+) -> Result<String, AllocError>
+    requires office { office < length plan.now.offices }
+    requires legal { IsLegal (record { plan = plan.now; me = office; entries = journal.now.entries }) }
+    ensures text { IfOk result (λ text. string_bytes text ≡ journal_text plan.now office journal.now.entries) }
+    ensures reads_back { IfOk result (λ text. IsJournal plan.now (string_bytes text) office journal.now.entries true) }
+{
+    // The plan is consistent.
+    let _ = plan.offices();
+    let mut text = String::new(alloc);
+    add_header(&mut text, plan, office)?;
+    let mut place = 0;
+    while let Some(entry) = journal.get(place) {
+        add_entry(alloc, &mut text, plan, entry)?;
+        place += 1;
+    }
+    Ok(text)
+}
+
+fn add_header(text: &mut String, plan: &Plan, office: OfficeId) -> Result<(), AllocError>
+    ensures run { plan.now.run < 2 ^ 32 }
+    ensures line { OnOk result (string_bytes text.new ≡ string_bytes text.old ++ header_line plan.now office) }
+{
+    let run = plan.run();
+    let name = office_name(plan, office);
+    write!(text, "journal 1 run {run} office {name}\n")
+}
+
+fn add_entry(alloc: Global, text: &mut String, plan: &Plan, entry: &Entry) -> Result<(), AllocError>
+    requires { HasText plan.now entry.now.event }
+    ensures line { OnOk result (string_bytes text.new ≡ string_bytes text.old ++ entry_line plan.now entry.now) }
+    ensures reads_back { OnOk result (EntryReadsBack plan.now entry.now) }
+{
+    let tag = entry.tag;
+    write!(text, "{tag} ")?;
+    add_event(alloc, text, plan, &entry.event)?;
+    text.push_str(" = ")?;
+    add_reply(alloc, text, &entry.reply)?;
+    text.push_str("\n")?;
+    Ok(())
+}
+
+fn add_event(alloc: Global, text: &mut String, plan: &Plan, event: &Event) -> Result<(), AllocError>
+    requires { HasText plan.now event.now }
+    ensures words { OnOk result (string_bytes text.new ≡ string_bytes text.old ++ line_of_words (event_words plan.now event.now)) }
+    ensures reads_back { OnOk result (EventReadsBack plan.now event.now) }
+{
+    match event {
+        Event::Submit(program) => add_program(alloc, text, plan, program),
+        Event::Do(rule) => {
+            text.push_str("do ")?;
+            add_rule(text, plan, *rule)
+        }
+        Event::Send(v, i) => add_send(text, plan, *v, *i),
+        Event::Took(frame) => add_frame(alloc, text, "took ", frame),
+        Event::Withdraw(ticket) => add_ticket(text, "withdraw ", *ticket),
+    }
+}
+
+/// A session's canonical text, as digits.
+fn add_program(
+    alloc: Global,
+    text: &mut String,
+    plan: &Plan,
+    program: &Program,
+) -> Result<(), AllocError>
+    requires { IsTrue (fits plan.now program.now) }
+    ensures words { OnOk result (string_bytes text.new ≡ string_bytes text.old ++ line_of_words (event_words plan.now (events.Submit program.now))) }
+    ensures reads_back { OnOk result (EventReadsBack plan.now (events.Submit program.now)) }
+{
+    let canonical = program.text(alloc, plan)?;
+    let digits = digits(alloc, canonical.as_bytes())?;
+    text.push_str("submit ")?;
+    text.push_str(digits.as_str())
+}
+
+fn add_send(text: &mut String, plan: &Plan, v: OfficeId, i: usize) -> Result<(), AllocError>
+    ensures { OnOk result (string_bytes text.new ≡ string_bytes text.old ++ line_of_words (event_words plan.now (events.Send v i))) }
+{
+    let neighbour = office_name(plan, v);
+    write!(text, "send {neighbour} {i}")
+}
+
+/// A frame's bytes as digits, after a word.
+fn add_frame(alloc: Global, text: &mut String, word: &str, frame: &Frame) -> Result<(), AllocError>
+    ensures words { OnOk result (string_bytes text.new ≡ string_bytes text.old ++ (word.now ++ frame_digits frame.now)) }
+    ensures reads_back { OnOk result (FrameReadsBack frame.now) }
+{
+    let digits = frame_digits(alloc, frame)?;
+    text.push_str(word)?;
+    text.push_str(digits.as_str())
+}
+
+fn add_reply(alloc: Global, text: &mut String, reply: &Reply) -> Result<(), AllocError>
+    ensures words { OnOk result (string_bytes text.new ≡ string_bytes text.old ++ line_of_words (reply_words reply.now)) }
+    ensures reads_back { OnOk result (ReplyReadsBack reply.now) }
+{
+    match reply {
+        Reply::Ticket(ticket) => add_ticket(text, "ticket ", *ticket),
+        Reply::Done => text.push_str("done"),
+        Reply::Frame(frame) => add_made(alloc, text, frame),
+        Reply::Acked => text.push_str("acked"),
+        Reply::Taken => text.push_str("taken"),
+        Reply::Repeat => text.push_str("repeat"),
+        Reply::Kept => text.push_str("kept"),
+        Reply::Early => text.push_str("early"),
+    }
+}
+
+/// The frame of a reply.
+fn add_made(alloc: Global, text: &mut String, frame: &Frame) -> Result<(), AllocError>
+    ensures words { OnOk result (string_bytes text.new ≡ string_bytes text.old ++ line_of_words (reply_words (replies.Frame frame.now))) }
+    ensures reads_back { OnOk result (ReplyReadsBack (replies.Frame frame.now)) }
+{
+    add_frame(alloc, text, "frame ", frame)
+}
+
+/// A ticket, after a word.
+fn add_ticket(text: &mut String, word: &str, ticket: u32) -> Result<(), AllocError>
+    ensures words { OnOk result (string_bytes text.new ≡ string_bytes text.old ++ (word.now ++ decimal ticket)) }
+    ensures range { ticket < 2 ^ 32 }
+{
+    write!(text, "{word}{ticket}")
+}

@@ -1,0 +1,280 @@
+use journal_texts::{JournalText, read_journal, text};
+use office_map::Plan;
+use site_core::Office;
+use std::alloc::Global;
+use std::fmt::Write;
+use std::test::Fail;
+
+/// Two offices, and two records of theirs.
+const PAIR: &str =
+    "plan 1 run 42\noffice a -\noffice b -\npair a b fork a\nrecord x a b 100 at a\nrecord y a b 0 at b\n";
+
+/// Two offices that share nothing.
+const ALONE: &str = "plan 1 run 7\noffice a -\noffice b -\n";
+
+/// A plan, and the journal of an office as it is written.
+static JOURNALS: [(&str, &str); 5] = [
+    (
+        ALONE,
+        "journal 1 run 7 office a\n0 submit 73657373696f6e20610a6769766520310a656e640a = ticket 1\n0 do start = done\n0 do hungry = done\n0 do eat = done\n0 do drink = done\n0 do leave = done\n0 do work 9 = done\n0 do finish = done\n",
+    ),
+    (
+        PAIR,
+        "journal 1 run 42 office b\n0 took 445001010000002a000100000000000000010000000000000000030001 = taken\n0 do givebottle y = done\n0 send a 1 = frame 445001010000002a0100000000000000000100000000000000010400010000000000000000\n",
+    ),
+    (
+        PAIR,
+        "journal 1 run 42 office a\n3 submit 73657373696f6e20610a6c65742076203d207265616420780a7365742078203d2076202d2033300a7365742079203d20726561642079202b2033300a67697665207265616420780a67697665207265616420790a656e640a = ticket 1\n3 submit 73657373696f6e20610a6769766520310a656e640a = ticket 2\n3 withdraw 2 = done\n0 do start = done\n0 do hungry = done\n0 do eat = done\n0 do askbottle y = done\n0 send b 1 = frame 445001010000002a000100000000000000010000000000000000030001\n0 took 445001010000002a0100000000000000000100000000000000010400010000000000000000 = taken\n15 do drink = done\n15 do leave = done\n15 do work 1000 = done\n15 do finish = done\n0 took 445001010000002a0100000000000000000100000000000000010400010000000000000000 = repeat\n0 send b 0 = frame 445001020000002a000100000000000000000000000000000001\n0 took 445001020000002a010000000000000000000000000000000001 = acked\n0 took 445001010000002a01000000000000000003000000000000000102 = kept\n0 took 445001010000002a01000000000000000014000000000000000102 = early\n",
+    ),
+    (
+        PAIR,
+        "journal 1 run 42 office b\n0 submit 73657373696f6e20620a6769766520320a656e640a = ticket 1\n0 do start = done\n0 do hungry = done\n0 do askfork a = done\n0 send a 1 = frame 445001010000002a01000000000000000001000000000000000001\n0 took 445001010000002a00010000000000000001000000000000000102 = taken\n0 took 445001010000002a00010000000000000002000000000000000101 = taken\n0 do eat = done\n0 do drink = done\n0 do leave = done\n0 do givefork a = done\n0 send a 1 = frame 445001010000002a01000000000000000002000000000000000202\n",
+    ),
+    (PAIR, "journal 1 run 42 office b\n"),
+];
+
+/// A text under the plan of a pair, how many entries are read, and whether the journal ends with them.
+static READ: [(&str, usize, bool); 11] = [
+    ("journal 1 run 42 office b", 0, true),
+    ("\tjournal  1 run 00042 office b \r\n", 0, true),
+    (
+        "journal 1 run 42 office a\n00 do start = done\n 015 do work 0001000 = done",
+        2,
+        true,
+    ),
+    (
+        "journal 1 run 42 office a\n0 took 445001010000002A000100000000000000010000000000000000030001 = taken\n",
+        1,
+        true,
+    ),
+    ("journal 1 run 42 office a\n0 took 4450 = taken\n", 0, false),
+    (
+        "journal 1 run 42 office a\n0 do start = done\n0 send b 1 = frame 4450\n0 do start = done\n",
+        1,
+        false,
+    ),
+    (
+        "journal 1 run 42 office a\n0 do start = done\n0 took 0000000000000000000000000000000000000000000000000000000000000000000000000000000000 = early\n",
+        1,
+        false,
+    ),
+    (
+        "journal 1 run 42 office a\n0 took 445001010000002a010000000000000000010000000000000001040001000000000000000000 = taken\n",
+        0,
+        false,
+    ),
+    (
+        "journal 1 run 42 office a\n0 submit 232061206e6f74650a73657373696f6e2020610a202067697665202831290a656e64 = ticket 4294967295\n",
+        1,
+        true,
+    ),
+    (
+        "journal 1 run 42 office a\n0 submit 73657373696f6e20620a6769766520320a656e640a = ticket 1\n",
+        1,
+        true,
+    ),
+    (
+        "journal 1 run 42 office a\n0 send b 9223372036854775807 = frame 445001020000002a000100000000000000000000000000000001\n",
+        1,
+        true,
+    ),
+];
+
+/// A text under the same plan, and its fault.
+static FAULTS: [(&str, &str); 38] = [
+    ("", "line 0: J1 Journal"),
+    ("# nothing\n\n", "line 0: J1 Journal"),
+    ("journal 01 run 42 office a\n", "line 1: J1 Journal"),
+    ("journal 1 run 42 office a b\n", "line 1: J1 Journal"),
+    ("journal 1 run 42 office end\n", "line 1: J1 Journal"),
+    ("journal 1 run 43 office 1\n", "line 1: J1 Journal"),
+    (
+        "journal 1 run 43 office a\n0 begin\n",
+        "line 1: J2 JournalHeader",
+    ),
+    (
+        "journal 1 run 9223372036854775807 office a\n",
+        "line 1: J2 JournalHeader",
+    ),
+    (
+        "journal 1 run 9223372036854775808 office a\n",
+        "line 1: J1 Journal",
+    ),
+    (
+        "\n# of c\njournal 1 run 42 office c\n",
+        "line 3: J2 JournalHeader",
+    ),
+    (
+        "journal 1 run 42 office b\n0 took 4 = taken\n",
+        "line 2: J1 Journal",
+    ),
+    (
+        "journal 1 run 42 office a\n0 took 4g = taken\n",
+        "line 2: J1 Journal",
+    ),
+    (
+        "journal 1 run 42 office a\n0 took 4450 = lost\n",
+        "line 2: J1 Journal",
+    ),
+    (
+        "journal 1 run 42 office a\n0 took 4450 taken =\n",
+        "line 2: J1 Journal",
+    ),
+    (
+        "journal 1 run 42 office a\n16 do start = done\n",
+        "line 2: J1 Journal",
+    ),
+    (
+        "journal 1 run 42 office a\ndo start = done\n",
+        "line 2: J1 Journal",
+    ),
+    (
+        "journal 1 run 42 office a\n\n0 do start = done\n0 do begin = done\n",
+        "line 4: J1 Journal",
+    ),
+    (
+        "journal 1 run 42 office a\n0 do start = taken\n",
+        "line 2: J1 Journal",
+    ),
+    (
+        "journal 1 run 42 office a\n0 do askfork c = done\n",
+        "line 2: J1 Journal",
+    ),
+    (
+        "journal 1 run 42 office a\n0 do askbottle a = done\n",
+        "line 2: J1 Journal",
+    ),
+    (
+        "journal 1 run 42 office a\n0 do work 0 = done\n",
+        "line 2: J1 Journal",
+    ),
+    (
+        "journal 1 run 42 office a\n0 do work 1001 = done\n",
+        "line 2: J1 Journal",
+    ),
+    (
+        "journal 1 run 42 office a\n0 do work = done\n",
+        "line 2: J1 Journal",
+    ),
+    (
+        "journal 1 run 42 office a\n0 withdraw 0 = done\n",
+        "line 2: J1 Journal",
+    ),
+    (
+        "journal 1 run 42 office a\n0 withdraw 4294967296 = done\n",
+        "line 2: J1 Journal",
+    ),
+    (
+        "journal 1 run 42 office a\n0 submit 73657373696f6e20610a6769766520310a656e640a = ticket 0\n",
+        "line 2: J1 Journal",
+    ),
+    (
+        "journal 1 run 42 office a\n0 submit 73657373696f6e20610a6769766520310a656e640a = ticket 4294967296\n",
+        "line 2: J1 Journal",
+    ),
+    (
+        "journal 1 run 42 office a\n0 submit 73657373696f6e20610a6769766520310a656e640a73657373696f6e20610a6769766520310a656e640a = ticket 1\n",
+        "line 2: J1 Journal",
+    ),
+    (
+        "journal 1 run 42 office a\n0 submit 0a = ticket 1\n",
+        "line 2: J1 Journal",
+    ),
+    (
+        "journal 1 run 42 office a\n0 submit 73657373696f6e20610a6769766520770a656e640a = ticket 1\n",
+        "line 2: J1 Journal",
+    ),
+    (
+        "journal 1 run 42 office a\n0 submit 7 = ticket 1\n",
+        "line 2: J1 Journal",
+    ),
+    (
+        "journal 1 run 42 office a\n0 send c 1 = frame 445001020000002a000100000000000000000000000000000001\n",
+        "line 2: J1 Journal",
+    ),
+    (
+        "journal 1 run 42 office a\n0 send b x = frame 445001020000002a000100000000000000000000000000000001\n",
+        "line 2: J1 Journal",
+    ),
+    (
+        "journal 1 run 42 office a\n0 send b 0 = 445001020000002a000100000000000000000000000000000001\n",
+        "line 2: J1 Journal",
+    ),
+    (
+        "journal 1 run 42 office a\n0 took 4450 = taken\n0 do start = done\n0 took 4 = taken\n",
+        "line 4: J1 Journal",
+    ),
+    (
+        "journal 1 run 42 office a\n0 took 000000000000000000000000000000000000000000000000000000000000000000000000000000000 = taken\n",
+        "line 2: J1 Journal",
+    ),
+    (
+        "journal 1 run 42 office a\n0 took 000000000000000000000000000000000000000000000000000000000000000000000000000000000x = taken\n",
+        "line 2: J1 Journal",
+    ),
+    (
+        "journal 1 run 42 office a\n0 took 44\x07 = taken\n",
+        "line 2: J1 Journal",
+    ),
+];
+
+#[test]
+fn journals_are_written_as_they_were_read(rt: HostRuntime) -> Result<(), Fail> {
+    let alloc = rt.alloc();
+    for (plan, journal) in &JOURNALS {
+        let plan = Plan::read(alloc, plan.as_bytes())?;
+        let read = read_journal(alloc, journal.as_bytes(), &plan)?;
+        assert!(rt; read.ends);
+        let written = written(alloc, &plan, &read)?;
+        assert_eq!(rt; written.as_str(), *journal);
+    }
+    Ok(())
+}
+
+/// The text of the office's journal, where the office is opened and does all that was read.
+fn written(alloc: Global, plan: &Plan, read: &JournalText) -> Result<String, Fail> {
+    if read.office.index() >= plan.offices() {
+        return Err(Fail::from("an office of the plan"));
+    }
+    let mut office = Office::open(alloc, plan, read.office)?;
+    for entry in read.entries.as_slice() {
+        if entry.tag >= 16 {
+            return Err(Fail::from("a tag below 16"));
+        }
+        let reply = office.step(entry.tag, &entry.event)?;
+        if reply != entry.reply {
+            return Err(Fail::from("the reply of the journal"));
+        }
+    }
+    if office.number().index() >= office.plan().offices() {
+        return Err(Fail::from("an office of its plan"));
+    }
+    Ok(text(alloc, office.journal(), office.plan(), office.number())?)
+}
+
+#[test]
+fn texts_are_read_up_to_the_first_that_is_no_frame(rt: HostRuntime) -> Result<(), Fail> {
+    let alloc = rt.alloc();
+    let plan = Plan::read(alloc, PAIR.as_bytes())?;
+    for (journal, entries, ends) in &READ {
+        let read = read_journal(alloc, journal.as_bytes(), &plan)?;
+        assert_eq!(rt; read.entries.len(), *entries, "of {journal:?}");
+        assert_eq!(rt; read.ends, *ends, "of {journal:?}");
+    }
+    Ok(())
+}
+
+#[test]
+fn the_first_faulty_line_is_told(rt: HostRuntime) -> Result<(), Fail> {
+    let alloc = rt.alloc();
+    let plan = Plan::read(alloc, PAIR.as_bytes())?;
+    for (journal, expected) in &FAULTS {
+        let mut told = String::new(alloc);
+        match read_journal(alloc, journal.as_bytes(), &plan) {
+            Ok(_) => told.push_str("no fault")?,
+            Err(fault) => write!(told, "{fault}")?,
+        }
+        assert_eq!(rt; told.as_str(), *expected, "of {journal:?}");
+    }
+    Ok(())
+}

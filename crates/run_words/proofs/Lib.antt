@@ -1,0 +1,4 @@
+pub mod LinesOfWords
+pub mod DigitWords
+pub mod NamesAndNumbers
+pub mod RuleWords

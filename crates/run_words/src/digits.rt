@@ -1,0 +1,99 @@
+//! Bytes as digits.
+
+ghost use Rattle.std.specs.Prelude.{◌≡◌, ◌*◌, ◌≤◌, ◌<◌, length, Some, IfOk, option_map};
+ghost use Rattle.std.specs.List.{list_all};
+ghost use Rattle.std.specs.String.{string_bytes};
+ghost use Rattle.hex.specs.Hex.{is_hex_digit};
+ghost use Rattle.run_words.specs.Digits.{digits_of, bytes_in, frame_digits, IsFrameWord};
+ghost use Rattle.run_words.specs.declared.digits.FrameWord.TheVariants as said;
+
+use frame_codec::{Frame, MAX_LENGTH, decode, encode};
+use hex::FromHexError;
+use std::alloc::{AllocError, Global};
+
+/// What a word says where a frame stands.
+#[derive(Clone, Copy, Debug, PartialEq, Eq)]
+pub enum FrameWord {
+    /// The frame that its digits spell.
+    Spelled(Frame),
+    /// Its digits are bytes that spell no frame.
+    NoFrame,
+    /// It isn't digits, or they are an odd number.
+    NoDigits,
+}
+
+/// Bytes as digits, with lower-case letters.
+pub fn digits(alloc: Global, bytes: &[u8]) -> Result<String, AllocError>
+    ensures digits { IfOk result (λ text. string_bytes text ≡ digits_of bytes.now) }
+    ensures reads_back { IfOk result (λ text. bytes_in (string_bytes text) ≡ Some bytes.now) }
+{
+    hex::encode(alloc, bytes)
+}
+
+/// The bytes of a word of digits, in either case.
+pub fn bytes(alloc: Global, word: &[u8]) -> Result<Option<Vec<u8>>, AllocError>
+    ensures { IfOk result (λ o. option_map (λ v. v.items) o ≡ bytes_in word.now) }
+{
+    match hex::decode(alloc, word) {
+        Ok(bytes) => Ok(Some(bytes)),
+        Err(FromHexError::OutOfMemory) => Err(AllocError),
+        Err(_) => Ok(None),
+    }
+}
+
+/// A frame's bytes as digits.
+pub fn frame_digits(alloc: Global, frame: &Frame) -> Result<String, AllocError>
+    ensures digits { IfOk result (λ text. string_bytes text ≡ frame_digits frame.now) }
+    ensures reads_back { IfOk result (λ text. IsFrameWord (string_bytes text) (said.Spelled frame.now)) }
+{
+    let mut bytes = [0; MAX_LENGTH];
+    let length = encode(frame, &mut bytes);
+    digits(alloc, &bytes[..length])
+}
+
+/// What a word says where a frame stands. Takes no memory.
+pub fn frame_word(word: &[u8]) -> FrameWord
+    ensures { IsFrameWord word.now result }
+{
+    if word.len() > 2 * MAX_LENGTH {
+        return longer_word(word);
+    }
+    let half = word.len() / 2;
+    let mut bytes = [0; MAX_LENGTH];
+    let room = &mut bytes[..half];
+    if hex::decode_to_slice(word, room).is_err() {
+        return FrameWord::NoDigits;
+    }
+    match decode(room) {
+        Ok(frame) => FrameWord::Spelled(frame),
+        Err(_) => FrameWord::NoFrame,
+    }
+}
+
+/// The same, for more digits than a frame can have.
+#[tactic(auto, using(crate::proofs::DigitWords::odd_digits, crate::proofs::DigitWords::other_digits, crate::proofs::DigitWords::longer_digits))]
+fn longer_word(word: &[u8]) -> FrameWord
+    requires { 2 * MAX_LENGTH < length word.now }
+    ensures { IsFrameWord word.now result }
+{
+    if word.len() % 2 == 1 {
+        return FrameWord::NoDigits;
+    }
+    if are_digits(word) {
+        FrameWord::NoFrame
+    } else {
+        FrameWord::NoDigits
+    }
+}
+
+fn are_digits(word: &[u8]) -> bool
+    ensures { result ≡ list_all is_hex_digit word.now }
+{
+    word.iter().all(|c| is_digit(*c))
+}
+
+fn is_digit(c: u8) -> bool
+    ensures { result ≡ is_hex_digit c }
+{
+    matches!(c, b'0'..=b'9' | b'a'..=b'f' | b'A'..=b'F')
+}

@@ -1,0 +1,73 @@
+//! The words of offices, records and numbers.
+
+ghost use Rattle.std.specs.Prelude.{◌≡◌};
+ghost use Rattle.std.specs.Str.{bytes_eq};
+ghost use Rattle.run_words.specs.Words.{office_by, record_by, count_by, office_name, record_name};
+
+use office_map::text::{name, number};
+use office_map::{OfficeId, Plan, RecordId};
+
+/// Whether a word is this text.
+pub fn is(word: &[u8], text: &str) -> bool
+    ensures { result ≡ bytes_eq word.now text.now }
+{
+    word == text.as_bytes()
+}
+
+/// The office that a word names.
+pub fn office_by(plan: &Plan, word: &[u8]) -> Option<OfficeId>
+    ensures { result ≡ office_by plan.now word.now }
+{
+    plan.office_named(name(word)?)
+}
+
+/// The record that a word names.
+pub fn record_by(plan: &Plan, word: &[u8]) -> Option<RecordId>
+    ensures { result ≡ record_by plan.now word.now }
+{
+    plan.record_named(name(word)?)
+}
+
+/// A number from 1 to the most.
+pub fn count_by(most: u16, word: &[u8]) -> Option<u16>
+    ensures { result ≡ count_by most word.now }
+{
+    let n = number(word)?;
+    if n < 1 || n > u64::from(most) {
+        return None;
+    }
+    Some(n as u16)
+}
+
+/// The same, where the most is greater.
+pub fn great_count_by(most: u32, word: &[u8]) -> Option<u32>
+    ensures { result ≡ count_by most word.now }
+{
+    let n = number(word)?;
+    if n < 1 || n > u64::from(most) {
+        return None;
+    }
+    Some(n as u32)
+}
+
+/// An office's name, or nothing where the plan has no such office.
+pub fn office_name(plan: &Plan, id: OfficeId) -> &str
+    ensures { result.now ≡ office_name plan.now id }
+{
+    if id.index() < plan.offices() {
+        plan.office_name(id)
+    } else {
+        ""
+    }
+}
+
+/// A record's name, or nothing where the plan has no such record.
+pub fn record_name(plan: &Plan, id: RecordId) -> &str
+    ensures { result.now ≡ record_name plan.now id }
+{
+    if id.index() < plan.records() {
+        plan.record_name(id)
+    } else {
+        ""
+    }
+}
