@@ -1,0 +1,10 @@
+mod Frames
+mod SentFrames
+mod EntriesTold
+mod AcceptedEvents
+mod Furthest
+mod Merging
+mod Pushing
+mod Limits
+mod Ending
+mod Rounds

@@ -1,0 +1,4 @@
+pub mod Weaving
+pub mod Given
+pub mod Laws
+pub mod refinement
