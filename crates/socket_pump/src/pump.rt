@@ -70,10 +70,11 @@ impl Model for Pump {
     ghost invariant = { λ p. p.me < length p.plan.offices };
 }
 
-/// Whom an office heard in a turn.
+/// Whom an office heard in a turn: of each number whether, and one more than the greatest of them.
 #[derive(Clone, Copy)]
 struct Senders {
     heard: [bool; 16],
+    end: usize,
 }
 
 impl Pump {
@@ -118,7 +119,10 @@ impl Pump {
             (λ f. Stage W.tells pass.old.tag desk.now.key (last_of self.old.lasts) now pass.old (W.account wire.old) f (W.account wire.new) pass.new (last_of self.new.lasts)) }
     {
         links_only_grow();
-        let mut senders = Senders { heard: [false; 16] };
+        let mut senders = Senders {
+            heard: [false; 16],
+            end: 0,
+        };
         let (taken, refused) = match hear(rt, wire, desk, pass, &mut senders) {
             Ok(counts) => counts,
             Err(fault) => return Err(fault),
@@ -202,12 +206,12 @@ impl Pump {
             (λ f. (made : List Made) × BrokeTelling W.tells pass.old.tag desk.now.key pass.old (W.account wire.old) f (W.account wire.new) pass.new made × AreCounts made) }
     {
         let mut sent = 0;
-        for k in 0..self.plan.offices() {
+        for k in 0..senders.end.min(self.plan.offices()) {
             let v = OfficeId::new(k as u8);
-            if !self.plan.are_neighbours(self.me, v) {
+            if !senders.heard[v.index()] {
                 continue;
             }
-            if !senders.heard[v.index()] {
+            if !self.plan.are_neighbours(self.me, v) {
                 continue;
             }
             match send_count(rt, wire, desk, pass, v) {
@@ -427,8 +431,10 @@ impl Senders {
         ) else {
             return;
         };
-        if let Some(heard) = self.heard.get_mut(usize::from(frame.from())) {
+        let from = usize::from(frame.from());
+        if let Some(heard) = self.heard.get_mut(from) {
             *heard = true;
+            self.end = self.end.max(from + 1);
         }
     }
 }
