@@ -117,6 +117,11 @@ abbrev pub run_of : World → List WorldEvent → World
 run_of w [] = w
 run_of w (e ∷ es) = run_of (happens w e).1 es
 
+-- each event is accepted where it stands
+abbrev pub AreAccepted : World → List WorldEvent → Type 0
+AreAccepted w [] = Unit {0}
+AreAccepted w (e ∷ es) = IsOk (happens w e).0 × AreAccepted (happens w e).1 es
+
 abbrev pub replies_of : World → List WorldEvent → List (Result Reply WorldRefusal)
 replies_of w [] = []
 replies_of w (e ∷ es) = (happens w e).0 ∷ replies_of (happens w e).1 es

@@ -20,9 +20,9 @@ use Rattle.frame_world.specs.declared.event.WorldEvent.{WorldEvent}
 use Rattle.frame_world.specs.declared.event.WorldEvent.TheVariants as happening
 use Rattle.frame_world.specs.declared.refusal.WorldRefusal.{WorldRefusal}
 use Rattle.frame_world.specs.declared.refusal.WorldRefusal.TheVariants as refusal
-use Rattle.frame_world.specs.Worlds.{World, Answer, silent, opening, site_at, office_at, frames_of, finished_by, told, handed, delivered, happens, run_of}
+use Rattle.frame_world.specs.Worlds.{World, Answer, silent, opening, site_at, office_at, frames_of, finished_by, told, handed, delivered, happens, run_of, AreAccepted}
 use Rattle.frame_world.proofs.Steps.{State, IsSeated, seated_opening, state_opening, happens_leaves}
-use Rattle.journal_weave.specs.Weaving.{entries_at, AreAccepted}
+use Rattle.journal_weave.specs.Weaving.{entries_at}
 use Rattle.journal_weave.specs.Laws.{IsBehind}
 use Rattle.journal_weave.specs.refinement.Following.{Gives}
 use Rattle.journal_weave.proofs.Frames.{AreAmong, nothing_at, get_push, get_right, are_among_themselves, among_left}

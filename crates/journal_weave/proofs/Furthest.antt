@@ -8,8 +8,8 @@ use Rattle.office_map.specs.PlanValue.{PlanValue}
 use Rattle.site_core.specs.declared.event.Entry.{Entry}
 use Rattle.site_core.specs.declared.reply.Reply.{Reply}
 use Rattle.frame_world.specs.declared.event.WorldEvent.{WorldEvent}
-use Rattle.frame_world.specs.Worlds.{World, opening, site_at, frames_of, happens, run_of}
-use Rattle.journal_weave.specs.Weaving.{untagged, entries_at, AreAccepted}
+use Rattle.frame_world.specs.Worlds.{World, opening, site_at, frames_of, happens, run_of, AreAccepted}
+use Rattle.journal_weave.specs.Weaving.{untagged, entries_at}
 use Rattle.journal_weave.specs.Laws.{IsBehind, NoneGoesFurther}
 use Rattle.journal_weave.specs.refinement.Following.{Gives}
 use Rattle.journal_weave.proofs.Frames.{AreAmong, nothing_at, at_seam, both_among}

@@ -10,9 +10,9 @@ use Rattle.site_core.specs.declared.event.Event.TheVariants as event
 use Rattle.site_core.specs.declared.event.Entry.{Entry}
 use Rattle.site_core.specs.Journals.{Site}
 use Rattle.frame_world.specs.declared.event.WorldEvent.{WorldEvent}
-use Rattle.frame_world.specs.Worlds.{World, opening, site_at, frames_of, handed, delivered, frame_at, happens, run_of}
+use Rattle.frame_world.specs.Worlds.{World, opening, site_at, frames_of, handed, delivered, frame_at, happens, run_of, AreAccepted}
 use Rattle.frame_world.proofs.Steps.{seated}
-use Rattle.journal_weave.specs.Weaving.{untagged, entries_at, AreAccepted, GoesAlong}
+use Rattle.journal_weave.specs.Weaving.{untagged, entries_at, GoesAlong}
 use Rattle.journal_weave.specs.Laws.{CanGoOn}
 use Rattle.journal_weave.specs.refinement.Following.{site_of, Gives}
 use Rattle.journal_weave.specs.refinement.Merging.{IsEventAt, CannotCome}

@@ -9,9 +9,9 @@ use Rattle.office_map.specs.PlanValue.{PlanValue}
 use Rattle.frame_codec.specs.Frame.{Fields}
 use Rattle.site_core.specs.declared.event.Entry.{Entry}
 use Rattle.frame_world.specs.declared.event.WorldEvent.{WorldEvent}
-use Rattle.frame_world.specs.Worlds.{opening, run_of}
+use Rattle.frame_world.specs.Worlds.{opening, run_of, AreAccepted}
 use Rattle.journal_weave.specs.declared.merge.Merge.{Merge}
-use Rattle.journal_weave.specs.Weaving.{untagged, entries_at, AreAccepted}
+use Rattle.journal_weave.specs.Weaving.{untagged, entries_at}
 use Rattle.journal_weave.specs.refinement.Following.{AreLimits}
 use Rattle.journal_weave.specs.refinement.Merging.{IsEventAt, Knows, IsPushed, IsMerged}
 use Rattle.journal_weave.proofs.AcceptedEvents.{nothing_told}

@@ -1,9 +1,9 @@
 -- Which schedules are woven from what offices tell: what each office accepted in them, with its replies, is what it tells.
-use Rattle.std.specs.Prelude.{◌≡◌, ℕ, List, [], ◌∷◌, ◌++◌, map, IsOk}
+use Rattle.std.specs.Prelude.{◌≡◌, ℕ, List, ◌++◌, map}
 use Rattle.office_map.specs.PlanValue.{PlanValue}
 use Rattle.site_core.specs.declared.event.Entry.{Entry}
 use Rattle.frame_world.specs.declared.event.WorldEvent.{WorldEvent}
-use Rattle.frame_world.specs.Worlds.{World, opening, site_at, happens, run_of}
+use Rattle.frame_world.specs.Worlds.{World, opening, site_at, run_of, AreAccepted}
 
 -- an entry without its tag: a world hands in each event with the tag 0
 abbrev pub untagged : Entry → Entry
@@ -12,11 +12,6 @@ untagged x = record { tag = 0; event = x.event; reply = x.reply }
 -- what an office of a world accepted; the entry of an arrival has the frame
 abbrev pub entries_at : World → ℕ → List Entry
 entries_at w a = (site_at w a).entries
-
--- each event is accepted where it stands
-abbrev pub AreAccepted : World → List WorldEvent → Type 0
-AreAccepted w [] = Unit {0}
-AreAccepted w (e ∷ es) = IsOk (happens w e).0 × AreAccepted (happens w e).1 es
 
 -- every event is accepted, and what each office accepted is what it tells
 pub record IsWoven (plan : PlanValue) (told : ℕ → List Entry) (events : List WorldEvent) : Type 0 where

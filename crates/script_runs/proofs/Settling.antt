@@ -21,14 +21,14 @@ use Rattle.frame_world.specs.declared.refusal.WorldRefusal.{WorldRefusal}
 use Rattle.frame_world.specs.declared.refusal.WorldRefusal.TheVariants as refusal
 use Rattle.frame_world.specs.declared.next_step.NextStep.{NextStep}
 use Rattle.frame_world.specs.declared.next_step.NextStep.TheVariants as next
-use Rattle.frame_world.specs.Worlds.{World, Answer, opening, site_at, silent, told, happens}
+use Rattle.frame_world.specs.Worlds.{World, Answer, opening, site_at, silent, told, happens, AreAccepted}
 use Rattle.frame_world.specs.Worlds as worlds
 use Rattle.frame_world.specs.Headline.{Always}
 use Rattle.frame_world.specs.Standstill.{next_step, place_of, AllAreFinished, first_office, rule_at, message_from, HasRoom, IsStep, MayDo, IsNextMessage, IsSentAndTaken, NeverStuck, RulesAreDone, MessagesAreTaken}
 use Rattle.script_runs.specs.declared.said.Said.TheVariants.{Replied, Rules, Settled, Open}
 use Rattle.script_runs.specs.Runs.{Told, settled, by_step, further, stepped, at_most}
 use Rattle.script_runs.specs.Runs as runs
-use Rattle.script_runs.specs.Settling.{events_of, AreAccepted, IsRefused, Lead, Ends, WorldsSettleByTheirNextSteps}
+use Rattle.script_runs.specs.Settling.{events_of, IsRefused, Lead, Ends, WorldsSettleByTheirNextSteps}
 
 -- ---- worlds that events lead to
 

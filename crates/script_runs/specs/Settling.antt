@@ -6,7 +6,7 @@ use Rattle.frame_world.specs.declared.event.WorldEvent.TheVariants as happening
 use Rattle.frame_world.specs.declared.refusal.WorldRefusal.{WorldRefusal}
 use Rattle.frame_world.specs.declared.next_step.NextStep.{NextStep}
 use Rattle.frame_world.specs.declared.next_step.NextStep.TheVariants as next
-use Rattle.frame_world.specs.Worlds.{World, happens}
+use Rattle.frame_world.specs.Worlds.{World, happens, AreAccepted}
 use Rattle.frame_world.specs.Worlds as worlds
 use Rattle.frame_world.specs.Headline.{IsReached}
 use Rattle.frame_world.specs.Standstill.{next_step, place_of, AllAreFinished, HasRoom}
@@ -19,11 +19,6 @@ abbrev pub events_of : World → NextStep → List WorldEvent
 events_of w (next.Rule a r) = happening.Do a r ∷ []
 events_of w (next.Message a b number) = happening.Send a b (place_of w a b number) ∷ happening.Deliver (suc (length w.frames)) ∷ []
 events_of w next.AllFinished = []
-
--- events that are accepted, one after the other
-abbrev pub AreAccepted : World → List WorldEvent → Type 0
-AreAccepted w [] = Unit {0}
-AreAccepted w (e ∷ es) = IsOk (happens w e).0 × AreAccepted (happens w e).1 es
 
 -- events of which one is refused so, after those before it were accepted; and the world then
 abbrev pub IsRefused : World → List WorldEvent → WorldRefusal → World → Type 0

@@ -9,10 +9,10 @@ use Rattle.site_core.specs.declared.event.Entry.{Entry}
 use Rattle.site_core.specs.declared.reply.Reply.{Reply}
 use Rattle.frame_world.specs.declared.event.WorldEvent.{WorldEvent}
 use Rattle.frame_world.specs.declared.event.WorldEvent.TheVariants as happening
-use Rattle.frame_world.specs.Worlds.{opening, frames_of, run_of}
+use Rattle.frame_world.specs.Worlds.{opening, frames_of, run_of, AreAccepted}
 use Rattle.journal_weave.specs.declared.sent.SentFrames.{SentFrames}
 use Rattle.journal_weave.specs.declared.merge.Merge.{Merge}
-use Rattle.journal_weave.specs.Weaving.{untagged, entries_at, AreAccepted}
+use Rattle.journal_weave.specs.Weaving.{untagged, entries_at}
 
 -- ---- events of offices in a world
 
