@@ -1,6 +1,6 @@
 -- A run that is one step longer, and a rule more of an office.
-use Rattle.std.proofs.Common.{◌≡◌, ℕ, zero, suc, ◌+◌, ◌-◌, ◌<◌, ◌≤◌, Bool, true, false, cond, List, [], ◌∷◌, ◌++◌, length, take, get_or, Option, None, Some, Result, Ok, Err, refl, sym, ap, ap₂, ◌∙◌, inl, inr, ⊎_elim, arith}
-use Rattle.std.specs.Prelude.{nat_lt, slice_get}
+use Rattle.std.proofs.Common.{◌≡◌, ℕ, zero, suc, ◌+◌, ◌-◌, ◌<◌, ◌≤◌, Bool, true, false, cond, List, [], ◌∷◌, ◌++◌, length, take, get_or, Option, None, Some, Result, Ok, Err, refl, sym, ap, ap₂, subst, ◌∙◌, inl, inr, ⊎_elim, arith}
+use Rattle.std.specs.Prelude.{nat_lt, slice_get, IsOk}
 use Rattle.std.specs.List.{flat_map}
 use Rattle.std.proofs.lemmas.Bool.Decides.{nat_tests}
 use Rattle.std.proofs.lemmas.List.{take_more}
@@ -22,7 +22,9 @@ use Rattle.frame_world.specs.declared.refusal.WorldRefusal.{WorldRefusal}
 use Rattle.frame_world.specs.declared.refusal.WorldRefusal.TheVariants as refusal
 use Rattle.frame_world.specs.Worlds.{World, Answer, site_at, office_at, told, handed, delivered, happens, OrMemory}
 use Rattle.frame_world.specs.declared.next_step.NextStep.{NextStep}
-use Rattle.frame_world.specs.Standstill.{next_step}
+use Rattle.frame_world.specs.declared.next_step.NextStep.TheVariants as next
+use Rattle.frame_world.specs.Standstill.{next_step, place_of}
+use Rattle.world_schedule.specs.Resting.{Resting, RestIn, RestAfter}
 use Rattle.script_runs.specs.declared.event.ScriptEvent.{ScriptEvent}
 use Rattle.script_runs.specs.declared.said.Said.{Said}
 use Rattle.script_runs.specs.declared.said.Said.TheVariants.{Rules}
@@ -198,3 +200,22 @@ step_done w v v' done n step x same lt is h = go (stepped v step) (ap (stepped v
         let all : a ≡ (Ok x, v') = ap₂ (λ y u. (y, u)) (sym t.0) (sym t.1) in
         same ∙ one_step v done n lt ∙ ap (by_step (λ u. settled u (done + 1) (n - (done + 1))) v done) (sym e) ∙ ap (further (λ u. settled u (done + 1) (n - (done + 1)))) all)
         k
+
+-- who is known to have nothing to do still has nothing
+pub still_resting : (v v' : World) (step : NextStep) (x : Reply) (r : Resting) → AnswersStep v (stepped v step) (Some (Ok x)) v' → RestAfter v step r → RestIn v' r
+still_resting v v' (next.Rule a rule) x r h rest = ⊎_elim
+    (λ m. absurd (let both : ◌≡◌ {A = Result Reply WorldRefusal} (Ok x) (Err (refusal.Office refused.Memory)) = m in cc))
+    (λ t. subst (λ u. RestIn u r) (sym t.1) rest)
+    h
+still_resting v v' (next.Message a b number) x r h rest = by_made (happens v (happening.Send a b (place_of v a b number))) rest h
+  where
+    by_made : (y : Answer) → RestIn y.1 r × (IsOk y.0 → RestIn (happens y.1 (happening.Deliver (length y.1.frames))).1 r) → Answered (runs.delivered y) (Ok x) v' → RestIn v' r
+    by_made (Ok k, u) rests g = ⊎_elim
+        (λ m. absurd (let both : ◌≡◌ {A = Result Reply WorldRefusal} (Ok x) (Err (refusal.Office refused.Memory)) = m in cc))
+        (λ t. subst (λ z. RestIn z r) (sym t.1) (rests.1 refl))
+        g
+    by_made (Err k, u) rests g = ⊎_elim
+        (λ m. absurd (let both : ◌≡◌ {A = Result Reply WorldRefusal} (Ok x) (Err (refusal.Office refused.Memory)) = m in cc))
+        (λ t. absurd (let both : ◌≡◌ {A = Result Reply WorldRefusal} (Ok x) (Err k) = t.0 in cc))
+        g
+still_resting v v' next.AllFinished x r h rest = absurd h

@@ -27,7 +27,7 @@ use site_core::Reply;
 use std::alloc::{AllocError, Global};
 use token_channel::ChannelFault;
 use window_link::LinkFault;
-use world_schedule::World;
+use world_schedule::{Resting, World};
 
 /// A line for each event of a run from the plan's opening, and then the report of the world that it leads to: the finished
 /// sessions in finishing order, how many submitted ones haven't finished, and the records' values. The sessions that
@@ -131,16 +131,17 @@ fn advance(world: &mut World, office: OfficeId, n: u16) -> Result<Said, WorldRef
 fn settle(world: &mut World, most: u32) -> Result<Said, WorldRefusal>
     ensures { Says (does world.old (scripts.Settles most)) result world.new }
 {
+    let mut resting = Resting::new();
     let mut done = 0;
     while done < most {
-        let step = world.next_step();
+        let step = world.next_step_asking(&mut resting);
         match take_step(world, step) {
             None => return Ok(Said::Settled(done)),
             Some(Err(refusal)) => return Err(refusal),
             Some(Ok(_)) => done += 1,
         }
     }
-    Ok(at_most(done, world.next_step()))
+    Ok(at_most(done, world.next_step_asking(&mut resting)))
 }
 
 /// What is said where so many steps were done, all that were asked for, and this one is next.

@@ -8,4 +8,6 @@ pub mod Finishing
 pub mod BottlesOnTheWay
 pub mod BottleValues
 pub mod Headline
+pub mod LinkPeers
+pub mod RestingOffices
 pub mod NextSteps

@@ -16,23 +16,28 @@
 //!   [`World::outcome`] how one ended; the world keeps no program and no outcome a second time. [`World::value_of`] reads
 //!   a record's value off its bottle: where an office holds it, or else in the message that carries it.
 //! - [`World::next_step`] tells what comes next, left to itself: a rule that may be done, or a message that is next, as long
-//!   as a session is left. So no schedule leads to a world that stands still.
+//!   as a session is left. So no schedule leads to a world that stands still. [`World::next_step_asking`] tells the same
+//!   over a [`Resting`], which knows of some offices that they have nothing to do: who takes step after step asks again
+//!   only the one that the last step changed.
 //!
 //! `Memory` is answered only where the event would be accepted, and then nothing changed. No reader looks through all
 //! frames, entries or sessions.
 //!
-//! Definitions: `specs/Readers.antt` for what readers tell; all else is `frame_world`'s. What ties the code to them is in
+//! Definitions: `specs/Readers.antt` for what readers tell, `specs/Resting.antt` for what is known of offices that have
+//! nothing to do; all else is `frame_world`'s. What ties the code to them is in
 //! `specs/refinement`. That a finished session is found by its ticket is proved in `proofs/FinishedSessions.antt`, each
 //! event in `proofs/WorldSteps.antt` and `proofs/EventSteps.antt`, runs in `proofs/Runs.antt`, the one bottle in
-//! `proofs/BottleValues.antt`.
+//! `proofs/BottleValues.antt`, and that who rests still rests after a step in `proofs/RestingOffices.antt`.
 #![tactic(auto)]
 
 mod finished;
 mod happening;
 mod next;
 mod opening;
+mod resting;
 mod values;
 mod world;
 
 pub use crate::finished::Finished;
+pub use crate::resting::Resting;
 pub use crate::world::{Stopped, World};

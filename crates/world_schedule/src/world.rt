@@ -15,9 +15,11 @@ ghost use Rattle.frame_world.specs.Tickets.{HaveTheirTickets, TicketsRise, Tells
 ghost use Rattle.dining_core.specs.Worlds.{HasNoRing};
 ghost use Rattle.serial_replay.specs.Serial.{start_map, map_of};
 ghost use Rattle.world_schedule.specs.Readers.{unfinished_in, listed_as};
+ghost use Rattle.world_schedule.specs.Resting.{RestIn, RestAfter};
 
 use crate::finished::Finished;
 use crate::opening::offices_of;
+use crate::resting::Resting;
 use crate::values::bottle_between;
 use crate::{happening, next};
 use bottle_values::Value;
@@ -361,19 +363,41 @@ impl World {
         ensures stands { IsStep self.now result }
         ensures order { HasNoRing self.now.plan (tables_of (pairs_at self.now)) }
     {
+        self.next_step_asking(&mut Resting::new())
+    }
+
+    /// The same, asking only the offices that aren't known to rest. What is known then is known of the world after the step.
+    pub fn next_step_asking(&self, resting: &mut Resting) -> NextStep
+        requires { RestIn self.now resting.old }
+        ensures step { result ≡ next_step self.now }
+        ensures stands { IsStep self.now result }
+        ensures order { HasNoRing self.now.plan (tables_of (pairs_at self.now)) }
+        ensures rest { RestAfter self.now result resting.new }
+    {
+        self.is_serial();
+        let step = self.found_step(resting);
+        next::wake(self, &step, resting);
+        step
+    }
+
+    fn found_step(&self, resting: &mut Resting) -> NextStep
+        requires { RestIn self.now resting.old }
+        ensures step { result ≡ next_step self.now }
+        ensures stands { IsStep self.now result }
+        ensures rest { RestIn self.now resting.new }
+    {
         never_stuck();
-        precedence_has_no_ring();
         // Steps hold rules, and the check finds that type of another crate by a local of it.
         let _rule: Option<Rule> = None;
         let _ = &self.plan;
         if self.unfinished() == 0 {
             return NextStep::AllFinished;
         }
-        if let Some(rule) = next::next_rule(self) {
+        if let Some(rule) = next::next_rule(self, resting) {
             return rule;
         }
         // A session is left, so where no rule is next a message is.
-        next::next_message(self).unwrap_or(NextStep::AllFinished)
+        next::next_message(self, resting).unwrap_or(NextStep::AllFinished)
     }
 
     /// Where the message of that number, which is next for a neighbour, stands among those that wait for it, from 1.

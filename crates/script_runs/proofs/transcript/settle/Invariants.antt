@@ -1,4 +1,5 @@
 use Rattle.std.proofs.Common.{◌≡◌, ◌≤◌, ◌-◌}
+use Rattle.world_schedule.specs.Resting.{RestIn}
 use Rattle.script_runs.specs.Runs.{settled}
 use Rattle.script_runs.proofs.transcript.settle.Given as goal
 
@@ -6,6 +7,7 @@ abbrev pub invariant-loop-done : goal.invariant-loop-done
 invariant-loop-done l = record {
   few : l.done ≤ l.most;
   same : settled l.initial.world 0 l.most ≡ settled l.world l.done (l.most - l.done);
+  rest : RestIn l.world l.resting;
 }
 
 abbrev pub decreases-loop-done : goal.decreases-loop-done

@@ -4,13 +4,13 @@ use Rattle.frame_world.specs.Standstill.{message_from}
 use Rattle.world_schedule.proofs.NextSteps.{found_in, none_yet, none_in}
 use Rattle.world_schedule.proofs.next.next_message.Goals as goal
 
-pub returns-in-Some : goal.returns-in-Some
-returns-in-Some c =
+pub returns-in-Some-clause-step : goal.returns-in-Some-clause-step
+returns-in-Some-clause-step c =
     let w = c.args.world.now in
     let size : c.offices-a-end.result ≡ length w.plan.offices = c.offices-a-end.ensures.count ∙ ap (λ (p : PlanValue). length p.offices) c.plan.ensures in
     let test = c.loop-a-test.true in
     let lt : c.loop-a.a < length w.plan.offices = omega (arith, size, test) in
-    sym (found_in (message_from w) (length w.plan.offices) c.loop-a.a c.loop-a.invariant c.new.result c.in-Some.message lt c.new.ensures (sym c.message_from.ensures ∙ c.in-Some.is))
+    sym (found_in (message_from w) (length w.plan.offices) c.loop-a.a c.loop-a.invariant.none c.new.result c.in-Some.message lt c.new.ensures (sym c.message_at.ensures.step ∙ c.in-Some.is))
 
 pub loop-a-preserved : goal.loop-a-preserved
 loop-a-preserved c =
@@ -18,12 +18,15 @@ loop-a-preserved c =
     let size : c.offices-a-end.result ≡ length w.plan.offices = c.offices-a-end.ensures.count ∙ ap (λ (p : PlanValue). length p.offices) c.plan.ensures in
     let test = c.loop-a-test.true in
     let lt : c.loop-a.a < length w.plan.offices = omega (arith, size, test) in
-    none_yet (message_from w) (length w.plan.offices) c.loop-a.a c.loop-a.invariant c.new.result lt c.new.ensures (sym c.message_from.ensures ∙ c.in_default.is)
+    record {
+      none = none_yet (message_from w) (length w.plan.offices) c.loop-a.a c.loop-a.invariant.none c.new.result lt c.new.ensures (sym c.message_at.ensures.step ∙ c.in_default.is);
+      rest = c.message_at.ensures.rest;
+    }
 
-pub returns : goal.returns
-returns c =
+pub returns-clause-step : goal.returns-clause-step
+returns-clause-step c =
     let w = c.args.world.now in
     let size : c.offices-a-end.result ≡ length w.plan.offices = c.offices-a-end.ensures.count ∙ ap (λ (p : PlanValue). length p.offices) c.plan.ensures in
     let test = c.loop-a-test.false in
     let le : length w.plan.offices ≤ c.loop-a.a = omega (arith, size, test) in
-    sym (none_in (message_from w) (length w.plan.offices) c.loop-a.a c.loop-a.invariant le)
+    sym (none_in (message_from w) (length w.plan.offices) c.loop-a.a c.loop-a.invariant.none le)

@@ -1,0 +1,73 @@
+//! Which offices have nothing to do.
+
+ghost use Rattle.std.specs.Prelude.{◌≡◌, ◌<◌, true, false, get_or, set};
+ghost use Rattle.frame_world.specs.Worlds.{World};
+ghost use Rattle.world_schedule.specs.Resting.{RestIn};
+
+use office_map::OfficeId;
+use std::marker::Model;
+
+/// Which offices had no rule next when they were last asked, and which had no message, so that they aren't asked again
+/// before they change.
+#[derive(Drop)]
+pub struct Resting {
+    rules: [bool; 16],
+    messages: [bool; 16],
+}
+
+impl Model for Resting {
+    ghost use Rattle.world_schedule.specs.Resting as specs;
+
+    ghost Value = { specs.Resting };
+
+    ghost view = { λ r. record { rules = r.rules; messages = r.messages } };
+}
+
+impl Resting {
+    /// None was asked: that is right of every world.
+    pub fn new() -> Resting
+        ensures { (w : World) → RestIn w result }
+    {
+        Resting {
+            rules: [false; 16],
+            messages: [false; 16],
+        }
+    }
+
+    pub(crate) fn has_no_rule(&self, office: OfficeId) -> bool
+        requires { office < 16 }
+        ensures { result ≡ get_or self.now.rules office false }
+    {
+        self.rules[office.index()]
+    }
+
+    pub(crate) fn has_no_message(&self, office: OfficeId) -> bool
+        requires { office < 16 }
+        ensures { result ≡ get_or self.now.messages office false }
+    {
+        self.messages[office.index()]
+    }
+
+    pub(crate) fn found_no_rule(&mut self, office: OfficeId)
+        requires { office < 16 }
+        ensures { self.new ≡ record { rules = set self.old.rules office true; messages = self.old.messages } }
+    {
+        self.rules[office.index()] = true;
+    }
+
+    pub(crate) fn found_no_message(&mut self, office: OfficeId)
+        requires { office < 16 }
+        ensures { self.new ≡ record { rules = self.old.rules; messages = set self.old.messages office true } }
+    {
+        self.messages[office.index()] = true;
+    }
+
+    /// It has changed, so it is asked again.
+    pub(crate) fn wake(&mut self, office: OfficeId)
+        requires { office < 16 }
+        ensures { self.new ≡ record { rules = set self.old.rules office false; messages = set self.old.messages office false } }
+    {
+        self.rules[office.index()] = false;
+        self.messages[office.index()] = false;
+    }
+}
