@@ -5,17 +5,20 @@
 //! lines above it, which were accepted. [`of_ring`] answers one for offices that precede one another in a ring, with the
 //! line of a pair whose fork may be turned.
 //!
+//! [`shown`] and [`events`] lend what is said of lines, words and events in any text.
+//!
 //! Nothing is decided here, and no clause speaks of a sentence: tests pin them. What is proved is that nothing but memory
 //! stops a function.
 #![tactic(auto)]
 
+pub mod events;
 mod measures;
 mod place;
 mod plan;
 mod ring;
 mod script;
 mod sessions;
-mod shown;
+pub mod shown;
 
 pub use plan::of_plan;
 pub use ring::of_ring;

@@ -1,5 +1,6 @@
 //! What is said of a refused script.
 
+use crate::events::{say_no_message, say_no_ticket, say_rule};
 use crate::shown::{
     Quoted, Text, line_at, say_expected, say_no_office, say_other_text, say_unreadable, say_word,
     word_at,
@@ -7,10 +8,6 @@ use crate::shown::{
 use office_map::Plan;
 use office_map::text::{name, number, words};
 use std::alloc::{AllocError, Global};
-
-/// The rules, with what each is done to.
-const RULES: &str =
-    "start, hungry, askfork OFFICE, givefork OFFICE, eat, leave, askbottle RECORD, givebottle RECORD, drink, work N and finish";
 
 /// The greatest numbers of a script: bytes of its text, rules of an `advance`, steps of a `settle`, instructions of a `work`.
 #[derive(Clone, Copy)]
@@ -144,9 +141,7 @@ fn say_withdraw(
     if !is_office(refused.plan, words[1]) {
         return say_no_office(said, refused.plan, words[1]);
     }
-    let word = Quoted(words[2]);
-    let last = u32::MAX;
-    write!(said, "{word} is no ticket, which is 1 to {last}")
+    say_no_ticket(said, words[2])
 }
 
 fn say_settle(said: &mut String, refused: Refused<'_>, words: &[&[u8]]) -> Result<(), AllocError> {
@@ -168,42 +163,7 @@ fn say_send(said: &mut String, refused: Refused<'_>, words: &[&[u8]]) -> Result<
     if !is_office(refused.plan, words[2]) {
         return say_no_office(said, refused.plan, words[2]);
     }
-    say_word(
-        said,
-        "",
-        words[3],
-        " is no number of a message that waits, which is counted from 1, or 0 for the count alone",
-    )
-}
-
-/// What a rule is done to, or nothing, doesn't fit it.
-fn say_rule(said: &mut String, rule: &[u8], argument: &[u8], most: u16) -> Result<(), AllocError> {
-    let (article, thing) = match rule {
-        b"start" | b"hungry" | b"eat" | b"leave" | b"drink" | b"finish" => {
-            return say_word(said, "nothing may follow the rule, and not ", argument, "");
-        }
-        b"askfork" | b"givefork" => ("an", "office"),
-        b"askbottle" | b"givebottle" => ("a", "record"),
-        b"work" => ("a", "number of instructions"),
-        _ => return say_no_rule(said, rule),
-    };
-    if argument.is_empty() {
-        let rule = Quoted(rule);
-        return write!(said, "the rule {rule} needs {article} {thing} after it");
-    }
-    let argument = Quoted(argument);
-    match rule {
-        b"work" => write!(said, "{argument} is no {thing}, which is 1 to {most}"),
-        _ => write!(
-            said,
-            "{argument} is no {thing} of the plan, and the rule needs one"
-        ),
-    }
-}
-
-fn say_no_rule(said: &mut String, rule: &[u8]) -> Result<(), AllocError> {
-    say_word(said, "", rule, " is no rule; the rules are ")?;
-    said.push_str(RULES)
+    say_no_message(said, words[3])
 }
 
 fn is_office(plan: &Plan, word: &[u8]) -> bool {

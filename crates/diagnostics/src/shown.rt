@@ -11,7 +11,7 @@ const MOST: usize = 60;
 
 /// A word or a line, in quotes: of a long one its beginning, and of a byte that isn't printable ASCII its escape.
 #[derive(Clone, Copy)]
-pub(crate) struct Quoted<'a>(pub &'a [u8]);
+pub struct Quoted<'a>(pub &'a [u8]);
 
 impl fmt::Display for Quoted<'_> {
     fn fmt<W: fmt::Write>(&self, f: &mut fmt::Formatter<W>) -> fmt::Result {
@@ -46,8 +46,8 @@ impl<'a> Lines<'a> {
     }
 }
 
-/// The line of this number, from 1.
-pub(crate) fn line_at(text: &[u8], number: u64) -> Option<&[u8]> {
+/// The line of this number, from 1, without its end; none where the text has fewer.
+pub fn line_at(text: &[u8], number: u64) -> Option<&[u8]> {
     let mut lines = Lines { rest: text };
     for i in 0..text.len() {
         let line = lines.next()?;
@@ -59,12 +59,12 @@ pub(crate) fn line_at(text: &[u8], number: u64) -> Option<&[u8]> {
 }
 
 /// The word at this place, or no bytes where the line has no such word.
-pub(crate) fn word_at<'a>(words: &[&'a [u8]], at: usize) -> &'a [u8] {
+pub fn word_at<'a>(words: &[&'a [u8]], at: usize) -> &'a [u8] {
     if at < words.len() { words[at] } else { &[] }
 }
 
 /// Adds a word, in quotes, between two texts.
-pub(crate) fn say_word(
+pub fn say_word(
     said: &mut String,
     before: &str,
     word: &[u8],
@@ -75,8 +75,8 @@ pub(crate) fn say_word(
 }
 
 /// Adds what no line that says something may have, if it has it: a byte order mark, a comment after other words, or a byte
-/// that is neither a tab nor printable ASCII.
-pub(crate) fn say_unreadable(said: &mut String, line: &[u8]) -> Result<bool, AllocError> {
+/// that is neither a tab nor printable ASCII. The answer is whether it has.
+pub fn say_unreadable(said: &mut String, line: &[u8]) -> Result<bool, AllocError> {
     if let Some(mark) = byte_order_mark(line) {
         write!(
             said,
@@ -117,7 +117,7 @@ fn byte_order_mark(line: &[u8]) -> Option<&'static str> {
 }
 
 /// Adds that a word is no name.
-pub(crate) fn say_no_name(said: &mut String, word: &[u8]) -> Result<(), AllocError> {
+pub fn say_no_name(said: &mut String, word: &[u8]) -> Result<(), AllocError> {
     let word = Quoted(word);
     let more = MOST_LETTERS - 1;
     write!(
@@ -127,13 +127,13 @@ pub(crate) fn say_no_name(said: &mut String, word: &[u8]) -> Result<(), AllocErr
 }
 
 /// Adds the form that was expected, and the line that was found.
-pub(crate) fn say_expected(said: &mut String, line: &[u8], form: &str) -> Result<(), AllocError> {
+pub fn say_expected(said: &mut String, line: &[u8], form: &str) -> Result<(), AllocError> {
     let line = Quoted(line);
     write!(said, "expected {form}, and found {line}")
 }
 
 /// Adds that the plan has no such office, and the one that is spelled so but for capital letters.
-pub(crate) fn say_no_office(said: &mut String, plan: &Plan, word: &[u8]) -> Result<(), AllocError> {
+pub fn say_no_office(said: &mut String, plan: &Plan, word: &[u8]) -> Result<(), AllocError> {
     say_word(said, "the plan has no office ", word, "")?;
     for number in 0..plan.offices() {
         let name = plan.office_name(OfficeId::new(number as u8));
@@ -149,16 +149,17 @@ pub(crate) fn is_alike(a: &[u8], b: &[u8]) -> bool {
     a.len() == b.len() && a.iter().zip(b).all(|(x, y)| x.eq_ignore_ascii_case(y))
 }
 
-/// The texts that a command reads, in the order of its words.
+/// The texts that commands read.
 #[derive(Clone, Copy, PartialEq, Eq)]
-pub(crate) enum Text {
+pub enum Text {
     Plan,
     Sessions,
     Script,
+    Journal,
 }
 
-/// Adds, where a line of this text begins as one of another text does, how the texts are told apart.
-pub(crate) fn say_other_text(said: &mut String, read: Text, line: &[u8]) -> Result<(), AllocError> {
+/// Adds, where a line of the text that was read begins as one of another text does, how the texts are told apart.
+pub fn say_other_text(said: &mut String, read: Text, line: &[u8]) -> Result<(), AllocError> {
     let word = line
         .split(|b| *b == b' ' || *b == b'\t')
         .find(|w| !w.is_empty())
@@ -183,6 +184,7 @@ pub(crate) fn say_other_text(said: &mut String, read: Text, line: &[u8]) -> Resu
             Text::Script,
             "a script",
         ),
+        b"journal" => (Text::Journal, "a journal"),
         _ => return Ok(()),
     };
     if begun == read {

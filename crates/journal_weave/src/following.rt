@@ -1,6 +1,6 @@
 //! How far an office follows its journal.
 
-ghost use Rattle.std.specs.Prelude.{◌≡◌, ◌<◌, ◌↔◌, true, false, length, IfOk, IsTrue};
+ghost use Rattle.std.specs.Prelude.{◌≡◌, ◌<◌, ◌↔◌, [], true, false, length, IfOk, IsTrue};
 ghost use Rattle.site_core.specs.Journals.{noted};
 ghost use Rattle.journal_weave.specs.refinement.Following.{Gives, IsLimit};
 
@@ -19,9 +19,17 @@ pub(crate) fn followed(
     ensures { IfOk result (λ n. IsLimit plan.now me entries.now n) }
 {
     let mut office = Office::open(alloc, plan, me)?;
+    entries_given(&mut office, entries)
+}
+
+/// How many entries an office gives, one after another. It has given none yet.
+fn entries_given(office: &mut Office, entries: &[Entry]) -> Result<usize, AllocError>
+    requires { office.old.entries ≡ [] }
+    ensures { IfOk result (λ n. IsLimit office.old.plan office.old.me entries.now n) }
+{
     let mut done = 0;
     for entry in entries {
-        if !gives(&mut office, entry)? {
+        if !gives(office, entry)? {
             return Ok(done);
         }
         done += 1;

@@ -2,7 +2,7 @@
 
 use super::{Long, Row};
 
-pub static SESSIONS: [Row; 59] = [
+pub static SESSIONS: [Row; 60] = [
     (
         "session a\ngive 1\n",
         "the session of line 1 has no `end`",
@@ -37,6 +37,11 @@ pub static SESSIONS: [Row; 59] = [
         "give 1\n",
         "`give 1` stands outside of a session, and one begins with `session OFFICE`",
         "",
+    ),
+    (
+        "journal 1 run 42 office a\n",
+        "`journal 1 run 42 office a` stands outside of a session, and one begins with `session OFFICE`; ",
+        "it is a line of a journal: name the texts in the order of the command, and part those on one standard input by a line `---`",
     ),
     (
         "session a\nend\nend\n",

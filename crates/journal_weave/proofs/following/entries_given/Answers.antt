@@ -5,15 +5,15 @@ use Rattle.office_map.specs.PlanValue.{PlanValue}
 use Rattle.site_core.specs.Journals.{Site, noted}
 use Rattle.journal_weave.specs.refinement.Following.{site_of, Gives}
 use Rattle.journal_weave.proofs.EntriesTold.{site_next, follows_next, limit_at, limit_at_end}
-use Rattle.journal_weave.proofs.following.followed.Goals as goal
+use Rattle.journal_weave.proofs.following.entries_given.Goals as goal
 
 pub loop-entry-preserved : goal.loop-entry-preserved
 loop-entry-preserved c =
     let k = c.loop-entry.invariant in
     let x = c.entry-item.result in
     let i : ℕ = c.loop-entry.entry-index in
-    let plan : PlanValue = c.args.plan.now in
-    let a : ℕ = c.args.me in
+    let plan : PlanValue = c.args.office.now.plan in
+    let a : ℕ = c.args.office.now.me in
     let es = c.args.entries.now in
     let stands : slice_get es i ≡ Some x = slice_get-get_or es i x c.loop-entry-test.true ∙ ap Some (sym c.entry-item.is) in
     let g = c.in_ok-gives.ensures.given c.if-not-branch.false in
@@ -29,8 +29,8 @@ returns-then-not-branch c =
     let k = c.loop-entry.invariant in
     let x = c.entry-item.result in
     let i : ℕ = c.loop-entry.entry-index in
-    let plan : PlanValue = c.args.plan.now in
-    let a : ℕ = c.args.me in
+    let plan : PlanValue = c.args.office.now.plan in
+    let a : ℕ = c.args.office.now.me in
     let es = c.args.entries.now in
     let stands : slice_get es i ≡ Some x = slice_get-get_or es i x c.loop-entry-test.true ∙ ap Some (sym c.entry-item.is) in
     limit_at plan a es i c.loop-entry.done x k.counted c.loop-entry-test.true stands k.follows
@@ -41,4 +41,4 @@ returns c =
     let k = c.loop-entry.invariant in
     let es = c.args.entries.now in
     let end : ◌≡◌ {A = ℕ} c.loop-entry.entry-index (length es) = omega (arith, c.loop-entry-test.false, c.loop-entry.auto.entry-index-end) in
-    limit_at_end c.args.plan.now c.args.me es c.loop-entry.entry-index c.loop-entry.done k.counted end k.follows
+    limit_at_end c.args.office.now.plan c.args.office.now.me es c.loop-entry.entry-index c.loop-entry.done k.counted end k.follows

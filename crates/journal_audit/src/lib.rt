@@ -1,0 +1,20 @@
+//! Audits: of the journals that offices left, one text each, the report of the world whose record they are; or the entry that no
+//! schedule has.
+//!
+//! - [`Journals`] gathers the journals by office: [`Journals::read`] takes one text after the other, in any order, and refuses one
+//!   that is no journal, or whose office has one already (clause `refused`); [`Journals::missing`] tells the office that has none
+//!   (clause `lacks`), and where there is none [`Journals::into_given`] answers the list of them (clause `journals`).
+//! - [`audit`] weaves such a list into a schedule, and writes the report of the world to which it leads (clause `woven`), of which
+//!   the headline holds; or the line that names the entry (clause `unwoven`).
+//!
+//! Which texts are the journals of a plan's offices, and what a refusal says of them, is in `specs/Gathering.antt`; what is written
+//! in `specs.Findings.antt`, over what `journal_weave` calls woven.
+#![tactic(auto)]
+
+mod auditing;
+mod fault;
+mod journals;
+
+pub use crate::auditing::{Finding, audit};
+pub use crate::fault::GatherFault;
+pub use crate::journals::Journals;

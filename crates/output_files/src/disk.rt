@@ -1,0 +1,54 @@
+//! The files of the operating system.
+
+ghost use Rattle.std.specs.Prelude.{None, OnOk};
+ghost use Rattle.std.specs.Io.KnownBytes.{Appends};
+
+use crate::targets::Targets;
+use std::io::Write;
+use std::rt::Files;
+use std::{fs, io};
+
+/// The folders and files that a program was started among. What they have isn't known.
+#[derive(Drop)]
+pub struct Disk<'a, R: Files> {
+    rt: &'a R,
+}
+
+impl<'a, R: Files> Disk<'a, R> {
+    pub fn new(rt: &'a R) -> Disk<'a, R> {
+        Disk { rt }
+    }
+}
+
+impl<R: Files> Targets for Disk<'_, R> {
+    ghost written = { λ _. None };
+
+    fn make_folder(&mut self, name: &str) -> io::Result<()> {
+        match fs::create_dir(self.rt, name) {
+            Ok(()) => Ok(()),
+            Err(_) if is_folder(self.rt, name) => Ok(()),
+            Err(error) => Err(error),
+        }
+    }
+
+    /// A fault that the system tells only when a file is closed isn't told: it is asked for none then.
+    fn write_file(&mut self, name: &str, text: &[u8]) -> io::Result<()> {
+        let mut file = fs::create(self.rt, name)?;
+        write_whole(&mut file, text)
+    }
+}
+
+fn is_folder<R: Files>(rt: &R, name: &str) -> bool {
+    match fs::metadata(rt, name) {
+        Ok(found) => found.is_dir(),
+        Err(_) => false,
+    }
+}
+
+/// All of the text goes out, and what a writer holds back of it too.
+pub(crate) fn write_whole<W: Write>(writer: &mut W, text: &[u8]) -> io::Result<()>
+    ensures whole { OnOk result (Appends (W.contents writer.old) (W.contents writer.new) text.now) }
+{
+    writer.write_all(text)?;
+    writer.flush()
+}
