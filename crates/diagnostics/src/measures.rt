@@ -1,10 +1,10 @@
 //! How much a session costs and gives, counted on its lines.
 
 use crate::place::{keyword_in, second_word};
-use office_map::text::number;
 use session_language::keyword::Keyword;
 use session_language::lexer::{Piece, Pieces, Symbol};
 use std::alloc::{AllocError, Global};
+use text_lines::number;
 
 /// What a session or a part of it has.
 #[derive(Clone, Copy)]

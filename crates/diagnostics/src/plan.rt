@@ -5,10 +5,10 @@ use crate::shown::{
     say_word, word_at,
 };
 use office_map::limits::{FEWEST_OFFICES, MOST_OFFICES, MOST_PAIR_RECORDS, TEXT_LIMIT};
-use office_map::text::{is_name, words};
 use office_map::{PlanRefusal, PlanRule};
 use std::alloc::{AllocError, Global};
 use std::fmt;
+use text_lines::{is_name, words};
 
 const OFFICE: &str = "`office NAME ADDRESS`";
 

@@ -2,8 +2,8 @@
 
 use crate::shown::{Lines, word_at};
 use office_map::Ring;
-use office_map::text::{name, words};
 use std::alloc::{AllocError, Global};
+use text_lines::{name, words};
 
 /// A pair of the ring: the line that declares it, its ends as they stand there, and the end that its fork would start at,
 /// if it were turned.

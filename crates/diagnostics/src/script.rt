@@ -6,8 +6,8 @@ use crate::shown::{
     word_at,
 };
 use office_map::Plan;
-use office_map::text::{name, number, words};
 use std::alloc::{AllocError, Global};
+use text_lines::{name, number, words};
 
 /// The greatest numbers of a script: bytes of its text, rules of an `advance`, steps of a `settle`, instructions of a `work`.
 #[derive(Clone, Copy)]

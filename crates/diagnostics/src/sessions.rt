@@ -6,8 +6,6 @@ use crate::shown::{
     Quoted, Text, is_alike, say_expected, say_no_name, say_no_office, say_other_text,
     say_unreadable, say_word, word_at,
 };
-use office_map::limits::{MOST_LETTERS, NUMBERS_END};
-use office_map::text::{is_name, name, number};
 use office_map::{Plan, RecordId};
 use session_language::keyword::Keyword;
 use session_language::lexer::{Piece, Pieces, Symbol};
@@ -17,6 +15,8 @@ use session_language::limits::{
 };
 use session_language::{SessionRefusal, SessionRule};
 use std::alloc::{AllocError, Global};
+use text_lines::limits::{MOST_LETTERS, NUMBERS_END};
+use text_lines::{has_only_digits, is_name, name, number};
 
 /// What is said of the refusal of a text of sessions under this plan.
 pub fn of_sessions(
@@ -52,7 +52,7 @@ fn say_rule(said: &mut String, place: &Place<'_>, rule: SessionRule) -> Result<(
 
 fn say_syntax(said: &mut String, place: &Place<'_>) -> Result<(), AllocError> {
     let line = place.line;
-    if is_blank(line) {
+    if text_lines::first_word(line).is_none() {
         return say_no_end(said, place);
     }
     if say_unreadable(said, line)? {
@@ -88,10 +88,6 @@ fn say_syntax(said: &mut String, place: &Place<'_>) -> Result<(), AllocError> {
         }
         Keyword::Other => say_other(said, line),
     }
-}
-
-fn is_blank(line: &[u8]) -> bool {
-    line.iter().all(|b| *b == b' ' || *b == b'\t')
 }
 
 fn say_no_end(said: &mut String, place: &Place<'_>) -> Result<(), AllocError> {
@@ -306,12 +302,12 @@ fn say_form(said: &mut String, line: &[u8], form: &str) -> Result<(), AllocError
 }
 
 fn is_long_number(word: &[u8]) -> bool {
-    word.iter().all(|b| b.is_ascii_digit()) && number(word).is_none()
+    has_only_digits(word) && number(word).is_none()
 }
 
 /// Whether it is spelled as a name is, and no name because of its length.
 fn is_long_name(word: &[u8]) -> bool {
-    word.len() > MOST_LETTERS && !word.iter().all(|b| b.is_ascii_digit())
+    word.len() > MOST_LETTERS && !has_only_digits(word)
 }
 
 // ---- names

@@ -1,10 +1,10 @@
 //! Lines and words, as people are shown them.
 
-use office_map::limits::MOST_LETTERS;
-use office_map::text::first_line;
 use office_map::{OfficeId, Plan};
 use std::alloc::AllocError;
 use std::fmt;
+use text_lines::limits::MOST_LETTERS;
+use text_lines::{first_line, first_word, is_plain_byte};
 
 /// How many bytes of a word or a line are shown.
 const MOST: usize = 60;
@@ -94,7 +94,7 @@ pub fn say_unreadable(said: &mut String, line: &[u8]) -> Result<bool, AllocError
             )?;
             return Ok(true);
         }
-        if byte != b'\t' && (byte < b' ' || byte > b'~') {
+        if !is_plain_byte(byte) {
             let what = if byte == b'\r' {
                 "a carriage return, which ends no line without a line feed"
             } else {
@@ -160,10 +160,10 @@ pub enum Text {
 
 /// Adds, where a line of the text that was read begins as one of another text does, how the texts are told apart.
 pub fn say_other_text(said: &mut String, read: Text, line: &[u8]) -> Result<(), AllocError> {
-    let word = line
-        .split(|b| *b == b' ' || *b == b'\t')
-        .find(|w| !w.is_empty())
-        .unwrap_or(&[]);
+    let word = match first_word(line) {
+        Some((word, _)) => word,
+        None => return Ok(()),
+    };
     if word == b"---".as_slice() {
         return said.push_str(
             "; `---` parts texts on the standard input alone, one for each word `-` of the command",

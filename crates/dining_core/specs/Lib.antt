@@ -1,4 +1,5 @@
 pub mod Diners
 pub mod Worlds
 pub mod Standstill
+pub mod FaultText
 pub mod refinement

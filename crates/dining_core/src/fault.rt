@@ -1,8 +1,31 @@
 //! What a rule refuses.
 
-use thiserror::Error;
+ghost use Rattle.std.specs.Prelude.{◌≡◌, Some};
+ghost use Rattle.dining_core.specs.FaultText.{not_now_text};
+
+use std::error::Error;
+use std::fmt;
 
 /// The rule's guard is false. Nothing changed.
-#[derive(Clone, Copy, Debug, PartialEq, Eq, Error)]
-#[error("O1 NotNow")]
+#[derive(Clone, Copy, Debug, PartialEq, Eq)]
 pub struct NotNow;
+
+impl NotNow {
+    /// Its code and its name.
+    pub fn text(self) -> &'static str
+        ensures { result.now ≡ not_now_text }
+    {
+        "O1 NotNow"
+    }
+}
+
+impl fmt::Display for NotNow {
+    ghost output = { λ _. Some not_now_text };
+
+    fn fmt<W: fmt::Write>(&self, f: &mut fmt::Formatter<W>) -> fmt::Result {
+        let fault = *self;
+        f.write_str(fault.text())
+    }
+}
+
+impl Error for NotNow {}

@@ -9,7 +9,7 @@
 //!   eating turns it, which puts the eater last. Where all stand still (`specs/Standstill.antt`) and an office is
 //!   thirsty, one that is thirsty eats.
 //!
-//! No call takes memory but [`Table::open`]. It stands on `office_map`, `bottle_values` and `thiserror`.
+//! No call takes memory but [`Table::open`]. It stands on `office_map` and `bottle_values`.
 #![tactic(auto)]
 
 mod fault;

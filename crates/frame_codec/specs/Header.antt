@@ -1,5 +1,5 @@
 -- The 26 bytes that each frame begins with, in any version of the format. Numbers are big-endian.
-use Rattle.std.specs.Prelude.{ℕ, ◌^◌, Bool, false, not, ◌&&◌, ◌||◌, ◌==◌, nat_lt, nat_le, if◌then◌else◌, List, [], ◌∷◌, ◌++◌, length, drop, slice_index, Option, Some, None}
+use Rattle.std.specs.Prelude.{ℕ, Bool, false, not, ◌&&◌, ◌||◌, ◌==◌, nat_lt, nat_le, if◌then◌else◌, List, [], ◌∷◌, ◌++◌, length, drop, slice_index, Option, Some, None}
 use Rattle.std.specs.List.{find}
 use Rattle.byteorder.specs.Endian.{big_bytes, big_number}
 use Rattle.frame_codec.specs.declared.fault.FrameFault.{FrameFault}

@@ -1,32 +1,57 @@
 //! What is wrong with bytes that are no frame.
 
-use thiserror::Error;
+ghost use Rattle.std.specs.Prelude.{◌≡◌, Some};
+ghost use Rattle.frame_codec.specs.FaultText.{fault_text};
+
+use std::error::Error;
+use std::fmt;
 
 /// Why bytes are no frame: the first of these that applies, in this order.
-#[derive(Clone, Copy, Debug, PartialEq, Eq, Error)]
+#[derive(Clone, Copy, Debug, PartialEq, Eq)]
 pub enum FrameFault {
     /// Fewer than 26 bytes.
-    #[error("F1 Short")]
     Short,
     /// The first two bytes aren't `44 50`.
-    #[error("F2 Magic")]
     Magic,
     /// The version isn't the one that is read.
-    #[error("F3 Version")]
     Version,
     /// The kind is neither data nor acknowledgement.
-    #[error("F4 Kind")]
     Kind,
     /// A data frame's number isn't from 1 to `MAX_NUMBER`, or an acknowledgement's isn't 0.
-    #[error("F5 Number")]
     Number,
     /// The count is above `MAX_NUMBER`.
-    #[error("F6 Count")]
     Count,
     /// A data frame's tag is none of 01 to 04.
-    #[error("F7 Tag")]
     Tag,
     /// The frame is longer or shorter than its kind and tag say.
-    #[error("F8 Length")]
     Length,
 }
+
+impl FrameFault {
+    /// Its code and its name.
+    pub fn text(self) -> &'static str
+        ensures { result.now ≡ fault_text self }
+    {
+        match self {
+            FrameFault::Short => "F1 Short",
+            FrameFault::Magic => "F2 Magic",
+            FrameFault::Version => "F3 Version",
+            FrameFault::Kind => "F4 Kind",
+            FrameFault::Number => "F5 Number",
+            FrameFault::Count => "F6 Count",
+            FrameFault::Tag => "F7 Tag",
+            FrameFault::Length => "F8 Length",
+        }
+    }
+}
+
+impl fmt::Display for FrameFault {
+    ghost output = { λ x. Some (fault_text x) };
+
+    fn fmt<W: fmt::Write>(&self, f: &mut fmt::Formatter<W>) -> fmt::Result {
+        let fault = *self;
+        f.write_str(fault.text())
+    }
+}
+
+impl Error for FrameFault {}

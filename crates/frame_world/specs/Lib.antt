@@ -4,4 +4,5 @@ pub mod Headline
 pub mod Tickets
 pub mod Waiting
 pub mod Standstill
+pub mod RefusalText
 pub mod refinement

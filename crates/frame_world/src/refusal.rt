@@ -1,17 +1,42 @@
 //! Why an event of a world is refused.
 
-use thiserror::Error;
+ghost use Rattle.std.specs.Prelude.{◌≡◌, Some};
+ghost use Rattle.frame_world.specs.RefusalText.{refusal_text};
+
+use std::error::Error;
+use std::fmt;
 
 /// Why an event is refused. A refused event leaves the world as it was.
-#[derive(Clone, Copy, Debug, PartialEq, Eq, Error)]
+#[derive(Clone, Copy, Debug, PartialEq, Eq)]
 pub enum WorldRefusal {
     /// So many frames weren't sent.
-    #[error("N1 NoFrame")]
     NoFrame,
     /// The plan doesn't have this office.
-    #[error("N2 NoOffice")]
     NoOffice,
     /// The office refuses it.
-    #[error(transparent)]
     Office(site_core::Refusal),
 }
+
+impl WorldRefusal {
+    /// Its code and its name.
+    pub fn text(self) -> &'static str
+        ensures { result.now ≡ refusal_text self }
+    {
+        match self {
+            WorldRefusal::NoFrame => "N1 NoFrame",
+            WorldRefusal::NoOffice => "N2 NoOffice",
+            WorldRefusal::Office(refusal) => refusal.text(),
+        }
+    }
+}
+
+impl fmt::Display for WorldRefusal {
+    ghost output = { λ x. Some (refusal_text x) };
+
+    fn fmt<W: fmt::Write>(&self, f: &mut fmt::Formatter<W>) -> fmt::Result {
+        let fault = *self;
+        f.write_str(fault.text())
+    }
+}
+
+impl Error for WorldRefusal {}

@@ -14,7 +14,7 @@ use Rattle.office_map.specs.declared.entries.PairEntry.{PairEntry}
 use Rattle.office_map.specs.declared.entries.RecordEntry.{RecordEntry}
 use Rattle.office_map.specs.PlanValue.{PlanValue, office_named, record_named, joins, are_neighbours, lies_between, records_between, with_office, with_pair, with_record, no_address, fork_end}
 use Rattle.office_map.specs.PlanText.{is_address_taken}
-use Rattle.office_map.specs.Text.{is_name}
+use Rattle.text_lines.specs.Text.{is_name}
 use Rattle.office_map.specs.Consistency.{IsConsistent}
 use Rattle.office_map.proofs.ListBounds.{count_by-filter, length_by_key}
 use Rattle.office_map.specs.refinement.PlanReader.{HasEnds}

@@ -1,7 +1,3 @@
-pub mod Digits
-pub mod FirstLine
-pub mod FirstWord
-pub mod AsciiNames
 pub mod FirstFault
 pub mod AsciiAddresses
 pub mod ListBounds

@@ -7,7 +7,7 @@ use Rattle.office_map.specs.declared.fault.PlanRule.TheVariants.{Limit}
 use Rattle.office_map.specs.declared.fault.PlanRefusal.{PlanRefusal}
 use Rattle.office_map.specs.PlanValue.{PlanValue}
 use Rattle.office_map.specs.PlanText.{◌>>=◌, ◌>>◌, refuse_if, at_line, read_header, read_line, read_lines, read_statements, plan_of, Lead, IsFirstFault}
-use Rattle.office_map.specs.Text.{lines, says_something, statements_from, statements}
+use Rattle.text_lines.specs.Text.{lines, says_something, statements_from, statements}
 use Rattle.office_map.specs.RefusedLines.{SaysSomethingAt, IsReadTo, IsRefusedAs, too_long, without_lines, at_the_header, at_a_line, too_few, IsReadAs, RefusesALine}
 use Rattle.office_map.proofs.FirstFault.{in_order}
 

@@ -4,7 +4,7 @@ use Rattle.std.specs.List.{slice_split, list_all}
 use Rattle.std.specs.Option.{option_map_or}
 use Rattle.std.specs.Str.{bytes_eq}
 use Rattle.std.specs.Char.{is_ascii_digit}
-use Rattle.office_map.specs.Text.{number_of}
+use Rattle.text_lines.specs.Text.{number_of}
 
 abbrev pub is_dot : ℕ → Bool
 is_dot b = b == 46

@@ -8,7 +8,7 @@ use Rattle.office_map.specs.declared.fault.PlanRefusal.{PlanRefusal}
 use Rattle.office_map.specs.PlanValue.{PlanValue, no_address, joins, are_neighbours, records_between}
 use Rattle.office_map.specs.Precedence.{HasOrder}
 use Rattle.office_map.specs.PlanText.{plan_of, IsLineOf}
-use Rattle.office_map.specs.Text.{is_name}
+use Rattle.text_lines.specs.Text.{is_name}
 use Rattle.std.specs.Prelude.{List}
 use Rattle.office_map.specs.Limits.{most_offices, most_pair_records}
 

@@ -1,5 +1,4 @@
 pub mod Limits
-pub mod Text
 pub mod Address
 pub mod PlanValue
 pub mod PlanText

@@ -10,7 +10,3 @@ most_offices = 16
 
 abbrev pub most_pair_records : ℕ
 most_pair_records = 8
-
--- letters of a name, in every text
-abbrev pub most_letters : ℕ
-most_letters = 16

@@ -13,7 +13,7 @@ use Rattle.office_map.specs.declared.ring.Ring as rings
 use Rattle.office_map.specs.declared.fault.PlanFault.TheVariants.{Memory, Refused, Ring}
 use Rattle.office_map.specs.PlanValue.{PlanValue, office_named, record_named, are_neighbours, records_between, with_office, with_pair, with_record, no_address}
 use Rattle.office_map.specs.Precedence.{IsNamedRing, HasOrder}
-use Rattle.office_map.specs.Text.{name_of, is_plain, number_of, words_of, lines, statements}
+use Rattle.text_lines.specs.Text.{name_of, is_plain, number_of, words_of, lines, statements}
 use Rattle.office_map.specs.Address.{address_of_word}
 use Rattle.office_map.specs.Limits.{most_offices, most_pair_records, most_text}
 

@@ -5,7 +5,7 @@ use Rattle.office_map.specs.declared.fault.PlanRule.TheVariants.{Header, Limit}
 use Rattle.office_map.specs.declared.fault.PlanRefusal.{PlanRefusal}
 use Rattle.office_map.specs.PlanValue.{PlanValue}
 use Rattle.office_map.specs.PlanText.{read_header, plan_of, Lead, IsFirstFault}
-use Rattle.office_map.specs.Text.{lines, says_something, statements}
+use Rattle.text_lines.specs.Text.{lines, says_something, statements}
 use Rattle.office_map.specs.Limits.{most_text}
 
 -- the line of this number is there, and says something

@@ -5,7 +5,7 @@ ghost use Rattle.std.specs.Option.{option_copied};
 ghost use Rattle.std.specs.List.{list_all, slice_split};
 ghost use Rattle.office_map.specs.Address.{is_socket, is_address, is_address_byte, is_host_and_port, is_host, is_dot, is_colon, is_octet, is_port, is_number_within, has_leading_zero, address_of_word};
 
-use crate::text::{number, place_of};
+use text_lines::{number, place_of};
 
 /// A word as text, if it is an address or `-`.
 pub(crate) fn address(word: &[u8]) -> Option<&str>

@@ -10,8 +10,8 @@
 //! `Rattle.office_map.specs.PlanValue.PlanValue`. A record is found by its name in
 //! constant time, and an office's neighbours and records are stored lists.
 //!
-//! It stands on `bottle_values`, for what an answer is unless memory runs out, on `thiserror`,
-//! for the messages of its faults, and on `memchr`, for the ends of lines. Definitions:
+//! It stands on `text_lines`, for lines, words, names and numbers, on `bottle_values`, for what an
+//! answer is unless memory runs out, and on `thiserror`, for the messages of its faults. Definitions:
 //!
 //! - `specs/PlanText.antt`: which plan the lines of a text mean, what is their first fault, and
 //!   what reading answers.
@@ -19,8 +19,6 @@
 //! - `specs/Precedence.antt`: who precedes whom at the start, orders and rings.
 //! - `specs/Consistency.antt`: what holds of every accepted plan.
 //! - `specs/Address.antt`: which words are addresses.
-//! - `specs/Text.antt`: lines, words, names and numbers, which other texts share; their
-//!   code is [`text`] and [`statements`].
 //! - `specs/Limits.antt`: the limits; the code has its own, [`limits`].
 #![tactic(auto)]
 
@@ -40,8 +38,6 @@ mod read;
 mod records;
 mod ring;
 mod ring_search;
-pub mod statements;
-pub mod text;
 mod word;
 
 pub use fault::{PlanFault, PlanRefusal, PlanRule};

@@ -2,13 +2,13 @@
 
 ghost use Rattle.std.specs.Prelude.{◌≡◌, map, option_map};
 ghost use Rattle.office_map.specs.PlanText.{declaration_of, office_line, pair_line, record_line, run_of, small_number, value_of, negative_of};
-ghost use Rattle.office_map.specs.Text.{number_of, words_of};
+ghost use Rattle.text_lines.specs.Text.{number_of, words_of};
 ghost use Rattle.std.specs.Str.{bytes_eq};
 ghost use Rattle.office_map.specs.refinement.PlanReader.{seen};
 
 use crate::address::address;
 use crate::new_entries::{NewOffice, NewPair, NewRecord};
-use crate::text::{first_word, name, number};
+use text_lines::{first_word, name, number};
 
 /// What a line declares, with names as they stand in the text.
 #[derive(Clone, Copy)]
@@ -39,7 +39,7 @@ pub(crate) fn declaration_in(line: &[u8]) -> Option<Declaration<'_>>
     }
 }
 
-#[tactic(auto, using(crate::proofs::AsciiNames::is_named))]
+#[tactic(auto, using(text_lines::proofs::AsciiNames::is_named))]
 fn office<'a>(keyword: &[u8], word: &'a [u8], place: &'a [u8]) -> Option<Declaration<'a>>
     ensures { option_map seen result ≡ office_line keyword.now word.now place.now }
 {
@@ -73,7 +73,7 @@ fn pair<'a>(
     }))
 }
 
-#[tactic(auto, using(crate::proofs::AsciiNames::is_named))]
+#[tactic(auto, using(text_lines::proofs::AsciiNames::is_named))]
 fn record<'a>(
     keyword: &[u8],
     word: &'a [u8],

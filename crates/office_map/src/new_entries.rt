@@ -1,7 +1,7 @@
 //! What a line of a plan declares, with names as they stand in the text.
 
 ghost use Rattle.std.specs.Prelude.{IsTrue};
-ghost use Rattle.office_map.specs.Text.{is_name};
+ghost use Rattle.text_lines.specs.Text.{is_name};
 
 /// An office that a line declares, with the words of its text.
 #[derive(Clone, Copy)]

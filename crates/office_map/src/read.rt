@@ -1,7 +1,7 @@
 //! The tables of a plan, from its text.
 
 ghost use Rattle.std.specs.Prelude.{◌≡◌, ◌<◌, ◌+◌, ◌^◌, length, map, option_map, IfOk};
-ghost use Rattle.office_map.specs.Text.{lines, statements_from};
+ghost use Rattle.text_lines.specs.Text.{lines, statements_from};
 ghost use Rattle.office_map.specs.PlanText.{plan_of, plain_words, read_line, read_lines, read_header};
 ghost use Rattle.office_map.specs.refinement.PlanReader.{Fails};
 ghost use Rattle.bottle_values.specs.Memory.{UnlessMemory};
@@ -10,9 +10,8 @@ use crate::fault::{PlanFault, PlanRule, refused};
 use crate::limits::{FEWEST_OFFICES, TEXT_LIMIT};
 use crate::line::{declaration_in, run_in};
 use crate::plan_entries::PlanEntries;
-use crate::statements::Statements;
-use crate::text::{is_plain, words};
 use std::alloc::{AllocError, Global};
+use text_lines::{Statements, is_plain, words};
 
 /// The tables that a text means. The first faulty line is refused.
 #[tactic(auto, unfolding(crate::specs::PlanText::plan_of))]

@@ -3,9 +3,9 @@
 ghost use Rattle.std.specs.Prelude.{◌≡◌, IfOk};
 ghost use Rattle.std.specs.Str.{bytes_eq};
 
-use crate::text::is_same_word;
 use std::alloc::{AllocError, Global};
 use std::marker::Model;
+use text_lines::is_same_word;
 
 /// A name or an address, seen as its bytes.
 #[derive(Drop)]

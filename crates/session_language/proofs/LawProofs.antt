@@ -4,7 +4,7 @@ use Rattle.std.specs.Result.{MatchResult}
 use Rattle.std.proofs.lemmas.Bool.Decides.{nat_tests}
 use Rattle.office_map.specs.PlanValue.{PlanValue}
 use Rattle.office_map.specs.PlanText.{◌>>=◌, ◌>>◌, refuse_if}
-use Rattle.office_map.specs.Text.{lines, statements}
+use Rattle.text_lines.specs.Text.{lines, statements}
 use Rattle.office_map.specs.RefusedLines.{SaysSomethingAt}
 use Rattle.office_map.proofs.RefusedLines.{says_at}
 use Rattle.session_language.specs.declared.fault.SessionRule.{SessionRule}

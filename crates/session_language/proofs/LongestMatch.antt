@@ -5,7 +5,7 @@ use Rattle.std.proofs.lemmas.Bool.{and_parts}
 use Rattle.std.proofs.lemmas.Bool.Decides.{nat_tests}
 use Rattle.std.proofs.lemmas.List.{append-nil, take-append-drop}
 use Rattle.std.proofs.lemmas.List.Folds.{list_all-append}
-use Rattle.office_map.specs.Text.{is_blank, is_name_byte}
+use Rattle.text_lines.specs.Text.{is_blank, is_name_byte}
 use Rattle.session_language.specs.declared.lexer.Symbol.{Symbol}
 use Rattle.session_language.specs.declared.lexer.Symbol.TheVariants.{Assign, Equal, NotEqual, Less, AtMost, Greater, AtLeast, Plus, Minus, Times, Open, Close}
 use Rattle.session_language.specs.Lexer.{Piece, AWord, ASymbol, AStray, word_len, one_byte, two_bytes, long_symbol, symbol_or_stray, symbol_at, piece_at, pieces_of}

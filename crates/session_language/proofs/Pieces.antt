@@ -1,7 +1,7 @@
 -- A line, one piece after another.
 use Rattle.std.proofs.Common.{◌≡◌, ℕ, zero, suc, ◌+◌, ◌≤◌, List, [], ◌∷◌, length, take, drop, Option, Some, None, Bool, true, false, refl, sym, ap, ◌∙◌, arith, length-drop, if◌then◌else◌}
 use Rattle.std.specs.List.{prefix_len}
-use Rattle.office_map.specs.Text.{is_blank, is_name_byte}
+use Rattle.text_lines.specs.Text.{is_blank, is_name_byte}
 use Rattle.session_language.specs.declared.lexer.Symbol.{Symbol}
 use Rattle.session_language.specs.Lexer.{Piece, AWord, word_len, symbol_at, long_symbol, piece_at, pieces_in, pieces_of}
 

@@ -1,7 +1,7 @@
 -- The forms of a line of sessions.
 use Rattle.std.specs.Prelude.{ℕ, List, [], ◌∷◌, Option, Some, None, if◌then◌else◌, nat_lt, nat_le, option_map, option_and_then, codes}
 use Rattle.std.specs.Str.{bytes_eq}
-use Rattle.office_map.specs.Text.{name_of, number_of}
+use Rattle.text_lines.specs.Text.{name_of, number_of}
 use Rattle.session_meaning.specs.declared.node.Comparison.{Comparison}
 use Rattle.session_meaning.specs.declared.node.Comparison.TheVariants.{Equal, NotEqual, Less, AtMost, Greater, AtLeast}
 use Rattle.session_language.specs.declared.lexer.Symbol.{Symbol}

@@ -2,7 +2,7 @@
 use Rattle.std.specs.Prelude.{◌≡◌, ◌≤◌, ◌<◌, ◌+◌, ℕ, List, [], ◌∷◌, ◌++◌, length, Some, None, Ok, Err}
 use Rattle.std.specs.Result.{MatchResult}
 use Rattle.office_map.specs.PlanValue.{PlanValue}
-use Rattle.office_map.specs.Text.{lines, statements}
+use Rattle.text_lines.specs.Text.{lines, statements}
 use Rattle.office_map.specs.RefusedLines.{SaysSomethingAt}
 use Rattle.session_language.specs.declared.fault.SessionRule.TheVariants.{TooLong, Syntax}
 use Rattle.session_language.specs.declared.fault.SessionRefusal.{SessionRefusal}

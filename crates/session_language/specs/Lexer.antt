@@ -1,7 +1,7 @@
 -- A line cut into words and symbols, the longest each time.
 use Rattle.std.specs.Prelude.{◌≡◌, ℕ, zero, suc, List, [], ◌∷◌, length, take, drop, Bool, true, false, ◌==◌, Option, Some, None, if◌then◌else◌}
 use Rattle.std.specs.List.{prefix_len}
-use Rattle.office_map.specs.Text.{is_blank, is_name_byte}
+use Rattle.text_lines.specs.Text.{is_blank, is_name_byte}
 use Rattle.session_language.specs.declared.lexer.Symbol.{Symbol}
 use Rattle.session_language.specs.declared.lexer.Symbol.TheVariants.{Assign, Equal, NotEqual, Less, AtMost, Greater, AtLeast, Plus, Minus, Times, Open, Close}
 use Rattle.session_language.specs.declared.lexer.Piece as code

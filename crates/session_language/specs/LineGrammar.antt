@@ -1,6 +1,6 @@
 -- The grammar of a line: which pieces are which form.
 use Rattle.std.specs.Prelude.{◌≡◌, ◌<◌, ◌≤◌, ℕ, List, [], ◌∷◌, ◌++◌, Some, true, codes}
-use Rattle.office_map.specs.Text.{is_name, number_of}
+use Rattle.text_lines.specs.Text.{is_name, number_of}
 use Rattle.session_meaning.specs.declared.node.Comparison.{Comparison}
 use Rattle.session_language.specs.declared.lexer.Symbol.{Symbol}
 use Rattle.session_language.specs.declared.lexer.Symbol.TheVariants as symbol

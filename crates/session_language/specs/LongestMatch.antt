@@ -1,7 +1,7 @@
 -- How a line is cut: into its longest pieces, with blanks between them.
 use Rattle.std.specs.Prelude.{◌≡◌, ◌≢◌, ◌<◌, ℕ, List, [], ◌∷◌, ◌++◌, length, true, false, codes}
 use Rattle.std.specs.List.{list_all}
-use Rattle.office_map.specs.Text.{is_blank, is_name_byte}
+use Rattle.text_lines.specs.Text.{is_blank, is_name_byte}
 use Rattle.session_language.specs.declared.lexer.Symbol.{Symbol}
 use Rattle.session_language.specs.declared.lexer.Symbol.TheVariants.{Assign, Equal, NotEqual, Less, AtMost, Greater, AtLeast, Plus, Minus, Times, Open, Close}
 use Rattle.session_language.specs.Lexer.{Piece, AWord, ASymbol, AStray, pieces_of}

@@ -1,7 +1,7 @@
 -- An expression within a line: the longest run of pieces that an expression may have.
 use Rattle.std.specs.Prelude.{◌≡◌, ◌<◌, ◌≤◌, ℕ, min, List, [], ◌∷◌, Bool, true, false, Option, Some, None, if◌then◌else◌, option_map, codes}
 use Rattle.std.specs.Str.{bytes_eq}
-use Rattle.office_map.specs.Text.{name_of, number_of}
+use Rattle.text_lines.specs.Text.{name_of, number_of}
 use Rattle.session_language.specs.declared.lexer.Symbol.{Symbol}
 use Rattle.session_language.specs.declared.lexer.Symbol.TheVariants as symbol
 use Rattle.session_language.specs.declared.lexer.Piece as code_piece

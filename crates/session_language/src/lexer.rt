@@ -1,12 +1,12 @@
 //! Words and symbols of a line.
 
 ghost use Rattle.std.specs.Prelude.{◌≡◌, ◌∷◌, [], ◌≤◌, ◌<◌, length, MatchOption, OnSome, false, true};
-ghost use Rattle.office_map.specs.Text.{is_name_byte};
+ghost use Rattle.text_lines.specs.Text.{is_name_byte};
 ghost use Rattle.session_language.specs.Lexer.{seen, Begins, one_byte, two_bytes, long_symbol, piece_at, pieces_of, word_len, begins_equals, AWord};
 ghost use Rattle.session_language.specs.Phrase.{run, Tells, IsShorter};
 
 use crate::token::{Next, Operand, Token, expression_symbol, is_read, operand_in};
-use office_map::text::name;
+use text_lines::name;
 
 /// A symbol of the language.
 #[derive(Clone, Copy, Debug, PartialEq, Eq)]

@@ -5,8 +5,8 @@ ghost use Rattle.std.specs.Str.{bytes_eq};
 ghost use Rattle.std.specs.String.{string_bytes};
 
 use crate::builder::Element;
-use office_map::text::is_same_word;
 use session_meaning::Node;
+use text_lines::is_same_word;
 
 /// A token whose names are in their places, and whether they are known as a variable and as a record.
 #[derive(Clone, Copy)]

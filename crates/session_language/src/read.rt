@@ -3,7 +3,7 @@
 ghost use Rattle.std.specs.Prelude.{◌≡◌, ◌<◌, ◌≤◌, ◌+◌, ◌^◌, length, IfOk, IsTrue, All};
 ghost use Rattle.session_language.specs.Limits.{most_text, most_sessions};
 ghost use Rattle.session_language.specs.Program.{fits};
-ghost use Rattle.office_map.specs.Text.{lines, statements_from};
+ghost use Rattle.text_lines.specs.Text.{lines, statements_from};
 ghost use Rattle.session_language.specs.Reading.{sessions_of, read_lines, at_line, take_line};
 ghost use Rattle.session_language.specs.refinement.ReaderRefinement.{reading_of, Fails};
 ghost use Rattle.bottle_values.specs.Memory.{UnlessMemory};
@@ -13,9 +13,8 @@ use crate::limits::TEXT_LIMIT;
 use crate::program::Program;
 use crate::reader::Reader;
 use office_map::Plan;
-use office_map::statements::Statements;
-use office_map::text::first_line;
 use std::alloc::Global;
+use text_lines::{Statements, first_line};
 
 /// The programs of the sessions in a text, in order. The first faulty line is refused.
 #[tactic(auto, unfolding(crate::specs::Reading::sessions_of), using(crate::proofs::session_reading::ProgramsFit::sessions_fit, crate::proofs::session_reading::ProgramsFit::sessions_few))]

@@ -19,9 +19,9 @@ use crate::lexer::{Piece, Pieces};
 use crate::limits::MOST_SESSIONS;
 use crate::program::Program;
 use office_map::Plan;
-use office_map::text::name;
 use std::alloc::Global;
 use std::mem;
+use text_lines::name;
 
 /// The sessions that are closed, the one that is open, and the builder of expressions.
 #[derive(Drop)]

@@ -18,9 +18,9 @@ use crate::limits::{CODES_END, MOST_DEPTH, MOST_TURNS};
 use crate::scope::Scope;
 use crate::summary::Summary;
 use office_map::RecordId;
-use office_map::text::{name, number};
 use session_meaning::{Comparison, Condition, Expression};
 use std::alloc::{AllocError, Global};
+use text_lines::{name, number};
 
 /// The first line of a statement; a variable that is let is still text.
 #[derive(Drop)]

@@ -5,7 +5,7 @@ ghost use Rattle.session_language.specs.Phrase.{leaf_of, token_of, operand_in, e
 
 use crate::lexer::{Piece, Symbol};
 use crate::number::Number;
-use office_map::text::{is_name, number};
+use text_lines::{is_name, number};
 
 /// A number, a variable, or `read` and a record; names as they stand in the text.
 #[derive(Clone, Copy)]

@@ -9,4 +9,5 @@ pub mod RulesInTurn
 pub mod Readers
 pub mod Tickets
 pub mod Growing
+pub mod RefusalText
 pub mod refinement

@@ -1,13 +1,15 @@
 //! What an office answers.
 
-ghost use Rattle.std.specs.Prelude.{◌≡◌};
+ghost use Rattle.site_core.specs.RefusalText.{refusal_text};
+ghost use Rattle.std.specs.Prelude.{◌≡◌, Some};
 ghost use Rattle.site_core.specs.Replies.{reply_to};
 ghost use Rattle.site_core.specs.declared.reply.Refusal.TheVariants as refusals;
 
 use dining_core::NotNow;
 use frame_codec::{Frame, FrameFault};
 use std::alloc::{AllocError, AllocFailed};
-use thiserror::Error;
+use std::error::Error;
+use std::fmt;
 use token_channel::ChannelFault;
 use window_link::Arrival;
 
@@ -48,30 +50,51 @@ impl Reply {
 }
 
 /// Why an event is refused. A refused event leaves the office as it was, and makes no entry.
-#[derive(Clone, Copy, Debug, PartialEq, Eq, Error)]
+#[derive(Clone, Copy, Debug, PartialEq, Eq)]
 pub enum Refusal {
     /// The bytes that came are no frame.
-    #[error(transparent)]
     Frame(FrameFault),
     /// The channel to the frame's sender refuses it, or there is none.
-    #[error(transparent)]
     Channel(ChannelFault),
     /// The rule's guard is false, or there is no such neighbour, record or waiting message, or no session with that ticket that
     /// may be withdrawn.
-    #[error("O1 NotNow")]
     NotNow,
     /// The program is of another office, or needs a record that isn't of this office.
-    #[error("O2 NotOurs")]
     NotOurs,
     /// As many sessions are submitted and unfinished as may be.
-    #[error("O3 QueueFull")]
     QueueFull,
     /// The journal has as many entries as may be.
-    #[error("O4 JournalFull")]
     JournalFull,
-    #[error("out of memory")]
     Memory,
 }
+
+impl Refusal {
+    /// Its code and its name.
+    pub fn text(self) -> &'static str
+        ensures { result.now ≡ refusal_text self }
+    {
+        match self {
+            Refusal::Frame(fault) => fault.text(),
+            Refusal::Channel(fault) => fault.text(),
+            Refusal::NotNow => NotNow.text(),
+            Refusal::NotOurs => "O2 NotOurs",
+            Refusal::QueueFull => "O3 QueueFull",
+            Refusal::JournalFull => "O4 JournalFull",
+            Refusal::Memory => "out of memory",
+        }
+    }
+}
+
+impl fmt::Display for Refusal {
+    ghost output = { λ x. Some (refusal_text x) };
+
+    fn fmt<W: fmt::Write>(&self, f: &mut fmt::Formatter<W>) -> fmt::Result {
+        let fault = *self;
+        f.write_str(fault.text())
+    }
+}
+
+impl Error for Refusal {}
 
 impl From<AllocError> for Refusal {
     ghost from_gives = { λ _ e. e ≡ refusals.Memory };

@@ -5,3 +5,4 @@ pub mod Ends
 pub mod Opening
 pub mod Waiting
 pub mod Answers
+pub mod FaultText

@@ -13,8 +13,8 @@
 //!   held, and all else as before, and that what is shared stays.
 //! - A [`Thing`] is what a message carries (`specs/Things.antt`).
 //!
-//! No call takes memory but [`Channel::open`]. It stands on `window_link`, `frame_codec`, `office_map`
-//! and `thiserror`; `docs/architecture.md` has the arithmetic of the 18 places.
+//! No call takes memory but [`Channel::open`]. It stands on `window_link`, `frame_codec` and `office_map`;
+//! `docs/architecture.md` has the arithmetic of the 18 places.
 #![tactic(auto)]
 
 mod channel;

@@ -3,4 +3,5 @@ pub mod Limits
 pub mod Links
 pub mod Streams
 pub mod Two
+pub mod FaultText
 pub mod refinement

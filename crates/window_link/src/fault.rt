@@ -1,17 +1,42 @@
 //! What a link refuses.
 
-use thiserror::Error;
+ghost use Rattle.std.specs.Prelude.{◌≡◌, Some};
+ghost use Rattle.window_link.specs.FaultText.{fault_text};
+
+use std::error::Error;
+use std::fmt;
 
 /// Why a frame isn't taken, or a message isn't queued.
-#[derive(Clone, Copy, Debug, PartialEq, Eq, Error)]
+#[derive(Clone, Copy, Debug, PartialEq, Eq)]
 pub enum LinkFault {
     /// The frame is of another run, or doesn't go from the peer to this end.
-    #[error("L1 Stranger")]
     Stranger,
     /// The frame's count is past the last number that was used.
-    #[error("L2 AckAhead")]
     AckAhead,
     /// The greatest number was used.
-    #[error("L3 Worn")]
     Worn,
 }
+
+impl LinkFault {
+    /// Its code and its name.
+    pub fn text(self) -> &'static str
+        ensures { result.now ≡ fault_text self }
+    {
+        match self {
+            LinkFault::Stranger => "L1 Stranger",
+            LinkFault::AckAhead => "L2 AckAhead",
+            LinkFault::Worn => "L3 Worn",
+        }
+    }
+}
+
+impl fmt::Display for LinkFault {
+    ghost output = { λ x. Some (fault_text x) };
+
+    fn fmt<W: fmt::Write>(&self, f: &mut fmt::Formatter<W>) -> fmt::Result {
+        let fault = *self;
+        f.write_str(fault.text())
+    }
+}
+
+impl Error for LinkFault {}

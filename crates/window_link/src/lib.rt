@@ -11,7 +11,7 @@
 //!   `specs/Two.antt`, over the streams of `specs/Streams.antt`).
 //!
 //! `sending` and `receiving` are the two windows of an end. No call of [`Link`] takes memory. It
-//! stands on `frame_codec`, `arrayvec` and `thiserror`; `docs/architecture.md` says how links are used.
+//! stands on `frame_codec` and `arrayvec`; `docs/architecture.md` says how links are used.
 #![tactic(auto)]
 
 mod arrival;

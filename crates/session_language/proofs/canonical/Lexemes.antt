@@ -10,7 +10,7 @@ use Rattle.std.proofs.lemmas.Slice.Eq.{bytes_eq-Decides}
 use Rattle.std.proofs.lemmas.Fmt.{decimal_by_steps, length-decimal-le}
 use Rattle.std.proofs.lemmas.List.Sums.{fold-append}
 use Rattle.std.proofs.lemmas.List.Folds.{list_all-append}
-use Rattle.office_map.specs.Text.{is_name, is_name_byte, is_plain, is_keyword, name_of, number_of, decimal}
+use Rattle.text_lines.specs.Text.{is_name, is_name_byte, is_plain, is_keyword, name_of, number_of, decimal}
 use Rattle.session_language.specs.Phrase.{is_read, operand_in, or_variable}
 use Rattle.session_language.specs.Spelling.{ANumber, AVariable}
 

@@ -5,7 +5,7 @@ use Rattle.std.proofs.lemmas.List.{append-nil}
 use Rattle.std.proofs.lemmas.Bool.{and_parts}
 use Rattle.std.proofs.lemmas.Bool.Decides.{nat_tests}
 use Rattle.std.specs.Fmt as fmt
-use Rattle.office_map.specs.Text.{is_blank, is_name, is_name_byte}
+use Rattle.text_lines.specs.Text.{is_blank, is_name, is_name_byte}
 use Rattle.bottle_values.specs.declared.Value.{Value}
 use Rattle.session_meaning.specs.declared.node.Operator.TheVariants as op
 use Rattle.session_language.specs.declared.rank.Rank.{Rank}

@@ -3,7 +3,7 @@ use Rattle.std.proofs.Common.{◌≡◌, ◌<◌, ◌≤◌, ℕ, List, [], ◌�
 use Rattle.std.proofs.lemmas.List.{append-nil}
 use Rattle.std.proofs.lemmas.Bool.Decides.{nat_tests}
 use Rattle.std.specs.Fmt as fmt
-use Rattle.office_map.specs.Text.{is_name}
+use Rattle.text_lines.specs.Text.{is_name}
 use Rattle.session_meaning.specs.declared.node.Comparison.{Comparison}
 use Rattle.session_meaning.specs.declared.node.Comparison.TheVariants.{Equal, NotEqual, Less, AtMost, Greater, AtLeast}
 use Rattle.session_language.specs.declared.lexer.Symbol.{Symbol}

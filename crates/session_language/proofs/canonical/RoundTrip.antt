@@ -12,7 +12,7 @@ use Rattle.office_map.specs.PlanValue.{PlanValue, office_named}
 use Rattle.office_map.specs.PlanText.{◌>>=◌, ◌>>◌, refuse_if}
 use Rattle.office_map.specs.Consistency.{IsConsistent}
 use Rattle.std.specs.Fmt.{decimal}
-use Rattle.office_map.specs.Text.{is_name, lines, statements, statements_from, says_something}
+use Rattle.text_lines.specs.Text.{is_name, lines, statements, statements_from, says_something}
 use Rattle.session_language.specs.declared.fault.SessionRule.{SessionRule}
 use Rattle.session_language.specs.declared.fault.SessionRule.TheVariants.{UnknownName, TooLong, TooManyGives}
 use Rattle.session_language.specs.declared.fault.SessionRefusal.{SessionRefusal}

@@ -5,7 +5,7 @@ use Rattle.std.proofs.lemmas.List.{length-take-le}
 use Rattle.office_map.specs.PlanValue.{PlanValue, is_end}
 use Rattle.office_map.specs.PlanText.{◌>>=◌, ◌>>◌, refuse_if}
 use Rattle.office_map.specs.Consistency.{IsConsistent}
-use Rattle.office_map.specs.Text.{is_name}
+use Rattle.text_lines.specs.Text.{is_name}
 use Rattle.session_language.specs.declared.fault.SessionRule.{SessionRule}
 use Rattle.session_language.specs.declared.fault.SessionRule.TheVariants.{UnknownName, UnknownRecord, TooDeep}
 use Rattle.session_meaning.specs.Tree.{Term, Test, Command, LetVar, SetTo, GiveOf, Requires, When, Choice, Loop}

@@ -6,8 +6,8 @@ use Rattle.std.specs.List.{list_all, position_or_len}
 use Rattle.std.specs.Fmt as fmt
 use Rattle.std.specs.Str.Lines.{strip_carriage_return}
 use Rattle.std.proofs.lemmas.List.Folds.{list_all-append}
-use Rattle.office_map.specs.Text.{is_newline, is_name, is_plain, lines, says_something, statements_from}
-use Rattle.office_map.proofs.FirstLine.{lines_cut}
+use Rattle.text_lines.specs.Text.{is_newline, is_name, is_plain, lines, says_something, statements_from}
+use Rattle.text_lines.proofs.FirstLine.{lines_cut}
 use Rattle.session_meaning.specs.declared.node.Operator.TheVariants as op
 use Rattle.session_meaning.specs.declared.node.Comparison.{Comparison}
 use Rattle.session_meaning.specs.declared.node.Comparison.TheVariants.{Equal, NotEqual, Less, AtMost, Greater, AtLeast}

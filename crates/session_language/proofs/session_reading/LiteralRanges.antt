@@ -5,7 +5,7 @@ use Rattle.std.specs.Str.{bytes_eq}
 use Rattle.std.specs.Char.{is_ascii_digit}
 use Rattle.std.proofs.lemmas.Bool.{and_parts}
 use Rattle.std.proofs.lemmas.Bool.Decides.{nat_tests}
-use Rattle.office_map.specs.Text.{is_name, name_of, number_of, decimal}
+use Rattle.text_lines.specs.Text.{is_name, name_of, number_of, decimal}
 use Rattle.session_language.specs.declared.lexer.Symbol.{Symbol}
 use Rattle.session_language.specs.declared.lexer.Symbol.TheVariants as symbol
 use Rattle.session_language.specs.Lexer.{Piece, AWord, ASymbol, AStray}

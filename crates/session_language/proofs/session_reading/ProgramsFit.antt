@@ -8,7 +8,7 @@ use Rattle.std.proofs.lemmas.Bool.Decides.{nat_tests}
 use Rattle.std.specs.List.{list_all, position_or_len}
 use Rattle.std.specs.Option.{ok_or}
 use Rattle.office_map.specs.PlanValue.{PlanValue, is_end, office_named, record_named}
-use Rattle.office_map.specs.Text.{is_name, name_of, lines, statements}
+use Rattle.text_lines.specs.Text.{is_name, name_of, lines, statements}
 use Rattle.office_map.specs.PlanText.{◌>>=◌, ◌>>◌, refuse_if}
 use Rattle.session_meaning.specs.Tree.{Term, Constant, Var, ReadOf, Neg, Bin, Command}
 use Rattle.session_language.specs.Spelling.{Operand, ANumber, AVariable, ARecord, Spelled, Plain, Token, Plus, Minus, Times, Close}

@@ -12,7 +12,7 @@ use Rattle.std.proofs.lemmas.List.Quantifiers.{all_pairs_push}
 use Rattle.std.proofs.lemmas.List.Sums.{fails_before_first}
 use Rattle.std.proofs.lemmas.Slice.Eq.{bytes_eq-Decides}
 use Rattle.office_map.specs.PlanText.{◌>>=◌}
-use Rattle.office_map.specs.Text.{is_name}
+use Rattle.text_lines.specs.Text.{is_name}
 use Rattle.session_language.specs.declared.keyword.Keyword.{Keyword}
 use Rattle.session_language.specs.declared.fault.SessionRule.TheVariants.{Syntax, UnknownName, UnknownRecord, TooDeep}
 use Rattle.session_language.specs.Spelling.{Operand, ANumber, AVariable, ARecord, Spelled, Plain, Token, Plus, Minus, Times, Close}

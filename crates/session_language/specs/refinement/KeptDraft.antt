@@ -1,6 +1,6 @@
 -- What holds of a session that is open, after each line.
 use Rattle.std.specs.Prelude.{◌≡◌, ◌≢◌, ◌<◌, ◌≤◌, ℕ, suc, List, [], ◌∷◌, length, All, AllPairs, IsTrue}
-use Rattle.office_map.specs.Text.{is_name}
+use Rattle.text_lines.specs.Text.{is_name}
 use Rattle.session_meaning.specs.refinement.TreeOfStatements.{block_from}
 use Rattle.session_meaning.specs.Needs.{test_needs, block_needs}
 use Rattle.session_language.specs.Reading.{Head, IfHead, ElseHead, RepeatHead, OpenBlock, Draft}

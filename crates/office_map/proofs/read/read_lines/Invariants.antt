@@ -1,5 +1,5 @@
 use Rattle.std.proofs.Common.{◌≡◌, ◌+◌, ◌<◌, ◌^◌, length, Result, ℕ}
-use Rattle.office_map.specs.Text.{statements_from, lines}
+use Rattle.text_lines.specs.Text.{statements_from, lines}
 use Rattle.office_map.specs.PlanText.{read_lines}
 use Rattle.office_map.specs.PlanValue.{PlanValue}
 use Rattle.office_map.specs.declared.fault.PlanRefusal.{PlanRefusal}

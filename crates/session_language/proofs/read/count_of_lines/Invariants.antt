@@ -1,5 +1,5 @@
 use Rattle.std.proofs.Common.{◌≡◌, ◌≤◌, ◌+◌, length}
-use Rattle.office_map.specs.Text.{lines}
+use Rattle.text_lines.specs.Text.{lines}
 use Rattle.session_language.proofs.read.count_of_lines.Given as goal
 
 abbrev pub invariant-loop-rest : goal.invariant-loop-rest

@@ -1,5 +1,5 @@
 use Rattle.std.proofs.Common.{◌≡◌, ◌+◌, ◌<◌, ◌^◌, length, Result, ℕ}
-use Rattle.office_map.specs.Text.{statements_from, lines}
+use Rattle.text_lines.specs.Text.{statements_from, lines}
 use Rattle.session_language.specs.Reading.{Reading, read_lines}
 use Rattle.session_language.specs.refinement.ReaderRefinement.{reading_of}
 use Rattle.session_language.specs.declared.fault.SessionRefusal.{SessionRefusal}

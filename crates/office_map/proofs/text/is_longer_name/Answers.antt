@@ -1,5 +1,0 @@
-use Rattle.std.proofs.Common.{rules}
-use Rattle.office_map.proofs.text.is_longer_name.Goals as goal
-
-pub returns-then-has_name_bytes : goal.returns-then-has_name_bytes
-returns-then-has_name_bytes c = search rules

@@ -1,0 +1,22 @@
+//! What all texts of the broker share: lines, words, names and numbers.
+//!
+//! Plans, sessions, scripts and journals are texts of lines. A line that is neither blank nor a comment says something, and
+//! keeps its number in the text ([`Statements`]). It has words ([`words`], [`first_word`]), of which some are names ([`name`])
+//! or numbers ([`number`]), and may hold no byte but tabs and printable ASCII ([`is_plain`]). `docs/formats.md` has the rules.
+//!
+//! It stands on `memchr`, for the ends of lines. Definitions: `specs/Text.antt`. The limits of names and numbers are
+//! [`limits`].
+#![tactic(auto)]
+
+pub mod limits;
+mod line_words;
+mod lines;
+mod names;
+mod numbers;
+mod statements;
+
+pub use line_words::{first_word, is_same_word, words};
+pub use lines::{first_line, is_plain, is_plain_byte, place_of};
+pub use names::{is_name, name};
+pub use numbers::{has_only_digits, number};
+pub use statements::Statements;

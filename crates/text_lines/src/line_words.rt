@@ -1,0 +1,68 @@
+//! The words of a line.
+
+ghost use Rattle.std.specs.Prelude.{◌≡◌, ◌∷◌, [], map, IfOk, MatchOption, true};
+ghost use Rattle.std.specs.Str.{bytes_eq};
+ghost use Rattle.std.specs.List.{position_or_len};
+ghost use Rattle.text_lines.specs.Text.{words_of, is_blank};
+
+use std::alloc::{AllocError, Global};
+
+/// The words of a line, in order.
+pub fn words(alloc: Global, line: &[u8]) -> Result<Vec<&[u8]>, AllocError>
+    ensures { IfOk result (λ v. map (λ w. w.now) v.items ≡ words_of line.now) }
+{
+    line.split(|b| *b == b' ' || *b == b'\t')
+        .filter(|w| !w.is_empty())
+        .collect(alloc)
+}
+
+/// The first word of a line, and what stands after it.
+pub fn first_word(line: &[u8]) -> Option<(&[u8], &[u8])>
+    ensures { MatchOption result
+        (words_of line.now ≡ [])
+        (λ p. words_of line.now ≡ p.0.now ∷ words_of p.1.now) }
+{
+    let mut left = line;
+    while let Some((first, next)) = left.split_first() {
+        if !is_blank(*first) {
+            return Some(left.split_at(blank_place(left)));
+        }
+        left = next;
+    }
+    None
+}
+
+/// The place of the first space or tab, or the length where there is none.
+fn blank_place(line: &[u8]) -> usize
+    ensures { result ≡ position_or_len is_blank line.now }
+{
+    for place in 0..line.len() {
+        if is_blank(line[place]) {
+            return place;
+        }
+    }
+    line.len()
+}
+
+pub fn is_blank(byte: u8) -> bool
+    ensures { result ≡ is_blank byte }
+{
+    byte == b' ' || byte == b'\t'
+}
+
+/// Whether two words are one. Most that differ are told apart without a look at all their bytes.
+pub fn is_same_word(a: &[u8], b: &[u8]) -> bool
+    ensures { result ≡ bytes_eq a.now b.now }
+{
+    end_alike(a, b) && a == b
+}
+
+/// Whether two words have one length and one last byte.
+fn end_alike(a: &[u8], b: &[u8]) -> bool
+    ensures { bytes_eq a.now b.now ≡ true → result ≡ true }
+{
+    if a.len() != b.len() {
+        return false;
+    }
+    a.is_empty() || a[a.len() - 1] == b[b.len() - 1]
+}

@@ -1,0 +1,69 @@
+//! Words that are names.
+
+ghost use Rattle.std.specs.Prelude.{◌≡◌};
+ghost use Rattle.std.specs.Option.{option_copied};
+ghost use Rattle.std.specs.List.{list_all};
+ghost use Rattle.text_lines.specs.Text.{is_name, name_of, is_keyword, is_name_byte};
+
+use crate::limits::MOST_LETTERS;
+
+/// A word as text, if it is a NAME.
+pub fn name(word: &[u8]) -> Option<&str>
+    ensures { option_copied result ≡ name_of word.now }
+{
+    if is_name(word) {
+        str::from_utf8(word).ok()
+    } else {
+        None
+    }
+}
+
+/// Whether a word is a NAME.
+#[inline(always)]
+pub fn is_name(word: &[u8]) -> bool
+    ensures { result ≡ is_name word.now }
+{
+    match word {
+        [only] => only.is_ascii_alphabetic(),
+        _ => is_longer_name(word),
+    }
+}
+
+/// The same, for words of all lengths.
+fn is_longer_name(word: &[u8]) -> bool
+    ensures { result ≡ is_name word.now }
+{
+    match word {
+        [] => false,
+        [first, ..] => {
+            if !first.is_ascii_alphabetic() || word.len() > MOST_LETTERS {
+                return false;
+            }
+            has_name_bytes(word) && !is_keyword(word)
+        }
+    }
+}
+
+fn has_name_bytes(word: &[u8]) -> bool
+    ensures { result ≡ list_all is_name_byte word.now }
+{
+    word.iter().all(|b| b.is_ascii_alphanumeric() || *b == b'_')
+}
+
+fn is_keyword(word: &[u8]) -> bool
+    ensures { result ≡ is_keyword word.now }
+{
+    match word {
+        b"session"
+        | b"let"
+        | b"set"
+        | b"give"
+        | b"require"
+        | b"else"
+        | b"if"
+        | b"repeat"
+        | b"end"
+        | b"read" => true,
+        _ => false,
+    }
+}

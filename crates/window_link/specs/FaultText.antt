@@ -1,0 +1,9 @@
+-- The code and the name of what a link refuses.
+use Rattle.std.specs.Prelude.{ℕ, List, codes}
+use Rattle.window_link.specs.declared.fault.LinkFault.{LinkFault}
+use Rattle.window_link.specs.declared.fault.LinkFault.TheVariants.{Stranger, AckAhead, Worn}
+
+abbrev pub fault_text : LinkFault → List ℕ
+fault_text Stranger = codes "L1 Stranger"
+fault_text AckAhead = codes "L2 AckAhead"
+fault_text Worn = codes "L3 Worn"
