@@ -2,9 +2,9 @@
 
 use crate::journal::Refused;
 use diagnostics::shown::{Quoted, Text, say_no_name, say_no_office, say_other_text, say_word};
-use office_map::text::{is_name, number};
 use run_words::words::is;
 use std::alloc::AllocError;
+use text_lines::{is_name, number};
 
 /// Of the words of a first line.
 pub(crate) fn say_header(

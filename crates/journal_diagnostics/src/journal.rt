@@ -5,9 +5,8 @@ use crate::line::say_line;
 use diagnostics::shown::{line_at, say_unreadable};
 use journal_texts::JournalRefusal;
 use office_map::Plan;
-use office_map::statements::Statements;
-use office_map::text::words;
 use std::alloc::{AllocError, Global};
+use text_lines::{Statements, words};
 
 /// A line that is refused, and the plan that it is read under.
 #[derive(Clone, Copy)]

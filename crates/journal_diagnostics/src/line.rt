@@ -7,11 +7,11 @@ use diagnostics::shown::{
     Quoted, Text, say_expected, say_no_office, say_other_text, say_word, word_at,
 };
 use office_map::Plan;
-use office_map::text::number;
 use run_words::rules::{rule_named, rule_with};
 use run_words::words::{great_count_by, is, office_by};
 use site_core::LONGEST_PIECE;
 use std::alloc::AllocError;
+use text_lines::number;
 
 /// The greatest tag.
 const LAST_TAG: u64 = 15;

@@ -1,5 +1,5 @@
 -- The parts of an entry's line, one after the other.
-use Rattle.std.proofs.Common.{◌≡◌, ℕ, List, [], ◌∷◌, ◌++◌, codes, refl, sym, ap, ◌∙◌, append_assoc, arith}
+use Rattle.std.proofs.Common.{None, ◌≡◌, ℕ, List, [], ◌∷◌, ◌++◌, codes, refl, sym, ap, ◌∙◌, append_assoc, arith}
 use Rattle.std.specs.Fmt.{decimal}
 use Rattle.std.proofs.lemmas.Grind.{common_steps}
 use Rattle.office_map.specs.PlanValue.{PlanValue}
@@ -10,9 +10,10 @@ use Rattle.site_core.specs.declared.reply.Reply.{Reply}
 use Rattle.site_core.specs.declared.reply.Reply.TheVariants as reply
 use Rattle.session_language.specs.Program.{text_under}
 use Rattle.run_words.specs.Words.{office_name, line_of_words}
+use Rattle.run_words.specs.Replies.{reply_words}
 use Rattle.run_words.specs.Rules.{rule_words}
 use Rattle.run_words.specs.Digits.{digits_of, frame_digits}
-use Rattle.journal_texts.specs.Written.{event_words, reply_words, entry_words, entry_line}
+use Rattle.journal_texts.specs.Written.{event_words, entry_words, entry_line}
 
 joined : (a : List ℕ) (ws : List (List ℕ)) (v : List ℕ) (vs : List (List ℕ)) → line_of_words ((a ∷ ws) ++ v ∷ vs) ≡ line_of_words (a ∷ ws) ++ 32 ∷ line_of_words (v ∷ vs)
 joined a [] v vs = refl
@@ -30,10 +31,10 @@ with_event p tag (event.Took f) v vs = after_tag tag (codes "took") (frame_digit
 with_event p tag (event.Withdraw t) v vs = after_tag tag (codes "withdraw") (decimal t ∷ []) v vs
 
 -- the words after the sign are those of the reply
-with_reply : (p : PlanValue) (x : Entry) → line_of_words (entry_words p x) ≡ decimal x.tag ++ 32 ∷ (line_of_words (event_words p x.event) ++ 32 ∷ 61 ∷ 32 ∷ line_of_words (reply_words x.reply))
-with_reply p x = with_event p (decimal x.tag) x.event (codes "=") (reply_words x.reply) ∙ ap (λ l. decimal x.tag ++ 32 ∷ (line_of_words (event_words p x.event) ++ 32 ∷ l)) (sign (x.reply))
+with_reply : (p : PlanValue) (x : Entry) → line_of_words (entry_words p x) ≡ decimal x.tag ++ 32 ∷ (line_of_words (event_words p x.event) ++ 32 ∷ 61 ∷ 32 ∷ line_of_words (reply_words None x.reply))
+with_reply p x = with_event p (decimal x.tag) x.event (codes "=") (reply_words None x.reply) ∙ ap (λ l. decimal x.tag ++ 32 ∷ (line_of_words (event_words p x.event) ++ 32 ∷ l)) (sign (x.reply))
   where
-    sign : (r : Reply) → line_of_words (codes "=" ∷ reply_words r) ≡ 61 ∷ 32 ∷ line_of_words (reply_words r)
+    sign : (r : Reply) → line_of_words (codes "=" ∷ reply_words None r) ≡ 61 ∷ 32 ∷ line_of_words (reply_words None r)
     sign (reply.Ticket t) = refl
     sign reply.Done = refl
     sign (reply.Frame f) = refl
@@ -47,11 +48,11 @@ parts : (a t e r : List ℕ) → ((((a ++ (t ++ 32 ∷ [])) ++ e) ++ 32 ∷ 61 �
 parts a t e r = grind (arith, common_steps)
 
 -- a line, part by part
-pub whole_line : (p : PlanValue) (x : Entry) (a b c d e f : List ℕ) → b ≡ a ++ (decimal x.tag ++ codes " ") → c ≡ b ++ line_of_words (event_words p x.event) → d ≡ c ++ codes " = " → e ≡ d ++ line_of_words (reply_words x.reply) → f ≡ e ++ codes "\n"
+pub whole_line : (p : PlanValue) (x : Entry) (a b c d e f : List ℕ) → b ≡ a ++ (decimal x.tag ++ codes " ") → c ≡ b ++ line_of_words (event_words p x.event) → d ≡ c ++ codes " = " → e ≡ d ++ line_of_words (reply_words None x.reply) → f ≡ e ++ codes "\n"
     → f ≡ a ++ entry_line p x
 whole_line p x a b c d e f hb hc hd he hf =
     let event = line_of_words (event_words p x.event) in
-    let answer = line_of_words (reply_words x.reply) in
+    let answer = line_of_words (reply_words None x.reply) in
     let written : f ≡ ((((a ++ (decimal x.tag ++ codes " ")) ++ event) ++ codes " = ") ++ answer) ++ 10 ∷ [] =
     hf ∙ ap (λ l. l ++ 10 ∷ []) (he ∙ ap (λ l. l ++ answer) (hd ∙ ap (λ l. l ++ codes " = ") (hc ∙ ap (λ l. l ++ event) hb))) in
     written ∙ parts a (decimal x.tag) event answer ∙ ap (λ l. a ++ (l ++ 10 ∷ [])) (sym (with_reply p x))

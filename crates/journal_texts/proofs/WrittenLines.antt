@@ -12,7 +12,7 @@ use Rattle.std.proofs.lemmas.List.Folds.{list_all-append}
 use Rattle.frame_codec.specs.Frame.{Fields}
 use Rattle.office_map.specs.PlanValue.{PlanValue, office_named}
 use Rattle.office_map.specs.Consistency.{IsConsistent}
-use Rattle.office_map.specs.Text.{is_blank, is_name_byte, says_something, statements_from, lines}
+use Rattle.text_lines.specs.Text.{is_blank, is_name_byte, says_something, statements_from, lines}
 use Rattle.office_map.specs.PlanText.{and_then}
 use Rattle.session_language.specs.Program.{text_under}
 use Rattle.session_language.specs.Reading.{sessions_of}
@@ -30,6 +30,7 @@ use Rattle.site_core.specs.declared.reply.Reply.{Reply}
 use Rattle.site_core.specs.declared.reply.Reply.TheVariants as reply
 use Rattle.site_core.specs.Replies.{reply_to}
 use Rattle.run_words.specs.Words.{office_name, is_word, line_of_words}
+use Rattle.run_words.specs.Replies.{reply_words, ReplyReadsBack}
 use Rattle.run_words.specs.Rules.{rule_of, rule_words}
 use Rattle.run_words.specs.Digits.{digits_of, frame_digits, bytes_in}
 use Rattle.run_words.proofs.LinesOfWords.{line_of, lines_are_cut}
@@ -39,8 +40,8 @@ use Rattle.run_words.proofs.RuleWords.{rules_read_back}
 use Rattle.journal_texts.specs.declared.fault.JournalRule.TheVariants.{JournalHeader}
 use Rattle.journal_texts.specs.Lines.{Said, Whole, Made, Came, tag_of, program_in, one_program, do_line, done_by, withdrawn_by, submitted_by, sent_by, took_by, said_after, tagged, said_by, said_of, IsEntry}
 use Rattle.journal_texts.specs.JournalText.{run_and_name, header_said, office_of_header, header_of, HaveEntries, IsJournal}
-use Rattle.journal_texts.specs.Written.{header_words, event_words, reply_words, entry_words, entry_line, journal_text}
-use Rattle.journal_texts.specs.refinement.WrittenValues.{FrameReadsBack, EventReadsBack, ReplyReadsBack, EntryReadsBack}
+use Rattle.journal_texts.specs.Written.{header_words, event_words, entry_words, entry_line, journal_text}
+use Rattle.journal_texts.specs.refinement.WrittenValues.{FrameReadsBack, EventReadsBack, EntryReadsBack}
 use Rattle.journal_texts.proofs.LegalEntries.{IsEventOf, IsEntryOf}
 
 -- ---- words
@@ -128,7 +129,7 @@ module _ (p : PlanValue) (ok : IsConsistent p) (tag : ℕ) (lt : tag < 16) where
       (all6 (codes "send") (office_name p v) (decimal i) (codes "=") (codes "frame") d refl (office_word p ok v near) (number_word i small) refl refl (frame_word f h))
       (ap₂ (λ a b. sent_by tag a b (bytes_in d)) (office_again p ok v near) (number_again i small) ∙ ap (sent_by tag (Some v) (Some i)) h.1) (f, h.2, refl)
 
-  took_says : (f : Fields) (r : Reply) (name : List ℕ) → reply_words r ≡ name ∷ [] → is_word name ≡ true → said_after p tag (codes "took" ∷ frame_digits f ∷ codes "=" ∷ name ∷ []) ≡ took_by tag (bytes_in (frame_digits f)) (Some r)
+  took_says : (f : Fields) (r : Reply) (name : List ℕ) → reply_words None r ≡ name ∷ [] → is_word name ≡ true → said_after p tag (codes "took" ∷ frame_digits f ∷ codes "=" ∷ name ∷ []) ≡ took_by tag (bytes_in (frame_digits f)) (Some r)
       → FrameReadsBack f → SaysEntry p (record { tag = tag; event = event.Took f; reply = r })
   took_says f r name are word says h =
       let d = frame_digits f in
@@ -193,7 +194,7 @@ have p n [] ok h b = record { said = []; each = refl; entered = refl }
 have p n (x ∷ xs) ok h b =
     let s = entry_says p x ok (All-head (IsEntryOf p) x xs h) (All-head (EntryReadsBack p) x xs b) in
     let small = (All-head (IsEntryOf p) x xs h).tag in
-    let first = statement_is n (decimal x.tag) (event_words p x.event ++ codes "=" ∷ reply_words x.reply) (flat_map (entry_line p) xs) (number_is_word x.tag (omega (arith, small))) s.words in
+    let first = statement_is n (decimal x.tag) (event_words p x.event ++ codes "=" ∷ reply_words None x.reply) (flat_map (entry_line p) xs) (number_is_word x.tag (omega (arith, small))) s.words in
     let more = have p (n + 1) xs ok (All-tail (IsEntryOf p) x xs h) (All-tail (EntryReadsBack p) x xs b) in
     record {
       said = s.said ∷ more.said;

@@ -4,7 +4,7 @@ use Rattle.std.specs.Str.{bytes_eq}
 use Rattle.frame_codec.specs.Frame.{Fields}
 use Rattle.frame_codec.specs.Version01.{Spells}
 use Rattle.office_map.specs.PlanValue.{PlanValue}
-use Rattle.office_map.specs.Text.{number_of}
+use Rattle.text_lines.specs.Text.{number_of}
 use Rattle.office_map.specs.PlanText.{and_then, plain_words}
 use Rattle.session_meaning.specs.ProgramValue.{ProgramValue}
 use Rattle.session_language.specs.declared.fault.SessionRefusal.{SessionRefusal}
@@ -15,6 +15,7 @@ use Rattle.site_core.specs.declared.event.Entry.{Entry}
 use Rattle.site_core.specs.declared.reply.Reply.{Reply}
 use Rattle.site_core.specs.declared.reply.Reply.TheVariants as reply
 use Rattle.run_words.specs.Words.{office_by, count_by}
+use Rattle.run_words.specs.Replies.{arrival_named}
 use Rattle.run_words.specs.Rules.{rule_named, rule_with}
 use Rattle.run_words.specs.Digits.{bytes_in}
 use Rattle.journal_texts.specs.Limits.{tags, last_ticket}
@@ -40,15 +41,6 @@ one_program (Err e) = None
 -- the program whose text's digits stand in a word
 abbrev pub program_in : PlanValue → List ℕ → Option ProgramValue
 program_in p word = and_then (bytes_in word) (λ text. one_program (sessions_of p text))
-
--- what a frame that came was
-abbrev pub arrival_named : List ℕ → Option Reply
-arrival_named name =
-    if bytes_eq name (codes "acked") then Some reply.Acked
-    else (if bytes_eq name (codes "taken") then Some reply.Taken
-    else (if bytes_eq name (codes "repeat") then Some reply.Repeat
-    else (if bytes_eq name (codes "kept") then Some reply.Kept
-    else (if bytes_eq name (codes "early") then Some reply.Early else None))))
 
 -- ---- lines
 

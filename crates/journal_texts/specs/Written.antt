@@ -1,5 +1,5 @@
 -- How a journal is written.
-use Rattle.std.specs.Prelude.{ℕ, List, [], ◌∷◌, ◌++◌, codes}
+use Rattle.std.specs.Prelude.{ℕ, List, [], ◌∷◌, ◌++◌, None, codes}
 use Rattle.std.specs.List.{flat_map}
 use Rattle.std.specs.Fmt.{decimal}
 use Rattle.office_map.specs.PlanValue.{PlanValue}
@@ -7,10 +7,9 @@ use Rattle.session_language.specs.Program.{text_under}
 use Rattle.site_core.specs.declared.event.Event.{Event}
 use Rattle.site_core.specs.declared.event.Event.TheVariants as event
 use Rattle.site_core.specs.declared.event.Entry.{Entry}
-use Rattle.site_core.specs.declared.reply.Reply.{Reply}
-use Rattle.site_core.specs.declared.reply.Reply.TheVariants as reply
 use Rattle.run_words.specs.Words.{office_name, line_of_words}
 use Rattle.run_words.specs.Rules.{rule_words}
+use Rattle.run_words.specs.Replies.{reply_words}
 use Rattle.run_words.specs.Digits.{digits_of, frame_digits}
 
 abbrev pub header_words : PlanValue → ℕ → List (List ℕ)
@@ -24,19 +23,9 @@ event_words p (event.Send v i) = codes "send" ∷ office_name p v ∷ decimal i 
 event_words p (event.Took f) = codes "took" ∷ frame_digits f ∷ []
 event_words p (event.Withdraw t) = codes "withdraw" ∷ decimal t ∷ []
 
-abbrev pub reply_words : Reply → List (List ℕ)
-reply_words (reply.Ticket t) = codes "ticket" ∷ decimal t ∷ []
-reply_words reply.Done = codes "done" ∷ []
-reply_words (reply.Frame f) = codes "frame" ∷ frame_digits f ∷ []
-reply_words reply.Acked = codes "acked" ∷ []
-reply_words reply.Taken = codes "taken" ∷ []
-reply_words reply.Repeat = codes "repeat" ∷ []
-reply_words reply.Kept = codes "kept" ∷ []
-reply_words reply.Early = codes "early" ∷ []
-
 -- TAG EVENT = REPLY
 abbrev pub entry_words : PlanValue → Entry → List (List ℕ)
-entry_words p x = decimal x.tag ∷ event_words p x.event ++ codes "=" ∷ reply_words x.reply
+entry_words p x = decimal x.tag ∷ event_words p x.event ++ codes "=" ∷ reply_words None x.reply
 
 abbrev pub entry_line : PlanValue → Entry → List ℕ
 entry_line p x = line_of_words (entry_words p x) ++ 10 ∷ []

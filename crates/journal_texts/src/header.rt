@@ -7,9 +7,9 @@ ghost use Rattle.journal_texts.specs.JournalText.{run_and_name, header_said, hea
 
 use crate::fault::JournalRule;
 use crate::line::are;
-use office_map::text::{is_plain, name, number, words};
 use office_map::{OfficeId, Plan};
 use std::alloc::{AllocError, Global};
+use text_lines::{is_plain, name, number, words};
 
 /// Whose journal a first line begins, or what is wrong with it.
 pub(crate) fn header(

@@ -3,18 +3,19 @@
 ghost use Rattle.std.specs.Prelude.{◌≡◌, Some, None, Ok, map, ◌&&◌, if◌then◌else◌, IfOk};
 ghost use Rattle.std.specs.Str.{bytes_eq};
 ghost use Rattle.run_words.specs.Digits.{bytes_in};
-ghost use Rattle.journal_texts.specs.Lines.{said_of, said_by, said_after, tag_of, arrival_named, took_line, do_line, send_line, submit_line, withdraw_line, done_by, withdrawn_by, took_by, submitted_by, sent_by, program_in, one_program, is_done};
+ghost use Rattle.journal_texts.specs.Lines.{said_of, said_by, said_after, tag_of, took_line, do_line, send_line, submit_line, withdraw_line, done_by, withdrawn_by, took_by, submitted_by, sent_by, program_in, one_program, is_done};
 ghost use Rattle.journal_texts.specs.declared.line.Told.TheVariants as tolds;
 ghost use Rattle.journal_texts.specs.refinement.ReadLines.{Reads};
 
-use office_map::text::{is_plain, number, words};
 use office_map::{OfficeId, Plan};
 use run_words::digits::{FrameWord, bytes, frame_word};
+use run_words::replies::arrival_named;
 use run_words::rules::{rule_named, rule_with};
 use run_words::words::{great_count_by, is, office_by};
 use session_language::{LangFault, Program, read_sessions};
 use site_core::{Entry, Event, Reply, Rule};
 use std::alloc::{AllocError, Global};
+use text_lines::{is_plain, number, words};
 
 /// Tags are below.
 const TAGS: u64 = 16;
@@ -182,24 +183,6 @@ pub(crate) fn are(a: &[u8], text: &str, b: &[u8], other: &str) -> bool
     ensures { result ≡ (bytes_eq a.now text.now && bytes_eq b.now other.now) }
 {
     is(a, text) && is(b, other)
-}
-
-fn arrival_named(name: &[u8]) -> Option<Reply>
-    ensures { result ≡ arrival_named name.now }
-{
-    if is(name, "acked") {
-        Some(Reply::Acked)
-    } else if is(name, "taken") {
-        Some(Reply::Taken)
-    } else if is(name, "repeat") {
-        Some(Reply::Repeat)
-    } else if is(name, "kept") {
-        Some(Reply::Kept)
-    } else if is(name, "early") {
-        Some(Reply::Early)
-    } else {
-        None
-    }
 }
 
 /// A frame came.

@@ -1,7 +1,7 @@
 //! Reading a journal.
 
 ghost use Rattle.std.specs.Prelude.{◌≡◌, ◌<◌, ◌+◌, ◌^◌, length, IfOk, IfErr, OnOk};
-ghost use Rattle.office_map.specs.Text.{lines, statements_from};
+ghost use Rattle.text_lines.specs.Text.{lines, statements_from};
 ghost use Rattle.journal_texts.specs.JournalText.{IsJournal, HaveEntries, IsFaultOf};
 ghost use Rattle.journal_texts.specs.declared.line.Told.TheVariants as tolds;
 ghost use Rattle.journal_texts.specs.refinement.ReadLines.{Adds, IsLineFault};
@@ -10,10 +10,10 @@ use crate::fault::{JournalFault, JournalRule, refused};
 use crate::header::header;
 use crate::journal_text::JournalText;
 use crate::line::{Told, read_line};
-use office_map::statements::Statements;
 use office_map::{OfficeId, Plan};
 use site_core::Entry;
 use std::alloc::{AllocError, Global};
+use text_lines::Statements;
 
 /// The journal that a text is under a plan.
 ///

@@ -6,20 +6,20 @@ ghost use Rattle.std.specs.String.{string_bytes};
 ghost use Rattle.session_language.specs.Program.{fits};
 ghost use Rattle.site_core.specs.Journals.{IsLegal};
 ghost use Rattle.site_core.specs.declared.event.Event.TheVariants as events;
-ghost use Rattle.site_core.specs.declared.reply.Reply.TheVariants as replies;
 ghost use Rattle.run_words.specs.Digits.{frame_digits};
 ghost use Rattle.run_words.specs.Words.{line_of_words};
 ghost use Rattle.journal_texts.specs.JournalText.{IsJournal};
-ghost use Rattle.journal_texts.specs.Written.{header_line, event_words, reply_words, entry_line, journal_text};
-ghost use Rattle.journal_texts.specs.refinement.WrittenValues.{HasText, FrameReadsBack, EventReadsBack, ReplyReadsBack, EntryReadsBack};
+ghost use Rattle.journal_texts.specs.Written.{header_line, event_words, entry_line, journal_text};
+ghost use Rattle.journal_texts.specs.refinement.WrittenValues.{HasText, FrameReadsBack, EventReadsBack, EntryReadsBack};
 
 use frame_codec::Frame;
 use office_map::{OfficeId, Plan};
 use run_words::digits::{digits, frame_digits};
+use run_words::replies::add_reply;
 use run_words::rules::add_rule;
 use run_words::words::office_name;
 use session_language::Program;
-use site_core::{Entry, Event, Journal, Reply};
+use site_core::{Entry, Event, Journal};
 use std::alloc::{AllocError, Global};
 
 /// The text of an office's journal: a first line, and then a line for each entry.
@@ -65,7 +65,7 @@ fn add_entry(alloc: Global, text: &mut String, plan: &Plan, entry: &Entry) -> Re
     write!(text, "{tag} ")?;
     add_event(alloc, text, plan, &entry.event)?;
     text.push_str(" = ")?;
-    add_reply(alloc, text, &entry.reply)?;
+    add_reply(alloc, text, None, &entry.reply)?;
     text.push_str("\n")?;
     Ok(())
 }
@@ -119,30 +119,6 @@ fn add_frame(alloc: Global, text: &mut String, word: &str, frame: &Frame) -> Res
     let digits = frame_digits(alloc, frame)?;
     text.push_str(word)?;
     text.push_str(digits.as_str())
-}
-
-fn add_reply(alloc: Global, text: &mut String, reply: &Reply) -> Result<(), AllocError>
-    ensures words { OnOk result (string_bytes text.new ≡ string_bytes text.old ++ line_of_words (reply_words reply.now)) }
-    ensures reads_back { OnOk result (ReplyReadsBack reply.now) }
-{
-    match reply {
-        Reply::Ticket(ticket) => add_ticket(text, "ticket ", *ticket),
-        Reply::Done => text.push_str("done"),
-        Reply::Frame(frame) => add_made(alloc, text, frame),
-        Reply::Acked => text.push_str("acked"),
-        Reply::Taken => text.push_str("taken"),
-        Reply::Repeat => text.push_str("repeat"),
-        Reply::Kept => text.push_str("kept"),
-        Reply::Early => text.push_str("early"),
-    }
-}
-
-/// The frame of a reply.
-fn add_made(alloc: Global, text: &mut String, frame: &Frame) -> Result<(), AllocError>
-    ensures words { OnOk result (string_bytes text.new ≡ string_bytes text.old ++ line_of_words (reply_words (replies.Frame frame.now))) }
-    ensures reads_back { OnOk result (ReplyReadsBack (replies.Frame frame.now)) }
-{
-    add_frame(alloc, text, "frame ", frame)
 }
 
 /// A ticket, after a word.

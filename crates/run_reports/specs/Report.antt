@@ -1,19 +1,13 @@
 -- What is printed of sessions and of records.
-use Rattle.std.specs.Prelude.{ℕ, List, [], ◌∷◌, ◌++◌, length, codes, unwrap_or, pos}
+use Rattle.std.specs.Prelude.{ℕ, List, [], ◌∷◌, ◌++◌, length, codes, pos}
 use Rattle.std.specs.List.{flat_map, range_with_len, slice_index_or}
 use Rattle.std.specs.Fmt.{decimal, signed_decimal}
 use Rattle.bottle_values.specs.declared.Value.{Value}
-use Rattle.office_map.specs.PlanValue.{PlanValue, office_name_of, record_name_of}
+use Rattle.office_map.specs.PlanValue.{PlanValue}
 use Rattle.session_meaning.specs.declared.ending.End.{End}
 use Rattle.session_meaning.specs.declared.ending.End.TheVariants.{Done, Refused, Overflow}
 use Rattle.session_meaning.specs.declared.ending.Outcome.{Outcome}
-
--- the plan's names; nothing for a number that the plan doesn't have
-abbrev pub office_name : PlanValue → ℕ → List ℕ
-office_name p o = unwrap_or (office_name_of p o) []
-
-abbrev pub record_name : PlanValue → ℕ → List ℕ
-record_name p r = unwrap_or (record_name_of p r) []
+use Rattle.run_words.specs.Words.{office_name, record_name}
 
 abbrev pub end_text : End → List ℕ
 end_text Done = codes "done"

@@ -3,11 +3,12 @@
 ghost use Rattle.std.specs.Prelude.{◌≡◌, ◌++◌, ◌∷◌, [], codes, length, IfOk, OnOk};
 ghost use Rattle.std.specs.List.{flat_map};
 ghost use Rattle.std.specs.String.{string_bytes};
-ghost use Rattle.run_reports.specs.Report.{office_name, record_name, end_text, listed, record_text, value_text, title, outcome_line, value_at, value_line, value_lines, report_of};
+ghost use Rattle.run_reports.specs.Report.{end_text, listed, record_text, value_text, title, outcome_line, value_at, value_line, value_lines, report_of};
 
 use bottle_values::Value;
 use itoa::Buffer;
-use office_map::{OfficeId, Plan, RecordId};
+use office_map::{Plan, RecordId};
+use run_words::words::{office_name, record_name};
 use session_meaning::{End, Outcome};
 use std::alloc::{AllocError, Global};
 
@@ -139,26 +140,4 @@ pub fn add_value(
     text.push_str(" ")?;
     add_number(text, value)?;
     text.push_str("\n")
-}
-
-/// An office's name, or nothing where the plan has no such office.
-fn office_name(plan: &Plan, id: OfficeId) -> &str
-    ensures { result.now ≡ office_name plan.now id }
-{
-    if id.index() < plan.offices() {
-        plan.office_name(id)
-    } else {
-        ""
-    }
-}
-
-/// A record's name, or nothing where the plan has no such record.
-fn record_name(plan: &Plan, id: RecordId) -> &str
-    ensures { result.now ≡ record_name plan.now id }
-{
-    if id.index() < plan.records() {
-        plan.record_name(id)
-    } else {
-        ""
-    }
 }

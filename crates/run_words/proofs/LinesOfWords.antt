@@ -6,7 +6,7 @@ use Rattle.std.proofs.lemmas.Bool.{and_parts}
 use Rattle.std.proofs.lemmas.Bool.Decides.{nat_tests}
 use Rattle.std.proofs.lemmas.List.Folds.{list_all-append}
 use Rattle.std.proofs.lemmas.List.Splits.{slice_split-cons_no}
-use Rattle.office_map.specs.Text.{is_blank, is_plain, words_of}
+use Rattle.text_lines.specs.Text.{is_blank, is_plain, words_of}
 use Rattle.run_words.specs.Words.{is_visible, is_word, line_of_words, LinesAreCutIntoTheirWords}
 
 no_blank : (b : ℕ) → is_visible b ≡ true → is_blank b ≡ false

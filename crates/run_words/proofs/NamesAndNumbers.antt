@@ -9,7 +9,7 @@ use Rattle.office_map.specs.declared.entries.RecordEntry.{RecordEntry}
 use Rattle.office_map.specs.PlanValue.{PlanValue, office_named, record_named}
 use Rattle.office_map.specs.Consistency.{IsConsistent}
 use Rattle.office_map.specs.PlanText.{and_then}
-use Rattle.office_map.specs.Text.{is_name, is_name_byte, name_of}
+use Rattle.text_lines.specs.Text.{is_name, is_name_byte, name_of}
 use Rattle.session_language.proofs.canonical.Lexemes.{IsWord, all_weaker, number_is_word, number_again, name_bytes, name_again}
 use Rattle.session_language.proofs.canonical.NameResolution.{office_found, record_found, office_is_named, record_is_named}
 use Rattle.run_words.specs.Words.{office_name, record_name, office_by, record_by, counted, count_by, is_visible, is_word}

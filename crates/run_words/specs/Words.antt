@@ -2,7 +2,7 @@
 use Rattle.std.specs.Prelude.{◌≡◌, ℕ, List, [], ◌&&◌, nat_lt, nat_le, Bool, true, Option, Some, None, if◌then◌else◌, length, unwrap_or}
 use Rattle.std.specs.List.{list_all, join_with_byte}
 use Rattle.office_map.specs.PlanValue.{PlanValue, office_named, record_named, office_name_of, record_name_of}
-use Rattle.office_map.specs.Text.{name_of, number_of}
+use Rattle.text_lines.specs.Text.{name_of, number_of}
 use Rattle.office_map.specs.PlanText.{and_then, plain_words}
 
 -- the plan's names; nothing for a number that the plan doesn't have

@@ -3,13 +3,15 @@
 //! - [`words`] has the words of offices, records and counted numbers. A line of words with a space between is cut into these
 //!   words again ([`laws::lines_are_cut_into_their_words`]).
 //! - [`rules`] has the words of a rule, which read back as that rule ([`laws::rules_read_back`]).
+//! - [`replies`] has the words of a reply, and which reply a word says of a frame that came.
 //! - [`digits`] has bytes as digits, two for each byte, and which frame a word of digits spells.
 //!
-//! Which words say what is in `specs/`: `Words.antt`, `Rules.antt` and `Digits.antt`. Lines, names and numbers are those of
-//! `office_map`, a frame's bytes those of `frame_codec`.
+//! Which words say what is in `specs/`: `Words.antt`, `Rules.antt`, `Replies.antt` and `Digits.antt`. Lines, names and numbers
+//! are those of `text_lines`, a frame's bytes those of `frame_codec`.
 #![tactic(auto)]
 
 pub mod digits;
 pub mod laws;
+pub mod replies;
 pub mod rules;
 pub mod words;

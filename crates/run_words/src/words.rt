@@ -1,11 +1,11 @@
 //! The words of offices, records and numbers.
 
-ghost use Rattle.std.specs.Prelude.{◌≡◌};
+ghost use Rattle.std.specs.Prelude.{◌≡◌, ◌≤◌, IfSome};
 ghost use Rattle.std.specs.Str.{bytes_eq};
 ghost use Rattle.run_words.specs.Words.{office_by, record_by, count_by, office_name, record_name};
 
-use office_map::text::{name, number};
 use office_map::{OfficeId, Plan, RecordId};
+use text_lines::{name, number};
 
 /// Whether a word is this text.
 pub fn is(word: &[u8], text: &str) -> bool
@@ -32,10 +32,7 @@ pub fn record_by(plan: &Plan, word: &[u8]) -> Option<RecordId>
 pub fn count_by(most: u16, word: &[u8]) -> Option<u16>
     ensures { result ≡ count_by most word.now }
 {
-    let n = number(word)?;
-    if n < 1 || n > u64::from(most) {
-        return None;
-    }
+    let n = counted(u64::from(most), word)?;
     Some(n as u16)
 }
 
@@ -43,11 +40,19 @@ pub fn count_by(most: u16, word: &[u8]) -> Option<u16>
 pub fn great_count_by(most: u32, word: &[u8]) -> Option<u32>
     ensures { result ≡ count_by most word.now }
 {
+    let n = counted(u64::from(most), word)?;
+    Some(n as u32)
+}
+
+fn counted(most: u64, word: &[u8]) -> Option<u64>
+    ensures number { result ≡ count_by most word.now }
+    ensures few { IfSome result (λ n. n ≤ most) }
+{
     let n = number(word)?;
-    if n < 1 || n > u64::from(most) {
+    if n < 1 || n > most {
         return None;
     }
-    Some(n as u32)
+    Some(n)
 }
 
 /// An office's name, or nothing where the plan has no such office.

@@ -7,6 +7,7 @@ use Rattle.std.proofs.lemmas.List.{take_more}
 use Rattle.std.proofs.lemmas.List.Concat.{flat_map-append}
 use Rattle.std.proofs.lemmas.List.Elements.{filter_map-append}
 use Rattle.frame_codec.specs.Frame.{Fields}
+use Rattle.office_map.specs.PlanValue.{PlanValue}
 use Rattle.session_meaning.specs.ProgramValue.{ProgramValue}
 use Rattle.site_core.specs.declared.event.Event as office
 use Rattle.site_core.specs.declared.event.Event.TheVariants as site_event
@@ -28,7 +29,7 @@ use Rattle.world_schedule.specs.Resting.{Resting, RestIn, RestAfter}
 use Rattle.script_runs.specs.declared.event.ScriptEvent.{ScriptEvent}
 use Rattle.script_runs.specs.declared.said.Said.{Said}
 use Rattle.script_runs.specs.declared.said.Said.TheVariants.{Rules}
-use Rattle.script_runs.specs.Script.{Act, Advances, Settles, act_with, acts_with}
+use Rattle.script_runs.specs.Script.{Act, Happens, Advances, Settles, act_with, acts_with}
 use Rattle.script_runs.specs.Runs.{Told, does, run_of, all_told, advanced, by_rule, further, stepped, by_step, settled}
 use Rattle.script_runs.specs.Runs as runs
 use Rattle.script_runs.specs.Transcript.{told_line}
@@ -89,6 +90,47 @@ plan_stays w (happening.Deliver (suc k)) = of (slice_get w.frames k)
     of : (f : Option Fields) → (delivered w f).1.plan ≡ w.plan
     of None = refl
     of (Some f) = handed_plan w f.to (site_event.Took f)
+
+-- nor does an act
+further_plan : (p : PlanValue) (go_on : World → Told) (x : Answer) → x.1.plan ≡ p → ((v : World) → v.plan ≡ p → (go_on v).1.plan ≡ p) → (further go_on x).1.plan ≡ p
+further_plan p go_on (Ok r, v) h on = on v h
+further_plan p go_on (Err e, v) h on = h
+
+delivered_plan : (p : PlanValue) (x : Answer) → x.1.plan ≡ p → (runs.delivered x).1.plan ≡ p
+delivered_plan p (Ok r, v) h = plan_stays v (happening.Deliver (length v.frames)) ∙ h
+delivered_plan p (Err e, v) h = h
+
+advanced_plan : (w : World) (a done left : ℕ) → (advanced w a done left).1.plan ≡ w.plan
+advanced_plan w a done zero = refl
+advanced_plan w a done (suc left) = go (next_rule w.plan a (office_at w a)) (λ v e. advanced_plan v a (done + 1) left ∙ e)
+  where
+    go : (o : Option Rule) → ((v : World) → v.plan ≡ w.plan → (advanced v a (done + 1) left).1.plan ≡ w.plan) → (by_rule (λ v. advanced v a (done + 1) left) w a done o).1.plan ≡ w.plan
+    go None on = refl
+    go (Some r) on = further_plan w.plan (λ v. advanced v a (done + 1) left) (happens w (happening.Do a r)) (plan_stays w (happening.Do a r)) on
+
+settled_plan : (w : World) (done left : ℕ) → (settled w done left).1.plan ≡ w.plan
+settled_plan w done zero = refl
+settled_plan w done (suc left) = go (next_step w) (λ v e. settled_plan v (done + 1) left ∙ e)
+  where
+    go : (s : NextStep) → ((v : World) → v.plan ≡ w.plan → (settled v (done + 1) left).1.plan ≡ w.plan) → (by_step (λ v. settled v (done + 1) left) w done (stepped w s)).1.plan ≡ w.plan
+    go (next.Rule a r) on = further_plan w.plan (λ v. settled v (done + 1) left) (happens w (happening.Do a r)) (plan_stays w (happening.Do a r)) on
+    go (next.Message a b number) on =
+        let sending = happening.Send a b (place_of w a b number) in
+        further_plan w.plan (λ v. settled v (done + 1) left) (runs.delivered (happens w sending)) (delivered_plan w.plan (happens w sending) (plan_stays w sending)) on
+    go next.AllFinished on = refl
+
+act_plan : (w : World) (x : Act) → (does w x).1.plan ≡ w.plan
+act_plan w (Happens e) = plan_stays w e
+act_plan w (Advances a n) = go (nat_lt a (length w.plan.offices))
+  where
+    go : (b : Bool) → (cond {A = Told} b (advanced w a 0 n) (Err refusal.NoOffice, w)).1.plan ≡ w.plan
+    go true = advanced_plan w a 0 n
+    go false = refl
+act_plan w (Settles n) = settled_plan w 0 n
+
+pub run_plan : (w : World) (xs : List Act) → (run_of w xs).plan ≡ w.plan
+run_plan w [] = refl
+run_plan w (x ∷ xs) = run_plan (does w x).1 xs ∙ act_plan w x
 
 -- ---- rules, left to itself
 

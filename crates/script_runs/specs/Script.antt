@@ -1,15 +1,15 @@
 -- What the text of a script asks for, under a plan and the programs of a file of sessions, and which line is its first
 -- fault.
-use Rattle.std.specs.Prelude.{◌≡◌, ℕ, ◌-◌, ◌<◌, ◌≤◌, ◌⊎◌, List, [], ◌∷◌, ◌++◌, length, map, slice_get, ◌&&◌, ◌==◌, nat_le, Option, Some, None, option_map, if◌then◌else◌, codes}
+use Rattle.std.specs.Prelude.{◌≡◌, ℕ, ◌-◌, ◌<◌, ◌≤◌, ◌⊎◌, List, [], ◌∷◌, ◌++◌, length, map, slice_get, ◌==◌, Option, Some, None, option_map, if◌then◌else◌, codes}
 use Rattle.std.specs.List.{filter_map}
 use Rattle.std.specs.Str.{bytes_eq}
-use Rattle.office_map.specs.PlanValue.{PlanValue, office_named, record_named}
-use Rattle.office_map.specs.Text.{name_of, number_of, statements}
+use Rattle.office_map.specs.PlanValue.{PlanValue}
+use Rattle.text_lines.specs.Text.{number_of, statements}
 use Rattle.office_map.specs.PlanText.{and_then, plain_words}
 use Rattle.session_meaning.specs.ProgramValue.{ProgramValue}
 use Rattle.site_core.specs.declared.rule.Rule.{Rule}
-use Rattle.site_core.specs.declared.rule.Rule.TheVariants as rule
-use Rattle.site_core.specs.Limits.{longest_piece}
+use Rattle.run_words.specs.Words.{office_by, count_by}
+use Rattle.run_words.specs.Rules.{rule_named, rule_with}
 use Rattle.frame_world.specs.declared.event.WorldEvent.{WorldEvent}
 use Rattle.frame_world.specs.declared.event.WorldEvent.TheVariants as happening
 use Rattle.script_runs.specs.declared.event.ScriptEvent.{ScriptEvent}
@@ -18,42 +18,6 @@ use Rattle.script_runs.specs.declared.fault.ScriptRefusal.{ScriptRefusal}
 use Rattle.script_runs.specs.declared.fault.ScriptFault.{ScriptFault}
 use Rattle.script_runs.specs.declared.fault.ScriptFault.TheVariants.{Refused, Memory}
 use Rattle.script_runs.specs.Limits.{most_bytes, most_rules, most_steps, last_ticket}
-
--- ---- words
-
--- the office and the record that a word names
-abbrev pub office_by : PlanValue → List ℕ → Option ℕ
-office_by p word = and_then (name_of word) (office_named p)
-
-abbrev pub record_by : PlanValue → List ℕ → Option ℕ
-record_by p word = and_then (name_of word) (record_named p)
-
--- a number from 1 to the most
-abbrev pub counted : ℕ → ℕ → Option ℕ
-counted most n = if nat_le 1 n && nat_le n most then Some n else None
-
-abbrev pub count_by : ℕ → List ℕ → Option ℕ
-count_by most word = and_then (number_of word) (counted most)
-
--- ---- rules
-
-abbrev pub rule_named : List ℕ → Option Rule
-rule_named name =
-    if bytes_eq name (codes "start") then Some rule.Start
-    else (if bytes_eq name (codes "hungry") then Some rule.Hungry
-    else (if bytes_eq name (codes "eat") then Some rule.Eat
-    else (if bytes_eq name (codes "leave") then Some rule.Leave
-    else (if bytes_eq name (codes "drink") then Some rule.Drink
-    else (if bytes_eq name (codes "finish") then Some rule.Finish else None)))))
-
--- askfork OFFICE, givefork OFFICE, askbottle RECORD, givebottle RECORD, work N
-abbrev pub rule_with : PlanValue → List ℕ → List ℕ → Option Rule
-rule_with p name argument =
-    if bytes_eq name (codes "askfork") then option_map rule.AskFork (office_by p argument)
-    else (if bytes_eq name (codes "givefork") then option_map rule.GiveFork (office_by p argument)
-    else (if bytes_eq name (codes "askbottle") then option_map rule.AskBottle (record_by p argument)
-    else (if bytes_eq name (codes "givebottle") then option_map rule.GiveBottle (record_by p argument)
-    else (if bytes_eq name (codes "work") then option_map rule.Work (count_by longest_piece argument) else None))))
 
 -- ---- lines
 

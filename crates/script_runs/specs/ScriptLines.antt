@@ -1,32 +1,16 @@
 -- A script's events as lines, and that these read back.
 use Rattle.std.specs.Prelude.{◌≡◌, ℕ, ◌^◌, ◌<◌, ◌≤◌, List, [], ◌∷◌, ◌++◌, length, codes, All, Some}
-use Rattle.std.specs.List.{flat_map, join_with_byte}
+use Rattle.std.specs.List.{flat_map}
 use Rattle.std.specs.Fmt.{decimal}
 use Rattle.office_map.specs.PlanValue.{PlanValue}
 use Rattle.office_map.specs.Consistency.{IsConsistent}
 use Rattle.session_meaning.specs.ProgramValue.{ProgramValue}
-use Rattle.site_core.specs.declared.rule.Rule.{Rule}
-use Rattle.site_core.specs.declared.rule.Rule.TheVariants as rule
-use Rattle.site_core.specs.Limits.{longest_piece}
+use Rattle.run_words.specs.Words.{office_name, line_of_words}
+use Rattle.run_words.specs.Rules.{rule_words, IsRuleOf}
 use Rattle.script_runs.specs.declared.event.ScriptEvent.{ScriptEvent}
 use Rattle.script_runs.specs.declared.event.ScriptEvent.TheVariants as event
 use Rattle.script_runs.specs.Limits.{most_bytes, most_rules, most_steps, last_ticket}
-use Rattle.run_reports.specs.Report.{office_name, record_name}
 use Rattle.script_runs.specs.Script.{said_of, acts_with, IsScript}
-
--- a rule's words
-abbrev pub rule_words : PlanValue → Rule → List (List ℕ)
-rule_words p rule.Start = codes "start" ∷ []
-rule_words p rule.Hungry = codes "hungry" ∷ []
-rule_words p (rule.AskFork v) = codes "askfork" ∷ office_name p v ∷ []
-rule_words p (rule.GiveFork v) = codes "givefork" ∷ office_name p v ∷ []
-rule_words p rule.Eat = codes "eat" ∷ []
-rule_words p rule.Leave = codes "leave" ∷ []
-rule_words p (rule.AskBottle r) = codes "askbottle" ∷ record_name p r ∷ []
-rule_words p (rule.GiveBottle r) = codes "givebottle" ∷ record_name p r ∷ []
-rule_words p rule.Drink = codes "drink" ∷ []
-rule_words p (rule.Work n) = codes "work" ∷ decimal n ∷ []
-rule_words p rule.Finish = codes "finish" ∷ []
 
 -- an event's words
 abbrev pub event_words : PlanValue → ScriptEvent → List (List ℕ)
@@ -40,25 +24,11 @@ event_words p (event.Deliver k) = codes "deliver" ∷ decimal k ∷ []
 
 -- the line that prints an event: its words with a space between
 abbrev pub line_of : PlanValue → ScriptEvent → List ℕ
-line_of p e = join_with_byte 32 (event_words p e)
+line_of p e = line_of_words (event_words p e)
 
 -- the text that prints events
 abbrev pub script_of : PlanValue → List ScriptEvent → List ℕ
 script_of p = flat_map (λ e. line_of p e ++ 10 ∷ [])
-
--- the office or record of a rule is the plan's, and its work is of 1 to 1,000 instructions
-abbrev pub IsRuleOf : PlanValue → Rule → Type 0
-IsRuleOf p rule.Start = Unit {0}
-IsRuleOf p rule.Hungry = Unit {0}
-IsRuleOf p (rule.AskFork v) = v < length p.offices
-IsRuleOf p (rule.GiveFork v) = v < length p.offices
-IsRuleOf p rule.Eat = Unit {0}
-IsRuleOf p rule.Leave = Unit {0}
-IsRuleOf p (rule.AskBottle r) = r < length p.records
-IsRuleOf p (rule.GiveBottle r) = r < length p.records
-IsRuleOf p rule.Drink = Unit {0}
-IsRuleOf p (rule.Work n) = (1 ≤ n) × (n ≤ longest_piece)
-IsRuleOf p rule.Finish = Unit {0}
 
 -- the session of an event is one of so many, its offices and its record are the plan's, and numbers are in their ranges
 abbrev pub IsEventOf : PlanValue → ℕ → ScriptEvent → Type 0

@@ -2,16 +2,17 @@
 //!
 //! - [`script::events`] reads a script: the events that its lines say, or its first faulty line (clauses `meaning`,
 //!   `fault`). An event names its session by its number in the file.
-//! - [`transcript::transcript`] runs one from the plan's opening, and answers what is printed: a line for each event, and
-//!   then the report of the world that it leads to (clause `text`). What the report tells of sessions and values is what
-//!   these sessions do alone, one after another in the order of the report (clause `serial`).
+//! - [`transcript::simulate`] runs one from the plan's opening, and answers the world that it leads to (clauses `world`,
+//!   `plan`) and what is printed: a line for each event, and then the report of that world (clause `text`). What the report
+//!   tells of sessions and values is what these sessions do alone, one after another in the order of the report (clause
+//!   `serial`).
 //! - [`laws`] says that the line which prints an event reads back as that event, that an office which is told to advance
 //!   does the rules that come next (`specs/Advancing.antt`), and that a world which is told to settle takes the steps that
 //!   come next (`specs/Settling.antt`).
 //!
 //! Which acts a line asks for is in `specs/Script.antt`, what they do in `specs/Runs.antt`, over the world of
-//! `frame_world`; what is printed in `specs/Transcript.antt`, and the lines of outcomes and of values in the crate
-//! `run_reports`.
+//! `frame_world`; what is printed in `specs/Transcript.antt`. The words of rules, offices and records are those of
+//! `run_words`, the lines of outcomes and of values those of `run_reports`.
 #![tactic(auto)]
 
 mod event;

@@ -1,19 +1,19 @@
 //! Scripts: the events that a text means.
 
 ghost use Rattle.std.specs.Prelude.{◌≡◌, Bool, IfOk, IfErr, IfSome, List, is_some, map, option_map, true, ℕ};
-ghost use Rattle.std.specs.Str.{bytes_eq};
 ghost use Rattle.office_map.specs.PlanText.{and_then};
-ghost use Rattle.script_runs.specs.Script.{IsScript, IsFaultOf, act_of, said_of, said_by, act_with, acts_with, numbered_line, submit_of, nth, deliver_of, settle_of, office_line, long_line, done_by, advanced_by, withdrawn_by, sent_by, rule_named, rule_with, office_by, record_by, count_by};
+ghost use Rattle.script_runs.specs.Script.{IsScript, IsFaultOf, act_of, said_of, said_by, act_with, acts_with, numbered_line, submit_of, nth, deliver_of, settle_of, office_line, long_line, done_by, advanced_by, withdrawn_by, sent_by};
 
 use crate::event::ScriptEvent;
 use crate::fault::{ScriptFault, ScriptRefusal};
 use crate::limits::{MAX_BYTES, MAX_RULES, MAX_STEPS};
-use office_map::statements::Statements;
-use office_map::text::{is_plain, name, number, words};
-use office_map::{OfficeId, Plan, RecordId};
+use office_map::{OfficeId, Plan};
+use run_words::rules::{rule_named, rule_with};
+use run_words::words::{count_by, great_count_by, is, office_by};
 use session_language::Program;
-use site_core::{LONGEST_PIECE, Rule};
+use site_core::Rule;
 use std::alloc::{AllocError, Global};
+use text_lines::{Statements, is_plain, number, words};
 
 /// The events that a script means under a plan, where these are the programs of the file of sessions.
 ///
@@ -215,82 +215,4 @@ fn sent(
     let neighbour = neighbour?;
     let i = i?;
     Some(ScriptEvent::Send(office, neighbour, i as usize))
-}
-
-fn rule_named(name: &[u8]) -> Option<Rule>
-    ensures { result ≡ rule_named name.now }
-{
-    if is(name, "start") {
-        Some(Rule::Start)
-    } else if is(name, "hungry") {
-        Some(Rule::Hungry)
-    } else if is(name, "eat") {
-        Some(Rule::Eat)
-    } else if is(name, "leave") {
-        Some(Rule::Leave)
-    } else if is(name, "drink") {
-        Some(Rule::Drink)
-    } else if is(name, "finish") {
-        Some(Rule::Finish)
-    } else {
-        None
-    }
-}
-
-fn rule_with(plan: &Plan, name: &[u8], argument: &[u8]) -> Option<Rule>
-    ensures { result ≡ rule_with plan.now name.now argument.now }
-{
-    if is(name, "askfork") {
-        Some(Rule::AskFork(office_by(plan, argument)?))
-    } else if is(name, "givefork") {
-        Some(Rule::GiveFork(office_by(plan, argument)?))
-    } else if is(name, "askbottle") {
-        Some(Rule::AskBottle(record_by(plan, argument)?))
-    } else if is(name, "givebottle") {
-        Some(Rule::GiveBottle(record_by(plan, argument)?))
-    } else if is(name, "work") {
-        Some(Rule::Work(count_by(LONGEST_PIECE, argument)?))
-    } else {
-        None
-    }
-}
-
-/// A number from 1 to the most.
-fn count_by(most: u16, word: &[u8]) -> Option<u16>
-    ensures { result ≡ count_by most word.now }
-{
-    let n = number(word)?;
-    if n < 1 || n > most as u64 {
-        return None;
-    }
-    Some(n as u16)
-}
-
-/// The same, where the most is greater.
-fn great_count_by(most: u32, word: &[u8]) -> Option<u32>
-    ensures { result ≡ count_by most word.now }
-{
-    let n = number(word)?;
-    if n < 1 || n > u64::from(most) {
-        return None;
-    }
-    Some(n as u32)
-}
-
-fn office_by(plan: &Plan, word: &[u8]) -> Option<OfficeId>
-    ensures { result ≡ office_by plan.now word.now }
-{
-    plan.office_named(name(word)?)
-}
-
-fn record_by(plan: &Plan, word: &[u8]) -> Option<RecordId>
-    ensures { result ≡ record_by plan.now word.now }
-{
-    plan.record_named(name(word)?)
-}
-
-fn is(word: &[u8], text: &str) -> bool
-    ensures { result ≡ bytes_eq word.now text.now }
-{
-    word == text.as_bytes()
 }

@@ -1,44 +1,50 @@
-//! What a simulation prints.
+//! Simulations, and what is printed of them.
 
 ghost use Rattle.std.specs.Prelude.{◌≡◌, ◌++◌, ◌∷◌, [], IfOk, OnOk};
 ghost use Rattle.std.specs.List.{flat_map};
 ghost use Rattle.std.specs.String.{string_bytes};
-ghost use Rattle.hex.specs.Hex.{encode_lower};
-ghost use Rattle.frame_codec.specs.Version01.{spelling};
-ghost use Rattle.site_core.specs.declared.reply.Reply.TheVariants as replies;
 ghost use Rattle.frame_world.specs.declared.event.WorldEvent.TheVariants as events;
 ghost use Rattle.frame_world.specs.Worlds.{opening, happens};
 ghost use Rattle.frame_world.specs.Standstill.{place_of, IsStep, IsNextMessage};
 ghost use Rattle.script_runs.specs.Script.{act_with, acts_with};
 ghost use Rattle.script_runs.specs.Runs.{as_said, run_of, all_told, at_most, does, delivered, stepped};
 ghost use Rattle.script_runs.specs.Script as scripts;
-ghost use Rattle.script_runs.specs.Transcript.{told_line, said_line, reply_text, refusal_text, office_refusal_text, frame_fault_text, channel_fault_text, link_fault_text, transcript, IsSerialRun};
+ghost use Rattle.script_runs.specs.Transcript.{told_line, said_line, transcript, IsSerialRun};
 ghost use Rattle.script_runs.specs.refinement.Steps.{Answers, Says, Answered, AnswersStep};
 
 use crate::event::ScriptEvent;
 use crate::said::Said;
 use crate::script::nth;
-use frame_codec::{Frame, FrameFault, MAX_LENGTH, encode};
 use frame_world::{NextStep, WorldRefusal};
 use office_map::{OfficeId, Plan};
 use run_reports::world::add_world;
+use run_words::replies::add_reply;
 use session_language::Program;
 use site_core::Reply;
 use std::alloc::{AllocError, Global};
-use token_channel::ChannelFault;
-use window_link::LinkFault;
 use world_schedule::{Resting, World};
 
-/// A line for each event of a run from the plan's opening, and then the report of the world that it leads to: the finished
-/// sessions in finishing order, how many submitted ones haven't finished, and the records' values. The sessions that
-/// events submit are those of these programs. One that isn't there is no event.
-pub fn transcript(
+/// A run from a plan's opening.
+#[derive(Drop)]
+pub struct Simulated {
+    /// What is printed of it: a line for each event, and then the report of the world, which has the finished sessions in
+    /// finishing order, how many submitted ones haven't finished, and the records' values.
+    pub text: String,
+    /// The world that it led to.
+    pub world: World,
+}
+
+/// Runs events, one after the other, from the plan's opening. The sessions that they submit are those of these programs. One
+/// that isn't there is no event.
+pub fn simulate(
     alloc: Global,
     plan: &Plan,
     programs: &[Program],
     events: &[ScriptEvent],
-) -> Result<String, AllocError>
-    ensures text { IfOk result (λ text. string_bytes text ≡ transcript plan.now (acts_with programs.now events.now)) }
+) -> Result<Simulated, AllocError>
+    ensures text { IfOk result (λ run. string_bytes run.text ≡ transcript plan.now (acts_with programs.now events.now)) }
+    ensures world { IfOk result (λ run. run.world ≡ run_of (opening plan.now) (acts_with programs.now events.now)) }
+    ensures plan { IfOk result (λ run. run.world.plan ≡ plan.now) }
     ensures serial { IfOk result (λ _. IsSerialRun (run_of (opening plan.now) (acts_with programs.now events.now))) }
 {
     let mut world = World::open(alloc, plan.copy(alloc)?)?;
@@ -48,7 +54,7 @@ pub fn transcript(
     }
     add_world(&mut text, &world, world.unfinished())?;
     is_serial(&world);
-    Ok(text)
+    Ok(Simulated { text, world })
 }
 
 /// What the report tells is a serial run.
@@ -194,108 +200,13 @@ fn add_said(
     ensures { OnOk result (string_bytes text.new ≡ string_bytes text.old ++ said_line frames said) }
 {
     match said {
-        Ok(Said::Replied(reply)) => add_reply(alloc, text, frames, reply)?,
+        Ok(Said::Replied(reply)) => add_reply(alloc, text, Some(frames), &reply)?,
         Ok(Said::Rules(n)) => write!(text, "rules {n}")?,
         Ok(Said::Settled(n)) => write!(text, "settled {n} finished")?,
         Ok(Said::Open(n)) => write!(text, "settled {n} open")?,
         Err(refusal) => {
-            let refusal = refusal_text(refusal);
             write!(text, "refused {refusal}")?;
         }
     }
     text.push_str("\n")
-}
-
-fn add_reply(
-    alloc: Global,
-    text: &mut String,
-    frames: usize,
-    reply: Reply,
-) -> Result<(), AllocError>
-    ensures { OnOk result (string_bytes text.new ≡ string_bytes text.old ++ reply_text frames reply) }
-{
-    match reply {
-        Reply::Ticket(ticket) => write!(text, "ticket {ticket}"),
-        Reply::Done => text.push_str("done"),
-        Reply::Frame(frame) => add_frame(alloc, text, frames, &frame),
-        Reply::Acked => text.push_str("acked"),
-        Reply::Taken => text.push_str("taken"),
-        Reply::Repeat => text.push_str("repeat"),
-        Reply::Kept => text.push_str("kept"),
-        Reply::Early => text.push_str("early"),
-    }
-}
-
-/// A frame that was sent as the so-many-th, with its bytes.
-fn add_frame(
-    alloc: Global,
-    text: &mut String,
-    frames: usize,
-    frame: &Frame,
-) -> Result<(), AllocError>
-    ensures { OnOk result (string_bytes text.new ≡ string_bytes text.old ++ reply_text frames (replies.Frame frame.now)) }
-{
-    write!(text, "frame {frames} ")?;
-    let digits = digits(alloc, frame)?;
-    text.push_str(digits.as_str())
-}
-
-/// A frame's bytes, two digits each.
-fn digits(alloc: Global, frame: &Frame) -> Result<String, AllocError>
-    ensures { IfOk result (λ text. string_bytes text ≡ encode_lower (spelling frame.now)) }
-{
-    let mut bytes = [0; MAX_LENGTH];
-    let length = encode(frame, &mut bytes);
-    hex::encode(alloc, &bytes[..length])
-}
-
-/// The code and the name of a refusal.
-fn refusal_text(refusal: WorldRefusal) -> &'static str
-    ensures { result.now ≡ refusal_text refusal }
-{
-    match refusal {
-        WorldRefusal::NoFrame => "N1 NoFrame",
-        WorldRefusal::NoOffice => "N2 NoOffice",
-        WorldRefusal::Office(refusal) => office_refusal_text(refusal),
-    }
-}
-
-fn office_refusal_text(refusal: site_core::Refusal) -> &'static str
-    ensures { result.now ≡ office_refusal_text refusal }
-{
-    match refusal {
-        site_core::Refusal::Frame(fault) => frame_fault_text(fault),
-        site_core::Refusal::Channel(fault) => channel_fault_text(fault),
-        site_core::Refusal::NotNow => "O1 NotNow",
-        site_core::Refusal::NotOurs => "O2 NotOurs",
-        site_core::Refusal::QueueFull => "O3 QueueFull",
-        site_core::Refusal::JournalFull => "O4 JournalFull",
-        site_core::Refusal::Memory => "out of memory",
-    }
-}
-
-fn frame_fault_text(fault: FrameFault) -> &'static str
-    ensures { result.now ≡ frame_fault_text fault }
-{
-    match fault {
-        FrameFault::Short => "F1 Short",
-        FrameFault::Magic => "F2 Magic",
-        FrameFault::Version => "F3 Version",
-        FrameFault::Kind => "F4 Kind",
-        FrameFault::Number => "F5 Number",
-        FrameFault::Count => "F6 Count",
-        FrameFault::Tag => "F7 Tag",
-        FrameFault::Length => "F8 Length",
-    }
-}
-
-fn channel_fault_text(fault: ChannelFault) -> &'static str
-    ensures { result.now ≡ channel_fault_text fault }
-{
-    match fault {
-        ChannelFault::Link(LinkFault::Stranger) => "L1 Stranger",
-        ChannelFault::Link(LinkFault::AckAhead) => "L2 AckAhead",
-        ChannelFault::Link(LinkFault::Worn) => "L3 Worn",
-        ChannelFault::Breach => "C1 Breach",
-    }
 }

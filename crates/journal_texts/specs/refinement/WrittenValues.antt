@@ -7,9 +7,8 @@ use Rattle.session_language.specs.Reading.{sessions_of}
 use Rattle.site_core.specs.declared.event.Event.{Event}
 use Rattle.site_core.specs.declared.event.Event.TheVariants as event
 use Rattle.site_core.specs.declared.event.Entry.{Entry}
-use Rattle.site_core.specs.declared.reply.Reply.{Reply}
-use Rattle.site_core.specs.declared.reply.Reply.TheVariants as reply
 use Rattle.run_words.specs.Digits.{digits_of, frame_digits, bytes_in, IsFrameWord}
+use Rattle.run_words.specs.Replies.{ReplyReadsBack}
 use Rattle.run_words.specs.declared.digits.FrameWord.TheVariants.{Spelled}
 
 -- a program that is submitted has a text under the plan
@@ -30,17 +29,6 @@ EventReadsBack p (event.Do r) = Unit {0}
 EventReadsBack p (event.Send v i) = Unit {0}
 EventReadsBack p (event.Took f) = FrameReadsBack f
 EventReadsBack p (event.Withdraw t) = t < 2 ^ 32
-
--- and those of a reply
-abbrev pub ReplyReadsBack : Reply → Type 0
-ReplyReadsBack (reply.Ticket t) = t < 2 ^ 32
-ReplyReadsBack reply.Done = Unit {0}
-ReplyReadsBack (reply.Frame f) = FrameReadsBack f
-ReplyReadsBack reply.Acked = Unit {0}
-ReplyReadsBack reply.Taken = Unit {0}
-ReplyReadsBack reply.Repeat = Unit {0}
-ReplyReadsBack reply.Kept = Unit {0}
-ReplyReadsBack reply.Early = Unit {0}
 
 abbrev pub EntryReadsBack : PlanValue → Entry → Type 0
 EntryReadsBack p x = EventReadsBack p x.event × ReplyReadsBack x.reply

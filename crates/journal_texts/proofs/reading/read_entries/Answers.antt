@@ -1,5 +1,5 @@
 use Rattle.std.proofs.Common.{◌∙◌, subst}
-use Rattle.office_map.specs.Text.{lines, statements_from}
+use Rattle.text_lines.specs.Text.{lines, statements_from}
 use Rattle.journal_texts.specs.Lines.{said_of}
 use Rattle.journal_texts.specs.refinement.ReadLines.{Reads}
 use Rattle.journal_texts.proofs.Journals.{further}

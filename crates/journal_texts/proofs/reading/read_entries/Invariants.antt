@@ -1,5 +1,5 @@
 use Rattle.std.proofs.Common.{◌≡◌, ◌+◌, ◌<◌, ◌^◌, length}
-use Rattle.office_map.specs.Text.{statements_from, lines}
+use Rattle.text_lines.specs.Text.{statements_from, lines}
 use Rattle.journal_texts.proofs.Journals.{Walked}
 use Rattle.journal_texts.proofs.reading.read_entries.Given as goal
 

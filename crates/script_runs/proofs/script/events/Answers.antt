@@ -1,6 +1,6 @@
 use Rattle.std.proofs.Common.{◌≡◌, true, is_some, IfSome, ap, ◌∙◌, subst}
 use Rattle.office_map.specs.PlanText.{and_then}
-use Rattle.office_map.specs.Text.{statements}
+use Rattle.text_lines.specs.Text.{statements}
 use Rattle.script_runs.specs.Script.{act_with}
 use Rattle.script_runs.proofs.Scripts.{further}
 use Rattle.script_runs.proofs.script.events.Goals as goal

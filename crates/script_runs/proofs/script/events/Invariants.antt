@@ -1,5 +1,5 @@
 use Rattle.std.proofs.Common.{◌+◌, ◌<◌, ◌≤◌, ◌^◌, length}
-use Rattle.office_map.specs.Text.{statements, statements_from, lines}
+use Rattle.text_lines.specs.Text.{statements, statements_from, lines}
 use Rattle.script_runs.proofs.Scripts.{Walked}
 use Rattle.script_runs.proofs.script.events.Given as goal
 

@@ -1,12 +1,12 @@
 use Rattle.std.proofs.Common.{◌≡◌, ℕ, ◌++◌, ◌∷◌, [], get_or, take, take_all, ap, ap₂, subst, ◌∙◌}
 use Rattle.std.specs.String.{string_bytes}
-use Rattle.frame_world.specs.Worlds.{opening}
+use Rattle.frame_world.specs.Worlds.{World, opening}
 use Rattle.run_reports.specs.WorldReport.{world_report}
 use Rattle.script_runs.specs.Script.{acts_with}
 use Rattle.script_runs.specs.Runs.{run_of}
 use Rattle.script_runs.specs.Transcript.{told_report, IsSerialRun}
-use Rattle.script_runs.proofs.Steps.{lines_of, run_longer, lines_longer}
-use Rattle.script_runs.proofs.transcript.transcript.Goals as goal
+use Rattle.script_runs.proofs.Steps.{lines_of, run_longer, lines_longer, run_plan}
+use Rattle.script_runs.proofs.transcript.simulate.Goals as goal
 
 pub loop-event-preserved : goal.loop-event-preserved
 loop-event-preserved c =
@@ -43,3 +43,17 @@ returns-clause-serial c =
     let k = c.loop-event.invariant in
     let all : take c.loop-event.event-index c.args.events.now ≡ c.args.events.now = take_all c.loop-event.event-index c.args.events.now c.loop-event-test.false in
     subst IsSerialRun (k.world ∙ ap (λ es. run_of (opening p) (acts_with ps es)) all) c.is_serial.ensures
+
+pub returns-clause-world : goal.returns-clause-world
+returns-clause-world c =
+    let p = c.args.plan.now in
+    let ps = c.args.programs.now in
+    let k = c.loop-event.invariant in
+    let all : take c.loop-event.event-index c.args.events.now ≡ c.args.events.now = take_all c.loop-event.event-index c.args.events.now c.loop-event-test.false in
+    k.world ∙ ap (λ es. run_of (opening p) (acts_with ps es)) all
+
+pub returns-clause-plan : goal.returns-clause-plan
+returns-clause-plan c =
+    let p = c.args.plan.now in
+    let so_far = acts_with c.args.programs.now (take c.loop-event.event-index c.args.events.now) in
+    ap (λ (w : World). w.plan) c.loop-event.invariant.world ∙ run_plan (opening p) so_far

@@ -4,7 +4,7 @@ use Rattle.frame_world.specs.Worlds.{opening}
 use Rattle.script_runs.specs.Script.{acts_with}
 use Rattle.script_runs.specs.Runs.{run_of}
 use Rattle.script_runs.proofs.Steps.{lines_of}
-use Rattle.script_runs.proofs.transcript.transcript.Given as goal
+use Rattle.script_runs.proofs.transcript.simulate.Given as goal
 
 -- the events so far were answered
 abbrev pub invariant-loop-event : goal.invariant-loop-event
