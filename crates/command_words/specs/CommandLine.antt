@@ -1,15 +1,19 @@
 -- What a command line asks for: the commands that there are, in the terms of the crate that reads them.
-use Rattle.std.specs.Prelude.{◌≡◌, ◌<◌, ◌^◌, ℕ, List, [], ◌∷◌, true, false, Option, Some, option_map, option_and_then, unwrap_or, codes}
+use Rattle.std.specs.Prelude.{◌≡◌, ◌<◌, ◌^◌, ℕ, List, [], ◌∷◌, true, false, map, Option, Some, option_map, option_and_then, unwrap_or, codes}
 use Rattle.std.specs.Str.{bytes_eq}
 use Rattle.std.specs.Str.Parse.{IsNumeral, without_leading_plus, digits_value}
-use Rattle.clap.specs.Words.{App, Row, Rule, Text, first_of, new_app, new_rule, subcommand_of, with_rule, with_subcommand}
+use Rattle.clap.specs.Words.{App, Row, Rule, Text, all_of, first_of, new_app, new_rule, subcommand_of, with_rule, with_subcommand}
 use Rattle.clap.specs.declared.builder.value_parser.ValueParser.TheVariants as parsers
 use Rattle.command_words.specs.declared.command_line.Request.{Request}
-use Rattle.command_words.specs.declared.command_line.Request.TheVariants.{Serial, Sim, Random, Run, Live}
+use Rattle.command_words.specs.declared.command_line.Request.TheVariants.{Serial, Sim, Random, Run, Live, Audit}
 
 -- a word that must be there
 abbrev pub required : Text → Rule
 required id = record (new_rule id) { required = true }
+
+-- one word or more, which must be there
+abbrev pub several : Text → Rule
+several id = record (required id) { range = Some (record { start_inclusive = 1; end_inclusive = 18446744073709551615 }) }
 
 -- --ID N, which must be there, with a number from the least to the most
 abbrev pub numbered : Text → ℕ → ℕ → Rule
@@ -19,13 +23,20 @@ numbered id least most = record (required id) { long = Some id; value_names = 1;
 abbrev pub optional : Text → ℕ → ℕ → Text → Rule
 optional id least most usual = record (new_rule id) { long = Some id; value_names = 1; defaults = usual ∷ []; parser = Some (parsers.Unsigned least most) }
 
+-- --ID WORD, which need not be there
+abbrev pub path : Text → Rule
+path id = record (new_rule id) { long = Some id; value_names = 1 }
+
 -- serial PLAN SESSIONS
 abbrev pub serial_command : App
 serial_command = with_rule (with_rule (new_app (codes "serial")) (required (codes "PLAN"))) (required (codes "SESSIONS"))
 
--- sim PLAN SESSIONS SCRIPT
+-- sim PLAN SESSIONS SCRIPT [--journals DIR]
+abbrev pub sim_words : App
+sim_words = with_rule (with_rule (with_rule (new_app (codes "sim")) (required (codes "PLAN"))) (required (codes "SESSIONS"))) (required (codes "SCRIPT"))
+
 abbrev pub sim_command : App
-sim_command = with_rule (with_rule (with_rule (new_app (codes "sim")) (required (codes "PLAN"))) (required (codes "SESSIONS"))) (required (codes "SCRIPT"))
+sim_command = with_rule sim_words (path (codes "journals"))
 
 -- random PLAN SESSIONS --seed N --loss N --steps N
 abbrev pub random_words : App
@@ -34,16 +45,20 @@ random_words = with_rule (with_rule (new_app (codes "random")) (required (codes 
 abbrev pub random_command : App
 random_command = with_rule (with_rule (with_rule random_words (numbered (codes "seed") 0 18446744073709551615)) (numbered (codes "loss") 0 100)) (numbered (codes "steps") 1 1000000)
 
--- run PLAN OFFICE SESSIONS [--turns N]
+-- run PLAN OFFICE SESSIONS [--turns N] [--journal FILE]
 abbrev pub run_words : App
 run_words = with_rule (with_rule (with_rule (new_app (codes "run")) (required (codes "PLAN"))) (required (codes "OFFICE"))) (required (codes "SESSIONS"))
 
 abbrev pub run_command : App
-run_command = with_rule run_words (optional (codes "turns") 1 100000 (codes "2000"))
+run_command = with_rule (with_rule run_words (optional (codes "turns") 1 100000 (codes "2000"))) (path (codes "journal"))
 
--- live PLAN SESSIONS
+-- live PLAN SESSIONS [--journals DIR]
 abbrev pub live_command : App
-live_command = with_rule (with_rule (new_app (codes "live")) (required (codes "PLAN"))) (required (codes "SESSIONS"))
+live_command = with_rule (with_rule (with_rule (new_app (codes "live")) (required (codes "PLAN"))) (required (codes "SESSIONS"))) (path (codes "journals"))
+
+-- audit PLAN JOURNAL..
+abbrev pub audit_command : App
+audit_command = with_rule (with_rule (new_app (codes "audit")) (required (codes "PLAN"))) (several (codes "JOURNAL"))
 
 abbrev pub some_command : App
 some_command = let a = new_app (codes "drink") in record a { top = record a.top { subcommand_required = true; has_version = true } }
@@ -53,11 +68,19 @@ abbrev pub world_commands : App
 world_commands = with_subcommand (with_subcommand (with_subcommand some_command serial_command.top) sim_command.top) random_command.top
 
 abbrev pub program : App
-program = with_subcommand (with_subcommand world_commands run_command.top) live_command.top
+program = with_subcommand (with_subcommand (with_subcommand world_commands run_command.top) live_command.top) audit_command.top
 
--- the word for an argument of the command; - where there is none
+-- the first word for an argument of the command, where there is one
+abbrev pub given : Text → Option (List Row) → Option Text
+given id rows = option_and_then (first_of id) rows
+
+-- that word; - where there is none
 abbrev pub word_of : Text → Option (List Row) → Text
-word_of id rows = unwrap_or (option_and_then (first_of id) rows) (codes "-")
+word_of id rows = unwrap_or (given id rows) (codes "-")
+
+-- all its words, in their order
+abbrev pub words_of : Text → Option (List Row) → List Text
+words_of id rows = unwrap_or (option_and_then (all_of id) rows) []
 
 -- the arguments of the command that the words name
 abbrev pub arguments_of : List Text → Option (List Row)
@@ -75,18 +98,24 @@ IsNumber text n = IsNumeral 10 (without_leading_plus text) → digits_value 10 (
 abbrev pub Requests : Text → Option (List Row) → Request → Type 0
 Requests name rows (Serial plan sessions) =
     (bytes_eq name (codes "sim") ≡ false) × (bytes_eq name (codes "random") ≡ false) × (bytes_eq name (codes "run") ≡ false)
-    × (bytes_eq name (codes "live") ≡ false) × (plan.now ≡ word_of (codes "PLAN") rows) × (sessions.now ≡ word_of (codes "SESSIONS") rows)
-Requests name rows (Sim plan sessions script) =
+    × (bytes_eq name (codes "live") ≡ false) × (bytes_eq name (codes "audit") ≡ false)
+    × (plan.now ≡ word_of (codes "PLAN") rows) × (sessions.now ≡ word_of (codes "SESSIONS") rows)
+Requests name rows (Sim plan sessions script journals) =
     (bytes_eq name (codes "sim") ≡ true) × (plan.now ≡ word_of (codes "PLAN") rows) × (sessions.now ≡ word_of (codes "SESSIONS") rows)
-    × (script.now ≡ word_of (codes "SCRIPT") rows)
+    × (script.now ≡ word_of (codes "SCRIPT") rows) × (option_map (λ folder. folder.now) journals ≡ given (codes "journals") rows)
 Requests name rows (Random plan sessions schedule) =
     (bytes_eq name (codes "random") ≡ true) × (plan.now ≡ word_of (codes "PLAN") rows) × (sessions.now ≡ word_of (codes "SESSIONS") rows)
     × IsNumber (word_of (codes "seed") rows) schedule.seed × IsNumber (word_of (codes "loss") rows) schedule.loss × IsNumber (word_of (codes "steps") rows) schedule.steps
-Requests name rows (Run plan office sessions turns) =
+Requests name rows (Run plan office sessions turns journal) =
     (bytes_eq name (codes "run") ≡ true) × (plan.now ≡ word_of (codes "PLAN") rows) × (office.now ≡ word_of (codes "OFFICE") rows)
     × (sessions.now ≡ word_of (codes "SESSIONS") rows) × IsNumber (word_of (codes "turns") rows) turns
-Requests name rows (Live plan sessions) =
+    × (option_map (λ file. file.now) journal ≡ given (codes "journal") rows)
+Requests name rows (Live plan sessions journals) =
     (bytes_eq name (codes "live") ≡ true) × (plan.now ≡ word_of (codes "PLAN") rows) × (sessions.now ≡ word_of (codes "SESSIONS") rows)
+    × (option_map (λ folder. folder.now) journals ≡ given (codes "journals") rows)
+Requests name rows (Audit plan journals) =
+    (bytes_eq name (codes "audit") ≡ true) × (plan.now ≡ word_of (codes "PLAN") rows)
+    × (map (λ journal. journal.now) journals.items ≡ words_of (codes "JOURNAL") rows)
 
 -- the words ask for this
 abbrev pub Asks : List Text → Request → Type 0

@@ -1,10 +1,10 @@
 //! The words of a command line.
 
-ghost use Rattle.std.specs.Prelude.{◌≡◌, IfOk, Some, codes, false, map};
+ghost use Rattle.std.specs.Prelude.{◌≡◌, IfErr, IfOk, Some, codes, false, map, option_map};
 ghost use Rattle.std.specs.String.{string_bytes};
-ghost use Rattle.clap.specs.Words.{App, FailsBy, app_of, fault_of, found_of, rows_of, rule_of, with_subcommand};
+ghost use Rattle.clap.specs.Words.{App, FailsBy, app_of, fault_of, found_of, kind_of, rows_of, rule_of, with_subcommand};
 ghost use Rattle.clap.specs.declared.builder.command.Command.TheViews.{out-Command as fields_of};
-ghost use Rattle.command_words.specs.CommandLine.{Asks, IsNumber, Requests, live_command, numbered, optional, program, random_command, required, run_command, serial_command, sim_command, word_of};
+ghost use Rattle.command_words.specs.CommandLine.{Asks, IsNumber, Requests, audit_command, given, live_command, numbered, optional, path, program, random_command, required, run_command, serial_command, several, sim_command, word_of, words_of};
 
 use clap::builder::ValueParser;
 use clap::error::ErrorKind;
@@ -13,18 +13,19 @@ use random_runs::Schedule;
 use std::alloc::{AllocError, Global};
 
 /// What a command line asks for.
-#[derive(Clone, Copy, Debug, PartialEq, Eq)]
+#[derive(Debug, Drop, PartialEq, Eq)]
 pub enum Request<'a> {
     /// The sessions alone, in the order of the file.
     Serial {
         plan: &'a str,
         sessions: &'a str,
     },
-    /// A script on the world of a plan.
+    /// A script on the world of a plan. A folder, where one is named, is for the journals of its offices.
     Sim {
         plan: &'a str,
         sessions: &'a str,
         script: &'a str,
+        journals: Option<&'a str>,
     },
     /// A run on the world of a plan, of events that are drawn.
     Random {
@@ -32,17 +33,24 @@ pub enum Request<'a> {
         sessions: &'a str,
         schedule: Schedule,
     },
-    /// One office of a plan, at its address, with its sessions, for so many turns.
+    /// One office of a plan, at its address, with its sessions, for so many turns. A file, where one is named, is for its journal.
     Run {
         plan: &'a str,
         office: &'a str,
         sessions: &'a str,
         turns: u64,
+        journal: Option<&'a str>,
     },
-    /// All offices of a plan, on this machine.
+    /// All offices of a plan, on this machine. A folder, where one is named, is for their journals.
     Live {
         plan: &'a str,
         sessions: &'a str,
+        journals: Option<&'a str>,
+    },
+    /// Whether the journals that offices left are of one run of a plan, and what its sessions did.
+    Audit {
+        plan: &'a str,
+        journals: Vec<&'a str>,
     },
 }
 
@@ -56,7 +64,7 @@ pub fn command_line<'a>(alloc: Global, words: &'a [String]) -> Result<Request<'a
 {
     let matches = program(alloc)?.try_get_matches_from(words)?;
     match matches.subcommand() {
-        Some((name, found)) => Ok(requested(name, found)),
+        Some((name, found)) => requested(alloc, name, found),
         None => Ok(Request::Serial {
             plan: "-",
             sessions: "-",
@@ -76,37 +84,49 @@ pub fn help(alloc: Global) -> Result<String, AllocError> {
 }
 
 /// What the command of this name asks for, with what was found of its words.
-fn requested<'a>(name: &str, found: &ArgMatches<'a>) -> Request<'a>
-    ensures { Requests name.now (Some (rows_of (found_of found.now))) result }
+fn requested<'a>(alloc: Global, name: &str, found: &ArgMatches<'a>) -> Result<Request<'a>, Error>
+    ensures request { IfOk result (Requests name.now (Some (rows_of (found_of found.now)))) }
+    ensures memory { IfErr result (λ error. kind_of error ≡ ErrorKind.OutOfMemory) }
 {
     let plan = word(found, "PLAN");
+    if name == "audit" {
+        let journals = words(alloc, found, "JOURNAL")?;
+        return Ok(Request::Audit { plan, journals });
+    }
     let sessions = word(found, "SESSIONS");
     if name == "sim" {
-        return Request::Sim {
+        return Ok(Request::Sim {
             plan,
             sessions,
             script: word(found, "SCRIPT"),
-        };
+            journals: given(found, "journals"),
+        });
     }
     if name == "random" {
-        return Request::Random {
+        return Ok(Request::Random {
             plan,
             sessions,
             schedule: schedule(found),
-        };
+        });
     }
     if name == "run" {
-        return Request::Run {
+        return Ok(Request::Run {
             plan,
             office: word(found, "OFFICE"),
             sessions,
             turns: number(found, "turns"),
-        };
+            journal: given(found, "journal"),
+        });
     }
     if name == "live" {
-        return Request::Live { plan, sessions };
+        let journals = given(found, "journals");
+        return Ok(Request::Live {
+            plan,
+            sessions,
+            journals,
+        });
     }
-    Request::Serial { plan, sessions }
+    Ok(Request::Serial { plan, sessions })
 }
 
 /// What a run is drawn from.
@@ -132,10 +152,28 @@ fn number(matches: &ArgMatches<'_>, id: &str) -> u64
     }
 }
 
+/// The word for an argument; - where there is none.
 fn word<'a>(matches: &ArgMatches<'a>, id: &str) -> &'a str
     ensures { result.now ≡ word_of id.now (Some (rows_of (found_of matches.now))) }
 {
-    matches.get_str(id).unwrap_or("-")
+    given(matches, id).unwrap_or("-")
+}
+
+/// The word for an argument, where there is one.
+fn given<'a>(matches: &ArgMatches<'a>, id: &str) -> Option<&'a str>
+    ensures { option_map (λ word. word.now) result ≡ given id.now (Some (rows_of (found_of matches.now))) }
+{
+    matches.get_str(id)
+}
+
+/// All words of an argument that may have several.
+fn words<'a>(alloc: Global, matches: &ArgMatches<'a>, id: &str) -> Result<Vec<&'a str>, AllocError>
+    ensures { IfOk result (λ words. map (λ w. w.now) words.items ≡ words_of id.now (Some (rows_of (found_of matches.now)))) }
+{
+    match matches.get_strs(id) {
+        Some(words) => words.to_vec(alloc),
+        None => Ok(Vec::new(alloc)),
+    }
 }
 
 fn program<'a>(alloc: Global) -> Result<Command<'a>, AllocError>
@@ -150,7 +188,8 @@ fn program<'a>(alloc: Global) -> Result<Command<'a>, AllocError>
     let program = with_command(program, sim(alloc))?;
     let program = with_command(program, random(alloc))?;
     let program = with_command(program, run(alloc))?;
-    with_command(program, live(alloc))
+    let program = with_command(program, live(alloc))?;
+    with_command(program, audit(alloc))
 }
 
 /// The program with one command more, where there was memory for that.
@@ -185,7 +224,8 @@ fn sim<'a>(alloc: Global) -> Result<Command<'a>, AllocError>
         .after_help(INPUTS)
         .arg(required(alloc, "PLAN", PLAN))?
         .arg(required(alloc, "SESSIONS", SESSIONS))?
-        .arg(required(alloc, "SCRIPT", SCRIPT))
+        .arg(required(alloc, "SCRIPT", SCRIPT))?
+        .arg(path(alloc, "journals", JOURNALS, "DIR"))
 }
 
 fn random<'a>(alloc: Global) -> Result<Command<'a>, AllocError>
@@ -214,7 +254,8 @@ fn run<'a>(alloc: Global) -> Result<Command<'a>, AllocError>
         .arg(required(alloc, "PLAN", PLAN))?
         .arg(required(alloc, "OFFICE", OFFICE))?
         .arg(required(alloc, "SESSIONS", OWN_SESSIONS))?
-        .arg(optional(alloc, "turns", TURNS, 1, MOST_TURNS, USUAL_TURNS))
+        .arg(optional(alloc, "turns", TURNS, 1, MOST_TURNS, USUAL_TURNS))?
+        .arg(path(alloc, "journal", OWN_JOURNAL, "FILE"))
 }
 
 fn live<'a>(alloc: Global) -> Result<Command<'a>, AllocError>
@@ -225,7 +266,19 @@ fn live<'a>(alloc: Global) -> Result<Command<'a>, AllocError>
         .about("Runs all offices of a plan on this machine, and prints what the sessions did")
         .after_help(RUNS)
         .arg(required(alloc, "PLAN", PLAN))?
-        .arg(required(alloc, "SESSIONS", SESSIONS))
+        .arg(required(alloc, "SESSIONS", SESSIONS))?
+        .arg(path(alloc, "journals", JOURNALS, "DIR"))
+}
+
+fn audit<'a>(alloc: Global) -> Result<Command<'a>, AllocError>
+    ensures command { IfOk result (λ c. app_of c ≡ audit_command) }
+    ensures local { IfOk result (λ c. (fields_of c).has_globals ≡ false) }
+{
+    Command::new(alloc, "audit")
+        .about("Says whether journals are of one run of a plan, and prints what its sessions did")
+        .after_help(AUDITS)
+        .arg(required(alloc, "PLAN", PLAN))?
+        .arg(several(alloc, "JOURNAL", JOURNAL))
 }
 
 /// A word that has to be there.
@@ -234,6 +287,14 @@ fn required<'a>(alloc: Global, id: &'a str, help: &'a str) -> Arg<'a>
     ensures no_global { result.global ≡ false }
 {
     Arg::new(alloc, id).help(help).required(true)
+}
+
+/// One word or more, which have to be there.
+fn several<'a>(alloc: Global, id: &'a str, help: &'a str) -> Arg<'a>
+    ensures rule { rule_of result ≡ several id.now }
+    ensures no_global { result.global ≡ false }
+{
+    required(alloc, id, help).num_args(1..)
 }
 
 /// A number in a range, after its name, that has to be there.
@@ -267,6 +328,14 @@ fn optional<'a>(
         .value_name("N")
         .value_parser(ValueParser::unsigned(low, high))
         .default_value(usual)
+}
+
+/// A folder or a file, after the option's name, that need not be there. Help shows it as this word.
+fn path<'a>(alloc: Global, id: &'a str, help: &'a str, shown: &'a str) -> Arg<'a>
+    ensures rule { rule_of result ≡ path id.now }
+    ensures no_global { result.global ≡ false }
+{
+    Arg::new(alloc, id).help(help).long(id).value_name(shown)
 }
 
 const VERSION: &str = "0.1";
@@ -303,27 +372,47 @@ const OWN_SESSIONS: &str =
 
 const TURNS: &str = "How many turns the office has: 1 to 100000";
 
+const OWN_JOURNAL: &str = "A file for the office's journal";
+
+const JOURNALS: &str = "A folder for the offices' journals, NAME.journal, made if it isn't there";
+
+const JOURNAL: &str =
+    "The journals, one of each office of the plan, in any order; - is the standard input";
+
 /// What stands below the help of a command.
 const INPUTS: &str =
     "Where several of these are -, the standard input is cut at its first lines that are exactly ---:
 up to the first stands the text of the first -, and so on. Each text counts its lines from 1.
 A file whose name is - is written ./- instead.
 
-Exit status: 0 where it was done; 1 where an input is refused or can't be read, where the output
+Exit status: 0 where it was done; 1 where an input is refused or can't be read, where something
 can't be written, or where memory runs out; 2 where the command line is at fault.";
 
 /// What stands below the help of a command that runs offices.
 const RUNS: &str =
-    "Where both files are -, the standard input is cut at its first line that is exactly ---: up to it
-stands the text of the plan. Each text counts its lines from 1. A file whose name is - is written
-./- instead.
+    "Where PLAN and SESSIONS are both -, the standard input is cut at its first line that is exactly ---:
+up to it stands the text of the plan. Each text counts its lines from 1. A file whose name is - is
+written ./- instead.
 
 Exit status: 0 where all sessions finished; 1 where some are left, where an input is refused or
-can't be read, where a socket, a thread or the clock can't be had, where the output can't be
-written, or where memory runs out; 2 where the command line is at fault.";
+can't be read, where a socket, a thread or the clock can't be had, where something can't be written,
+or where memory runs out; 2 where the command line is at fault.";
+
+/// What stands below the help of `audit`.
+const AUDITS: &str =
+    "Where several of these are -, the standard input is cut at its first lines that are exactly ---:
+up to the first stands the text of the first -, and so on. Each text counts its lines from 1.
+A file whose name is - is written ./- instead.
+
+Where no run has left these journals, one line names an office and its first entry that doesn't fit,
+counted from 1: unwoven OFFICE ENTRY.
+
+Exit status: 0 where the journals are of one run; 1 where they aren't, where an input is refused or
+can't be read, where the output can't be written, or where memory runs out; 2 where the command line
+is at fault.";
 
 /// What stands below the help of the program.
 const STATUSES: &str =
-    "Exit status: 0 where it was done; 1 where a run leaves sessions, where an input is refused or can't
-be read, where a socket, a thread or the output fails, or where memory runs out; 2 where the command
-line is at fault.";
+    "Exit status: 0 where it was done; 1 where a run leaves sessions, where journals aren't of one run,
+where an input is refused or can't be read, where a socket, a thread or the output fails, or where
+memory runs out; 2 where the command line is at fault.";

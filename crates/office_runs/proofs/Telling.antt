@@ -1,9 +1,9 @@
 -- What is told of one office, and of one more.
-use Rattle.std.proofs.Common.{◌≡◌, ℕ, ◌+◌, ◌-◌, List, [], ◌∷◌, ◌++◌, length, map, Bool, Option, None, Result, Ok, Err, sym, ap, subst, ◌∙◌, append_assoc, arith}
+use Rattle.std.proofs.Common.{◌≡◌, ℕ, ◌+◌, ◌-◌, List, [], ◌∷◌, ◌++◌, length, map, Bool, true, false, Option, None, Result, Ok, Err, refl, sym, ap, subst, ◌∙◌, append_assoc, arith}
 use Rattle.std.specs.List.{flat_map}
 use Rattle.std.specs.Result.{IfOk}
 use Rattle.std.specs.String.{string_bytes}
-use Rattle.std.proofs.lemmas.List.Elements.{All-cons, All-nil}
+use Rattle.std.proofs.lemmas.List.Elements.{All-append, All-cons, All-nil}
 use Rattle.office_map.specs.PlanValue.{PlanValue}
 use Rattle.session_meaning.specs.ProgramValue.{ProgramValue}
 use Rattle.locked_office.specs.Calls.{Key, DeskPass, Looks, office_with}
@@ -15,8 +15,12 @@ use Rattle.std.proofs.lemmas.List.Concat.{flat_map-append}
 use Rattle.session_meaning.specs.declared.ending.Outcome.{Outcome}
 use Rattle.site_core.specs.Journals.{Site, IsLegal}
 use Rattle.office_runs.specs.declared.opened.Opened.{Opened}
-use Rattle.office_runs.specs.Runs.{all_finished, count_of, finished_of, key_of, runs_report, TellsCourse, TellsJournals}
+use Rattle.site_core.specs.declared.event.Entry.{Entry}
+use Rattle.journal_texts.specs.JournalText.{IsJournal}
+use Rattle.journal_texts.specs.Written.{journal_text}
+use Rattle.office_runs.specs.Runs.{all_finished, count_of, finished_of, key_of, runs_report, text_of, HasJournals, IsReadBack, TellsCourse, TellsJournals}
 use Rattle.office_runs.specs.refinement.Opening.{opened_key}
+use Rattle.office_runs.specs.refinement.Reports.{AddsJournal}
 
 pub finished_more : (sites : List Site) (s : Site) → all_finished (sites ++ s ∷ []) ≡ all_finished sites ++ finished_of s
 finished_more sites s = flat_map-append finished_of sites (s ∷ []) ∙ ap (λ l. all_finished sites ++ l) (append-nil (finished_of s))
@@ -36,15 +40,46 @@ pub text_more : (line : Outcome → List ℕ) (sites : List Site) (s : Site) (be
 text_more line sites s before after told more =
     more ∙ ap (λ l. l ++ flat_map line (finished_of s)) told ∙ sym (flat_map-append line (all_finished sites) (finished_of s)) ∙ ap (flat_map line) (sym (finished_more sites s))
 
+-- ---- journals
+
+-- that office, of which a pass has seen all entries
+pub site_is : (s : Site) (k : Key) (seen : List Entry) → (s.plan, s.me) ≡ k → seen ≡ s.entries → s ≡ office_with k seen
+site_is s k seen key same = ap (λ (x : Key). office_with x s.entries) key ∙ ap (λ (es : List Entry). office_with k es) (sym same)
+
+pub one_more : {A : Type 0} (f : A → List ℕ) (before after : List A) (x : A) (texts : List (List ℕ)) (t : List ℕ) → after ≡ before ++ x ∷ [] → f x ≡ t → map f before ≡ texts → map f after ≡ texts ++ t ∷ []
+one_more f before after x texts t grown is so_far = ap (map f) grown ∙ map-append f before (x ∷ []) ∙ ap (λ (y : List ℕ). map f before ++ y ∷ []) is ∙ ap (λ (l : List (List ℕ)). l ++ t ∷ []) so_far
+
+pub text_is : (s : Site) (p : PlanValue) (me : ℕ) (entries : List Entry) → p ≡ s.plan → me ≡ s.me → entries ≡ s.entries → journal_text p me entries ≡ text_of s
+text_is s p me entries plan number same = ap (λ (x : PlanValue). journal_text x me entries) plan ∙ ap (λ (x : ℕ). journal_text s.plan x entries) number ∙ ap (λ (x : List Entry). journal_text s.plan s.me x) same
+
+pub read_back : (s : Site) (p : PlanValue) (me : ℕ) (entries : List Entry) (text : List ℕ) → p ≡ s.plan → me ≡ s.me → entries ≡ s.entries → text ≡ journal_text p me entries → IsJournal p text me entries true → IsReadBack s
+read_back s p me entries text plan number same is reads =
+    subst (λ (x : List Entry). IsJournal s.plan (text_of s) s.me x true) same
+    (subst (λ (x : ℕ). IsJournal s.plan (text_of s) x entries true) number
+    (subst (λ (x : PlanValue). IsJournal x (text_of s) me entries true) plan (subst (λ (x : List ℕ). IsJournal p x me entries true) (is ∙ text_is s p me entries plan number same) reads)))
+
+pub journal_added : (wanted : Bool) (s : Site) (before after : List (List ℕ)) → wanted ≡ true → after ≡ before ++ text_of s ∷ [] → IsReadBack s → AddsJournal wanted s before after
+journal_added wanted s before after asked told reads = subst (λ (w : Bool). AddsJournal w s before after) (sym asked) (told, reads)
+
+-- of no office yet
+pub no_journals : (wanted : Bool) → HasJournals wanted [] []
+no_journals true = (refl, All-nil IsReadBack)
+no_journals false = refl
+
+pub journals_more : (wanted : Bool) (sites : List Site) (s : Site) (before after : List (List ℕ)) → HasJournals wanted sites before → AddsJournal wanted s before after → HasJournals wanted (sites ++ s ∷ []) after
+journals_more true sites s before after has adds =
+    (adds.0 ∙ ap (λ l. l ++ text_of s ∷ []) has.0 ∙ sym (map-append text_of sites (s ∷ [])), All-append IsReadBack sites (s ∷ []) has.1 (All-cons IsReadBack s [] adds.1 (All-nil IsReadBack)))
+journals_more false sites s before after has adds = adds ∙ has
+
 -- ---- one office alone
 
-pub ok_all : {T E : Type 0} (r : Result T E) (P Q R S U : T → Type 0) → ((x : T) → P x → Q x → R x → S x → U x) → IfOk r P → IfOk r Q → IfOk r R → IfOk r S → IfOk r U
-ok_all (Ok x) P Q R S U f p q r s = f x p q r s
-ok_all (Err e) P Q R S U f p q r s = p
+pub ok_all : {T E : Type 0} (r : Result T E) (P Q R S U V : T → Type 0) → ((x : T) → P x → Q x → R x → S x → U x → V x) → IfOk r P → IfOk r Q → IfOk r R → IfOk r S → IfOk r U → IfOk r V
+ok_all (Ok x) P Q R S U V f p q r s u = f x p q r s u
+ok_all (Err e) P Q R S U V f p q r s u = p
 
-pub tells_runs : (p : PlanValue) (me : ℕ) (k : Key) (x q : DeskPass) (sessions count unfinished : ℕ) (text : List ℕ) → k ≡ (p, me) → sessions ≡ count → Looks k x q → unfinished ≡ sessions - length (finished_of (office_with k q.seen)) →
-    text ≡ runs_report p (office_with k q.seen ∷ []) unfinished → TellsJournals p (me ∷ []) count unfinished text
-tells_runs p me k x q sessions count unfinished text key all looks left told =
+pub tells_runs : (p : PlanValue) (me : ℕ) (k : Key) (x q : DeskPass) (sessions count : ℕ) (wanted : Bool) (ran : Ran) → k ≡ (p, me) → sessions ≡ count → Looks k x q → ran.unfinished ≡ sessions - length (finished_of (office_with k q.seen)) →
+    string_bytes ran.text ≡ runs_report p (office_with k q.seen ∷ []) ran.unfinished → HasJournals wanted (office_with k q.seen ∷ []) (map string_bytes ran.journals.items) → TellsJournals p (me ∷ []) count wanted ran
+tells_runs p me k x q sessions count wanted ran key all looks left told journals =
     let site : Site = office_with k q.seen in
     let size : length (all_finished (site ∷ [])) ≡ length (finished_of site) = ap length (append-nil (finished_of site)) in
     record {
@@ -53,12 +88,14 @@ tells_runs p me k x q sessions count unfinished text key all looks left told =
       legal = All-cons IsLegal site [] looks.1.legal (All-nil IsLegal);
       left = omega (arith, left, all, size);
       told = told;
+      journals = journals;
     }
 
-pub tells_run : (tells : Bool) (p : PlanValue) (me : ℕ) (programs : List ProgramValue) (turns : ℕ) (ran : Ran) (k : Key) (a b : Standing) (q : DeskPass) (sessions : ℕ) (fault : Option RunFault) → k ≡ (p, me) → sessions ≡ count_of programs me →
+pub tells_run : (tells : Bool) (p : PlanValue) (me : ℕ) (programs : List ProgramValue) (turns : ℕ) (wanted : Bool) (ran : Ran) (k : Key) (a b : Standing) (q : DeskPass) (sessions : ℕ) (fault : Option RunFault) → k ≡ (p, me) → sessions ≡ count_of programs me →
     (a.pass.tag ≡ 0) × (a.pass.seen ≡ []) × (a.pass.mine ≡ []) × ((v n : ℕ) → a.last v n ≡ None) → Goes fault tells a.pass.tag k turns a b (of_office me programs) → Looks k b.pass q → ran.fault ≡ fault →
-    string_bytes ran.text ≡ runs_report p (office_with k q.seen ∷ []) ran.unfinished → ran.unfinished ≡ sessions - length (finished_of (office_with k q.seen)) → TellsCourse tells p me programs turns ran
-tells_run tells p me programs turns ran k a b q sessions fault key all begins goes looks same told left = record {
+    string_bytes ran.text ≡ runs_report p (office_with k q.seen ∷ []) ran.unfinished → ran.unfinished ≡ sessions - length (finished_of (office_with k q.seen)) →
+    HasJournals wanted (office_with k q.seen ∷ []) (map string_bytes ran.journals.items) → TellsCourse tells p me programs turns wanted ran
+tells_run tells p me programs turns wanted ran k a b q sessions fault key all begins goes looks same told left journals = record {
   first = a;
   begins = begins;
   last = b;
@@ -68,4 +105,5 @@ tells_run tells p me programs turns ran k a b q sessions fault key all begins go
   looked = subst (λ (x : Key). Looks x b.pass q) key looks;
   left = subst (λ (x : Key). ran.unfinished ≡ count_of programs me - length (finished_of (office_with x q.seen))) key (left ∙ ap (λ n. n - length (finished_of (office_with k q.seen))) all);
   told = subst (λ (x : Key). string_bytes ran.text ≡ runs_report p (office_with x q.seen ∷ []) ran.unfinished) key told;
+  journals = subst (λ (x : Key). HasJournals wanted (office_with x q.seen ∷ []) (map string_bytes ran.journals.items)) key journals;
 }

@@ -1,5 +1,5 @@
 -- What is told of offices that ran.
-use Rattle.std.specs.Prelude.{◌≡◌, ◌-◌, ◌==◌, ℕ, Bool, None, List, [], ◌∷◌, ◌++◌, length, map, All}
+use Rattle.std.specs.Prelude.{◌≡◌, ◌-◌, ◌==◌, ℕ, Bool, true, false, None, List, [], ◌∷◌, ◌++◌, length, map, All}
 use Rattle.std.specs.List.{flat_map, count_by}
 use Rattle.std.specs.String.{string_bytes}
 use Rattle.office_map.specs.PlanValue.{PlanValue}
@@ -9,6 +9,8 @@ use Rattle.site_core.specs.Journals.{Site, IsLegal, office_of}
 use Rattle.locked_office.specs.Calls.{Key, DeskPass, Looks, office_with}
 use Rattle.run_reports.specs.Report.{outcome_line}
 use Rattle.run_reports.specs.WorldReport.{unfinished_line}
+use Rattle.journal_texts.specs.JournalText.{IsJournal}
+use Rattle.journal_texts.specs.Written.{journal_text}
 use Rattle.office_runs.specs.Rounds.{Standing, Goes, of_office}
 use Rattle.office_runs.specs.declared.report.Ran.{Ran}
 
@@ -31,20 +33,34 @@ runs_report p sites n = flat_map (outcome_line p) (all_finished sites) ++ unfini
 abbrev pub key_of : Site → Key
 key_of s = (s.plan, s.me)
 
--- The text tells of offices with these keys, in this order, what legal journals of theirs tell: which sessions finished, and how many of so many haven't.
-pub record TellsOffices (p : PlanValue) (keys : List Key) (sessions unfinished : ℕ) (text : List ℕ) : Type 0 where
+-- the text of an office's journal
+abbrev pub text_of : Site → List ℕ
+text_of s = journal_text s.plan s.me s.entries
+
+-- which is read as that journal
+abbrev pub IsReadBack : Site → Type 0
+IsReadBack s = IsJournal s.plan (text_of s) s.me s.entries true
+
+-- Where they are wanted, the texts are those of the journals of these offices, in this order, and each is read as its journal; else there is none.
+abbrev pub HasJournals : Bool → List Site → List (List ℕ) → Type 0
+HasJournals true sites texts = (texts ≡ map text_of sites) × All IsReadBack sites
+HasJournals false sites texts = texts ≡ []
+
+-- What is told of offices with these keys, in this order, is what legal journals of theirs tell: which sessions finished, and how many of so many haven't; and, where they are wanted, these journals.
+pub record TellsOffices (p : PlanValue) (keys : List Key) (sessions : ℕ) (wanted : Bool) (ran : Ran) : Type 0 where
   pub sites : List Site
   pub are : map key_of sites ≡ keys
   pub legal : All IsLegal sites
-  pub left : unfinished ≡ sessions - length (all_finished sites)
-  pub told : text ≡ runs_report p sites unfinished
+  pub left : ran.unfinished ≡ sessions - length (all_finished sites)
+  pub told : string_bytes ran.text ≡ runs_report p sites ran.unfinished
+  pub journals : HasJournals wanted sites (map string_bytes ran.journals.items)
 
 -- of these offices of the plan
-abbrev pub TellsJournals : PlanValue → List ℕ → ℕ → ℕ → List ℕ → Type 0
+abbrev pub TellsJournals : PlanValue → List ℕ → ℕ → Bool → Ran → Type 0
 TellsJournals p offices = TellsOffices p (map (λ me. (p, me)) offices)
 
--- The text tells of an office what its journal tells, which is what came of so many rounds with its sessions of the list; of fewer only where a fault ended one.
-pub record TellsCourse (tells : Bool) (p : PlanValue) (me : ℕ) (programs : List ProgramValue) (turns : ℕ) (ran : Ran) : Type 0 where
+-- What is told of an office is what its journal tells, which is what came of so many rounds with its sessions of the list, of fewer only where a fault ended one; and, where it is wanted, this journal.
+pub record TellsCourse (tells : Bool) (p : PlanValue) (me : ℕ) (programs : List ProgramValue) (turns : ℕ) (wanted : Bool) (ran : Ran) : Type 0 where
   pub first : Standing
   pub begins : (first.pass.tag ≡ 0) × (first.pass.seen ≡ []) × (first.pass.mine ≡ []) × ((v n : ℕ) → first.last v n ≡ None)
   pub last : Standing
@@ -53,3 +69,4 @@ pub record TellsCourse (tells : Bool) (p : PlanValue) (me : ℕ) (programs : Lis
   pub looked : Looks (p, me) last.pass seen
   pub left : ran.unfinished ≡ count_of programs me - length (finished_of (office_with (p, me) seen.seen))
   pub told : string_bytes ran.text ≡ runs_report p (office_with (p, me) seen.seen ∷ []) ran.unfinished
+  pub journals : HasJournals wanted (office_with (p, me) seen.seen ∷ []) (map string_bytes ran.journals.items)

@@ -1,13 +1,15 @@
 //! The sessions of an office that finished, as its desk tells them.
 
-ghost use Rattle.std.specs.Prelude.{◌≡◌, ◌++◌, false, length, IfOk, OnOk};
+ghost use Rattle.std.specs.Prelude.{◌≡◌, ◌<◌, ◌++◌, false, length, IfOk, OnOk};
 ghost use Rattle.std.specs.List.{flat_map};
 ghost use Rattle.std.specs.String.{string_bytes};
 ghost use Rattle.own_lock.specs.Passes.{IsOf};
 ghost use Rattle.locked_office.specs.Calls.{Stays, Looks, office_with};
 ghost use Rattle.run_reports.specs.Report.{outcome_line};
 ghost use Rattle.office_runs.specs.Runs.{finished_of};
+ghost use Rattle.office_runs.specs.refinement.Reports.{AddsJournal};
 
+use crate::report::Report;
 use locked_office::Desk;
 use office_map::Plan;
 use own_lock::Pass;
@@ -30,29 +32,37 @@ pub(crate) fn count_finished<R: Wait>(rt: &R, desk: &Desk, pass: &mut Pass<Offic
     count
 }
 
-/// The lines of the sessions of an office that finished are added, by ticket, and how many they are is told. Where memory runs out,
-/// some may be.
+/// The sessions of an office that finished are told, by ticket, and how many they are; and its journal, where it is wanted. Both
+/// are of one moment. Where memory runs out, some may be told.
 pub(crate) fn add_sessions<R: Wait>(
     rt: &R,
     desk: &Desk,
     pass: &mut Pass<Office>,
     plan: &Plan,
-    text: &mut String,
+    report: &mut Report,
 ) -> Result<usize, AllocError>
     requires of { IsOf desk.now pass.old }
     requires idle { pass.old.holds ≡ false }
+    requires office { desk.now.key.1 < length desk.now.key.0.offices }
     ensures stays { Stays desk.now pass.old pass.new }
     ensures looked { Looks desk.now.key pass.old pass.new }
-    ensures lines { OnOk result (string_bytes text.new ≡ string_bytes text.old ++ flat_map (outcome_line plan.now) (finished_of (office_with desk.now.key pass.new.seen))) }
+    ensures lines { OnOk result (report.new.lines ≡ report.old.lines ++ flat_map (outcome_line plan.now) (finished_of (office_with desk.now.key pass.new.seen))) }
     ensures count { IfOk result (λ n. n ≡ length (finished_of (office_with desk.now.key pass.new.seen))) }
+    ensures journal { OnOk result (AddsJournal report.old.wanted (office_with desk.now.key pass.new.seen) report.old.texts report.new.texts) }
+    ensures wanted { report.new.wanted ≡ report.old.wanted }
 {
     let held = desk.lock().take(rt, pass);
-    let added = add_lines(text, plan, held.get().outcomes());
+    let added = report.add(plan, held.get());
     desk.lock().give(pass, held);
     added
 }
 
-fn add_lines(text: &mut String, plan: &Plan, outcomes: &[Outcome]) -> Result<usize, AllocError>
+/// The lines of these sessions are added, and how many they are is told. Where memory runs out, some may be.
+pub(crate) fn add_lines(
+    text: &mut String,
+    plan: &Plan,
+    outcomes: &[Outcome],
+) -> Result<usize, AllocError>
     ensures lines { OnOk result (string_bytes text.new ≡ string_bytes text.old ++ flat_map (outcome_line plan.now) outcomes.now) }
     ensures count { IfOk result (λ n. n ≡ length outcomes.now) }
 {

@@ -2,20 +2,20 @@
 
 ghost use Rattle.std.specs.Prelude.{◌≡◌, ◌<◌, ◌+◌, ◌++◌, ◌∷◌, [], false, length, map, IfOk, IfSome, IfNone};
 ghost use Rattle.std.specs.List.{flat_map, range_with_len};
-ghost use Rattle.std.specs.String.{string_bytes};
 ghost use Rattle.own_lock.specs.Passes.{IsOf};
 ghost use Rattle.locked_office.specs.Calls.{Stays};
 ghost use Rattle.run_reports.specs.Report.{outcome_line};
 ghost use Rattle.site_core.specs.Journals.{IsLegal, Site};
 ghost use Rattle.office_runs.specs.Runs.{TellsOffices, TellsJournals, finished_of, key_of};
 ghost use Rattle.office_runs.specs.refinement.Opening.{opened_key};
+ghost use Rattle.office_runs.specs.refinement.Reports.{AddsJournal};
 
 use crate::around::Around;
 use crate::fault::RunFault;
 use crate::finished::add_sessions;
 use crate::gate::Gate;
 use crate::opened::{Opened, last, open_desk};
-use crate::report::{Ran, with_unfinished};
+use crate::report::{Ran, Report, with_unfinished};
 use crate::shared::Shared;
 use crate::socket::{Binds, Socket, Wakes};
 use crate::threads::{Client, Worker};
@@ -45,6 +45,7 @@ struct Crew<S: Socket, A: Wakes> {
 
 /// Runs the sessions, each at its office: every office has a socket of this machine's own, a thread that turns it, and one that
 /// submits its sessions in their order. The run ends when all have finished, or an office has had 100,000 turns.
+/// Where the `journals` are wanted, their texts are told too, in the plan's order.
 ///
 /// # Errors
 /// Where nothing was done: `BindFailed`, `NoClock`, `Memory`. What ends a run before its time is told in what it answers, with
@@ -54,6 +55,7 @@ pub fn live<R, B, G, W>(
     alloc: Global,
     plan: &Plan,
     programs: &[Program],
+    journals: bool,
     around: &Around<'_, B, G, W>,
 ) -> Result<Ran, RunFault>
 where
@@ -63,13 +65,13 @@ where
     B::Alarm: Send,
     G: Gate + Sync,
     W: Watch + Sync,
-    ensures tells { IfOk result (λ r. TellsJournals plan.now (range_with_len 0 (length plan.now.offices)) (length programs.now) r.unfinished (string_bytes r.text)) }
+    ensures tells { IfOk result (TellsJournals plan.now (range_with_len 0 (length plan.now.offices)) (length programs.now) journals) }
 {
     let (offices, crews) = open_all(rt, alloc, plan, around.binds)?;
     let shared = Shared::new(programs.len() as u64);
     start_all(rt, crews, programs, around.gate, around.watch, &shared);
     let fault = shared.fault(rt);
-    told(rt, alloc, plan, offices, programs.len(), fault)
+    told(rt, alloc, plan, offices, programs.len(), journals, fault)
 }
 
 /// Starts two threads for each office, and waits until all have ended.
@@ -271,17 +273,18 @@ fn told<R: Wait>(
     plan: &Plan,
     mut offices: VecDeque<Opened>,
     sessions: usize,
+    journals: bool,
     fault: Option<RunFault>,
 ) -> Result<Ran, RunFault>
-    ensures { IfOk result (λ r. TellsOffices plan.now (map opened_key offices.items) sessions r.unfinished (string_bytes r.text)) }
+    ensures { IfOk result (TellsOffices plan.now (map opened_key offices.items) sessions journals) }
 {
-    let mut text = String::new(alloc);
+    let mut report = Report::new(alloc, journals);
     let mut left = sessions;
     while let Some(office) = first_office(&mut offices) {
-        let count = add_office(rt, plan, office, &mut text)?;
+        let count = add_office(rt, plan, office, &mut report)?;
         left = left.saturating_sub(count);
     }
-    Ok(with_unfinished(text, left, fault)?)
+    Ok(with_unfinished(report, left, fault)?)
 }
 
 fn first_office(offices: &mut VecDeque<Opened>) -> Option<Opened>
@@ -291,16 +294,17 @@ fn first_office(offices: &mut VecDeque<Opened>) -> Option<Opened>
     offices.pop_front()
 }
 
-/// The sessions of an office that finished are told, and how many they are.
+/// The sessions of an office that finished are told, and how many they are; and its journal, where it is wanted.
 fn add_office<R: Wait>(
     rt: &R,
     plan: &Plan,
     office: Opened,
-    text: &mut String,
+    report: &mut Report,
 ) -> Result<usize, AllocError>
-    ensures { IfOk result (λ n. (s : Site) × (key_of s ≡ opened_key office) × IsLegal s × (n ≡ length (finished_of s))
-        × (string_bytes text.new ≡ string_bytes text.old ++ flat_map (outcome_line plan.now) (finished_of s))) }
+    ensures told { IfOk result (λ n. (s : Site) × (key_of s ≡ opened_key office) × IsLegal s × (n ≡ length (finished_of s))
+        × (report.new.lines ≡ report.old.lines ++ flat_map (outcome_line plan.now) (finished_of s)) × AddsJournal report.old.wanted s report.old.texts report.new.texts) }
+    ensures wanted { report.new.wanted ≡ report.old.wanted }
 {
     let Opened { desk, mut pass } = office;
-    add_sessions(rt, &desk, &mut pass, plan, text)
+    add_sessions(rt, &desk, &mut pass, plan, report)
 }

@@ -19,6 +19,7 @@ pub(crate) struct Opened {
     pub(crate) pass: Pass<Office>,
     ghost of: { IsOf (arc_value desk) pass },
     ghost idle: { pass.holds ≡ false },
+    ghost office: { (arc_value desk).key.1 < length (arc_value desk).key.0.offices },
 }
 
 /// That office of the plan at a desk, and so many passes.

@@ -1,39 +1,120 @@
 //! What is told of a run.
 
-ghost use Rattle.std.specs.Prelude.{◌≡◌, ◌++◌, IfOk};
+ghost use Rattle.std.specs.Prelude.{◌≡◌, ◌<◌, ◌++◌, [], length, map, IfOk, OnOk};
+ghost use Rattle.std.specs.List.{flat_map};
 ghost use Rattle.std.specs.String.{string_bytes};
+ghost use Rattle.run_reports.specs.Report.{outcome_line};
 ghost use Rattle.run_reports.specs.WorldReport.{unfinished_line};
-ghost use Rattle.office_runs.specs.Runs.{count_of};
+ghost use Rattle.office_runs.specs.Runs.{count_of, finished_of};
+ghost use Rattle.office_runs.specs.refinement.Reports.{AddsJournal, none_told};
 
 use crate::fault::RunFault;
-use office_map::OfficeId;
+use crate::finished::add_lines;
+use office_map::{OfficeId, Plan};
 use run_reports::world::add_unfinished;
 use session_language::Program;
-use std::alloc::AllocError;
+use site_core::Office;
+use std::alloc::{AllocError, Global};
+use std::marker::Model;
 
-/// What came of a run: what is printed of it, how many sessions haven't finished, and why it ended before its time, if it did.
+/// What came of a run: what is printed of it, how many sessions haven't finished, and why it ended before its time, if it did; and
+/// the texts of the journals of the offices that ran, where these are wanted.
 #[derive(Drop)]
 pub struct Ran {
     pub text: String,
     pub unfinished: usize,
     pub fault: Option<RunFault>,
+    pub journals: Vec<String>,
+}
+
+/// What is told of offices so far, one after the other. Contracts see the texts.
+#[derive(Drop)]
+pub(crate) struct Report {
+    alloc: Global,
+    text: String,
+    wanted: bool,
+    journals: Vec<String>,
+}
+
+impl Model for Report {
+    ghost use Rattle.std.specs.Prelude.{map};
+    ghost use Rattle.std.specs.String.{string_bytes};
+    ghost use Rattle.office_runs.specs.refinement.Reports.{Told};
+
+    ghost Value = { Told };
+
+    ghost view = { λ r. record { lines = string_bytes r.text; wanted = r.wanted; texts = map string_bytes r.journals.items } };
+}
+
+impl Report {
+    /// Of no office yet; and whether the texts of their journals are wanted.
+    pub(crate) fn new(alloc: Global, wanted: bool) -> Report
+        ensures { result ≡ none_told wanted }
+    {
+        Report {
+            alloc,
+            text: String::new(alloc),
+            wanted,
+            journals: Vec::new(alloc),
+        }
+    }
+
+    /// The sessions of an office that finished are told, by ticket, and how many they are; and its journal, where it is wanted.
+    /// Where memory runs out, some may be.
+    pub(crate) fn add(&mut self, plan: &Plan, office: &Office) -> Result<usize, AllocError>
+        requires { office.now.me < length office.now.plan.offices }
+        ensures lines { OnOk result (self.new.lines ≡ self.old.lines ++ flat_map (outcome_line plan.now) (finished_of office.now)) }
+        ensures count { IfOk result (λ n. n ≡ length (finished_of office.now)) }
+        ensures journal { OnOk result (AddsJournal self.old.wanted office.now self.old.texts self.new.texts) }
+        ensures wanted { self.new.wanted ≡ self.old.wanted }
+    {
+        self.add_journal(office)?;
+        add_lines(&mut self.text, plan, office.outcomes())
+    }
+
+    fn add_journal(&mut self, office: &Office) -> Result<(), AllocError>
+        requires { office.now.me < length office.now.plan.offices }
+        ensures journal { OnOk result (AddsJournal self.old.wanted office.now self.old.texts self.new.texts) }
+        ensures lines { self.new.lines ≡ self.old.lines }
+        ensures wanted { self.new.wanted ≡ self.old.wanted }
+    {
+        if !self.wanted {
+            return Ok(());
+        }
+        let text = journal_texts::text(
+            self.alloc,
+            office.journal(),
+            office.plan(),
+            office.number(),
+        )?;
+        self.journals.push(text)?;
+        Ok(())
+    }
 }
 
 /// What came of a run, of which the sessions that finished are told.
 pub(crate) fn with_unfinished(
-    mut text: String,
+    report: Report,
     unfinished: usize,
     fault: Option<RunFault>,
 ) -> Result<Ran, AllocError>
-    ensures text { IfOk result (λ r. string_bytes r.text ≡ string_bytes text ++ unfinished_line unfinished) }
+    ensures text { IfOk result (λ r. string_bytes r.text ≡ report.lines ++ unfinished_line unfinished) }
     ensures unfinished { IfOk result (λ r. r.unfinished ≡ unfinished) }
     ensures fault { IfOk result (λ r. r.fault ≡ fault) }
+    ensures journals { IfOk result (λ r. map string_bytes r.journals.items ≡ report.texts) }
 {
+    let Report {
+        alloc: _,
+        mut text,
+        wanted: _,
+        journals,
+    } = report;
     add_unfinished(&mut text, unfinished)?;
     Ok(Ran {
         text,
         unfinished,
         fault,
+        journals,
     })
 }
 

@@ -1,6 +1,6 @@
 //! One office, alone in its process.
 
-ghost use Rattle.std.specs.Prelude.{◌≡◌, ◌<◌, ◌∷◌, ◌-◌, ℕ, [], None, false, length, IfOk};
+ghost use Rattle.std.specs.Prelude.{◌≡◌, ◌<◌, ◌∷◌, ◌-◌, ℕ, [], None, false, length, map, IfOk};
 ghost use Rattle.std.specs.Result.{result_err};
 ghost use Rattle.std.specs.String.{string_bytes};
 ghost use Rattle.own_lock.specs.Passes.{IsOf};
@@ -8,7 +8,7 @@ ghost use Rattle.site_core.specs.Journals.{IsLegal};
 ghost use Rattle.locked_office.specs.Calls.{Stays, Looks, office_with};
 ghost use Rattle.socket_pump.specs.Last.{last_of};
 ghost use Rattle.office_runs.specs.Rounds.{Goes, of_office};
-ghost use Rattle.office_runs.specs.Runs.{TellsCourse, TellsJournals, count_of, finished_of, runs_report};
+ghost use Rattle.office_runs.specs.Runs.{TellsCourse, TellsJournals, HasJournals, count_of, finished_of, runs_report};
 ghost use Rattle.office_runs.specs.refinement.Standings.{standing};
 
 use crate::address::address;
@@ -18,7 +18,7 @@ use crate::fault::RunFault;
 use crate::finished::add_sessions;
 use crate::gate::Gate;
 use crate::opened::{only, open_desk};
-use crate::report::{Ran, count_of, with_unfinished};
+use crate::report::{Ran, Report, count_of, with_unfinished};
 use crate::shared::Shared;
 use crate::socket::{Binds, Socket};
 use crate::station::Station;
@@ -37,7 +37,8 @@ use std::sync::Wait;
 use std::time::Instant;
 
 /// An office at its plan's address, which turns so often. Those of the sessions that are its own are submitted as it takes
-/// them. It takes all its turns, since neighbours may need it after its own sessions have finished.
+/// them. It takes all its turns, since neighbours may need it after its own sessions have finished. Where the
+/// `journals` are wanted, the text of its one is told too.
 ///
 /// # Errors
 /// Where nothing was done: `BindFailed`, `NoClock`, `Memory`. What ends a run before its turns are over is told in what it answers,
@@ -49,11 +50,12 @@ pub fn run_office<R: Wait + Clock, B: Binds, G: Gate, W: Watch>(
     me: OfficeId,
     programs: &[Program],
     turns: u64,
+    journals: bool,
     around: &Around<'_, B, G, W>,
 ) -> Result<Ran, RunFault>
     requires { me < length plan.now.offices }
-    ensures tells { IfOk result (λ r. TellsJournals plan.now (me ∷ []) (count_of programs.now me) r.unfinished (string_bytes r.text)) }
-    ensures ran { IfOk result (λ r. TellsCourse B.Socket.tells plan.now me programs.now turns r) }
+    ensures tells { IfOk result (TellsJournals plan.now (me ∷ []) (count_of programs.now me) journals) }
+    ensures ran { IfOk result (TellsCourse B.Socket.tells plan.now me programs.now turns journals) }
 {
     let mut station = station(rt, alloc, plan, me, around.binds)?;
     let (desk, passes) = open_desk(alloc, plan, me, 1)?;
@@ -81,6 +83,7 @@ pub fn run_office<R: Wait + Clock, B: Binds, G: Gate, W: Watch>(
         &desk,
         &mut pass,
         count_of(programs, me),
+        journals,
         fault,
     )
 }
@@ -161,16 +164,19 @@ fn told<R: Wait>(
     desk: &Desk,
     pass: &mut Pass<Office>,
     sessions: usize,
+    journals: bool,
     fault: Option<RunFault>,
 ) -> Result<Ran, RunFault>
     requires of { IsOf desk.now pass.old }
     requires idle { pass.old.holds ≡ false }
+    requires office { desk.now.key.1 < length desk.now.key.0.offices }
     ensures looked { IfOk result (λ _. Looks desk.now.key pass.old pass.new) }
     ensures fault { IfOk result (λ r. r.fault ≡ fault) }
     ensures text { IfOk result (λ r. string_bytes r.text ≡ runs_report plan.now (office_with desk.now.key pass.new.seen ∷ []) r.unfinished) }
     ensures left { IfOk result (λ r. r.unfinished ≡ sessions - length (finished_of (office_with desk.now.key pass.new.seen))) }
+    ensures journals { IfOk result (λ r. HasJournals journals (office_with desk.now.key pass.new.seen ∷ []) (map string_bytes r.journals.items)) }
 {
-    let mut text = String::new(alloc);
-    let finished = add_sessions(rt, desk, pass, plan, &mut text)?;
-    Ok(with_unfinished(text, sessions.saturating_sub(finished), fault)?)
+    let mut report = Report::new(alloc, journals);
+    let finished = add_sessions(rt, desk, pass, plan, &mut report)?;
+    Ok(with_unfinished(report, sessions.saturating_sub(finished), fault)?)
 }

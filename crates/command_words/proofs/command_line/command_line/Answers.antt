@@ -1,9 +1,15 @@
-use Rattle.std.proofs.Common.{◌≡◌, ◌∙◌, List, [], Option, Some, None, option_map, unwrap_or, map, ap, sym, refl, true, subst}
+use Rattle.std.proofs.Common.{◌≡◌, ◌∙◌, List, [], Option, Some, None, Result, Ok, Err, inl, option_map, unwrap_or, map, ap, sym, refl, true, false, subst, codes}
+use Rattle.std.specs.Prelude.{IfErr, IsErr, IsErrAnd}
+use Rattle.std.proofs.lemmas.Option.{none-some}
+use Rattle.std.proofs.lemmas.Result.{IfOk-weaker}
+use Rattle.std.specs.Str.{bytes_eq}
 use Rattle.std.specs.String.{string_bytes}
-use Rattle.clap.specs.Words.{App, Row, Text, app_of, fault_of, found_of, is_simple, is_simple_and_free, rows_of, subcommand_of}
+use Rattle.clap.specs.Words.{App, FailsBy, HasKind, Kinds, Row, Text, app_of, fault_of, found_of, kind_of, is_simple, is_simple_and_free, rows_of, subcommand_of, subcommand_rows_of}
+use Rattle.clap.specs.declared.error.Error.{Error}
+use Rattle.clap.specs.declared.error.kind.ErrorKind.TheVariants.{OutOfMemory}
 use Rattle.clap.proofs.OnLiterals.{clap_on_literals}
 use Rattle.command_words.specs.declared.command_line.Request.{Request}
-use Rattle.command_words.specs.CommandLine.{Asks, Requests, arguments_of, command_of, program}
+use Rattle.command_words.specs.CommandLine.{Asks, Requests, arguments_of, command_of, program, word_of}
 use Rattle.command_words.proofs.command_line.command_line.Goals as goal
 
 is_free : is_simple_and_free program ≡ true
@@ -14,8 +20,19 @@ is_plain : is_simple program ≡ true
 unfolding clap_on_literals
 is_plain = refl
 
-no_fault : (a : App) (words : List Text) → a ≡ program → (is_simple_and_free a ≡ true → fault_of a words ≡ []) → fault_of program words ≡ []
-no_fault a words e h = ap (λ b. fault_of b words) (sym e) ∙ h (ap is_simple_and_free e ∙ is_free)
+-- what is said of a command's faults holds of the program's, where it is the program
+of_program : (P : Kinds → Type 0) (a : App) (words : List Text) → a ≡ program → (is_simple_and_free a ≡ true → P (fault_of a words)) → P (fault_of program words)
+of_program P a words e h = subst (λ b. P (fault_of b words)) e (h (ap is_simple_and_free e ∙ is_free))
+
+-- an error that is handed on has the kind that it had
+handed_on : {A : Type 0} (kinds : Kinds) (error : Error) (r : Result A Error) → HasKind kinds error → IsErr r × IsErrAnd r (λ e. e ≡ error) → FailsBy kinds r
+handed_on kinds error (Ok x) has is = absurd is.1
+handed_on kinds error (Err e) has is = subst (HasKind kinds) (sym is.1) has
+
+-- where the words have no fault, memory may run out
+only_memory : {A : Type 0} (kinds : Kinds) (r : Result A Error) → kinds ≡ [] → IfErr r (λ error. kind_of error ≡ OutOfMemory) → FailsBy kinds r
+only_memory kinds (Ok x) none memory = none
+only_memory kinds (Err error) none memory = inl memory
 
 first_alone : {A : Type 0} (f : A → Text) (g : A → List Row) (o : Option A) (d : Text) → unwrap_or (option_map (λ (q : Text × List Row). q.0) (option_map (λ b. (f b, g b)) o)) d ≡ unwrap_or (option_map f o) d
 first_alone f g None d = refl
@@ -30,13 +47,49 @@ named f g o p d name e h =
 asked : (words : List Text) (name : Text) (rows : List Row) (r : Request) → command_of words ≡ name → arguments_of words ≡ Some rows → Requests name (Some rows) r → Asks words r
 asked words name rows r e f h = subst (λ n. Requests n (arguments_of words) r) (sym e) (subst (λ rs. Requests name rs r) (sym f) h)
 
+no_subcommand : (o p : Option (Text × List Row)) → None ≡ option_map (λ q. q.1) o → o ≡ p → p ≡ None
+no_subcommand None p h e = sym e
+no_subcommand (Some q) p h e = absurd (none-some q.1 h)
+
+-- without a command it would be serial - -
+unasked : (words : List Text) → subcommand_of program words ≡ None
+    → (bytes_eq (command_of words) (codes "sim") ≡ false) × (bytes_eq (command_of words) (codes "random") ≡ false) × (bytes_eq (command_of words) (codes "run") ≡ false)
+    × (bytes_eq (command_of words) (codes "live") ≡ false) × (bytes_eq (command_of words) (codes "audit") ≡ false)
+    × (codes "-" ≡ word_of (codes "PLAN") (arguments_of words)) × (codes "-" ≡ word_of (codes "SESSIONS") (arguments_of words))
+unasked words none =
+    let serial : codes "serial" ≡ command_of words = ap (λ o. unwrap_or (option_map (λ (q : Text × List Row). q.0) o) (codes "serial")) (sym none) in
+    let nothing : None ≡ arguments_of words = ap (option_map (λ (q : Text × List Row). q.1)) (sym none) in (
+      subst (λ n. bytes_eq n (codes "sim") ≡ false) serial refl,
+      subst (λ n. bytes_eq n (codes "random") ≡ false) serial refl,
+      subst (λ n. bytes_eq n (codes "run") ≡ false) serial refl,
+      subst (λ n. bytes_eq n (codes "live") ≡ false) serial refl,
+      subst (λ n. bytes_eq n (codes "audit") ≡ false) serial refl,
+      ap (word_of (codes "PLAN")) nothing,
+      ap (word_of (codes "SESSIONS")) nothing,
+    )
+
 pub returns-in-Some-clause-request : goal.returns-in-Some-clause-request
 returns-in-Some-clause-request c =
     let words : List Text = map string_bytes c.args.words.now in
     let rows = (c.in_ok-matches.ensures.matches (ap is_simple c.in_ok-program.ensures ∙ is_plain)).1 ∙ ap (λ a. subcommand_of a words) c.in_ok-program.ensures in
     let found : arguments_of words ≡ Some (rows_of (found_of c.in-Some.found.now)) = sym (c.in-Some.ensures.rows ∙ ap (option_map (λ p. p.1)) rows) in
-    asked words c.in-Some.name.now (rows_of (found_of c.in-Some.found.now)) c.requested.result
-    (named _ _ _ (subcommand_of program words) _ c.in-Some.name.now c.in-Some.ensures.name rows) found c.requested.ensures
+    let name = named _ _ _ (subcommand_of program words) _ c.in-Some.name.now c.in-Some.ensures.name rows in
+    IfOk-weaker c.requested.result _ _ (λ r. asked words c.in-Some.name.now (rows_of (found_of c.in-Some.found.now)) r name found) c.requested.ensures.request
 
 pub returns-in-Some-clause-faults : goal.returns-in-Some-clause-faults
-returns-in-Some-clause-faults c = no_fault (app_of c.in_ok-program.field-0) (map string_bytes c.args.words.now) c.in_ok-program.ensures c.in_ok-matches.ensures.kinds
+returns-in-Some-clause-faults c =
+    only_memory _ c.requested.result (of_program (λ kinds. kinds ≡ []) (app_of c.in_ok-program.field-0) (map string_bytes c.args.words.now) c.in_ok-program.ensures c.in_ok-matches.ensures.kinds)
+    c.requested.ensures.memory
+
+pub returns-in_err-matches-clause-faults : goal.returns-in_err-matches-clause-faults
+returns-in_err-matches-clause-faults c =
+    let error = c.in_err-matches.field-0.0 in
+    let words : List Text = map string_bytes c.args.words.now in
+    handed_on _ error c.from_residual-in_err-matches.result
+    (of_program (λ kinds. HasKind kinds error) (app_of c.in_ok-program.field-0) words c.in_ok-program.ensures c.in_err-matches.ensures.kinds) c.from_residual-in_err-matches.ensures
+
+pub returns-clause-request : goal.returns-clause-request
+returns-clause-request c =
+    let words : List Text = map string_bytes c.args.words.now in
+    let rows = (c.in_ok-matches.ensures.matches (ap is_simple c.in_ok-program.ensures ∙ is_plain)).1 ∙ ap (λ a. subcommand_of a words) c.in_ok-program.ensures in
+    unasked words (no_subcommand (subcommand_rows_of c.in_ok-matches.matches) (subcommand_of program words) c.in-None.ensures.rows rows)
