@@ -9,7 +9,7 @@ use Rattle.drink_commands.specs.declared.input.Input.{Input}
 use Rattle.drink_commands.specs.declared.input.Input.TheVariants as inputs
 use Rattle.drink_commands.specs.declared.fault.Why.{Why}
 use Rattle.drink_commands.specs.declared.fault.Fault.{Fault}
-use Rattle.drink_commands.specs.declared.fault.Fault.TheVariants.{Memory, ReadFailed, Refused, NoSuchOffice, NoAddress, NoRun, CutShort, WriteFailed}
+use Rattle.drink_commands.specs.declared.fault.Fault.TheVariants.{Memory, ReadFailed, Refused, NoSuchOffice, NoAddress, NoJournal, NoRun, CutShort, WriteFailed, FileFailed}
 use Rattle.drink_commands.specs.Fault.{IsAmong, IsFaultAt, IsWriteFault, refused_input}
 use Rattle.drink_commands.specs.Plans.{IsAcceptedAs}
 use Rattle.drink_commands.specs.Texts.{Accepts, IsJudgedOr, Judges, Known, Refuses, nothing}
@@ -20,9 +20,11 @@ weaker input P Q (ReadFailed failed cause) k h = h
 weaker input P Q (Refused why remark) k (e, h) = (e, k why h)
 weaker input P Q (NoSuchOffice offices) k h = h
 weaker input P Q (NoAddress office) k h = h
+weaker input P Q (NoJournal office) k h = h
 weaker input P Q (NoRun cause) k h = h
 weaker input P Q (CutShort cause) k h = h
 weaker input P Q (WriteFailed cause) k h = h
+weaker input P Q (FileFailed name cause) k h = h
 
 -- a fault at an input of these
 pub among : (asked : List Input) (input : Input) (P : Why → Type 0) (f : Fault) → Contains asked input → IsFaultAt input P f → IsAmong asked f
@@ -31,9 +33,11 @@ among asked input P (ReadFailed failed cause) at h = subst (Contains asked) (sym
 among asked input P (Refused why remark) at (e, h) = subst (Contains asked) (sym e) at
 among asked input P (NoSuchOffice offices) at h = h
 among asked input P (NoAddress office) at h = h
+among asked input P (NoJournal office) at h = h
 among asked input P (NoRun cause) at h = h
 among asked input P (CutShort cause) at h = h
 among asked input P (WriteFailed cause) at h = tt
+among asked input P (FileFailed name cause) at h = tt
 
 contains_more : (input : Input) (asked : List Input) (x : Input) → Contains asked x → Contains (input ∷ asked) x
 contains_more input asked x (k, lt, e) = (suc k, omega (arith, lt), e)
@@ -44,9 +48,11 @@ among_more input asked (ReadFailed failed cause) h = contains_more input asked f
 among_more input asked (Refused why remark) h = contains_more input asked (refused_input why) h
 among_more input asked (NoSuchOffice offices) h = h
 among_more input asked (NoAddress office) h = h
+among_more input asked (NoJournal office) h = h
 among_more input asked (NoRun cause) h = h
 among_more input asked (CutShort cause) h = h
 among_more input asked (WriteFailed cause) h = tt
+among_more input asked (FileFailed name cause) h = tt
 
 -- the writing failed, and no input is at fault
 pub no_input : (f : Fault) → IsWriteFault f → IsAmong [] f
@@ -55,9 +61,11 @@ no_input (ReadFailed input cause) h = absurd h
 no_input (Refused why remark) h = absurd h
 no_input (NoSuchOffice offices) h = h
 no_input (NoAddress office) h = h
+no_input (NoJournal office) h = h
 no_input (NoRun cause) h = h
 no_input (CutShort cause) h = h
 no_input (WriteFailed cause) h = tt
+no_input (FileFailed name cause) h = tt
 
 at_input : (P : Fault → Type 0) (known : Known) (asked : List Input) (f : Fault) → Judges P known asked [] f → IsAmong asked f ⊎ P f
 at_input P known [] f h = h

@@ -3,3 +3,5 @@ pub mod Limits
 pub mod Faults
 pub mod Reported
 pub mod Running
+pub mod JournalTexts
+pub mod JournalFiles

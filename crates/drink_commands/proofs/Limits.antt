@@ -79,7 +79,7 @@ sessions_accepted files old word new read p programs was e text after has =
 
 -- ---- scripts
 
-same_text : (limit : ℕ) (text read : List ℕ) → length read ≤ limit → IsReadUpTo limit text read → read ≡ text
+pub same_text : (limit : ℕ) (text read : List ℕ) → length read ≤ limit → IsReadUpTo limit text read → read ≡ text
 same_text limit text read short (inl e) = e
 same_text limit text read short (inr (a, b)) = absurd (omega (arith, short, a))
 

@@ -1,5 +1,5 @@
 -- What a command wrote is what its texts mean.
-use Rattle.std.proofs.Common.{◌≡◌, ℕ, Bool, List, [], ◌∷◌, length, Option, Some, sym, subst, ap, ◌∙◌}
+use Rattle.std.proofs.Common.{◌≡◌, ℕ, Bool, List, [], ◌∷◌, length, map, get_or, Option, Some, is_some, sym, subst, ap, ◌∙◌}
 use Rattle.std.specs.List.{range_with_len}
 use Rattle.std.specs.String.{string_bytes}
 use Rattle.std.specs.Io.KnownBytes.{Appends}
@@ -15,6 +15,7 @@ use Rattle.random_runs.specs.Runs.{Tells}
 use Rattle.drink_commands.specs.Random.{TellsRun}
 use Rattle.office_runs.specs.Runs.{TellsCourse, TellsJournals}
 use Rattle.office_runs.specs.declared.report.Ran.{Ran}
+use Rattle.drink_commands.specs.Journals.{File, WritesFiles, files_of, files_of_world}
 use Rattle.drink_commands.specs.Run.{IsReached, WritesOffice, WritesOffices}
 use Rattle.drink_commands.specs.Simulation.{Simulates}
 use Rattle.drink_commands.proofs.Faults.{TakesPlan, TakesScript, TakesSessions}
@@ -55,12 +56,12 @@ ran files u v w a b a_text b_text p programs seen old new printed plan sessions 
     }
 
 pub simulated : (files : List ℕ → Option (List ℕ)) (u v w x : Unread) (a b c a_text b_text c_text : List ℕ) (p : PlanValue)
-    (programs : List ProgramValue) (acts run : List Act) (old new : Option (List ℕ)) (printed : List ℕ)
+    (programs : List ProgramValue) (acts run : List Act) (folder : Option (List ℕ)) (old new : Option (List ℕ)) (kept left : Option (List File)) (printed : List ℕ)
     → TakesPlan files u a v p → TakesSessions files v b w p programs → TakesScript files w c x p programs acts
     → HaveTexts files u (a ∷ b ∷ c ∷ []) (a_text ∷ b_text ∷ c_text ∷ [])
     → run ≡ acts → IsSerialRun (run_of (opening p) run) → printed ≡ transcript p run → Appends old new printed
-    → Simulates a_text b_text c_text old new
-simulated files u v w x a b c a_text b_text c_text p programs acts run old new printed plan sessions script (after, has, (next, has_next, (last, has_last, more))) same serial e written =
+    → WritesFiles folder (λ place. files_of_world place (run_of (opening p) run)) kept left → Simulates a_text b_text c_text folder old new kept left
+simulated files u v w x a b c a_text b_text c_text p programs acts run folder old new kept left printed plan sessions script (after, has, (next, has_next, (last, has_last, more))) same serial e written journals =
     let it = plan a_text after has in
     let then_it = sessions b_text next (subst (λ s. HasText files s b b_text next) (sym it.1) has_next) in
     record {
@@ -72,15 +73,17 @@ simulated files u v w x a b c a_text b_text c_text p programs acts run old new p
       is_script = (script c_text last (subst (λ s. HasText files s c c_text last) (sym then_it.1) has_last)).0;
       written = subst (λ t. Appends old new t) (e ∙ ap (transcript p) same) written;
       serial = subst (λ xs. IsSerialRun (run_of (opening p) xs)) same serial;
+      journals = subst (λ xs. WritesFiles folder (λ place. files_of_world place (run_of (opening p) xs)) kept left) same journals;
     }
 
 -- ---- offices that run
 
 pub ran_office : (tells : Bool) (files : List ℕ → Option (List ℕ)) (u v w : Unread) (a word b a_text b_text : List ℕ) (p : PlanValue) (me : ℕ) (programs seen : List ProgramValue)
-    (turns : ℕ) (run : Ran) (old new : Option (List ℕ)) → TakesPlan files u a v p → office_named p word ≡ Some me → IsReached p me → TakesSessions files v b w p programs
-    → HaveTexts files u (a ∷ b ∷ []) (a_text ∷ b_text ∷ []) → seen ≡ programs → TellsCourse tells p me seen turns run → Appends old new (string_bytes run.text)
-    → WritesOffice tells a_text word b_text turns run old new
-ran_office tells files u v w a word b a_text b_text p me programs seen turns run old new plan e reached sessions (after, has, (next, has_next, more)) same told written =
+    (turns : ℕ) (file : Option (List ℕ)) (run : Ran) (old new : Option (List ℕ)) (kept left : Option (List File)) → TakesPlan files u a v p → office_named p word ≡ Some me → IsReached p me → TakesSessions files v b w p programs
+    → HaveTexts files u (a ∷ b ∷ []) (a_text ∷ b_text ∷ []) → seen ≡ programs → TellsCourse tells p me seen turns (is_some file) run → Appends old new (string_bytes run.text)
+    → WritesFiles file (λ place. map (λ text. (place, string_bytes text)) run.journals.items) kept left
+    → WritesOffice tells a_text word b_text turns file run old new kept left
+ran_office tells files u v w a word b a_text b_text p me programs seen turns file run old new kept left plan e reached sessions (after, has, (next, has_next, more)) same told written journal =
     let it = plan a_text after has in
     record {
       p = p;
@@ -90,22 +93,25 @@ ran_office tells files u v w a word b a_text b_text p me programs seen turns run
       is_office = e;
       is_reached = reached;
       are_sessions = (sessions b_text next (subst (λ s. HasText files s b b_text next) (sym it.1) has_next)).0;
-      told = subst (λ ps. TellsCourse tells p me ps turns run) same told;
+      told = subst (λ ps. TellsCourse tells p me ps turns (is_some file) run) same told;
       written = written;
+      journal = journal;
     }
 
 pub ran_offices : (files : List ℕ → Option (List ℕ)) (u v w : Unread) (a b a_text b_text : List ℕ) (p : PlanValue) (programs seen : List ProgramValue)
-    (run : Ran) (old new : Option (List ℕ)) → TakesPlan files u a v p → TakesSessions files v b w p programs
+    (folder : Option (List ℕ)) (run : Ran) (old new : Option (List ℕ)) (kept left : Option (List File)) → TakesPlan files u a v p → TakesSessions files v b w p programs
     → HaveTexts files u (a ∷ b ∷ []) (a_text ∷ b_text ∷ []) → seen ≡ programs
-    → TellsJournals p (range_with_len 0 (length p.offices)) (length seen) run.unfinished (string_bytes run.text) → Appends old new (string_bytes run.text)
-    → WritesOffices a_text b_text run old new
-ran_offices files u v w a b a_text b_text p programs seen run old new plan sessions (after, has, (next, has_next, more)) same told written =
+    → TellsJournals p (range_with_len 0 (length p.offices)) (length seen) (is_some folder) run → Appends old new (string_bytes run.text)
+    → WritesFiles folder (λ place. files_of place p (λ a. get_or (map string_bytes run.journals.items) a []) (length run.journals.items)) kept left
+    → WritesOffices a_text b_text folder run old new kept left
+ran_offices files u v w a b a_text b_text p programs seen folder run old new kept left plan sessions (after, has, (next, has_next, more)) same told written journals =
     let it = plan a_text after has in
     record {
       p = p;
       programs = programs;
       is_plan = it.0;
       are_sessions = (sessions b_text next (subst (λ s. HasText files s b b_text next) (sym it.1) has_next)).0;
-      told = subst (λ ps. TellsJournals p (range_with_len 0 (length p.offices)) (length ps) run.unfinished (string_bytes run.text)) same told;
+      told = subst (λ ps. TellsJournals p (range_with_len 0 (length p.offices)) (length ps) (is_some folder) run) same told;
       written = written;
+      journals = journals;
     }

@@ -1,5 +1,6 @@
 -- What a fault of `run` says, and what it leaves.
-use Rattle.std.proofs.Common.{◌≡◌, ◌⊎◌, ◌≤◌, ℕ, zero, suc, List, [], ◌∷◌, take, Option, Some, None, Result, Ok, Err, refl, sym, subst, arith, inl, inr, IfErr, IfOk}
+use Rattle.std.proofs.Common.{Bor, is_some, ◌≡◌, ◌⊎◌, ◌≤◌, ℕ, zero, suc, List, [], ◌∷◌, take, Option, Some, None, Result, Ok, Err, refl, sym, subst, arith, inl, inr, IfErr, IfOk}
+use Rattle.std.specs.Option.{option_copied}
 use Rattle.input_texts.specs.Words.{HaveTexts, HasText, Unread, unread}
 use Rattle.office_map.specs.PlanValue.{PlanValue, office_named}
 use Rattle.office_runs.specs.declared.fault.RunFault.{RunFault}
@@ -7,7 +8,7 @@ use Rattle.drink_commands.specs.declared.input.Input.{Input}
 use Rattle.drink_commands.specs.declared.input.Input.TheVariants as inputs
 use Rattle.drink_commands.specs.declared.fault.Why.{Why}
 use Rattle.drink_commands.specs.declared.fault.Fault.{Fault}
-use Rattle.drink_commands.specs.declared.fault.Fault.TheVariants.{Memory, ReadFailed, Refused, NoSuchOffice, NoAddress, NoRun, CutShort, WriteFailed}
+use Rattle.drink_commands.specs.declared.fault.Fault.TheVariants.{Memory, ReadFailed, Refused, NoSuchOffice, NoAddress, NoJournal, NoRun, CutShort, WriteFailed, FileFailed}
 use Rattle.drink_commands.specs.Fault.{IsAmong, IsFaultAt, IsOfRun}
 use Rattle.drink_commands.specs.Texts.{Judges, NoOther, Refuses, nothing}
 use Rattle.drink_commands.specs.Status.{status_of}
@@ -23,9 +24,11 @@ at_input U S input P (ReadFailed failed cause) h u = u
 at_input U S input P (Refused why remark) h u = u
 at_input U S input P (NoSuchOffice offices) h u = u
 at_input U S input P (NoAddress office) h u = u
+at_input U S input P (NoJournal office) h u = u
 at_input U S input P (NoRun cause) h u = u
 at_input U S input P (CutShort cause) h u = absurd h
 at_input U S input P (WriteFailed cause) h u = tt
+at_input U S input P (FileFailed name cause) h u = tt
 
 no_office : (U : Type 0) (S : RunFault → Type 0) (f : Fault) → IsNoOffice f → U → Leaves U S f
 no_office U S Memory h u = u
@@ -33,9 +36,11 @@ no_office U S (ReadFailed failed cause) h u = u
 no_office U S (Refused why remark) h u = u
 no_office U S (NoSuchOffice offices) h u = u
 no_office U S (NoAddress office) h u = u
+no_office U S (NoJournal office) h u = u
 no_office U S (NoRun cause) h u = u
 no_office U S (CutShort cause) h u = absurd h
 no_office U S (WriteFailed cause) h u = tt
+no_office U S (FileFailed name cause) h u = tt
 
 unreached : (U : Type 0) (S : RunFault → Type 0) (p : PlanValue) (v : ℕ) (f : Fault) → IsUnreached p v f → U → Leaves U S f
 unreached U S p v Memory h u = u
@@ -43,9 +48,11 @@ unreached U S p v (ReadFailed failed cause) h u = u
 unreached U S p v (Refused why remark) h u = u
 unreached U S p v (NoSuchOffice offices) h u = u
 unreached U S p v (NoAddress office) h u = u
+unreached U S p v (NoJournal office) h u = u
 unreached U S p v (NoRun cause) h u = u
 unreached U S p v (CutShort cause) h u = absurd h
 unreached U S p v (WriteFailed cause) h u = tt
+unreached U S p v (FileFailed name cause) h u = tt
 
 -- a fault at the office that is asked for
 pub at_office : (U : Type 0) (S : RunFault → Type 0) (p : PlanValue) (o : Option ℕ) (f : Fault) → SaysOf p NoOther o f → U → Leaves U S f
@@ -60,9 +67,11 @@ at_end U S T (ReadFailed failed cause) h k = absurd h
 at_end U S T (Refused why remark) h k = absurd h
 at_end U S T (NoSuchOffice offices) h k = absurd h
 at_end U S T (NoAddress office) h k = absurd h
+at_end U S T (NoJournal office) h k = absurd h
 at_end U S T (NoRun cause) h k = absurd h
 at_end U S T (CutShort cause) h k = k cause h
 at_end U S T (WriteFailed cause) h k = tt
+at_end U S T (FileFailed name cause) h k = tt
 
 pub is_end : (S : RunFault → Type 0) (f : Fault) → Leaves ⊥ S f → IsAmong [] f ⊎ IsOfRun f
 is_end S Memory h = absurd h
@@ -70,9 +79,11 @@ is_end S (ReadFailed failed cause) h = absurd h
 is_end S (Refused why remark) h = absurd h
 is_end S (NoSuchOffice offices) h = absurd h
 is_end S (NoAddress office) h = absurd h
+is_end S (NoJournal office) h = absurd h
 is_end S (NoRun cause) h = absurd h
 is_end S (CutShort cause) h = inr (inr tt)
 is_end S (WriteFailed cause) h = inl tt
+is_end S (FileFailed name cause) h = inl tt
 
 -- ---- what a fault says
 
@@ -85,10 +96,14 @@ of_run (Refused why remark) (inl h) = h
 of_run (Refused why remark) (inr h) = h
 of_run (NoSuchOffice offices) h = tt
 of_run (NoAddress office) h = tt
+of_run (NoJournal office) (inl h) = h
+of_run (NoJournal office) (inr h) = h
 of_run (NoRun cause) h = tt
 of_run (CutShort cause) h = tt
 of_run (WriteFailed cause) (inl h) = h
+of_run (FileFailed name cause) (inl h) = h
 of_run (WriteFailed cause) (inr h) = h
+of_run (FileFailed name cause) (inr h) = h
 
 module _ (asked : List Input) where
   named : (f : Fault) → IsNoOffice f → IsAmong asked f ⊎ IsOfOffice f
@@ -97,9 +112,11 @@ module _ (asked : List Input) where
   named (Refused why remark) h = inr h
   named (NoSuchOffice offices) h = inr tt
   named (NoAddress office) h = inr tt
+  named (NoJournal office) h = inr h
   named (NoRun cause) h = inr tt
   named (CutShort cause) h = inr tt
   named (WriteFailed cause) h = inl tt
+  named (FileFailed name cause) h = inl tt
 
   met : (p : PlanValue) (v : ℕ) (f : Fault) → IsUnreached p v f → IsAmong asked f ⊎ IsOfOffice f
   met p v Memory h = inl tt
@@ -107,9 +124,11 @@ module _ (asked : List Input) where
   met p v (Refused why remark) h = inr h
   met p v (NoSuchOffice offices) h = inr tt
   met p v (NoAddress office) h = inr tt
+  met p v (NoJournal office) h = inr h
   met p v (NoRun cause) h = inr tt
   met p v (CutShort cause) h = inr tt
   met p v (WriteFailed cause) h = inl tt
+  met p v (FileFailed name cause) h = inl tt
 
   asked_for : (p : PlanValue) (o : Option ℕ) (f : Fault) → SaysOf p NoOther o f → IsAmong asked f ⊎ IsOfOffice f
   asked_for p None f h = named f h
@@ -169,6 +188,10 @@ pub err_more : {A : Type 0} (r : Result A Fault) (P Q : Fault → Type 0) → ((
 err_more (Ok x) P Q k h = tt
 err_more (Err f) P Q k h = k f h
 
+pub err_both : {A : Type 0} (r : Result A Fault) (P Q S : Fault → Type 0) → ((f : Fault) → P f → Q f → S f) → IfErr r P → IfErr r Q → IfErr r S
+err_both (Ok x) P Q S k h j = tt
+err_both (Err f) P Q S k h j = k f h j
+
 pub ok_more : {A : Type 0} (r : Result A Fault) (P Q : A → Type 0) → ((x : A) → P x → Q x) → IfOk r P → IfOk r Q
 ok_more (Ok x) P Q k h = k x h
 ok_more (Err f) P Q k h = tt
@@ -181,3 +204,8 @@ one_at_most (suc n) = omega arith
 pub done : (r : Result ℕ Fault) (P : ℕ → Type 0) → IfOk r P → status_of r ≡ 0 → P 0
 done (Ok status) P h e = subst P e h
 done (Err f) P h e = absurd (omega (arith, e))
+
+-- whether there is a word, and whether there are its bytes
+pub is_some_copied : (o : Option (Bor (List ℕ))) → is_some o ≡ is_some (option_copied o)
+is_some_copied None = refl
+is_some_copied (Some x) = refl

@@ -3,9 +3,9 @@ use Rattle.std.specs.Prelude.{◌≡◌, ◌⊎◌, List, Contains, Option, Some
 use Rattle.drink_commands.specs.declared.input.Input.{Input}
 use Rattle.drink_commands.specs.declared.input.Input.TheVariants as inputs
 use Rattle.drink_commands.specs.declared.fault.Why.{Why}
-use Rattle.drink_commands.specs.declared.fault.Why.TheVariants.{Plan, Ring, Sessions, Script}
+use Rattle.drink_commands.specs.declared.fault.Why.TheVariants.{Plan, Ring, Sessions, Script, Journal, Twice}
 use Rattle.drink_commands.specs.declared.fault.Fault.{Fault}
-use Rattle.drink_commands.specs.declared.fault.Fault.TheVariants.{Memory, ReadFailed, Refused, NoSuchOffice, NoAddress, NoRun, CutShort, WriteFailed}
+use Rattle.drink_commands.specs.declared.fault.Fault.TheVariants.{Memory, ReadFailed, Refused, NoSuchOffice, NoAddress, NoJournal, NoRun, CutShort, WriteFailed, FileFailed}
 
 -- the input whose text is refused so
 abbrev pub refused_input : Why → Input
@@ -13,6 +13,8 @@ refused_input (Plan r) = inputs.Plan
 refused_input (Ring r) = inputs.Plan
 refused_input (Sessions r) = inputs.Sessions
 refused_input (Script r) = inputs.Script
+refused_input (Journal k r) = inputs.Journal k
+refused_input (Twice k) = inputs.Journal k
 
 -- the input that is at fault
 abbrev pub input_of : Fault → Option Input
@@ -21,9 +23,11 @@ input_of (ReadFailed input cause) = Some input
 input_of (Refused why remark) = Some (refused_input why)
 input_of (NoSuchOffice offices) = None
 input_of (NoAddress office) = Some inputs.Plan
+input_of (NoJournal office) = None
 input_of (NoRun cause) = None
 input_of (CutShort cause) = None
 input_of (WriteFailed cause) = None
+input_of (FileFailed name cause) = None
 
 -- an input wasn't read, or its text is refused for a reason of which P holds, or memory ran out
 abbrev pub IsFaultAt : Input → (Why → Type 0) → Fault → Type 0
@@ -32,9 +36,10 @@ IsFaultAt input P (ReadFailed failed cause) = failed ≡ input
 IsFaultAt input P (Refused why remark) = (refused_input why ≡ input) × P why
 IsFaultAt input P _ = ⊥
 
--- the writing failed
+-- the writing failed, of the output or of a file
 abbrev pub IsWriteFault : Fault → Type 0
 IsWriteFault (WriteFailed cause) = Unit {0}
+IsWriteFault (FileFailed name cause) = Unit {0}
 IsWriteFault _ = ⊥
 
 -- one of these inputs wasn't read or its text is refused, or memory ran out, or the writing failed
@@ -43,7 +48,13 @@ IsAmong inputs Memory = Unit {0}
 IsAmong inputs (ReadFailed input cause) = Contains inputs input
 IsAmong inputs (Refused why remark) = Contains inputs (refused_input why)
 IsAmong inputs (WriteFailed cause) = Unit {0}
+IsAmong inputs (FileFailed name cause) = Unit {0}
 IsAmong inputs _ = ⊥
+
+-- no journal is of an office
+abbrev pub IsNoJournal : Fault → Type 0
+IsNoJournal (NoJournal office) = Unit {0}
+IsNoJournal _ = ⊥
 
 -- a run can't begin; it ended before its time
 abbrev pub IsNoRun : Fault → Type 0

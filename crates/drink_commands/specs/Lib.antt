@@ -2,9 +2,12 @@ pub mod Plans
 pub mod Input
 pub mod Fault
 pub mod Texts
+pub mod Journals
 pub mod Requests
 pub mod Status
 pub mod Serial
 pub mod Simulation
 pub mod Random
+pub mod Audit
 pub mod Run
+pub mod refinement

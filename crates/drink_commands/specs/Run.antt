@@ -1,5 +1,5 @@
 -- What the commands `run` and `live` write, and what their faults say.
-use Rattle.std.specs.Prelude.{◌≡◌, ◌⊎◌, ◌<◌, ℕ, Bool, zero, suc, List, [], ◌∷◌, true, false, length, take, Option, Some, None, Ok}
+use Rattle.std.specs.Prelude.{◌≡◌, ◌⊎◌, ◌<◌, ℕ, Bool, zero, suc, List, [], ◌∷◌, true, false, length, map, take, get_or, Option, Some, None, is_some, Ok}
 use Rattle.std.specs.List.{range_with_len}
 use Rattle.std.specs.String.{string_bytes}
 use Rattle.std.specs.Io.KnownBytes.{Appends}
@@ -11,12 +11,13 @@ use Rattle.office_runs.specs.Addresses.{is_without}
 use Rattle.office_runs.specs.Runs.{TellsCourse, TellsJournals}
 use Rattle.office_runs.specs.declared.report.Ran.{Ran}
 use Rattle.office_runs.specs.declared.fault.RunFault.{RunFault}
+use Rattle.drink_commands.specs.Journals.{File, WritesFiles, files_of}
 use Rattle.drink_commands.specs.Plans.{IsAcceptedAs}
 use Rattle.drink_commands.specs.Fault.{IsAmong, IsFaultAt, IsOfRun}
 use Rattle.drink_commands.specs.Texts.{Judges, Refuses, nothing}
 use Rattle.drink_commands.specs.declared.input.Input.TheVariants as inputs
 use Rattle.drink_commands.specs.declared.fault.Fault.{Fault}
-use Rattle.drink_commands.specs.declared.fault.Fault.TheVariants.{Memory, NoSuchOffice, NoAddress, NoRun, CutShort, WriteFailed}
+use Rattle.drink_commands.specs.declared.fault.Fault.TheVariants.{Memory, NoSuchOffice, NoAddress, NoRun, CutShort, WriteFailed, FileFailed}
 
 -- ---- how it ended
 
@@ -42,8 +43,9 @@ IsReached p me = (v : ℕ) → v < length p.offices → is_without p me v ≡ fa
 -- ---- what is written
 
 -- The two texts mean a plan and sessions under it, and the word names an office of the plan, which has an address, as its
--- neighbours have. What is told of so many turns of that office with its sessions among those was written after what the writer held.
-pub record WritesOffice (tells : Bool) (plan word sessions : List ℕ) (turns : ℕ) (ran : Ran) (old new : Option (List ℕ)) : Type 0 where
+-- neighbours have. What is told of so many turns of that office with its sessions among those was written after what the writer held,
+-- and its journal, where a word names a file for it, to that file.
+pub record WritesOffice (tells : Bool) (plan word sessions : List ℕ) (turns : ℕ) (file : Option (List ℕ)) (ran : Ran) (old new : Option (List ℕ)) (kept left : Option (List File)) : Type 0 where
   pub p : PlanValue
   pub me : ℕ
   pub programs : List ProgramValue
@@ -51,29 +53,31 @@ pub record WritesOffice (tells : Bool) (plan word sessions : List ℕ) (turns : 
   pub is_office : office_named p word ≡ Some me
   pub is_reached : IsReached p me
   pub are_sessions : sessions_of p sessions ≡ Ok programs
-  pub told : TellsCourse tells p me programs turns ran
+  pub told : TellsCourse tells p me programs turns (is_some file) ran
   pub written : Appends old new (string_bytes ran.text)
+  pub journal : WritesFiles file (λ place. map (λ text. (place, string_bytes text)) ran.journals.items) kept left
 
 -- The two texts mean a plan and sessions under it. What is told of a run of all the plan's offices with those sessions was written after
--- what the writer held.
-pub record WritesOffices (plan sessions : List ℕ) (ran : Ran) (old new : Option (List ℕ)) : Type 0 where
+-- what the writer held, and their journals, where a word names a folder for them, to a file each.
+pub record WritesOffices (plan sessions : List ℕ) (folder : Option (List ℕ)) (ran : Ran) (old new : Option (List ℕ)) (kept left : Option (List File)) : Type 0 where
   pub p : PlanValue
   pub programs : List ProgramValue
   pub is_plan : IsAcceptedAs plan p
   pub are_sessions : sessions_of p sessions ≡ Ok programs
-  pub told : TellsJournals p (range_with_len 0 (length p.offices)) (length programs) ran.unfinished (string_bytes ran.text)
+  pub told : TellsJournals p (range_with_len 0 (length p.offices)) (length programs) (is_some folder) ran
   pub written : Appends old new (string_bytes ran.text)
+  pub journals : WritesFiles folder (λ place. files_of place p (λ a. get_or (map string_bytes ran.journals.items) a []) (length ran.journals.items)) kept left
 
 -- so it is with the texts that the words stand for, of a run that ended as P says
-abbrev pub RunsOffice : Bool → (List ℕ → Option (List ℕ)) → Option (List ℕ) → (plan word sessions : List ℕ) → ℕ → (Ran → Type 0) → Option (List ℕ) → Option (List ℕ) → Type 0
-RunsOffice tells files standard plan word sessions turns P old new = (plan_text sessions_text : List ℕ)
+abbrev pub RunsOffice : Bool → (List ℕ → Option (List ℕ)) → Option (List ℕ) → (plan word sessions : List ℕ) → ℕ → Option (List ℕ) → (Ran → Type 0) → Option (List ℕ) → Option (List ℕ) → Option (List File) → Option (List File) → Type 0
+RunsOffice tells files standard plan word sessions turns file P old new kept left = (plan_text sessions_text : List ℕ)
     → StandFor files standard (plan ∷ sessions ∷ []) (plan_text ∷ sessions_text ∷ [])
-    → (ran : Ran) × P ran × WritesOffice tells plan_text word sessions_text turns ran old new
+    → (ran : Ran) × P ran × WritesOffice tells plan_text word sessions_text turns file ran old new kept left
 
-abbrev pub RunsOffices : (List ℕ → Option (List ℕ)) → Option (List ℕ) → (plan sessions : List ℕ) → (Ran → Type 0) → Option (List ℕ) → Option (List ℕ) → Type 0
-RunsOffices files standard plan sessions P old new = (plan_text sessions_text : List ℕ)
+abbrev pub RunsOffices : (List ℕ → Option (List ℕ)) → Option (List ℕ) → (plan sessions : List ℕ) → Option (List ℕ) → (Ran → Type 0) → Option (List ℕ) → Option (List ℕ) → Option (List File) → Option (List File) → Type 0
+RunsOffices files standard plan sessions folder P old new kept left = (plan_text sessions_text : List ℕ)
     → StandFor files standard (plan ∷ sessions ∷ []) (plan_text ∷ sessions_text ∷ [])
-    → (ran : Ran) × P ran × WritesOffices plan_text sessions_text ran old new
+    → (ran : Ran) × P ran × WritesOffices plan_text sessions_text folder ran old new kept left
 
 -- ---- what a fault says
 
@@ -121,5 +125,6 @@ IsJudgedRun files standard plan word sessions f = (texts : List (List ℕ)) (n :
 -- was written.
 abbrev pub Leaves : Type 0 → (RunFault → Type 0) → Fault → Type 0
 Leaves Unwritten Stands (WriteFailed cause) = Unit {0}
+Leaves Unwritten Stands (FileFailed name cause) = Unit {0}
 Leaves Unwritten Stands (CutShort cause) = Stands cause
 Leaves Unwritten Stands _ = Unwritten

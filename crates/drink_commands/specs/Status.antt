@@ -4,6 +4,7 @@ use Rattle.clap.specs.Words.{IsAmong, fault_of}
 use Rattle.clap.specs.declared.error.kind.ErrorKind.{ErrorKind}
 use Rattle.clap.specs.declared.error.kind.ErrorKind.TheVariants.{DisplayHelp, DisplayVersion}
 use Rattle.command_words.specs.CommandLine.{Asks, program}
+use Rattle.drink_commands.specs.Journals.{File}
 use Rattle.drink_commands.specs.Requests.{IsDone}
 use Rattle.command_words.specs.declared.command_line.Request.{Request}
 use Rattle.drink_commands.specs.declared.fault.Fault.{Fault}
@@ -18,7 +19,7 @@ abbrev pub IsShown : ErrorKind → Type 0
 IsShown kind = (kind ≡ DisplayHelp) ⊎ (kind ≡ DisplayVersion)
 
 -- The words ask for something that was done, or for help or the version.
-abbrev pub IsAnswered : Bool → (List ℕ → Option (List ℕ)) → Option (List ℕ) → List (List ℕ) → Option (List ℕ) → Option (List ℕ) → Type 0
-IsAnswered tells files standard words old new =
-    ((request : Request) × Asks words request × IsDone tells files standard request 0 old new)
+abbrev pub IsAnswered : Bool → (List ℕ → Option (List ℕ)) → Option (List ℕ) → List (List ℕ) → Option (List ℕ) → Option (List ℕ) → Option (List File) → Option (List File) → Type 0
+IsAnswered tells files standard words old new kept left =
+    ((request : Request) × Asks words request × IsDone tells files standard request 0 old new kept left)
     ⊎ ((kind : ErrorKind) × IsShown kind × IsAmong kind (fault_of program words))

@@ -12,7 +12,7 @@ use Rattle.drink_commands.specs.Fault.{IsAmong, IsFaultAt}
 use Rattle.drink_commands.specs.declared.input.Input.{Input}
 use Rattle.drink_commands.specs.declared.input.Input.TheVariants as inputs
 use Rattle.drink_commands.specs.declared.fault.Why.{Why}
-use Rattle.drink_commands.specs.declared.fault.Why.TheVariants.{Plan, Ring, Sessions, Script}
+use Rattle.drink_commands.specs.declared.fault.Why.TheVariants.{Plan, Ring, Sessions, Script, Journal, Twice}
 use Rattle.drink_commands.specs.declared.fault.Fault.{Fault}
 
 -- what the texts that were accepted mean
@@ -25,7 +25,7 @@ pub record Known : Type 0 where
 abbrev pub nothing : Known
 nothing = record { plan = None; programs = None; acts = None }
 
--- the text of this input is accepted, and then so much is known
+-- the text of this input is accepted, and then so much is known; journals are judged together (Audit.antt)
 abbrev pub Accepts : Known → Input → List ℕ → Known → Type 0
 Accepts known inputs.Plan text next = (p : PlanValue) × IsAcceptedAs text p × (next ≡ record known { plan = Some p })
 Accepts known inputs.Sessions text next =
@@ -34,6 +34,7 @@ Accepts known inputs.Sessions text next =
 Accepts known inputs.Script text next =
     (p : PlanValue) × (programs : List ProgramValue) × (acts : List Act) × (known.plan ≡ Some p) × (known.programs ≡ Some programs)
     × IsScript p programs text acts × (next ≡ record known { acts = Some acts })
+Accepts known (inputs.Journal place) text next = ⊥
 
 -- the text is refused so
 abbrev pub Refuses : Known → List ℕ → Why → Type 0
@@ -42,6 +43,8 @@ Refuses known text (Ring r) = HasRing r (plan_of text)
 Refuses known text (Sessions r) = (p : PlanValue) × (known.plan ≡ Some p) × (sessions_of p text ≡ Err r)
 Refuses known text (Script r) =
     (p : PlanValue) × (programs : List ProgramValue) × (known.plan ≡ Some p) × (known.programs ≡ Some programs) × RefusesScript p programs text r
+Refuses known text (Journal place r) = ⊥
+Refuses known text (Twice place) = ⊥
 
 -- What a fault says of the texts of these inputs, of which the first are given: each is accepted, up to one that wasn't read or
 -- is refused; where none of those is at fault, none before the rest is. Where memory ran out, nothing is said. Other faults than

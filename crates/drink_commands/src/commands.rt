@@ -1,7 +1,6 @@
 //! The commands, one file each, and what all of them do.
 
 ghost use Rattle.std.specs.Prelude.{◌≡◌, IfErr, IfOk, OnOk};
-ghost use Rattle.std.specs.String.{string_bytes};
 ghost use Rattle.std.specs.Io.KnownBytes.{Appends};
 ghost use Rattle.drink_commands.specs.Fault.{IsWriteFault};
 ghost use Rattle.drink_commands.specs.Run.{EndsWith, IsCutBy, Leaves, status_with};
@@ -11,6 +10,7 @@ use input_texts::failure_kind;
 use office_runs::Ran;
 use std::io::Write;
 
+pub mod audit;
 pub mod live;
 pub mod random;
 pub mod run;
@@ -36,12 +36,11 @@ pub(crate) fn write_whole<W: Write>(out: &mut W, text: &str) -> Result<(), Fault
     Ok(())
 }
 
-/// What came of a run is written; then, where it was cut short, why is the answer. Otherwise it is the exit status.
-pub(crate) fn write_ran<W: Write>(out: &mut W, ran: &Ran) -> Result<u8, Fault>
-    ensures done { IfOk result (λ status. EndsWith status ran.now × Appends (W.contents out.old) (W.contents out.new) (string_bytes ran.now.text)) }
-    ensures leaves { IfErr result (Leaves ⊥ (λ cause. IsCutBy cause ran.now × Appends (W.contents out.old) (W.contents out.new) (string_bytes ran.now.text))) }
+/// Why a run was cut short, where it was. Otherwise it is the exit status.
+pub(crate) fn ended(ran: &Ran) -> Result<u8, Fault>
+    ensures done { IfOk result (λ status. EndsWith status ran.now) }
+    ensures cut { IfErr result (Leaves ⊥ (λ cause. IsCutBy cause ran.now)) }
 {
-    write_whole(out, &ran.text)?;
     match ran.fault {
         Some(fault) => Err(Fault::CutShort(fault)),
         None => Ok(status_with(ran.unfinished)),

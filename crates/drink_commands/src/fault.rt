@@ -5,6 +5,7 @@ ghost use Rattle.drink_commands.specs.declared.fault.Fault.TheVariants.{Memory, 
 ghost use Rattle.drink_commands.specs.Fault.{input_of, refused_input};
 
 use crate::input::Input;
+use journal_texts::JournalRefusal;
 use office_map::{PlanRefusal, Ring};
 use office_runs::RunFault;
 use script_runs::ScriptRefusal;
@@ -22,6 +23,10 @@ pub enum Why {
     Ring(Ring),
     Sessions(SessionRefusal),
     Script(ScriptRefusal),
+    /// The text of the journal that is named so many words after the plan, from 0.
+    Journal(usize, JournalRefusal),
+    /// That journal is of an office of which one before it is.
+    Twice(usize),
 }
 
 impl Why {
@@ -33,6 +38,7 @@ impl Why {
             Why::Plan(_) | Why::Ring(_) => Input::Plan,
             Why::Sessions(_) => Input::Sessions,
             Why::Script(_) => Input::Script,
+            Why::Journal(k, _) | Why::Twice(k) => Input::Journal(k),
         }
     }
 
@@ -43,6 +49,8 @@ impl Why {
             Why::Ring(_) => 0,
             Why::Sessions(refusal) => refusal.line,
             Why::Script(refusal) => refusal.line,
+            Why::Journal(_, refusal) => refusal.line,
+            Why::Twice(_) => 0,
         }
     }
 }
@@ -68,12 +76,16 @@ pub enum Fault {
     NoSuchOffice(String),
     /// The office of this name has no address in the plan, and would need one.
     NoAddress(String),
+    /// No journal is of the office of this name.
+    NoJournal(String),
     /// A run can't begin. Nothing was done.
     NoRun(RunFault),
     /// A run ended before its time. What stands was written.
     CutShort(RunFault),
     /// How much went out isn't known.
     WriteFailed(ErrorKind),
+    /// The file or folder of this name can't be written or made. What was to be printed is.
+    FileFailed(String, ErrorKind),
 }
 
 impl Fault {
@@ -84,9 +96,11 @@ impl Fault {
         match self {
             Fault::Memory
             | Fault::NoSuchOffice(_)
+            | Fault::NoJournal(_)
             | Fault::NoRun(_)
             | Fault::CutShort(_)
-            | Fault::WriteFailed(_) => None,
+            | Fault::WriteFailed(_)
+            | Fault::FileFailed(_, _) => None,
             Fault::ReadFailed(input, _) => Some(*input),
             Fault::Refused(why, _) => Some(why.input()),
             Fault::NoAddress(_) => Some(Input::Plan),
@@ -108,6 +122,11 @@ impl fmt::Display for Why {
                 write!(f, "{rule}")
             }
             Why::Script(_) => write!(f, "X1 Script"),
+            Why::Journal(_, refusal) => {
+                let rule = refusal.rule;
+                write!(f, "{rule}")
+            }
+            Why::Twice(_) => write!(f, "J2 JournalHeader"),
         }
     }
 }
@@ -137,6 +156,12 @@ impl fmt::Display for Fault {
                     "X2 NoAddress: the office `{office}` has `-` for its address, and an office runs where it and its neighbours have one"
                 )
             }
+            Fault::NoJournal(office) => {
+                write!(
+                    f,
+                    "J2 JournalHeader: no journal is of the office `{office}`, and an audit takes one of each office of the plan"
+                )
+            }
             Fault::NoRun(fault) => write_run_fault(f, *fault),
             Fault::CutShort(fault) => {
                 write_run_fault(f, *fault)?;
@@ -148,6 +173,10 @@ impl fmt::Display for Fault {
             Fault::WriteFailed(kind) => {
                 let cause = write_cause(*kind);
                 write!(f, "X5 WriteFailed: the output cannot be written: {cause}")
+            }
+            Fault::FileFailed(_, kind) => {
+                let cause = file_cause(*kind);
+                write!(f, "X5 WriteFailed: it cannot be written: {cause}")
             }
         }
     }
@@ -232,6 +261,21 @@ fn write_cause(kind: ErrorKind) -> &'static str {
         ErrorKind::WouldBlock => "its device has no room now, and does not wait",
         ErrorKind::BrokenPipe => "its reader has gone away",
         _ => device_cause(kind),
+    }
+}
+
+/// Why a file or a folder can't be written or made, for people.
+fn file_cause(kind: ErrorKind) -> &'static str {
+    match kind {
+        ErrorKind::NotFound => "a folder of its path is not there",
+        ErrorKind::AlreadyExists => "a file has this name",
+        ErrorKind::IsADirectory => "it is a folder",
+        ErrorKind::NotADirectory => "a part of its path is no folder",
+        ErrorKind::FilesystemLoop => "its symbolic links lead round in a ring",
+        ErrorKind::InvalidFilename => "its name is too long",
+        ErrorKind::InvalidInput => "no file can have this name",
+        ErrorKind::BrokenPipe => "its reader has gone away",
+        _ => write_cause(kind),
     }
 }
 

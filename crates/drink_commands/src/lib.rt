@@ -26,6 +26,8 @@ pub mod commands;
 pub mod exit;
 pub mod fault;
 pub mod input;
+mod journal_files;
+pub mod journals;
 pub mod program;
 pub mod telling;
 pub mod texts;

@@ -7,7 +7,7 @@ ghost use Rattle.drink_commands.specs.Requests.{IsDone, IsJudgedFor, IsStatusOf,
 ghost use Rattle.drink_commands.specs.Status.{IsAnswered, IsShown, status_of};
 
 use crate::commands;
-use crate::commands::{live, random, run, serial, sim};
+use crate::commands::{audit, live, random, run, serial, sim};
 use crate::exit::{Exit, FAILED, MISUSED, Said};
 use crate::fault::Fault;
 use crate::input::Input;
@@ -16,6 +16,7 @@ use clap::error::ErrorKind;
 use command_words::command_line::{Request, command_line, help};
 use input_texts::{Devices, Sources};
 use office_runs::{Around, Binds, Gate, Open, UdpSockets, Watch};
+use output_files::{Disk, Targets};
 use std::alloc::{AllocError, Global};
 use std::io;
 use std::io::{IsTerminal, Write};
@@ -33,6 +34,7 @@ where
     E: IsTerminal,
 {
     let devices = Devices::new(rt);
+    let mut disk = Disk::new(rt);
     let binds = UdpSockets::new(rt, rt.alloc());
     let watch = Telling::new(rt, error.is_terminal());
     let around = Around {
@@ -47,6 +49,7 @@ where
             words.as_slice(),
             &devices,
             &around,
+            &mut disk,
             &mut io::writer(rt),
         ),
         Err(exit) => exit,
@@ -71,12 +74,13 @@ pub fn words<R: AllocGlobal + Env>(rt: &R) -> Result<Vec<String>, Exit> {
 
 /// Does what these words ask for. The first of them is the program's name. The status is 0 only where what they ask for was
 /// done, without sessions that a run of offices leaves, or help or the version went out; and nothing is written where it is 2.
-pub fn answer<R, S, B, G, V, W>(
+pub fn answer<R, S, B, G, V, T, W>(
     rt: &R,
     alloc: Global,
     words: &[String],
     sources: &S,
     around: &Around<'_, B, G, V>,
+    targets: &mut T,
     out: &mut W,
 ) -> Exit
 where
@@ -87,19 +91,20 @@ where
     B::Alarm: Send,
     G: Gate + Sync,
     V: Watch + Sync,
+    T: Targets,
     W: Write,
-    ensures done { result.status ≡ 0 → IsAnswered B.Socket.tells (S.file_text sources.now) (S.standard_text sources.now) (map string_bytes words.now) (W.contents out.old) (W.contents out.new) }
-    ensures unwritten { result.status ≡ 2 → out.new ≡ out.old }
+    ensures done { result.status ≡ 0 → IsAnswered B.Socket.tells (S.file_text sources.now) (S.standard_text sources.now) (map string_bytes words.now) (W.contents out.old) (W.contents out.new) (T.written targets.old) (T.written targets.new) }
+    ensures unwritten { result.status ≡ 2 → (out.new ≡ out.old) × (targets.new ≡ targets.old) }
 {
     if words.len() < 2 {
         return Exit::saying(MISUSED, help(alloc));
     }
     match command_line(alloc, words) {
         Ok(request) => {
-            let result = perform(rt, alloc, request, sources, around, out);
+            let result = perform(rt, alloc, &request, sources, around, targets, out);
             Exit {
                 status: status(&result),
-                said: said(alloc, request, &result),
+                said: said(alloc, &request, &result),
             }
         }
         Err(error) => misused(alloc, &error, out),
@@ -107,12 +112,13 @@ where
 }
 
 /// Carries a request out. The answer is the exit status.
-pub fn perform<R, S, B, G, V, W>(
+pub fn perform<R, S, B, G, V, T, W>(
     rt: &R,
     alloc: Global,
-    request: Request,
+    request: &Request,
     sources: &S,
     around: &Around<'_, B, G, V>,
+    targets: &mut T,
     out: &mut W,
 ) -> Result<u8, Fault>
 where
@@ -123,10 +129,11 @@ where
     B::Alarm: Send,
     G: Gate + Sync,
     V: Watch + Sync,
+    T: Targets,
     W: Write,
-    ensures done { IfOk result (λ status. IsDone B.Socket.tells (S.file_text sources.now) (S.standard_text sources.now) request.entry status (W.contents out.old) (W.contents out.new)) }
-    ensures status { IfOk result (IsStatusOf request.entry) }
-    ensures judged { IfErr result (IsJudgedFor (S.file_text sources.now) (S.standard_text sources.now) request.entry) }
+    ensures done { IfOk result (λ status. IsDone B.Socket.tells (S.file_text sources.now) (S.standard_text sources.now) request.now status (W.contents out.old) (W.contents out.new) (T.written targets.old) (T.written targets.new)) }
+    ensures status { IfOk result (IsStatusOf request.now) }
+    ensures judged { IfErr result (IsJudgedFor (S.file_text sources.now) (S.standard_text sources.now) request.now) }
 {
     match request {
         Request::Serial { plan, sessions } => serial::run(alloc, sources, plan, sessions, out),
@@ -134,23 +141,32 @@ where
             plan,
             sessions,
             script,
-        } => sim::run(alloc, sources, plan, sessions, script, out),
+            journals,
+        } => sim::run(
+            alloc, sources, plan, sessions, script, *journals, targets, out,
+        ),
         Request::Random {
             plan,
             sessions,
             schedule,
-        } => random::run(alloc, sources, plan, sessions, schedule, out),
+        } => random::run(alloc, sources, plan, sessions, *schedule, out),
         Request::Run {
             plan,
             office,
             sessions,
             turns,
+            journal,
         } => run::run(
-            rt, alloc, sources, plan, office, sessions, turns, around, out,
+            rt, alloc, sources, plan, office, sessions, *turns, *journal, around, targets, out,
         ),
-        Request::Live { plan, sessions } => {
-            live::run(rt, alloc, sources, plan, sessions, around, out)
-        }
+        Request::Live {
+            plan,
+            sessions,
+            journals,
+        } => live::run(
+            rt, alloc, sources, plan, sessions, *journals, around, targets, out,
+        ),
+        Request::Audit { plan, journals } => audit::run(alloc, sources, plan, journals, out),
     }
 }
 
@@ -165,17 +181,18 @@ fn status(answer: &Result<u8, Fault>) -> u8
 }
 
 /// What is said of a request's answer: nothing, or the fault after the word that it is about.
-fn said(alloc: Global, request: Request, answer: &Result<u8, Fault>) -> Said {
+fn said(alloc: Global, request: &Request, answer: &Result<u8, Fault>) -> Said {
     match answer {
         Ok(_) => Said::Nothing,
         Err(fault) => said_of(alloc, fault, named(request, fault)),
     }
 }
 
-/// The word of a request that a fault is about, if it is about one.
-fn named<'a>(request: Request<'a>, fault: &Fault) -> Option<&'a str> {
+/// The word of a request that a fault is about, or the file, if it is about one.
+fn named<'a>(request: &'a Request<'_>, fault: &'a Fault) -> Option<&'a str> {
     match (request, fault) {
-        (Request::Run { office, .. }, Fault::NoSuchOffice(_)) => Some(office),
+        (Request::Run { office, .. }, Fault::NoSuchOffice(_)) => Some(*office),
+        (_, Fault::FileFailed(name, _)) => Some(name.as_str()),
         _ => match fault.input() {
             Some(input) => Some(word_of(request, input)),
             None => None,
@@ -217,26 +234,33 @@ fn escaped(alloc: Global, name: &str) -> Result<String, AllocError> {
 }
 
 /// The word that names an input in a request.
-fn word_of<'a>(request: Request<'a>, input: Input) -> &'a str
-    ensures { result.now ≡ word_of request.entry input }
+fn word_of<'a>(request: &Request<'a>, input: Input) -> &'a str
+    ensures { result.now ≡ word_of request.now input }
 {
     match request {
         Request::Sim {
             plan,
             sessions,
             script,
+            ..
         } => match input {
             Input::Plan => plan,
             Input::Sessions => sessions,
             Input::Script => script,
+            Input::Journal(_) => "",
         },
         Request::Serial { plan, sessions }
         | Request::Random { plan, sessions, .. }
         | Request::Run { plan, sessions, .. }
-        | Request::Live { plan, sessions } => match input {
+        | Request::Live { plan, sessions, .. } => match input {
             Input::Plan => plan,
             Input::Sessions => sessions,
-            Input::Script => "",
+            Input::Script | Input::Journal(_) => "",
+        },
+        Request::Audit { plan, journals } => match input {
+            Input::Plan => plan,
+            Input::Journal(k) if k < journals.len() => journals[k],
+            _ => "",
         },
     }
 }

@@ -16,7 +16,7 @@ use crate::fault::{Fault, Remark, Why};
 use crate::input::Input;
 use diagnostics::{ScriptLimits, of_plan, of_ring, of_script, of_sessions};
 use input_texts::{InputFault, Sources, StandardInput};
-use office_map::{Plan, PlanFault};
+use office_map::{Plan, PlanFault, PlanRefusal, Ring};
 use script_runs::{MAX_BYTES, MAX_RULES, MAX_STEPS, ScriptEvent, ScriptFault, script};
 use session_language::{LangFault, Program, read_sessions};
 use site_core::LONGEST_PIECE;
@@ -31,7 +31,7 @@ const SCRIPT_LIMITS: ScriptLimits = ScriptLimits {
 };
 
 /// The text of an input.
-fn text<S: Sources>(
+pub(crate) fn text<S: Sources>(
     alloc: Global,
     sources: &S,
     standard: &mut StandardInput<S::Standard>,
@@ -50,7 +50,7 @@ fn text<S: Sources>(
 }
 
 /// How many lines of the standard input stand above the text of this word, which was read last.
-fn lines_above<R: Read + Drop>(standard: &StandardInput<R>, word: &str) -> u64 {
+pub(crate) fn lines_above<R: Read + Drop>(standard: &StandardInput<R>, word: &str) -> u64 {
     if word == "-" {
         standard.lines_above()
     } else {
@@ -73,21 +73,40 @@ pub fn read_plan<S: Sources>(
     let text = text(alloc, sources, standard, word, Input::Plan)?;
     match Plan::read(alloc, &text) {
         Ok(plan) => Ok(plan),
-        Err(PlanFault::Refused(refusal)) => {
-            let remark = Remark {
-                lines_above: lines_above(standard, word),
-                text: of_plan(alloc, &text, refusal)?,
-            };
-            Err(Fault::Refused(Why::Plan(refusal), remark))
-        }
-        Err(PlanFault::Ring(ring)) => {
+        Err(PlanFault::Refused(refusal)) => Err(refused(
+            alloc,
+            &text,
+            lines_above(standard, word),
+            refusal,
+        )),
+        Err(PlanFault::Ring(ring)) => Err(in_a_ring(alloc, &text, ring)),
+        Err(PlanFault::Memory) => Err(Fault::Memory),
+    }
+}
+
+/// That the text of a plan is refused so, below so many lines of the standard input.
+fn refused(alloc: Global, text: &[u8], lines_above: u64, refusal: PlanRefusal) -> Fault
+    ensures { IsFaultAt Input.Plan (λ why. why ≡ Why.Plan refusal) result }
+{
+    match of_plan(alloc, text, refusal) {
+        Ok(text) => Fault::Refused(Why::Plan(refusal), Remark { lines_above, text }),
+        Err(_) => Fault::Memory,
+    }
+}
+
+/// That offices of a plan precede one another in this ring.
+fn in_a_ring(alloc: Global, text: &[u8], ring: Ring) -> Fault
+    ensures { IsFaultAt Input.Plan (λ why. why ≡ Why.Ring ring) result }
+{
+    match of_ring(alloc, text, &ring) {
+        Ok(text) => {
             let remark = Remark {
                 lines_above: 0,
-                text: of_ring(alloc, &text, &ring)?,
+                text,
             };
-            Err(Fault::Refused(Why::Ring(ring), remark))
+            Fault::Refused(Why::Ring(ring), remark)
         }
-        Err(PlanFault::Memory) => Err(Fault::Memory),
+        Err(_) => Fault::Memory,
     }
 }
 

@@ -1,17 +1,24 @@
 //! The command `live`.
 
-ghost use Rattle.std.specs.Prelude.{◌≡◌, ◌≤◌, [], ◌∷◌, IfErr, IfOk};
+ghost use Rattle.std.specs.Prelude.{◌≡◌, ◌≤◌, [], ◌∷◌, IfErr, IfOk, get_or, length, map};
+ghost use Rattle.std.specs.Option.{option_copied};
+ghost use Rattle.std.specs.String.{string_bytes};
+ghost use Rattle.std.specs.Io.KnownBytes.{Appends};
 ghost use Rattle.drink_commands.specs.Fault.{IsOfRun};
+ghost use Rattle.drink_commands.specs.Journals.{WritesFiles, files_of};
 ghost use Rattle.drink_commands.specs.Run.{EndsWith, IsCutBy, Leaves, RunsOffices};
 ghost use Rattle.drink_commands.specs.Texts.{IsJudgedOr};
 
-use crate::commands::write_ran;
+use crate::commands::{ended, write_whole};
 use crate::fault::Fault;
 use crate::input::Input;
+use crate::journal_files::write_texts;
 use crate::texts::{read_plan, read_programs};
 use input_texts::{Sources, StandardInput};
+use office_map::Plan;
 use office_runs::live::live;
-use office_runs::{Around, Binds, Gate, Watch};
+use office_runs::{Around, Binds, Gate, Ran, Watch};
+use output_files::Targets;
 use std::alloc::Global;
 use std::io::Write;
 use std::rt::Clock;
@@ -20,15 +27,17 @@ use std::thread::Threads;
 
 /// Runs the sessions on all offices of a plan, each on threads and at a socket of this machine's own, and writes what those that
 /// finished did, by office and ticket, and how many haven't. Each input is read and judged before the next one is read, and
-/// nothing is run or written before both are judged. Where the run is cut short, what stands is written. The answer is the exit
-/// status: 1 where sessions are left.
-pub fn run<R, S, B, G, V, W>(
+/// nothing is run or written before both are judged. Where a folder is named for them, the offices' journals are written then, each to
+/// its file. Where the run is cut short, what stands is written. The answer is the exit status: 1 where sessions are left.
+pub fn run<R, S, B, G, V, T, W>(
     rt: &R,
     alloc: Global,
     sources: &S,
     plan: &str,
     sessions: &str,
+    journals: Option<&str>,
     around: &Around<'_, B, G, V>,
+    targets: &mut T,
     out: &mut W,
 ) -> Result<u8, Fault>
 where
@@ -39,19 +48,41 @@ where
     B::Alarm: Send,
     G: Gate + Sync,
     V: Watch + Sync,
+    T: Targets,
     W: Write,
-    ensures runs { IfOk result (λ status. RunsOffices (S.file_text sources.now) (S.standard_text sources.now) plan.now sessions.now
-        (EndsWith status) (W.contents out.old) (W.contents out.new)) }
+    ensures runs { IfOk result (λ status. RunsOffices (S.file_text sources.now) (S.standard_text sources.now) plan.now sessions.now (option_copied journals.entry)
+        (EndsWith status) (W.contents out.old) (W.contents out.new) (T.written targets.old) (T.written targets.new)) }
     ensures status { IfOk result (λ status. status ≤ 1) }
 
     ensures judged { IfErr result (IsJudgedOr IsOfRun (S.file_text sources.now) (S.standard_text sources.now) (plan.now ∷ sessions.now ∷ []) (Input.Plan ∷ Input.Sessions ∷ [])) }
-    ensures leaves { IfErr result (Leaves (out.new ≡ out.old) (λ cause. RunsOffices (S.file_text sources.now) (S.standard_text sources.now) plan.now sessions.now
-        (IsCutBy cause) (W.contents out.old) (W.contents out.new))) }
+    ensures leaves { IfErr result (Leaves ((out.new ≡ out.old) × (targets.new ≡ targets.old)) (λ cause. RunsOffices (S.file_text sources.now) (S.standard_text sources.now) plan.now sessions.now (option_copied journals.entry)
+        (IsCutBy cause) (W.contents out.old) (W.contents out.new) (T.written targets.old) (T.written targets.new))) }
 {
     let words = [plan, sessions];
     let mut standard = StandardInput::new(alloc, sources.standard(), &words);
     let plan = read_plan(alloc, sources, &mut standard, plan)?;
     let programs = read_programs(alloc, sources, &mut standard, sessions, &plan)?;
-    let ran = live(rt, alloc, &plan, &programs, around)?;
-    write_ran(out, &ran)
+    let ran = live(rt, alloc, &plan, &programs, journals.is_some(), around)?;
+    write_ran(alloc, out, targets, journals, &plan, &ran)
+}
+
+/// What came of a run is written, and the journals that it leaves; then, where it was cut short, why is the answer. Otherwise it is the
+/// exit status.
+fn write_ran<T: Targets, W: Write>(
+    alloc: Global,
+    out: &mut W,
+    targets: &mut T,
+    journals: Option<&str>,
+    plan: &Plan,
+    ran: &Ran,
+) -> Result<u8, Fault>
+    requires { length ran.now.journals.items ≤ length plan.now.offices }
+    ensures done { IfOk result (λ status. EndsWith status ran.now × Appends (W.contents out.old) (W.contents out.new) (string_bytes ran.now.text)
+        × WritesFiles (option_copied journals.entry) (λ place. files_of place plan.now (λ a. get_or (map string_bytes ran.now.journals.items) a []) (length ran.now.journals.items)) (T.written targets.old) (T.written targets.new)) }
+    ensures leaves { IfErr result (Leaves ⊥ (λ cause. IsCutBy cause ran.now × Appends (W.contents out.old) (W.contents out.new) (string_bytes ran.now.text)
+        × WritesFiles (option_copied journals.entry) (λ place. files_of place plan.now (λ a. get_or (map string_bytes ran.now.journals.items) a []) (length ran.now.journals.items)) (T.written targets.old) (T.written targets.new))) }
+{
+    write_whole(out, &ran.text)?;
+    write_texts(alloc, targets, journals, plan, &ran.journals)?;
+    ended(ran)
 }

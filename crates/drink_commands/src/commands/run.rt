@@ -1,17 +1,23 @@
 //! The command `run`.
 
-ghost use Rattle.std.specs.Prelude.{◌≡◌, ◌≤◌, IfErr, IfOk, Some};
+ghost use Rattle.std.specs.Prelude.{◌≡◌, ◌≤◌, IfErr, IfOk, Some, map};
+ghost use Rattle.std.specs.Option.{option_copied};
+ghost use Rattle.std.specs.String.{string_bytes};
+ghost use Rattle.std.specs.Io.KnownBytes.{Appends};
 ghost use Rattle.office_map.specs.PlanValue.{office_named};
+ghost use Rattle.drink_commands.specs.Journals.{WritesFiles};
 ghost use Rattle.drink_commands.specs.Run.{EndsWith, IsCutBy, IsJudgedRun, IsReached, Leaves, RunsOffice, SaysOf};
 ghost use Rattle.drink_commands.specs.Texts.{NoOther};
 
-use crate::commands::write_ran;
+use crate::commands::{ended, write_whole};
 use crate::fault::Fault;
+use crate::journal_files::write_each;
 use crate::texts::{read_plan, read_programs};
 use input_texts::{Sources, StandardInput};
 use office_map::{OfficeId, Plan};
 use office_runs::run::run_office;
-use office_runs::{Around, Binds, Gate, Watch, without_address};
+use office_runs::{Around, Binds, Gate, Ran, Watch, without_address};
+use output_files::Targets;
 use std::alloc::{AllocError, Global};
 use std::io::Write;
 use std::rt::Clock;
@@ -19,9 +25,10 @@ use std::sync::Wait;
 
 /// Runs an office of a plan at its address for so many turns, with those of the sessions that are its own, and writes what those
 /// that finished did, and how many haven't. The plan is read and judged first; then an office of it has to have that name, and
-/// it and its neighbours an address; then the sessions are read and judged. Nothing is run or written before. Where the run is
-/// cut short, what stands is written. The answer is the exit status: 1 where sessions are left.
-pub fn run<R, S, B, G, V, W>(
+/// it and its neighbours an address; then the sessions are read and judged. Nothing is run or written before. Where a file is named
+/// for it, the office's journal is written then. Where the run is cut short, what stands is written. The answer is the exit status: 1
+/// where sessions are left.
+pub fn run<R, S, B, G, V, T, W>(
     rt: &R,
     alloc: Global,
     sources: &S,
@@ -29,7 +36,9 @@ pub fn run<R, S, B, G, V, W>(
     office: &str,
     sessions: &str,
     turns: u64,
+    journal: Option<&str>,
     around: &Around<'_, B, G, V>,
+    targets: &mut T,
     out: &mut W,
 ) -> Result<u8, Fault>
 where
@@ -38,22 +47,51 @@ where
     B: Binds,
     G: Gate,
     V: Watch,
+    T: Targets,
     W: Write,
-    ensures runs { IfOk result (λ status. RunsOffice B.Socket.tells (S.file_text sources.now) (S.standard_text sources.now) plan.now office.now sessions.now turns
-        (EndsWith status) (W.contents out.old) (W.contents out.new)) }
+    ensures runs { IfOk result (λ status. RunsOffice B.Socket.tells (S.file_text sources.now) (S.standard_text sources.now) plan.now office.now sessions.now turns (option_copied journal.entry)
+        (EndsWith status) (W.contents out.old) (W.contents out.new) (T.written targets.old) (T.written targets.new)) }
     ensures status { IfOk result (λ status. status ≤ 1) }
 
     ensures judged { IfErr result (IsJudgedRun (S.file_text sources.now) (S.standard_text sources.now) plan.now office.now sessions.now) }
-    ensures leaves { IfErr result (Leaves (out.new ≡ out.old) (λ cause. RunsOffice B.Socket.tells (S.file_text sources.now) (S.standard_text sources.now) plan.now office.now sessions.now turns
-        (IsCutBy cause) (W.contents out.old) (W.contents out.new))) }
+    ensures leaves { IfErr result (Leaves ((out.new ≡ out.old) × (targets.new ≡ targets.old)) (λ cause. RunsOffice B.Socket.tells (S.file_text sources.now) (S.standard_text sources.now) plan.now office.now sessions.now turns (option_copied journal.entry)
+        (IsCutBy cause) (W.contents out.old) (W.contents out.new) (T.written targets.old) (T.written targets.new))) }
 {
     let words = [plan, sessions];
     let mut standard = StandardInput::new(alloc, sources.standard(), &words);
     let plan = read_plan(alloc, sources, &mut standard, plan)?;
     let me = office_to_run(alloc, &plan, office)?;
     let programs = read_programs(alloc, sources, &mut standard, sessions, &plan)?;
-    let ran = run_office(rt, alloc, &plan, me, &programs, turns, around)?;
-    write_ran(out, &ran)
+    let ran = run_office(
+        rt,
+        alloc,
+        &plan,
+        me,
+        &programs,
+        turns,
+        journal.is_some(),
+        around,
+    )?;
+    write_ran(alloc, out, targets, journal, &ran)
+}
+
+/// What came of a run is written, and the journal that it leaves; then, where it was cut short, why is the answer. Otherwise it is the
+/// exit status.
+fn write_ran<T: Targets, W: Write>(
+    alloc: Global,
+    out: &mut W,
+    targets: &mut T,
+    journal: Option<&str>,
+    ran: &Ran,
+) -> Result<u8, Fault>
+    ensures done { IfOk result (λ status. EndsWith status ran.now × Appends (W.contents out.old) (W.contents out.new) (string_bytes ran.now.text)
+        × WritesFiles (option_copied journal.entry) (λ place. map (λ text. (place, string_bytes text)) ran.now.journals.items) (T.written targets.old) (T.written targets.new)) }
+    ensures leaves { IfErr result (Leaves ⊥ (λ cause. IsCutBy cause ran.now × Appends (W.contents out.old) (W.contents out.new) (string_bytes ran.now.text)
+        × WritesFiles (option_copied journal.entry) (λ place. map (λ text. (place, string_bytes text)) ran.now.journals.items) (T.written targets.old) (T.written targets.new))) }
+{
+    write_whole(out, &ran.text)?;
+    write_each(alloc, targets, journal, &ran.journals)?;
+    ended(ran)
 }
 
 /// The office that a word names. It and its neighbours have addresses.

@@ -1,6 +1,7 @@
 //! The command `sim`.
 
 ghost use Rattle.std.specs.Prelude.{◌≡◌, ◌⊎◌, [], ◌∷◌, IfErr, IfOk, List, OnOk, ℕ};
+ghost use Rattle.std.specs.Option.{option_copied};
 ghost use Rattle.input_texts.specs.Words.{StandFor};
 ghost use Rattle.drink_commands.specs.Fault.{IsWriteFault};
 ghost use Rattle.drink_commands.specs.Simulation.{Simulates};
@@ -9,38 +10,44 @@ ghost use Rattle.drink_commands.specs.Texts.{IsJudged};
 use crate::commands::{DONE, write_whole};
 use crate::fault::Fault;
 use crate::input::Input;
+use crate::journal_files::write_world;
 use crate::texts::{read_events, read_plan, read_programs};
 use input_texts::{Sources, StandardInput};
-use script_runs::transcript::transcript;
+use output_files::Targets;
+use script_runs::transcript::simulate;
 use std::alloc::Global;
 use std::io::Write;
 
 /// Runs a script on the world of a plan, and writes a line for each event and then what the finished sessions did, how many
 /// submitted ones haven't finished, and the values. Each input is read and judged before the next one is read, and nothing is
-/// run or written before all are judged. A refused event is told in its line, and is no fault. The answer is the exit status.
-pub fn run<S: Sources, W: Write>(
+/// run or written before all are judged. A refused event is told in its line, and is no fault. Where a folder is named for them, the
+/// offices' journals are written then, each to its file. The answer is the exit status.
+pub fn run<S: Sources, T: Targets, W: Write>(
     alloc: Global,
     sources: &S,
     plan: &str,
     sessions: &str,
     script: &str,
+    journals: Option<&str>,
+    targets: &mut T,
     out: &mut W,
 ) -> Result<u8, Fault>
     ensures simulates { OnOk result ((plan_text sessions_text script_text : List ℕ)
         → StandFor (S.file_text sources.now) (S.standard_text sources.now) (plan.now ∷ sessions.now ∷ script.now ∷ [])
         (plan_text ∷ sessions_text ∷ script_text ∷ [])
-        → Simulates plan_text sessions_text script_text (W.contents out.old) (W.contents out.new)) }
+        → Simulates plan_text sessions_text script_text (option_copied journals.entry) (W.contents out.old) (W.contents out.new) (T.written targets.old) (T.written targets.new)) }
     ensures status { IfOk result (λ status. status ≡ 0) }
 
     ensures judged { IfErr result (IsJudged (S.file_text sources.now) (S.standard_text sources.now) (plan.now ∷ sessions.now ∷ script.now ∷ []) (Input.Plan ∷ Input.Sessions ∷ Input.Script ∷ [])) }
-    ensures unwritten { IfErr result (λ f. IsWriteFault f ⊎ (out.new ≡ out.old)) }
+    ensures unwritten { IfErr result (λ f. IsWriteFault f ⊎ ((out.new ≡ out.old) × (targets.new ≡ targets.old))) }
 {
     let words = [plan, sessions, script];
     let mut standard = StandardInput::new(alloc, sources.standard(), &words);
     let plan = read_plan(alloc, sources, &mut standard, plan)?;
     let programs = read_programs(alloc, sources, &mut standard, sessions, &plan)?;
     let events = read_events(alloc, sources, &mut standard, script, &plan, &programs)?;
-    let printed = transcript(alloc, &plan, &programs, &events)?;
-    write_whole(out, &printed)?;
+    let simulated = simulate(alloc, &plan, &programs, &events)?;
+    write_whole(out, &simulated.text)?;
+    write_world(alloc, targets, journals, &simulated.world)?;
     Ok(DONE)
 }

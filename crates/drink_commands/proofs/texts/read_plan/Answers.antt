@@ -1,5 +1,8 @@
-use Rattle.std.proofs.Common.{◌≡◌, Ok, refl, sym, subst, ap, ◌∙◌}
+use Rattle.std.proofs.Common.{◌≡◌, Ok, sym, subst, ap, ◌∙◌}
 use Rattle.office_map.specs.PlanText.{plan_of, HasRing}
+use Rattle.drink_commands.specs.Texts.{Refuses, nothing}
+use Rattle.drink_commands.specs.declared.input.Input.TheVariants.{Plan}
+use Rattle.drink_commands.proofs.Faults.{weaker}
 use Rattle.drink_commands.proofs.Limits.{plan_accepted, plan_read}
 use Rattle.drink_commands.proofs.texts.read_plan.Goals as goal
 
@@ -12,12 +15,14 @@ returns-in-Ok-clause-meaning g c =
 pub returns-in-Err-Refused-clause-fault : goal.returns-in-Err-Refused-clause-fault
 returns-in-Err-Refused-clause-fault g c =
     let read = ap plan_of (sym c.deref.ensures.value) ∙ (rw c.in-Err-Refused.field-0-is at c.in-Err-Refused.ensures.meaning) in
-    (refl, λ text after has. sym (plan_read text c.in_ok-text.text.items (c.in_ok-text.ensures.text text after has).0) ∙ read)
+    weaker Plan _ _ c.refused.result
+    (λ why e text after has. subst (Refuses nothing text) (sym e) (sym (plan_read text c.in_ok-text.text.items (c.in_ok-text.ensures.text text after has).0) ∙ read))
+    c.refused.ensures
 
 pub returns-in-Err-Ring-clause-fault : goal.returns-in-Err-Ring-clause-fault
 returns-in-Err-Ring-clause-fault g c =
-    let ring = rw c.in-Err-Ring.field-0-is at c.in-Err-Ring.ensures.meaning in (
-      refl,
-      λ text after has.
-          subst (HasRing c.in-Err-Ring.ring) (ap plan_of c.deref.ensures.value ∙ plan_read text c.in_ok-text.text.items (c.in_ok-text.ensures.text text after has).0) ring,
-    )
+    let ring = rw c.in-Err-Ring.field-0-is at c.in-Err-Ring.ensures.meaning in
+    weaker Plan _ _ c.in_a_ring.result
+    (λ why e text after has. subst (Refuses nothing text) (sym e)
+    (subst (HasRing c.in-Err-Ring.ring) (ap plan_of c.deref.ensures.value ∙ plan_read text c.in_ok-text.text.items (c.in_ok-text.ensures.text text after has).0) ring))
+    c.in_a_ring.ensures

@@ -1,4 +1,7 @@
-use Rattle.std.proofs.Common.{[], ◌∷◌, Some, inl, inr, refl, subst, sym, ◌≤◌, rules}
+use Rattle.std.specs.List.{range_with_len}
+use Rattle.std.specs.Option.{option_copied}
+use Rattle.office_runs.specs.Runs.{TellsJournals}
+use Rattle.std.proofs.Common.{◌∙◌, [], ◌∷◌, Some, inl, inr, length, refl, subst, sym, ◌≤◌, rules}
 use Rattle.std.proofs.lemmas.Result.{err_from_is_err_and}
 use Rattle.drink_commands.specs.Fault.{IsOfRun}
 use Rattle.drink_commands.specs.Texts.{nothing}
@@ -7,8 +10,12 @@ use Rattle.drink_commands.specs.declared.fault.Fault.TheVariants.{NoRun}
 use Rattle.drink_commands.proofs.Faults as texts
 use Rattle.drink_commands.proofs.Faults.{at_first, at_next, judged, plan_taken, sessions_taken}
 use Rattle.drink_commands.proofs.Reported.{ran_offices, started}
-use Rattle.drink_commands.proofs.Running.{at_end, at_input, err_more, is_end, ok_more, one_at_most}
+use Rattle.drink_commands.proofs.Running.{at_end, at_input, err_more, is_end, is_some_copied, ok_more, one_at_most}
+use Rattle.drink_commands.proofs.JournalFiles.{few_journals}
 use Rattle.drink_commands.proofs.commands.live.run.Goals as goal
+
+pub write_ran-requires : goal.write_ran-requires
+write_ran-requires g c = few_journals c.in_ok-plan.plan _ _ c.in_ok-ran.ran c.in_ok-ran.ensures.tells
 
 pub returns-in_err-plan-clause-judged : goal.returns-in_err-plan-clause-judged
 returns-in_err-plan-clause-judged g c =
@@ -57,9 +64,9 @@ returns-clause-runs g c =
     ok_more c.write_ran.result _ _ (λ status h. λ plan_text sessions_text known. (
       c.in_ok-ran.ran,
       h.0,
-      (ran_offices files c.new-standard.result c.read_plan.new.standard c.read_programs.new.standard c.args.plan.now c.args.sessions.now plan_text sessions_text c.in_ok-plan.plan c.in_ok-programs.programs.items c.deref.result.now c.in_ok-ran.ran (g.W.Write.contents c.args.out.now) (g.W.Write.contents c.write_ran.new.out)
+      (ran_offices files c.new-standard.result c.read_plan.new.standard c.read_programs.new.standard c.args.plan.now c.args.sessions.now plan_text sessions_text c.in_ok-plan.plan c.in_ok-programs.programs.items c.deref.result.now (option_copied c.args.journals) c.in_ok-ran.ran (g.W.Write.contents c.args.out.now) (g.W.Write.contents c.write_ran.new.out) (g.T.Targets.written c.args.targets.now) (g.T.Targets.written c.write_ran.new.targets)
           c.in_ok-plan.ensures.meaning c.in_ok-programs.ensures.meaning
-          (started c.new-standard.result (g.S.Sources.standard_text c.args.sources.now) files (c.args.plan.now ∷ c.args.sessions.now ∷ []) (plan_text ∷ sessions_text ∷ []) (search rules) known) c.deref.ensures.value c.in_ok-ran.ensures.tells h.1),
+          (started c.new-standard.result (g.S.Sources.standard_text c.args.sources.now) files (c.args.plan.now ∷ c.args.sessions.now ∷ []) (plan_text ∷ sessions_text ∷ []) (search rules) known) c.deref.ensures.value (subst (λ wanted. TellsJournals c.in_ok-plan.plan (range_with_len 0 (length c.in_ok-plan.plan.offices)) (length c.deref.result.now) wanted c.in_ok-ran.ran) (c.is_some.ensures ∙ is_some_copied c.args.journals) c.in_ok-ran.ensures.tells) h.1 h.2),
     )) c.write_ran.ensures.done
 
 pub returns-clause-status : goal.returns-clause-status
@@ -68,17 +75,17 @@ returns-clause-status g c = ok_more c.write_ran.result _ _ (λ status h. subst (
 pub returns-in_err-plan-clause-leaves : goal.returns-in_err-plan-clause-leaves
 returns-in_err-plan-clause-leaves g c =
     let e = err_from_is_err_and c.from_residual.result c.from_residual.ensures.1 in
-    rw (e.1, e.2) (at_input _ _ inputs.Plan _ c.in_err-plan.field-0.0 c.in_err-plan.ensures.fault refl)
+    rw (e.1, e.2) (at_input _ _ inputs.Plan _ c.in_err-plan.field-0.0 c.in_err-plan.ensures.fault (refl, refl))
 
 pub returns-in_err-programs-clause-leaves : goal.returns-in_err-programs-clause-leaves
 returns-in_err-programs-clause-leaves g c =
     let e = err_from_is_err_and c.from_residual-in_err-programs.result c.from_residual-in_err-programs.ensures.1 in
-    rw (e.1, e.2) (at_input _ _ inputs.Sessions _ c.in_err-programs.field-0.0 c.in_err-programs.ensures.fault refl)
+    rw (e.1, e.2) (at_input _ _ inputs.Sessions _ c.in_err-programs.field-0.0 c.in_err-programs.ensures.fault (refl, refl))
 
 pub returns-in_err-ran-clause-leaves : goal.returns-in_err-ran-clause-leaves
 returns-in_err-ran-clause-leaves g c =
     let e = err_from_is_err_and c.from_residual-in_err-ran.result c.from_residual-in_err-ran.ensures.1 in
-    rw (e.1, e.2) refl
+    rw (e.1, e.2) (refl, refl)
 
 pub returns-clause-leaves : goal.returns-clause-leaves
 returns-clause-leaves g c =
@@ -86,7 +93,7 @@ returns-clause-leaves g c =
     err_more c.write_ran.result _ _ (λ f h. at_end _ _ _ f h (λ cause h. λ plan_text sessions_text known. (
       c.in_ok-ran.ran,
       h.0,
-      (ran_offices files c.new-standard.result c.read_plan.new.standard c.read_programs.new.standard c.args.plan.now c.args.sessions.now plan_text sessions_text c.in_ok-plan.plan c.in_ok-programs.programs.items c.deref.result.now c.in_ok-ran.ran (g.W.Write.contents c.args.out.now) (g.W.Write.contents c.write_ran.new.out)
+      (ran_offices files c.new-standard.result c.read_plan.new.standard c.read_programs.new.standard c.args.plan.now c.args.sessions.now plan_text sessions_text c.in_ok-plan.plan c.in_ok-programs.programs.items c.deref.result.now (option_copied c.args.journals) c.in_ok-ran.ran (g.W.Write.contents c.args.out.now) (g.W.Write.contents c.write_ran.new.out) (g.T.Targets.written c.args.targets.now) (g.T.Targets.written c.write_ran.new.targets)
           c.in_ok-plan.ensures.meaning c.in_ok-programs.ensures.meaning
-          (started c.new-standard.result (g.S.Sources.standard_text c.args.sources.now) files (c.args.plan.now ∷ c.args.sessions.now ∷ []) (plan_text ∷ sessions_text ∷ []) (search rules) known) c.deref.ensures.value c.in_ok-ran.ensures.tells h.1),
+          (started c.new-standard.result (g.S.Sources.standard_text c.args.sources.now) files (c.args.plan.now ∷ c.args.sessions.now ∷ []) (plan_text ∷ sessions_text ∷ []) (search rules) known) c.deref.ensures.value (subst (λ wanted. TellsJournals c.in_ok-plan.plan (range_with_len 0 (length c.in_ok-plan.plan.offices)) (length c.deref.result.now) wanted c.in_ok-ran.ran) (c.is_some.ensures ∙ is_some_copied c.args.journals) c.in_ok-ran.ensures.tells) h.1 h.2),
     ))) c.write_ran.ensures.leaves

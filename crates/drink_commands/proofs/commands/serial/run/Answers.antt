@@ -25,6 +25,11 @@ returns-in_err-programs-clause-judged g c =
     (plan_taken files c.new-standard.result c.args.plan.now c.read_plan.new.standard c.in_ok-plan.plan c.in_ok-plan.ensures.meaning)
     (at_first NoOther files c.read_plan.new.standard c.args.sessions.now [] (record nothing { plan = Some c.in_ok-plan.plan }) inputs.Sessions [] c.in_err-programs.field-0.0 c.in_err-programs.ensures.fault)))
 
+pub returns-in_err-plan-clause-input : goal.returns-in_err-plan-clause-input
+returns-in_err-plan-clause-input g c =
+    let e = err_from_is_err_and c.from_residual.result c.from_residual.ensures.1 in
+    rw (e.1, e.2) (among (inputs.Plan ∷ inputs.Sessions ∷ []) inputs.Plan _ c.in_err-plan.field-0.0 (search rules) c.in_err-plan.ensures.fault)
+
 pub returns-in_err-programs-clause-input : goal.returns-in_err-programs-clause-input
 returns-in_err-programs-clause-input g c =
     let e = err_from_is_err_and c.from_residual-in_err-programs.result c.from_residual-in_err-programs.ensures.1 in

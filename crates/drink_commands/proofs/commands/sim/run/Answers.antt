@@ -1,3 +1,5 @@
+use Rattle.std.specs.Option.{option_copied}
+use Rattle.drink_commands.specs.Journals.{WritesFiles, files_of_world}
 use Rattle.std.proofs.Common.{◌≡◌, ℕ, List, [], ◌∷◌, Some, sym, subst, ap₂, ◌∙◌, refl, inl, inr, rules}
 use Rattle.std.proofs.lemmas.Result.{err_from_is_err_and}
 use Rattle.script_runs.specs.Script.{IsScript, acts_with}
@@ -42,9 +44,9 @@ returns-in_err-events-clause-judged g c =
     (subst (λ ps. IsFaultAt inputs.Script (λ why. (text : List ℕ) (after : Unread) → HasText files c.read_programs.new.standard c.args.script.now text after
     → Refuses (record nothing { plan = Some c.in_ok-plan.plan; programs = Some ps }) text why) c.in_err-events.field-0.0) c.deref.ensures.value c.in_err-events.ensures.fault)))))
 
-pub returns-in_err-printed-clause-judged : goal.returns-in_err-printed-clause-judged
-returns-in_err-printed-clause-judged g c =
-    let e = err_from_is_err_and c.from_residual-in_err-printed.result c.from_residual-in_err-printed.ensures.1 in
+pub returns-in_err-simulated-clause-judged : goal.returns-in_err-simulated-clause-judged
+returns-in_err-simulated-clause-judged g c =
+    let e = err_from_is_err_and c.from_residual-in_err-simulated.result c.from_residual-in_err-simulated.ensures.1 in
     let files = g.S.Sources.file_text c.args.sources.now in
     rw (e.1, e.2)
     (judged NoOther files (g.S.Sources.standard_text c.args.sources.now) c.new-standard.result (c.args.plan.now ∷ c.args.sessions.now ∷ c.args.script.now ∷ []) (inputs.Plan ∷ inputs.Sessions ∷ inputs.Script ∷ []) Memory (search rules)
@@ -65,36 +67,62 @@ returns-in_err-write_whole-clause-judged g c =
     (λ text after has. subst (λ ps. IsScript c.in_ok-plan.plan ps text (acts_with c.deref.result.now c.in_ok-events.events.items) × (c.read_events.new.standard ≡ after)) c.deref.ensures.value (c.in_ok-events.ensures.meaning text after has)))
     (at_end NoOther files c.read_events.new.standard (record { plan = Some c.in_ok-plan.plan; programs = Some c.in_ok-programs.programs.items; acts = Some (acts_with c.deref.result.now c.in_ok-events.events.items) }) c.in_err-write_whole.field-0.0 (inl (no_input c.in_err-write_whole.field-0.0 c.in_err-write_whole.ensures.fault)))))))
 
+pub returns-in_err-write_world-clause-judged : goal.returns-in_err-write_world-clause-judged
+returns-in_err-write_world-clause-judged g c =
+    let e = err_from_is_err_and c.from_residual-in_err-write_world.result c.from_residual-in_err-write_world.ensures.1 in
+    let files = g.S.Sources.file_text c.args.sources.now in
+    rw (e.1, e.2)
+    (judged NoOther files (g.S.Sources.standard_text c.args.sources.now) c.new-standard.result (c.args.plan.now ∷ c.args.sessions.now ∷ c.args.script.now ∷ []) (inputs.Plan ∷ inputs.Sessions ∷ inputs.Script ∷ []) c.in_err-write_world.field-0.0 (search rules)
+    (at_next NoOther files c.new-standard.result c.read_plan.new.standard c.args.plan.now (c.args.sessions.now ∷ c.args.script.now ∷ []) nothing (record nothing { plan = Some c.in_ok-plan.plan }) inputs.Plan (inputs.Sessions ∷ inputs.Script ∷ []) c.in_err-write_world.field-0.0
+    (plan_taken files c.new-standard.result c.args.plan.now c.read_plan.new.standard c.in_ok-plan.plan c.in_ok-plan.ensures.meaning)
+    (at_next NoOther files c.read_plan.new.standard c.read_programs.new.standard c.args.sessions.now (c.args.script.now ∷ []) (record nothing { plan = Some c.in_ok-plan.plan }) (record nothing { plan = Some c.in_ok-plan.plan; programs = Some c.in_ok-programs.programs.items }) inputs.Sessions (inputs.Script ∷ []) c.in_err-write_world.field-0.0
+    (sessions_taken files c.read_plan.new.standard c.args.sessions.now c.read_programs.new.standard c.in_ok-plan.plan c.in_ok-programs.programs.items c.in_ok-programs.ensures.meaning)
+    (at_next NoOther files c.read_programs.new.standard c.read_events.new.standard c.args.script.now [] (record nothing { plan = Some c.in_ok-plan.plan; programs = Some c.in_ok-programs.programs.items }) (record { plan = Some c.in_ok-plan.plan; programs = Some c.in_ok-programs.programs.items; acts = Some (acts_with c.deref.result.now c.in_ok-events.events.items) }) inputs.Script [] c.in_err-write_world.field-0.0
+    (script_taken files c.read_programs.new.standard c.args.script.now c.read_events.new.standard c.in_ok-plan.plan c.in_ok-programs.programs.items (acts_with c.deref.result.now c.in_ok-events.events.items)
+    (λ text after has. subst (λ ps. IsScript c.in_ok-plan.plan ps text (acts_with c.deref.result.now c.in_ok-events.events.items) × (c.read_events.new.standard ≡ after)) c.deref.ensures.value (c.in_ok-events.ensures.meaning text after has)))
+    (at_end NoOther files c.read_events.new.standard (record { plan = Some c.in_ok-plan.plan; programs = Some c.in_ok-programs.programs.items; acts = Some (acts_with c.deref.result.now c.in_ok-events.events.items) }) c.in_err-write_world.field-0.0 (inl (no_input c.in_err-write_world.field-0.0 c.in_err-write_world.ensures.fault)))))))
+
 pub returns-clause-simulates : goal.returns-clause-simulates
 returns-clause-simulates g c = λ plan_text sessions_text script_text known.
     let files = g.S.Sources.file_text c.args.sources.now in
     simulated files c.new-standard.result c.read_plan.new.standard c.read_programs.new.standard c.read_events.new.standard c.args.plan.now c.args.sessions.now c.args.script.now
     plan_text sessions_text script_text c.in_ok-plan.plan c.in_ok-programs.programs.items (acts_with c.deref.result.now c.in_ok-events.events.items) (acts_with c.deref-2.result.now c.deref-3.result.now)
-    (g.W.Write.contents c.args.out.now) (g.W.Write.contents c.write_whole.new.out) c.deref-4.result.now
+    (option_copied c.args.journals) (g.W.Write.contents c.args.out.now) (g.W.Write.contents c.write_whole.new.out) (g.T.Targets.written c.args.targets.now) (g.T.Targets.written c.write_world.new.targets) c.deref-4.result.now
     c.in_ok-plan.ensures.meaning c.in_ok-programs.ensures.meaning
     (λ text after has. subst (λ ps. IsScript c.in_ok-plan.plan ps text (acts_with c.deref.result.now c.in_ok-events.events.items) × (c.read_events.new.standard ≡ after)) c.deref.ensures.value (c.in_ok-events.ensures.meaning text after has))
     (started c.new-standard.result (g.S.Sources.standard_text c.args.sources.now) files (c.args.plan.now ∷ c.args.sessions.now ∷ c.args.script.now ∷ []) (plan_text ∷ sessions_text ∷ script_text ∷ []) (search rules) known)
     (ap₂ acts_with (c.deref-2.ensures.value ∙ sym c.deref.ensures.value) c.deref-3.ensures.value) (search rules) (search rules) c.in_ok-write_whole.ensures.written
+    (subst (λ w. WritesFiles (option_copied c.args.journals) (λ place. files_of_world place w) (g.T.Targets.written c.args.targets.now) (g.T.Targets.written c.write_world.new.targets)) c.in_ok-simulated.ensures.world c.in_ok-write_world.ensures.written)
 
 pub returns-in_err-plan-clause-unwritten : goal.returns-in_err-plan-clause-unwritten
 returns-in_err-plan-clause-unwritten g c =
     let e = err_from_is_err_and c.from_residual.result c.from_residual.ensures.1 in
-    rw (e.1, e.2) (inr refl)
+    rw (e.1, e.2) (inr (refl, refl))
 
 pub returns-in_err-programs-clause-unwritten : goal.returns-in_err-programs-clause-unwritten
 returns-in_err-programs-clause-unwritten g c =
     let e = err_from_is_err_and c.from_residual-in_err-programs.result c.from_residual-in_err-programs.ensures.1 in
-    rw (e.1, e.2) (inr refl)
+    rw (e.1, e.2) (inr (refl, refl))
 
 pub returns-in_err-events-clause-unwritten : goal.returns-in_err-events-clause-unwritten
 returns-in_err-events-clause-unwritten g c =
     let e = err_from_is_err_and c.from_residual-in_err-events.result c.from_residual-in_err-events.ensures.1 in
-    rw (e.1, e.2) (inr refl)
+    rw (e.1, e.2) (inr (refl, refl))
 
-pub returns-in_err-printed-clause-unwritten : goal.returns-in_err-printed-clause-unwritten
-returns-in_err-printed-clause-unwritten g c =
-    let e = err_from_is_err_and c.from_residual-in_err-printed.result c.from_residual-in_err-printed.ensures.1 in
-    rw (e.1, e.2) (inr refl)
+pub returns-in_err-simulated-clause-unwritten : goal.returns-in_err-simulated-clause-unwritten
+returns-in_err-simulated-clause-unwritten g c =
+    let e = err_from_is_err_and c.from_residual-in_err-simulated.result c.from_residual-in_err-simulated.ensures.1 in
+    rw (e.1, e.2) (inr (refl, refl))
 
 pub returns-clause-status : goal.returns-clause-status
 returns-clause-status g c = refl
+
+pub returns-in_err-write_whole-clause-unwritten : goal.returns-in_err-write_whole-clause-unwritten
+returns-in_err-write_whole-clause-unwritten g c =
+    let e = err_from_is_err_and c.from_residual-in_err-write_whole.result c.from_residual-in_err-write_whole.ensures.1 in
+    rw (e.1, e.2) (inl c.in_err-write_whole.ensures.fault)
+
+pub returns-in_err-write_world-clause-unwritten : goal.returns-in_err-write_world-clause-unwritten
+returns-in_err-write_world-clause-unwritten g c =
+    let e = err_from_is_err_and c.from_residual-in_err-write_world.result c.from_residual-in_err-write_world.ensures.1 in
+    rw (e.1, e.2) (inl c.in_err-write_world.ensures.fault)

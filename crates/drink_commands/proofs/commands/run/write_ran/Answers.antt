@@ -1,0 +1,21 @@
+use Rattle.std.proofs.Common.{◌≡◌, ◌∷◌, [], get_or, length, map, rules, subst}
+use Rattle.std.specs.Option.{option_copied}
+use Rattle.std.specs.String.{string_bytes}
+use Rattle.std.specs.Io.KnownBytes.{Appends}
+use Rattle.drink_commands.specs.Journals.{WritesFiles, files_of}
+use Rattle.drink_commands.proofs.Running.{at_end, err_more, ok_more}
+use Rattle.drink_commands.proofs.commands.run.write_ran.Goals as goal
+
+pub returns-clause-done : goal.returns-clause-done
+returns-clause-done g c =
+    let text : c.deref.result.now ≡ string_bytes c.args.ran.now.text = search rules in
+    let written = subst (Appends (g.W.Write.contents c.args.out.now) (g.W.Write.contents c.write_whole.new.out)) text c.in_ok-write_whole.ensures.written in
+    let files = subst (λ xs. WritesFiles (option_copied c.args.journal) (λ place. map (λ text. (place, string_bytes text)) xs) (g.T.Targets.written c.args.targets.now) (g.T.Targets.written c.write_each.new.targets)) c.deref-2.ensures.value c.in_ok-write_each.ensures.written in
+    ok_more c.ended.result _ _ (λ status h. (h, written, files)) c.ended.ensures.done
+
+pub returns-clause-leaves : goal.returns-clause-leaves
+returns-clause-leaves g c =
+    let text : c.deref.result.now ≡ string_bytes c.args.ran.now.text = search rules in
+    let written = subst (Appends (g.W.Write.contents c.args.out.now) (g.W.Write.contents c.write_whole.new.out)) text c.in_ok-write_whole.ensures.written in
+    let files = subst (λ xs. WritesFiles (option_copied c.args.journal) (λ place. map (λ text. (place, string_bytes text)) xs) (g.T.Targets.written c.args.targets.now) (g.T.Targets.written c.write_each.new.targets)) c.deref-2.ensures.value c.in_ok-write_each.ensures.written in
+    err_more c.ended.result _ _ (λ f h. at_end _ _ _ f h (λ cause k. (k, written, files))) c.ended.ensures.cut

@@ -1,0 +1,63 @@
+-- Journals whose texts are read and gathered one after another.
+use Rattle.std.specs.Prelude.{◌≡◌, ◌+◌, ℕ, List, [], ◌∷◌, ◌++◌, length, take, Option, Bool, if◌then◌else◌}
+use Rattle.std.specs.String.{string_bytes}
+use Rattle.std.specs.Io.KnownBytes.{Appends}
+use Rattle.input_texts.specs.Words.{HasText, HaveTexts, Unread}
+use Rattle.office_map.specs.PlanValue.{PlanValue}
+use Rattle.run_words.specs.Words.{office_name}
+use Rattle.journal_weave.specs.declared.given.GivenJournal.{GivenJournal}
+use Rattle.journal_audit.specs.Gathering.{AreGathered}
+use Rattle.drink_commands.specs.Audit.{Audits, JudgesAudit, JudgesJournals, RefusesJournal}
+use Rattle.drink_commands.specs.Fault.{IsFaultAt}
+use Rattle.drink_commands.specs.declared.input.Input.TheVariants as inputs
+use Rattle.drink_commands.specs.declared.fault.Fault.{Fault}
+use Rattle.drink_commands.specs.declared.fault.Fault.TheVariants.{Memory, NoJournal}
+
+-- it tells that no journal is of this office, or memory ran out
+abbrev pub IsNamed : PlanValue → ℕ → Fault → Type 0
+IsNamed p a Memory = Unit {0}
+IsNamed p a (NoJournal name) = string_bytes name ≡ office_name p a
+IsNamed p a _ = ⊥
+
+-- the journals of offices, as far as they are there
+abbrev pub Slots : Type 0
+Slots = List (Option GivenJournal)
+
+module _ (files : List ℕ → Option (List ℕ)) (p : PlanValue) where
+  -- the text of a word comes to those that are gathered
+  abbrev pub TakesOne : Unread → List ℕ → Slots → Unread → Slots → Type 0
+  TakesOne u word slots v filled = (text : List ℕ) (after : Unread) → HasText files u word text after
+      → (v ≡ after) × ((before : List (List ℕ)) → AreGathered p before slots → AreGathered p (before ++ text ∷ []) filled)
+
+  -- so do those of all these words
+  abbrev pub TakesAll : Unread → List (List ℕ) → Slots → Unread → Slots → Type 0
+  TakesAll u [] slots v filled = (v ≡ u) × (filled ≡ slots)
+  TakesAll u (word ∷ words) slots v filled = (mid : Unread) × (more : Slots) × TakesOne u word slots mid more × TakesAll mid words more v filled
+
+  -- a fault says what is so of the text of a word, as the one at that place
+  abbrev pub SaysOne : Unread → List ℕ → ℕ → Slots → Fault → Type 0
+  SaysOne u word place slots = IsFaultAt (inputs.Journal place) (λ why. (text : List ℕ) (after : Unread) → HasText files u word text after
+      → (before rest : List (List ℕ)) → AreGathered p before slots → length before ≡ place → RefusesJournal p (before ++ text ∷ rest) place why)
+
+  -- it says what is so of the texts of these words, whichever are known, of which the first is the one at that place
+  abbrev pub SaysJournals : Unread → List (List ℕ) → ℕ → Slots → Fault → Type 0
+  SaysJournals u words place slots f = (before : List (List ℕ)) → AreGathered p before slots → length before ≡ place
+      → (texts : List (List ℕ)) (n : ℕ) → HaveTexts files u (take n words) (take n texts) → JudgesJournals p (place + length words) (before ++ take n texts) f
+
+  -- the same of all journals
+  abbrev pub SaysFrom : Unread → List (List ℕ) → Fault → Type 0
+  SaysFrom u words f = (texts : List (List ℕ)) (n : ℕ) → HaveTexts files u (take n words) (take n texts) → JudgesJournals p (length words) (take n texts) f
+
+  -- the texts of the first of these words, whichever are known, are gathered
+  abbrev pub GathersFirst : Unread → List (List ℕ) → Type 0
+  GathersFirst u words = (texts : List (List ℕ)) (n : ℕ) → HaveTexts files u (take n words) (take n texts) → (slots : Slots) × AreGathered p (take n texts) slots
+
+module _ (files : List ℕ → Option (List ℕ)) where
+  -- a fault says what is so of the texts of these words, a plan's and journals', whichever are known
+  abbrev pub SaysAudit : Unread → List ℕ → List (List ℕ) → Fault → Type 0
+  SaysAudit u plan words f = (texts : List (List ℕ)) (n : ℕ) → HaveTexts files u (take n (plan ∷ words)) (take n texts) → JudgesAudit (length words) (take n texts) f
+
+  -- who writes these bytes, with the status of journals that are woven or not, writes what the texts of these words tell
+  abbrev pub TellsAudit : Unread → List ℕ → List (List ℕ) → Bool → List ℕ → Type 0
+  TellsAudit u plan words woven printed = (text : List ℕ) (texts : List (List ℕ)) → HaveTexts files u (plan ∷ words) (text ∷ texts)
+      → (status : ℕ) (old new : Option (List ℕ)) → status ≡ (if woven then 0 else 1) → Appends old new printed → Audits text texts status old new

@@ -1,0 +1,189 @@
+//! The journals of a plan's offices, as their texts are read and judged one after another.
+
+ghost use Rattle.std.specs.Prelude.{◌≡◌, ◌+◌, ◌<◌, ◌^◌, IfErr, IfOk, List, OnOk, ℕ, length, map};
+ghost use Rattle.input_texts.specs.Words.{HasText, HaveTexts, Unread};
+ghost use Rattle.journal_audit.specs.Gathering.{AreJournals};
+ghost use Rattle.journal_audit.specs.declared.fault.GatherFault.TheVariants as gather;
+ghost use Rattle.drink_commands.specs.Audit.{IsToldAs, journal_inputs};
+ghost use Rattle.drink_commands.specs.Fault.{IsAmong, IsFaultAt};
+ghost use Rattle.drink_commands.specs.refinement.Journals.{GathersFirst, IsNamed, SaysFrom, SaysJournals, SaysOne, TakesAll, TakesOne};
+
+use crate::fault::{Fault, Remark, Why};
+use crate::input::{Input, MOST_JOURNAL};
+use crate::texts::{lines_above, text};
+use input_texts::{Sources, StandardInput};
+use journal_audit::{GatherFault, Journals};
+use journal_diagnostics::of_journal;
+use journal_texts::JournalFault;
+use journal_weave::GivenJournal;
+use office_map::{OfficeId, Plan};
+use run_words::words::office_name;
+use std::alloc::{AllocError, Global};
+use std::io::ErrorKind;
+
+/// The journals of a plan's offices that these words stand for, in order of number. Each text is read and judged before the next one
+/// is read.
+pub fn read_journals<S: Sources>(
+    alloc: Global,
+    sources: &S,
+    standard: &mut StandardInput<S::Standard>,
+    words: &[&str],
+    plan: &Plan,
+) -> Result<Vec<GivenJournal>, Fault>
+    ensures one_each { IfOk result (λ v. length v.items ≡ length plan.now.offices) }
+    ensures meaning { IfOk result (λ v. (texts : List (List ℕ)) → HaveTexts (S.file_text sources.now) standard.old (map (λ w. w.now) words.now) texts → AreJournals plan.now texts v.items) }
+    ensures gathered { IfOk result (λ _. GathersFirst (S.file_text sources.now) plan.now standard.old (map (λ w. w.now) words.now)) }
+    ensures fault { IfErr result (SaysFrom (S.file_text sources.now) plan.now standard.old (map (λ w. w.now) words.now)) }
+{
+    let mut journals = Journals::new(alloc, plan)?;
+    read_each(alloc, sources, standard, words, 0, plan, &mut journals)?;
+    match journals.missing() {
+        Some(office) => Err(lacking(alloc, plan, office)),
+        None => Ok(journals.into_given(alloc)?),
+    }
+}
+
+/// That no journal is of this office.
+fn lacking(alloc: Global, plan: &Plan, office: OfficeId) -> Fault
+    ensures { IsNamed plan.now office result }
+{
+    match String::from_str(alloc, office_name(plan, office)) {
+        Ok(name) => Fault::NoJournal(name),
+        Err(_) => Fault::Memory,
+    }
+}
+
+/// The journals that these words stand for come to those that are there, the first as the one at this place. There are no more than
+/// offices before one of them comes twice, so this calls itself no more often.
+fn read_each<S: Sources>(
+    alloc: Global,
+    sources: &S,
+    standard: &mut StandardInput<S::Standard>,
+    words: &[&str],
+    place: usize,
+    plan: &Plan,
+    journals: &mut Journals,
+) -> Result<(), Fault>
+    requires size { length journals.old ≡ length plan.now.offices }
+    requires place { place + length words.now < 2 ^ 64 }
+    ensures size { length journals.new ≡ length journals.old }
+    ensures taken { OnOk result (TakesAll (S.file_text sources.now) plan.now standard.old (map (λ w. w.now) words.now) journals.old standard.new journals.new) }
+    ensures among { IfErr result (IsAmong (journal_inputs place (length words.now))) }
+    ensures fault { IfErr result (SaysJournals (S.file_text sources.now) plan.now standard.old (map (λ w. w.now) words.now) place journals.old) }
+{
+    let Some((word, rest)) = words.split_first() else {
+        return Ok(());
+    };
+    read_one(alloc, sources, standard, word, place, plan, journals)?;
+    read_each(alloc, sources, standard, rest, place + 1, plan, journals)
+}
+
+/// The journal that a word stands for comes to those that are there.
+fn read_one<S: Sources>(
+    alloc: Global,
+    sources: &S,
+    standard: &mut StandardInput<S::Standard>,
+    word: &str,
+    place: usize,
+    plan: &Plan,
+    journals: &mut Journals,
+) -> Result<(), Fault>
+    requires { length journals.old ≡ length plan.now.offices }
+    ensures size { length journals.new ≡ length journals.old }
+    ensures taken { OnOk result (TakesOne (S.file_text sources.now) plan.now standard.old word.now journals.old standard.new journals.new) }
+    ensures fault { IfErr result (SaysOne (S.file_text sources.now) plan.now standard.old word.now place journals.old) }
+{
+    let text = journal_text(alloc, sources, standard, word, place)?;
+    match journals.read(alloc, plan, &text) {
+        Ok(()) => Ok(()),
+        Err(fault) => Err(refused(
+            alloc,
+            &text,
+            plan,
+            place,
+            lines_above(standard, word),
+            fault,
+        )),
+    }
+}
+
+/// A text that isn't gathered, as the one at this place, below so many lines of the standard input.
+fn refused(
+    alloc: Global,
+    text: &[u8],
+    plan: &Plan,
+    place: usize,
+    lines_above: u64,
+    fault: GatherFault,
+) -> Fault
+    ensures { IsFaultAt (Input.Journal place) (IsToldAs fault) result }
+{
+    match fault {
+        GatherFault::Unread(fault) => unread(alloc, text, plan, place, lines_above, fault),
+        GatherFault::Twice(office) => second(alloc, plan, place, office),
+    }
+}
+
+/// One that is no journal.
+fn unread(
+    alloc: Global,
+    text: &[u8],
+    plan: &Plan,
+    place: usize,
+    lines_above: u64,
+    fault: JournalFault,
+) -> Fault
+    ensures { IsFaultAt (Input.Journal place) (IsToldAs (gather.Unread fault)) result }
+{
+    let refusal = match fault {
+        JournalFault::Memory => return Fault::Memory,
+        JournalFault::Refused(refusal) => refusal,
+    };
+    match of_journal(alloc, text, plan, refusal) {
+        Ok(text) => Fault::Refused(Why::Journal(place, refusal), Remark { lines_above, text }),
+        Err(_) => Fault::Memory,
+    }
+}
+
+/// A second journal of an office.
+fn second(alloc: Global, plan: &Plan, place: usize, office: OfficeId) -> Fault
+    ensures { IsFaultAt (Input.Journal place) (IsToldAs (gather.Twice office)) result }
+{
+    match of_second(alloc, plan, office) {
+        Ok(text) => Fault::Refused(
+            Why::Twice(place),
+            Remark {
+                lines_above: 0,
+                text,
+            },
+        ),
+        Err(_) => Fault::Memory,
+    }
+}
+
+/// The text of a journal. One that is longer than any may be has no end, for all that is known.
+fn journal_text<S: Sources>(
+    alloc: Global,
+    sources: &S,
+    standard: &mut StandardInput<S::Standard>,
+    word: &str,
+    place: usize,
+) -> Result<Vec<u8>, Fault>
+    ensures text { IfOk result (λ v. (text : List ℕ) (after : Unread) → HasText (S.file_text sources.now) standard.old word.now text after → (v.items ≡ text) × (standard.new ≡ after)) }
+    ensures fault { IfErr result (IsFaultAt (Input.Journal place) (λ _. ⊥)) }
+{
+    let input = Input::Journal(place);
+    let text = text(alloc, sources, standard, word, input)?;
+    if text.len() > MOST_JOURNAL {
+        return Err(Fault::ReadFailed(input, ErrorKind::FileTooLarge));
+    }
+    Ok(text)
+}
+
+/// What people are told of a second journal of an office.
+fn of_second(alloc: Global, plan: &Plan, office: OfficeId) -> Result<String, AllocError> {
+    let name = office_name(plan, office);
+    format!(in alloc;
+        "a journal of the office `{name}` is named before it, and an audit takes one of each office"
+    )
+}
