@@ -1,3 +1,4 @@
+use clap::error::ErrorKind;
 use command_words::command_line::{Request, command_line};
 use random_runs::Schedule;
 use std::alloc::{AllocError, Global};
@@ -28,19 +29,37 @@ fn reads_the_words_of_serial(rt: HostRuntime) -> Result<(), Fail> {
     Ok(())
 }
 
+/// The words of `sim`, with a folder for journals or none.
+static SIMS: [(&[&str], [&str; 3], Option<&str>); 5] = [
+    (&["drink", "sim", "p", "s", "c"], ["p", "s", "c"], None),
+    (&["drink", "sim", "-", "s", "-"], ["-", "s", "-"], None),
+    (
+        &["drink", "sim", "p", "s", "c", "--journals", "d"],
+        ["p", "s", "c"],
+        Some("d"),
+    ),
+    (
+        &["drink", "sim", "p", "--journals=d/e", "s", "c"],
+        ["p", "s", "c"],
+        Some("d/e"),
+    ),
+    (
+        &["drink", "sim", "--journals", "c", "p", "s", "c"],
+        ["p", "s", "c"],
+        Some("c"),
+    ),
+];
+
 #[test]
 fn reads_the_words_of_sim(rt: HostRuntime) -> Result<(), Fail> {
-    let rows: [(&[&str], &str, &str, &str); 2] = [
-        (&["drink", "sim", "p", "s", "c"], "p", "s", "c"),
-        (&["drink", "sim", "-", "s", "-"], "-", "s", "-"),
-    ];
-    for (words, plan, sessions, script) in rows {
-        let words = strings(rt.alloc(), words)?;
+    for (words, [plan, sessions, script], journals) in &SIMS {
+        let words = strings(rt.alloc(), *words)?;
         let request = command_line(rt.alloc(), words.as_slice())?;
         let expected = Request::Sim {
-            plan,
-            sessions,
-            script,
+            plan: *plan,
+            sessions: *sessions,
+            script: *script,
+            journals: *journals,
         };
         assert_eq!(rt; request, expected);
     }
@@ -171,42 +190,75 @@ fn other_numbers_are_a_fault(rt: HostRuntime) -> Result<(), Fail> {
     )
 }
 
-/// The words of `run` and `live`, and the usual number of turns where none is given.
+/// The words of `run`, the usual number of turns where none is given, and a file for the journal or none.
+static RUNS: [(&[&str], u64, Option<&str>); 7] = [
+    (&["drink", "run", "p", "a", "s"], 2_000, None),
+    (&["drink", "run", "p", "a", "s", "--turns", "1"], 1, None),
+    (
+        &["drink", "run", "--turns=100000", "p", "a", "s"],
+        100_000,
+        None,
+    ),
+    (&["drink", "run", "p", "--turns", "+07", "a", "s"], 7, None),
+    (
+        &["drink", "run", "--turns", "2000", "--", "p", "a", "s"],
+        2_000,
+        None,
+    ),
+    (
+        &["drink", "run", "p", "a", "s", "--journal", "j"],
+        2_000,
+        Some("j"),
+    ),
+    (
+        &["drink", "run", "--journal=a", "p", "a", "--turns", "3", "s"],
+        3,
+        Some("a"),
+    ),
+];
+
 #[test]
-fn reads_the_words_of_run_and_live(rt: HostRuntime) -> Result<(), Fail> {
-    let rows: [(&[&str], u64); 5] = [
-        (&["drink", "run", "p", "a", "s"], 2_000),
-        (&["drink", "run", "p", "a", "s", "--turns", "1"], 1),
-        (&["drink", "run", "--turns=100000", "p", "a", "s"], 100_000),
-        (&["drink", "run", "p", "--turns", "+07", "a", "s"], 7),
-        (
-            &["drink", "run", "--turns", "2000", "--", "p", "a", "s"],
-            2_000,
-        ),
-    ];
-    for (words, turns) in rows {
-        let words = strings(rt.alloc(), words)?;
+fn reads_the_words_of_run(rt: HostRuntime) -> Result<(), Fail> {
+    for (words, turns, journal) in &RUNS {
+        let words = strings(rt.alloc(), *words)?;
         let request = command_line(rt.alloc(), words.as_slice())?;
         let expected = Request::Run {
             plan: "p",
             office: "a",
             sessions: "s",
-            turns,
+            turns: *turns,
+            journal: *journal,
         };
         assert_eq!(rt; request, expected);
     }
-    let words = strings(rt.alloc(), &["drink", "live", "-", "s"])?;
-    let request = command_line(rt.alloc(), words.as_slice())?;
-    let expected = Request::Live {
-        plan: "-",
-        sessions: "s",
-    };
-    assert_eq!(rt; request, expected);
     Ok(())
 }
 
-/// Words of `run` and `live` that are too few or too many, and numbers that aren't in their range.
-static UNRUN: [&[&str]; 14] = [
+/// The words of `live`, with a folder for journals or none.
+static LIVES: [(&[&str], Option<&str>); 3] = [
+    (&["drink", "live", "-", "s"], None),
+    (&["drink", "live", "-", "s", "--journals", "d"], Some("d")),
+    (&["drink", "live", "--journals=", "-", "s"], Some("")),
+];
+
+#[test]
+fn reads_the_words_of_live(rt: HostRuntime) -> Result<(), Fail> {
+    for (words, journals) in &LIVES {
+        let words = strings(rt.alloc(), *words)?;
+        let request = command_line(rt.alloc(), words.as_slice())?;
+        let expected = Request::Live {
+            plan: "-",
+            sessions: "s",
+            journals: *journals,
+        };
+        assert_eq!(rt; request, expected);
+    }
+    Ok(())
+}
+
+/// Words of `run` and `live` that are too few or too many, numbers that aren't in their range, and folders and files that are
+/// missing, twice or the other command's.
+static UNRUN: [&[&str]; 22] = [
     &["drink", "run", "p", "a"],
     &["drink", "run", "p", "a", "s", "t"],
     &["drink", "run", "p", "a", "s", "--turns", "0"],
@@ -227,10 +279,50 @@ static UNRUN: [&[&str]; 14] = [
     &[
         "drink", "run", "p", "a", "s", "--turns", "1", "--turns", "1",
     ],
-    &["drink", "run", "p", "a", "s", "--journal", "j"],
+    &["drink", "run", "p", "a", "s", "--journal"],
+    &[
+        "drink",
+        "run",
+        "p",
+        "a",
+        "s",
+        "--journal",
+        "j",
+        "--journal",
+        "j",
+    ],
+    &["drink", "run", "p", "a", "s", "--journal", "-x"],
+    &["drink", "run", "p", "a", "s", "--journals", "d"],
     &["drink", "live", "p"],
     &["drink", "live", "p", "s", "--turns", "1"],
-    &["drink", "live", "p", "s", "--journals", "d"],
+    &["drink", "live", "p", "s", "--journals"],
+    &[
+        "drink",
+        "live",
+        "p",
+        "s",
+        "--journals",
+        "d",
+        "--journals",
+        "e",
+    ],
+    &["drink", "live", "p", "s", "--journal", "j"],
+    &["drink", "sim", "p", "s", "c", "--journal", "j"],
+    &[
+        "drink",
+        "random",
+        "p",
+        "s",
+        "--seed",
+        "1",
+        "--loss",
+        "0",
+        "--steps",
+        "1",
+        "--journals",
+        "d",
+    ],
+    &["drink", "serial", "p", "s", "--journals", "d"],
 ];
 
 #[test]
@@ -240,6 +332,111 @@ fn other_words_of_runs_are_a_fault(rt: HostRuntime) -> Result<(), Fail> {
     }
     Ok(())
 }
+
+/// The words of `audit`: a plan, and one journal or more, in their order.
+static AUDITS: [(&[&str], &str, &[&str]); 7] = [
+    (&["drink", "audit", "p", "a"], "p", &["a"]),
+    (
+        &["drink", "audit", "p", "b", "a", "-"],
+        "p",
+        &["b", "a", "-"],
+    ),
+    (&["drink", "audit", "p", "a", "a"], "p", &["a", "a"]),
+    (&["drink", "audit", "-", "-"], "-", &["-"]),
+    (&["drink", "audit", "p", "p"], "p", &["p"]),
+    (&["drink", "audit", "--", "p", "-x"], "p", &["-x"]),
+    (
+        &["drink", "audit", "p", "a", "--", "--help", "--"],
+        "p",
+        &["a", "--help", "--"],
+    ),
+];
+
+#[test]
+fn reads_the_words_of_audit(rt: HostRuntime) -> Result<(), Fail> {
+    for (words, plan, journals) in &AUDITS {
+        let words = strings(rt.alloc(), *words)?;
+        let request = command_line(rt.alloc(), words.as_slice())?;
+        assert!(rt; is_audit(&request, plan, journals), "of {words:?}");
+    }
+    Ok(())
+}
+
+/// Whether an audit is asked for, of this plan and these journals.
+fn is_audit(request: &Request<'_>, plan: &str, journals: &[&str]) -> bool {
+    match request {
+        Request::Audit {
+            plan: found,
+            journals: named,
+        } => *found == plan && are_same(named.as_slice(), journals),
+        _ => false,
+    }
+}
+
+fn are_same(words: &[&str], others: &[&str]) -> bool {
+    if words.len() != others.len() {
+        return false;
+    }
+    for (word, other) in words.iter().zip(others) {
+        if *word != *other {
+            return false;
+        }
+    }
+    true
+}
+
+/// Words of `audit` that are too few, and options that it hasn't.
+static UNAUDITED: [(&[&str], ErrorKind); 5] = [
+    (&["drink", "audit"], ErrorKind::MissingRequiredArgument),
+    (&["drink", "audit", "p"], ErrorKind::MissingRequiredArgument),
+    (
+        &["drink", "audit", "--", "p"],
+        ErrorKind::MissingRequiredArgument,
+    ),
+    (
+        &["drink", "audit", "p", "a", "-x"],
+        ErrorKind::UnknownArgument,
+    ),
+    (
+        &["drink", "audit", "p", "a", "--turns", "1"],
+        ErrorKind::UnknownArgument,
+    ),
+];
+
+#[test]
+fn other_words_of_audit_are_a_fault(rt: HostRuntime) -> Result<(), Fail> {
+    for (words, kind) in &UNAUDITED {
+        is_fault(&rt, *words)?;
+        let words = strings(rt.alloc(), *words)?;
+        let Err(error) = command_line(rt.alloc(), words.as_slice()) else {
+            return Err(Fail::from("accepted"));
+        };
+        assert_eq!(rt; error.kind(), *kind);
+    }
+    Ok(())
+}
+
+/// What the help of `audit` says: its words, and what they mean.
+#[test]
+fn helps_with_audit(rt: HostRuntime) -> Result<(), Fail> {
+    let words = strings(rt.alloc(), &["drink", "audit", "--help"])?;
+    let Err(error) = command_line(rt.alloc(), words.as_slice()) else {
+        return Err(Fail::from("accepted"));
+    };
+    let text = error.to_string(rt.alloc())?;
+    for part in &AUDIT_HELP {
+        assert!(rt; text.contains(*part), "no {part} in {text}");
+    }
+    Ok(())
+}
+
+static AUDIT_HELP: [&str; 5] = [
+    "Usage: drink audit <PLAN> <JOURNAL>...\n",
+    "  <JOURNAL>...  The journals, one of each office of the plan, in any order",
+    "\nExit status: 0 where the journals are of one run",
+    "unwoven OFFICE ENTRY",
+    "- is the standard input",
+];
 
 fn is_fault(rt: &(impl Abort + AllocGlobal), words: &[&str]) -> Result<(), Fail> {
     let words = strings(rt.alloc(), words)?;
@@ -252,7 +449,7 @@ fn is_fault(rt: &(impl Abort + AllocGlobal), words: &[&str]) -> Result<(), Fail>
 
 #[test]
 fn other_words_are_a_fault(rt: HostRuntime) -> Result<(), Fail> {
-    let rows: [(&[&str], i32); 14] = [
+    let rows: [(&[&str], i32); 15] = [
         (&["drink"], 2),
         (&["drink", "sim", "p", "s"], 2),
         (&["drink", "sim", "p", "s", "c", "d"], 2),
@@ -267,6 +464,7 @@ fn other_words_are_a_fault(rt: HostRuntime) -> Result<(), Fail> {
         (&["drink", "random", "--help"], 0),
         (&["drink", "run", "--help"], 0),
         (&["drink", "live", "--help"], 0),
+        (&["drink", "audit", "--help"], 0),
     ];
     for (words, status) in rows {
         let words = strings(rt.alloc(), words)?;

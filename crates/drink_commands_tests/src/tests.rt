@@ -10,9 +10,11 @@ use std::io::{ErrorKind, Read};
 use std::process::Abort;
 use std::test::Fail;
 
+mod audits;
 mod devices;
 mod ear;
 mod exits;
+mod journals;
 mod random;
 mod running;
 mod scripts;

@@ -1,8 +1,11 @@
 //! Journals of offices as texts, typed by hand, and what they tell together.
 
+ghost use Rattle.std.specs.Prelude.{◌≡◌, All, IsSome, length};
+
 use journal_audit::{GatherFault, Journals, audit};
-use office_map::Plan;
+use office_map::{OfficeId, Plan};
 use std::alloc::{AllocError, Global};
+use std::process::Abort;
 use std::test::Fail;
 
 /// Two offices, and two records of theirs.
@@ -143,18 +146,34 @@ static ORDERS: [(usize, usize, usize, &str); 8] = [
     (0, 0, 2, "the journal of office 0 is there already"),
 ];
 
+/// Two texts of journals, the one handed in first and the other, and what is told where the first is handed in again and a faulty
+/// one comes between them.
+static AFTER_FAULTS: [(usize, usize, &str); 3] = [
+    (2, 0, "office 1 has none"),
+    (1, 2, "office 0 has none"),
+    (0, 1, "office 2 has none"),
+];
+
 #[test]
 fn two_journals_tell_a_world_or_an_entry(rt: HostRuntime) -> Result<(), Fail> {
-    let alloc = rt.alloc();
-    let plan = Plan::read(alloc, PAIR.as_bytes())?;
     for (lines, without, second, expected) in &ROWS {
-        let first = moves(alloc, *lines, *without)?;
-        let told = told_of(alloc, &plan, first.as_str(), second)?;
-        assert_eq!(rt; told.as_str(), *expected, "of {second:?}");
-        let told = told_of(alloc, &plan, second, first.as_str())?;
-        assert_eq!(rt; told.as_str(), *expected, "of {second:?}");
+        moves_tell(&rt, rt.alloc(), *lines, *without, second, expected)?;
     }
     Ok(())
+}
+
+/// So many lines of the first journal, but for one of them, tell this with the second, in either order.
+fn moves_tell(
+    rt: &impl Abort,
+    alloc: Global,
+    lines: usize,
+    without: usize,
+    second: &str,
+    expected: &str,
+) -> Result<(), Fail> {
+    let first = moves(alloc, lines, without)?;
+    both_tell(rt, alloc, PAIR, first.as_str(), second, expected)?;
+    both_tell(rt, alloc, PAIR, second, first.as_str(), expected)
 }
 
 /// So many lines of the first journal, but for one of them.
@@ -162,54 +181,73 @@ fn moves(alloc: Global, lines: usize, without: usize) -> Result<String, AllocErr
     let mut text = String::new(alloc);
     for (i, line) in MOVES.iter().enumerate() {
         if i < lines && i != without {
-            text.push_str(line)?;
-            text.push_str("\n")?;
+            add_line(&mut text, line)?;
         }
     }
     Ok(text)
 }
 
+fn add_line(text: &mut String, line: &str) -> Result<(), AllocError> {
+    text.push_str(line)?;
+    text.push_str("\n")
+}
+
 #[test]
 fn the_first_fault_is_told(rt: HostRuntime) -> Result<(), Fail> {
-    let alloc = rt.alloc();
-    let plan = Plan::read(alloc, PAIR.as_bytes())?;
     for (first, second, expected) in &FAULTS {
-        let told = told_of(alloc, &plan, first, second)?;
-        assert_eq!(rt; told.as_str(), *expected, "of {first:?} and {second:?}");
+        both_tell(&rt, rt.alloc(), PAIR, first, second, expected)?;
     }
     Ok(())
 }
 
 #[test]
 fn a_journal_without_frames_tells_its_sessions(rt: HostRuntime) -> Result<(), Fail> {
-    let alloc = rt.alloc();
-    let plan = Plan::read(alloc, APART.as_bytes())?;
     for (first, expected) in &ALONE {
-        let told = told_of(alloc, &plan, first, "journal 1 run 7 office b\n")?;
-        assert_eq!(rt; told.as_str(), *expected);
+        let second = "journal 1 run 7 office b\n";
+        both_tell(&rt, rt.alloc(), APART, first, second, expected)?;
     }
+    Ok(())
+}
+
+/// What two texts tell under a plan, or the first fault, is this.
+fn both_tell(
+    rt: &impl Abort,
+    alloc: Global,
+    plan: &str,
+    first: &str,
+    second: &str,
+    expected: &str,
+) -> Result<(), Fail> {
+    let told = told_of(alloc, plan, first, second)?;
+    assert_eq!(rt; told.as_str(), expected, "of {first:?} and {second:?}");
     Ok(())
 }
 
 #[test]
 fn journals_come_in_any_order(rt: HostRuntime) -> Result<(), Fail> {
-    let alloc = rt.alloc();
-    let plan = Plan::read(alloc, ROW.as_bytes())?;
     for (first, second, third, expected) in &ORDERS {
-        let told = told_of_three(
-            alloc,
-            &plan,
-            of_row(*first),
-            of_row(*second),
-            of_row(*third),
-        )?;
-        assert_eq!(rt;
-            told.as_str(),
-            *expected,
-            "of {first}, {second} and {third}"
-        );
+        all_three_tell(&rt, rt.alloc(), *first, *second, *third, expected)?;
     }
     Ok(())
+}
+
+/// What the journals of these three offices tell, or the first fault, is this.
+fn all_three_tell(
+    rt: &impl Abort,
+    alloc: Global,
+    first: usize,
+    second: usize,
+    third: usize,
+    expected: &str,
+) -> Result<(), Fail> {
+    let told = told_of_row(alloc, first, second, third)?;
+    assert_eq!(rt; told.as_str(), expected, "of {first}, {second} and {third}");
+    Ok(())
+}
+
+fn told_of_row(alloc: Global, first: usize, second: usize, third: usize) -> Result<String, Fail> {
+    let plan = Plan::read(alloc, ROW.as_bytes())?;
+    Ok(told_of_three(alloc, &plan, of_row(first), of_row(second), of_row(third))?)
 }
 
 /// The journal of the office of that number.
@@ -223,31 +261,68 @@ fn of_row(office: usize) -> &'static str {
 /// The least office that has none is named, and a text that is refused leaves room for a good one.
 #[test]
 fn an_office_may_have_none(rt: HostRuntime) -> Result<(), Fail> {
-    let alloc = rt.alloc();
-    let plan = Plan::read(alloc, ROW.as_bytes())?;
-    let told = told_by(alloc, &plan, Journals::new(alloc, &plan)?)?;
+    let told = told_of_none(rt.alloc())?;
     assert_eq!(rt; told.as_str(), "office 0 has none");
-    let told = told_after_faults(alloc, &plan, of_row(2), of_row(0))?;
-    assert_eq!(rt; told.as_str(), "office 1 has none");
-    let told = told_after_faults(alloc, &plan, of_row(1), of_row(2))?;
-    assert_eq!(rt; told.as_str(), "office 0 has none");
-    let told = told_after_faults(alloc, &plan, of_row(0), of_row(1))?;
-    assert_eq!(rt; told.as_str(), "office 2 has none");
+    for (first, second, expected) in &AFTER_FAULTS {
+        both_tell_after_faults(&rt, rt.alloc(), *first, *second, expected)?;
+    }
     Ok(())
 }
 
-/// What two texts tell, or the first fault.
-fn told_of(alloc: Global, plan: &Plan, first: &str, second: &str) -> Result<String, AllocError> {
-    let mut journals = Journals::new(alloc, plan)?;
-    if let Err(fault) = journals.read(alloc, plan, first.as_bytes()) {
-        return said(alloc, fault);
-    }
-    if let Err(fault) = journals.read(alloc, plan, second.as_bytes()) {
-        return said(alloc, fault);
-    }
-    told_by(alloc, plan, journals)
+fn told_of_none(alloc: Global) -> Result<String, Fail> {
+    let plan = Plan::read(alloc, ROW.as_bytes())?;
+    Ok(told_by(alloc, &plan, Journals::new(alloc, &plan)?)?)
 }
 
+fn both_tell_after_faults(
+    rt: &impl Abort,
+    alloc: Global,
+    first: usize,
+    second: usize,
+    expected: &str,
+) -> Result<(), Fail> {
+    let told = told_of_row_after_faults(alloc, first, second)?;
+    assert_eq!(rt; told.as_str(), expected, "of {first} and {second}");
+    Ok(())
+}
+
+fn told_of_row_after_faults(alloc: Global, first: usize, second: usize) -> Result<String, Fail> {
+    let plan = Plan::read(alloc, ROW.as_bytes())?;
+    Ok(told_after_faults(alloc, &plan, of_row(first), of_row(second))?)
+}
+
+/// What two texts tell under a plan, or the first fault.
+fn told_of(alloc: Global, plan: &str, first: &str, second: &str) -> Result<String, Fail> {
+    let plan = Plan::read(alloc, plan.as_bytes())?;
+    Ok(told_of_both(alloc, &plan, first, second)?)
+}
+
+fn told_of_both(
+    alloc: Global,
+    plan: &Plan,
+    first: &str,
+    second: &str,
+) -> Result<String, AllocError> {
+    let mut journals = Journals::new(alloc, plan)?;
+    let read = read_both(&mut journals, alloc, plan, first, second);
+    told_or_said(alloc, plan, journals, read)
+}
+
+fn read_both(
+    journals: &mut Journals,
+    alloc: Global,
+    plan: &Plan,
+    first: &str,
+    second: &str,
+) -> Result<(), GatherFault>
+    requires { length journals.old ≡ length plan.now.offices }
+    ensures { length journals.new ≡ length journals.old }
+{
+    journals.read(alloc, plan, first.as_bytes())?;
+    journals.read(alloc, plan, second.as_bytes())
+}
+
+/// What three texts tell, or the first fault.
 fn told_of_three(
     alloc: Global,
     plan: &Plan,
@@ -256,16 +331,35 @@ fn told_of_three(
     third: &str,
 ) -> Result<String, AllocError> {
     let mut journals = Journals::new(alloc, plan)?;
-    if let Err(fault) = journals.read(alloc, plan, first.as_bytes()) {
-        return said(alloc, fault);
+    let read = read_three(&mut journals, alloc, plan, first, second, third);
+    told_or_said(alloc, plan, journals, read)
+}
+
+fn read_three(
+    journals: &mut Journals,
+    alloc: Global,
+    plan: &Plan,
+    first: &str,
+    second: &str,
+    third: &str,
+) -> Result<(), GatherFault>
+    requires { length journals.old ≡ length plan.now.offices }
+{
+    read_both(journals, alloc, plan, first, second)?;
+    journals.read(alloc, plan, third.as_bytes())
+}
+
+/// What journals tell where all were read, or the fault of one that wasn't.
+fn told_or_said(
+    alloc: Global,
+    plan: &Plan,
+    journals: Journals,
+    read: Result<(), GatherFault>,
+) -> Result<String, AllocError> {
+    match read {
+        Ok(()) => told_by(alloc, plan, journals),
+        Err(fault) => format!(in alloc; "{fault}"),
     }
-    if let Err(fault) = journals.read(alloc, plan, second.as_bytes()) {
-        return said(alloc, fault);
-    }
-    if let Err(fault) = journals.read(alloc, plan, third.as_bytes()) {
-        return said(alloc, fault);
-    }
-    told_by(alloc, plan, journals)
 }
 
 /// What two texts tell, where the first is handed in again and a faulty one comes between them.
@@ -276,25 +370,46 @@ fn told_after_faults(
     second: &str,
 ) -> Result<String, AllocError> {
     let mut journals = Journals::new(alloc, plan)?;
+    if read_around_faults(&mut journals, alloc, plan, first, second) {
+        told_by(alloc, plan, journals)
+    } else {
+        Ok(String::new(alloc))
+    }
+}
+
+/// Whether both texts are taken, and neither the first one again nor the faulty one.
+fn read_around_faults(
+    journals: &mut Journals,
+    alloc: Global,
+    plan: &Plan,
+    first: &str,
+    second: &str,
+) -> bool
+    requires { length journals.old ≡ length plan.now.offices }
+{
     let taken = journals.read(alloc, plan, first.as_bytes()).is_ok();
     let twice = journals.read(alloc, plan, first.as_bytes()).is_err();
     let faulty = journals.read(alloc, plan, "journal 1".as_bytes()).is_err();
     let other = journals.read(alloc, plan, second.as_bytes()).is_ok();
-    if !(taken && twice && faulty && other) {
-        return Ok(String::new(alloc));
-    }
-    told_by(alloc, plan, journals)
-}
-
-fn said(alloc: Global, fault: GatherFault) -> Result<String, AllocError> {
-    format!(in alloc; "{fault}")
+    taken && twice && faulty && other
 }
 
 /// What gathered journals tell, or which office has none.
 fn told_by(alloc: Global, plan: &Plan, journals: Journals) -> Result<String, AllocError> {
-    if let Some(office) = journals.missing() {
-        return format!(in alloc; "office {} has none", office.number());
+    match journals.missing() {
+        Some(office) => lacking(alloc, office),
+        None => told_by_all(alloc, plan, journals),
     }
+}
+
+fn lacking(alloc: Global, office: OfficeId) -> Result<String, AllocError> {
+    format!(in alloc; "office {} has none", office.number())
+}
+
+/// What the journals of all offices tell.
+fn told_by_all(alloc: Global, plan: &Plan, journals: Journals) -> Result<String, AllocError>
+    requires { All (λ slot. IsSome slot) journals }
+{
     let journals = journals.into_given(alloc)?;
     if journals.len() != plan.offices() {
         return Ok(String::new(alloc));

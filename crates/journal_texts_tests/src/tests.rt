@@ -2,7 +2,7 @@ use journal_texts::{read_journal, text};
 use office_map::{OfficeId, Plan};
 use site_core::{Entry, Office};
 use std::alloc::{AllocError, Global};
-use std::fmt::Write;
+use std::process::Abort;
 use std::test::Fail;
 
 /// Two offices, and two records of theirs.
@@ -220,15 +220,38 @@ static FAULTS: [(&str, &str); 38] = [
 
 #[test]
 fn journals_are_written_as_they_were_read(rt: HostRuntime) -> Result<(), Fail> {
-    let alloc = rt.alloc();
     for (plan, journal) in &JOURNALS {
-        let plan = Plan::read(alloc, plan.as_bytes())?;
-        let read = read_journal(alloc, journal.as_bytes(), &plan)?;
-        assert!(rt; read.ends);
-        let written = written(alloc, &plan, read.office, read.entries.as_slice())?;
-        assert_eq!(rt; written.as_str(), *journal);
+        is_written_again(&rt, rt.alloc(), plan, journal)?;
     }
     Ok(())
+}
+
+fn is_written_again(rt: &impl Abort, alloc: Global, plan: &str, journal: &str) -> Result<(), Fail> {
+    let again = written_again(rt, alloc, plan, journal)?;
+    assert_eq!(rt; again.as_str(), journal);
+    Ok(())
+}
+
+/// The text of the journal that was read from a text.
+fn written_again(
+    rt: &impl Abort,
+    alloc: Global,
+    plan: &str,
+    journal: &str,
+) -> Result<String, Fail> {
+    let plan = Plan::read(alloc, plan.as_bytes())?;
+    written_under(rt, alloc, &plan, journal)
+}
+
+fn written_under(
+    rt: &impl Abort,
+    alloc: Global,
+    plan: &Plan,
+    journal: &str,
+) -> Result<String, Fail> {
+    let read = read_journal(alloc, journal.as_bytes(), plan)?;
+    assert!(rt; read.ends, "of {journal:?}");
+    Ok(written(alloc, plan, read.office, read.entries.as_slice())?)
 }
 
 /// The text of the office's journal, where the office is opened and does all that was read.
@@ -242,10 +265,15 @@ fn written(
         return Ok(String::new(alloc));
     }
     let mut office = Office::open(alloc, plan, me)?;
-    if !replays(&mut office, entries) {
-        return Ok(String::new(alloc));
+    text_after(alloc, &mut office, entries)
+}
+
+fn text_after(alloc: Global, office: &mut Office, entries: &[Entry]) -> Result<String, AllocError> {
+    if replays(office, entries) {
+        text_of(alloc, office)
+    } else {
+        Ok(String::new(alloc))
     }
-    text_of(alloc, &office)
 }
 
 /// Whether the office answers each entry as it is told.
@@ -267,27 +295,48 @@ fn text_of(alloc: Global, office: &Office) -> Result<String, AllocError> {
 
 #[test]
 fn texts_are_read_up_to_the_first_that_is_no_frame(rt: HostRuntime) -> Result<(), Fail> {
-    let alloc = rt.alloc();
-    let plan = Plan::read(alloc, PAIR.as_bytes())?;
     for (journal, entries, ends) in &READ {
-        let read = read_journal(alloc, journal.as_bytes(), &plan)?;
-        assert_eq!(rt; read.entries.len(), *entries, "of {journal:?}");
-        assert_eq!(rt; read.ends, *ends, "of {journal:?}");
+        let found = read_of(rt.alloc(), journal)?;
+        assert_eq!(rt; found, (*entries, *ends), "of {journal:?}");
     }
     Ok(())
 }
 
+/// How many entries are read of a text, and whether the journal ends with them.
+fn read_of(alloc: Global, journal: &str) -> Result<(usize, bool), Fail> {
+    let plan = Plan::read(alloc, PAIR.as_bytes())?;
+    let read = read_journal(alloc, journal.as_bytes(), &plan)?;
+    Ok((read.entries.len(), read.ends))
+}
+
 #[test]
 fn the_first_faulty_line_is_told(rt: HostRuntime) -> Result<(), Fail> {
-    let alloc = rt.alloc();
-    let plan = Plan::read(alloc, PAIR.as_bytes())?;
     for (journal, expected) in &FAULTS {
-        let mut told = String::new(alloc);
-        match read_journal(alloc, journal.as_bytes(), &plan) {
-            Ok(_) => told.push_str("no fault")?,
-            Err(fault) => write!(told, "{fault}")?,
-        }
-        assert_eq!(rt; told.as_str(), *expected, "of {journal:?}");
+        is_refused_so(&rt, rt.alloc(), journal, expected)?;
     }
     Ok(())
+}
+
+fn is_refused_so(
+    rt: &impl Abort,
+    alloc: Global,
+    journal: &str,
+    expected: &str,
+) -> Result<(), Fail> {
+    let told = fault_of(alloc, journal)?;
+    assert_eq!(rt; told.as_str(), expected, "of {journal:?}");
+    Ok(())
+}
+
+/// What is said of a text.
+fn fault_of(alloc: Global, journal: &str) -> Result<String, Fail> {
+    let plan = Plan::read(alloc, PAIR.as_bytes())?;
+    Ok(fault_under(alloc, &plan, journal)?)
+}
+
+fn fault_under(alloc: Global, plan: &Plan, journal: &str) -> Result<String, AllocError> {
+    match read_journal(alloc, journal.as_bytes(), plan) {
+        Ok(_) => String::from_str(alloc, "no fault"),
+        Err(fault) => format!(in alloc; "{fault}"),
+    }
 }

@@ -68,18 +68,42 @@ fn last(desk: &Desk, passes: &mut Vec<Pass<Office>>) -> Option<Pass<Office>>
     passes.pop()
 }
 
-// A test owns its desk and lends it: who owns a desk or a pass and leaves early is long to prove.
+// A test owns its desk and lends it: who owns a desk or a pass and leaves early is long to prove, and who owns an office.
 
 /// While one pass has the office the other finds it taken, and submits after that.
 #[test]
 fn a_busy_desk_says_so(rt: HostRuntime) -> Result<(), Fail> {
     let programs = programs(rt.alloc(), PAIR, SESSIONS)?;
-    let (desk, mut passes) = opened(rt.alloc(), PAIR, 2)?;
-    match submits_after(&rt, &desk, &mut passes, &programs) {
-        Some(pass) => assert!(rt; desk.close(pass).is_some()),
-        None => assert!(rt; false),
-    }
+    assert!(rt; is_closed_after(&rt, rt.alloc(), &programs)?);
     Ok(())
+}
+
+/// Whether the pass that found the office taken ends the desk.
+fn is_closed_after<R: Wait + Abort>(
+    rt: &R,
+    alloc: Global,
+    programs: &[Program],
+) -> Result<bool, Fail> {
+    let (desk, mut passes) = opened(alloc, PAIR, 2)?;
+    match submits_after(rt, &desk, &mut passes, programs) {
+        Some(pass) => Ok(entries_after(desk, pass).is_some()),
+        None => Ok(false),
+    }
+}
+
+/// How many entries the office has when the desk ends.
+fn entries_after(desk: Desk, pass: Pass<Office>) -> Option<usize>
+    requires { IsOf desk pass }
+{
+    let closed = desk.close(pass);
+    entries_of(&closed)
+}
+
+fn entries_of(office: &Option<Office>) -> Option<usize> {
+    match office {
+        Some(office) => Some(office.journal().len()),
+        None => None,
+    }
 }
 
 /// The pass that found the office taken.
@@ -95,12 +119,26 @@ fn submits_after<R: Wait + Abort>(
     let program = programs.get(1)?;
     let mut b = last(desk, passes)?;
     let mut a = last(desk, passes)?;
-    let busy = while_held(desk, &mut a, &mut b, program);
-    assert_eq!(rt; busy, Some(4));
-    let ticket = try_submit(desk, &mut b, program);
-    assert_eq!(rt; ticket, Some(Ok(Reply::Ticket(1))));
-    assert_eq!(rt; tags(rt, desk, &mut b, 10), Ok([0, 1, 0, 0]));
+    finds_taken(rt, desk, &mut a, &mut b, program);
     Some(b)
+}
+
+fn finds_taken<R: Wait + Abort>(
+    rt: &R,
+    desk: &Desk,
+    a: &mut Pass<Office>,
+    b: &mut Pass<Office>,
+    program: &Program,
+)
+    requires a { IsOf desk.now a.old × (a.old.holds ≡ false) }
+    requires b { IsOf desk.now b.old × (b.old.holds ≡ false) }
+    ensures { IsOf desk.now b.new × (b.new.holds ≡ false) }
+{
+    let busy = while_held(desk, a, b, program);
+    assert_eq!(rt; busy, Some(4));
+    let ticket = try_submit(desk, b, program);
+    assert_eq!(rt; ticket, Some(Ok(Reply::Ticket(1))));
+    assert_eq!(rt; tags(rt, desk, b, 10), Ok([0, 1, 0, 0]));
 }
 
 /// How many of the calls find the office taken while the first pass has it.

@@ -1,4 +1,5 @@
 use crate::tests::memory::{Mailbox, MemorySockets};
+use journal_texts::read_journal;
 use office_map::{OfficeId, Plan};
 use office_runs::live::live;
 use office_runs::run::run_office;
@@ -43,6 +44,7 @@ fn live_in_memory<R: Threads + Wait + Clock + Sync, G: Gate + Sync>(
     alloc: Global,
     text: &str,
     sessions: &str,
+    journals: bool,
     refused: u64,
     gate: &G,
 ) -> Result<Result<Ran, RunFault>, Fail> {
@@ -55,13 +57,13 @@ fn live_in_memory<R: Threads + Wait + Clock + Sync, G: Gate + Sync>(
         gate,
         watch: &Quiet,
     };
-    Ok(live(rt, alloc, &plan, &programs, &around))
+    Ok(live(rt, alloc, &plan, &programs, journals, &around))
 }
 
 /// The sessions of three offices finish, and are told by office.
 #[test]
 fn three_offices_finish_on_threads(rt: HostRuntime) -> Result<(), Fail> {
-    let ran = live_in_memory(&rt, rt.alloc(), ROW, ROW_SESSIONS, u64::MAX, &Open)?;
+    let ran = live_in_memory(&rt, rt.alloc(), ROW, ROW_SESSIONS, false, u64::MAX, &Open)?;
     assert!(rt;
         is_told(
             ran,
@@ -76,11 +78,14 @@ fn three_offices_finish_on_threads(rt: HostRuntime) -> Result<(), Fail> {
     Ok(())
 }
 
-/// Whether nothing is left, no fault is told, and the lines begin so.
+/// Whether nothing is left, no fault and no journal is told, and the lines begin so.
 fn is_told(ran: Result<Ran, RunFault>, lines: &[&str]) -> bool {
     match ran {
         Ok(ran) => {
-            ran.unfinished == 0 && ran.fault.is_none() && begins(ran.text.as_str(), lines)
+            ran.unfinished == 0
+                && ran.fault.is_none()
+                && ran.journals.is_empty()
+                && begins(ran.text.as_str(), lines)
         }
         Err(_) => false,
     }
@@ -133,7 +138,7 @@ fn offices_run_at_the_same_time(rt: HostRuntime) -> Result<(), Fail> {
         seen: [AtomicU64::new(0), AtomicU64::new(0)],
         missed: AtomicU64::new(0),
     };
-    let ran = live_in_memory(&rt, rt.alloc(), ROW, ROW_SESSIONS, u64::MAX, &gate)?;
+    let ran = live_in_memory(&rt, rt.alloc(), ROW, ROW_SESSIONS, false, u64::MAX, &gate)?;
     let told = ran.is_ok_and(|ran| ran.unfinished == 0);
     assert!(rt; told);
     assert_eq!(rt; gate.missed.load(Ordering::SeqCst), 0);
@@ -163,7 +168,7 @@ fn a_thread_that_cannot_be_started_is_told(rt: HostRuntime) -> Result<(), Fail> 
             asked: AtomicU64::new(0),
             refused,
         };
-        let ran = live_in_memory(&rt, rt.alloc(), ROW, ROW_SESSIONS, u64::MAX, &gate)?;
+        let ran = live_in_memory(&rt, rt.alloc(), ROW, ROW_SESSIONS, false, u64::MAX, &gate)?;
         assert_eq!(rt; ran.map(|ran| ran.fault), Ok(Some(RunFault::NoThread)));
     }
     Ok(())
@@ -173,7 +178,7 @@ fn a_thread_that_cannot_be_started_is_told(rt: HostRuntime) -> Result<(), Fail> 
 #[test]
 fn a_socket_that_cannot_be_bound_is_told(rt: HostRuntime) -> Result<(), Fail> {
     for refused in 0..3 {
-        let ran = live_in_memory(&rt, rt.alloc(), ROW, ROW_SESSIONS, refused, &Open)?;
+        let ran = live_in_memory(&rt, rt.alloc(), ROW, ROW_SESSIONS, false, refused, &Open)?;
         assert!(rt; is_bind_fault(ran));
     }
     Ok(())
@@ -189,7 +194,7 @@ fn is_bind_fault(ran: Result<Ran, RunFault>) -> bool {
 /// An office alone runs its session in one turn.
 #[test]
 fn an_office_runs_alone(rt: HostRuntime) -> Result<(), Fail> {
-    let ran = alone(&rt, rt.alloc(), 1, u64::MAX, &Quiet)?;
+    let ran = alone(&rt, rt.alloc(), 1, false, u64::MAX, &Quiet)?;
     assert!(rt; is_told(ran, &["a.1 done reads - writes - gives 1", "unfinished 0"]));
     Ok(())
 }
@@ -198,9 +203,9 @@ fn an_office_runs_alone(rt: HostRuntime) -> Result<(), Fail> {
 /// with what stands.
 #[test]
 fn a_socket_that_fails_ends_the_run(rt: HostRuntime) -> Result<(), Fail> {
-    let first = alone(&rt, rt.alloc(), 9, 0, &Quiet)?;
+    let first = alone(&rt, rt.alloc(), 9, false, 0, &Quiet)?;
     assert!(rt; is_broken(first, &["unfinished 1"]));
-    let second = alone(&rt, rt.alloc(), 9, 1, &Quiet)?;
+    let second = alone(&rt, rt.alloc(), 9, false, 1, &Quiet)?;
     assert!(rt;
         is_broken(
             second,
@@ -239,7 +244,7 @@ fn who_looks_on_is_told(rt: HostRuntime) -> Result<(), Fail> {
         times: AtomicU64::new(0),
         finished: AtomicU64::new(0),
     };
-    let ran = alone(&rt, rt.alloc(), 1_200, u64::MAX, &told)?;
+    let ran = alone(&rt, rt.alloc(), 1_200, false, u64::MAX, &told)?;
     assert!(rt; ran.is_ok_and(|ran| ran.fault.is_none()));
     assert!(rt; told.times.load(Ordering::SeqCst) > 0);
     assert_eq!(rt; told.finished.load(Ordering::SeqCst), 1);
@@ -251,6 +256,7 @@ fn alone<R: Wait + Clock, W: Watch>(
     rt: &R,
     alloc: Global,
     turns: u64,
+    journals: bool,
     fails_at: u64,
     watch: &W,
 ) -> Result<Result<Ran, RunFault>, Fail> {
@@ -273,8 +279,64 @@ fn alone<R: Wait + Clock, W: Watch>(
         OfficeId::new(0),
         &programs,
         turns,
+        journals,
         &around,
     ))
+}
+
+/// What the journal of the office alone is, which has so many turns and whose socket fails at that call: where it fails at
+/// once, the session was submitted, and no rule was done.
+static ALONE: [(u64, u64, &str); 3] = [
+    (
+        1,
+        u64::MAX,
+        "journal 1 run 3 office a\n0 submit 73657373696f6e20610a6769766520310a656e640a = ticket 1\n0 do start = done\n0 do drink = done\n0 do work 256 = done\n0 do finish = done\n",
+    ),
+    (
+        9,
+        0,
+        "journal 1 run 3 office a\n0 submit 73657373696f6e20610a6769766520310a656e640a = ticket 1\n",
+    ),
+    (0, u64::MAX, "journal 1 run 3 office a\n"),
+];
+
+#[test]
+fn the_journal_of_an_office_is_told(rt: HostRuntime) -> Result<(), Fail> {
+    for (turns, fails_at, journal) in &ALONE {
+        let ran = alone(&rt, rt.alloc(), *turns, true, *fails_at, &Quiet)?;
+        assert!(rt; ran.is_ok_and(|ran| has_journal(&ran, journal)));
+    }
+    Ok(())
+}
+
+/// Whether it has this journal, and no other.
+fn has_journal(ran: &Ran, journal: &str) -> bool {
+    ran.journals.len() == 1 && ran.journals.iter().all(|text| text.as_str() == journal)
+}
+
+/// The journals of all offices are told, in the order of the plan, and each is read as its office's, to its end.
+#[test]
+fn the_journals_of_offices_on_threads_are_told(rt: HostRuntime) -> Result<(), Fail> {
+    let alloc = rt.alloc();
+    let ran = live_in_memory(&rt, alloc, ROW, ROW_SESSIONS, true, u64::MAX, &Open)?;
+    let plan = plan(alloc, ROW)?;
+    assert!(rt; ran.is_ok_and(|ran| are_read(alloc, &plan, ran.journals.as_slice())));
+    Ok(())
+}
+
+/// Whether there are three, and each is read as the journal of the office with its place as its number, with entries.
+fn are_read(alloc: Global, plan: &Plan, journals: &[String]) -> bool {
+    for (place, text) in journals.iter().enumerate() {
+        match read_journal(alloc, text.as_bytes(), plan) {
+            Ok(read) => {
+                if read.office.index() != place || !read.ends || read.entries.len() < 5 {
+                    return false;
+                }
+            }
+            Err(_) => return false,
+        }
+    }
+    journals.len() == 3
 }
 
 /// The first office's neighbour has an address, and the third one's hasn't.
@@ -315,7 +377,7 @@ fn a_thousand_sessions_over_udp(rt: HostRuntime) -> Result<(), Fail> {
         gate: &Open,
         watch: &Quiet,
     };
-    let ran = live(&rt, alloc, &plan, &programs, &around);
+    let ran = live(&rt, alloc, &plan, &programs, false, &around);
     assert!(rt; has_counted(ran, 1_000, 500_500));
     Ok(())
 }

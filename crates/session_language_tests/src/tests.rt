@@ -2,6 +2,7 @@ use office_map::Plan;
 use session_language::{Program, read_sessions};
 use std::alloc::{AllocError, Global};
 use std::fmt::Write;
+use std::process::Abort;
 use std::test::Fail;
 
 mod blocks;
@@ -40,11 +41,20 @@ static TEXTS: [(&str, &str); 6] = [
 #[test]
 fn canonical_texts_are_read_again(rt: HostRuntime) -> Result<(), Fail> {
     for (source, canonical) in &TEXTS {
-        let printed = texts(rt.alloc(), source)?;
-        assert_eq!(rt; printed.as_str(), *canonical, "of {source:?}");
-        let again = texts(rt.alloc(), canonical)?;
-        assert_eq!(rt; again.as_str(), *canonical);
+        is_printed_as(&rt, rt.alloc(), source, canonical)?;
+        is_printed_as(&rt, rt.alloc(), canonical, canonical)?;
     }
+    Ok(())
+}
+
+fn is_printed_as(
+    rt: &impl Abort,
+    alloc: Global,
+    source: &str,
+    canonical: &str,
+) -> Result<(), Fail> {
+    let printed = texts(alloc, source)?;
+    assert_eq!(rt; printed.as_str(), canonical, "of {source:?}");
     Ok(())
 }
 
@@ -62,34 +72,61 @@ fn what_a_program_has(rt: HostRuntime) -> Result<(), Fail> {
     let text =
         "session b\nlet v = read w\nset y = v\nset x = read y\nlet u = v\nlet v = u\ngive v\nend\n";
     let expected = "1 needs 0 1 2 variables v u statements 6\n";
-    let plan = Plan::read(rt.alloc(), PLAN.as_bytes())?;
-    let programs = read_sessions(rt.alloc(), text.as_bytes(), &plan)?;
+    let programs = programs(rt.alloc(), text)?;
     assert_eq!(rt; programs.len(), 1);
     for program in &programs {
-        let found = described(rt.alloc(), program)?;
-        assert_eq!(rt; found.as_str(), expected);
-        let copy = program.copy(rt.alloc())?;
-        let found = described(rt.alloc(), &copy)?;
-        assert_eq!(rt; found.as_str(), expected);
+        is_described_as(&rt, rt.alloc(), program, expected)?;
+        is_copied_as(&rt, rt.alloc(), program, expected)?;
     }
     Ok(())
+}
+
+fn programs(alloc: Global, text: &str) -> Result<Vec<Program>, Fail> {
+    let plan = Plan::read(alloc, PLAN.as_bytes())?;
+    Ok(read_sessions(alloc, text.as_bytes(), &plan)?)
+}
+
+fn is_described_as(
+    rt: &impl Abort,
+    alloc: Global,
+    program: &Program,
+    expected: &str,
+) -> Result<(), AllocError> {
+    let found = described(alloc, program)?;
+    assert_eq!(rt; found.as_str(), expected);
+    Ok(())
+}
+
+/// A copy of the program is described so.
+fn is_copied_as(
+    rt: &impl Abort,
+    alloc: Global,
+    program: &Program,
+    expected: &str,
+) -> Result<(), AllocError> {
+    let copy = program.copy(alloc)?;
+    is_described_as(rt, alloc, &copy, expected)
 }
 
 #[test]
 fn a_program_fits_plans_that_have_its_names(rt: HostRuntime) -> Result<(), Fail> {
     let text =
         "session a\nend\nsession c\nend\nsession a\nset y = 1\nend\nsession b\ngive read w\nend\n";
-    let plan = Plan::read(rt.alloc(), PLAN.as_bytes())?;
     let other =
         "plan 1 run 1\noffice d -\noffice e -\npair d e fork d\nrecord x d e 0 at d\nrecord z d e 0 at d\n";
-    let other = Plan::read(rt.alloc(), other.as_bytes())?;
-    let found = fits(rt.alloc(), text, &plan, &other)?;
+    let found = fits_both(rt.alloc(), text, PLAN, other)?;
     let expected = "true true\ntrue false\ntrue true\ntrue false\n";
     assert_eq!(rt; found.as_str(), expected);
     Ok(())
 }
 
 /// Whether each session under the first plan fits it, and the other one.
+fn fits_both(alloc: Global, text: &str, plan: &str, other: &str) -> Result<String, Fail> {
+    let plan = Plan::read(alloc, plan.as_bytes())?;
+    let other = Plan::read(alloc, other.as_bytes())?;
+    fits(alloc, text, &plan, &other)
+}
+
 fn fits(alloc: Global, text: &str, plan: &Plan, other: &Plan) -> Result<String, Fail> {
     let programs = read_sessions(alloc, text.as_bytes(), plan)?;
     let mut found = String::new(alloc);
@@ -102,20 +139,50 @@ fn fits(alloc: Global, text: &str, plan: &Plan, other: &Plan) -> Result<String, 
 /// The canonical texts of a text's sessions, one after another.
 fn texts(alloc: Global, text: &str) -> Result<String, Fail> {
     let plan = Plan::read(alloc, PLAN.as_bytes())?;
-    let programs = read_sessions(alloc, text.as_bytes(), &plan)?;
-    let mut printed = String::new(alloc);
-    for program in &programs {
-        if program.fits(&plan) {
-            let text = program.text(alloc, &plan)?;
-            printed.push_str(text.as_str())?;
-        }
+    texts_under(alloc, &plan, text)
+}
+
+fn texts_under(alloc: Global, plan: &Plan, text: &str) -> Result<String, Fail> {
+    let programs = read_sessions(alloc, text.as_bytes(), plan)?;
+    Ok(printed(alloc, plan, &programs)?)
+}
+
+fn printed(alloc: Global, plan: &Plan, programs: &[Program]) -> Result<String, AllocError> {
+    let mut text = String::new(alloc);
+    for program in programs {
+        print(&mut text, alloc, plan, program)?;
     }
-    Ok(printed)
+    Ok(text)
+}
+
+fn print(
+    text: &mut String,
+    alloc: Global,
+    plan: &Plan,
+    program: &Program,
+) -> Result<(), AllocError> {
+    if !program.fits(plan) {
+        return Ok(());
+    }
+    let of_program = program.text(alloc, plan)?;
+    text.push_str(of_program.as_str())
+}
+
+fn repeat(text: &mut String, part: &str, count: usize) -> Result<(), AllocError> {
+    for _ in 0..count {
+        text.push_str(part)?;
+    }
+    Ok(())
 }
 
 /// What a program's readers answer, with numbers for offices and records.
 fn described(alloc: Global, program: &Program) -> Result<String, AllocError> {
     let mut text = String::new(alloc);
+    describe(&mut text, program)?;
+    Ok(text)
+}
+
+fn describe(text: &mut String, program: &Program) -> Result<(), AllocError> {
     write!(text, "{} needs", program.office().number())?;
     for record in program.needs() {
         write!(text, " {}", record.number())?;
@@ -124,6 +191,5 @@ fn described(alloc: Global, program: &Program) -> Result<String, AllocError> {
     for name in program.variables() {
         write!(text, " {name}")?;
     }
-    write!(text, " statements {}\n", program.tree().len())?;
-    Ok(text)
+    write!(text, " statements {}\n", program.tree().len())
 }

@@ -78,7 +78,17 @@ static SESSIONS: [(&str, u32, &str); 11] = [
 
 /// Sessions at their limits and past them: lines, a line that opens a block and how often, the lines within, and lines
 /// after its `end`s. Each with its length and its ending, or with no length and the line and the rule that it breaks.
-static LIMITS: [(&str, &str, usize, &str, &str, u32, &str); 22] = [
+type Limit = (
+    &'static str,
+    &'static str,
+    usize,
+    &'static str,
+    &'static str,
+    u32,
+    &'static str,
+);
+
+static LIMITS: [Limit; 22] = [
     (
         "",
         "repeat 1\n",
@@ -221,17 +231,32 @@ static TURNS: [u16; 4] = [0, 10_000, 10_001, 65_535];
 #[test]
 fn sessions_end_at_their_lengths(rt: HostRuntime) -> Result<(), Fail> {
     let plan = Plan::read(rt.alloc(), PLAN.as_bytes())?;
+    all_end(&rt, rt.alloc(), &plan)?;
+    Ok(())
+}
+
+fn all_end(rt: &impl Abort, alloc: Global, plan: &Plan) -> Result<(), AllocError> {
     for (text, length, ending) in &SESSIONS {
-        ends(&rt, rt.alloc(), &plan, text, *length, ending)?;
+        ends(rt, alloc, plan, text, *length, ending)?;
     }
-    for (before, opening, count, within, after, length, ending) in &LIMITS {
-        let text = nested(rt.alloc(), before, opening, *count, within, after)?;
-        ends(&rt, rt.alloc(), &plan, text.as_str(), *length, ending)?;
+    for limit in &LIMITS {
+        limit_ends(rt, alloc, plan, limit)?;
     }
     for turns in &TURNS {
-        turns_end(&rt, rt.alloc(), *turns)?;
+        turns_end(rt, alloc, *turns)?;
     }
     Ok(())
+}
+
+fn limit_ends(
+    rt: &impl Abort,
+    alloc: Global,
+    plan: &Plan,
+    limit: &Limit,
+) -> Result<(), AllocError> {
+    let (before, opening, count, within, after, length, ending) = limit;
+    let text = nested(alloc, before, opening, *count, within, after)?;
+    ends(rt, alloc, plan, text.as_str(), *length, ending)
 }
 
 fn ends(
@@ -341,13 +366,17 @@ fn run_in_pieces(
     needs: &[RecordId],
     n: u32,
 ) -> Result<(), AllocError> {
+    let mut work = begun(alloc, code, needs)?;
+    if runs_to_end(text, &mut work, code, n)? {
+        describe_work(text, code, work)
+    } else {
+        Ok(())
+    }
+}
+
+fn begun(alloc: Global, code: &Code, needs: &[RecordId]) -> Result<Work, AllocError> {
     let reads = first_values(alloc, needs)?;
-    let mut work = Work::begin(alloc, code, reads)?;
-    let Some(pieces) = pieces_to_end(text, &mut work, code, n)? else {
-        return Ok(());
-    };
-    write!(text, "{pieces} ")?;
-    describe_work(text, alloc, code, work)
+    Work::begin(alloc, code, reads)
 }
 
 /// The values of records as they are at first: 100 of x and 0 of y.
@@ -360,53 +389,53 @@ fn first_values(alloc: Global, needs: &[RecordId]) -> Result<RecordValues, Alloc
     Ok(reads)
 }
 
-/// How many pieces of n there are until the end. Where it doesn't come as it should, that is told.
-fn pieces_to_end(
+/// Tells how many pieces of n there are until the end, or how it doesn't come as it should. Whether it comes so.
+fn runs_to_end(
     text: &mut String,
     work: &mut Work,
     code: &Code,
     n: u32,
-) -> Result<Option<u32>, AllocError> {
+) -> Result<bool, AllocError> {
     for k in 0..MOST_PIECES {
         if let Progress::Ended = work.step(code, 0) {
             text.push_str("ended by nothing")?;
-            return Ok(None);
+            return Ok(false);
         }
         if let Progress::Ended = work.step(code, n) {
-            return Ok(Some(k + 1));
+            write!(text, "{} ", k + 1)?;
+            return Ok(true);
         }
         if let Some(_) = work.ending() {
             text.push_str("ended too soon")?;
-            return Ok(None);
+            return Ok(false);
         }
     }
     text.push_str("not ended")?;
-    Ok(None)
+    Ok(false)
 }
 
-/// Work that has ended stays as it is, and shows its ending.
-fn describe_work(
-    text: &mut String,
-    alloc: Global,
-    code: &Code,
-    mut work: Work,
-) -> Result<(), AllocError> {
+/// Work that has ended stays as it is, and shows its ending and hands it out.
+fn describe_work(text: &mut String, code: &Code, mut work: Work) -> Result<(), AllocError> {
+    describe_shown(text, code, &mut work)?;
+    match work.ending() {
+        Some(_) => describe(text, &work.into_ending()),
+        None => Ok(()),
+    }
+}
+
+/// The ending that work shows when it was to go on again.
+fn describe_shown(text: &mut String, code: &Code, work: &mut Work) -> Result<(), AllocError> {
     let Progress::Ended = work.step(code, 5) else {
         return text.push_str("running again");
     };
-    let Some(ending) = work.ending() else {
-        return text.push_str("no ending");
-    };
-    describe(text, ending)?;
-    describe(text, &work.into_ending())
+    match work.ending() {
+        Some(ending) => describe(text, ending),
+        None => text.push_str("no ending"),
+    }
 }
 
 fn describe(text: &mut String, ending: &Ending) -> Result<(), AllocError> {
-    match ending.end {
-        End::Done => text.push_str("done")?,
-        End::Refused(code) => write!(text, "refused {code}")?,
-        End::Overflow => text.push_str("overflow")?,
-    }
+    describe_end(text, ending.end)?;
     text.push_str(" reads")?;
     describe_values(text, ending.reads.as_slice())?;
     text.push_str(" writes")?;
@@ -416,6 +445,14 @@ fn describe(text: &mut String, ending: &Ending) -> Result<(), AllocError> {
         write!(text, " {}", value.number)?;
     }
     text.push_str("; ")
+}
+
+fn describe_end(text: &mut String, end: End) -> Result<(), AllocError> {
+    match end {
+        End::Done => text.push_str("done"),
+        End::Refused(code) => write!(text, "refused {code}"),
+        End::Overflow => text.push_str("overflow"),
+    }
 }
 
 fn describe_values(text: &mut String, values: &[(RecordId, Value)]) -> Result<(), AllocError> {

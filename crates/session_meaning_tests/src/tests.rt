@@ -1,41 +1,55 @@
 use bottle_values::Value;
 use office_map::{OfficeId, RecordId};
 use session_meaning::{End, Ending, Gives, Outcome, RecordValues};
+use std::alloc::{AllocError, Global};
 use std::test::Fail;
 
 #[test]
 fn a_copied_outcome_is_the_same(rt: HostRuntime) -> Result<(), Fail> {
-    let mut reads = RecordValues::new(rt.alloc());
-    reads.push(RecordId::new(3), Value { number: -1 })?;
-    let mut writes = RecordValues::new(rt.alloc());
-    writes.push(RecordId::new(4), Value { number: 2 })?;
-    let mut gives = Gives::new(rt.alloc());
-    gives.push(Value { number: 5 })?;
-    let outcome = Outcome {
+    let outcome = an_outcome(rt.alloc())?;
+    let copy = outcome.copy(rt.alloc())?;
+    assert!(rt; is_as_typed(&outcome) && is_as_typed(&copy));
+    Ok(())
+}
+
+fn an_outcome(alloc: Global) -> Result<Outcome, AllocError> {
+    let ending = Ending {
+        end: End::Refused(7),
+        reads: one_value(alloc, 3, -1)?,
+        writes: one_value(alloc, 4, 2)?,
+        gives: one_given(alloc, 5)?,
+    };
+    Ok(Outcome {
         office: OfficeId::new(1),
         ticket: 9,
-        ending: Ending {
-            end: End::Refused(7),
-            reads,
-            writes,
-            gives,
-        },
-    };
-    let copy = outcome.copy(rt.alloc())?;
-    assert_eq!(rt; copy.office, outcome.office);
-    assert_eq!(rt; copy.ticket, 9);
-    assert_eq!(rt; copy.ending.end, End::Refused(7));
-    assert_eq!(rt;
-        copy.ending.reads.as_slice(),
-        outcome.ending.reads.as_slice()
-    );
-    assert_eq!(rt;
-        copy.ending.writes.as_slice(),
-        outcome.ending.writes.as_slice()
-    );
-    assert_eq!(rt;
-        copy.ending.gives.as_slice(),
-        outcome.ending.gives.as_slice()
-    );
-    Ok(())
+        ending,
+    })
+}
+
+/// A record's value.
+fn one_value(alloc: Global, record: u16, number: i64) -> Result<RecordValues, AllocError> {
+    let mut values = RecordValues::new(alloc);
+    values.push(RecordId::new(record), Value { number })?;
+    Ok(values)
+}
+
+fn one_given(alloc: Global, number: i64) -> Result<Gives, AllocError> {
+    let mut gives = Gives::new(alloc);
+    gives.push(Value { number })?;
+    Ok(gives)
+}
+
+/// Whether each field of an outcome is as it is typed above.
+fn is_as_typed(outcome: &Outcome) -> bool {
+    let Outcome {
+        office,
+        ticket,
+        ending,
+    } = outcome;
+    *office == OfficeId::new(1)
+        && *ticket == 9
+        && ending.end == End::Refused(7)
+        && ending.reads.as_slice() == [(RecordId::new(3), Value { number: -1 })].as_slice()
+        && ending.writes.as_slice() == [(RecordId::new(4), Value { number: 2 })].as_slice()
+        && ending.gives.as_slice() == [Value { number: 5 }].as_slice()
 }

@@ -1,7 +1,8 @@
+use bottle_values::Value;
 use frame_codec::{Frame, MAX_LENGTH, Msg, encode};
 use office_map::{OfficeId, Plan, RecordId};
-use session_language::{Outcome, Program, read_sessions};
-use site_core::{Event, MAX_UNFINISHED, Office, Refusal, Reply, Rule};
+use session_language::{Outcome, Program, RecordValues, read_sessions};
+use site_core::{Entry, Event, MAX_UNFINISHED, Office, Refusal, Reply, Rule};
 use std::alloc::{AllocError, Global};
 use std::fmt::Write;
 use std::process::Abort;
@@ -241,33 +242,43 @@ static ROWS: [(&str, &str, &[Step], &str); 7] = [
 
 #[test]
 fn offices_do_as_the_rows_say(rt: HostRuntime) -> Result<(), Fail> {
-    let alloc = rt.alloc();
     for (plan, sessions, steps, expected) in &ROWS {
-        let plan = Plan::read(alloc, plan.as_bytes())?;
-        let programs = read_sessions(alloc, sessions.as_bytes(), &plan)?;
-        let told = played(alloc, &plan, &programs, steps)?;
+        let told = played(rt.alloc(), plan, sessions, steps)?;
         assert_eq!(rt; told.as_str(), *expected);
     }
     Ok(())
 }
 
 /// What the offices of the plan answer to these steps, and how their sessions end.
-fn played(
+fn played(alloc: Global, plan: &str, sessions: &str, steps: &[Step]) -> Result<String, Fail> {
+    let programs = programs(alloc, plan, sessions)?;
+    let mut text = String::new(alloc);
+    play(alloc, &mut text, plan, &programs, steps)?;
+    Ok(text)
+}
+
+fn play(
     alloc: Global,
-    plan: &Plan,
+    text: &mut String,
+    plan: &str,
     programs: &[Program],
     steps: &[Step],
-) -> Result<String, Fail> {
-    let mut offices = opened(alloc, plan)?;
-    let mut frames = Vec::new(alloc);
-    let mut text = String::new(alloc);
-    for step in steps {
-        take_step(alloc, &mut text, &mut offices, &mut frames, programs, *step)?;
-    }
-    for office in &offices {
-        describe(&mut text, office.outcomes())?;
-    }
-    Ok(text)
+) -> Result<(), Fail> {
+    let mut offices = offices(alloc, plan)?;
+    take_steps(alloc, text, &mut offices, programs, steps)?;
+    describe_all(text, &offices)
+}
+
+/// The sessions of a text under the plan.
+fn programs(alloc: Global, plan: &str, sessions: &str) -> Result<Vec<Program>, Fail> {
+    let plan = Plan::read(alloc, plan.as_bytes())?;
+    Ok(read_sessions(alloc, sessions.as_bytes(), &plan)?)
+}
+
+/// All offices of the plan.
+fn offices(alloc: Global, plan: &str) -> Result<Vec<Office>, Fail> {
+    let plan = Plan::read(alloc, plan.as_bytes())?;
+    Ok(opened(alloc, &plan)?)
 }
 
 /// All offices of the plan.
@@ -277,6 +288,20 @@ fn opened(alloc: Global, plan: &Plan) -> Result<Vec<Office>, AllocError> {
         offices.push(Office::open(alloc, plan, OfficeId::new(v as u8))?)?;
     }
     Ok(offices)
+}
+
+fn take_steps(
+    alloc: Global,
+    text: &mut String,
+    offices: &mut Vec<Office>,
+    programs: &[Program],
+    steps: &[Step],
+) -> Result<(), Fail> {
+    let mut frames = Vec::new(alloc);
+    for step in steps {
+        take_step(alloc, text, offices, &mut frames, programs, *step)?;
+    }
+    Ok(())
 }
 
 /// Takes a step, tells what is answered, and keeps the frame that is made.
@@ -291,7 +316,7 @@ fn take_step(
     let Step(what, at, n) = step;
     let reply = match what {
         What::Deliver => delivered(offices, frames, n as usize),
-        What::Next => return next(text, offices, at),
+        What::Next => return Ok(next(text, offices, at)?),
         _ => match event_of(alloc, programs, step)? {
             Some(event) => handed(offices, at, &event),
             None => return Err(Fail::from("an event")),
@@ -300,7 +325,7 @@ fn take_step(
     if let Ok(Reply::Frame(frame)) = &reply {
         frames.push(*frame)?;
     }
-    tell(text, &reply)
+    Ok(tell(text, &reply)?)
 }
 
 /// An event is handed to an office.
@@ -325,17 +350,21 @@ fn delivered(offices: &mut Vec<Office>, frames: &[Frame], k: usize) -> Result<Re
 }
 
 /// The office does the rule that comes next, which is told.
-fn next(text: &mut String, offices: &mut Vec<Office>, at: usize) -> Result<(), Fail> {
-    let next = match offices.get(at) {
+fn next(text: &mut String, offices: &mut Vec<Office>, at: usize) -> Result<(), AllocError> {
+    match next_rule(offices, at) {
+        Some(rule) => {
+            write!(text, "{rule:?} ")?;
+            tell(text, &handed(offices, at, &Event::Do(rule)))
+        }
+        None => text.push_str("none; "),
+    }
+}
+
+fn next_rule(offices: &[Office], at: usize) -> Option<Rule> {
+    match offices.get(at) {
         Some(office) => office.next_rule(),
         None => None,
-    };
-    let Some(rule) = next else {
-        text.push_str("none; ")?;
-        return Ok(());
-    };
-    write!(text, "{rule:?} ")?;
-    tell(text, &handed(offices, at, &Event::Do(rule)))
+    }
 }
 
 fn event_of(alloc: Global, programs: &[Program], step: Step) -> Result<Option<Event>, AllocError> {
@@ -373,58 +402,179 @@ fn other(at: usize) -> OfficeId {
     OfficeId::new(if at == A { 1 } else { 0 })
 }
 
-fn tell(text: &mut String, reply: &Result<Reply, Refusal>) -> Result<(), Fail> {
+fn tell(text: &mut String, reply: &Result<Reply, Refusal>) -> Result<(), AllocError> {
     match reply {
-        Ok(Reply::Ticket(ticket)) => write!(text, "ticket {ticket}; ")?,
-        Ok(Reply::Done) => text.push_str("done; ")?,
-        Ok(Reply::Frame(frame)) => {
-            let number = frame.number();
-            let count = frame.count();
-            write!(text, "frame {number} {count}; ")?;
-        }
-        Ok(Reply::Acked) => text.push_str("acked; ")?,
-        Ok(Reply::Taken) => text.push_str("taken; ")?,
-        Ok(Reply::Repeat) => text.push_str("repeat; ")?,
-        Ok(Reply::Kept) => text.push_str("kept; ")?,
-        Ok(Reply::Early) => text.push_str("early; ")?,
-        Err(refusal) => write!(text, "refused {refusal}; ")?,
+        Ok(Reply::Ticket(ticket)) => write!(text, "ticket {ticket}; "),
+        Ok(Reply::Done) => text.push_str("done; "),
+        Ok(Reply::Frame(frame)) => tell_frame(text, frame),
+        Ok(Reply::Acked) => text.push_str("acked; "),
+        Ok(Reply::Taken) => text.push_str("taken; "),
+        Ok(Reply::Repeat) => text.push_str("repeat; "),
+        Ok(Reply::Kept) => text.push_str("kept; "),
+        Ok(Reply::Early) => text.push_str("early; "),
+        Err(refusal) => write!(text, "refused {refusal}; "),
+    }
+}
+
+fn tell_frame(text: &mut String, frame: &Frame) -> Result<(), AllocError> {
+    let number = frame.number();
+    let count = frame.count();
+    write!(text, "frame {number} {count}; ")
+}
+
+/// How the sessions of the offices ended.
+fn describe_all(text: &mut String, offices: &[Office]) -> Result<(), Fail> {
+    for office in offices {
+        describe(text, office.outcomes())?;
     }
     Ok(())
 }
 
 fn describe(text: &mut String, outcomes: &[Outcome]) -> Result<(), AllocError> {
     for outcome in outcomes {
-        let office = outcome.office.number();
-        let ticket = outcome.ticket;
-        let end = outcome.ending.end;
-        write!(text, "{office}.{ticket} {end:?} reads")?;
-        for (r, value) in outcome.ending.reads.as_slice() {
-            write!(text, " {}={}", r.number(), value.number)?;
-        }
-        text.push_str(" writes")?;
-        for (r, value) in outcome.ending.writes.as_slice() {
-            write!(text, " {}={}", r.number(), value.number)?;
-        }
-        text.push_str(" gives")?;
-        for value in outcome.ending.gives.as_slice() {
-            write!(text, " {}", value.number)?;
-        }
-        text.push_str("; ")?;
+        describe_one(text, outcome)?;
     }
     Ok(())
 }
 
+fn describe_one(text: &mut String, outcome: &Outcome) -> Result<(), AllocError> {
+    let office = outcome.office.number();
+    let ticket = outcome.ticket;
+    let end = outcome.ending.end;
+    write!(text, "{office}.{ticket} {end:?} reads")?;
+    tell_values(text, &outcome.ending.reads)?;
+    text.push_str(" writes")?;
+    tell_values(text, &outcome.ending.writes)?;
+    text.push_str(" gives")?;
+    tell_gives(text, outcome.ending.gives.as_slice())?;
+    text.push_str("; ")
+}
+
+fn tell_values(text: &mut String, values: &RecordValues) -> Result<(), AllocError> {
+    for (r, value) in values.as_slice() {
+        write!(text, " {}={}", r.number(), value.number)?;
+    }
+    Ok(())
+}
+
+fn tell_gives(text: &mut String, gives: &[Value]) -> Result<(), AllocError> {
+    for value in gives {
+        write!(text, " {}", value.number)?;
+    }
+    Ok(())
+}
+
+/// What is called at an office.
+#[derive(Clone, Copy)]
+enum Call {
+    Submit,
+    Start,
+    Drink,
+    Work,
+    Finish,
+    Withdraw(u32),
+}
+
+/// What is answered.
+#[derive(Clone, Copy)]
+enum Answer {
+    Ticket(u32),
+    Done,
+    QueueFull,
+}
+
+/// A call, what is answered, and how many sessions then are unfinished, how many were submitted, and how many entries there are.
+struct Called(Call, Answer, [usize; 3]);
+
+/// Of 64 sessions that wait one starts and finishes.
+static ONE_FINISHES: [Called; 7] = [
+    Called(Call::Submit, Answer::QueueFull, [64, 64, 64]),
+    Called(Call::Start, Answer::Done, [64, 64, 65]),
+    Called(Call::Submit, Answer::QueueFull, [64, 64, 65]),
+    Called(Call::Drink, Answer::Done, [64, 64, 66]),
+    Called(Call::Work, Answer::Done, [64, 64, 67]),
+    Called(Call::Finish, Answer::Done, [63, 64, 68]),
+    Called(Call::Submit, Answer::Ticket(65), [64, 65, 69]),
+];
+
+/// Of 64 sessions the current one and a waiting one are withdrawn, and one that takes their room; those with the tickets 2, 4 and 5
+/// finish.
+static THREE_ARE_WITHDRAWN: [Called; 20] = [
+    Called(Call::Start, Answer::Done, [64, 64, 65]),
+    Called(Call::Withdraw(1), Answer::Done, [63, 64, 66]),
+    Called(Call::Withdraw(3), Answer::Done, [62, 64, 67]),
+    Called(Call::Submit, Answer::Ticket(65), [63, 65, 68]),
+    Called(Call::Submit, Answer::Ticket(66), [64, 66, 69]),
+    Called(Call::Submit, Answer::QueueFull, [64, 66, 69]),
+    Called(Call::Withdraw(66), Answer::Done, [63, 66, 70]),
+    Called(Call::Submit, Answer::Ticket(67), [64, 67, 71]),
+    Called(Call::Start, Answer::Done, [64, 67, 72]),
+    Called(Call::Drink, Answer::Done, [64, 67, 73]),
+    Called(Call::Work, Answer::Done, [64, 67, 74]),
+    Called(Call::Finish, Answer::Done, [63, 67, 75]),
+    Called(Call::Start, Answer::Done, [63, 67, 76]),
+    Called(Call::Drink, Answer::Done, [63, 67, 77]),
+    Called(Call::Work, Answer::Done, [63, 67, 78]),
+    Called(Call::Finish, Answer::Done, [62, 67, 79]),
+    Called(Call::Start, Answer::Done, [62, 67, 80]),
+    Called(Call::Drink, Answer::Done, [62, 67, 81]),
+    Called(Call::Work, Answer::Done, [62, 67, 82]),
+    Called(Call::Finish, Answer::Done, [61, 67, 83]),
+];
+
+/// Tickets, and that of the outcome which is there for each.
+static OUTCOMES: [(u32, Option<u32>); 9] = [
+    (0, None),
+    (1, None),
+    (2, Some(2)),
+    (3, None),
+    (4, Some(4)),
+    (5, Some(5)),
+    (6, None),
+    (66, None),
+    (68, None),
+];
+
 /// What a queue takes: 64 sessions that haven't finished, the current one among them.
 #[test]
 fn sixty_four_sessions_are_unfinished_at_most(rt: HostRuntime) -> Result<(), Fail> {
-    let alloc = rt.alloc();
-    let plan = Plan::read(alloc, PAIR.as_bytes())?;
-    let programs = read_sessions(alloc, GIVES.as_bytes(), &plan)?;
-    let mut offices = opened(alloc, &plan)?;
+    let programs = programs(rt.alloc(), PAIR, GIVES)?;
+    let mut offices = offices(rt.alloc(), PAIR)?;
+    takes_one_more(&rt, &mut offices, &programs)
+}
+
+fn takes_one_more<R: Abort>(
+    rt: &R,
+    offices: &mut Vec<Office>,
+    programs: &[Program],
+) -> Result<(), Fail> {
     let (Some(office), Some(program)) = (offices.get_mut(A), programs.get(0)) else {
         return Err(Fail::from("an office and a session"));
     };
-    fill_queue(&rt, office, program);
+    fill_queue(rt, office, program);
+    call_all(rt, office, program, &ONE_FINISHES);
+    Ok(())
+}
+
+/// A withdrawn session makes room, has no outcome, and its ticket isn't given again.
+#[test]
+fn a_withdrawn_session_makes_room(rt: HostRuntime) -> Result<(), Fail> {
+    let programs = programs(rt.alloc(), PAIR, GIVES)?;
+    let mut offices = offices(rt.alloc(), PAIR)?;
+    makes_room(&rt, &mut offices, &programs)
+}
+
+fn makes_room<R: Abort>(
+    rt: &R,
+    offices: &mut Vec<Office>,
+    programs: &[Program],
+) -> Result<(), Fail> {
+    let (Some(office), Some(program)) = (offices.get_mut(A), programs.get(0)) else {
+        return Err(Fail::from("an office and a session"));
+    };
+    fill_queue(rt, office, program);
+    call_all(rt, office, program, &THREE_ARE_WITHDRAWN);
+    see_outcomes(rt, office);
     Ok(())
 }
 
@@ -433,157 +583,178 @@ fn fill_queue<R: Abort>(rt: &R, office: &mut Office, program: &Program) {
         let ticket = i as u32 + 1;
         assert_eq!(rt; submit(office, program), Ok(Reply::Ticket(ticket)));
     }
-    assert_eq!(rt; submit(office, program), Err(Refusal::QueueFull));
-    assert_eq!(rt; office.journal().len(), MAX_UNFINISHED);
-    assert_eq!(rt; act(office, Rule::Start), Ok(Reply::Done));
-    assert_eq!(rt; submit(office, program), Err(Refusal::QueueFull));
-    for rule in [Rule::Drink, Rule::Work(100), Rule::Finish] {
-        assert_eq!(rt; act(office, rule), Ok(Reply::Done));
-    }
-    assert_eq!(rt; submit(office, program), Ok(Reply::Ticket(65)));
-    assert_eq!(rt; office.tickets(), 65);
-    assert_eq!(rt; office.journal().len(), MAX_UNFINISHED + 5);
 }
 
-/// A withdrawn session makes room, has no outcome, and its ticket isn't given again.
-#[test]
-fn a_withdrawn_session_makes_room(rt: HostRuntime) -> Result<(), Fail> {
-    let alloc = rt.alloc();
-    let plan = Plan::read(alloc, PAIR.as_bytes())?;
-    let programs = read_sessions(alloc, GIVES.as_bytes(), &plan)?;
-    let mut offices = opened(alloc, &plan)?;
-    let (Some(office), Some(program)) = (offices.get_mut(A), programs.get(0)) else {
-        return Err(Fail::from("an office and a session"));
-    };
-    for _ in 0..MAX_UNFINISHED {
-        assert!(rt; submit(office, program).is_ok());
-    }
-    withdraw_two(&rt, office, program);
-    finish_three(&rt, office);
-    Ok(())
-}
-
-/// The current one and a waiting one, of 64.
-fn withdraw_two<R: Abort>(rt: &R, office: &mut Office, program: &Program) {
-    assert_eq!(rt; act(office, Rule::Start), Ok(Reply::Done));
-    assert_eq!(rt; office.withdraw(3, 1), Ok(Reply::Done));
-    assert_eq!(rt; office.withdraw(3, 3), Ok(Reply::Done));
-    assert_eq!(rt; office.unfinished(), 62);
-    for ticket in [65, 66] {
-        assert_eq!(rt; submit(office, program), Ok(Reply::Ticket(ticket)));
-    }
-    assert_eq!(rt; office.unfinished(), MAX_UNFINISHED);
-    assert_eq!(rt; submit(office, program), Err(Refusal::QueueFull));
-    assert_eq!(rt; office.withdraw(3, 66), Ok(Reply::Done));
-    assert_eq!(rt; submit(office, program), Ok(Reply::Ticket(67)));
-    assert_eq!(rt; office.tickets(), 67);
-}
-
-/// Those with the tickets 2, 4 and 5.
-fn finish_three<R: Abort>(rt: &R, office: &mut Office) {
-    for _ in 0..3 {
-        for rule in [Rule::Start, Rule::Drink, Rule::Work(100), Rule::Finish] {
-            assert_eq!(rt; act(office, rule), Ok(Reply::Done));
-        }
-    }
-    for ticket in [0, 1, 3, 6, 66, 68] {
-        assert!(rt; office.outcome(ticket).is_none());
-    }
-    for ticket in [2, 4, 5] {
+/// The office answers each call as the table says.
+fn call_all<R: Abort>(rt: &R, office: &mut Office, program: &Program, calls: &[Called]) {
+    for (i, Called(call, expected, then)) in calls.iter().enumerate() {
         assert_eq!(rt;
-            office.outcome(ticket).map(|outcome| outcome.ticket),
-            Some(ticket)
+            answered(office, program, *call),
+            reply(*expected),
+            "call {i}"
+        );
+        assert_eq!(rt; counts(office), *then, "after call {i}");
+    }
+}
+
+fn answered(office: &mut Office, program: &Program, call: Call) -> Result<Reply, Refusal> {
+    match call {
+        Call::Submit => submit(office, program),
+        Call::Start => office.act(3, Rule::Start),
+        Call::Drink => office.act(3, Rule::Drink),
+        Call::Work => office.act(3, Rule::Work(100)),
+        Call::Finish => office.act(3, Rule::Finish),
+        Call::Withdraw(ticket) => office.withdraw(3, ticket),
+    }
+}
+
+fn reply(answer: Answer) -> Result<Reply, Refusal> {
+    match answer {
+        Answer::Ticket(ticket) => Ok(Reply::Ticket(ticket)),
+        Answer::Done => Ok(Reply::Done),
+        Answer::QueueFull => Err(Refusal::QueueFull),
+    }
+}
+
+/// How many sessions are unfinished, how many were submitted, and how many entries there are.
+fn counts(office: &Office) -> [usize; 3] {
+    [
+        office.unfinished(),
+        office.tickets() as usize,
+        office.journal().len(),
+    ]
+}
+
+fn see_outcomes<R: Abort>(rt: &R, office: &Office) {
+    for (ticket, expected) in &OUTCOMES {
+        assert_eq!(rt;
+            ticket_of(office.outcome(*ticket)),
+            *expected,
+            "ticket {ticket}"
         );
     }
-    assert_eq!(rt; office.unfinished(), 61);
+}
+
+fn ticket_of(outcome: Option<&Outcome>) -> Option<u32> {
+    outcome.map(|outcome| outcome.ticket)
 }
 
 fn submit(office: &mut Office, program: &Program) -> Result<Reply, Refusal> {
     office.submit(3, program)
 }
 
-fn act(office: &mut Office, rule: Rule) -> Result<Reply, Refusal> {
-    office.act(3, rule)
+fn take(office: &mut Office, tag: u8, frame: Frame) -> Result<Reply, Refusal> {
+    hand_in(office, tag, Event::Took(frame))
 }
 
-fn hand_in(office: &mut Office, tag: u8, event: &Event) -> Result<Reply, Refusal> {
-    office.step(tag % 16, event)
+fn act(office: &mut Office, tag: u8, rule: Rule) -> Result<Reply, Refusal> {
+    hand_in(office, tag, Event::Do(rule))
+}
+
+fn hand_in(office: &mut Office, tag: u8, event: Event) -> Result<Reply, Refusal> {
+    office.step(tag % 16, &event)
 }
 
 /// A fork that is held can't come; its request token can. What can be asked of an office, and what its journal tells.
 #[test]
 fn an_office_tells_where_it_is(rt: HostRuntime) -> Result<(), Fail> {
-    let alloc = rt.alloc();
-    let plan = Plan::read(alloc, PAIR.as_bytes())?;
-    let mut offices = opened(alloc, &plan)?;
+    let mut offices = offices(rt.alloc(), PAIR)?;
+    tells_where_it_is(&rt, &mut offices)
+}
+
+fn tells_where_it_is<R: Abort>(rt: &R, offices: &mut Vec<Office>) -> Result<(), Fail> {
     let Some(office) = offices.get_mut(A) else {
         return Err(Fail::from("an office"));
     };
-    give_the_fork(&rt, office);
-    tell_all(&rt, office);
-    give_a_bottle(&rt, office);
+    give_the_fork(rt, office);
+    send_the_fork(rt, office);
+    tell_of_links(rt, office);
+    tell_of_records(rt, office);
+    tell_of_journal(rt, office);
+    give_a_bottle(rt, office);
     Ok(())
 }
 
 fn give_the_fork<R: Abort>(rt: &R, office: &mut Office) {
-    let b = OfficeId::new(1);
-    let fork = Event::Took(Frame::data(42, 1, 0, 1, 0, Msg::Fork));
+    let fork = Frame::data(42, 1, 0, 1, 0, Msg::Fork);
     let refused = Err(Refusal::Channel(ChannelFault::Breach));
-    assert_eq!(rt; hand_in(office, 5, &fork), refused);
+    assert_eq!(rt; take(office, 5, fork), refused);
     assert_eq!(rt; office.journal().len(), 0);
-    let token = Event::Took(Frame::data(42, 1, 0, 1, 0, Msg::AskFork));
-    assert_eq!(rt; hand_in(office, 5, &token), Ok(Reply::Taken));
-    let give = Event::Do(Rule::GiveFork(b));
-    assert_eq!(rt; hand_in(office, 5, &give), Ok(Reply::Done));
-    let sent = Frame::data(42, 0, 1, 1, 1, Msg::Fork);
-    assert_eq!(rt;
-        hand_in(office, 6, &Event::Send(b, 1)),
-        Ok(Reply::Frame(sent))
-    );
+    let token = Frame::data(42, 1, 0, 1, 0, Msg::AskFork);
+    assert_eq!(rt; take(office, 5, token), Ok(Reply::Taken));
+    let give = Rule::GiveFork(OfficeId::new(1));
+    assert_eq!(rt; act(office, 5, give), Ok(Reply::Done));
 }
 
-fn tell_all<R: Abort>(rt: &R, office: &Office) {
+fn send_the_fork<R: Abort>(rt: &R, office: &mut Office) {
+    let sent = Frame::data(42, 0, 1, 1, 1, Msg::Fork);
+    let reply = hand_in(office, 6, Event::Send(OfficeId::new(1), 1));
+    assert_eq!(rt; reply, Ok(Reply::Frame(sent)));
+}
+
+fn tell_of_links<R: Abort>(rt: &R, office: &Office) {
     let b = OfficeId::new(1);
     assert_eq!(rt; office.waiting(b), Some((1, 1)));
     assert_eq!(rt; office.taken(b), Some(1));
     assert_eq!(rt; office.waiting(office.number()), None);
-    let values = [0, 1].map(|r| office.held_value(RecordId::new(r)).map(|v| v.number));
-    assert_eq!(rt; values, [Some(100), None]);
+}
+
+fn tell_of_records<R: Abort>(rt: &R, office: &Office) {
+    assert_eq!(rt; held(office, 0), Some(100));
+    assert_eq!(rt; held(office, 1), None);
     assert_eq!(rt; office.enabled(Rule::Start), false);
     assert_eq!(rt; office.plan().offices(), 2);
+}
+
+fn held(office: &Office, r: u16) -> Option<i64> {
+    office.held_value(RecordId::new(r)).map(|v| v.number)
+}
+
+fn tell_of_journal<R: Abort>(rt: &R, office: &Office) {
     let journal = office.journal();
     assert_eq!(rt; journal.len(), 3);
-    let tags = [0, 1, 2, 3].map(|i| journal.get(i).map(|entry| entry.tag));
-    assert_eq!(rt; tags, [Some(5), Some(5), Some(6), None]);
+    for (i, tag) in [Some(5), Some(5), Some(6), None].iter().enumerate() {
+        assert_eq!(rt; tag_of(journal.get(i)), *tag, "entry {i}");
+    }
+}
+
+fn tag_of(entry: Option<&Entry>) -> Option<u8> {
+    entry.map(|entry| entry.tag)
 }
 
 /// The bottle waits behind the fork.
 fn give_a_bottle<R: Abort>(rt: &R, office: &mut Office) {
-    let token = Event::Took(Frame::data(42, 1, 0, 2, 0, Msg::AskBottle(0)));
-    assert_eq!(rt; hand_in(office, 7, &token), Ok(Reply::Taken));
-    let give = Event::Do(Rule::GiveBottle(RecordId::new(0)));
-    assert_eq!(rt; hand_in(office, 7, &give), Ok(Reply::Done));
-    let waiting = [0, 1].map(|r| office
-        .waiting_value(RecordId::new(r))
-        .map(|(n, v)| (n, v.number)));
-    assert_eq!(rt; waiting, [Some((2, 100)), None]);
+    let token = Frame::data(42, 1, 0, 2, 0, Msg::AskBottle(0));
+    assert_eq!(rt; take(office, 7, token), Ok(Reply::Taken));
+    let give = Rule::GiveBottle(RecordId::new(0));
+    assert_eq!(rt; act(office, 7, give), Ok(Reply::Done));
+    assert_eq!(rt; leaves(office, 0), Some((2, 100)));
+    assert_eq!(rt; leaves(office, 1), None);
+}
+
+/// The number of the message that brings the bottle, and its value.
+fn leaves(office: &Office, r: u16) -> Option<(u64, i64)> {
+    let (number, value) = office.waiting_value(RecordId::new(r))?;
+    Some((number, value.number))
 }
 
 /// A fork is kept though the office has it; by its turn it would be a breach, and is thrown out.
 #[test]
 fn a_fork_that_was_kept_is_thrown_out(rt: HostRuntime) -> Result<(), Fail> {
-    let alloc = rt.alloc();
-    let plan = Plan::read(alloc, PAIR.as_bytes())?;
-    let mut offices = opened(alloc, &plan)?;
+    let mut offices = offices(rt.alloc(), PAIR)?;
+    throws_out(&rt, &mut offices)
+}
+
+fn throws_out<R: Abort>(rt: &R, offices: &mut Vec<Office>) -> Result<(), Fail> {
     let Some(office) = offices.get_mut(A) else {
         return Err(Fail::from("an office"));
     };
-    let fork = Event::Took(Frame::data(42, 1, 0, 2, 0, Msg::Fork));
-    let token = Event::Took(Frame::data(42, 1, 0, 1, 0, Msg::AskFork));
-    assert_eq!(rt; hand_in(office, 0, &fork), Ok(Reply::Kept));
-    assert_eq!(rt; hand_in(office, 0, &token), Ok(Reply::Taken));
+    let fork = Frame::data(42, 1, 0, 2, 0, Msg::Fork);
+    let token = Frame::data(42, 1, 0, 1, 0, Msg::AskFork);
+    assert_eq!(rt; take(office, 0, fork), Ok(Reply::Kept));
+    assert_eq!(rt; take(office, 0, token), Ok(Reply::Taken));
     assert_eq!(rt; office.taken(OfficeId::new(1)), Some(1));
     let refused = Err(Refusal::Channel(ChannelFault::Breach));
-    assert_eq!(rt; hand_in(office, 0, &fork), refused);
+    assert_eq!(rt; take(office, 0, fork), refused);
     Ok(())
 }

@@ -72,15 +72,25 @@ fn last(desk: &Desk, passes: &mut Vec<Pass<Office>>) -> Option<Pass<Office>>
     passes.pop()
 }
 
-/// An office of the plan with its pump.
-fn open_side(alloc: Global, me: u8) -> Result<Side, Fail> {
+/// An office of the plan with its pump, in a box: who owns so many fields and leaves early is long to prove.
+fn open_side(alloc: Global, me: u8) -> Result<Box<Side>, Fail> {
     let office = office(alloc, me)?;
     let pump = pump_of(alloc, &office)?;
+    side_of(alloc, office, pump)
+}
+
+fn side_of(alloc: Global, office: Office, pump: Pump) -> Result<Box<Side>, Fail>
+    requires { (office.plan, office.me) ≡ pump.key }
+{
     let (desk, mut passes) = opened(alloc, office)?;
     match last(&desk, &mut passes) {
-        Some(pass) => Ok(Side { desk, pass, pump }),
+        Some(pass) => boxed(alloc, Side { desk, pass, pump }),
         None => Err(Fail::from("a pass")),
     }
+}
+
+fn boxed(alloc: Global, side: Side) -> Result<Box<Side>, Fail> {
+    Ok(Box::new(alloc, side)?)
 }
 
 /// The sessions of the plan's offices.
@@ -123,7 +133,9 @@ fn carry(from: &MemoryWire, carried: &mut usize, to: &mut MemoryWire) -> Result<
     Ok(())
 }
 
-fn did(taken: u32, refused: u32, rules: u32, sent: u32) -> Result<Turn, PumpFault> {
+/// A turn that took and refused so many frames, did so many rules and sent so many datagrams.
+fn did(counts: [u32; 4]) -> Result<Turn, PumpFault> {
+    let [taken, refused, rules, sent] = counts;
     Ok(Turn {
         taken,
         refused,
@@ -135,25 +147,29 @@ fn did(taken: u32, refused: u32, rules: u32, sent: u32) -> Result<Turn, PumpFaul
 /// Both offices, with a wire each; what one sends comes to the other.
 #[derive(Drop)]
 struct Both {
-    a: Side,
-    b: Side,
+    a: Box<Side>,
+    b: Box<Side>,
     wire_a: MemoryWire,
     wire_b: MemoryWire,
     from_a: usize,
     from_b: usize,
 }
 
-fn open_both(alloc: Global) -> Result<Both, Fail> {
+fn open_both(alloc: Global) -> Result<Box<Both>, Fail> {
     let a = open_side(alloc, 0)?;
     let b = open_side(alloc, 1)?;
-    Ok(Both {
+    Ok(Box::new(alloc, linked(alloc, a, b))?)
+}
+
+fn linked(alloc: Global, a: Box<Side>, b: Box<Side>) -> Both {
+    Both {
         a,
         b,
         wire_a: MemoryWire::new(alloc),
         wire_b: MemoryWire::new(alloc),
         from_a: 0,
         from_b: 0,
-    })
+    }
 }
 
 impl Both {
@@ -165,11 +181,59 @@ impl Both {
         turn(rt, &mut self.b, &mut self.wire_b, now)
     }
 
+    fn turn_of<R: Wait>(&mut self, rt: &R, who: Who, now: u64) -> Result<Turn, PumpFault> {
+        match who {
+            Who::A => self.turn_a(rt, now),
+            Who::B => self.turn_b(rt, now),
+        }
+    }
+
     /// What went out comes to the other.
     fn carry(&mut self) -> Result<(), Fail> {
         carry(&self.wire_a, &mut self.from_a, &mut self.wire_b)?;
         carry(&self.wire_b, &mut self.from_b, &mut self.wire_a)
     }
+}
+
+#[derive(Clone, Copy)]
+enum Who {
+    A,
+    B,
+}
+
+/// Whose turn it is, at what time, what it does, and whether what went out then comes to the other.
+struct Turned(Who, u64, [u32; 4], bool);
+
+static FETCHES: [Turned; 3] = [
+    Turned(Who::A, 0, [0, 0, 4, 1], true),
+    Turned(Who::B, 0, [1, 0, 1, 1], true),
+    Turned(Who::A, 0, [1, 0, 4, 1], true),
+];
+
+static RESTS: [Turned; 3] = [
+    Turned(Who::B, 0, [1, 0, 0, 0], false),
+    Turned(Who::A, 1000, [0, 0, 0, 0], false),
+    Turned(Who::B, 1000, [0, 0, 0, 0], false),
+];
+
+static SENDS_AGAIN: [Turned; 7] = [
+    Turned(Who::A, 7, [0, 0, 4, 1], false),
+    Turned(Who::A, 56, [0, 0, 0, 0], false),
+    Turned(Who::A, 57, [0, 0, 0, 1], true),
+    Turned(Who::B, 57, [2, 0, 1, 1], false),
+    Turned(Who::A, 107, [0, 0, 0, 1], true),
+    Turned(Who::B, 60, [1, 0, 0, 1], true),
+    Turned(Who::A, 107, [2, 0, 4, 1], false),
+];
+
+fn take_turns<R: Wait + Abort>(rt: &R, both: &mut Both, turns: &[Turned]) -> Result<(), Fail> {
+    for (i, Turned(who, now, counts, comes)) in turns.iter().enumerate() {
+        assert_eq!(rt; both.turn_of(rt, *who, *now), did(*counts), "turn {i}");
+        if *comes {
+            both.carry()?;
+        }
+    }
+    Ok(())
 }
 
 /// A session fetches a bottle: what is queued in a turn goes out in it; who sent a message and gets none gets a count, and who
@@ -186,17 +250,9 @@ fn crosses<R: Wait + Abort>(rt: &R, both: &mut Both, programs: &[Program]) -> Re
         return Err(Fail::from("a session"));
     };
     assert_eq!(rt; submit(rt, &mut both.a, program), Some(1));
-    assert_eq!(rt; both.turn_a(rt, 0), did(0, 0, 4, 1));
-    both.carry()?;
-    assert_eq!(rt; both.turn_b(rt, 0), did(1, 0, 1, 1));
-    both.carry()?;
-    assert_eq!(rt; both.turn_a(rt, 0), did(1, 0, 4, 1));
-    both.carry()?;
+    take_turns(rt, both, &FETCHES)?;
     assert_eq!(rt; value_after(rt, &mut both.a, 1), Some(70));
-    assert_eq!(rt; both.turn_b(rt, 0), did(1, 0, 0, 0));
-    assert_eq!(rt; both.turn_a(rt, 1000), did(0, 0, 0, 0));
-    assert_eq!(rt; both.turn_b(rt, 1000), did(0, 0, 0, 0));
-    Ok(())
+    take_turns(rt, both, &RESTS)
 }
 
 /// A message that isn't answered goes out again after 50 milliseconds, and not before; one that comes twice is answered by a
@@ -217,16 +273,7 @@ fn goes_out_again<R: Wait + Abort>(
         return Err(Fail::from("a session"));
     };
     assert_eq!(rt; submit(rt, &mut both.a, program), Some(1));
-    assert_eq!(rt; both.turn_a(rt, 7), did(0, 0, 4, 1));
-    assert_eq!(rt; both.turn_a(rt, 56), did(0, 0, 0, 0));
-    assert_eq!(rt; both.turn_a(rt, 57), did(0, 0, 0, 1));
-    both.carry()?;
-    assert_eq!(rt; both.turn_b(rt, 57), did(2, 0, 1, 1));
-    assert_eq!(rt; both.turn_a(rt, 107), did(0, 0, 0, 1));
-    both.carry()?;
-    assert_eq!(rt; both.turn_b(rt, 60), did(1, 0, 0, 1));
-    both.carry()?;
-    assert_eq!(rt; both.turn_a(rt, 107), did(2, 0, 4, 1));
+    take_turns(rt, both, &SENDS_AGAIN)?;
     assert_eq!(rt; value_after(rt, &mut both.a, 1), Some(70));
     Ok(())
 }
@@ -242,9 +289,9 @@ fn stays<R: Wait + Abort>(rt: &R, both: &mut Both) -> Result<(), Fail> {
     for _ in 0..33 {
         both.wire_a.comes(b"no frame")?;
     }
-    assert_eq!(rt; both.turn_a(rt, 0), did(0, 32, 0, 0));
-    assert_eq!(rt; both.turn_a(rt, 0), did(0, 1, 0, 0));
-    assert_eq!(rt; both.turn_a(rt, 0), did(0, 0, 0, 0));
+    assert_eq!(rt; both.turn_a(rt, 0), did([0, 32, 0, 0]));
+    assert_eq!(rt; both.turn_a(rt, 0), did([0, 1, 0, 0]));
+    assert_eq!(rt; both.turn_a(rt, 0), did([0, 0, 0, 0]));
     Ok(())
 }
 
@@ -332,15 +379,27 @@ fn many_cross<R: Wait + Abort>(rt: &R, both: &mut Both, programs: &[Program]) ->
         return Err(Fail::from("sessions"));
     };
     for ticket in 1..252u32 {
-        assert_eq!(rt; submit(rt, &mut both.a, first), Some(ticket));
-        round(rt, both)?;
-        assert_eq!(rt; value_after(rt, &mut both.a, ticket), Some(70));
-        assert_eq!(rt; submit(rt, &mut both.b, second), Some(ticket));
-        round(rt, both)?;
-        assert_eq!(rt; value_after(rt, &mut both.b, ticket), Some(100));
+        cross_both(rt, both, first, second, ticket)?;
     }
     assert_eq!(rt; messages(&both.wire_a), 1504);
     assert_eq!(rt; messages(&both.wire_b), 1504);
+    Ok(())
+}
+
+/// A session of each office, one after the other.
+fn cross_both<R: Wait + Abort>(
+    rt: &R,
+    both: &mut Both,
+    first: &Program,
+    second: &Program,
+    ticket: u32,
+) -> Result<(), Fail> {
+    assert_eq!(rt; submit(rt, &mut both.a, first), Some(ticket));
+    round(rt, both)?;
+    assert_eq!(rt; value_after(rt, &mut both.a, ticket), Some(70));
+    assert_eq!(rt; submit(rt, &mut both.b, second), Some(ticket));
+    round(rt, both)?;
+    assert_eq!(rt; value_after(rt, &mut both.b, ticket), Some(100));
     Ok(())
 }
 

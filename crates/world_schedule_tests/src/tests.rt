@@ -3,7 +3,7 @@
 use frame_codec::{Frame, MAX_LENGTH, encode};
 use frame_world::{NextStep, WorldEvent, WorldRefusal};
 use office_map::{OfficeId, Plan, RecordId};
-use session_language::{Outcome, Program, read_sessions};
+use session_language::{Outcome, Program, RecordValues, read_sessions};
 use site_core::{Reply, Rule};
 use std::alloc::{AllocError, Global};
 use std::fmt::Write;
@@ -234,25 +234,51 @@ fn worlds_do_as_the_rows_say(rt: HostRuntime) -> Result<(), Fail> {
 
 /// What a world answers to these steps, and what it tells then.
 fn played(alloc: Global, plan: &str, sessions: &str, steps: &[Step]) -> Result<String, Fail> {
+    let mut world = opened(alloc, plan)?;
+    played_in(alloc, &mut world, sessions, steps)
+}
+
+/// The world of a plan.
+fn opened(alloc: Global, plan: &str) -> Result<World, Fail> {
     let plan = Plan::read(alloc, plan.as_bytes())?;
-    let programs = read_sessions(alloc, sessions.as_bytes(), &plan)?;
+    Ok(World::open(alloc, plan)?)
+}
+
+fn played_in(
+    alloc: Global,
+    world: &mut World,
+    sessions: &str,
+    steps: &[Step],
+) -> Result<String, Fail> {
+    let programs = programs_of(alloc, world.plan(), sessions)?;
     let events = events_of(alloc, &programs, steps)?;
-    let mut world = World::open(alloc, plan)?;
-    told_by(alloc, &mut world, &events)
+    told_by(alloc, world, &events)
+}
+
+fn programs_of(alloc: Global, plan: &Plan, sessions: &str) -> Result<Vec<Program>, Fail> {
+    Ok(read_sessions(alloc, sessions.as_bytes(), plan)?)
 }
 
 /// The events are run, and what the world tells then.
 fn told_by(alloc: Global, world: &mut World, events: &[WorldEvent]) -> Result<String, Fail> {
     let mut text = String::new(alloc);
+    run(&mut text, world, events)?;
+    tell_end(&mut text, world)?;
+    Ok(text)
+}
+
+fn run(text: &mut String, world: &mut World, events: &[WorldEvent]) -> Result<(), Fail> {
     match world.run(events) {
-        Ok(replies) => tell(&mut text, &replies)?,
-        Err(_) => return Err(Fail::from("the run stopped")),
+        Ok(replies) => Ok(tell(text, &replies)?),
+        Err(_) => Err(Fail::from("the run stopped")),
     }
-    tell_outcomes(&mut text, world)?;
+}
+
+fn tell_end(text: &mut String, world: &World) -> Result<(), AllocError> {
+    tell_outcomes(text, world)?;
     let unfinished = world.unfinished();
     write!(text, "unfinished {unfinished}; ")?;
-    tell_values(&mut text, world)?;
-    Ok(text)
+    tell_values(text, world)
 }
 
 fn events_of(
@@ -305,32 +331,35 @@ fn rule_of(what: What, n: u16) -> Option<Rule> {
     }
 }
 
-fn tell(text: &mut String, replies: &[Result<Reply, WorldRefusal>]) -> Result<(), Fail> {
+fn tell(text: &mut String, replies: &[Result<Reply, WorldRefusal>]) -> Result<(), AllocError> {
     for reply in replies {
-        match reply {
-            Ok(Reply::Ticket(ticket)) => write!(text, "ticket {ticket}; ")?,
-            Ok(Reply::Done) => text.push_str("done; ")?,
-            Ok(Reply::Frame(frame)) => tell_frame(text, frame)?,
-            Ok(Reply::Acked) => text.push_str("acked; ")?,
-            Ok(Reply::Taken) => text.push_str("taken; ")?,
-            Ok(Reply::Repeat) => text.push_str("repeat; ")?,
-            Ok(Reply::Kept) => text.push_str("kept; ")?,
-            Ok(Reply::Early) => text.push_str("early; ")?,
-            Err(refusal) => write!(text, "refused {refusal}; ")?,
-        }
+        tell_reply(text, reply)?;
     }
     Ok(())
 }
 
-fn tell_frame(text: &mut String, frame: &Frame) -> Result<(), Fail> {
+fn tell_reply(text: &mut String, reply: &Result<Reply, WorldRefusal>) -> Result<(), AllocError> {
+    match reply {
+        Ok(Reply::Ticket(ticket)) => write!(text, "ticket {ticket}; "),
+        Ok(Reply::Done) => text.push_str("done; "),
+        Ok(Reply::Frame(frame)) => tell_frame(text, frame),
+        Ok(Reply::Acked) => text.push_str("acked; "),
+        Ok(Reply::Taken) => text.push_str("taken; "),
+        Ok(Reply::Repeat) => text.push_str("repeat; "),
+        Ok(Reply::Kept) => text.push_str("kept; "),
+        Ok(Reply::Early) => text.push_str("early; "),
+        Err(refusal) => write!(text, "refused {refusal}; "),
+    }
+}
+
+fn tell_frame(text: &mut String, frame: &Frame) -> Result<(), AllocError> {
     let mut bytes = [0; MAX_LENGTH];
     let length = encode(frame, &mut bytes);
     text.push_str("frame ")?;
     for byte in &bytes[..length] {
         write!(text, "{byte:02x}")?;
     }
-    text.push_str("; ")?;
-    Ok(())
+    text.push_str("; ")
 }
 
 /// How the finished sessions ended, in finishing order.
@@ -362,13 +391,9 @@ fn describe(text: &mut String, outcome: &Outcome) -> Result<(), AllocError> {
 fn describe_ending(text: &mut String, outcome: &Outcome) -> Result<(), AllocError> {
     let end = outcome.ending.end;
     write!(text, " {end:?} reads")?;
-    for (r, value) in outcome.ending.reads.as_slice() {
-        write!(text, " {}={}", r.number(), value.number)?;
-    }
+    describe_values(text, &outcome.ending.reads)?;
     text.push_str(" writes")?;
-    for (r, value) in outcome.ending.writes.as_slice() {
-        write!(text, " {}={}", r.number(), value.number)?;
-    }
+    describe_values(text, &outcome.ending.writes)?;
     text.push_str(" gives")?;
     for value in outcome.ending.gives.as_slice() {
         write!(text, " {}", value.number)?;
@@ -376,23 +401,35 @@ fn describe_ending(text: &mut String, outcome: &Outcome) -> Result<(), AllocErro
     text.push_str("; ")
 }
 
-/// What the first row's world tells beside that.
-#[test]
-fn a_world_tells_where_it_is(rt: HostRuntime) -> Result<(), Fail> {
-    let alloc = rt.alloc();
-    let plan = Plan::read(alloc, PAIR.as_bytes())?;
-    let programs = read_sessions(alloc, MOVE.as_bytes(), &plan)?;
-    let events = events_of(alloc, &programs, ROWS[0].2)?;
-    let mut world = World::open(alloc, plan)?;
-    told_by(alloc, &mut world, &events)?;
-    tell_all(&rt, &world);
+fn describe_values(text: &mut String, values: &RecordValues) -> Result<(), AllocError> {
+    for (r, value) in values.as_slice() {
+        write!(text, " {}={}", r.number(), value.number)?;
+    }
     Ok(())
 }
 
-fn tell_all<R: Abort>(rt: &R, world: &World) {
+/// What the first row's world tells beside that.
+#[test]
+fn a_world_tells_where_it_is(rt: HostRuntime) -> Result<(), Fail> {
+    let mut world = opened(rt.alloc(), PAIR)?;
+    played_in(rt.alloc(), &mut world, MOVE, ROWS[0].2)?;
+    tells_all(&rt, &world);
+    Ok(())
+}
+
+fn tells_all<R: Abort>(rt: &R, world: &World) {
+    tells_frames(rt, world);
+    tells_offices(rt, world);
+    tells_finished(rt, world);
+}
+
+fn tells_frames<R: Abort>(rt: &R, world: &World) {
     assert_eq!(rt; world.frames(), 2);
     let numbers = [0, 1, 2, 3].map(|k| world.frame(k).map(|frame| (frame.from(), frame.number())));
     assert_eq!(rt; numbers, [None, Some((0, 1)), Some((1, 1)), None]);
+}
+
+fn tells_offices<R: Abort>(rt: &R, world: &World) {
     assert_eq!(rt; world.offices().len(), 2);
     for a in 0..world.plan().offices() {
         let id = OfficeId::new(a as u8);
@@ -400,9 +437,11 @@ fn tell_all<R: Abort>(rt: &R, world: &World) {
         assert_eq!(rt; world.journal(id).len(), entries);
         assert_eq!(rt; world.office(id).number(), id);
     }
-    let a = OfficeId::new(A);
+}
+
+fn tells_finished<R: Abort>(rt: &R, world: &World) {
     let first = Finished {
-        office: a,
+        office: OfficeId::new(A),
         ticket: 1,
     };
     assert_eq!(rt; world.finished().len(), 1);
@@ -438,17 +477,32 @@ fn settled<R: Abort>(rt: &R, world: &mut World) -> usize {
 /// A session that moves an amount takes ten steps: four rules until it asks, and six from there on.
 #[test]
 fn a_world_goes_on_until_no_session_is_left(rt: HostRuntime) -> Result<(), Fail> {
-    let alloc = rt.alloc();
-    let plan = Plan::read(alloc, PAIR.as_bytes())?;
-    let programs = read_sessions(alloc, MOVE.as_bytes(), &plan)?;
+    let mut world = opened(rt.alloc(), PAIR)?;
+    let programs = programs_of(rt.alloc(), world.plan(), MOVE)?;
+    goes_on_to_the_end(&rt, &mut world, &programs);
+    Ok(())
+}
+
+fn goes_on_to_the_end<R: Abort>(rt: &R, world: &mut World, programs: &[Program]) {
     let a = OfficeId::new(A);
     let b = OfficeId::new(B);
-    let mut world = World::open(alloc, plan)?;
     assert!(rt; world.next_step() == NextStep::AllFinished);
-    for program in programs.as_slice() {
+    submits(rt, world, a, programs);
+    assert!(rt; world.next_step() == NextStep::Rule(a, Rule::Start));
+    acts_until_it_asks(rt, world, a);
+    assert!(rt; world.next_step() == NextStep::Message(a, b, 1));
+    assert_eq!(rt; settled(rt, world), 6);
+    assert_eq!(rt; world.finished().len(), 1);
+    assert_eq!(rt; world.unfinished(), 0);
+}
+
+fn submits<R: Abort>(rt: &R, world: &mut World, a: OfficeId, programs: &[Program]) {
+    for program in programs {
         assert!(rt; world.submit(a, program) == Ok(Reply::Ticket(1)));
     }
-    assert!(rt; world.next_step() == NextStep::Rule(a, Rule::Start));
+}
+
+fn acts_until_it_asks<R: Abort>(rt: &R, world: &mut World, a: OfficeId) {
     for rule in [
         Rule::Start,
         Rule::Hungry,
@@ -457,9 +511,4 @@ fn a_world_goes_on_until_no_session_is_left(rt: HostRuntime) -> Result<(), Fail>
     ] {
         assert!(rt; world.act(a, &rule) == Ok(Reply::Done));
     }
-    assert!(rt; world.next_step() == NextStep::Message(a, b, 1));
-    assert_eq!(rt; settled(&rt, &mut world), 6);
-    assert_eq!(rt; world.finished().len(), 1);
-    assert_eq!(rt; world.unfinished(), 0);
-    Ok(())
 }

@@ -8,9 +8,9 @@ use std::process::Abort;
 
 /// Takes one byte at a time. It fails once so many writes are done.
 #[derive(Drop)]
-struct Narrow {
-    taken: Vec<u8>,
-    writes: usize,
+pub struct Narrow {
+    pub taken: Vec<u8>,
+    pub writes: usize,
 }
 
 impl Write for Narrow {

@@ -5,6 +5,7 @@ use drink_commands::exit::Exit;
 use drink_commands::program::answer;
 use drink_commands::telling::Telling;
 use office_runs::{Around, Binds, Gate, Open, Progress, Quiet, UdpSockets, Watch};
+use output_files::InMemory;
 use std::alloc::Global;
 use std::io::ErrorKind;
 use std::process::Abort;
@@ -48,7 +49,15 @@ where
 {
     let words = strings(rt.alloc(), words)?;
     let mut out = Vec::new(rt.alloc());
-    let exit = answer(rt, rt.alloc(), words.as_slice(), memory, around, &mut out);
+    let exit = answer(
+        rt,
+        rt.alloc(),
+        words.as_slice(),
+        memory,
+        around,
+        &mut InMemory::new(rt.alloc()),
+        &mut out,
+    );
     let (status, printed, said) = expected;
     assert_eq!(rt; exit.said.text(), said);
     assert_eq!(rt; out.as_slice(), printed.as_bytes());
@@ -291,6 +300,7 @@ fn live_finishes_three_sessions(rt: HostRuntime) -> Result<(), Fail> {
         words.as_slice(),
         &memory,
         &around,
+        &mut InMemory::new(rt.alloc()),
         &mut out,
     );
     assert_eq!(rt; exit.said.text(), "");

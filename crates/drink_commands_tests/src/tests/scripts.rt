@@ -4,6 +4,7 @@ use crate::tests::{MOVE, Memory, PLAN, why};
 use drink_commands::commands::{serial, sim};
 use drink_commands::fault::{Fault, Why};
 use drink_commands::input::Input;
+use output_files::InMemory;
 use script_runs::ScriptRefusal;
 use std::alloc::{AllocError, Global};
 use std::io;
@@ -142,7 +143,16 @@ static ROWS: [(&str, &str, &str, &str); 16] = [
 fn ran(alloc: Global, plan: &str, sessions: &str, script: &str) -> (Result<u8, Fault>, Vec<u8>) {
     let mut out = Vec::new(alloc);
     let memory = Memory::new(plan, sessions, script);
-    let result = sim::run(alloc, &memory, "p", "s", "c", &mut out);
+    let result = sim::run(
+        alloc,
+        &memory,
+        "p",
+        "s",
+        "c",
+        None,
+        &mut InMemory::new(alloc),
+        &mut out,
+    );
     (result, out)
 }
 
@@ -447,7 +457,16 @@ fn a_script_has_a_longest_text(rt: HostRuntime) {
     let alloc = rt.alloc();
     let mut out = Vec::new(alloc);
     let memory = Memory::new(PLAN, MOVE, "");
-    let result = sim::run(alloc, &memory, "p", "s", "endless", &mut out);
+    let result = sim::run(
+        alloc,
+        &memory,
+        "p",
+        "s",
+        "endless",
+        None,
+        &mut InMemory::new(alloc),
+        &mut out,
+    );
     assert_eq!(rt; why(result), Some(Why::Script(ScriptRefusal { line: 0 })));
     assert_eq!(rt; out.len(), 0);
 }
@@ -456,11 +475,32 @@ fn a_script_has_a_longest_text(rt: HostRuntime) {
 fn refused_sessions_leave_the_script_unread(rt: HostRuntime) {
     let memory = Memory::new(PLAN, "session c", "submit 1\n");
     let mut out = Vec::new(rt.alloc());
-    let result = sim::run(rt.alloc(), &memory, "p", "s", "missing", &mut out);
+    let mut files = InMemory::new(rt.alloc());
+    let result = sim::run(
+        rt.alloc(),
+        &memory,
+        "p",
+        "s",
+        "missing",
+        Some("d"),
+        &mut files,
+        &mut out,
+    );
     assert!(rt; matches!(why(result), Some(Why::Sessions(_))));
     let memory = Memory::new(PLAN, MOVE, "submit 1\n");
-    let result = sim::run(rt.alloc(), &memory, "p", "s", "missing", &mut out);
+    let result = sim::run(
+        rt.alloc(),
+        &memory,
+        "p",
+        "s",
+        "missing",
+        Some("d"),
+        &mut files,
+        &mut out,
+    );
     let failed = Fault::ReadFailed(Input::Script, io::ErrorKind::NotFound);
     assert_eq!(rt; result, Err(failed));
     assert_eq!(rt; out.len(), 0);
+    assert_eq!(rt; files.files().len(), 0);
+    assert_eq!(rt; files.folders().len(), 0);
 }

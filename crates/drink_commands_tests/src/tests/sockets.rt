@@ -5,6 +5,7 @@ use drink_commands::exit::Exit;
 use drink_commands::program::answer;
 use office_map::OfficeId;
 use office_runs::{Around, Binds, Gate, Open, Quiet, Socket, Wakes};
+use output_files::InMemory;
 use socket_pump::{MemoryWire, Wire, WireFailed};
 use std::alloc::Global;
 use std::io;
@@ -117,5 +118,13 @@ pub fn answered<W: Write>(
         gate: &Open,
         watch: &Quiet,
     };
-    answer(rt, rt.alloc(), words, memory, &around, out)
+    answer(
+        rt,
+        rt.alloc(),
+        words,
+        memory,
+        &around,
+        &mut InMemory::new(rt.alloc()),
+        out,
+    )
 }

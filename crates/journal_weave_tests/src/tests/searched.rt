@@ -10,6 +10,7 @@ use rand_core::utils::NextWord;
 use rand_pcg::Pcg64;
 use site_core::{Entry, Event, Reply};
 use std::alloc::{AllocError, Global};
+use std::process::Abort;
 use std::test::Fail;
 use world_schedule::World;
 
@@ -24,13 +25,7 @@ fn short_journals_weave_as_a_search_finds(rt: HostRuntime) -> Result<(), Fail> {
     let mut unwoven = 0u64;
     for (offices, most, lists) in &SHORT {
         for seed in 0..*lists {
-            let pair = told_and_found(rt.alloc(), *offices, *most, seed)?;
-            assert_eq!(rt;
-                pair.told.as_str(),
-                pair.found.as_str(),
-                "{offices} of {seed}"
-            );
-            if pair.found.as_str().starts_with("woven") {
+            if weaves_as_found(&rt, rt.alloc(), *offices, *most, seed)? {
                 woven = woven.saturating_add(1);
             } else {
                 unwoven = unwoven.saturating_add(1);
@@ -40,6 +35,23 @@ fn short_journals_weave_as_a_search_finds(rt: HostRuntime) -> Result<(), Fail> {
     assert!(rt; woven > 20, "{woven}");
     assert!(rt; unwoven > 60, "{unwoven}");
     Ok(())
+}
+
+/// Whether journals weave, which they do as a search finds.
+fn weaves_as_found(
+    rt: &impl Abort,
+    alloc: Global,
+    offices: u8,
+    most: usize,
+    seed: u64,
+) -> Result<bool, Fail> {
+    let pair = told_and_found(alloc, offices, most, seed)?;
+    assert_eq!(rt;
+        pair.told.as_str(),
+        pair.found.as_str(),
+        "{offices} of {seed}"
+    );
+    Ok(pair.found.as_str().starts_with("woven"))
 }
 
 /// What is told of journals, and what a search finds.
@@ -218,12 +230,27 @@ impl Search {
         journals: &[GivenJournal],
     ) -> Result<(), Fail> {
         for _ in 0..1_000_000 {
-            let Some(order) = self.orders.pop() else {
+            if !self.lengthen_last(alloc, plan, journals)? {
                 return Ok(());
-            };
-            self.lengthen(alloc, plan, journals, &order)?;
+            }
         }
         Err(Fail::from("too many orders"))
+    }
+
+    /// The last of the orders goes on. Whether there was one.
+    fn lengthen_last(
+        &mut self,
+        alloc: Global,
+        plan: &[u8],
+        journals: &[GivenJournal],
+    ) -> Result<bool, Fail> {
+        match self.orders.pop() {
+            Some(order) => {
+                self.lengthen(alloc, plan, journals, &order)?;
+                Ok(true)
+            }
+            None => Ok(false),
+        }
     }
 
     /// The order with each office once more.

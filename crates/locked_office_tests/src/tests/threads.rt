@@ -4,7 +4,7 @@ ghost use Rattle.std.specs.Prelude.{◌≡◌, ◌<◌, false, length, IfOk, IfS
 ghost use Rattle.std.specs.List.{All};
 ghost use Rattle.own_lock.specs.Passes.{IsOf, AreIdle};
 
-use super::{PAIR, advance, ended, journal_part, opened, send, submit, took};
+use super::{PAIR, advance, ended, entries_after, journal_part, opened, send, submit, took};
 use locked_office::Desk;
 use locked_office::laws::threads_share_a_desk;
 use office_map::Plan;
@@ -238,7 +238,7 @@ fn shared<R: Threads + Wait + Sync>(
 ) -> Result<Course, Fail> {
     let (desk, passes) = opened(alloc, plan, 4)?;
     match together(rt, alloc, &desk, passes, job) {
-        Some((pass, course)) => whole(entries_at(desk.close(pass)), course),
+        Some((pass, course)) => whole(entries_after(desk, pass).unwrap_or(0), course),
         None => Err(Fail::from("four passes")),
     }
 }
@@ -280,14 +280,6 @@ fn course_of<R: Wait>(
     Ok((part, told))
 }
 
-/// How many entries an office has; none where there is no office.
-fn entries_at(office: Option<Office>) -> usize {
-    match office {
-        Some(office) => office.journal().len(),
-        None => 0,
-    }
-}
-
 /// What came, where it has all entries.
 fn whole(entries: usize, course: Result<Course, AllocError>) -> Result<Course, Fail> {
     let course = course?;
@@ -300,16 +292,19 @@ fn whole(entries: usize, course: Result<Course, AllocError>) -> Result<Course, F
 /// Ten of the four threads' forty sessions are of each, and each has a ticket of its own.
 #[test]
 fn four_threads_submit_ten_sessions_each(rt: HostRuntime) -> Result<(), Fail> {
-    let (part, told) = shared(&rt, rt.alloc(), ALONE, Job::Submit(10))?;
-    assert_eq!(rt; part.len(), 40);
-    assert!(rt; are_told(rt.alloc(), &part, &told, 10)?);
+    let course = shared(&rt, rt.alloc(), ALONE, Job::Submit(10))?;
+    assert!(rt; is_whole(rt.alloc(), &course, 40, 10)?);
+    assert!(rt; each_is_told_once(&course.1));
+    Ok(())
+}
+
+/// Whether each of the tickets 1 to 40 was told once, and no other one.
+fn each_is_told_once(told: &[Vec<Told>]) -> bool {
     let mut tickets = [0u32; 41];
-    for list in &told {
+    for list in told {
         count_tickets(&mut tickets, list);
     }
-    assert_eq!(rt; tickets[0], 0);
-    assert!(rt; tickets[1..].iter().all(|n| *n == 1));
-    Ok(())
+    tickets[0] == 0 && tickets[1..].iter().all(|n| *n == 1)
 }
 
 fn count_tickets(counts: &mut [u32; 41], told: &[Told]) {
@@ -318,6 +313,17 @@ fn count_tickets(counts: &mut [u32; 41], told: &[Told]) {
             *count = count.saturating_add(1);
         }
     }
+}
+
+/// Whether there are so many entries, and each thread was told so often what they say.
+fn is_whole(
+    alloc: Global,
+    course: &Course,
+    entries: usize,
+    times: usize,
+) -> Result<bool, AllocError> {
+    let (part, told) = course;
+    Ok(part.len() == entries && are_told(alloc, part, told, times)?)
 }
 
 /// Whether there are four threads, each was told so often, and the entries of its tag are what it was told, in its order.
@@ -338,8 +344,7 @@ fn are_told(
 /// 200,000 calls of four threads. A session is submitted and starts, drinks, works and finishes, and two frames go.
 #[test]
 fn four_threads_find_their_calls_in_the_journal(rt: HostRuntime) -> Result<(), Fail> {
-    let (part, told) = shared(&rt, rt.alloc(), PAIR, Job::Serve(10_000))?;
-    assert_eq!(rt; part.len(), 280_000);
-    assert!(rt; are_told(rt.alloc(), &part, &told, 10_000)?);
+    let course = shared(&rt, rt.alloc(), PAIR, Job::Serve(10_000))?;
+    assert!(rt; is_whole(rt.alloc(), &course, 280_000, 10_000)?);
     Ok(())
 }

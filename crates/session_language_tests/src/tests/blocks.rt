@@ -1,8 +1,9 @@
 //! Sessions with blocks.
 
-use super::refusals::fault;
-use super::texts;
+use super::refusals::{fault, is_said, is_said_of};
+use super::{is_printed_as, repeat};
 use std::alloc::{AllocError, Global};
+use std::process::Abort;
 use std::test::Fail;
 
 /// Texts of one session with blocks, each with its canonical text.
@@ -92,10 +93,8 @@ static LINES: [(&str, &str); 53] = [
 #[test]
 fn canonical_texts_with_blocks_are_read_again(rt: HostRuntime) -> Result<(), Fail> {
     for (source, canonical) in &TEXTS {
-        let printed = texts(rt.alloc(), source)?;
-        assert_eq!(rt; printed.as_str(), *canonical, "of {source:?}");
-        let again = texts(rt.alloc(), canonical)?;
-        assert_eq!(rt; again.as_str(), *canonical);
+        is_printed_as(&rt, rt.alloc(), source, canonical)?;
+        is_printed_as(&rt, rt.alloc(), canonical, canonical)?;
     }
     Ok(())
 }
@@ -103,16 +102,26 @@ fn canonical_texts_with_blocks_are_read_again(rt: HostRuntime) -> Result<(), Fai
 #[test]
 fn faults_of_blocks_are_told(rt: HostRuntime) -> Result<(), Fail> {
     for (lines, expected) in &LINES {
-        let mut text = String::from_str(rt.alloc(), "session a\n")?;
-        for line in lines.split('|') {
-            text.push_str(line)?;
-            text.push('\n')?;
-        }
-        text.push_str("end\n")?;
-        let found = fault(rt.alloc(), text.as_bytes())?;
-        assert_eq!(rt; found.as_str(), *expected, "at {lines:?}");
+        let found = fault_of_lines(rt.alloc(), lines)?;
+        is_said(&rt, found.as_str(), expected, lines);
     }
     Ok(())
+}
+
+/// What is said of a session of these lines.
+fn fault_of_lines(alloc: Global, lines: &str) -> Result<String, Fail> {
+    let mut text = String::new(alloc);
+    add_session(&mut text, lines)?;
+    fault(alloc, text.as_bytes())
+}
+
+fn add_session(text: &mut String, lines: &str) -> Result<(), AllocError> {
+    text.push_str("session a\n")?;
+    for line in lines.split('|') {
+        text.push_str(line)?;
+        text.push('\n')?;
+    }
+    text.push_str("end\n")
 }
 
 /// What stands within eight blocks or nine, and what is said of it.
@@ -126,11 +135,16 @@ static NESTED: [(usize, &str, &str); 5] = [
 
 #[test]
 fn at_most_eight_blocks_stand_in_one_another(rt: HostRuntime) -> Result<(), Fail> {
-    for (first, second) in [("if 1 < 2\n", "repeat 1\n"), ("repeat 1\n", "if 1 < 2\n")] {
-        for (seconds, body, expected) in &NESTED {
-            let found = nested(rt.alloc(), first, 7, second, *seconds, body)?;
-            assert_eq!(rt; found.as_str(), *expected, "of {seconds} and {body:?}");
-        }
+    nest_so(&rt, rt.alloc(), "if 1 < 2\n", "repeat 1\n")?;
+    nest_so(&rt, rt.alloc(), "repeat 1\n", "if 1 < 2\n")?;
+    Ok(())
+}
+
+/// Seven blocks of one kind, and one or two of another within them.
+fn nest_so(rt: &impl Abort, alloc: Global, first: &str, second: &str) -> Result<(), Fail> {
+    for (seconds, body, expected) in &NESTED {
+        let found = nested(alloc, first, 7, second, *seconds, body)?;
+        is_said_of(rt, found.as_str(), expected, *seconds, body);
     }
     Ok(())
 }
@@ -153,11 +167,4 @@ fn nested(
     repeat(&mut text, "end\n", seconds)?;
     text.push_str("end\n")?;
     fault(alloc, text.as_bytes())
-}
-
-fn repeat(text: &mut String, part: &str, count: usize) -> Result<(), AllocError> {
-    for _ in 0..count {
-        text.push_str(part)?;
-    }
-    Ok(())
 }

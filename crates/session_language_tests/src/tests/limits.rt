@@ -1,14 +1,27 @@
 //! Sessions at their limits and one past them.
 
-use super::refusals::{fault, fault_under};
+use super::refusals::{fault, fault_under, is_said_of};
+use super::repeat;
 use office_map::Plan;
 use std::alloc::{AllocError, Global};
 use std::fmt::Write;
+use std::process::Abort;
 use std::test::Fail;
 
 /// What stands between `session a` and its `end`, in these parts: a beginning, a part and how often, a middle, another
 /// part and how often, and what is last. And what is said of it.
-static SESSIONS: [(&str, &str, usize, &str, &str, usize, &str, &str); 26] = [
+type Session = (
+    &'static str,
+    &'static str,
+    usize,
+    &'static str,
+    &'static str,
+    usize,
+    &'static str,
+    &'static str,
+);
+
+static SESSIONS: [Session; 26] = [
     // How deep an expression is.
     ("give ", "-", 31, "1", "", 0, "\n", "accepted"),
     ("give ", "-", 32, "1", "", 0, "\n", "2 TooDeep"),
@@ -96,22 +109,37 @@ const SUM: &str = "set x = read x + read y\n";
 
 #[test]
 fn sessions_are_read_up_to_their_limits(rt: HostRuntime) -> Result<(), Fail> {
-    for (front, first, firsts, middle, second, seconds, last, expected) in &SESSIONS {
-        let mut text = String::from_str(rt.alloc(), "session a\n")?;
-        text.push_str(front)?;
-        repeat(&mut text, first, *firsts)?;
-        text.push_str(middle)?;
-        repeat(&mut text, second, *seconds)?;
-        text.push_str(last)?;
-        text.push_str("end\n")?;
-        let found = fault(rt.alloc(), text.as_bytes())?;
-        assert_eq!(rt;
-            found.as_str(),
-            *expected,
-            "of {firsts} {first:?}, {seconds} {second:?}"
-        );
+    for session in &SESSIONS {
+        let found = fault_of_session(rt.alloc(), session)?;
+        session_is_said(&rt, session, found.as_str());
     }
     Ok(())
+}
+
+fn session_is_said(rt: &impl Abort, session: &Session, found: &str) {
+    let (_, first, firsts, _, second, seconds, _, expected) = session;
+    assert_eq!(rt;
+        found,
+        *expected,
+        "of {firsts} {first:?}, {seconds} {second:?}"
+    );
+}
+
+fn fault_of_session(alloc: Global, session: &Session) -> Result<String, Fail> {
+    let mut text = String::new(alloc);
+    add_session(&mut text, session)?;
+    fault(alloc, text.as_bytes())
+}
+
+fn add_session(text: &mut String, session: &Session) -> Result<(), AllocError> {
+    let (front, first, firsts, middle, second, seconds, last, _) = session;
+    text.push_str("session a\n")?;
+    text.push_str(front)?;
+    repeat(text, first, *firsts)?;
+    text.push_str(middle)?;
+    repeat(text, second, *seconds)?;
+    text.push_str(last)?;
+    text.push_str("end\n")
 }
 
 /// Texts, which begin so and then have a part so often, and what is said of them.
@@ -125,15 +153,19 @@ static TEXTS: [(&str, &str, usize, &str); 4] = [
 #[test]
 fn texts_are_read_up_to_their_limits(rt: HostRuntime) -> Result<(), Fail> {
     for (front, part, count, expected) in &TEXTS {
-        let mut text = String::from_str(rt.alloc(), front)?;
-        repeat(&mut text, part, *count)?;
-        let found = fault(rt.alloc(), text.as_bytes())?;
-        assert_eq!(rt; found.as_str(), *expected, "of {count} {part:?}");
+        let found = fault_of_repeated(rt.alloc(), front, part, *count)?;
+        is_said_of(&rt, found.as_str(), expected, *count, part);
     }
     Ok(())
 }
 
-/// A session with so many lines, each with its number between these two.
+fn fault_of_repeated(alloc: Global, front: &str, part: &str, count: usize) -> Result<String, Fail> {
+    let mut text = String::from_str(alloc, front)?;
+    repeat(&mut text, part, count)?;
+    fault(alloc, text.as_bytes())
+}
+
+/// The text of a session with so many lines, each with its number between these two.
 fn numbered(
     alloc: Global,
     front: &str,
@@ -149,38 +181,46 @@ fn numbered(
     Ok(text)
 }
 
+/// So many variables, and what is said of a session that has them.
+static VARIABLES: [(u32, &str); 2] = [(32, "accepted"), (33, "34 TooManyVariables")];
+
 #[test]
 fn sessions_have_at_most_32_variables(rt: HostRuntime) -> Result<(), Fail> {
-    for (count, expected) in [(32, "accepted"), (33, "34 TooManyVariables")] {
-        let text = numbered(rt.alloc(), "let v", count, " = 1\n", "let v0 = v1\nend\n")?;
-        let found = fault(rt.alloc(), text.as_bytes())?;
-        assert_eq!(rt; found.as_str(), expected);
+    for (count, expected) in &VARIABLES {
+        let found = fault_of_variables(rt.alloc(), *count)?;
+        is_said_of(&rt, found.as_str(), expected, *count as usize, "let");
     }
     Ok(())
 }
+
+/// What is said of a session of so many variables.
+fn fault_of_variables(alloc: Global, count: u32) -> Result<String, Fail> {
+    let text = numbered(alloc, "let v", count, " = 1\n", "let v0 = v1\nend\n")?;
+    fault(alloc, text.as_bytes())
+}
+
+/// So many records, and what is said of a session that needs them.
+static RECORDS: [(u32, &str); 2] = [(16, "accepted"), (17, "18 TooManyRecords")];
 
 #[test]
 fn sessions_need_at_most_16_records(rt: HostRuntime) -> Result<(), Fail> {
-    for (count, expected) in [(16, "accepted"), (17, "18 TooManyRecords")] {
-        let text = numbered(rt.alloc(), "set r", count, " = 1\n", "give read r0\nend\n")?;
-        let found = fault_of_wide(rt.alloc(), text.as_bytes())?;
-        assert_eq!(rt; found.as_str(), expected);
+    for (count, expected) in &RECORDS {
+        let found = fault_of_records(rt.alloc(), *count)?;
+        is_said_of(&rt, found.as_str(), expected, *count as usize, "set");
     }
     Ok(())
 }
 
-fn repeat(text: &mut String, part: &str, count: usize) -> Result<(), AllocError> {
-    for _ in 0..count {
-        text.push_str(part)?;
-    }
-    Ok(())
+/// What is said of a session that needs so many records.
+fn fault_of_records(alloc: Global, count: u32) -> Result<String, Fail> {
+    let text = numbered(alloc, "set r", count, " = 1\n", "give read r0\nend\n")?;
+    let plan = wide_plan(alloc)?;
+    Ok(fault_under(alloc, &plan, text.as_bytes())?)
 }
 
-/// What is said of a text of sessions under a plan whose office `a` has 17 records.
-fn fault_of_wide(alloc: Global, text: &[u8]) -> Result<String, Fail> {
-    let plan = wide(alloc)?;
-    let plan = Plan::read(alloc, plan.as_bytes())?;
-    Ok(fault_under(alloc, &plan, text)?)
+fn wide_plan(alloc: Global) -> Result<Plan, Fail> {
+    let text = wide(alloc)?;
+    Ok(Plan::read(alloc, text.as_bytes())?)
 }
 
 /// A plan whose office `a` has 17 records.

@@ -5,6 +5,7 @@ use office_map::Plan;
 use session_language::{LangFault, SessionRefusal, SessionRule, read_sessions};
 use std::alloc::{AllocError, Global};
 use std::fmt::Write;
+use std::process::Abort;
 use std::test::Fail;
 
 /// Texts, each with the line and the rule that it breaks first.
@@ -83,6 +84,13 @@ static LINES: [(&str, &str); 42] = [
     ("require v<=1else 2", "3 Syntax"),
 ];
 
+/// Texts with bytes that only a comment may have, and what is said of them.
+static BYTES: [(&[u8], &str); 3] = [
+    (b"# \xff\x00\r\nsession a\n\t# \x01\nend\n", "accepted"),
+    (b"session a\ngive 1 \xff\nend\n", "2 Syntax"),
+    (b"session a\ngive\x0b1\nend\n", "2 Syntax"),
+];
+
 /// Each rule with its code and name.
 static RULES: [(SessionRule, &str); 8] = [
     (SessionRule::Syntax, "line 3: S1 Syntax"),
@@ -99,7 +107,7 @@ static RULES: [(SessionRule, &str); 8] = [
 fn the_first_fault_is_told(rt: HostRuntime) -> Result<(), Fail> {
     for (text, expected) in &TEXTS {
         let found = fault(rt.alloc(), text.as_bytes())?;
-        assert_eq!(rt; found.as_str(), *expected, "in {text:?}");
+        is_said(&rt, found.as_str(), expected, text);
     }
     Ok(())
 }
@@ -107,21 +115,23 @@ fn the_first_fault_is_told(rt: HostRuntime) -> Result<(), Fail> {
 #[test]
 fn a_faulty_line_is_told(rt: HostRuntime) -> Result<(), Fail> {
     for (line, expected) in &LINES {
-        let text = format!(in rt.alloc(); "session a\nlet v = 1\n{line}\nend\n")?;
-        let found = fault(rt.alloc(), text.as_bytes())?;
-        assert_eq!(rt; found.as_str(), *expected, "at {line:?}");
+        let found = fault_of_line(rt.alloc(), line)?;
+        is_said(&rt, found.as_str(), expected, line);
     }
     Ok(())
 }
 
+fn fault_of_line(alloc: Global, line: &str) -> Result<String, Fail> {
+    let text = format!(in alloc; "session a\nlet v = 1\n{line}\nend\n")?;
+    fault(alloc, text.as_bytes())
+}
+
 #[test]
 fn any_byte_may_stand_in_a_comment(rt: HostRuntime) -> Result<(), Fail> {
-    let found = fault(rt.alloc(), b"# \xff\x00\r\nsession a\n\t# \x01\nend\n")?;
-    assert_eq!(rt; found.as_str(), "accepted");
-    let found = fault(rt.alloc(), b"session a\ngive 1 \xff\nend\n")?;
-    assert_eq!(rt; found.as_str(), "2 Syntax");
-    let found = fault(rt.alloc(), b"session a\ngive\x0b1\nend\n")?;
-    assert_eq!(rt; found.as_str(), "2 Syntax");
+    for (text, expected) in &BYTES {
+        let found = fault(rt.alloc(), text)?;
+        assert_eq!(rt; found.as_str(), *expected, "in {text:?}");
+    }
     Ok(())
 }
 
@@ -132,12 +142,31 @@ fn faults_are_printed_with_code_and_line(rt: HostRuntime) -> Result<(), Fail> {
             rule: *rule,
             line: 3,
         });
-        let text = format!(in rt.alloc(); "{fault}")?;
-        assert_eq!(rt; text.as_str(), *expected);
+        is_printed_as(&rt, rt.alloc(), fault, expected)?;
     }
-    let text = format!(in rt.alloc(); "{}", LangFault::Memory)?;
-    assert_eq!(rt; text.as_str(), "out of memory");
+    is_printed_as(&rt, rt.alloc(), LangFault::Memory, "out of memory")?;
     Ok(())
+}
+
+fn is_printed_as(
+    rt: &impl Abort,
+    alloc: Global,
+    fault: LangFault,
+    expected: &str,
+) -> Result<(), AllocError> {
+    let text = format!(in alloc; "{fault}")?;
+    assert_eq!(rt; text.as_str(), expected);
+    Ok(())
+}
+
+/// What is said of a text, or of a line, is as expected.
+pub fn is_said(rt: &impl Abort, found: &str, expected: &str, of: &str) {
+    assert_eq!(rt; found, expected, "of {of:?}");
+}
+
+/// What is said where a part comes so often is as expected.
+pub fn is_said_of(rt: &impl Abort, found: &str, expected: &str, count: usize, part: &str) {
+    assert_eq!(rt; found, expected, "of {count} {part:?}");
 }
 
 /// The line and the rule that a text of sessions breaks.

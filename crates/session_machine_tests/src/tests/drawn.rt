@@ -4,8 +4,8 @@ use super::PLAN;
 use super::draws::{Draws, session};
 use super::walk::{Doing, Walk};
 use bottle_values::Value;
-use office_map::Plan;
-use session_language::{End, Program, RecordValues, read_sessions};
+use office_map::{Plan, RecordId};
+use session_language::{End, Ending, Program, RecordValues, read_sessions};
 use session_machine::{Code, Progress, Work};
 use std::alloc::{AllocError, Global};
 use std::process::Abort;
@@ -50,10 +50,21 @@ fn drawn_session_agrees(
 ) -> Result<(), Fail> {
     let mut draws = Draws::from_seed(seed);
     let text = session(alloc, &mut draws, seed % 4 * 2 + 1)?;
+    text_agrees(rt, alloc, plan, &mut draws, seen, text.as_str())
+}
+
+fn text_agrees(
+    rt: &impl Abort,
+    alloc: Global,
+    plan: &Plan,
+    draws: &mut Draws,
+    seen: &mut Seen,
+    text: &str,
+) -> Result<(), Fail> {
     let programs = read_sessions(alloc, text.as_bytes(), plan)?;
     assert_eq!(rt; programs.len(), 1, "of {text}");
     for program in &programs {
-        agrees(rt, alloc, &mut draws, seen, program)?;
+        agrees(rt, alloc, draws, seen, program)?;
     }
     Ok(())
 }
@@ -70,10 +81,23 @@ fn agrees(
     let mut walk = Walk::of(alloc, program.variables().len(), &reads)?;
     let end = walk.session(program.tree())?;
     seen.note(&walk, end);
+    let work = worked(rt, alloc, draws, program, &reads, walk.count)?;
+    ends_as(rt, alloc, work, draws.seed, end, &reads, &walk)
+}
+
+/// The work on a session of this length, to its end.
+fn worked(
+    rt: &impl Abort,
+    alloc: Global,
+    draws: &mut Draws,
+    program: &Program,
+    reads: &RecordValues,
+    length: u32,
+) -> Result<Work, AllocError> {
     let code = Code::of(alloc, program)?;
     let mut work = Work::begin(alloc, &code, reads.copy(alloc)?)?;
-    in_pieces(rt, draws, &mut work, &code, walk.count);
-    ends_as(rt, alloc, work, draws.seed, end, &reads, &walk)
+    in_pieces(rt, draws, &mut work, &code, length);
+    Ok(work)
 }
 
 /// Drawn values of the records that a program needs.
@@ -119,33 +143,76 @@ fn ends_as(
         assert!(rt; false, "no ending");
         return Ok(());
     };
-    let ending = work.into_ending();
+    is_ending(rt, alloc, &work.into_ending(), seed, end, reads, walk)
+}
+
+/// An ending is that of the walk, which ended so after these reads.
+fn is_ending(
+    rt: &impl Abort,
+    alloc: Global,
+    ending: &Ending,
+    seed: u32,
+    end: End,
+    reads: &RecordValues,
+    walk: &Walk,
+) -> Result<(), AllocError> {
     assert_eq!(rt; ending.end, end, "of seed {seed}");
     assert_eq!(rt; ending.reads.as_slice(), reads.as_slice(), "of seed {seed}");
-    let mut writes = Vec::new(alloc);
-    let mut gives = Vec::new(alloc);
-    if end == End::Done {
-        for kept in &walk.kept {
-            if kept.is_set {
-                writes.push((
-                    kept.id,
-                    Value {
-                        number: kept.number,
-                    },
-                ))?;
-            }
-        }
-        for number in &walk.given {
-            gives.push(Value { number: *number })?;
-        }
-    }
+    writes_as(rt, alloc, ending, seed, walk)?;
+    gives_as(rt, alloc, ending, seed, walk)
+}
+
+fn writes_as(
+    rt: &impl Abort,
+    alloc: Global,
+    ending: &Ending,
+    seed: u32,
+    walk: &Walk,
+) -> Result<(), AllocError> {
+    let writes = walk_writes(alloc, ending.end, walk)?;
     assert_eq!(rt;
         ending.writes.as_slice(),
         writes.as_slice(),
         "of seed {seed}"
     );
+    Ok(())
+}
+
+/// What the walk writes where it ends so.
+fn walk_writes(alloc: Global, end: End, walk: &Walk) -> Result<Vec<(RecordId, Value)>, AllocError> {
+    let mut writes = Vec::new(alloc);
+    if end == End::Done {
+        for kept in &walk.kept {
+            if kept.is_set {
+                let number = kept.number;
+                writes.push((kept.id, Value { number }))?;
+            }
+        }
+    }
+    Ok(writes)
+}
+
+fn gives_as(
+    rt: &impl Abort,
+    alloc: Global,
+    ending: &Ending,
+    seed: u32,
+    walk: &Walk,
+) -> Result<(), AllocError> {
+    let gives = walk_gives(alloc, ending.end, walk)?;
     assert_eq!(rt; ending.gives.as_slice(), gives.as_slice(), "of seed {seed}");
     Ok(())
+}
+
+/// What the walk gives where it ends so.
+fn walk_gives(alloc: Global, end: End, walk: &Walk) -> Result<Vec<Value>, AllocError> {
+    let mut gives = Vec::new(alloc);
+    if end == End::Done {
+        for number in &walk.given {
+            gives.push(Value { number: *number })?;
+        }
+    }
+    Ok(gives)
 }
 
 impl Seen {

@@ -1,10 +1,10 @@
 //! Which refusal is told where two apply at once.
 
-use super::{A, GIVES, PAIR, Step, What, event_of, opened, submit, tell};
-use office_map::{OfficeId, Plan};
-use session_language::{Program, read_sessions};
+use super::{A, GIVES, PAIR, Step, What, event_of, offices, programs, submit, tell};
+use office_map::OfficeId;
+use session_language::Program;
 use site_core::{MAX_ENTRIES, Office, Refusal, Reply};
-use std::alloc::Global;
+use std::alloc::{AllocError, Global};
 use std::process::Abort;
 use std::test::Fail;
 
@@ -84,41 +84,101 @@ static EVENTS: [(Step, [&str; 3]); 8] = [
 
 #[test]
 fn the_first_refusal_is_told(rt: HostRuntime) -> Result<(), Fail> {
-    let alloc = rt.alloc();
-    let plan = Plan::read(alloc, PAIR.as_bytes())?;
-    let programs = read_sessions(alloc, GIVES.as_bytes(), &plan)?;
+    let programs = programs(rt.alloc(), PAIR, GIVES)?;
     for (k, (sessions, entries)) in OFFICES.iter().enumerate() {
-        let mut offices = opened(alloc, &plan)?;
-        let (Some(office), Some(program)) = (offices.get_mut(A), programs.get(0)) else {
-            return Err(Fail::from("an office and a session"));
-        };
-        fill(&rt, office, program, *sessions, *entries);
-        for (version, run, count, tag, expected) in &FRAMES {
-            let reply = office.receive(0, &frame_of(*version, *run, *count, *tag));
-            let told = told(alloc, &reply)?;
-            assert_eq!(rt; Some(&told.as_str()), expected.get(k), "a frame at {k}");
-        }
-        for (step, expected) in &EVENTS {
-            let reply = match event_of(alloc, &programs, *step)? {
-                Some(event) => office.step(0, &event),
-                None => return Err(Fail::from("an event")),
-            };
-            let told = told(alloc, &reply)?;
-            assert_eq!(rt; Some(&told.as_str()), expected.get(k), "an event at {k}");
-        }
+        tell_at(&rt, rt.alloc(), &programs, k, *sessions, *entries)?;
     }
     Ok(())
 }
 
+/// All frames and events at the office of that place.
+fn tell_at<R: Abort>(
+    rt: &R,
+    alloc: Global,
+    programs: &[Program],
+    k: usize,
+    sessions: usize,
+    entries: usize,
+) -> Result<(), Fail> {
+    let mut offices = offices(alloc, PAIR)?;
+    match offices.get_mut(A) {
+        Some(office) => {
+            fill(rt, office, programs, sessions, entries);
+            tell_all(rt, alloc, office, programs, k)
+        }
+        None => Err(Fail::from("an office")),
+    }
+}
+
+fn tell_all<R: Abort>(
+    rt: &R,
+    alloc: Global,
+    office: &mut Office,
+    programs: &[Program],
+    k: usize,
+) -> Result<(), Fail> {
+    tell_frames(rt, alloc, office, k)?;
+    tell_events(rt, alloc, office, programs, k)
+}
+
+fn tell_frames<R: Abort>(rt: &R, alloc: Global, office: &mut Office, k: usize) -> Result<(), Fail> {
+    for (version, run, count, tag, expected) in &FRAMES {
+        let reply = office.receive(0, &frame_of(*version, *run, *count, *tag));
+        let told = told(alloc, &reply)?;
+        assert_eq!(rt; Some(&told.as_str()), expected.get(k), "a frame at {k}");
+    }
+    Ok(())
+}
+
+fn tell_events<R: Abort>(
+    rt: &R,
+    alloc: Global,
+    office: &mut Office,
+    programs: &[Program],
+    k: usize,
+) -> Result<(), Fail> {
+    for (step, expected) in &EVENTS {
+        let told = told_of(alloc, office, programs, *step)?;
+        assert_eq!(rt; Some(&told.as_str()), expected.get(k), "an event at {k}");
+    }
+    Ok(())
+}
+
+fn told_of(
+    alloc: Global,
+    office: &mut Office,
+    programs: &[Program],
+    step: Step,
+) -> Result<String, Fail> {
+    match event_of(alloc, programs, step)? {
+        Some(event) => Ok(told(alloc, &office.step(0, &event))?),
+        None => Err(Fail::from("an event")),
+    }
+}
+
 /// So many sessions are submitted, and the count is sent until there are so many entries.
-fn fill<R: Abort>(rt: &R, office: &mut Office, program: &Program, sessions: usize, entries: usize) {
+fn fill<R: Abort>(
+    rt: &R,
+    office: &mut Office,
+    programs: &[Program],
+    sessions: usize,
+    entries: usize,
+) {
     for _ in 0..sessions {
-        assert!(rt; submit(office, program).is_ok());
+        assert!(rt; is_submitted(office, programs));
     }
     for _ in sessions..entries {
         assert!(rt; office.send(0, OfficeId::new(1), 0).is_ok());
     }
     assert_eq!(rt; office.journal().len(), entries);
+}
+
+/// Whether the office takes the first session.
+fn is_submitted(office: &mut Office, programs: &[Program]) -> bool {
+    match programs.get(0) {
+        Some(program) => submit(office, program).is_ok(),
+        None => false,
+    }
 }
 
 /// A message of 27 bytes from office `b` to office `a`, with number 1.
@@ -129,7 +189,7 @@ fn frame_of(version: u8, run: u8, count: u8, tag: u8) -> [u8; 27] {
     ]
 }
 
-fn told(alloc: Global, reply: &Result<Reply, Refusal>) -> Result<String, Fail> {
+fn told(alloc: Global, reply: &Result<Reply, Refusal>) -> Result<String, AllocError> {
     let mut text = String::new(alloc);
     tell(&mut text, reply)?;
     Ok(text)

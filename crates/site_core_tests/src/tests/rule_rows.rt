@@ -5,15 +5,15 @@ use self::Step::{
     AskBottle, AskFork, BottleGiven, BottleWanted, Drink, Eat, Finish, ForkGiven, ForkWanted,
     GiveBottle, GiveFork, Hungry, Leave, Start, Submit, Withdraw, Work,
 };
-use super::opened;
 use super::shown::{shown, tell_messages};
+use super::{offices, programs};
 use bottle_values::Value;
 use frame_codec::{Frame, MAX_NUMBER, Msg};
-use office_map::{OfficeId, Plan, RecordId};
-use session_language::{Program, read_sessions};
-use site_core::{Event, Office, Reply, Rule};
+use office_map::{OfficeId, RecordId};
+use session_language::Program;
+use site_core::{Event, Office, Refusal, Reply, Rule};
 use std::alloc::{AllocError, Global};
-use std::fmt::Write;
+use std::process::Abort;
 use std::test::Fail;
 
 /// The office that is looked at is `a`. It has the fork that it shares with `b`, and not the one that it shares with `c`; `d`
@@ -81,699 +81,829 @@ pub enum Step {
 }
 
 /// The part of the guard that alone is false (none: all hold), what happened before, the rule or the withdrawal, and what is
-/// told of it.
-struct Row(&'static str, &'static [Step], Step, &'static str);
-
-/// What is told where the guard is false, of an office that stays as it was.
-const NOT_NOW: &str = "O1 NotNow";
-
+/// told of it. Each rule's rows are lent by a function of their own: a long table is longer to prove than its parts.
+///
 /// Where the guard holds, what the office shows afterwards is told: which rules may be done; the bottles that are here; of
 /// each neighbour the number of the first message that waits, how many wait, and how many of its messages were taken; how
 /// many sessions were submitted, and how those ended that finished; what the waiting messages say.
 ///
 /// That a needed bottle is away and its office isn't thirsty never happens, nor that work has ended and its office isn't
 /// drinking: there two parts are false.
-static ROWS: [Row; 106] = [
-    // Start: tranquil, and a session waits. The first that waits becomes the current one; the office is thirsty and needs its records.
-    Row(
-        "",
-        &[Submit(OF_Y), Submit(OF_NONE)],
-        Start,
-        "may hungry, askbottle y; here x=100 v=9; b 1 0 0; c 1 0 0; 2 submitted; sends",
-    ),
-    Row(
-        "tranquil",
-        &[Submit(OF_Y), Submit(OF_NONE), Start],
-        Start,
-        NOT_NOW,
-    ),
-    Row(
-        "tranquil",
-        &[Submit(OF_NONE), Submit(OF_NONE), Start, Drink],
-        Start,
-        NOT_NOW,
-    ),
-    Row("a session waits", &[], Start, NOT_NOW),
-    Row(
-        "a session waits",
-        &[Submit(OF_NONE), Start, Drink, Work(3), Finish],
-        Start,
-        NOT_NOW,
-    ),
-    // Hungry: thinking, and thirsty. The office is hungry.
-    Row(
-        "",
-        &[Submit(OF_Y), Start],
-        Hungry,
-        "may askfork c, askbottle y; here x=100 v=9; b 1 0 0; c 1 0 0; 1 submitted; sends",
-    ),
-    Row("thinking", &[Submit(OF_Y), Start, Hungry], Hungry, NOT_NOW),
-    Row(
-        "thinking",
-        &[Submit(OF_Y), Start, Hungry, AskFork(C), ForkGiven(C), Eat],
-        Hungry,
-        NOT_NOW,
-    ),
-    Row("thirsty", &[], Hungry, NOT_NOW),
-    Row("thirsty", &[Submit(OF_Y)], Hungry, NOT_NOW),
-    Row("thirsty", &[Submit(OF_NONE), Start, Drink], Hungry, NOT_NOW),
-    // AskFork: hungry, the fork isn't held, its token is. The token is sent.
-    Row(
-        "",
-        &[Submit(OF_Y), Start, Hungry],
-        AskFork(C),
-        "may askbottle y; here x=100 v=9; b 1 0 0; c 1 1 0; 1 submitted; sends askfork to c",
-    ),
-    Row("hungry", &[], AskFork(C), NOT_NOW),
-    Row("hungry", &[Submit(OF_Y), Start], AskFork(C), NOT_NOW),
-    Row(
-        "hungry",
-        &[Submit(OF_NONE), Start, Drink],
-        AskFork(C),
-        NOT_NOW,
-    ),
-    Row(
-        "the fork isn't held",
-        &[Submit(OF_Y), Start, Hungry, ForkWanted(B)],
-        AskFork(B),
-        NOT_NOW,
-    ),
-    Row(
-        "the token is held",
-        &[Submit(OF_Y), Start, Hungry, AskFork(C)],
-        AskFork(C),
-        NOT_NOW,
-    ),
-    Row(
-        "a neighbour",
-        &[Submit(OF_Y), Start, Hungry],
-        AskFork(A),
-        NOT_NOW,
-    ),
-    Row(
-        "a neighbour",
-        &[Submit(OF_Y), Start, Hungry],
-        AskFork(D),
-        NOT_NOW,
-    ),
-    Row(
-        "an office",
-        &[Submit(OF_Y), Start, Hungry],
-        AskFork(200),
-        NOT_NOW,
-    ),
-    // GiveFork: not eating, the token is held, the fork is held and dirty. The fork is sent, the token stays.
-    Row(
-        "",
-        &[ForkWanted(B)],
-        GiveFork(B),
-        "may; here x=100 v=9; b 1 1 1; c 1 0 0; 0 submitted; sends fork to b",
-    ),
-    Row(
-        "",
-        &[Submit(OF_Y), Start, Hungry, ForkWanted(B)],
-        GiveFork(B),
-        "may askfork b, askfork c, askbottle y; here x=100 v=9; b 1 1 1; c 1 0 0; 1 submitted; sends fork to b",
-    ),
-    Row(
-        "not eating",
-        &[
-            Submit(OF_Y),
+struct Row(&'static str, &'static [Step], Step, &'static str);
+
+/// What is told where the guard is false, of an office that stays as it was.
+const NOT_NOW: &str = "O1 NotNow";
+
+/// Start: tranquil, and a session waits. The first that waits becomes the current one; the office is thirsty and needs its records.
+fn start_rows() -> &'static [Row] {
+    static ROWS: [Row; 5] = [
+        Row(
+            "",
+            &[Submit(OF_Y), Submit(OF_NONE)],
             Start,
+            "may hungry, askbottle y; here x=100 v=9; b 1 0 0; c 1 0 0; 2 submitted; sends",
+        ),
+        Row(
+            "tranquil",
+            &[Submit(OF_Y), Submit(OF_NONE), Start],
+            Start,
+            NOT_NOW,
+        ),
+        Row(
+            "tranquil",
+            &[Submit(OF_NONE), Submit(OF_NONE), Start, Drink],
+            Start,
+            NOT_NOW,
+        ),
+        Row("a session waits", &[], Start, NOT_NOW),
+        Row(
+            "a session waits",
+            &[Submit(OF_NONE), Start, Drink, Work(3), Finish],
+            Start,
+            NOT_NOW,
+        ),
+    ];
+    &ROWS
+}
+
+/// Hungry: thinking, and thirsty. The office is hungry.
+fn hungry_rows() -> &'static [Row] {
+    static ROWS: [Row; 6] = [
+        Row(
+            "",
+            &[Submit(OF_Y), Start],
             Hungry,
+            "may askfork c, askbottle y; here x=100 v=9; b 1 0 0; c 1 0 0; 1 submitted; sends",
+        ),
+        Row("thinking", &[Submit(OF_Y), Start, Hungry], Hungry, NOT_NOW),
+        Row(
+            "thinking",
+            &[Submit(OF_Y), Start, Hungry, AskFork(C), ForkGiven(C), Eat],
+            Hungry,
+            NOT_NOW,
+        ),
+        Row("thirsty", &[], Hungry, NOT_NOW),
+        Row("thirsty", &[Submit(OF_Y)], Hungry, NOT_NOW),
+        Row("thirsty", &[Submit(OF_NONE), Start, Drink], Hungry, NOT_NOW),
+    ];
+    &ROWS
+}
+
+/// AskFork: hungry, the fork isn't held, its token is. The token is sent.
+fn ask_fork_rows() -> &'static [Row] {
+    static ROWS: [Row; 9] = [
+        Row(
+            "",
+            &[Submit(OF_Y), Start, Hungry],
             AskFork(C),
-            ForkGiven(C),
-            Eat,
-            ForkWanted(B),
-        ],
-        GiveFork(B),
-        NOT_NOW,
-    ),
-    Row(
-        "not eating",
-        &[
-            Submit(OF_Y),
-            Start,
-            Hungry,
+            "may askbottle y; here x=100 v=9; b 1 0 0; c 1 1 0; 1 submitted; sends askfork to c",
+        ),
+        Row("hungry", &[], AskFork(C), NOT_NOW),
+        Row("hungry", &[Submit(OF_Y), Start], AskFork(C), NOT_NOW),
+        Row(
+            "hungry",
+            &[Submit(OF_NONE), Start, Drink],
             AskFork(C),
-            ForkGiven(C),
-            Eat,
-            ForkWanted(C),
-        ],
-        GiveFork(C),
-        NOT_NOW,
-    ),
-    Row("the token is held", &[], GiveFork(B), NOT_NOW),
-    Row("the fork is held", &[], GiveFork(C), NOT_NOW),
-    Row(
-        "the fork is held",
-        &[ForkWanted(B), GiveFork(B)],
-        GiveFork(B),
-        NOT_NOW,
-    ),
-    Row(
-        "the fork is dirty",
-        &[
-            Submit(OF_Y),
-            Start,
-            Hungry,
+            NOT_NOW,
+        ),
+        Row(
+            "the fork isn't held",
+            &[Submit(OF_Y), Start, Hungry, ForkWanted(B)],
+            AskFork(B),
+            NOT_NOW,
+        ),
+        Row(
+            "the token is held",
+            &[Submit(OF_Y), Start, Hungry, AskFork(C)],
             AskFork(C),
-            ForkGiven(C),
-            ForkWanted(C),
-        ],
-        GiveFork(C),
-        NOT_NOW,
-    ),
-    Row("a neighbour", &[], GiveFork(A), NOT_NOW),
-    Row("a neighbour", &[], GiveFork(D), NOT_NOW),
-    Row("an office", &[], GiveFork(200), NOT_NOW),
-    // Eat: hungry, and all forks are held. The office eats, and every fork of it is dirty: one that came clean is given afterwards.
-    Row(
-        "",
-        &[Submit(OF_Y), Start, Hungry, AskFork(C), ForkGiven(C)],
-        Eat,
-        "may askbottle y; here x=100 v=9; b 1 0 0; c 2 0 1; 1 submitted; sends",
-    ),
-    Row(
-        "",
-        &[
-            Submit(OF_NONE),
-            Start,
-            Hungry,
-            AskFork(C),
-            ForkGiven(C),
-            Drink,
-        ],
-        Eat,
-        "may leave, work 1; here x=100 v=9; b 1 0 0; c 2 0 1; 1 submitted; sends",
-    ),
-    Row(
-        "",
-        &[
-            Submit(OF_NONE),
-            Start,
-            Hungry,
-            AskFork(C),
-            ForkGiven(C),
-            Eat,
-            Drink,
-            Leave,
-            ForkWanted(C),
-        ],
-        GiveFork(C),
-        "may work 1; here x=100 v=9; b 1 0 0; c 2 1 2; 1 submitted; sends fork to c",
-    ),
-    Row(
-        "hungry",
-        &[
-            Submit(OF_NONE),
-            Start,
-            Hungry,
-            AskFork(C),
-            ForkGiven(C),
-            Eat,
-            Drink,
-            Leave,
-        ],
-        Eat,
-        NOT_NOW,
-    ),
-    Row(
-        "hungry",
-        &[Submit(OF_Y), Start, Hungry, AskFork(C), ForkGiven(C), Eat],
-        Eat,
-        NOT_NOW,
-    ),
-    Row(
-        "all forks are held",
-        &[Submit(OF_Y), Start, Hungry],
-        Eat,
-        NOT_NOW,
-    ),
-    Row(
-        "all forks are held",
-        &[
-            Submit(OF_Y),
-            Start,
-            Hungry,
-            ForkWanted(B),
+            NOT_NOW,
+        ),
+        Row(
+            "a neighbour",
+            &[Submit(OF_Y), Start, Hungry],
+            AskFork(A),
+            NOT_NOW,
+        ),
+        Row(
+            "a neighbour",
+            &[Submit(OF_Y), Start, Hungry],
+            AskFork(D),
+            NOT_NOW,
+        ),
+        Row(
+            "an office",
+            &[Submit(OF_Y), Start, Hungry],
+            AskFork(200),
+            NOT_NOW,
+        ),
+    ];
+    &ROWS
+}
+
+/// GiveFork: not eating, the token is held, the fork is held and dirty. The fork is sent, the token stays.
+fn give_fork_rows() -> &'static [Row] {
+    static ROWS: [Row; 11] = [
+        Row(
+            "",
+            &[ForkWanted(B)],
             GiveFork(B),
-            AskFork(C),
-            ForkGiven(C),
-        ],
-        Eat,
-        NOT_NOW,
-    ),
-    // Leave: eating, and not thirsty. The office thinks.
-    Row(
-        "",
-        &[
-            Submit(OF_NONE),
-            Start,
-            Hungry,
-            AskFork(C),
-            ForkGiven(C),
+            "may; here x=100 v=9; b 1 1 1; c 1 0 0; 0 submitted; sends fork to b",
+        ),
+        Row(
+            "",
+            &[Submit(OF_Y), Start, Hungry, ForkWanted(B)],
+            GiveFork(B),
+            "may askfork b, askfork c, askbottle y; here x=100 v=9; b 1 1 1; c 1 0 0; 1 submitted; sends fork to b",
+        ),
+        Row(
+            "not eating",
+            &[
+                Submit(OF_Y),
+                Start,
+                Hungry,
+                AskFork(C),
+                ForkGiven(C),
+                Eat,
+                ForkWanted(B),
+            ],
+            GiveFork(B),
+            NOT_NOW,
+        ),
+        Row(
+            "not eating",
+            &[
+                Submit(OF_Y),
+                Start,
+                Hungry,
+                AskFork(C),
+                ForkGiven(C),
+                Eat,
+                ForkWanted(C),
+            ],
+            GiveFork(C),
+            NOT_NOW,
+        ),
+        Row("the token is held", &[], GiveFork(B), NOT_NOW),
+        Row("the fork is held", &[], GiveFork(C), NOT_NOW),
+        Row(
+            "the fork is held",
+            &[ForkWanted(B), GiveFork(B)],
+            GiveFork(B),
+            NOT_NOW,
+        ),
+        Row(
+            "the fork is dirty",
+            &[
+                Submit(OF_Y),
+                Start,
+                Hungry,
+                AskFork(C),
+                ForkGiven(C),
+                ForkWanted(C),
+            ],
+            GiveFork(C),
+            NOT_NOW,
+        ),
+        Row("a neighbour", &[], GiveFork(A), NOT_NOW),
+        Row("a neighbour", &[], GiveFork(D), NOT_NOW),
+        Row("an office", &[], GiveFork(200), NOT_NOW),
+    ];
+    &ROWS
+}
+
+/// Eat: hungry, and all forks are held. The office eats, and every fork of it is dirty: one that came clean is given afterwards.
+fn eat_rows() -> &'static [Row] {
+    static ROWS: [Row; 7] = [
+        Row(
+            "",
+            &[Submit(OF_Y), Start, Hungry, AskFork(C), ForkGiven(C)],
             Eat,
-            Drink,
-        ],
-        Leave,
-        "may work 1; here x=100 v=9; b 1 0 0; c 2 0 1; 1 submitted; sends",
-    ),
-    Row(
-        "",
-        &[
-            Submit(OF_NONE),
-            Start,
-            Hungry,
-            AskFork(C),
-            ForkGiven(C),
+            "may askbottle y; here x=100 v=9; b 1 0 0; c 2 0 1; 1 submitted; sends",
+        ),
+        Row(
+            "",
+            &[
+                Submit(OF_NONE),
+                Start,
+                Hungry,
+                AskFork(C),
+                ForkGiven(C),
+                Drink,
+            ],
             Eat,
-            Drink,
-            Work(3),
-            Finish,
-        ],
-        Leave,
-        "may; here x=100 v=9; b 1 0 0; c 2 0 1; 1 submitted; 0.1 Done reads writes gives 1; sends",
-    ),
-    Row("eating", &[], Leave, NOT_NOW),
-    Row(
-        "eating",
-        &[Submit(OF_NONE), Start, Hungry, Drink],
-        Leave,
-        NOT_NOW,
-    ),
-    Row(
-        "not thirsty",
-        &[Submit(OF_Y), Start, Hungry, AskFork(C), ForkGiven(C), Eat],
-        Leave,
-        NOT_NOW,
-    ),
-    // AskBottle: thirsty, the record is needed, its bottle isn't held, its token is. The token is sent.
-    Row(
-        "",
-        &[Submit(OF_Y), Start],
-        AskBottle(Y),
-        "may hungry; here x=100 v=9; b 1 1 0; c 1 0 0; 1 submitted; sends askbottle y to b",
-    ),
-    Row(
-        "thirsty, and the record is needed",
-        &[Submit(OF_Y)],
-        AskBottle(Y),
-        NOT_NOW,
-    ),
-    Row(
-        "thirsty, and the record is needed",
-        &[Submit(OF_NONE), Start, Drink],
-        AskBottle(Y),
-        NOT_NOW,
-    ),
-    Row(
-        "the record is needed",
-        &[Submit(OF_NONE), Start],
-        AskBottle(Y),
-        NOT_NOW,
-    ),
-    Row(
-        "the record is needed",
-        &[Submit(OF_Y), Start],
-        AskBottle(W),
-        NOT_NOW,
-    ),
-    Row(
-        "the bottle isn't held",
-        &[Submit(OF_X_Y), Start, BottleWanted(B, X)],
-        AskBottle(X),
-        NOT_NOW,
-    ),
-    Row(
-        "the token is held",
-        &[Submit(OF_Y), Start, AskBottle(Y)],
-        AskBottle(Y),
-        NOT_NOW,
-    ),
-    Row(
-        "a record of the office",
-        &[Submit(OF_Y), Start],
-        AskBottle(Z),
-        NOT_NOW,
-    ),
-    Row("a record", &[Submit(OF_Y), Start], AskBottle(NONE), NOT_NOW),
-    // GiveBottle: the token is held, the bottle is held; not where the record is needed and the office drinks or has the pair's fork. The bottle is sent with its value, the token stays.
-    Row(
-        "",
-        &[BottleWanted(B, X)],
-        GiveBottle(X),
-        "may; here v=9, x=100 leaves as 1; b 1 1 1; c 1 0 0; 0 submitted; sends bottle x=100 to b",
-    ),
-    Row(
-        "",
-        &[Submit(OF_NONE), Start, Drink, BottleWanted(B, X)],
-        GiveBottle(X),
-        "may work 1; here v=9, x=100 leaves as 1; b 1 1 1; c 1 0 0; 1 submitted; sends bottle x=100 to b",
-    ),
-    Row(
-        "",
-        &[Submit(OF_V), Start, BottleWanted(C, V)],
-        GiveBottle(V),
-        "may hungry, askbottle v; here x=100, v=9 leaves as 1; b 1 0 0; c 1 1 1; 1 submitted; sends bottle v=9 to c",
-    ),
-    Row("the token is held", &[], GiveBottle(X), NOT_NOW),
-    Row("the bottle is held", &[], GiveBottle(Y), NOT_NOW),
-    Row(
-        "the bottle is held",
-        &[BottleWanted(B, X), GiveBottle(X)],
-        GiveBottle(X),
-        NOT_NOW,
-    ),
-    Row(
-        "not needed and drinking",
-        &[Submit(OF_V), Start, Drink, BottleWanted(C, V)],
-        GiveBottle(V),
-        NOT_NOW,
-    ),
-    Row(
-        "not needed with the fork",
-        &[Submit(OF_X_Y), Start, BottleWanted(B, X)],
-        GiveBottle(X),
-        NOT_NOW,
-    ),
-    Row(
-        "not needed with the fork",
-        &[
-            Submit(OF_V),
-            Start,
-            Hungry,
-            AskFork(C),
-            ForkGiven(C),
-            BottleWanted(C, V),
-        ],
-        GiveBottle(V),
-        NOT_NOW,
-    ),
-    Row("a record of the office", &[], GiveBottle(Z), NOT_NOW),
-    Row("a record", &[], GiveBottle(NONE), NOT_NOW),
-    // Drink: thirsty, and all needed bottles are held. The office drinks, and its session's work begins on their values.
-    Row(
-        "",
-        &[Submit(OF_X), Start],
-        Drink,
-        "may work 1; here x=100 v=9; b 1 0 0; c 1 0 0; 1 submitted; sends",
-    ),
-    Row(
-        "",
-        &[Submit(OF_X_Y), Start, AskBottle(Y), BottleGiven(B, Y, 5)],
-        Drink,
-        "may work 1; here x=100 y=5 v=9; b 2 0 1; c 1 0 0; 1 submitted; sends",
-    ),
-    Row("thirsty", &[Submit(OF_NONE)], Drink, NOT_NOW),
-    Row("thirsty", &[Submit(OF_X), Start, Drink], Drink, NOT_NOW),
-    Row(
-        "all needed bottles are held",
-        &[Submit(OF_Y), Start],
-        Drink,
-        NOT_NOW,
-    ),
-    Row(
-        "all needed bottles are held",
-        &[Submit(OF_X_Y), Start],
-        Drink,
-        NOT_NOW,
-    ),
-    // Work: drinking, the work hasn't ended, and the piece has from 1 to 1,000 instructions. At most so many are done.
-    Row(
-        "",
-        &[Submit(OF_NONE), Start, Drink],
-        Work(1),
-        "may work 1; here x=100 v=9; b 1 0 0; c 1 0 0; 1 submitted; sends",
-    ),
-    Row(
-        "",
-        &[Submit(OF_NONE), Start, Drink],
-        Work(2),
-        "may work 1; here x=100 v=9; b 1 0 0; c 1 0 0; 1 submitted; sends",
-    ),
-    Row(
-        "",
-        &[Submit(OF_NONE), Start, Drink, Work(2)],
-        Work(1),
-        "may finish; here x=100 v=9; b 1 0 0; c 1 0 0; 1 submitted; sends",
-    ),
-    Row(
-        "",
-        &[Submit(OF_NONE), Start, Drink],
-        Work(1000),
-        "may finish; here x=100 v=9; b 1 0 0; c 1 0 0; 1 submitted; sends",
-    ),
-    Row("drinking", &[Submit(OF_NONE)], Work(1), NOT_NOW),
-    Row("drinking", &[Submit(OF_NONE), Start], Work(1), NOT_NOW),
-    Row(
-        "the work hasn't ended",
-        &[Submit(OF_NONE), Start, Drink, Work(3)],
-        Work(1),
-        NOT_NOW,
-    ),
-    Row("from 1", &[Submit(OF_NONE), Start, Drink], Work(0), NOT_NOW),
-    Row(
-        "to 1,000",
-        &[Submit(OF_NONE), Start, Drink],
-        Work(1001),
-        NOT_NOW,
-    ),
-    // Finish: drinking, and the work has ended. The writes go into the bottles, the outcome is kept; the office is tranquil and needs no record.
-    Row(
-        "",
-        &[
-            Submit(OF_X_Y),
-            Start,
+            "may leave, work 1; here x=100 v=9; b 1 0 0; c 2 0 1; 1 submitted; sends",
+        ),
+        Row(
+            "",
+            &[
+                Submit(OF_NONE),
+                Start,
+                Hungry,
+                AskFork(C),
+                ForkGiven(C),
+                Eat,
+                Drink,
+                Leave,
+                ForkWanted(C),
+            ],
+            GiveFork(C),
+            "may work 1; here x=100 v=9; b 1 0 0; c 2 1 2; 1 submitted; sends fork to c",
+        ),
+        Row(
+            "hungry",
+            &[
+                Submit(OF_NONE),
+                Start,
+                Hungry,
+                AskFork(C),
+                ForkGiven(C),
+                Eat,
+                Drink,
+                Leave,
+            ],
+            Eat,
+            NOT_NOW,
+        ),
+        Row(
+            "hungry",
+            &[Submit(OF_Y), Start, Hungry, AskFork(C), ForkGiven(C), Eat],
+            Eat,
+            NOT_NOW,
+        ),
+        Row(
+            "all forks are held",
+            &[Submit(OF_Y), Start, Hungry],
+            Eat,
+            NOT_NOW,
+        ),
+        Row(
+            "all forks are held",
+            &[
+                Submit(OF_Y),
+                Start,
+                Hungry,
+                ForkWanted(B),
+                GiveFork(B),
+                AskFork(C),
+                ForkGiven(C),
+            ],
+            Eat,
+            NOT_NOW,
+        ),
+    ];
+    &ROWS
+}
+
+/// Leave: eating, and not thirsty. The office thinks.
+fn leave_rows() -> &'static [Row] {
+    static ROWS: [Row; 5] = [
+        Row(
+            "",
+            &[
+                Submit(OF_NONE),
+                Start,
+                Hungry,
+                AskFork(C),
+                ForkGiven(C),
+                Eat,
+                Drink,
+            ],
+            Leave,
+            "may work 1; here x=100 v=9; b 1 0 0; c 2 0 1; 1 submitted; sends",
+        ),
+        Row(
+            "",
+            &[
+                Submit(OF_NONE),
+                Start,
+                Hungry,
+                AskFork(C),
+                ForkGiven(C),
+                Eat,
+                Drink,
+                Work(3),
+                Finish,
+            ],
+            Leave,
+            "may; here x=100 v=9; b 1 0 0; c 2 0 1; 1 submitted; 0.1 Done reads writes gives 1; sends",
+        ),
+        Row("eating", &[], Leave, NOT_NOW),
+        Row(
+            "eating",
+            &[Submit(OF_NONE), Start, Hungry, Drink],
+            Leave,
+            NOT_NOW,
+        ),
+        Row(
+            "not thirsty",
+            &[Submit(OF_Y), Start, Hungry, AskFork(C), ForkGiven(C), Eat],
+            Leave,
+            NOT_NOW,
+        ),
+    ];
+    &ROWS
+}
+
+/// AskBottle: thirsty, the record is needed, its bottle isn't held, its token is. The token is sent.
+fn ask_bottle_rows() -> &'static [Row] {
+    static ROWS: [Row; 9] = [
+        Row(
+            "",
+            &[Submit(OF_Y), Start],
             AskBottle(Y),
-            BottleGiven(B, Y, 5),
-            Drink,
-            Work(1000),
-        ],
-        Finish,
-        "may; here x=100 y=5 v=9; b 2 0 1; c 1 0 0; 1 submitted; 0.1 Done reads 0=100 1=5 writes gives 105; sends",
-    ),
-    Row(
-        "",
-        &[Submit(OF_X), Submit(OF_NONE), Start, Drink, Work(1000)],
-        Finish,
-        "may start; here x=101 v=9; b 1 0 0; c 1 0 0; 2 submitted; 0.1 Done reads 0=100 writes 0=101 gives; sends",
-    ),
-    Row(
-        "",
-        &[
-            Submit(OF_X),
-            Start,
-            Drink,
-            Work(1000),
-            Finish,
-            BottleWanted(B, X),
-        ],
-        GiveBottle(X),
-        "may; here v=9, x=101 leaves as 1; b 1 1 1; c 1 0 0; 1 submitted; 0.1 Done reads 0=100 writes 0=101 gives; sends bottle x=101 to b",
-    ),
-    Row(
-        "drinking, and the work has ended",
-        &[Submit(OF_NONE), Start],
-        Finish,
-        NOT_NOW,
-    ),
-    Row(
-        "drinking, and the work has ended",
-        &[Submit(OF_NONE), Start, Drink, Work(3), Finish],
-        Finish,
-        NOT_NOW,
-    ),
-    Row(
-        "the work has ended",
-        &[Submit(OF_NONE), Start, Drink],
-        Finish,
-        NOT_NOW,
-    ),
-    Row(
-        "the work has ended",
-        &[Submit(OF_NONE), Start, Drink, Work(2)],
-        Finish,
-        NOT_NOW,
-    ),
-    // Withdraw: the ticket's session waits, or is the current one and the office is thirsty. It waits no more, or the office is
-    // tranquil and needs no record; forks and bottles stay.
-    Row(
-        "",
-        &[Submit(OF_Y)],
-        Withdraw(1),
-        "may; here x=100 v=9; b 1 0 0; c 1 0 0; 1 submitted; sends",
-    ),
-    Row(
-        "",
-        &[Submit(OF_Y), Submit(OF_NONE)],
-        Withdraw(1),
-        "may start; here x=100 v=9; b 1 0 0; c 1 0 0; 2 submitted; sends",
-    ),
-    Row(
-        "",
-        &[Submit(OF_Y), Submit(OF_X), Withdraw(1)],
-        Start,
-        "may hungry, drink; here x=100 v=9; b 1 0 0; c 1 0 0; 2 submitted; sends",
-    ),
-    Row(
-        "",
-        &[Submit(OF_Y), Submit(OF_X), Submit(OF_V), Withdraw(3)],
-        Start,
-        "may hungry, askbottle y; here x=100 v=9; b 1 0 0; c 1 0 0; 3 submitted; sends",
-    ),
-    Row(
-        "",
-        &[Submit(OF_NONE), Submit(OF_Y), Start, Drink],
-        Withdraw(2),
-        "may work 1; here x=100 v=9; b 1 0 0; c 1 0 0; 2 submitted; sends",
-    ),
-    Row(
-        "",
-        &[Submit(OF_Y), Submit(OF_NONE), Start],
-        Withdraw(2),
-        "may hungry, askbottle y; here x=100 v=9; b 1 0 0; c 1 0 0; 2 submitted; sends",
-    ),
-    Row(
-        "",
-        &[Submit(OF_Y), Start],
-        Withdraw(1),
-        "may; here x=100 v=9; b 1 0 0; c 1 0 0; 1 submitted; sends",
-    ),
-    Row(
-        "",
-        &[Submit(OF_X), Submit(OF_Y), Start],
-        Withdraw(1),
-        "may start; here x=100 v=9; b 1 0 0; c 1 0 0; 2 submitted; sends",
-    ),
-    Row(
-        "",
-        &[Submit(OF_Y), Start, Hungry],
-        Withdraw(1),
-        "may askfork c; here x=100 v=9; b 1 0 0; c 1 0 0; 1 submitted; sends",
-    ),
-    Row(
-        "",
-        &[
-            Submit(OF_Y),
-            Start,
-            Hungry,
-            AskFork(C),
-            ForkGiven(C),
-            Withdraw(1),
-        ],
-        Eat,
-        "may leave; here x=100 v=9; b 1 0 0; c 2 0 1; 1 submitted; sends",
-    ),
-    Row(
-        "",
-        &[Submit(OF_Y), Start, Hungry, AskFork(C), ForkGiven(C), Eat],
-        Withdraw(1),
-        "may leave; here x=100 v=9; b 1 0 0; c 2 0 1; 1 submitted; sends",
-    ),
-    Row(
-        "",
-        &[
-            Submit(OF_Y),
-            Start,
+            "may hungry; here x=100 v=9; b 1 1 0; c 1 0 0; 1 submitted; sends askbottle y to b",
+        ),
+        Row(
+            "thirsty, and the record is needed",
+            &[Submit(OF_Y)],
             AskBottle(Y),
-            Withdraw(1),
-            BottleGiven(B, Y, 5),
-            Submit(OF_Y),
-        ],
-        Start,
-        "may hungry, drink; here x=100 y=5 v=9; b 2 0 1; c 1 0 0; 2 submitted; sends",
-    ),
-    Row(
-        "",
-        &[Submit(OF_X), Start, BottleWanted(B, X)],
-        Withdraw(1),
-        "may givebottle x; here x=100 v=9; b 1 0 1; c 1 0 0; 1 submitted; sends",
-    ),
-    Row("waits or is the current one", &[], Withdraw(0), NOT_NOW),
-    Row("waits or is the current one", &[], Withdraw(1), NOT_NOW),
-    Row(
-        "waits or is the current one",
-        &[Submit(OF_Y), Start, Submit(OF_X)],
-        Withdraw(3),
-        NOT_NOW,
-    ),
-    Row(
-        "waits or is the current one",
-        &[Submit(OF_Y), Withdraw(1), Submit(OF_X)],
-        Withdraw(1),
-        NOT_NOW,
-    ),
-    Row(
-        "waits or is the current one",
-        &[Submit(OF_Y), Start, Withdraw(1), Submit(OF_X), Start],
-        Withdraw(1),
-        NOT_NOW,
-    ),
-    Row(
-        "waits or is the current one",
-        &[
-            Submit(OF_NONE),
-            Submit(OF_Y),
-            Start,
+            NOT_NOW,
+        ),
+        Row(
+            "thirsty, and the record is needed",
+            &[Submit(OF_NONE), Start, Drink],
+            AskBottle(Y),
+            NOT_NOW,
+        ),
+        Row(
+            "the record is needed",
+            &[Submit(OF_NONE), Start],
+            AskBottle(Y),
+            NOT_NOW,
+        ),
+        Row(
+            "the record is needed",
+            &[Submit(OF_Y), Start],
+            AskBottle(W),
+            NOT_NOW,
+        ),
+        Row(
+            "the bottle isn't held",
+            &[Submit(OF_X_Y), Start, BottleWanted(B, X)],
+            AskBottle(X),
+            NOT_NOW,
+        ),
+        Row(
+            "the token is held",
+            &[Submit(OF_Y), Start, AskBottle(Y)],
+            AskBottle(Y),
+            NOT_NOW,
+        ),
+        Row(
+            "a record of the office",
+            &[Submit(OF_Y), Start],
+            AskBottle(Z),
+            NOT_NOW,
+        ),
+        Row("a record", &[Submit(OF_Y), Start], AskBottle(NONE), NOT_NOW),
+    ];
+    &ROWS
+}
+
+/// GiveBottle: the token is held, the bottle is held; not where the record is needed and the office drinks or has the pair's fork. The bottle is sent with its value, the token stays.
+fn give_bottle_rows() -> &'static [Row] {
+    static ROWS: [Row; 11] = [
+        Row(
+            "",
+            &[BottleWanted(B, X)],
+            GiveBottle(X),
+            "may; here v=9, x=100 leaves as 1; b 1 1 1; c 1 0 0; 0 submitted; sends bottle x=100 to b",
+        ),
+        Row(
+            "",
+            &[Submit(OF_NONE), Start, Drink, BottleWanted(B, X)],
+            GiveBottle(X),
+            "may work 1; here v=9, x=100 leaves as 1; b 1 1 1; c 1 0 0; 1 submitted; sends bottle x=100 to b",
+        ),
+        Row(
+            "",
+            &[Submit(OF_V), Start, BottleWanted(C, V)],
+            GiveBottle(V),
+            "may hungry, askbottle v; here x=100, v=9 leaves as 1; b 1 0 0; c 1 1 1; 1 submitted; sends bottle v=9 to c",
+        ),
+        Row("the token is held", &[], GiveBottle(X), NOT_NOW),
+        Row("the bottle is held", &[], GiveBottle(Y), NOT_NOW),
+        Row(
+            "the bottle is held",
+            &[BottleWanted(B, X), GiveBottle(X)],
+            GiveBottle(X),
+            NOT_NOW,
+        ),
+        Row(
+            "not needed and drinking",
+            &[Submit(OF_V), Start, Drink, BottleWanted(C, V)],
+            GiveBottle(V),
+            NOT_NOW,
+        ),
+        Row(
+            "not needed with the fork",
+            &[Submit(OF_X_Y), Start, BottleWanted(B, X)],
+            GiveBottle(X),
+            NOT_NOW,
+        ),
+        Row(
+            "not needed with the fork",
+            &[
+                Submit(OF_V),
+                Start,
+                Hungry,
+                AskFork(C),
+                ForkGiven(C),
+                BottleWanted(C, V),
+            ],
+            GiveBottle(V),
+            NOT_NOW,
+        ),
+        Row("a record of the office", &[], GiveBottle(Z), NOT_NOW),
+        Row("a record", &[], GiveBottle(NONE), NOT_NOW),
+    ];
+    &ROWS
+}
+
+/// Drink: thirsty, and all needed bottles are held. The office drinks, and its session's work begins on their values.
+fn drink_rows() -> &'static [Row] {
+    static ROWS: [Row; 6] = [
+        Row(
+            "",
+            &[Submit(OF_X), Start],
             Drink,
-            Work(3),
+            "may work 1; here x=100 v=9; b 1 0 0; c 1 0 0; 1 submitted; sends",
+        ),
+        Row(
+            "",
+            &[Submit(OF_X_Y), Start, AskBottle(Y), BottleGiven(B, Y, 5)],
+            Drink,
+            "may work 1; here x=100 y=5 v=9; b 2 0 1; c 1 0 0; 1 submitted; sends",
+        ),
+        Row("thirsty", &[Submit(OF_NONE)], Drink, NOT_NOW),
+        Row("thirsty", &[Submit(OF_X), Start, Drink], Drink, NOT_NOW),
+        Row(
+            "all needed bottles are held",
+            &[Submit(OF_Y), Start],
+            Drink,
+            NOT_NOW,
+        ),
+        Row(
+            "all needed bottles are held",
+            &[Submit(OF_X_Y), Start],
+            Drink,
+            NOT_NOW,
+        ),
+    ];
+    &ROWS
+}
+
+/// Work: drinking, the work hasn't ended, and the piece has from 1 to 1,000 instructions. At most so many are done.
+fn work_rows() -> &'static [Row] {
+    static ROWS: [Row; 9] = [
+        Row(
+            "",
+            &[Submit(OF_NONE), Start, Drink],
+            Work(1),
+            "may work 1; here x=100 v=9; b 1 0 0; c 1 0 0; 1 submitted; sends",
+        ),
+        Row(
+            "",
+            &[Submit(OF_NONE), Start, Drink],
+            Work(2),
+            "may work 1; here x=100 v=9; b 1 0 0; c 1 0 0; 1 submitted; sends",
+        ),
+        Row(
+            "",
+            &[Submit(OF_NONE), Start, Drink, Work(2)],
+            Work(1),
+            "may finish; here x=100 v=9; b 1 0 0; c 1 0 0; 1 submitted; sends",
+        ),
+        Row(
+            "",
+            &[Submit(OF_NONE), Start, Drink],
+            Work(1000),
+            "may finish; here x=100 v=9; b 1 0 0; c 1 0 0; 1 submitted; sends",
+        ),
+        Row("drinking", &[Submit(OF_NONE)], Work(1), NOT_NOW),
+        Row("drinking", &[Submit(OF_NONE), Start], Work(1), NOT_NOW),
+        Row(
+            "the work hasn't ended",
+            &[Submit(OF_NONE), Start, Drink, Work(3)],
+            Work(1),
+            NOT_NOW,
+        ),
+        Row("from 1", &[Submit(OF_NONE), Start, Drink], Work(0), NOT_NOW),
+        Row(
+            "to 1,000",
+            &[Submit(OF_NONE), Start, Drink],
+            Work(1001),
+            NOT_NOW,
+        ),
+    ];
+    &ROWS
+}
+
+/// Finish: drinking, and the work has ended. The writes go into the bottles, the outcome is kept; the office is tranquil and needs no record.
+fn finish_rows() -> &'static [Row] {
+    static ROWS: [Row; 7] = [
+        Row(
+            "",
+            &[
+                Submit(OF_X_Y),
+                Start,
+                AskBottle(Y),
+                BottleGiven(B, Y, 5),
+                Drink,
+                Work(1000),
+            ],
             Finish,
+            "may; here x=100 y=5 v=9; b 2 0 1; c 1 0 0; 1 submitted; 0.1 Done reads 0=100 1=5 writes gives 105; sends",
+        ),
+        Row(
+            "",
+            &[Submit(OF_X), Submit(OF_NONE), Start, Drink, Work(1000)],
+            Finish,
+            "may start; here x=101 v=9; b 1 0 0; c 1 0 0; 2 submitted; 0.1 Done reads 0=100 writes 0=101 gives; sends",
+        ),
+        Row(
+            "",
+            &[
+                Submit(OF_X),
+                Start,
+                Drink,
+                Work(1000),
+                Finish,
+                BottleWanted(B, X),
+            ],
+            GiveBottle(X),
+            "may; here v=9, x=101 leaves as 1; b 1 1 1; c 1 0 0; 1 submitted; 0.1 Done reads 0=100 writes 0=101 gives; sends bottle x=101 to b",
+        ),
+        Row(
+            "drinking, and the work has ended",
+            &[Submit(OF_NONE), Start],
+            Finish,
+            NOT_NOW,
+        ),
+        Row(
+            "drinking, and the work has ended",
+            &[Submit(OF_NONE), Start, Drink, Work(3), Finish],
+            Finish,
+            NOT_NOW,
+        ),
+        Row(
+            "the work has ended",
+            &[Submit(OF_NONE), Start, Drink],
+            Finish,
+            NOT_NOW,
+        ),
+        Row(
+            "the work has ended",
+            &[Submit(OF_NONE), Start, Drink, Work(2)],
+            Finish,
+            NOT_NOW,
+        ),
+    ];
+    &ROWS
+}
+
+/// Withdraw: the ticket's session waits, or is the current one and the office is thirsty. It waits no more, or the office is
+/// tranquil and needs no record; forks and bottles stay.
+fn withdraw_rows() -> &'static [Row] {
+    static ROWS: [Row; 21] = [
+        Row(
+            "",
+            &[Submit(OF_Y)],
+            Withdraw(1),
+            "may; here x=100 v=9; b 1 0 0; c 1 0 0; 1 submitted; sends",
+        ),
+        Row(
+            "",
+            &[Submit(OF_Y), Submit(OF_NONE)],
+            Withdraw(1),
+            "may start; here x=100 v=9; b 1 0 0; c 1 0 0; 2 submitted; sends",
+        ),
+        Row(
+            "",
+            &[Submit(OF_Y), Submit(OF_X), Withdraw(1)],
             Start,
-        ],
-        Withdraw(1),
-        NOT_NOW,
-    ),
-    Row(
-        "the office is thirsty",
-        &[Submit(OF_NONE), Start, Drink],
-        Withdraw(1),
-        NOT_NOW,
-    ),
-    Row(
-        "the office is thirsty",
-        &[Submit(OF_NONE), Start, Drink, Work(3)],
-        Withdraw(1),
-        NOT_NOW,
-    ),
-];
+            "may hungry, drink; here x=100 v=9; b 1 0 0; c 1 0 0; 2 submitted; sends",
+        ),
+        Row(
+            "",
+            &[Submit(OF_Y), Submit(OF_X), Submit(OF_V), Withdraw(3)],
+            Start,
+            "may hungry, askbottle y; here x=100 v=9; b 1 0 0; c 1 0 0; 3 submitted; sends",
+        ),
+        Row(
+            "",
+            &[Submit(OF_NONE), Submit(OF_Y), Start, Drink],
+            Withdraw(2),
+            "may work 1; here x=100 v=9; b 1 0 0; c 1 0 0; 2 submitted; sends",
+        ),
+        Row(
+            "",
+            &[Submit(OF_Y), Submit(OF_NONE), Start],
+            Withdraw(2),
+            "may hungry, askbottle y; here x=100 v=9; b 1 0 0; c 1 0 0; 2 submitted; sends",
+        ),
+        Row(
+            "",
+            &[Submit(OF_Y), Start],
+            Withdraw(1),
+            "may; here x=100 v=9; b 1 0 0; c 1 0 0; 1 submitted; sends",
+        ),
+        Row(
+            "",
+            &[Submit(OF_X), Submit(OF_Y), Start],
+            Withdraw(1),
+            "may start; here x=100 v=9; b 1 0 0; c 1 0 0; 2 submitted; sends",
+        ),
+        Row(
+            "",
+            &[Submit(OF_Y), Start, Hungry],
+            Withdraw(1),
+            "may askfork c; here x=100 v=9; b 1 0 0; c 1 0 0; 1 submitted; sends",
+        ),
+        Row(
+            "",
+            &[
+                Submit(OF_Y),
+                Start,
+                Hungry,
+                AskFork(C),
+                ForkGiven(C),
+                Withdraw(1),
+            ],
+            Eat,
+            "may leave; here x=100 v=9; b 1 0 0; c 2 0 1; 1 submitted; sends",
+        ),
+        Row(
+            "",
+            &[Submit(OF_Y), Start, Hungry, AskFork(C), ForkGiven(C), Eat],
+            Withdraw(1),
+            "may leave; here x=100 v=9; b 1 0 0; c 2 0 1; 1 submitted; sends",
+        ),
+        Row(
+            "",
+            &[
+                Submit(OF_Y),
+                Start,
+                AskBottle(Y),
+                Withdraw(1),
+                BottleGiven(B, Y, 5),
+                Submit(OF_Y),
+            ],
+            Start,
+            "may hungry, drink; here x=100 y=5 v=9; b 2 0 1; c 1 0 0; 2 submitted; sends",
+        ),
+        Row(
+            "",
+            &[Submit(OF_X), Start, BottleWanted(B, X)],
+            Withdraw(1),
+            "may givebottle x; here x=100 v=9; b 1 0 1; c 1 0 0; 1 submitted; sends",
+        ),
+        Row("waits or is the current one", &[], Withdraw(0), NOT_NOW),
+        Row("waits or is the current one", &[], Withdraw(1), NOT_NOW),
+        Row(
+            "waits or is the current one",
+            &[Submit(OF_Y), Start, Submit(OF_X)],
+            Withdraw(3),
+            NOT_NOW,
+        ),
+        Row(
+            "waits or is the current one",
+            &[Submit(OF_Y), Withdraw(1), Submit(OF_X)],
+            Withdraw(1),
+            NOT_NOW,
+        ),
+        Row(
+            "waits or is the current one",
+            &[Submit(OF_Y), Start, Withdraw(1), Submit(OF_X), Start],
+            Withdraw(1),
+            NOT_NOW,
+        ),
+        Row(
+            "waits or is the current one",
+            &[
+                Submit(OF_NONE),
+                Submit(OF_Y),
+                Start,
+                Drink,
+                Work(3),
+                Finish,
+                Start,
+            ],
+            Withdraw(1),
+            NOT_NOW,
+        ),
+        Row(
+            "the office is thirsty",
+            &[Submit(OF_NONE), Start, Drink],
+            Withdraw(1),
+            NOT_NOW,
+        ),
+        Row(
+            "the office is thirsty",
+            &[Submit(OF_NONE), Start, Drink, Work(3)],
+            Withdraw(1),
+            NOT_NOW,
+        ),
+    ];
+    &ROWS
+}
 
 /// Who hands in what is looked at.
 const TAG: u8 = 5;
 
 #[test]
 fn rules_are_done_where_each_part_of_the_guard_holds(rt: HostRuntime) -> Result<(), Fail> {
-    let alloc = rt.alloc();
-    let plan = Plan::read(alloc, PLAN.as_bytes())?;
-    let programs = read_sessions(alloc, SESSIONS.as_bytes(), &plan)?;
-    for (i, row) in ROWS.iter().enumerate() {
-        let Row(part, before, rule, expected) = row;
-        let told = told(alloc, &plan, &programs, before, *rule)?;
-        assert_eq!(rt; told.as_str(), *expected, "row {i}, {part}");
+    let programs = programs(rt.alloc(), PLAN, SESSIONS)?;
+    tell_all(&rt, rt.alloc(), &programs)
+}
+
+fn tell_all<R: Abort>(rt: &R, alloc: Global, programs: &[Program]) -> Result<(), Fail> {
+    tell_rows(rt, alloc, programs, "Start", start_rows())?;
+    tell_rows(rt, alloc, programs, "Hungry", hungry_rows())?;
+    tell_rows(rt, alloc, programs, "AskFork", ask_fork_rows())?;
+    tell_rows(rt, alloc, programs, "GiveFork", give_fork_rows())?;
+    tell_rows(rt, alloc, programs, "Eat", eat_rows())?;
+    tell_rows(rt, alloc, programs, "Leave", leave_rows())?;
+    tell_rows(rt, alloc, programs, "AskBottle", ask_bottle_rows())?;
+    tell_rows(rt, alloc, programs, "GiveBottle", give_bottle_rows())?;
+    tell_rows(rt, alloc, programs, "Drink", drink_rows())?;
+    tell_rows(rt, alloc, programs, "Work", work_rows())?;
+    tell_rows(rt, alloc, programs, "Finish", finish_rows())?;
+    tell_rows(rt, alloc, programs, "Withdraw", withdraw_rows())
+}
+
+fn tell_rows<R: Abort>(
+    rt: &R,
+    alloc: Global,
+    programs: &[Program],
+    name: &str,
+    rows: &[Row],
+) -> Result<(), Fail> {
+    for (i, row) in rows.iter().enumerate() {
+        tell_row(rt, alloc, programs, name, i, row)?;
     }
     Ok(())
 }
 
-/// What is told of a rule after these steps, none of which may be refused.
-fn told(
+fn tell_row<R: Abort>(
+    rt: &R,
     alloc: Global,
-    plan: &Plan,
+    programs: &[Program],
+    name: &str,
+    i: usize,
+    row: &Row,
+) -> Result<(), Fail> {
+    let Row(part, before, rule, expected) = row;
+    let told = told(alloc, programs, before, *rule)?;
+    assert_eq!(rt; told.as_str(), *expected, "{name}, row {i}, {part}");
+    Ok(())
+}
+
+/// What is told of a rule after these steps, none of which may be refused.
+fn told(alloc: Global, programs: &[Program], before: &[Step], rule: Step) -> Result<String, Fail> {
+    let mut offices = offices(alloc, PLAN)?;
+    match offices.get_mut(0) {
+        Some(office) => told_after(alloc, office, programs, before, rule),
+        None => Err(Fail::from("an office")),
+    }
+}
+
+fn told_after(
+    alloc: Global,
+    office: &mut Office,
     programs: &[Program],
     before: &[Step],
     rule: Step,
 ) -> Result<String, Fail> {
-    let mut offices = opened(alloc, plan)?;
-    let Some(office) = offices.get_mut(0) else {
-        return Err(Fail::from("an office"));
-    };
-    for step in before {
+    if !all_go(alloc, office, programs, before)? {
+        return Ok(String::from_str(alloc, "a step before is refused")?);
+    }
+    told_at(alloc, office, programs, rule)
+}
+
+fn all_go(
+    alloc: Global,
+    office: &mut Office,
+    programs: &[Program],
+    steps: &[Step],
+) -> Result<bool, AllocError> {
+    for step in steps {
         let event = event_of(alloc, office, programs, *step)?;
         if !goes(office, event) {
-            return Ok(String::from_str(alloc, "a step before is refused")?);
+            return Ok(false);
         }
     }
+    Ok(true)
+}
+
+fn told_at(
+    alloc: Global,
+    office: &mut Office,
+    programs: &[Program],
+    rule: Step,
+) -> Result<String, Fail> {
     match event_of(alloc, office, programs, rule)? {
-        Some(event) => answered(alloc, office, &event),
+        Some(event) => Ok(answered(alloc, office, &event)?),
         None => Err(Fail::from("an event")),
     }
 }
@@ -785,25 +915,49 @@ fn goes(office: &mut Office, event: Option<Event>) -> bool {
     }
 }
 
-fn answered(alloc: Global, office: &mut Office, event: &Event) -> Result<String, Fail> {
+/// What is told of the event: the refusal alone, where the office stays as it was; or what the office shows afterwards.
+fn answered(alloc: Global, office: &mut Office, event: &Event) -> Result<String, AllocError> {
     let entries = office.journal().len();
     let enabled = enabled(office, event);
     let before = shown(alloc, office)?;
-    let reply = office.step(TAG, event);
-    let mut after = shown(alloc, office)?;
-    if let Err(refusal) = reply {
-        let stays = before.as_str() == after.as_str() && office.journal().len() == entries;
-        if enabled == Some(true) || !stays {
-            after.push_str(", though refused")?;
-            return Ok(after);
+    match office.step(TAG, event) {
+        Ok(_) => {
+            let is_right = enabled != Some(false) && is_entered(office, entries, event);
+            done(alloc, office, is_right)
         }
-        return Ok(format!(in alloc; "{refusal}")?);
+        Err(refusal) => {
+            let is_right = enabled != Some(true) && office.journal().len() == entries;
+            refused(alloc, office, refusal, before.as_str(), is_right)
+        }
     }
-    if enabled == Some(false) || !is_entered(office, entries, event) {
+}
+
+fn done(alloc: Global, office: &mut Office, is_right: bool) -> Result<String, AllocError> {
+    let mut after = shown(alloc, office)?;
+    if !is_right {
         after.push_str(", though not enabled or not entered")?;
     }
-    tell_messages(&mut after, office, "b", B)?;
-    tell_messages(&mut after, office, "c", C)?;
+    tell_all_messages(&mut after, office)?;
+    Ok(after)
+}
+
+fn tell_all_messages(text: &mut String, office: &mut Office) -> Result<(), AllocError> {
+    tell_messages(text, office, "b", B)?;
+    tell_messages(text, office, "c", C)
+}
+
+fn refused(
+    alloc: Global,
+    office: &Office,
+    refusal: Refusal,
+    before: &str,
+    is_right: bool,
+) -> Result<String, AllocError> {
+    let mut after = shown(alloc, office)?;
+    if is_right && after.as_str() == before {
+        return format!(in alloc; "{refusal}");
+    }
+    after.push_str(", though refused")?;
     Ok(after)
 }
 

@@ -10,7 +10,6 @@ use office_map::{OfficeId, RecordId};
 use site_core::{Office, Refusal, Reply};
 use std::alloc::{AllocError, Global};
 use std::fmt::Write;
-use std::test::Fail;
 
 /// The rules that an office is asked for.
 static RULES: [(&str, Step); 19] = [
@@ -38,19 +37,16 @@ static RULES: [(&str, Step); 19] = [
 /// What the office shows, up to what its waiting messages say.
 pub fn shown(alloc: Global, office: &Office) -> Result<String, AllocError> {
     let mut text = String::from_str(alloc, "may")?;
-    tell_rules(&mut text, office)?;
-    tell_bottles(&mut text, office)?;
-    for (name, v) in [("b", B), ("c", C)] {
-        let v = OfficeId::new(v);
-        let (first, many) = office.waiting(v).unwrap_or((0, 0));
-        let taken = office.taken(v).unwrap_or(0);
-        write!(text, "; {name} {first} {many} {taken}")?;
-    }
-    let tickets = office.tickets();
-    write!(text, "; {tickets} submitted; ")?;
-    describe(&mut text, office.outcomes())?;
-    text.push_str("sends")?;
+    tell_office(&mut text, office)?;
     Ok(text)
+}
+
+fn tell_office(text: &mut String, office: &Office) -> Result<(), AllocError> {
+    tell_rules(text, office)?;
+    tell_held(text, office)?;
+    tell_leaving(text, office)?;
+    tell_links(text, office)?;
+    tell_sessions(text, office)
 }
 
 fn tell_rules(text: &mut String, office: &Office) -> Result<(), AllocError> {
@@ -72,19 +68,43 @@ fn is_enabled(office: &Office, step: Step) -> bool {
     }
 }
 
-fn tell_bottles(text: &mut String, office: &Office) -> Result<(), AllocError> {
+/// The records that an office may have, and one of others.
+static RECORDS: [(&str, u16); 5] = [("x", X), ("y", Y), ("v", V), ("w", W), ("z", Z)];
+
+fn tell_held(text: &mut String, office: &Office) -> Result<(), AllocError> {
     text.push_str("; here")?;
-    for (name, r) in [("x", X), ("y", Y), ("v", V), ("w", W), ("z", Z)] {
-        if let Some(value) = office.held_value(RecordId::new(r)) {
+    for (name, r) in &RECORDS {
+        if let Some(value) = office.held_value(RecordId::new(*r)) {
             write!(text, " {name}={}", value.number)?;
         }
     }
-    for (name, r) in [("x", X), ("y", Y), ("v", V), ("w", W), ("z", Z)] {
-        if let Some((number, value)) = office.waiting_value(RecordId::new(r)) {
+    Ok(())
+}
+
+fn tell_leaving(text: &mut String, office: &Office) -> Result<(), AllocError> {
+    for (name, r) in &RECORDS {
+        if let Some((number, value)) = office.waiting_value(RecordId::new(*r)) {
             write!(text, ", {name}={} leaves as {number}", value.number)?;
         }
     }
     Ok(())
+}
+
+fn tell_links(text: &mut String, office: &Office) -> Result<(), AllocError> {
+    for (name, v) in [("b", B), ("c", C)] {
+        let v = OfficeId::new(v);
+        let (first, many) = office.waiting(v).unwrap_or((0, 0));
+        let taken = office.taken(v).unwrap_or(0);
+        write!(text, "; {name} {first} {many} {taken}")?;
+    }
+    Ok(())
+}
+
+fn tell_sessions(text: &mut String, office: &Office) -> Result<(), AllocError> {
+    let tickets = office.tickets();
+    write!(text, "; {tickets} submitted; ")?;
+    describe(text, office.outcomes())?;
+    text.push_str("sends")
 }
 
 /// What the messages say that wait for a neighbour.
@@ -93,7 +113,7 @@ pub fn tell_messages(
     office: &mut Office,
     name: &str,
     v: u8,
-) -> Result<(), Fail> {
+) -> Result<(), AllocError> {
     let v = OfficeId::new(v);
     let many = office.waiting(v).map_or(0, |(_, many)| many);
     for i in 0..many {
@@ -113,15 +133,12 @@ fn message_in(reply: &Result<Reply, Refusal>) -> Option<Msg> {
 
 fn tell_message(text: &mut String, msg: Option<Msg>) -> Result<(), AllocError> {
     match msg {
-        None => text.push_str(" no message")?,
-        Some(Msg::AskFork) => text.push_str(" askfork")?,
-        Some(Msg::Fork) => text.push_str(" fork")?,
-        Some(Msg::AskBottle(r)) => write!(text, " askbottle {}", name_of(r))?,
-        Some(Msg::Bottle(r, value)) => {
-            write!(text, " bottle {}={}", name_of(r), value.number)?;
-        }
+        None => text.push_str(" no message"),
+        Some(Msg::AskFork) => text.push_str(" askfork"),
+        Some(Msg::Fork) => text.push_str(" fork"),
+        Some(Msg::AskBottle(r)) => write!(text, " askbottle {}", name_of(r)),
+        Some(Msg::Bottle(r, value)) => write!(text, " bottle {}={}", name_of(r), value.number),
     }
-    Ok(())
 }
 
 fn name_of(r: u16) -> &'static str {

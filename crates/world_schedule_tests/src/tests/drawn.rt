@@ -4,14 +4,15 @@ ghost use Rattle.std.specs.Prelude.{All, IfOk, IsTrue};
 ghost use Rattle.session_language.specs.Program.{fits};
 
 use super::foretold::{Seen, seen_of};
-use super::{describe_ending, goes_on, tell_values};
+use super::{describe_ending, goes_on, opened, programs_of, tell_values};
 use frame_world::WorldRefusal;
 use office_map::Plan;
 use serial_replay::{Replay, serial};
-use session_language::{Outcome, Program, read_sessions};
+use session_language::{Outcome, Program};
 use site_core::Reply;
 use std::alloc::{AllocError, Global};
 use std::fmt::Write;
+use std::process::Abort;
 use std::test::Fail;
 use world_schedule::{Finished, World};
 
@@ -40,7 +41,9 @@ impl Shape {
 pub const EACH: u32 = 2;
 
 /// Offices, pairs, a number from which the events are drawn, and how many of them.
-static DRAWN: [(u8, Shape, u64, usize); 5] = [
+type Row = (u8, Shape, u64, usize);
+
+static DRAWN: [Row; 5] = [
     (2, Shape::All, 1, 240_000),
     (3, Shape::Ring, 20, 20_000),
     (5, Shape::All, 300, 20_000),
@@ -55,33 +58,50 @@ static DRAWN: [(u8, Shape, u64, usize); 5] = [
 /// journal and of want of memory; and one of the worlds sends 20,000 frames.
 #[test]
 fn drawn_schedules_are_serial(rt: HostRuntime) -> Result<(), Fail> {
-    let alloc = rt.alloc();
     let mut kinds = 0;
     let mut most = 0;
-    for (offices, shape, seed, events) in &DRAWN {
-        let plan = plan_text(alloc, *offices, *shape)?;
-        let sessions = sessions_text(alloc, *offices, *shape)?;
-        let drawn = drawn(alloc, plan.as_str(), sessions.as_str(), *seed, *events)?;
-        assert_eq!(rt; drawn.seen.strange, None, "the first of {seed}");
-        assert!(rt; drawn.settled, "of {seed}");
-        assert!(rt; drawn.seen.withdrawn > 50, "of {seed}");
-        assert!(rt; drawn.told.len() > 1000, "of {seed}");
-        assert!(rt; drawn.told == drawn.alone, "of {seed}");
-        assert_eq!(rt; drawn.again, 1000, "of {seed}");
-        kinds |= drawn.seen.kinds;
-        most = most.max(drawn.seen.sent.len());
+    for row in &DRAWN {
+        let (of_row, frames) = row_is_serial(&rt, rt.alloc(), row)?;
+        kinds |= of_row;
+        most = most.max(frames);
     }
     assert_eq!(rt; kinds, 0b1111_1111_1111);
     assert!(rt; most >= 20_000, "{most}");
     Ok(())
 }
 
+/// The kinds of answers that came of a row's events, and how many frames were sent.
+fn row_is_serial(rt: &impl Abort, alloc: Global, row: &Row) -> Result<(u16, usize), Fail> {
+    let course = course_of(alloc, row)?;
+    is_serial(rt, &course, row.2);
+    Ok((course.seen.kinds, course.seen.sent.len()))
+}
+
+fn is_serial(rt: &impl Abort, course: &Course, seed: u64) {
+    assert_eq!(rt; course.seen.strange, None, "the first of {seed}");
+    assert!(rt; course.settled, "of {seed}");
+    assert!(rt; course.seen.withdrawn > 50, "of {seed}");
+    assert!(rt; course.told.length > 1000, "of {seed}");
+    assert!(rt; course.told.is_as_alone, "of {seed}");
+    assert_eq!(rt; course.again, 1000, "of {seed}");
+}
+
 /// A record of each pair, which starts at the office with the greater number.
 fn plan_text(alloc: Global, offices: u8, shape: Shape) -> Result<String, AllocError> {
     let mut text = String::from_str(alloc, "plan 1 run 7\n")?;
+    add_offices(&mut text, offices)?;
+    add_pairs(&mut text, offices, shape)?;
+    Ok(text)
+}
+
+fn add_offices(text: &mut String, offices: u8) -> Result<(), AllocError> {
     for a in 0..offices {
         write!(text, "office o{a} -\n")?;
     }
+    Ok(())
+}
+
+fn add_pairs(text: &mut String, offices: u8, shape: Shape) -> Result<(), AllocError> {
     for a in 0..offices {
         for b in a..offices {
             if a < b && shape.joins(offices, a, b) {
@@ -90,23 +110,32 @@ fn plan_text(alloc: Global, offices: u8, shape: Shape) -> Result<String, AllocEr
             }
         }
     }
-    Ok(text)
+    Ok(())
 }
 
 /// Two sessions of each office: one adds to its records, and one doubles them while they are small.
 fn sessions_text(alloc: Global, offices: u8, shape: Shape) -> Result<String, AllocError> {
     let mut text = String::new(alloc);
     for at in 0..offices {
-        for doubles in [false, true] {
-            write!(text, "session o{at}\n")?;
-            lines_of(&mut text, offices, shape, at, doubles)?;
-            text.push_str("end\n")?;
-        }
+        add_session(&mut text, offices, shape, at, false)?;
+        add_session(&mut text, offices, shape, at, true)?;
     }
     Ok(text)
 }
 
-fn lines_of(
+fn add_session(
+    text: &mut String,
+    offices: u8,
+    shape: Shape,
+    at: u8,
+    doubles: bool,
+) -> Result<(), AllocError> {
+    write!(text, "session o{at}\n")?;
+    add_lines(text, offices, shape, at, doubles)?;
+    text.push_str("end\n")
+}
+
+fn add_lines(
     text: &mut String,
     offices: u8,
     shape: Shape,
@@ -118,15 +147,23 @@ fn lines_of(
         let b = at.max(other);
         if a < b && shape.joins(offices, a, b) {
             if doubles {
-                write!(text, "require read r{a}x{b} < 500 else 7\n")?;
-                write!(text, "set r{a}x{b} = read r{a}x{b} * 2\n")?;
+                add_doubling(text, a, b)?;
             } else {
-                write!(text, "set r{a}x{b} = read r{a}x{b} + {other} - {at}\n")?;
-                write!(text, "give read r{a}x{b}\n")?;
+                add_sum(text, a, b, other, at)?;
             }
         }
     }
     Ok(())
+}
+
+fn add_doubling(text: &mut String, a: u8, b: u8) -> Result<(), AllocError> {
+    write!(text, "require read r{a}x{b} < 500 else 7\n")?;
+    write!(text, "set r{a}x{b} = read r{a}x{b} * 2\n")
+}
+
+fn add_sum(text: &mut String, a: u8, b: u8, other: u8, at: u8) -> Result<(), AllocError> {
+    write!(text, "set r{a}x{b} = read r{a}x{b} + {other} - {at}\n")?;
+    write!(text, "give read r{a}x{b}\n")
 }
 
 /// What came of drawn events.
@@ -136,35 +173,67 @@ struct Course {
     seen: Seen,
     /// Whether the world went on by itself then until each session had finished, but those that were withdrawn.
     settled: bool,
-    /// What the world tells.
-    told: String,
-    /// What the serial run of its finished sessions tells.
-    alone: String,
+    /// What the world tells then.
+    told: Told,
     /// How many of the first events get the same answers in one run.
     again: usize,
 }
 
+/// What a world tells of the sessions that finished, and of the values.
+#[derive(Clone, Copy)]
+pub struct Told {
+    /// How many bytes that is.
+    pub length: usize,
+    /// Whether the serial run of the finished sessions tells the same.
+    pub is_as_alone: bool,
+}
+
+fn course_of(alloc: Global, row: &Row) -> Result<Course, Fail> {
+    let (offices, shape, _, _) = *row;
+    let plan = plan_text(alloc, offices, shape)?;
+    let mut world = opened(alloc, plan.as_str())?;
+    course_in(alloc, &mut world, plan.as_str(), row)
+}
+
+fn course_in(alloc: Global, world: &mut World, plan: &str, row: &Row) -> Result<Course, Fail> {
+    let (offices, shape, _, _) = *row;
+    let sessions = sessions_text(alloc, offices, shape)?;
+    let programs = programs_of(alloc, world.plan(), sessions.as_str())?;
+    drawn(alloc, world, &programs, plan, row)
+}
+
 fn drawn(
     alloc: Global,
+    world: &mut World,
+    programs: &[Program],
     plan: &str,
-    sessions: &str,
-    seed: u64,
-    events: usize,
+    row: &Row,
 ) -> Result<Course, Fail> {
-    let read = Plan::read(alloc, plan.as_bytes())?;
-    let programs = read_sessions(alloc, sessions.as_bytes(), &read)?;
-    let mut world = World::open(alloc, read)?;
-    let seen = seen_of(alloc, &mut world, &programs, seed, events)?;
-    let settled = settles(&mut world) && is_all(&world, seen.withdrawn);
-    let told = finishing(alloc, &world)?;
-    let alone = alone_in_order(alloc, &world, &programs, EACH)?;
+    let (_, _, seed, events) = *row;
+    let seen = seen_of(alloc, world, programs, seed, events)?;
+    let settled = settles(world) && is_all(world, seen.withdrawn);
+    let told = told_beside_alone(alloc, world, programs, EACH)?;
     let again = run_again(alloc, plan, &seen)?;
     Ok(Course {
         seen,
         settled,
         told,
-        alone,
         again,
+    })
+}
+
+/// What the world tells, beside the serial run of its finished sessions.
+pub fn told_beside_alone(
+    alloc: Global,
+    world: &World,
+    programs: &[Program],
+    each: u32,
+) -> Result<Told, AllocError> {
+    let told = finishing(alloc, world)?;
+    let alone = alone_in_order(alloc, world, programs, each)?;
+    Ok(Told {
+        length: told.len(),
+        is_as_alone: told == alone,
     })
 }
 
@@ -191,8 +260,7 @@ fn is_all(world: &World, others: usize) -> bool {
 
 /// How many answers of one run of the first events are as they were.
 fn run_again(alloc: Global, plan: &str, seen: &Seen) -> Result<usize, Fail> {
-    let plan = Plan::read(alloc, plan.as_bytes())?;
-    let mut world = World::open(alloc, plan)?;
+    let mut world = opened(alloc, plan)?;
     match world.run(&seen.events) {
         Ok(replies) => Ok(same(&replies, &seen.replies)),
         Err(_) => Err(Fail::from("the run stopped")),
@@ -213,15 +281,19 @@ pub fn session_of(programs: &[Program], each: u32, at: u8, tickets: u32) -> Opti
 }
 
 /// What finished, but for tickets, and the values.
-pub fn finishing(alloc: Global, world: &World) -> Result<String, AllocError> {
+fn finishing(alloc: Global, world: &World) -> Result<String, AllocError> {
     let mut text = String::new(alloc);
+    tell_finishing(&mut text, world)?;
+    Ok(text)
+}
+
+fn tell_finishing(text: &mut String, world: &World) -> Result<(), AllocError> {
     for i in 0..world.finished().len() {
         if let Some(outcome) = world.outcome(i) {
-            describe_at_office(&mut text, outcome)?;
+            describe_at_office(text, outcome)?;
         }
     }
-    tell_values(&mut text, world)?;
-    Ok(text)
+    tell_values(text, world)
 }
 
 /// Where a session ended, and how. The serial run counts tickets without those of the sessions that were withdrawn.
@@ -232,26 +304,35 @@ fn describe_at_office(text: &mut String, outcome: &Outcome) -> Result<(), AllocE
 }
 
 /// What the serial run of the finished sessions tells.
-pub fn alone_in_order(
+fn alone_in_order(
     alloc: Global,
     world: &World,
     programs: &[Program],
     each: u32,
 ) -> Result<String, AllocError> {
     let finished = finished_programs(alloc, world.plan(), programs, each, world.finished())?;
-    let mut text = String::new(alloc);
     if finished.len() > 20_000 {
-        return Ok(text);
+        return Ok(String::new(alloc));
     }
-    let Replay { outcomes, values } = serial(alloc, world.plan(), &finished)?;
-    for outcome in &outcomes {
-        describe_at_office(&mut text, outcome)?;
+    let replay = serial(alloc, world.plan(), &finished)?;
+    told_of(alloc, &replay)
+}
+
+fn told_of(alloc: Global, replay: &Replay) -> Result<String, AllocError> {
+    let mut text = String::new(alloc);
+    tell_replay(&mut text, replay)?;
+    Ok(text)
+}
+
+fn tell_replay(text: &mut String, replay: &Replay) -> Result<(), AllocError> {
+    for outcome in &replay.outcomes {
+        describe_at_office(text, outcome)?;
     }
     text.push_str("values")?;
-    for value in &values {
+    for value in &replay.values {
         write!(text, " {}", value.number)?;
     }
-    Ok(text)
+    Ok(())
 }
 
 /// The finished programs that fit the plan, which are all of them.

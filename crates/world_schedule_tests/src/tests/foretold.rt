@@ -37,7 +37,6 @@ pub fn seen_of(
     seed: u64,
     events: usize,
 ) -> Result<Seen, AllocError> {
-    let mut words = Pcg64::new(u128::from(seed), 54);
     let mut seen = Seen {
         strange: None,
         kinds: 0,
@@ -47,18 +46,32 @@ pub fn seen_of(
         events: Vec::new(alloc),
         replies: Vec::new(alloc),
     };
+    let mut words = Pcg64::new(u128::from(seed), 54);
     for n in 0..events {
-        let event = event_of(alloc, world, programs, words.next_word())?;
-        let rules_agree = rules_agree(world, &event);
-        let foretold = foretold(world, &seen, &event);
-        let reply = world.apply(&event);
-        note(&mut seen, event, reply)?;
-        let frames_agree = world.frames() == seen.sent.len();
-        if !(rules_agree && frames_agree && is_foretold(foretold, &reply)) {
-            seen.strange = seen.strange.or(Some(n));
-        }
+        happens(alloc, world, programs, &mut seen, n, words.next_word())?;
     }
     Ok(seen)
+}
+
+/// The event of a drawn number happens, after so many.
+fn happens(
+    alloc: Global,
+    world: &mut World,
+    programs: &[Program],
+    seen: &mut Seen,
+    n: usize,
+    draw: u64,
+) -> Result<(), AllocError> {
+    let event = event_of(alloc, world, programs, draw)?;
+    let rules_agree = rules_agree(world, &event);
+    let foretold = foretold(world, seen, &event);
+    let reply = world.apply(&event);
+    note(seen, event, reply)?;
+    let frames_agree = world.frames() == seen.sent.len();
+    if !(rules_agree && frames_agree && is_foretold(foretold, &reply)) {
+        seen.strange = seen.strange.or(Some(n));
+    }
+    Ok(())
 }
 
 fn note(

@@ -1,11 +1,13 @@
 //! A world in which every office is in every other's way, left to itself until no session is left.
 
-use super::drawn::{alone_in_order, finishing, session_of, settles};
+use super::drawn::{session_of, settles, told_beside_alone};
+use super::{opened, programs_of};
 use office_map::{OfficeId, Plan};
-use session_language::{Program, read_sessions};
+use session_language::Program;
 use site_core::Reply;
 use std::alloc::{AllocError, Global};
 use std::fmt::Write;
+use std::process::Abort;
 use std::test::Fail;
 use world_schedule::World;
 
@@ -21,18 +23,39 @@ const TIMES: u32 = 5;
 /// neighbour, and a second one of one of them. All are submitted at first, and all finish, as they do in their serial run.
 #[test]
 fn a_crowded_world_settles(rt: HostRuntime) -> Result<(), Fail> {
-    let alloc = rt.alloc();
-    let plan = Plan::read(alloc, plan_text(alloc)?.as_bytes())?;
-    let programs = read_sessions(alloc, sessions_text(alloc)?.as_bytes(), &plan)?;
-    let mut world = World::open(alloc, plan)?;
-    assert!(rt; submits_all(&mut world, &programs));
-    assert_eq!(rt; world.unfinished(), 640);
-    assert!(rt; settles(&mut world));
-    assert_eq!(rt; world.finished().len(), 640);
-    let told = finishing(alloc, &world)?;
-    let alone = alone_in_order(alloc, &world, &programs, u32::from(RECORDS))?;
-    assert!(rt; told == alone);
+    let mut world = crowded_world(rt.alloc())?;
+    let programs = crowded_programs(rt.alloc(), world.plan())?;
+    settles_as_alone(&rt, rt.alloc(), &mut world, &programs)?;
     Ok(())
+}
+
+fn crowded_world(alloc: Global) -> Result<World, Fail> {
+    let plan = plan_text(alloc)?;
+    opened(alloc, plan.as_str())
+}
+
+fn crowded_programs(alloc: Global, plan: &Plan) -> Result<Vec<Program>, Fail> {
+    let sessions = sessions_text(alloc)?;
+    programs_of(alloc, plan, sessions.as_str())
+}
+
+fn settles_as_alone(
+    rt: &impl Abort,
+    alloc: Global,
+    world: &mut World,
+    programs: &[Program],
+) -> Result<(), AllocError> {
+    all_finish(rt, world, programs);
+    let told = told_beside_alone(alloc, world, programs, u32::from(RECORDS))?;
+    assert!(rt; told.is_as_alone);
+    Ok(())
+}
+
+fn all_finish(rt: &impl Abort, world: &mut World, programs: &[Program]) {
+    assert!(rt; submits_all(world, programs));
+    assert_eq!(rt; world.unfinished(), 640);
+    assert!(rt; settles(world));
+    assert_eq!(rt; world.finished().len(), 640);
 }
 
 /// Whether each office gets its sessions in turn, with the tickets from 1 on.
@@ -61,16 +84,26 @@ fn submits_one_each(world: &mut World, programs: &[Program], ticket: u32) -> boo
 /// All offices are neighbours. A pair's fork and half of its records start at the one, half at the other.
 fn plan_text(alloc: Global) -> Result<String, AllocError> {
     let mut text = String::from_str(alloc, "plan 1 run 7\n")?;
+    add_offices(&mut text)?;
+    add_pairs(&mut text)?;
+    Ok(text)
+}
+
+fn add_offices(text: &mut String) -> Result<(), AllocError> {
     for a in 0..OFFICES {
         write!(text, "office o{a} -\n")?;
     }
+    Ok(())
+}
+
+fn add_pairs(text: &mut String) -> Result<(), AllocError> {
     for b in 0..OFFICES {
         for a in 0..b {
             write!(text, "pair o{a} o{b} fork o{a}\n")?;
-            add_records(&mut text, a, b)?;
+            add_records(text, a, b)?;
         }
     }
-    Ok(text)
+    Ok(())
 }
 
 fn add_records(text: &mut String, a: u8, b: u8) -> Result<(), AllocError> {
@@ -86,14 +119,18 @@ fn sessions_text(alloc: Global) -> Result<String, AllocError> {
     let mut text = String::new(alloc);
     for at in 0..OFFICES {
         for k in 0..RECORDS {
-            write!(text, "session o{at}\n")?;
-            add_lines(&mut text, at, k)?;
-            let (a, b) = if at == 0 { (0, 1) } else { (0, at) };
-            let next = (k + 1) % RECORDS;
-            write!(text, "give read r{a}x{b}n{next} - read r{a}x{b}n{k}\nend\n")?;
+            add_session(&mut text, at, k)?;
         }
     }
     Ok(text)
+}
+
+fn add_session(text: &mut String, at: u8, k: u8) -> Result<(), AllocError> {
+    write!(text, "session o{at}\n")?;
+    add_lines(text, at, k)?;
+    let (a, b) = if at == 0 { (0, 1) } else { (0, at) };
+    let next = k.saturating_add(1) % RECORDS;
+    write!(text, "give read r{a}x{b}n{next} - read r{a}x{b}n{k}\nend\n")
 }
 
 /// A record of every neighbour grows by the numbers of both offices, or goes back to what it was at first.
