@@ -1,6 +1,5 @@
 -- What was read of a line is what it says.
-use Rattle.std.proofs.Common.{◌≡◌, ◌≢◌, ℕ, List, [], ◌∷◌, ◌++◌, length, map, Option, Some, None, Ok, Err, Bor, refl, sym, ap, subst, arith}
-use Rattle.office_map.specs.PlanValue.{PlanValue}
+use Rattle.std.proofs.Common.{◌≡◌, ◌≢◌, ℕ, List, [], ◌∷◌, ◌++◌, length, Option, Some, None, Ok, refl, sym, ap, subst, arith}
 use Rattle.session_meaning.specs.ProgramValue.{ProgramValue}
 use Rattle.frame_codec.specs.Frame.{Fields}
 use Rattle.site_core.specs.declared.event.Event.TheVariants as event
@@ -8,68 +7,9 @@ use Rattle.site_core.specs.declared.reply.Reply.{Reply}
 use Rattle.site_core.specs.declared.reply.Reply.TheVariants as reply
 use Rattle.run_words.specs.Digits.{bytes_in, IsFrameWord}
 use Rattle.run_words.specs.declared.digits.FrameWord.TheVariants as frame
-use Rattle.journal_texts.specs.declared.fault.JournalRule.TheVariants.{Journal}
 use Rattle.journal_texts.specs.declared.line.Told.TheVariants as told
-use Rattle.journal_texts.specs.Lines.{took_line, do_line, send_line, submit_line, withdraw_line, took_by, sent_by, one_program}
-use Rattle.journal_texts.specs.JournalText.{header_said, office_of_header}
+use Rattle.journal_texts.specs.Lines.{took_by, sent_by, one_program}
 use Rattle.journal_texts.specs.refinement.ReadLines.{Reads}
-
--- lines of other lengths
-
-abbrev Words : Type 0
-Words = List (Bor (List ℕ))
-
-abbrev texts : Words → List (List ℕ)
-texts = map (λ w. w.now)
-
-pub other_took : (tag : ℕ) (ws : Words) → length ws ≢ 3 → Reads (took_line tag (texts ws)) None
-other_took tag [] h = tt
-other_took tag (a ∷ []) h = tt
-other_took tag (a ∷ b ∷ []) h = tt
-other_took tag (a ∷ b ∷ c ∷ []) h = absurd (omega arith)
-other_took tag (a ∷ b ∷ c ∷ d ∷ more) h = tt
-
-pub other_withdraw : (tag : ℕ) (ws : Words) → length ws ≢ 3 → Reads (withdraw_line tag (texts ws)) None
-other_withdraw tag [] h = tt
-other_withdraw tag (a ∷ []) h = tt
-other_withdraw tag (a ∷ b ∷ []) h = tt
-other_withdraw tag (a ∷ b ∷ c ∷ []) h = absurd (omega arith)
-other_withdraw tag (a ∷ b ∷ c ∷ d ∷ more) h = tt
-
-pub other_do : (p : PlanValue) (tag : ℕ) (ws : Words) → length ws ≢ 3 → length ws ≢ 4 → Reads (do_line p tag (texts ws)) None
-other_do p tag [] h k = tt
-other_do p tag (a ∷ []) h k = tt
-other_do p tag (a ∷ b ∷ []) h k = tt
-other_do p tag (a ∷ b ∷ c ∷ []) h k = absurd (omega arith)
-other_do p tag (a ∷ b ∷ c ∷ d ∷ []) h k = absurd (omega arith)
-other_do p tag (a ∷ b ∷ c ∷ d ∷ e ∷ more) h k = tt
-
-pub other_submit : (p : PlanValue) (tag : ℕ) (ws : Words) → length ws ≢ 4 → Reads (submit_line p tag (texts ws)) None
-other_submit p tag [] h = tt
-other_submit p tag (a ∷ []) h = tt
-other_submit p tag (a ∷ b ∷ []) h = tt
-other_submit p tag (a ∷ b ∷ c ∷ []) h = tt
-other_submit p tag (a ∷ b ∷ c ∷ d ∷ []) h = absurd (omega arith)
-other_submit p tag (a ∷ b ∷ c ∷ d ∷ e ∷ more) h = tt
-
-pub other_send : (p : PlanValue) (tag : ℕ) (ws : Words) → length ws ≢ 5 → Reads (send_line p tag (texts ws)) None
-other_send p tag [] h = tt
-other_send p tag (a ∷ []) h = tt
-other_send p tag (a ∷ b ∷ []) h = tt
-other_send p tag (a ∷ b ∷ c ∷ []) h = tt
-other_send p tag (a ∷ b ∷ c ∷ d ∷ []) h = tt
-other_send p tag (a ∷ b ∷ c ∷ d ∷ e ∷ []) h = absurd (omega arith)
-other_send p tag (a ∷ b ∷ c ∷ d ∷ e ∷ f ∷ more) h = tt
-
-pub other_header : (p : PlanValue) (ws : Words) → length ws ≢ 6 → office_of_header p (header_said (texts ws)) ≡ Err Journal
-other_header p [] h = refl
-other_header p (a ∷ []) h = refl
-other_header p (a ∷ b ∷ []) h = refl
-other_header p (a ∷ b ∷ c ∷ []) h = refl
-other_header p (a ∷ b ∷ c ∷ d ∷ []) h = refl
-other_header p (a ∷ b ∷ c ∷ d ∷ e ∷ []) h = refl
-other_header p (a ∷ b ∷ c ∷ d ∷ e ∷ f ∷ []) h = absurd (omega arith)
-other_header p (a ∷ b ∷ c ∷ d ∷ e ∷ f ∷ g ∷ more) h = refl
 
 -- frames that came
 

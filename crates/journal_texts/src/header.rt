@@ -1,43 +1,44 @@
 //! The first line of a journal.
 
-ghost use Rattle.std.specs.Prelude.{◌≡◌, ◌&&◌, codes, map, IfOk};
+ghost use Rattle.std.specs.Prelude.{◌≡◌, ◌&&◌, Some, codes, option_map};
 ghost use Rattle.std.specs.Str.{bytes_eq};
-ghost use Rattle.std.specs.Option.{option_copied};
-ghost use Rattle.journal_texts.specs.JournalText.{run_and_name, header_said, header_of, office_of_header};
+ghost use Rattle.text_lines.specs.Text.{words_of};
+ghost use Rattle.journal_texts.specs.JournalText.{header_said, header_of, office_of_header};
 
 use crate::fault::JournalRule;
 use crate::line::are;
 use office_map::{OfficeId, Plan};
-use std::alloc::{AllocError, Global};
-use text_lines::{is_plain, name, number, words};
+use text_lines::{first_word, is_plain, name, number};
 
 /// Whose journal a first line begins, or what is wrong with it.
-pub(crate) fn header(
-    alloc: Global,
-    plan: &Plan,
-    line: &[u8],
-) -> Result<Result<OfficeId, JournalRule>, AllocError>
-    ensures { IfOk result (λ r. r ≡ header_of plan.now line.now) }
+pub(crate) fn header(plan: &Plan, line: &[u8]) -> Result<OfficeId, JournalRule>
+    ensures { result ≡ header_of plan.now line.now }
 {
     if !is_plain(line) {
-        return Ok(Err(JournalRule::Journal));
+        return Err(JournalRule::Journal);
     }
-    let words = words(alloc, line)?;
-    Ok(header_by(plan, &words))
+    match run_and_name(line) {
+        Some((run, name)) => office_of(plan, run, name),
+        None => Err(JournalRule::Journal),
+    }
 }
 
-/// The same, of the words of a first line.
-#[tactic(auto, using(crate::proofs::ReadLines::other_header))]
-fn header_by(plan: &Plan, words: &[&[u8]]) -> Result<OfficeId, JournalRule>
-    ensures { result ≡ office_of_header plan.now (header_said (map (λ w. w.now) words.now)) }
+/// The run and the office's name, of a line that is `journal 1 run N office NAME`.
+fn run_and_name(line: &[u8]) -> Option<(u64, &str)>
+    ensures { option_map (λ h. (h.0, h.1.now)) result ≡ header_said (words_of line.now) }
 {
-    if words.len() != 6 {
-        return Err(JournalRule::Journal);
+    let (journal, left) = first_word(line)?;
+    let (one, left) = first_word(left)?;
+    let (run, left) = first_word(left)?;
+    let (n, left) = first_word(left)?;
+    let (office, left) = first_word(left)?;
+    let (word, left) = first_word(left)?;
+    if first_word(left).is_some() || !is_header(journal, one, run, office) {
+        return None;
     }
-    if !is_header(words[0], words[1], words[2], words[4]) {
-        return Err(JournalRule::Journal);
-    }
-    office_of(plan, number(words[3]), name(words[5]))
+    let run = number(n)?;
+    let name = name(word)?;
+    Some((run, name))
 }
 
 /// Whether these are the words of a header beside the run and the name.
@@ -48,15 +49,9 @@ fn is_header(journal: &[u8], one: &[u8], run: &[u8], office: &[u8]) -> bool
 }
 
 /// The office of that name, where the run is the plan's.
-fn office_of(plan: &Plan, run: Option<u64>, name: Option<&str>) -> Result<OfficeId, JournalRule>
-    ensures { result ≡ office_of_header plan.now (run_and_name run (option_copied name.entry)) }
+fn office_of(plan: &Plan, run: u64, name: &str) -> Result<OfficeId, JournalRule>
+    ensures { result ≡ office_of_header plan.now (Some (run, name.now)) }
 {
-    let Some(run) = run else {
-        return Err(JournalRule::Journal);
-    };
-    let Some(name) = name else {
-        return Err(JournalRule::Journal);
-    };
     if run != u64::from(plan.run()) {
         return Err(JournalRule::JournalHeader);
     }

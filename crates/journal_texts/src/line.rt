@@ -1,9 +1,10 @@
 //! A line of a journal after the first.
 
-ghost use Rattle.std.specs.Prelude.{◌≡◌, Some, None, Ok, map, ◌&&◌, if◌then◌else◌, IfOk};
+ghost use Rattle.std.specs.Prelude.{◌≡◌, Some, None, Ok, ◌&&◌, if◌then◌else◌, IfOk};
 ghost use Rattle.std.specs.Str.{bytes_eq};
+ghost use Rattle.text_lines.specs.Text.{words_of};
 ghost use Rattle.run_words.specs.Digits.{bytes_in};
-ghost use Rattle.journal_texts.specs.Lines.{said_of, said_by, said_after, tag_of, took_line, do_line, send_line, submit_line, withdraw_line, done_by, withdrawn_by, took_by, submitted_by, sent_by, program_in, one_program, is_done};
+ghost use Rattle.journal_texts.specs.Lines.{said_of, said_after, tag_of, took_line, do_line, send_line, submit_line, withdraw_line, done_by, withdrawn_by, took_by, submitted_by, sent_by, program_in, one_program, is_done};
 ghost use Rattle.journal_texts.specs.declared.line.Told.TheVariants as tolds;
 ghost use Rattle.journal_texts.specs.refinement.ReadLines.{Reads};
 
@@ -15,7 +16,7 @@ use run_words::words::{great_count_by, is, office_by};
 use session_language::{LangFault, Program, read_sessions};
 use site_core::{Entry, Event, Reply, Rule};
 use std::alloc::{AllocError, Global};
-use text_lines::{is_plain, number, words};
+use text_lines::{first_word, is_plain, number};
 
 /// Tags are below.
 const TAGS: u64 = 16;
@@ -36,19 +37,12 @@ pub(crate) fn read_line(alloc: Global, plan: &Plan, line: &[u8]) -> Result<Optio
     if !is_plain(line) {
         return Ok(None);
     }
-    let words = words(alloc, line)?;
-    told_by(alloc, plan, &words)
-}
-
-fn told_by(alloc: Global, plan: &Plan, words: &[&[u8]]) -> Result<Option<Told>, AllocError>
-    ensures { IfOk result (Reads (said_by plan.now (map (λ w. w.now) words.now))) }
-{
-    let Some((first, words)) = words.split_first() else {
+    let Some((first, left)) = first_word(line) else {
         return Ok(None);
     };
     match tag(first) {
         None => Ok(None),
-        Some(tag) => told_after(alloc, plan, tag, words),
+        Some(tag) => told_after(alloc, plan, tag, left),
     }
 }
 
@@ -60,116 +54,107 @@ fn tag(word: &[u8]) -> Option<u8>
 }
 
 /// What the words after a tag say.
-fn told_after(
-    alloc: Global,
-    plan: &Plan,
-    tag: u8,
-    words: &[&[u8]],
-) -> Result<Option<Told>, AllocError>
-    ensures { IfOk result (Reads (said_after plan.now tag (map (λ w. w.now) words.now))) }
+fn told_after(alloc: Global, plan: &Plan, tag: u8, left: &[u8]) -> Result<Option<Told>, AllocError>
+    ensures { IfOk result (Reads (said_after plan.now tag (words_of left.now))) }
 {
-    let Some((keyword, words)) = words.split_first() else {
+    let Some((keyword, left)) = first_word(left) else {
         return Ok(None);
     };
     if is(keyword, "took") {
-        return Ok(took_line(tag, words));
+        return Ok(took_line(tag, left));
     }
     if is(keyword, "do") {
-        return Ok(do_line(plan, tag, words));
+        return Ok(do_line(plan, tag, left));
     }
     if is(keyword, "send") {
-        return Ok(send_line(plan, tag, words));
+        return Ok(send_line(plan, tag, left));
     }
     if is(keyword, "submit") {
-        return submit_line(alloc, plan, tag, words);
+        return submit_line(alloc, plan, tag, left);
     }
     if is(keyword, "withdraw") {
-        return Ok(withdraw_line(tag, words));
+        return Ok(withdraw_line(tag, left));
     }
     Ok(None)
 }
 
 /// A frame that came.
-#[tactic(auto, using(crate::proofs::ReadLines::other_took))]
-fn took_line(tag: u8, words: &[&[u8]]) -> Option<Told>
-    ensures { Reads (took_line tag (map (λ w. w.now) words.now)) result }
+fn took_line(tag: u8, left: &[u8]) -> Option<Told>
+    ensures { Reads (took_line tag (words_of left.now)) result }
 {
-    if words.len() != 3 {
+    let (word, left) = first_word(left)?;
+    let (sign, left) = first_word(left)?;
+    let (what, left) = first_word(left)?;
+    if first_word(left).is_some() || !is(sign, "=") {
         return None;
     }
-    if !is(words[1], "=") {
-        return None;
-    }
-    came(tag, words[0], arrival_named(words[2]))
+    came(tag, word, arrival_named(what))
 }
 
-/// A rule that was done.
-#[tactic(auto, using(crate::proofs::ReadLines::other_do))]
-fn do_line(plan: &Plan, tag: u8, words: &[&[u8]]) -> Option<Told>
-    ensures { Reads (do_line plan.now tag (map (λ w. w.now) words.now)) result }
+/// A rule that was done, of a word or of two.
+fn do_line(plan: &Plan, tag: u8, left: &[u8]) -> Option<Told>
+    ensures { Reads (do_line plan.now tag (words_of left.now)) result }
 {
-    match words.len() {
-        3 => done(tag, rule_named(words[0]), is_done(words[1], words[2])),
-        4 => done(
-            tag,
-            rule_with(plan, words[0], words[1]),
-            is_done(words[2], words[3]),
-        ),
-        _ => None,
+    let (name, left) = first_word(left)?;
+    let (a, left) = first_word(left)?;
+    let (b, left) = first_word(left)?;
+    let Some((c, left)) = first_word(left) else {
+        return done(tag, rule_named(name), is_done(a, b));
+    };
+    match first_word(left) {
+        Some(_) => None,
+        None => done(tag, rule_with(plan, name, a), is_done(b, c)),
     }
 }
 
 /// A frame that was made.
-#[tactic(auto, using(crate::proofs::ReadLines::other_send))]
-fn send_line(plan: &Plan, tag: u8, words: &[&[u8]]) -> Option<Told>
-    ensures { Reads (send_line plan.now tag (map (λ w. w.now) words.now)) result }
+fn send_line(plan: &Plan, tag: u8, left: &[u8]) -> Option<Told>
+    ensures { Reads (send_line plan.now tag (words_of left.now)) result }
 {
-    if words.len() != 5 {
+    let (neighbour, left) = first_word(left)?;
+    let (i, left) = first_word(left)?;
+    let (sign, left) = first_word(left)?;
+    let (answer, left) = first_word(left)?;
+    let (word, left) = first_word(left)?;
+    if first_word(left).is_some() || !are(sign, "=", answer, "frame") {
         return None;
     }
-    if !are(words[2], "=", words[3], "frame") {
-        return None;
-    }
-    made(tag, office_by(plan, words[0]), number(words[1]), words[4])
+    made(tag, office_by(plan, neighbour), number(i), word)
 }
 
 /// A session that was submitted.
-#[tactic(auto, using(crate::proofs::ReadLines::other_submit))]
-fn submit_line(
-    alloc: Global,
-    plan: &Plan,
-    tag: u8,
-    words: &[&[u8]],
-) -> Result<Option<Told>, AllocError>
-    ensures { IfOk result (Reads (submit_line plan.now tag (map (λ w. w.now) words.now))) }
+fn submit_line(alloc: Global, plan: &Plan, tag: u8, left: &[u8]) -> Result<Option<Told>, AllocError>
+    ensures { IfOk result (Reads (submit_line plan.now tag (words_of left.now))) }
 {
-    if words.len() != 4 {
+    let Some((word, left)) = first_word(left) else {
+        return Ok(None);
+    };
+    let Some((sign, left)) = first_word(left) else {
+        return Ok(None);
+    };
+    let Some((answer, left)) = first_word(left) else {
+        return Ok(None);
+    };
+    let Some((ticket, left)) = first_word(left) else {
+        return Ok(None);
+    };
+    if first_word(left).is_some() || !are(sign, "=", answer, "ticket") {
         return Ok(None);
     }
-    if !are(words[1], "=", words[2], "ticket") {
-        return Ok(None);
-    }
-    submitted(
-        alloc,
-        plan,
-        tag,
-        words[0],
-        great_count_by(u32::MAX, words[3]),
-    )
+    submitted(alloc, plan, tag, word, great_count_by(u32::MAX, ticket))
 }
 
 /// A session that was withdrawn.
-#[tactic(auto, using(crate::proofs::ReadLines::other_withdraw))]
-fn withdraw_line(tag: u8, words: &[&[u8]]) -> Option<Told>
-    ensures { Reads (withdraw_line tag (map (λ w. w.now) words.now)) result }
+fn withdraw_line(tag: u8, left: &[u8]) -> Option<Told>
+    ensures { Reads (withdraw_line tag (words_of left.now)) result }
 {
-    if words.len() != 3 {
+    let (ticket, left) = first_word(left)?;
+    let (sign, left) = first_word(left)?;
+    let (answer, left) = first_word(left)?;
+    if first_word(left).is_some() || !is_done(sign, answer) {
         return None;
     }
-    if !is_done(words[1], words[2]) {
-        return None;
-    }
-    withdrawn(tag, great_count_by(u32::MAX, words[0]))
+    withdrawn(tag, great_count_by(u32::MAX, ticket))
 }
 
 fn is_done(sign: &[u8], answer: &[u8]) -> bool

@@ -31,7 +31,7 @@ pub fn read_journal(alloc: Global, text: &[u8], plan: &Plan) -> Result<JournalTe
     let Some((line, first)) = left.next() else {
         return Err(refused(JournalRule::Journal, 0));
     };
-    let office = match header(alloc, plan, first)? {
+    let office = match header(plan, first) {
         Ok(office) => office,
         Err(rule) => return Err(refused(rule, line)),
     };
