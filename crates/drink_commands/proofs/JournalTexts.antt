@@ -1,7 +1,6 @@
 -- What is so of the texts of journals that are read one after another, those that are known.
-use Rattle.std.proofs.Common.{◌≡◌, ◌⊎◌, ◌+◌, ◌-◌, ◌<◌, ◌≤◌, ℕ, zero, suc, List, [], ◌∷◌, ◌++◌, length, take, Contains, get_or, Option, None, Bool, true, false, if◌then◌else◌, refl, sym, subst, ap, ◌∙◌, append_assoc, arith, inl, inr}
+use Rattle.std.proofs.Common.{◌≡◌, ◌⊎◌, ◌+◌, ◌-◌, ◌<◌, ◌≤◌, ℕ, zero, suc, List, [], ◌∷◌, ◌++◌, length, take, Contains, Option, Bool, true, false, if◌then◌else◌, refl, sym, subst, ap, ◌∙◌, append_assoc, arith, inl, inr}
 use Rattle.std.proofs.lemmas.List.{append-nil}
-use Rattle.office_map.specs.declared.entries.OfficeEntry.{OfficeEntry}
 use Rattle.input_texts.specs.Words.{HasText, HaveTexts, Unread, unread}
 use Rattle.office_map.specs.PlanValue.{PlanValue}
 use Rattle.journal_weave.specs.declared.given.GivenJournal.{GivenJournal}
@@ -15,7 +14,7 @@ use Rattle.drink_commands.specs.Audit.{Tells, IsJudgedAudit, JudgesJournals, Say
 use Rattle.drink_commands.specs.Fault.{IsAmong, IsFaultAt, IsNoJournal}
 use Rattle.drink_commands.specs.Texts.{Refuses, nothing}
 use Rattle.drink_commands.specs.refinement.Journals.{GathersFirst, IsNamed, SaysAudit, SaysFrom, SaysJournals, SaysOne, Slots, TakesAll, TakesOne, TellsAudit}
-use Rattle.journal_audit.proofs.Gathering.{gathered_nothing}
+use Rattle.journal_audit.proofs.Gathering.{none_gathered}
 use Rattle.drink_commands.proofs.Faults.{TakesPlan, among, among_more, weaker}
 
 -- ---- lists
@@ -54,20 +53,6 @@ among_next place n k f e h =
 
 nothing_contains : (x : Input) → Contains [] x → ⊥
 nothing_contains x (k, lt, e) = omega (arith, lt)
-
--- of no office a journal is there
-abbrev nones : List OfficeEntry → Slots
-nones [] = []
-nones (x ∷ xs) = None ∷ nones xs
-
-length_nones : (xs : List OfficeEntry) → length (nones xs) ≡ length xs
-length_nones [] = refl
-length_nones (x ∷ xs) = ap suc (length_nones xs)
-
-none_at : (xs : List OfficeEntry) (a : ℕ) → get_or (nones xs) a None ≡ None
-none_at [] a = refl
-none_at (x ∷ xs) zero = refl
-none_at (x ∷ xs) (suc a) = none_at xs a
 
 module _ (files : List ℕ → Option (List ℕ)) (p : PlanValue) where
   -- ---- gathered
@@ -205,7 +190,9 @@ module _ (files : List ℕ → Option (List ℕ)) (p : PlanValue) where
 
   -- memory ran out, and nothing is said
   memory_says : (count : ℕ) (texts : List (List ℕ)) → JudgesJournals p count texts Memory
-  memory_says count [] = inr (nones p.offices, gathered_nothing p (nones p.offices) (length_nones p.offices) (none_at p.offices), after_all p [] _ Memory tt)
+  memory_says count [] =
+      let gathered = none_gathered p in
+      inr (gathered.0, gathered.1, after_all p [] _ Memory tt)
   memory_says count (text ∷ texts) = inl (0, omega arith, tt)
 
   pub says_memory : (u : Unread) (words : List (List ℕ)) → SaysFrom files p u words Memory

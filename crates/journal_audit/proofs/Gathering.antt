@@ -98,7 +98,7 @@ push_none [] h (suc a) = refl
 push_none (x ∷ xs) h zero = h 0
 push_none (x ∷ xs) h (suc a) = push_none xs (λ b. h (suc b)) a
 
-abbrev nothing : List OfficeEntry → List (Option (List ℕ))
+abbrev nothing : {A : Type 0} → List OfficeEntry → List (Option A)
 nothing [] = []
 nothing (x ∷ xs) = None ∷ nothing xs
 
@@ -106,11 +106,11 @@ present-nothing : (xs : List OfficeEntry) → present (nothing xs) ≡ []
 present-nothing [] = refl
 present-nothing (x ∷ xs) = present-nothing xs
 
-length-nothing : (xs : List OfficeEntry) → length (nothing xs) ≡ length xs
-length-nothing [] = refl
-length-nothing (x ∷ xs) = ap suc (length-nothing xs)
+length-nothing : (A : Type 0) (xs : List OfficeEntry) → length (nothing {A = A} xs) ≡ length xs
+length-nothing A [] = refl
+length-nothing A (x ∷ xs) = ap suc (length-nothing A xs)
 
-at_nothing : (xs : List OfficeEntry) (a : ℕ) → get_or (nothing xs) a None ≡ None
+at_nothing : {A : Type 0} (xs : List OfficeEntry) (a : ℕ) → get_or (nothing {A = A} xs) a None ≡ None
 at_nothing [] a = refl
 at_nothing (x ∷ xs) zero = refl
 at_nothing (x ∷ xs) (suc a) = at_nothing xs a
@@ -119,10 +119,14 @@ pub gathered_nothing : (p : PlanValue) (journals : List (Option GivenJournal)) �
 gathered_nothing p journals size empty = record {
   by_office = nothing p.offices;
   same = subst (λ l. IsPermutation l []) (sym (present-nothing p.offices)) (IsPermutation-refl []);
-  texts_for = length-nothing p.offices;
+  texts_for = length-nothing (List ℕ) p.offices;
   journals_for = size;
   given = λ a. subst (λ j. IsGiven p a (get_or (nothing p.offices) a None) j) (sym (empty a)) (subst (λ t. IsGiven p a t None) (sym (at_nothing p.offices a)) tt);
 }
+
+-- where no text is there, no journal is
+pub none_gathered : (p : PlanValue) → (journals : List (Option GivenJournal)) × AreGathered p [] journals
+none_gathered p = (nothing p.offices, gathered_nothing p (nothing p.offices) (length-nothing GivenJournal p.offices) (at_nothing p.offices))
 
 module _ (p : PlanValue) (texts : List (List ℕ)) (journals : List (Option GivenJournal)) (g : AreGathered p texts journals) where
   -- one text more
