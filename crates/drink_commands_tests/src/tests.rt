@@ -163,39 +163,41 @@ fn prints(rt: &(impl Abort + AllocGlobal), memory: &Memory<'_>, printed: &str) {
     assert_eq!(rt; out.as_slice(), printed.as_bytes());
 }
 
+/// A plan, sessions, and what is printed of them.
+static PRINTED: [(&str, &str, &str); 7] = [
+    (PLAN, MOVE, MOVED),
+    (PLAN, "", "value x 100\nvalue y 0\n"),
+    (
+        PLAN,
+        "session a\nlet i = 0\nrepeat 3\nlet i = i + 1\nif i * 2 > 3\ngive i\nelse\ngive -i\nend\nend\nend\n",
+        "a.1 done reads - writes - gives -1 2 3\nvalue x 100\nvalue y 0\n",
+    ),
+    (
+        PLAN,
+        "session a\nset x = 1\nset x = 9223372036854775807 + 1\nend\n",
+        "a.1 overflow reads x=100 writes - gives -\nvalue x 100\nvalue y 0\n",
+    ),
+    (
+        PLAN_OF_99,
+        "session a\nset x = read x - 100\nrequire read x >= 0 else 7\nend\n",
+        "a.1 refused 7 reads x=99 writes - gives -\nvalue x 99\nvalue y 0\n",
+    ),
+    (
+        PLAN,
+        "session a\nset x = read x - 100\nrequire read x >= 0 else 7\nend\n",
+        "a.1 done reads x=100 writes x=0 gives -\nvalue x 0\nvalue y 0\n",
+    ),
+    // Tickets are counted for each office.
+    (
+        PLAN,
+        "session b\ngive 1\nend\nsession a\nset x = -5\nend\nsession b\ngive read x\ngive -7\nend\n",
+        "b.1 done reads - writes - gives 1\na.1 done reads x=100 writes x=-5 gives -\nb.2 done reads x=-5 writes - gives -5 -7\nvalue x -5\nvalue y 0\n",
+    ),
+];
+
 #[test]
 fn prints_sessions_and_values(rt: HostRuntime) {
-    let rows = [
-        (PLAN, MOVE, MOVED),
-        (PLAN, "", "value x 100\nvalue y 0\n"),
-        (
-            PLAN,
-            "session a\nlet i = 0\nrepeat 3\nlet i = i + 1\nif i * 2 > 3\ngive i\nelse\ngive -i\nend\nend\nend\n",
-            "a.1 done reads - writes - gives -1 2 3\nvalue x 100\nvalue y 0\n",
-        ),
-        (
-            PLAN,
-            "session a\nset x = 1\nset x = 9223372036854775807 + 1\nend\n",
-            "a.1 overflow reads x=100 writes - gives -\nvalue x 100\nvalue y 0\n",
-        ),
-        (
-            PLAN_OF_99,
-            "session a\nset x = read x - 100\nrequire read x >= 0 else 7\nend\n",
-            "a.1 refused 7 reads x=99 writes - gives -\nvalue x 99\nvalue y 0\n",
-        ),
-        (
-            PLAN,
-            "session a\nset x = read x - 100\nrequire read x >= 0 else 7\nend\n",
-            "a.1 done reads x=100 writes x=0 gives -\nvalue x 0\nvalue y 0\n",
-        ),
-        // Tickets are counted for each office.
-        (
-            PLAN,
-            "session b\ngive 1\nend\nsession a\nset x = -5\nend\nsession b\ngive read x\ngive -7\nend\n",
-            "b.1 done reads - writes - gives 1\na.1 done reads x=100 writes x=-5 gives -\nb.2 done reads x=-5 writes - gives -5 -7\nvalue x -5\nvalue y 0\n",
-        ),
-    ];
-    for (plan, sessions, printed) in rows {
+    for (plan, sessions, printed) in &PRINTED {
         let memory = Memory::new(plan, sessions, "");
         prints(&rt, &memory, printed);
     }

@@ -410,45 +410,47 @@ fn refused(rt: &(impl Abort + AllocGlobal), script: &str, line: u64) {
     assert_eq!(rt; out.len(), 0);
 }
 
+/// Scripts whose last line is refused, and the number of that line.
+static OTHERS: [(&str, u64); 33] = [
+    ("send a b", 1),
+    ("send a c 1", 1),
+    ("send c a 1", 1),
+    ("send a b first", 1),
+    ("submit 1\n\n# send\nadvance a 1\nadvance a 0", 5),
+    ("advance a 1001", 1),
+    ("advance c 1", 1),
+    ("settle 0", 1),
+    ("settle 1000000\nsettle 1000001", 2),
+    ("settle a 1", 1),
+    ("withdraw a", 1),
+    ("withdraw a 0", 1),
+    ("withdraw a 4294967295\nwithdraw a 4294967296", 2),
+    ("withdraw c 1", 1),
+    ("do a eat a", 1),
+    ("do a askfork c", 1),
+    ("do c start", 1),
+    ("do let start", 1),
+    ("do a start x", 1),
+    ("do a askbottle", 1),
+    ("do a askbottle z", 1),
+    ("do a givebottle b", 1),
+    ("do a work 0", 1),
+    ("do a work 1000\ndo a work 1001", 2),
+    ("submit 0", 1),
+    ("submit 1\nsubmit 2", 2),
+    ("submit", 1),
+    ("submit 1 # first", 1),
+    ("Submit 1", 1),
+    ("submit -1", 1),
+    ("deliver 0", 1),
+    ("deliver 9223372036854775808", 1),
+    ("deliver 1\ndeliver 1\u{7f}", 2),
+];
+
 #[test]
 fn other_lines_are_refused(rt: HostRuntime) {
-    let rows = [
-        ("send a b", 1),
-        ("send a c 1", 1),
-        ("send c a 1", 1),
-        ("send a b first", 1),
-        ("submit 1\n\n# send\nadvance a 1\nadvance a 0", 5),
-        ("advance a 1001", 1),
-        ("advance c 1", 1),
-        ("settle 0", 1),
-        ("settle 1000000\nsettle 1000001", 2),
-        ("settle a 1", 1),
-        ("withdraw a", 1),
-        ("withdraw a 0", 1),
-        ("withdraw a 4294967295\nwithdraw a 4294967296", 2),
-        ("withdraw c 1", 1),
-        ("do a eat a", 1),
-        ("do a askfork c", 1),
-        ("do c start", 1),
-        ("do let start", 1),
-        ("do a start x", 1),
-        ("do a askbottle", 1),
-        ("do a askbottle z", 1),
-        ("do a givebottle b", 1),
-        ("do a work 0", 1),
-        ("do a work 1000\ndo a work 1001", 2),
-        ("submit 0", 1),
-        ("submit 1\nsubmit 2", 2),
-        ("submit", 1),
-        ("submit 1 # first", 1),
-        ("Submit 1", 1),
-        ("submit -1", 1),
-        ("deliver 0", 1),
-        ("deliver 9223372036854775808", 1),
-        ("deliver 1\ndeliver 1\u{7f}", 2),
-    ];
-    for (script, line) in rows {
-        refused(&rt, script, line);
+    for (script, line) in &OTHERS {
+        refused(&rt, script, *line);
     }
 }
 
@@ -473,34 +475,25 @@ fn a_script_has_a_longest_text(rt: HostRuntime) {
 
 #[test]
 fn refused_sessions_leave_the_script_unread(rt: HostRuntime) {
-    let memory = Memory::new(PLAN, "session c", "submit 1\n");
     let mut out = Vec::new(rt.alloc());
     let mut files = InMemory::new(rt.alloc());
-    let result = sim::run(
-        rt.alloc(),
-        &memory,
-        "p",
-        "s",
-        "missing",
-        Some("d"),
-        &mut files,
-        &mut out,
-    );
+    let result = without_script(rt.alloc(), "session c", &mut files, &mut out);
     assert!(rt; matches!(why(result), Some(Why::Sessions(_))));
-    let memory = Memory::new(PLAN, MOVE, "submit 1\n");
-    let result = sim::run(
-        rt.alloc(),
-        &memory,
-        "p",
-        "s",
-        "missing",
-        Some("d"),
-        &mut files,
-        &mut out,
-    );
+    let result = without_script(rt.alloc(), MOVE, &mut files, &mut out);
     let failed = Fault::ReadFailed(Input::Script, io::ErrorKind::NotFound);
     assert_eq!(rt; result, Err(failed));
     assert_eq!(rt; out.len(), 0);
     assert_eq!(rt; files.files().len(), 0);
     assert_eq!(rt; files.folders().len(), 0);
+}
+
+/// What comes of sessions whose script isn't there, where journals are to be written.
+fn without_script(
+    alloc: Global,
+    sessions: &str,
+    files: &mut InMemory,
+    out: &mut Vec<u8>,
+) -> Result<u8, Fault> {
+    let memory = Memory::new(PLAN, sessions, "submit 1\n");
+    sim::run(alloc, &memory, "p", "s", "missing", Some("d"), files, out)
 }
