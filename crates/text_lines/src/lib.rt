@@ -4,7 +4,7 @@
 //! keeps its number in the text ([`Statements`]). It has words ([`words`], [`first_word`]), of which some are names ([`name`])
 //! or numbers ([`number`]), and may hold no byte but tabs and printable ASCII ([`is_plain`]). `docs/formats.md` has the rules.
 //!
-//! It stands on `memchr`, for the ends of lines. Definitions: `specs/Text.antt`. The limits of names and numbers are
+//! It stands on `memchr`, for the ends of lines and of words. Definitions: `specs/Text.antt`. The limits of names and numbers are
 //! [`limits`].
 #![tactic(auto)]
 

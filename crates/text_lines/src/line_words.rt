@@ -5,6 +5,7 @@ ghost use Rattle.std.specs.Str.{bytes_eq};
 ghost use Rattle.std.specs.List.{position_or_len};
 ghost use Rattle.text_lines.specs.Text.{words_of, is_blank};
 
+use memchr::memchr2;
 use std::alloc::{AllocError, Global};
 
 /// The words of a line, in order.
@@ -36,12 +37,7 @@ pub fn first_word(line: &[u8]) -> Option<(&[u8], &[u8])>
 fn blank_place(line: &[u8]) -> usize
     ensures { result ≡ position_or_len is_blank line.now }
 {
-    for place in 0..line.len() {
-        if is_blank(line[place]) {
-            return place;
-        }
-    }
-    line.len()
+    memchr2(b' ', b'\t', line).unwrap_or(line.len())
 }
 
 pub fn is_blank(byte: u8) -> bool
