@@ -57,7 +57,6 @@ impl Merge {
     /// The office goes on, up to this limit, or to the first entry that takes a frame which isn't there for it.
     pub(crate) fn advance(
         &mut self,
-        alloc: Global,
         a: OfficeId,
         entries: &[Entry],
         limit: usize,
@@ -72,7 +71,7 @@ impl Merge {
     {
         let mut at = self.done(a);
         while at < limit {
-            if !self.go_on(alloc, a, &entries[at])? {
+            if !self.go_on(a, &entries[at])? {
                 return Ok(());
             }
             at += 1;
@@ -81,7 +80,7 @@ impl Merge {
     }
 
     /// The office's next entry goes on the schedule, where no frame of it is lacking. Whether it does.
-    fn go_on(&mut self, alloc: Global, a: OfficeId, entry: &Entry) -> Result<bool, AllocError>
+    fn go_on(&mut self, a: OfficeId, entry: &Entry) -> Result<bool, AllocError>
         requires office { a < length self.old.at.items }
         requires next { get_or self.old.at.items a 0 + 1 < 2 ^ 64 }
         requires room { self.old.sent.count ≤ length self.old.schedule.items }
@@ -90,7 +89,7 @@ impl Merge {
         ensures same { IfOk result (λ goes. goes ≡ false → self.new ≡ self.old) }
         ensures size { length self.new.at.items ≡ length self.old.at.items }
     {
-        let Some(event) = self.event_of(alloc, a, &entry.event)? else {
+        let Some(event) = self.event_of(a, &entry.event)? else {
             return Ok(false);
         };
         self.push(a, event, &entry.reply)?;
@@ -98,16 +97,11 @@ impl Merge {
     }
 
     /// The world's event that is this event of the office, if its frame is there for it.
-    fn event_of(
-        &self,
-        alloc: Global,
-        a: OfficeId,
-        event: &Event,
-    ) -> Result<Option<WorldEvent>, AllocError>
+    fn event_of(&self, a: OfficeId, event: &Event) -> Result<Option<WorldEvent>, AllocError>
         ensures { IfOk result (λ found. (frames : List Fields) → Knows ⟦<Frame as PartialEq>⟧.eq self.now.sent frames → IsFound frames a event.now found) }
     {
         match event {
-            Event::Submit(program) => Ok(Some(WorldEvent::Submit(a, program.copy(alloc)?))),
+            Event::Submit(program) => Ok(Some(WorldEvent::Submit(a, program.copy()?))),
             Event::Do(rule) => Ok(Some(WorldEvent::Do(a, *rule))),
             Event::Send(v, i) => Ok(Some(WorldEvent::Send(a, *v, *i))),
             Event::Took(frame) => Ok(self.arrival_of(a, frame)),

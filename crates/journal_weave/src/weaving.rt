@@ -85,14 +85,13 @@ fn merged(
     let mut merge = Merge::new(alloc, plan.offices())?;
     let mut moved = true;
     while moved {
-        moved = round(alloc, plan, journals, limits, &mut merge)?;
+        moved = round(plan, journals, limits, &mut merge)?;
     }
     Ok(merge)
 }
 
 /// Each office goes on as far as it can. Whether any did.
 fn round(
-    alloc: Global,
     plan: &Plan,
     journals: &[GivenJournal],
     limits: &[usize],
@@ -112,7 +111,7 @@ fn round(
     let before = merge.len();
     for a in 0..plan.offices() {
         let entries = &journals[a].entries;
-        merge.advance(alloc, OfficeId::new(a as u8), entries, limits[a])?;
+        merge.advance(OfficeId::new(a as u8), entries, limits[a])?;
     }
     Ok(before < merge.len())
 }

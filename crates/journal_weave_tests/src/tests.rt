@@ -348,7 +348,7 @@ fn entry(alloc: Global, programs: &[Program], line: &str) -> Result<Entry, Fail>
     let second = words.next().unwrap_or("");
     let third = words.next().unwrap_or("");
     match keyword {
-        "submit" => submitted(alloc, programs, ticket_of(first)),
+        "submit" => submitted(programs, ticket_of(first)),
         "withdraw" => Ok(told(Event::Withdraw(ticket_of(first)), Reply::Done)),
         "send" => sent(alloc, first, second, third),
         "took" => took(alloc, first, second),
@@ -364,9 +364,9 @@ fn told(event: Event, reply: Reply) -> Entry {
     }
 }
 
-fn submitted(alloc: Global, programs: &[Program], ticket: u32) -> Result<Entry, Fail> {
+fn submitted(programs: &[Program], ticket: u32) -> Result<Entry, Fail> {
     match programs.first() {
-        Some(program) => Ok(told(Event::Submit(program.copy(alloc)?), Reply::Ticket(ticket))),
+        Some(program) => Ok(told(Event::Submit(program.copy()?), Reply::Ticket(ticket))),
         None => Err(Fail::from("no session")),
     }
 }

@@ -120,7 +120,7 @@ impl Draft {
         if block_gives(&self.parts.statements) > MOST_GIVES {
             return Err(Stop::Refused(SessionRule::TooManyGives));
         }
-        Ok(Program::of(self))
+        Ok(Program::of(alloc, self)?)
     }
 
     fn is_too_long(&self, alloc: Global) -> Result<bool, AllocError>

@@ -16,14 +16,21 @@ use crate::parts::Parts;
 use crate::words::{RecordNames, Words};
 use office_map::{OfficeId, Plan, RecordId};
 use session_meaning::Statement;
-use session_meaning::copying::copy_block;
 use session_meaning::laws::needs_what_it_names;
 use std::alloc::{AllocError, Global};
 use std::marker::Model;
+use std::sync::Arc;
 
-/// The program of a session.
+/// The program of a session. Its copies share what it says, so that a copy takes no memory, and an event with a program is no
+/// larger than others.
 #[derive(Debug, Drop)]
 pub struct Program {
+    said: Arc<Said>,
+}
+
+/// What a program says.
+#[derive(Debug, Drop)]
+struct Said {
     office: OfficeId,
     variables: Vec<String>,
     needs: Vec<RecordId>,
@@ -32,6 +39,7 @@ pub struct Program {
 
 impl Model for Program {
     ghost use Rattle.std.specs.Prelude.{◌≡◌, map};
+    ghost use Rattle.std.specs.Arc.{arc_value};
     ghost use Rattle.std.specs.String.{string_bytes};
     ghost use Rattle.std.specs.Coded.{Coded, codes};
     ghost use Rattle.session_meaning.specs.ProgramValue.{ProgramValue};
@@ -45,9 +53,9 @@ impl Model for Program {
 
     ghost coded = { let nodes : Coded Node = Prim.hlevel codes in let marks : Coded Mark = Prim.hlevel (codes, term_code nodes) in Prim.hlevel (codes, block_code marks) };
 
-    ghost view = { λ p. record { office = p.office; variables = map string_bytes p.variables.items; body = block_of p.statements.items } };
+    ghost view = { λ p. record { office = (arc_value p.said).office; variables = map string_bytes (arc_value p.said).variables.items; body = block_of (arc_value p.said).statements.items } };
 
-    ghost invariant = { λ p. (p.needs.items ≡ needs_of (block_of p.statements.items)) × IsWellFormed (record { office = p.office; variables = map string_bytes p.variables.items; body = block_of p.statements.items }) };
+    ghost invariant = { λ p. ((arc_value p.said).needs.items ≡ needs_of (block_of (arc_value p.said).statements.items)) × IsWellFormed (record { office = (arc_value p.said).office; variables = map string_bytes (arc_value p.said).variables.items; body = block_of (arc_value p.said).statements.items }) };
 }
 
 impl Program {
@@ -58,11 +66,11 @@ impl Program {
     ghost use Rattle.session_language.specs.Reading.{program_of, is_too_long, sessions_of};
 
     /// The program of a session that is closed.
-    pub(crate) fn of(draft: Draft) -> Program
+    pub(crate) fn of(alloc: Global, draft: Draft) -> Result<Program, AllocError>
         requires no_block { (draft_of draft).outer ≡ [] }
         requires short { is_too_long (program_of (draft_of draft)) ≡ false }
         requires few_gives { block_gives (program_of (draft_of draft)).body ≤ most_gives }
-        ensures { result ≡ program_of (draft_of draft) }
+        ensures { IfOk result (λ p. p ≡ program_of (draft_of draft)) }
     {
         let Draft { parts } = draft;
         let Parts {
@@ -73,19 +81,22 @@ impl Program {
             mut statements,
         } = parts;
         statements.shrink_to_fit();
-        Program {
+        let said = Said {
             office,
             variables,
             needs,
             statements,
-        }
+        };
+        Ok(Program {
+            said: Arc::new(alloc, said)?,
+        })
     }
 
     /// The office that the session is of.
     pub fn office(&self) -> OfficeId
         ensures { result ≡ self.now.office }
     {
-        self.office
+        self.said.office
     }
 
     /// The records that it reads or sets anywhere, each once, in order of number.
@@ -95,14 +106,14 @@ impl Program {
         ensures named { (r : ℕ) → Contains result.now r ↔ BlockNames r self.now.body }
     {
         needs_what_it_names();
-        &self.needs
+        self.said.needs.as_slice()
     }
 
     /// The names of its variables, in the order in which lines first let them.
     pub fn variables(&self) -> &[String]
         ensures { map string_bytes result.now ≡ self.now.variables }
     {
-        &self.variables
+        &self.said.variables
     }
 
     /// The statements, in order. Every program is well formed: its variables are names that lines
@@ -111,17 +122,18 @@ impl Program {
         ensures body { block_of result.now ≡ self.now.body }
         ensures well_formed { IsWellFormed self.now }
     {
-        &self.statements
+        &self.said.statements
     }
 
     /// Whether its office is the plan's, and each record that it needs is of that office.
     pub fn fits(&self, plan: &Plan) -> bool
         ensures { result ≡ fits plan.now self.now }
     {
-        if self.office.index() >= plan.offices() {
+        let Said { office, needs, .. } = &*self.said;
+        if office.index() >= plan.offices() {
             return false;
         }
-        are_of_office(plan, &self.needs, self.office)
+        are_of_office(plan, needs, *office)
     }
 
     /// The canonical text of the session under a plan that it fits. Under that plan it means this
@@ -131,24 +143,21 @@ impl Program {
         ensures canonical { IfOk result (λ t. string_bytes t ≡ text_under plan.now self.now) }
         ensures reads_back { IfOk result (λ t. sessions_of plan.now (string_bytes t) ≡ Ok (self.now ∷ [])) }
     {
-        prove!(self.office.index() < plan.offices());
+        prove!(self.said.office.index() < plan.offices());
         let words = Words {
-            office: plan.office_name(self.office),
-            variables: &self.variables,
+            office: plan.office_name(self.said.office),
+            variables: &self.said.variables,
             records: RecordNames::Of(plan),
         };
-        session_text(alloc, &words, &self.statements)
+        session_text(alloc, &words, &self.said.statements)
     }
 
-    /// The same program, in memory of its own.
-    pub fn copy(&self, alloc: Global) -> Result<Program, AllocError>
+    /// The same program.
+    pub fn copy(&self) -> Result<Program, AllocError>
         ensures { IfOk result (λ p. p ≡ self.now) }
     {
         Ok(Program {
-            office: self.office,
-            variables: copy_texts(alloc, &self.variables)?,
-            needs: Vec::from_slice(alloc, &self.needs)?,
-            statements: copy_block(alloc, &self.statements)?,
+            said: Arc::try_clone(&self.said)?,
         })
     }
 }
@@ -162,15 +171,4 @@ fn are_of_office(plan: &Plan, records: &[RecordId], office: OfficeId) -> bool
         }
     }
     true
-}
-
-/// The same texts, in memory of their own.
-fn copy_texts(alloc: Global, texts: &[String]) -> Result<Vec<String>, AllocError>
-    ensures { IfOk result (λ v. map string_bytes v.items ≡ map string_bytes texts.now) }
-{
-    let mut copies = Vec::with_capacity(alloc, texts.len())?;
-    for text in texts {
-        copies.push(String::from_str(alloc, text.as_str())?)?;
-    }
-    Ok(copies)
 }

@@ -104,7 +104,7 @@ fn is_copied_as(
     program: &Program,
     expected: &str,
 ) -> Result<(), AllocError> {
-    let copy = program.copy(alloc)?;
+    let copy = program.copy()?;
     is_described_as(rt, alloc, &copy, expected)
 }
 

@@ -55,15 +55,6 @@ impl Expression {
     {
         self.nodes.as_slice()
     }
-
-    /// The same expression, in memory of its own.
-    pub fn copy(&self, alloc: Global) -> Result<Expression, AllocError>
-        ensures { IfOk result (λ e. e ≡ self.now) }
-    {
-        Ok(Expression {
-            nodes: Nodes::of(alloc, self.nodes.as_slice())?,
-        })
-    }
 }
 
 impl Nodes {

@@ -14,7 +14,6 @@
 //! - Expressions are kept in postfix order (`specs/refinement/Postfix.antt`); [`operands`] takes them apart.
 #![tactic(auto)]
 
-pub mod copying;
 mod ending;
 mod expression;
 pub mod laws;

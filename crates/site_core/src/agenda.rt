@@ -103,13 +103,13 @@ impl Agenda {
     }
 
     /// A session waits, with the next ticket.
-    pub fn submit(&mut self, alloc: Global, program: &Program) -> Result<u32, AllocError>
+    pub fn submit(&mut self, program: &Program) -> Result<u32, AllocError>
         requires { self.old.tickets + 1 < 2 ^ 32 }
         ensures ticket { (a : sessions.Agenda) → Means self.old a → IfOk result (λ t. t ≡ a.tickets + 1) }
         ensures done { (a : sessions.Agenda) → Means self.old a → OnOk result (Means self.new (submitted a program.now)) }
         ensures unchanged { OnErr result (self.new ≡ self.old) }
     {
-        let program = program.copy(alloc)?;
+        let program = program.copy()?;
         let ticket = self.tickets + 1;
         self.queue.push_back(Session { ticket, program })?;
         self.tickets = ticket;

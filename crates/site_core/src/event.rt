@@ -10,7 +10,7 @@ use crate::rule::Rule;
 use frame_codec::Frame;
 use office_map::OfficeId;
 use session_language::Program;
-use std::alloc::{AllocError, Global};
+use std::alloc::AllocError;
 use window_link::Arrival;
 
 /// An event of an office.
@@ -29,12 +29,12 @@ pub enum Event {
 }
 
 impl Event {
-    /// The same event, in memory of its own.
-    pub fn copy(&self, alloc: Global) -> Result<Event, AllocError>
+    /// The same event.
+    pub fn copy(&self) -> Result<Event, AllocError>
         ensures { IfOk result (λ e. e ≡ self.now) }
     {
         match self {
-            Event::Submit(program) => Ok(Event::Submit(program.copy(alloc)?)),
+            Event::Submit(program) => Ok(Event::Submit(program.copy()?)),
             Event::Do(rule) => Ok(Event::Do(*rule)),
             Event::Send(v, i) => Ok(Event::Send(*v, *i)),
             Event::Took(frame) => Ok(Event::Took(*frame)),
@@ -52,13 +52,13 @@ pub struct Entry {
 }
 
 impl Entry {
-    /// The same entry, in memory of its own.
-    pub fn copy(&self, alloc: Global) -> Result<Entry, AllocError>
+    /// The same entry.
+    pub fn copy(&self) -> Result<Entry, AllocError>
         ensures { IfOk result (λ e. e ≡ self.now) }
     {
         Ok(Entry {
             tag: self.tag,
-            event: self.event.copy(alloc)?,
+            event: self.event.copy()?,
             reply: self.reply,
         })
     }

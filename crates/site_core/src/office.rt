@@ -112,8 +112,8 @@ impl Office {
             return Err(Refusal::QueueFull);
         }
         self.journal.make_room()?;
-        let copy = program.copy(self.alloc)?;
-        let ticket = self.agenda.submit(self.alloc, program)?;
+        let copy = program.copy()?;
+        let ticket = self.agenda.submit(program)?;
         let entry = Entry::of_session(tag, copy, ticket);
         self.journal.push(entry);
         Ok(Reply::Ticket(ticket))

@@ -299,14 +299,13 @@ fn take_steps(
 ) -> Result<(), Fail> {
     let mut frames = Vec::new(alloc);
     for step in steps {
-        take_step(alloc, text, offices, &mut frames, programs, *step)?;
+        take_step(text, offices, &mut frames, programs, *step)?;
     }
     Ok(())
 }
 
 /// Takes a step, tells what is answered, and keeps the frame that is made.
 fn take_step(
-    alloc: Global,
     text: &mut String,
     offices: &mut Vec<Office>,
     frames: &mut Vec<Frame>,
@@ -317,7 +316,7 @@ fn take_step(
     let reply = match what {
         What::Deliver => delivered(offices, frames, n as usize),
         What::Next => return Ok(next(text, offices, at)?),
-        _ => match event_of(alloc, programs, step)? {
+        _ => match event_of(programs, step)? {
             Some(event) => handed(offices, at, &event),
             None => return Err(Fail::from("an event")),
         },
@@ -367,11 +366,11 @@ fn next_rule(offices: &[Office], at: usize) -> Option<Rule> {
     }
 }
 
-fn event_of(alloc: Global, programs: &[Program], step: Step) -> Result<Option<Event>, AllocError> {
+fn event_of(programs: &[Program], step: Step) -> Result<Option<Event>, AllocError> {
     let Step(what, at, n) = step;
     match what {
         What::Submit => match programs.get(n as usize) {
-            Some(program) => Ok(Some(Event::Submit(program.copy(alloc)?))),
+            Some(program) => Ok(Some(Event::Submit(program.copy()?))),
             None => Ok(None),
         },
         What::Send => Ok(Some(Event::Send(other(at), n as usize))),

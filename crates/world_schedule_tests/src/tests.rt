@@ -288,23 +288,19 @@ fn events_of(
 ) -> Result<Vec<WorldEvent>, AllocError> {
     let mut events = Vec::new(alloc);
     for step in steps {
-        if let Some(event) = event_of(alloc, programs, *step)? {
+        if let Some(event) = event_of(programs, *step)? {
             events.push(event)?;
         }
     }
     Ok(events)
 }
 
-fn event_of(
-    alloc: Global,
-    programs: &[Program],
-    step: Step,
-) -> Result<Option<WorldEvent>, AllocError> {
+fn event_of(programs: &[Program], step: Step) -> Result<Option<WorldEvent>, AllocError> {
     let Step(what, at, n) = step;
     let at = OfficeId::new(at);
     match what {
         What::Submit => match programs.get(n as usize) {
-            Some(program) => Ok(Some(WorldEvent::Submit(at, program.copy(alloc)?))),
+            Some(program) => Ok(Some(WorldEvent::Submit(at, program.copy()?))),
             None => Ok(None),
         },
         What::Withdraw => Ok(Some(WorldEvent::Withdraw(at, n as u32))),

@@ -117,7 +117,7 @@ pub fn drawn_journals(
 
 fn drawn_in(alloc: Global, world: &mut World, course: Course) -> Result<Vec<GivenJournal>, Fail> {
     let programs = programs_of(alloc, world.plan(), course.offices)?;
-    if !happens(alloc, world, &programs, course) {
+    if !happens(world, &programs, course) {
         return Err(Fail::from("out of memory"));
     }
     Ok(journals_of(alloc, world)?)
@@ -133,18 +133,18 @@ pub fn programs_in(alloc: Global, sessions: &[u8], plan: &Plan) -> Result<Vec<Pr
 }
 
 /// The drawn events, one after another. Whether there was memory for all.
-fn happens(alloc: Global, world: &mut World, programs: &[Program], course: Course) -> bool {
+fn happens(world: &mut World, programs: &[Program], course: Course) -> bool {
     let mut words = Pcg64::new(u128::from(course.seed), 54);
     for _ in 0..course.events {
-        if !is_done(alloc, world, programs, course.offices, words.next_word()) {
+        if !is_done(world, programs, course.offices, words.next_word()) {
             return false;
         }
     }
     true
 }
 
-fn is_done(alloc: Global, world: &mut World, programs: &[Program], offices: u8, draw: u64) -> bool {
-    let Ok(event) = event_of(alloc, world, programs, offices, draw) else {
+fn is_done(world: &mut World, programs: &[Program], offices: u8, draw: u64) -> bool {
+    let Ok(event) = event_of(world, programs, offices, draw) else {
         return false;
     };
     world.apply(&event) != Err(WorldRefusal::Office(Refusal::Memory))
@@ -153,7 +153,6 @@ fn is_done(alloc: Global, world: &mut World, programs: &[Program], offices: u8, 
 /// An event, of the bits of a drawn number: an office does its next rule, or gets a session, or loses one of its last; or sends
 /// what waits for another; or one of the last frames comes.
 fn event_of(
-    alloc: Global,
     world: &World,
     programs: &[Program],
     offices: u8,
@@ -165,7 +164,7 @@ fn event_of(
     match (draw >> 55) % 16 {
         0 | 1 | 2 | 3 | 4 | 5 => Ok(WorldEvent::Do(at, rule_of(world, at))),
         6 => match programs.get(at.index()) {
-            Some(program) => Ok(WorldEvent::Submit(at, program.copy(alloc)?)),
+            Some(program) => Ok(WorldEvent::Submit(at, program.copy()?)),
             None => Ok(WorldEvent::Deliver(0)),
         },
         7 if small == 0 => Ok(WorldEvent::Withdraw(at, tickets(world, at))),

@@ -119,29 +119,23 @@ fn short_journals(
         events: 30,
     };
     let mut journals = drawn_journals(alloc, plan, course)?;
-    if !shortened(alloc, &mut journals, offices, most, seed) {
+    if !shortened(&mut journals, offices, most, seed) {
         return Err(Fail::from("out of memory"));
     }
     Ok(journals)
 }
 
-fn shortened(
-    alloc: Global,
-    journals: &mut Vec<GivenJournal>,
-    offices: u8,
-    most: usize,
-    seed: u64,
-) -> bool {
+fn shortened(journals: &mut Vec<GivenJournal>, offices: u8, most: usize, seed: u64) -> bool {
     for journal in journals.iter_mut() {
         journal.entries.truncate(most);
     }
-    changed(alloc, journals, offices, seed)
+    changed(journals, offices, seed)
 }
 
-fn changed(alloc: Global, journals: &mut Vec<GivenJournal>, offices: u8, seed: u64) -> bool {
+fn changed(journals: &mut Vec<GivenJournal>, offices: u8, seed: u64) -> bool {
     let mut words = Pcg64::new(u128::from(seed), 99);
     for _ in 0..seed % 4 {
-        if change(alloc, journals, offices, words.next_word()).is_err() {
+        if change(journals, offices, words.next_word()).is_err() {
             return false;
         }
     }
@@ -150,12 +144,7 @@ fn changed(alloc: Global, journals: &mut Vec<GivenJournal>, offices: u8, seed: u
 
 /// A change, of the bits of a drawn number: an entry is lost, comes twice, or has another reply; two entries or two journals are
 /// exchanged; or a journal doesn't end.
-fn change(
-    alloc: Global,
-    journals: &mut Vec<GivenJournal>,
-    offices: u8,
-    draw: u64,
-) -> Result<(), AllocError> {
+fn change(journals: &mut Vec<GivenJournal>, offices: u8, draw: u64) -> Result<(), AllocError> {
     let at = id_below(offices, draw >> 33).index();
     let other = id_below(offices, draw >> 41).index();
     let kind = (draw >> 49) % 6;
@@ -176,7 +165,7 @@ fn change(
             let _ = entries.remove(place);
         }
         2 => {
-            let copy = entries[place].copy(alloc)?;
+            let copy = entries[place].copy()?;
             entries.insert(place, copy)?;
         }
         3 => entries[place].reply = Reply::Repeat,
@@ -323,7 +312,7 @@ fn counts_in(
     journals: &[GivenJournal],
     order: &[usize],
 ) -> Result<Option<Vec<usize>>, AllocError> {
-    if !is_accepted(alloc, world, journals, order) {
+    if !is_accepted(world, journals, order) {
         return Ok(None);
     }
     Ok(Some(lengths(alloc, world)?))
@@ -337,14 +326,9 @@ fn lengths(alloc: Global, world: &World) -> Result<Vec<usize>, AllocError> {
     Ok(lengths)
 }
 
-fn is_accepted(
-    alloc: Global,
-    world: &mut World,
-    journals: &[GivenJournal],
-    order: &[usize],
-) -> bool {
+fn is_accepted(world: &mut World, journals: &[GivenJournal], order: &[usize]) -> bool {
     for office in order {
-        if !goes_on(alloc, world, journals, *office) {
+        if !goes_on(world, journals, *office) {
             return false;
         }
     }
@@ -352,16 +336,16 @@ fn is_accepted(
 }
 
 /// Whether the office's next entry is accepted with its reply.
-fn goes_on(alloc: Global, world: &mut World, journals: &[GivenJournal], at: usize) -> bool {
+fn goes_on(world: &mut World, journals: &[GivenJournal], at: usize) -> bool {
     match journals.get(at) {
-        Some(journal) => next_goes(alloc, world, &journal.entries, at),
+        Some(journal) => next_goes(world, &journal.entries, at),
         None => false,
     }
 }
 
-fn next_goes(alloc: Global, world: &mut World, entries: &[Entry], at: usize) -> bool {
+fn next_goes(world: &mut World, entries: &[Entry], at: usize) -> bool {
     match entries.get(length_at(world, at)) {
-        Some(entry) => goes(alloc, world, entry, OfficeId::new((at % 256) as u8)),
+        Some(entry) => goes(world, entry, OfficeId::new((at % 256) as u8)),
         None => false,
     }
 }
@@ -374,22 +358,17 @@ fn length_at(world: &World, at: usize) -> usize {
     }
 }
 
-fn goes(alloc: Global, world: &mut World, entry: &Entry, at: OfficeId) -> bool {
-    match event_of(alloc, world, at, entry) {
+fn goes(world: &mut World, entry: &Entry, at: OfficeId) -> bool {
+    match event_of(world, at, entry) {
         Ok(Some(event)) => world.apply(&event) == Ok(entry.reply),
         _ => false,
     }
 }
 
 /// The event that an entry tells, if its frame was sent.
-fn event_of(
-    alloc: Global,
-    world: &World,
-    at: OfficeId,
-    entry: &Entry,
-) -> Result<Option<WorldEvent>, AllocError> {
+fn event_of(world: &World, at: OfficeId, entry: &Entry) -> Result<Option<WorldEvent>, AllocError> {
     match &entry.event {
-        Event::Submit(program) => Ok(Some(WorldEvent::Submit(at, program.copy(alloc)?))),
+        Event::Submit(program) => Ok(Some(WorldEvent::Submit(at, program.copy()?))),
         Event::Withdraw(ticket) => Ok(Some(WorldEvent::Withdraw(at, *ticket))),
         Event::Do(rule) => Ok(Some(WorldEvent::Do(at, *rule))),
         Event::Send(to, i) => Ok(Some(WorldEvent::Send(at, *to, *i))),

@@ -150,7 +150,7 @@ fn told_of(
     programs: &[Program],
     step: Step,
 ) -> Result<String, Fail> {
-    match event_of(alloc, programs, step)? {
+    match event_of(programs, step)? {
         Some(event) => Ok(told(alloc, &office.step(0, &event))?),
         None => Err(Fail::from("an event")),
     }

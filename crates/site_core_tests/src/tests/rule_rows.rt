@@ -875,20 +875,15 @@ fn told_after(
     before: &[Step],
     rule: Step,
 ) -> Result<String, Fail> {
-    if !all_go(alloc, office, programs, before)? {
+    if !all_go(office, programs, before)? {
         return Ok(String::from_str(alloc, "a step before is refused")?);
     }
     told_at(alloc, office, programs, rule)
 }
 
-fn all_go(
-    alloc: Global,
-    office: &mut Office,
-    programs: &[Program],
-    steps: &[Step],
-) -> Result<bool, AllocError> {
+fn all_go(office: &mut Office, programs: &[Program], steps: &[Step]) -> Result<bool, AllocError> {
     for step in steps {
-        let event = event_of(alloc, office, programs, *step)?;
+        let event = event_of(office, programs, *step)?;
         if !goes(office, event) {
             return Ok(false);
         }
@@ -902,7 +897,7 @@ fn told_at(
     programs: &[Program],
     rule: Step,
 ) -> Result<String, Fail> {
-    match event_of(alloc, office, programs, rule)? {
+    match event_of(office, programs, rule)? {
         Some(event) => Ok(answered(alloc, office, &event)?),
         None => Err(Fail::from("an event")),
     }
@@ -985,14 +980,13 @@ fn is_entered(office: &Office, entries: usize, event: &Event) -> bool {
 }
 
 fn event_of(
-    alloc: Global,
     office: &Office,
     programs: &[Program],
     step: Step,
 ) -> Result<Option<Event>, AllocError> {
     match step {
         Submit(i) => match programs.get(i) {
-            Some(program) => Ok(Some(Event::Submit(program.copy(alloc)?))),
+            Some(program) => Ok(Some(Event::Submit(program.copy()?))),
             None => Ok(None),
         },
         Withdraw(ticket) => Ok(Some(Event::Withdraw(ticket))),

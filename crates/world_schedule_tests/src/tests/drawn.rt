@@ -349,7 +349,7 @@ fn finished_programs(
     for one in finished {
         let before = one.ticket.saturating_sub(1);
         if let Some(program) = session_of(programs, each, one.office.number(), before) {
-            push_fitting(plan, &mut found, program.copy(alloc)?)?;
+            push_fitting(plan, &mut found, program.copy()?)?;
         }
     }
     Ok(found)

@@ -48,21 +48,20 @@ pub fn seen_of(
     };
     let mut words = Pcg64::new(u128::from(seed), 54);
     for n in 0..events {
-        happens(alloc, world, programs, &mut seen, n, words.next_word())?;
+        happens(world, programs, &mut seen, n, words.next_word())?;
     }
     Ok(seen)
 }
 
 /// The event of a drawn number happens, after so many.
 fn happens(
-    alloc: Global,
     world: &mut World,
     programs: &[Program],
     seen: &mut Seen,
     n: usize,
     draw: u64,
 ) -> Result<(), AllocError> {
-    let event = event_of(alloc, world, programs, draw)?;
+    let event = event_of(world, programs, draw)?;
     let rules_agree = rules_agree(world, &event);
     let foretold = foretold(world, seen, &event);
     let reply = world.apply(&event);
@@ -149,18 +148,13 @@ fn kind_of(reply: &Result<Reply, WorldRefusal>) -> u16 {
 
 /// An event, of the bits of a drawn number: an office goes on, or tries a rule, or gets a session or loses one of its last, or
 /// sends what waits for a neighbour, or one of the last frames comes.
-fn event_of(
-    alloc: Global,
-    world: &World,
-    programs: &[Program],
-    draw: u64,
-) -> Result<WorldEvent, AllocError> {
+fn event_of(world: &World, programs: &[Program], draw: u64) -> Result<WorldEvent, AllocError> {
     let offices = world.offices().len() as u64;
     let at = id_below(offices, draw >> 33);
     let to = id_below(offices, draw >> 41);
     let small = ((draw >> 49) % 32) as usize;
     match (draw >> 55) % 16 {
-        0 | 1 | 2 | 3 | 4 => go_on(alloc, world, programs, at),
+        0 | 1 | 2 | 3 | 4 => go_on(world, programs, at),
         5 if small < 8 => Ok(withdrawal(world, at, small as u32)),
         5 => {
             let at = id_below(offices.saturating_add(1), draw >> 33);
@@ -168,7 +162,7 @@ fn event_of(
         }
         6 => {
             let whose = if small == 0 { to } else { at };
-            submission(alloc, world, programs, at, whose)
+            submission(world, programs, at, whose)
         }
         7 | 8 | 9 | 10 => Ok(WorldEvent::Send(at, to, small % 3)),
         _ => {
@@ -192,25 +186,19 @@ fn withdrawal(world: &World, at: OfficeId, after: u32) -> WorldEvent {
 }
 
 /// The office does its next rule, or gets a session.
-fn go_on(
-    alloc: Global,
-    world: &World,
-    programs: &[Program],
-    at: OfficeId,
-) -> Result<WorldEvent, AllocError> {
+fn go_on(world: &World, programs: &[Program], at: OfficeId) -> Result<WorldEvent, AllocError> {
     let next = match world.offices().get(at.index()) {
         Some(office) => office.next_rule(),
         None => None,
     };
     match next {
         Some(rule) => Ok(WorldEvent::Do(at, rule)),
-        None => submission(alloc, world, programs, at, at),
+        None => submission(world, programs, at, at),
     }
 }
 
 /// An office gets the one or the other session, in turn, of itself, or of another.
 fn submission(
-    alloc: Global,
     world: &World,
     programs: &[Program],
     at: OfficeId,
@@ -221,7 +209,7 @@ fn submission(
         None => 0,
     };
     match session_of(programs, EACH, whose.number(), tickets) {
-        Some(program) => Ok(WorldEvent::Submit(at, program.copy(alloc)?)),
+        Some(program) => Ok(WorldEvent::Submit(at, program.copy()?)),
         None => Ok(WorldEvent::Deliver(0)),
     }
 }

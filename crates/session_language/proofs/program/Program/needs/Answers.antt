@@ -3,10 +3,10 @@ use Rattle.session_meaning.specs.Needs.{needs_of}
 use Rattle.session_language.proofs.program.Program.needs.Goals as goal
 
 pub returns-clause-in_order : goal.returns-clause-in_order
-returns-clause-in_order c = let all : c.deref.result.now ≡ needs_of c.args.self.now.body = search rules in rw all (c.needs_what_it_names.ensures c.args.self.now.body).0
+returns-clause-in_order c = let all : c.as_slice.result.now ≡ needs_of c.args.self.now.body = search rules in rw all (c.needs_what_it_names.ensures c.args.self.now.body).0
 
 pub returns-clause-named : goal.returns-clause-named
-returns-clause-named c = let all : c.deref.result.now ≡ needs_of c.args.self.now.body = search rules in rw all (c.needs_what_it_names.ensures c.args.self.now.body).1
+returns-clause-named c = let all : c.as_slice.result.now ≡ needs_of c.args.self.now.body = search rules in rw all (c.needs_what_it_names.ensures c.args.self.now.body).1
 
 pub returns-clause-all : goal.returns-clause-all
 returns-clause-all c = cc
