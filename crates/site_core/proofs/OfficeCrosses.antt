@@ -1,5 +1,5 @@
 -- An office may be handed from thread to thread, since each of its parts may.
-use denote.Param.Send.{IsSend, sendable}
+use denote.Param.Send.{IsSend, IsSync, sendable}
 use Rattle.std.proofs.Crossing.{crosses}
 use Rattle.office_map.proofs.ids.OfficeId.TheSendSync as office_id
 use Rattle.office_map.proofs.ids.RecordId.TheSendSync as record_id
@@ -11,9 +11,10 @@ use Rattle.drinking_core.proofs.bar.Bar.TheSendSync as bar
 use Rattle.session_meaning.proofs.ending.Outcome.TheSendSync as outcome
 use Rattle.session_meaning.proofs.expression.Expression.TheSendSync as expression
 use Rattle.session_meaning.proofs.tree.Condition.TheSendSync as condition
-use Rattle.session_meaning.proofs.tree.Statement.TheLaws.TheKnot.{send-Statement}
+use Rattle.session_meaning.proofs.tree.Statement.TheLaws.TheKnot.{send-Statement, sync-Statement}
 use Rattle.session_meaning.specs.contracts.tree.Statement as Statement
 use Rattle.session_language.specs.contracts.program.Program as Program
+use Rattle.session_language.specs.contracts.program.Said as Said
 use Rattle.session_machine.proofs.code.Code.TheSendSync as code
 use Rattle.session_machine.proofs.work.Work.TheSendSync as work
 use Rattle.site_core.specs.contracts.session.Session as Session
@@ -31,8 +32,18 @@ use Rattle.site_core.specs.contracts.rule.Rule as Rule
 statement_send : IsSend Statement.the_row
 statement_send = search (send-Statement, condition.the_send, expression.the_send, record_id.the_send, sendable, crosses) depth 40
 
+statement_sync : IsSync Statement.the_row
+statement_sync = search (sync-Statement, condition.the_sync, expression.the_sync, record_id.the_sync, sendable, crosses) depth 40
+
+-- what a program says is lent to each thread that has a copy of it
+said_send : IsSend (Said.the_field).row
+said_send = search (statement_send, office_id.the_send, record_id.the_send, sendable, crosses) depth 40
+
+said_sync : IsSync (Said.the_field).row
+said_sync = search (statement_sync, office_id.the_sync, record_id.the_sync, sendable, crosses) depth 40
+
 program_send : IsSend Program.the_row
-program_send = search (statement_send, office_id.the_send, record_id.the_send, sendable, crosses) depth 40
+program_send = search (said_send, said_sync, sendable, crosses) depth 40
 
 -- a struct or an enum is sent as it is, and as the field of another
 session_send : IsSend (Session.the_field).row
