@@ -8,6 +8,9 @@ ghost use Rattle.text_lines.specs.Text.{words_of, is_blank};
 use memchr::memchr2;
 use std::alloc::{AllocError, Global};
 
+/// A word of so many bytes is looked through byte by byte.
+const SHORT_WORD: usize = 8;
+
 /// The words of a line, in order.
 pub fn words(alloc: Global, line: &[u8]) -> Result<Vec<&[u8]>, AllocError>
     ensures { IfOk result (λ v. map (λ w. w.now) v.items ≡ words_of line.now) }
@@ -33,11 +36,23 @@ pub fn first_word(line: &[u8]) -> Option<(&[u8], &[u8])>
     None
 }
 
-/// The place of the first space or tab, or the length where there is none.
+/// The place of the first space or tab, or the length where there is none. Most words are short: a search of many bytes at once
+/// begins only after the first few.
 fn blank_place(line: &[u8]) -> usize
     ensures { result ≡ position_or_len is_blank line.now }
 {
-    memchr2(b' ', b'\t', line).unwrap_or(line.len())
+    let near = if line.len() < SHORT_WORD {
+        line.len()
+    } else {
+        SHORT_WORD
+    };
+    for place in 0..near {
+        if is_blank(line[place]) {
+            return place;
+        }
+    }
+    let far = line.split_at(near).1;
+    near + memchr2(b' ', b'\t', far).unwrap_or(far.len())
 }
 
 pub fn is_blank(byte: u8) -> bool

@@ -1,7 +1,22 @@
-use Rattle.std.proofs.Common.{◌∙◌}
+use Rattle.std.proofs.Common.{arith, ap, sym, ◌+◌, ◌∙◌, ◌≡◌, ◌≤◌, drop, length}
+use Rattle.std.specs.List.{position_or_len}
+use Rattle.std.proofs.lemmas.List.Sums.{position_or_len_is}
 use Rattle.text_lines.specs.Text.{is_blank}
 use Rattle.text_lines.proofs.FirstLine.{first_place}
+use Rattle.text_lines.proofs.FirstWord.{far_place}
 use Rattle.text_lines.proofs.line_words.blank_place.Goals as goal
+use Rattle.text_lines.proofs.line_words.blank_place.Goals.{then-line-lt-SHORT_WORD, else-line-lt-SHORT_WORD}
+
+pub returns-then-is_blank : goal.returns-then-is_blank
+returns-then-is_blank c =
+    sym (position_or_len_is is_blank c.args.line.now c.loop-place.place 0 (omega arith) c.loop-place.invariant (λ lt. sym c.is_blank.ensures ∙ c.if-is_blank.true))
 
 pub returns : goal.returns
-returns c = c.unwrap_or.ensures ∙ first_place is_blank c.args.line.now c.memchr2.result c.memchr2.ensures
+returns c =
+    let inside : c.if-line-lt-SHORT_WORD.near ≤ length c.args.line.now = elim c.if-line-lt-SHORT_WORD.branch [
+      | then-line-lt-SHORT_WORD w ↦ omega arith
+      | else-line-lt-SHORT_WORD w ↦ omega arith
+    ] in
+    let far : c.unwrap_or.result ≡ position_or_len is_blank (drop c.if-line-lt-SHORT_WORD.near c.args.line.now) =
+    c.unwrap_or.ensures ∙ first_place is_blank c.split_at.result.1.now c.memchr2.result c.memchr2.ensures ∙ ap (position_or_len is_blank) c.split_at.ensures.back in
+    ap (λ n. c.if-line-lt-SHORT_WORD.near + n) far ∙ far_place is_blank c.args.line.now c.if-line-lt-SHORT_WORD.near inside (λ k lt. c.loop-place.invariant k (omega (arith, lt)))
