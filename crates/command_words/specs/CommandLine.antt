@@ -103,9 +103,9 @@ Requests name rows (Serial plan sessions) =
 Requests name rows (Sim plan sessions script journals) =
     (bytes_eq name (codes "sim") ≡ true) × (plan.now ≡ word_of (codes "PLAN") rows) × (sessions.now ≡ word_of (codes "SESSIONS") rows)
     × (script.now ≡ word_of (codes "SCRIPT") rows) × (option_map (λ folder. folder.now) journals ≡ given (codes "journals") rows)
-Requests name rows (Random plan sessions schedule) =
+Requests name rows (Random plan sessions seed loss steps) =
     (bytes_eq name (codes "random") ≡ true) × (plan.now ≡ word_of (codes "PLAN") rows) × (sessions.now ≡ word_of (codes "SESSIONS") rows)
-    × IsNumber (word_of (codes "seed") rows) schedule.seed × IsNumber (word_of (codes "loss") rows) schedule.loss × IsNumber (word_of (codes "steps") rows) schedule.steps
+    × IsNumber (word_of (codes "seed") rows) seed × IsNumber (word_of (codes "loss") rows) loss × IsNumber (word_of (codes "steps") rows) steps
 Requests name rows (Run plan office sessions turns journal) =
     (bytes_eq name (codes "run") ≡ true) × (plan.now ≡ word_of (codes "PLAN") rows) × (office.now ≡ word_of (codes "OFFICE") rows)
     × (sessions.now ≡ word_of (codes "SESSIONS") rows) × IsNumber (word_of (codes "turns") rows) turns

@@ -9,7 +9,6 @@ ghost use Rattle.command_words.specs.CommandLine.{Asks, IsNumber, Requests, audi
 use clap::builder::ValueParser;
 use clap::error::ErrorKind;
 use clap::{Arg, ArgMatches, Command, Error};
-use random_runs::Schedule;
 use std::alloc::{AllocError, Global};
 
 /// What a command line asks for.
@@ -27,11 +26,13 @@ pub enum Request<'a> {
         script: &'a str,
         journals: Option<&'a str>,
     },
-    /// A run on the world of a plan, of events that are drawn.
+    /// A run on the world of a plan, of so many steps that are drawn from this seed. Of a hundred deliveries so many are lost.
     Random {
         plan: &'a str,
         sessions: &'a str,
-        schedule: Schedule,
+        seed: u64,
+        loss: u64,
+        steps: u64,
     },
     /// One office of a plan, at its address, with its sessions, for so many turns. A file, where one is named, is for its journal.
     Run {
@@ -106,7 +107,9 @@ fn requested<'a>(alloc: Global, name: &str, found: &ArgMatches<'a>) -> Result<Re
         return Ok(Request::Random {
             plan,
             sessions,
-            schedule: schedule(found),
+            seed: number(found, "seed"),
+            loss: number(found, "loss"),
+            steps: number(found, "steps"),
         });
     }
     if name == "run" {
@@ -127,19 +130,6 @@ fn requested<'a>(alloc: Global, name: &str, found: &ArgMatches<'a>) -> Result<Re
         });
     }
     Ok(Request::Serial { plan, sessions })
-}
-
-/// What a run is drawn from.
-fn schedule(found: &ArgMatches<'_>) -> Schedule
-    ensures seed { IsNumber (word_of (codes "seed") (Some (rows_of (found_of found.now)))) result.seed }
-    ensures loss { IsNumber (word_of (codes "loss") (Some (rows_of (found_of found.now)))) result.loss }
-    ensures steps { IsNumber (word_of (codes "steps") (Some (rows_of (found_of found.now)))) result.steps }
-{
-    Schedule {
-        seed: number(found, "seed"),
-        loss: number(found, "loss"),
-        steps: number(found, "steps"),
-    }
 }
 
 /// The number that a word says. Its range was looked at when the words were read.

@@ -1,6 +1,5 @@
 use clap::error::ErrorKind;
 use command_words::command_line::{Request, command_line};
-use random_runs::Schedule;
 use std::alloc::{AllocError, Global};
 use std::process::Abort;
 use std::test::Fail;
@@ -121,11 +120,12 @@ fn reads_the_words_of_random(rt: HostRuntime) -> Result<(), Fail> {
     for (words, seed, loss, steps) in rows {
         let words = strings(rt.alloc(), words)?;
         let request = command_line(rt.alloc(), words.as_slice())?;
-        let schedule = Schedule { seed, loss, steps };
         let expected = Request::Random {
             plan: "p",
             sessions: "s",
-            schedule,
+            seed,
+            loss,
+            steps,
         };
         assert_eq!(rt; request, expected);
     }

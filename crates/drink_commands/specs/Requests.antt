@@ -21,7 +21,7 @@ use Rattle.command_words.specs.declared.command_line.Request.TheVariants.{Serial
 abbrev pub words_of : Request → List (List ℕ)
 words_of (Serial plan sessions) = plan.now ∷ sessions.now ∷ []
 words_of (Sim plan sessions script folder) = plan.now ∷ sessions.now ∷ script.now ∷ []
-words_of (Random plan sessions schedule) = plan.now ∷ sessions.now ∷ []
+words_of (Random plan sessions seed loss steps) = plan.now ∷ sessions.now ∷ []
 words_of (Run plan office sessions turns file) = plan.now ∷ sessions.now ∷ []
 words_of (Live plan sessions folder) = plan.now ∷ sessions.now ∷ []
 words_of (Audit plan journals) = plan.now ∷ map (λ w. w.now) journals.items
@@ -35,10 +35,10 @@ word_of (Sim plan sessions script folder) inputs.Plan = plan.now
 word_of (Sim plan sessions script folder) inputs.Sessions = sessions.now
 word_of (Sim plan sessions script folder) inputs.Script = script.now
 word_of (Sim plan sessions script folder) (inputs.Journal k) = []
-word_of (Random plan sessions schedule) inputs.Plan = plan.now
-word_of (Random plan sessions schedule) inputs.Sessions = sessions.now
-word_of (Random plan sessions schedule) inputs.Script = []
-word_of (Random plan sessions schedule) (inputs.Journal k) = []
+word_of (Random plan sessions seed loss steps) inputs.Plan = plan.now
+word_of (Random plan sessions seed loss steps) inputs.Sessions = sessions.now
+word_of (Random plan sessions seed loss steps) inputs.Script = []
+word_of (Random plan sessions seed loss steps) (inputs.Journal k) = []
 word_of (Run plan office sessions turns file) inputs.Plan = plan.now
 word_of (Run plan office sessions turns file) inputs.Sessions = sessions.now
 word_of (Run plan office sessions turns file) inputs.Script = []
@@ -56,7 +56,7 @@ word_of (Audit plan journals) (inputs.Journal k) = get_or (map (λ w. w.now) jou
 abbrev pub inputs_of : Request → List Input
 inputs_of (Serial plan sessions) = inputs.Plan ∷ inputs.Sessions ∷ []
 inputs_of (Sim plan sessions script folder) = inputs.Plan ∷ inputs.Sessions ∷ inputs.Script ∷ []
-inputs_of (Random plan sessions schedule) = inputs.Plan ∷ inputs.Sessions ∷ []
+inputs_of (Random plan sessions seed loss steps) = inputs.Plan ∷ inputs.Sessions ∷ []
 inputs_of (Run plan office sessions turns file) = inputs.Plan ∷ inputs.Sessions ∷ []
 inputs_of (Live plan sessions folder) = inputs.Plan ∷ inputs.Sessions ∷ []
 inputs_of (Audit plan journals) = inputs.Plan ∷ journal_inputs 0 (length journals.items)
@@ -70,7 +70,7 @@ IsDone tells files standard (Serial plan sessions) status old new kept left = Ke
 IsDone tells files standard (Sim plan sessions script folder) status old new kept left = (plan_text sessions_text script_text : List ℕ)
     → StandFor files standard (plan.now ∷ sessions.now ∷ script.now ∷ []) (plan_text ∷ sessions_text ∷ script_text ∷ [])
     → Simulates plan_text sessions_text script_text (option_copied folder) old new kept left
-IsDone tells files standard (Random plan sessions schedule) status old new kept left = KeepsFiles kept left × ((plan_text sessions_text : List ℕ)
+IsDone tells files standard (Random plan sessions seed loss steps) status old new kept left = KeepsFiles kept left × ((plan_text sessions_text : List ℕ)
     → StandFor files standard (plan.now ∷ sessions.now ∷ []) (plan_text ∷ sessions_text ∷ []) → TellsRun plan_text sessions_text old new)
 IsDone tells files standard (Run plan office sessions turns file) status old new kept left = RunsOffice tells files standard plan.now office.now sessions.now turns (option_copied file) (EndsWith status) old new kept left
 IsDone tells files standard (Live plan sessions folder) status old new kept left = RunsOffices files standard plan.now sessions.now (option_copied folder) (EndsWith status) old new kept left

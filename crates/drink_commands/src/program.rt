@@ -17,6 +17,7 @@ use command_words::command_line::{Request, command_line, help};
 use input_texts::{Devices, Sources};
 use office_runs::{Around, Binds, Gate, Open, UdpSockets, Watch};
 use output_files::{Disk, Targets};
+use random_runs::Schedule;
 use std::alloc::{AllocError, Global};
 use std::io;
 use std::io::{IsTerminal, Write};
@@ -148,8 +149,17 @@ where
         Request::Random {
             plan,
             sessions,
-            schedule,
-        } => random::run(alloc, sources, plan, sessions, *schedule, out),
+            seed,
+            loss,
+            steps,
+        } => {
+            let schedule = Schedule {
+                seed: *seed,
+                loss: *loss,
+                steps: *steps,
+            };
+            random::run(alloc, sources, plan, sessions, schedule, out)
+        }
         Request::Run {
             plan,
             office,

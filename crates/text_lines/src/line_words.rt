@@ -1,6 +1,6 @@
 //! The words of a line.
 
-ghost use Rattle.std.specs.Prelude.{◌≡◌, ◌∷◌, [], map, IfOk, MatchOption, true};
+ghost use Rattle.std.specs.Prelude.{◌≡◌, ◌+◌, ◌≤◌, ◌∷◌, [], length, drop, map, IfOk, MatchOption, true};
 ghost use Rattle.std.specs.Str.{bytes_eq};
 ghost use Rattle.std.specs.List.{position_or_len};
 ghost use Rattle.text_lines.specs.Text.{words_of, is_blank};
@@ -51,14 +51,25 @@ fn blank_place(line: &[u8]) -> usize
             return place;
         }
     }
+    far_place(line, near)
+}
+
+/// The place of the first space or tab from this one on, or the length where there is none. By itself, so that a short word pays
+/// nothing for it.
+#[inline(never)]
+fn far_place(line: &[u8], near: usize) -> usize
+    requires { near ≤ length line.now }
+    ensures { result ≡ near + position_or_len is_blank (drop near line.now) }
+{
     let far = line.split_at(near).1;
     near + memchr2(b' ', b'\t', far).unwrap_or(far.len())
 }
 
+/// Whether a byte is a space or a tab. Most bytes are told by the first look.
 pub fn is_blank(byte: u8) -> bool
     ensures { result ≡ is_blank byte }
 {
-    byte == b' ' || byte == b'\t'
+    byte <= b' ' && (byte == b' ' || byte == b'\t')
 }
 
 /// Whether two words are one. Most that differ are told apart without a look at all their bytes.

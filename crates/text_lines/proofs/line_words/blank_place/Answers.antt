@@ -1,8 +1,6 @@
-use Rattle.std.proofs.Common.{arith, ap, sym, ◌+◌, ◌∙◌, ◌≡◌, ◌≤◌, drop, length}
-use Rattle.std.specs.List.{position_or_len}
+use Rattle.std.proofs.Common.{arith, sym, ◌∙◌, ◌≤◌, length}
 use Rattle.std.proofs.lemmas.List.Sums.{position_or_len_is}
 use Rattle.text_lines.specs.Text.{is_blank}
-use Rattle.text_lines.proofs.FirstLine.{first_place}
 use Rattle.text_lines.proofs.FirstWord.{far_place}
 use Rattle.text_lines.proofs.line_words.blank_place.Goals as goal
 use Rattle.text_lines.proofs.line_words.blank_place.Goals.{then-line-lt-SHORT_WORD, else-line-lt-SHORT_WORD}
@@ -17,6 +15,4 @@ returns c =
       | then-line-lt-SHORT_WORD w ↦ omega arith
       | else-line-lt-SHORT_WORD w ↦ omega arith
     ] in
-    let far : c.unwrap_or.result ≡ position_or_len is_blank (drop c.if-line-lt-SHORT_WORD.near c.args.line.now) =
-    c.unwrap_or.ensures ∙ first_place is_blank c.split_at.result.1.now c.memchr2.result c.memchr2.ensures ∙ ap (position_or_len is_blank) c.split_at.ensures.back in
-    ap (λ n. c.if-line-lt-SHORT_WORD.near + n) far ∙ far_place is_blank c.args.line.now c.if-line-lt-SHORT_WORD.near inside (λ k lt. c.loop-place.invariant k (omega (arith, lt)))
+    c.far_place.ensures ∙ far_place is_blank c.args.line.now c.if-line-lt-SHORT_WORD.near inside (λ k lt. c.loop-place.invariant k (omega (arith, lt)))
