@@ -48,14 +48,16 @@ takes() {
     done | sort -n | sed -n 2p
 }
 
-# WHAT: the instructions of an audit that is `woven` or `refused`, or -.
+# WHAT: the instructions of an audit that is `woven` or `refused`, or -. Where memory grows, the C library copies it by one
+# instruction that moves as many bytes as it is told, and callgrind counts it once for each byte; so it is told to copy by others.
 instructions() {
     if ! command -v valgrind > /dev/null; then
         echo -
         return
     fi
     came=woven
-    valgrind --tool=callgrind --callgrind-out-file="$work/callgrind" "$program" audit "$work/plan" "$work"/journal.* > /dev/null 2> "$work/log" || came=refused
+    GLIBC_TUNABLES=glibc.cpu.x86_rep_movsb_threshold=1000000000 valgrind --tool=callgrind --callgrind-out-file="$work/callgrind" \
+        "$program" audit "$work/plan" "$work"/journal.* > /dev/null 2> "$work/log" || came=refused
     if [ "$came" != "$1" ]; then
         echo "$0: the journals aren't $1" >&2
         exit 1

@@ -98,7 +98,8 @@ of_run (NoSuchOffice offices) h = tt
 of_run (NoAddress office) h = tt
 of_run (NoJournal office) (inl h) = h
 of_run (NoJournal office) (inr h) = h
-of_run (NoRun cause) h = tt
+of_run (NoRun cause) (inl h) = h
+of_run (NoRun cause) (inr h) = absurd h
 of_run (CutShort cause) h = tt
 of_run (WriteFailed cause) (inl h) = h
 of_run (FileFailed name cause) (inl h) = h
@@ -113,7 +114,7 @@ module _ (asked : List Input) where
   named (NoSuchOffice offices) h = inr tt
   named (NoAddress office) h = inr tt
   named (NoJournal office) h = inr h
-  named (NoRun cause) h = inr tt
+  named (NoRun cause) h = absurd h
   named (CutShort cause) h = inr tt
   named (WriteFailed cause) h = inl tt
   named (FileFailed name cause) h = inl tt
@@ -125,7 +126,7 @@ module _ (asked : List Input) where
   met p v (NoSuchOffice offices) h = inr tt
   met p v (NoAddress office) h = inr tt
   met p v (NoJournal office) h = inr h
-  met p v (NoRun cause) h = inr tt
+  met p v (NoRun cause) h = absurd h
   met p v (CutShort cause) h = inr tt
   met p v (WriteFailed cause) h = inl tt
   met p v (FileFailed name cause) h = inl tt

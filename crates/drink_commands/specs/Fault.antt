@@ -1,5 +1,6 @@
 -- What a fault says.
 use Rattle.std.specs.Prelude.{◌≡◌, ◌⊎◌, List, Contains, Option, Some, None}
+use Rattle.office_runs.specs.Runs.{IsUntold}
 use Rattle.drink_commands.specs.declared.input.Input.{Input}
 use Rattle.drink_commands.specs.declared.input.Input.TheVariants as inputs
 use Rattle.drink_commands.specs.declared.fault.Why.{Why}
@@ -56,15 +57,15 @@ abbrev pub IsNoJournal : Fault → Type 0
 IsNoJournal (NoJournal office) = Unit {0}
 IsNoJournal _ = ⊥
 
--- a run can't begin; it ended before its time
+-- a run can't begin, or there is no memory to tell of it; it ended before its time
 abbrev pub IsNoRun : Fault → Type 0
-IsNoRun (NoRun cause) = Unit {0}
+IsNoRun (NoRun cause) = IsUntold cause
 IsNoRun _ = ⊥
 
 abbrev pub IsCutShort : Fault → Type 0
 IsCutShort (CutShort cause) = Unit {0}
 IsCutShort _ = ⊥
 
--- a run can't begin, or was cut short
+-- nothing is told of a run, or it was cut short
 abbrev pub IsOfRun : Fault → Type 0
 IsOfRun f = IsNoRun f ⊎ IsCutShort f

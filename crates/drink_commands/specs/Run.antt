@@ -8,7 +8,7 @@ use Rattle.office_map.specs.PlanValue.{PlanValue, office_named, office_name_of}
 use Rattle.session_meaning.specs.ProgramValue.{ProgramValue}
 use Rattle.session_language.specs.Reading.{sessions_of}
 use Rattle.office_runs.specs.Addresses.{is_without}
-use Rattle.office_runs.specs.Runs.{TellsCourse, TellsJournals}
+use Rattle.office_runs.specs.Runs.{IsUntold, TellsCourse, TellsJournals}
 use Rattle.office_runs.specs.declared.report.Ran.{Ran}
 use Rattle.office_runs.specs.declared.fault.RunFault.{RunFault}
 use Rattle.drink_commands.specs.Journals.{File, WritesFiles, files_of}
@@ -99,11 +99,11 @@ abbrev pub SaysOf : PlanValue → (Fault → Type 0) → Option ℕ → Fault �
 SaysOf p P None f = IsNoOffice f
 SaysOf p P (Some me) f = ((v : ℕ) × (is_without p me v ≡ true) × IsUnreached p v f) ⊎ (IsReached p me × P f)
 
--- an office can't be run, or its run can't begin or was cut short
+-- an office can't be run, or nothing is told of its run, or it was cut short
 abbrev pub IsOfOffice : Fault → Type 0
 IsOfOffice (NoSuchOffice offices) = Unit {0}
 IsOfOffice (NoAddress office) = Unit {0}
-IsOfOffice (NoRun cause) = Unit {0}
+IsOfOffice (NoRun cause) = IsUntold cause
 IsOfOffice (CutShort cause) = Unit {0}
 IsOfOffice _ = ⊥
 

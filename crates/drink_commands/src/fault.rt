@@ -78,7 +78,7 @@ pub enum Fault {
     NoAddress(String),
     /// No journal is of the office of this name.
     NoJournal(String),
-    /// A run can't begin. Nothing was done.
+    /// A run can't begin, or there is no memory to tell of it. Nothing was written.
     NoRun(RunFault),
     /// A run ended before its time. What stands was written.
     CutShort(RunFault),

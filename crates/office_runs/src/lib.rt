@@ -7,8 +7,8 @@
 //! - [`Gate`]: is called before each turn, so that a test can hold an office.
 //! - [`Watch`]: is told once a second how far a run is.
 //!
-//! What is told of a run is what its offices' journals tell (clause `tells`, `specs/Runs.antt`). How often a turn comes, and
-//! that a datagram arrives, is no promise.
+//! What is told of a run is what its offices' journals tell (clause `tells`, `specs/Runs.antt`). Nothing is told only where a run
+//! can't begin, or for want of memory (clause `untold`). How often a turn comes, and that a datagram arrives, is no promise.
 #![tactic(auto)]
 
 mod address;

@@ -1,12 +1,12 @@
 //! All offices of a plan, on threads.
 
-ghost use Rattle.std.specs.Prelude.{◌≡◌, ◌<◌, ◌+◌, ◌++◌, ◌∷◌, [], false, length, map, IfOk, IfSome, IfNone};
+ghost use Rattle.std.specs.Prelude.{◌≡◌, ◌<◌, ◌+◌, ◌++◌, ◌∷◌, [], false, length, map, IfOk, IfErr, IfSome, IfNone};
 ghost use Rattle.std.specs.List.{flat_map, range_with_len};
 ghost use Rattle.own_lock.specs.Passes.{IsOf};
 ghost use Rattle.locked_office.specs.Calls.{Stays};
 ghost use Rattle.run_reports.specs.Report.{outcome_line};
 ghost use Rattle.site_core.specs.Journals.{IsLegal, Site};
-ghost use Rattle.office_runs.specs.Runs.{TellsOffices, TellsJournals, finished_of, key_of};
+ghost use Rattle.office_runs.specs.Runs.{TellsOffices, TellsJournals, IsUntold, finished_of, key_of};
 ghost use Rattle.office_runs.specs.refinement.Opening.{opened_key};
 ghost use Rattle.office_runs.specs.refinement.Reports.{AddsJournal};
 
@@ -48,8 +48,9 @@ struct Crew<S: Socket, A: Wakes> {
 /// Where the `journals` are wanted, their texts are told too, in the plan's order.
 ///
 /// # Errors
-/// Where nothing was done: `BindFailed`, `NoClock`, `Memory`. What ends a run before its time is told in what it answers, with
-/// what stands; `NoThread` among it, where a thread can't be started: then those that were end.
+/// `BindFailed` and `NoClock`, where nothing was done; `Memory`, where nothing was, or where what stands can't be told for want
+/// of it. What ends a run before its time is told in what it answers, with what stands; `NoThread` among it, where a thread can't
+/// be started: then those that were end.
 pub fn live<R, B, G, W>(
     rt: &R,
     alloc: Global,
@@ -66,6 +67,7 @@ where
     G: Gate + Sync,
     W: Watch + Sync,
     ensures tells { IfOk result (TellsJournals plan.now (range_with_len 0 (length plan.now.offices)) (length programs.now) journals) }
+    ensures untold { IfErr result IsUntold }
 {
     let (offices, crews) = open_all(rt, alloc, plan, around.binds)?;
     let shared = Shared::new(programs.len() as u64);
@@ -159,7 +161,8 @@ fn open_all<R: Clock, B: Binds>(
     plan: &Plan,
     binds: &B,
 ) -> Result<AllOpened<B::Socket, B::Alarm>, RunFault>
-    ensures { IfOk result (λ r. map opened_key r.0.items ≡ map (λ me. (plan.now, me)) (range_with_len 0 (length plan.now.offices))) }
+    ensures keys { IfOk result (λ r. map opened_key r.0.items ≡ map (λ me. (plan.now, me)) (range_with_len 0 (length plan.now.offices))) }
+    ensures untold { IfErr result IsUntold }
 {
     let (mut sockets, places) = bind_all(alloc, binds, plan.offices())?;
     let mut offices = VecDeque::new(alloc);
@@ -185,7 +188,8 @@ fn bind_all<B: Binds>(
     binds: &B,
     count: usize,
 ) -> Result<Bound<B::Socket, B::Alarm>, RunFault>
-    ensures { IfOk result (λ r. length r.0.items ≡ count) }
+    ensures count { IfOk result (λ r. length r.0.items ≡ count) }
+    ensures untold { IfErr result IsUntold }
 {
     let mut sockets = VecDeque::new(alloc);
     let mut places = Vec::new(alloc);
@@ -205,7 +209,9 @@ fn first_socket<S: Socket, A: Wakes>(sockets: &mut VecDeque<(S, A)>) -> Option<(
 }
 
 /// A socket on this machine, at a port of the system's choice.
-fn bound<B: Binds>(binds: &B) -> Result<(B::Socket, B::Alarm, SocketAddr), RunFault> {
+fn bound<B: Binds>(binds: &B) -> Result<(B::Socket, B::Alarm, SocketAddr), RunFault>
+    ensures { IfErr result IsUntold }
+{
     let at = SocketAddr::from((Ipv4Addr::LOCALHOST, 0));
     let (socket, alarm) = match binds.bind(at) {
         Ok(both) => both,
@@ -227,7 +233,8 @@ fn open_one<R: Clock, S: Socket, A: Wakes>(
     places: &[SocketAddr],
 ) -> Result<(Opened, Crew<S, A>), RunFault>
     requires { me < length plan.now.offices }
-    ensures { IfOk result (λ r. opened_key r.0 ≡ (plan.now, me)) }
+    ensures key { IfOk result (λ r. opened_key r.0 ≡ (plan.now, me)) }
+    ensures untold { IfErr result IsUntold }
 {
     for v in plan.neighbours(me) {
         if let Some(at) = places.get(v.index()) {
@@ -276,7 +283,8 @@ fn told<R: Wait>(
     journals: bool,
     fault: Option<RunFault>,
 ) -> Result<Ran, RunFault>
-    ensures { IfOk result (TellsOffices plan.now (map opened_key offices.items) sessions journals) }
+    ensures tells { IfOk result (TellsOffices plan.now (map opened_key offices.items) sessions journals) }
+    ensures untold { IfErr result IsUntold }
 {
     let mut report = Report::new(alloc, journals);
     let mut left = sessions;

@@ -1,6 +1,6 @@
 //! One office, alone in its process.
 
-ghost use Rattle.std.specs.Prelude.{◌≡◌, ◌<◌, ◌∷◌, ◌-◌, ℕ, [], None, false, length, map, IfOk};
+ghost use Rattle.std.specs.Prelude.{◌≡◌, ◌<◌, ◌∷◌, ◌-◌, ℕ, [], None, false, length, map, IfOk, IfErr};
 ghost use Rattle.std.specs.Result.{result_err};
 ghost use Rattle.std.specs.String.{string_bytes};
 ghost use Rattle.own_lock.specs.Passes.{IsOf};
@@ -8,7 +8,7 @@ ghost use Rattle.site_core.specs.Journals.{IsLegal};
 ghost use Rattle.locked_office.specs.Calls.{Stays, Looks, office_with};
 ghost use Rattle.socket_pump.specs.Last.{last_of};
 ghost use Rattle.office_runs.specs.Rounds.{Goes, of_office};
-ghost use Rattle.office_runs.specs.Runs.{TellsCourse, TellsJournals, HasJournals, count_of, finished_of, runs_report};
+ghost use Rattle.office_runs.specs.Runs.{TellsCourse, TellsJournals, HasJournals, IsUntold, count_of, finished_of, runs_report};
 ghost use Rattle.office_runs.specs.refinement.Standings.{standing};
 
 use crate::address::address;
@@ -41,8 +41,8 @@ use std::time::Instant;
 /// `journals` are wanted, the text of its one is told too.
 ///
 /// # Errors
-/// Where nothing was done: `BindFailed`, `NoClock`, `Memory`. What ends a run before its turns are over is told in what it answers,
-/// with what stands.
+/// `BindFailed` and `NoClock`, where nothing was done; `Memory`, where nothing was, or where what stands can't be told for want
+/// of it. What ends a run before its turns are over is told in what it answers, with what stands.
 pub fn run_office<R: Wait + Clock, B: Binds, G: Gate, W: Watch>(
     rt: &R,
     alloc: Global,
@@ -56,6 +56,7 @@ pub fn run_office<R: Wait + Clock, B: Binds, G: Gate, W: Watch>(
     requires { me < length plan.now.offices }
     ensures tells { IfOk result (TellsJournals plan.now (me ∷ []) (count_of programs.now me) journals) }
     ensures ran { IfOk result (TellsCourse B.Socket.tells plan.now me programs.now turns journals) }
+    ensures untold { IfErr result IsUntold }
 {
     let mut station = station(rt, alloc, plan, me, around.binds)?;
     let (desk, passes) = open_desk(alloc, plan, me, 1)?;
@@ -99,6 +100,7 @@ fn station<R: Clock, B: Binds>(
     requires { me < length plan.now.offices }
     ensures key { IfOk result (λ s. s.pump.key ≡ (plan.now, me)) }
     ensures last { IfOk result (λ s. (v n : ℕ) → last_of s.pump.lasts v n ≡ None) }
+    ensures untold { IfErr result IsUntold }
 {
     let Some(at) = address(plan, me) else {
         let nowhere = SocketAddr::from((Ipv4Addr::UNSPECIFIED, 0));
@@ -175,6 +177,7 @@ fn told<R: Wait>(
     ensures text { IfOk result (λ r. string_bytes r.text ≡ runs_report plan.now (office_with desk.now.key pass.new.seen ∷ []) r.unfinished) }
     ensures left { IfOk result (λ r. r.unfinished ≡ sessions - length (finished_of (office_with desk.now.key pass.new.seen))) }
     ensures journals { IfOk result (λ r. HasJournals journals (office_with desk.now.key pass.new.seen ∷ []) (map string_bytes r.journals.items)) }
+    ensures untold { IfErr result IsUntold }
 {
     let mut report = Report::new(alloc, journals);
     let finished = add_sessions(rt, desk, pass, plan, &mut report)?;

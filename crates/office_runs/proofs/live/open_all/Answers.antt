@@ -13,12 +13,12 @@ loop-k-preserved g c =
     let of : ℕ → Key = λ me. (c.args.plan.now, me) in
     record {
       left = omega (arith, fewer, left);
-      keys = mapped_more of c.loop-k.k c.new-me.result (map opened_key c.loop-k.offices.items) (map opened_key c.push_back.new.self.items) (opened_key c.in_ok-office.office) c.new-me.ensures c.loop-k.invariant.keys c.in_ok-office.ensures
+      keys = mapped_more of c.loop-k.k c.new-me.result (map opened_key c.loop-k.offices.items) (map opened_key c.push_back.new.self.items) (opened_key c.in_ok-office.office) c.new-me.ensures c.loop-k.invariant.keys c.in_ok-office.ensures.key
           (ap (map opened_key) c.in_ok-push_back.ensures.items ∙ map-append opened_key c.loop-k.offices.items (c.in_ok-office.office ∷ []));
     }
 
-pub returns : goal.returns
-returns g c =
+pub returns-clause-keys : goal.returns-clause-keys
+returns-clause-keys g c =
     let left : length c.loop-k.sockets.items + c.loop-k.k ≡ length c.args.plan.now.offices = c.loop-k.invariant.left in
     let end : c.offices-k-end.result ≡ length c.args.plan.now.offices = c.offices-k-end.ensures.count in
     let test = c.loop-k-test.false in
