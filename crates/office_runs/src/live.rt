@@ -284,6 +284,7 @@ fn told<R: Wait>(
     fault: Option<RunFault>,
 ) -> Result<Ran, RunFault>
     ensures tells { IfOk result (TellsOffices plan.now (map opened_key offices.items) sessions journals) }
+    ensures fault { IfOk result (λ r. r.fault ≡ fault) }
     ensures untold { IfErr result IsUntold }
 {
     let mut report = Report::new(alloc, journals);
