@@ -1,78 +1,127 @@
 //! The value that a record holds: a whole number of 64 bits with a sign.
 //!
-//! - `add`, `sub`, `mul` and `neg` give the exact result, or [`Overflow`] exactly where no value is
-//!   that number (`exact`, in `specs/Arithmetic.antt`).
+//! - `add`, `sub`, `mul` and `neg` give what `sum`, `difference`, `product` and `opposite` make of the values, or the
+//!   fault that they have (`specs/Operations.antt`): the exact number, or [`ValueFault::Overflow`] exactly where no
+//!   value is that number. `equals`, `is_less` and `is_at_most` are those of the same page.
 //! - `to_bytes` gives the eight bytes of two's complement, the highest first, and `of_bytes` is its
 //!   inverse on all of `[u8; 8]` (`bytes_of` and `twos_complement`, in `specs/Bytes.antt`).
+//! - A value prints as `value_text` says (`specs/Printed.antt`).
 //!
 //! No call takes memory.
 #![tactic(auto)]
 
-ghost use Rattle.std.specs.Prelude.{◌≡◌, ℤ, IsTrue, ◌+ℤ◌, ◌-ℤ◌, ◌*ℤ◌, neg_ℤ, option_map, Some};
-ghost use Rattle.std.specs.Fmt.{signed_decimal};
+ghost use Rattle.std.specs.Prelude.{◌≡◌, ℤ, IsTrue, Some};
 ghost use Rattle.std.specs.Int.{w64, from_be_bytes};
-ghost use Rattle.std.specs.Result.{result_ok};
-ghost use Rattle.bottle_values.specs.Arithmetic.{exact, is_i64};
+ghost use Rattle.bottle_values.specs.Values as kind;
+ghost use Rattle.bottle_values.specs.Values.{number_in};
+ghost use Rattle.bottle_values.specs.Operations.{is_i64, is_value, sum, difference, product, opposite, are_equal, is_less, is_at_most};
 ghost use Rattle.bottle_values.specs.Bytes.{bytes_of, twos_complement};
+ghost use Rattle.bottle_values.specs.Printed.{value_text};
+ghost use Rattle.bottle_values.specs.refinement.Checked.{number_or_overflow};
 
 use std::fmt;
+use std::marker::Model;
 use thiserror::Error;
 
 /// The value of a record. It prints as its number, in decimal.
 #[derive(Clone, Copy, Debug, PartialEq, Eq, Hash)]
 pub struct Value {
-    pub number: i64,
+    number: i64,
 }
 
-/// The exact result is below `i64::MIN` or above `i64::MAX`.
+impl Model for Value {
+    ghost use Rattle.bottle_values.specs.Values as values;
+
+    ghost Value = { values.Value };
+
+    ghost view = { λ v. values.Number v.number };
+
+    ghost inverse = { λ v. record { number = values.number_in v } };
+}
+
+/// Why an operation has no result.
 #[derive(Clone, Copy, Debug, PartialEq, Eq, Error)]
-#[error("V1 Overflow")]
-pub struct Overflow;
+pub enum ValueFault {
+    /// The exact result is below `i64::MIN` or above `i64::MAX`.
+    #[error("V1 Overflow")]
+    Overflow,
+}
 
 impl Value {
-    /// The sum.
-    pub fn add(self, other: Value) -> Result<Value, Overflow>
-        ensures { result_ok result ≡ exact (self.number +ℤ other.number) }
+    /// The number.
+    pub fn number(self) -> i64
+        ensures number { self ≡ kind.Number result }
+        ensures range { IsTrue (is_value self) }
     {
-        checked(self.number.checked_add(other.number))
+        self.number
+    }
+
+    /// The sum.
+    pub fn add(self, other: Value) -> Result<Value, ValueFault>
+        ensures { result ≡ sum self other }
+    {
+        exact(self.number.checked_add(other.number))
     }
 
     /// The difference, `other` taken from `self`.
-    pub fn sub(self, other: Value) -> Result<Value, Overflow>
-        ensures { result_ok result ≡ exact (self.number -ℤ other.number) }
+    pub fn sub(self, other: Value) -> Result<Value, ValueFault>
+        ensures { result ≡ difference self other }
     {
-        checked(self.number.checked_sub(other.number))
+        exact(self.number.checked_sub(other.number))
     }
 
     /// The product.
-    pub fn mul(self, other: Value) -> Result<Value, Overflow>
-        ensures { result_ok result ≡ exact (self.number *ℤ other.number) }
+    pub fn mul(self, other: Value) -> Result<Value, ValueFault>
+        ensures { result ≡ product self other }
     {
-        checked(self.number.checked_mul(other.number))
+        exact(self.number.checked_mul(other.number))
     }
 
     /// The number with the other sign.
-    pub fn neg(self) -> Result<Value, Overflow>
-        ensures { result_ok result ≡ exact (neg_ℤ self.number) }
+    pub fn neg(self) -> Result<Value, ValueFault>
+        ensures { result ≡ opposite self }
     {
-        checked(self.number.checked_neg())
+        exact(self.number.checked_neg())
+    }
+
+    /// Whether two values are the same.
+    pub fn equals(self, other: Value) -> bool
+        ensures { result ≡ are_equal self other }
+    {
+        self.number == other.number
+    }
+
+    /// Whether the number comes before another.
+    pub fn is_less(self, other: Value) -> Result<bool, ValueFault>
+        ensures { result ≡ is_less self other }
+    {
+        Ok(self.number < other.number)
+    }
+
+    /// Whether the number is another or comes before it.
+    pub fn is_at_most(self, other: Value) -> Result<bool, ValueFault>
+        ensures { result ≡ is_at_most self other }
+    {
+        Ok(self.number <= other.number)
     }
 
     /// The number's eight bytes in two's complement, the highest first.
     pub fn to_bytes(self) -> [u8; 8]
-        ensures bytes { result ≡ bytes_of self.number }
-        ensures number { from_be_bytes w64 result ≡ twos_complement self.number }
+        ensures bytes { result ≡ bytes_of (number_in self) }
+        ensures number { from_be_bytes w64 result ≡ twos_complement (number_in self) }
+        ensures range { IsTrue (is_value self) }
     {
         self.number.to_be_bytes()
     }
 
     /// The value that has these bytes.
     pub fn of_bytes(bytes: [u8; 8]) -> Value
-        ensures bytes { bytes ≡ bytes_of result.number }
-        ensures number { from_be_bytes w64 bytes ≡ twos_complement result.number }
+        ensures bytes { bytes ≡ bytes_of (number_in result) }
+        ensures number { from_be_bytes w64 bytes ≡ twos_complement (number_in result) }
+        ensures range { IsTrue (is_value result) }
 
         // No other value has them.
-        ensures only { (z : ℤ) → IsTrue (is_i64 z) → bytes ≡ bytes_of z → z ≡ result.number }
+        ensures only { (z : ℤ) → IsTrue (is_i64 z) → bytes ≡ bytes_of z → kind.Number z ≡ result }
     {
         Value {
             number: i64::from_be_bytes(bytes),
@@ -81,7 +130,7 @@ impl Value {
 }
 
 impl From<i64> for Value {
-    ghost from_gives = { λ number value. value.number ≡ number };
+    ghost from_gives = { λ number value. value ≡ kind.Number number };
 
     fn from(number: i64) -> Value {
         Value { number }
@@ -89,18 +138,18 @@ impl From<i64> for Value {
 }
 
 impl fmt::Display for Value {
-    ghost output = { λ value. Some (signed_decimal value.number) };
+    ghost output = { λ value. Some (value_text value) };
 
     fn fmt<W: fmt::Write>(&self, f: &mut fmt::Formatter<W>) -> fmt::Result {
         write!(f, "{}", self.number)
     }
 }
 
-fn checked(number: Option<i64>) -> Result<Value, Overflow>
-    ensures { result_ok result ≡ option_map (λ n. record { number = n }) number }
+fn exact(number: Option<i64>) -> Result<Value, ValueFault>
+    ensures { result ≡ number_or_overflow number }
 {
     match number {
         Some(number) => Ok(Value { number }),
-        None => Err(Overflow),
+        None => Err(ValueFault::Overflow),
     }
 }

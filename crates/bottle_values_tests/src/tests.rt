@@ -1,10 +1,10 @@
 ghost use Rattle.std.specs.Prelude.{◌≡◌};
 
-use bottle_values::{Overflow, Value};
+use bottle_values::{Value, ValueFault};
 use std::test::Fail;
 
 fn value(number: i64) -> Value {
-    Value { number }
+    Value::from(number)
 }
 
 // A caller shows both round trips from the clauses of the two functions.
@@ -23,14 +23,32 @@ fn written_again(bytes: [u8; 8]) -> [u8; 8]
 #[test]
 fn results_are_exact_or_an_overflow(rt: HostRuntime) {
     assert_eq!(rt; value(2).add(value(-5)), Ok(value(-3)));
-    assert_eq!(rt; value(i64::MAX).add(value(1)), Err(Overflow));
-    assert_eq!(rt; value(i64::MIN).sub(value(1)), Err(Overflow));
+    assert_eq!(rt; value(i64::MAX).add(value(1)), Err(ValueFault::Overflow));
+    assert_eq!(rt; value(i64::MIN).sub(value(1)), Err(ValueFault::Overflow));
     assert_eq!(rt; value(-1).sub(value(i64::MIN)), Ok(value(i64::MAX)));
     assert_eq!(rt; value(i64::MIN).mul(value(1)), Ok(value(i64::MIN)));
-    assert_eq!(rt; value(i64::MIN).mul(value(-1)), Err(Overflow));
-    assert_eq!(rt; value(4294967296).mul(value(2147483648)), Err(Overflow));
+    assert_eq!(rt; value(i64::MIN).mul(value(-1)), Err(ValueFault::Overflow));
+    assert_eq!(rt;
+        value(4294967296).mul(value(2147483648)),
+        Err(ValueFault::Overflow)
+    );
     assert_eq!(rt; value(7).neg(), Ok(value(-7)));
-    assert_eq!(rt; value(i64::MIN).neg(), Err(Overflow));
+    assert_eq!(rt; value(i64::MIN).neg(), Err(ValueFault::Overflow));
+}
+
+#[test]
+fn comparisons_are_of_numbers(rt: HostRuntime) {
+    for (one, other, equal, less, at_most) in [
+        (-3, -3, true, false, true),
+        (-3, 3, false, true, true),
+        (3, -3, false, false, false),
+        (i64::MIN, i64::MAX, false, true, true),
+    ] {
+        assert_eq!(rt; value(one).equals(value(other)), equal);
+        assert_eq!(rt; value(one).is_less(value(other)), Ok(less));
+        assert_eq!(rt; value(one).is_at_most(value(other)), Ok(at_most));
+        assert_eq!(rt; value(one).number(), one);
+    }
 }
 
 #[test]
@@ -57,7 +75,7 @@ fn values_and_overflows_are_printed(rt: HostRuntime) -> Result<(), Fail> {
     assert_eq!(rt; least.as_str(), "-9223372036854775808");
     let seven = format!(in rt.alloc(); "{}", Value::from(7))?;
     assert_eq!(rt; seven.as_str(), "7");
-    let overflow = format!(in rt.alloc(); "{Overflow}")?;
+    let overflow = format!(in rt.alloc(); "{}", ValueFault::Overflow)?;
     assert_eq!(rt; overflow.as_str(), "V1 Overflow");
     Ok(())
 }

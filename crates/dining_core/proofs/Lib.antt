@@ -7,3 +7,4 @@ pub mod ForkLaws
 pub mod EatersForks
 pub mod CleanForks
 pub mod Standstill
+pub mod MaskUpdates

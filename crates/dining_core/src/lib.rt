@@ -14,12 +14,14 @@
 
 mod fault;
 pub mod laws;
+mod masked_table;
 mod phase;
 mod places;
 mod shared_fork;
 mod table;
 
 pub use fault::NotNow;
+pub use masked_table::MaskedTable;
 pub use phase::Phase;
 pub use shared_fork::{Fork, SharedFork};
 pub use table::Table;

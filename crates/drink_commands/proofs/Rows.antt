@@ -1,8 +1,9 @@
 -- The rows of a table's values.
-use Rattle.std.proofs.Common.{◌≡◌, ◌+◌, ◌<◌, ℕ, zero, suc, List, ◌++◌, length, pos, refl, ap, ◌∙◌, arith}
+use Rattle.std.proofs.Common.{◌≡◌, ◌+◌, ◌<◌, ℕ, zero, suc, List, ◌++◌, length, refl, ap, ◌∙◌, arith}
 use Rattle.std.specs.List.{flat_map, range_with_len}
 use Rattle.std.proofs.lemmas.Option.{get_or_from_slice_get}
-use Rattle.bottle_values.specs.declared.Value.{Value}
+use Rattle.bottle_values.specs.Values.{Value}
+use Rattle.bottle_values.specs.Operations.{nought}
 use Rattle.office_map.specs.PlanValue.{PlanValue}
 use Rattle.session_meaning.specs.declared.ending.Outcome.{Outcome}
 use Rattle.serial_replay.specs.Serial.{ListsValues}
@@ -15,7 +16,7 @@ same_rows f g a (suc n) h =
     ∙ ap (λ rows. g a ++ rows) (same_rows f g (a + 1) n (λ r lt. h r (omega (arith, lt))))
 
 value_is : (values : List Value) (n : ℕ) (m : ℕ → Value) → ListsValues values n m → (r : ℕ) → r < n → value_at values r ≡ m r
-value_is values n m t r lt = get_or_from_slice_get values r (m r) (record { number = pos 0 }) (t.each r lt)
+value_is values n m t r lt = get_or_from_slice_get values r (m r) nought (t.each r lt)
 
 -- the report of the values in a table
 pub report_is : (p : PlanValue) (shown meant : List Outcome) (values kept : List Value) (m : ℕ → Value) → shown ≡ meant → values ≡ kept → ListsValues kept (length p.records) m

@@ -4,7 +4,7 @@ use Rattle.std.specs.Prelude.{◌==◌, nat_lt, option_map}
 use Rattle.std.specs.Option.{option_map_or}
 use Rattle.std.proofs.lemmas.Bool.{cond_both, eq-eqb, eqb-true, cases_eq, and_parts, or_left, or_right}
 use Rattle.std.proofs.lemmas.Option.{slice_get_cases}
-use Rattle.bottle_values.specs.declared.Value.{Value}
+use Rattle.bottle_values.specs.Values.{Value}
 use Rattle.bottle_values.specs.Maps.{put}
 use Rattle.bottle_values.proofs.Maps.{put_same, put_other}
 use Rattle.office_map.specs.declared.entries.RecordEntry.{RecordEntry}
@@ -204,7 +204,7 @@ finishing_writes plan w a ws r spot v f at =
 pub no_other_spot : (w : World) (r : ℕ) (spot other : Spot) (v x : Value) → IsBottleAt w r spot v → IsBottleAt w r other x → (spot ≡ other) × (v ≡ x)
 no_other_spot w r spot other v x p q = one_spot (λ c. (w.drinker c).bottle r) (w.bottles_on_way r) spot other v x p q
 
-pub bottles_start : (plan : PlanValue) (r : ℕ) (e : RecordEntry) → slice_get plan.records r ≡ Some e → IsBottleAt (opening plan) r (With (start_end e)) (record { number = e.value })
+pub bottles_start : (plan : PlanValue) (r : ℕ) (e : RecordEntry) → slice_get plan.records r ≡ Some e → IsBottleAt (opening plan) r (With (start_end e)) e.value
 bottles_start plan r e h = record { here = λ c. ap (start_bottle c) h; sent = λ b c. refl }
 
 tokens_start : (plan : PlanValue) (r : ℕ) (e : RecordEntry) → slice_get plan.records r ≡ Some e → IsTokenAt (opening plan) r (With (token_end e))
@@ -369,7 +369,7 @@ spots_run plan w (e ∷ es) r s h = spots_run plan (happens plan w e) es r (λ a
 opening_spots : (plan : PlanValue) (r : ℕ) (e : RecordEntry) → slice_get plan.records r ≡ Some e → HasItsSpots plan (opening plan) r
 opening_spots plan r e h = record {
   spot = With (start_end e);
-  value = record { number = e.value };
+  value = e.value;
   bottle = bottles_start plan r e h;
   bottle_end = ap (λ o. option_map_or (λ (x : RecordEntry). has_end x (start_end e)) o false) h ∙ of_two e e.starts_at_first e.first e.second (first_is e) (second_is e);
   token_spot = With (token_end e);

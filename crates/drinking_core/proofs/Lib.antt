@@ -10,3 +10,4 @@ pub mod BottlePlaces
 pub mod DrinkersNeeds
 pub mod FreedRecords
 pub mod Standstill
+pub mod MaskUpdates

@@ -1,7 +1,7 @@
 -- How many needed bottles aren't here, when one place changes.
 use Rattle.std.proofs.Common.{◌≡◌, ℕ, zero, suc, ◌+◌, ◌<◌, ◌≤◌, Bool, true, false, not, ◌&&◌, List, [], ◌∷◌, length, drop, Option, is_some, refl, sym, ap, ◌∙◌, arith, set, get_or, add-one}
 use Rattle.std.proofs.Math.Seq.{drop-cons}
-use Rattle.bottle_values.specs.declared.Value.{Value}
+use Rattle.bottle_values.specs.Values.{Value}
 use Rattle.drinking_core.specs.declared.shared_bottle.SharedBottle.{SharedBottle}
 use Rattle.drinking_core.specs.refinement.Bars.{place_at, is_missing, count_missing, needed_place, with_needed}
 use Rattle.bottle_values.specs.Lists.{num}

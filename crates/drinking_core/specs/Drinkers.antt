@@ -1,7 +1,7 @@
 -- An office that shares bottles with its neighbours, and the guard and effect of each rule of the bottles.
 use Rattle.std.specs.Prelude.{ℕ, Bool, true, false, not, ◌==◌, ◌&&◌, ◌||◌, List, Option, None, Some, is_some, option_map, slice_get, if◌then◌else◌}
 use Rattle.std.specs.List.{list_all}
-use Rattle.bottle_values.specs.declared.Value.{Value}
+use Rattle.bottle_values.specs.Values.{Value}
 use Rattle.bottle_values.specs.Maps.{put, write_all}
 use Rattle.office_map.specs.declared.entries.RecordEntry.{RecordEntry}
 use Rattle.office_map.specs.PlanValue.{PlanValue, records_of, start_end, peer}
@@ -98,7 +98,7 @@ token_end e = if e.starts_at_first then e.second else e.first
 -- what starts at an office of a record, which the plan may not have
 abbrev pub start_bottle : ℕ → Option RecordEntry → Option Value
 start_bottle a None = None
-start_bottle a (Some e) = if a == start_end e then Some (record { number = e.value }) else None
+start_bottle a (Some e) = if a == start_end e then Some e.value else None
 
 abbrev pub start_token : ℕ → Option RecordEntry → Bool
 start_token a None = false

@@ -1,7 +1,7 @@
 -- All offices of a plan at their bars with the bottles and request tokens on the way, and where each bottle is.
 use Rattle.std.specs.Prelude.{◌≡◌, ℕ, zero, suc, ◌<◌, ◌≤◌, Bool, true, false, ◌==◌, ◌&&◌, nat_lt, List, [], ◌∷◌, ◌++◌, length, Option, None, Some, slice_get, if◌then◌else◌}
 use Rattle.std.specs.List.{list_all}
-use Rattle.bottle_values.specs.declared.Value.{Value}
+use Rattle.bottle_values.specs.Values.{Value}
 use Rattle.bottle_values.specs.Maps.{put}
 use Rattle.bottle_values.specs.Lists.{num}
 use Rattle.office_map.specs.declared.entries.RecordEntry.{RecordEntry}
@@ -201,7 +201,7 @@ abbrev pub NoOtherSpot : Type 0
 NoOtherSpot = (w : World) (r : ℕ) (spot other : Spot) (v x : Value) → IsBottleAt w r spot v → IsBottleAt w r other x → (spot ≡ other) × (v ≡ x)
 
 abbrev pub BottlesStartWithTheirValues : Type 0
-BottlesStartWithTheirValues = (plan : PlanValue) (r : ℕ) (e : RecordEntry) → slice_get plan.records r ≡ Some e → IsBottleAt (opening plan) r (With (start_end e)) (record { number = e.value })
+BottlesStartWithTheirValues = (plan : PlanValue) (r : ℕ) (e : RecordEntry) → slice_get plan.records r ≡ Some e → IsBottleAt (opening plan) r (With (start_end e)) e.value
 
 -- no event but the end of a session changes the value of a bottle
 abbrev pub ValuesStay : Type 0

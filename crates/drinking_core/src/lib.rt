@@ -13,9 +13,11 @@
 
 mod bar;
 pub mod laws;
+mod masked_bar;
 mod phase;
 mod places;
 mod shared_bottle;
 
 pub use bar::Bar;
+pub use masked_bar::MaskedBar;
 pub use phase::Phase;

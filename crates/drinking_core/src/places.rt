@@ -20,21 +20,15 @@ pub fn open(alloc: Global, plan: &Plan, id: OfficeId) -> Result<Vec<SharedBottle
 {
     let mut places = Vec::with_capacity(alloc, plan.records())?;
     for r in 0..plan.records() {
-        places.push(start(plan, id, RecordId::new(r as u16)))?;
+        let record = RecordId::new(r as u16);
+        places.push(SharedBottle {
+            needed: false,
+            bottle: start_bottle(plan, id, record),
+            token: starts_with_token(plan, id, record),
+            peer: plan.other_end(record, id),
+        })?;
     }
     Ok(places)
-}
-
-fn start(plan: &Plan, id: OfficeId, r: RecordId) -> SharedBottle
-    requires { r < length plan.now.records }
-    ensures { result ≡ start_place plan.now id r }
-{
-    SharedBottle {
-        needed: false,
-        bottle: start_bottle(plan, id, r),
-        token: starts_with_token(plan, id, r),
-        peer: plan.other_end(r, id),
-    }
 }
 
 fn start_bottle(plan: &Plan, id: OfficeId, r: RecordId) -> Option<Value>
@@ -42,7 +36,7 @@ fn start_bottle(plan: &Plan, id: OfficeId, r: RecordId) -> Option<Value>
     ensures { result ≡ start_bottle id (slice_get plan.now.records r) }
 {
     if id == plan.start_end(r) {
-        Some(Value::from(plan.start_value(r)))
+        Some(plan.start_value(r))
     } else {
         None
     }

@@ -4,9 +4,10 @@ use Rattle.std.specs.Prelude.{IfSome}
 use Rattle.std.proofs.lemmas.Bool.{ltb-true}
 use Rattle.byteorder.specs.Endian.{big_bytes, big_number}
 use Rattle.byteorder.specs.Numbers.{big_number-reads_back}
-use Rattle.bottle_values.specs.Arithmetic.{is_i64}
+use Rattle.bottle_values.specs.Operations.{is_i64, is_value}
 use Rattle.bottle_values.specs.Bytes.{bytes_of, twos_complement}
-use Rattle.bottle_values.specs.declared.Value.{Value}
+use Rattle.bottle_values.specs.Values.{number_in}
+use Rattle.bottle_values.specs.Values.{Value, Number}
 use Rattle.frame_codec.specs.declared.message.Msg.{Msg}
 use Rattle.frame_codec.specs.declared.message.Msg.TheVariants.{AskFork, Fork, AskBottle, Bottle}
 use Rattle.frame_codec.specs.Frame.{Fields, IsFrame, IsMsg, IsNumbered}
@@ -31,9 +32,8 @@ below : (z : ℤ) → IsTrue (is_i64 z) → twos_complement z < 2 ^ 64
 below (pos n) f = let a = ltb-true _ _ f in omega arith
 below (negsuc n) f = omega arith
 
-same_value : (v w : Value) → IsTrue (is_i64 v.number) → IsTrue (is_i64 w.number) → bytes_of v.number ≡ bytes_of w.number → v ≡ w
-same_value v w fv fw e =
-    ap (λ (z : ℤ). record { number = z }) (same_int v.number w.number fv fw (same_number 8 _ _ (below v.number fv) (below w.number fw) e))
+same_value : (v w : Value) → IsTrue (is_value v) → IsTrue (is_value w) → bytes_of (number_in v) ≡ bytes_of (number_in w) → v ≡ w
+same_value (Number y) (Number z) fv fw e = ap Number (same_int y z fv fw (same_number 8 _ _ (below y fv) (below z fw) e))
 
 -- ---- messages
 

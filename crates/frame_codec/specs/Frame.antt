@@ -1,6 +1,6 @@
 -- What a frame says, and the range of each of its fields.
 use Rattle.std.specs.Prelude.{◌≡◌, ℕ, ◌<◌, ◌^◌, Option, Some, None, IsTrue, IfSome}
-use Rattle.bottle_values.specs.Arithmetic.{is_i64}
+use Rattle.bottle_values.specs.Operations.{is_value}
 use Rattle.frame_codec.specs.declared.message.Msg.{Msg}
 use Rattle.frame_codec.specs.declared.message.Msg.TheVariants.{AskFork, Fork, AskBottle, Bottle}
 use Rattle.frame_codec.specs.Limits.{sequence_space}
@@ -24,7 +24,7 @@ abbrev pub IsMsg : Msg → Type 0
 IsMsg AskFork = Unit {0}
 IsMsg Fork = Unit {0}
 IsMsg (AskBottle bottle) = bottle < 2 ^ 16
-IsMsg (Bottle bottle value) = (bottle < 2 ^ 16) × IsTrue (is_i64 value.number)
+IsMsg (Bottle bottle value) = (bottle < 2 ^ 16) × IsTrue (is_value value)
 
 -- each field is in its range
 pub record IsFrame (f : Fields) : Type 0 where

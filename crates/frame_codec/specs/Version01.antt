@@ -3,6 +3,7 @@ use Rattle.std.specs.Prelude.{◌≡◌, ℕ, Bool, not, ◌&&◌, ◌==◌, nat
 use Rattle.std.specs.List.{find}
 use Rattle.byteorder.specs.Endian.{big_bytes}
 use Rattle.bottle_values.specs.Bytes.{bytes_of}
+use Rattle.bottle_values.specs.Values.{number_in}
 use Rattle.frame_codec.specs.declared.message.Msg.{Msg}
 use Rattle.frame_codec.specs.declared.message.Msg.TheVariants.{AskFork, Fork, AskBottle, Bottle}
 use Rattle.frame_codec.specs.declared.fault.FrameFault.{FrameFault}
@@ -15,7 +16,7 @@ abbrev pub message : Msg → List ℕ
 message AskFork = 1 ∷ []
 message Fork = 2 ∷ []
 message (AskBottle bottle) = 3 ∷ [] ++ big_bytes 2 bottle
-message (Bottle bottle value) = 4 ∷ [] ++ big_bytes 2 bottle ++ bytes_of value.number
+message (Bottle bottle value) = 4 ∷ [] ++ big_bytes 2 bottle ++ bytes_of (number_in value)
 
 abbrev pub body : Option Msg → List ℕ
 body None = []

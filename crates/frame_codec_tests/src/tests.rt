@@ -29,7 +29,14 @@ const EIGHT: [u8; 37] =
 fn bottle(run: u32, count: u64, record: u16, number: i64) -> Frame
     requires { count < sequence_space }
 {
-    Frame::data(run, 0, 1, 1, count, Msg::Bottle(record, Value { number }))
+    Frame::data(
+        run,
+        0,
+        1,
+        1,
+        count,
+        Msg::Bottle(record, Value::from(number)),
+    )
 }
 
 // The frame is read from the bytes, and they are written into a buffer whose rest stays.

@@ -4,8 +4,8 @@ use Rattle.std.specs.Prelude.{nat_lt, slice_get, ◌==◌, ◌&&◌, is_some, un
 use Rattle.std.proofs.lemmas.Bool.{and_parts, eqb-true}
 use Rattle.std.proofs.lemmas.List.{map_push}
 use Rattle.std.proofs.lemmas.Option.{get_or_from_slice_get, slice_get-map}
-use Rattle.bottle_values.specs.declared.Value.{Value}
-use Rattle.bottle_values.specs.Arithmetic.{nought}
+use Rattle.bottle_values.specs.Values.{Value}
+use Rattle.bottle_values.specs.Operations.{nought}
 use Rattle.bottle_values.specs.Lists.{is_among}
 use Rattle.bottle_values.specs.Maps.{put, write_all}
 use Rattle.bottle_values.proofs.Maps.{put_cases}
@@ -317,7 +317,7 @@ first_values : (plan : PlanValue) (r : ℕ) → bars.BottlesStartWithTheirValues
 first_values plan r law lt =
     let e = entry_of plan r lt in
     let there : slice_get (start_values plan) r ≡ Some e.0.value = slice_get-map (λ (x : RecordEntry). x.value) plan.records r ∙ ap (option_map (λ (x : RecordEntry). x.value)) e.1 in
-    record { spot = bars.With (start_end e.0); at = subst (bars.IsBottleAt (bars.opening plan) r (bars.With (start_end e.0))) (ap (λ z. record { number = z }) (sym (get_or_from_slice_get (start_values plan) r e.0.value (pos 0) there))) (law plan r e.0 e.1) }
+    record { spot = bars.With (start_end e.0); at = subst (bars.IsBottleAt (bars.opening plan) r (bars.With (start_end e.0))) (sym (get_or_from_slice_get (start_values plan) r e.0.value nought there)) (law plan r e.0 e.1) }
 
 kept_at_start : (plan : PlanValue) → PartsLaws → IsKept plan (starting plan)
 kept_at_start plan laws = record {

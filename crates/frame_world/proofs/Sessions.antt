@@ -4,8 +4,8 @@ use Rattle.std.specs.Prelude.{◌==◌, ◌&&◌, ◌||◌, not, is_some, unwrap
 use Rattle.std.specs.List.{list_all}
 use Rattle.std.proofs.lemmas.Bool.{and_parts, eqb-true, eq-eqb, or_left, or_right}
 use Rattle.std.proofs.lemmas.List.Elements.{All-head, All-tail, All-cons, All-append, All-filter}
-use Rattle.bottle_values.specs.declared.Value.{Value}
-use Rattle.bottle_values.specs.Arithmetic.{nought}
+use Rattle.bottle_values.specs.Values.{Value}
+use Rattle.bottle_values.specs.Operations.{nought}
 use Rattle.bottle_values.specs.Lists.{is_among}
 use Rattle.bottle_values.specs.Maps.{reads_of}
 use Rattle.bottle_values.proofs.Maps.{put_other}

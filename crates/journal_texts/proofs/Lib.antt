@@ -5,3 +5,4 @@ mod WrittenLines
 mod WrittenSoFar
 mod OneJournal
 mod WholeLines
+mod TornTexts

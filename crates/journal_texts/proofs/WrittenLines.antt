@@ -77,11 +77,11 @@ some_text : (p : PlanValue) (x : ProgramValue) → 0 < length (text_under p x)
 some_text p x = omega arith
 
 -- what an entry is written as are words, and they say that entry
-record SaysEntry (p : PlanValue) (x : Entry) : Type 0 where
-  words : list_all is_word (entry_words p x) ≡ true
-  said : Said
-  says : said_by p (entry_words p x) ≡ Some said
-  entry : IsEntry said x
+pub record SaysEntry (p : PlanValue) (x : Entry) : Type 0 where
+  pub words : list_all is_word (entry_words p x) ≡ true
+  pub said : Said
+  pub says : said_by p (entry_words p x) ≡ Some said
+  pub entry : IsEntry said x
 
 after_tag : (p : PlanValue) (x : Entry) (ws : List (List ℕ)) (s : Said) → x.tag < 16 → entry_words p x ≡ decimal x.tag ∷ ws → list_all is_word ws ≡ true → said_after p x.tag ws ≡ Some s → IsEntry s x → SaysEntry p x
 after_tag p x ws s lt are good says is = record {
@@ -159,7 +159,7 @@ module _ (p : PlanValue) (ok : IsConsistent p) (tag : ℕ) (lt : tag < 16) where
   event_says (event.Took f) r h b c = subst (λ y. SaysEntry p (record { tag = tag; event = event.Took f; reply = y })) (sym h.1) (arrival_says f h.0 b)
   event_says (event.Withdraw t) r h b c = subst (λ y. SaysEntry p (record { tag = tag; event = event.Withdraw t; reply = y })) (sym h.1) (withdraw_says t h.0 b)
 
-entry_says : (p : PlanValue) (x : Entry) → IsConsistent p → IsEntryOf p x → EntryReadsBack p x → SaysEntry p x
+pub entry_says : (p : PlanValue) (x : Entry) → IsConsistent p → IsEntryOf p x → EntryReadsBack p x → SaysEntry p x
 entry_says p x ok h b = event_says p ok x.tag h.tag x.event x.reply h.event b.0 b.1
 
 -- ---- lines
@@ -212,9 +212,12 @@ header_again p office ok lt small good =
     ∙ ap (λ b. if b then ok_or (office_named p (office_name p office)) JournalHeader else Err JournalHeader) same
     ∙ ap (λ o. ok_or o JournalHeader) (office_name_again p ok office lt)
 
+pub header_is_words : (p : PlanValue) (office : ℕ) → IsConsistent p → office < length p.offices → p.run < 2 ^ 63 → list_all is_word (header_words p office) ≡ true
+header_is_words p office ok lt small = all6 (codes "journal") (codes "1") (codes "run") (decimal p.run) (codes "office") (office_name p office) refl refl refl (number_word p.run small) refl (office_word p ok office lt)
+
 pub is_journal_text : (p : PlanValue) (office : ℕ) (xs : List Entry) → IsConsistent p → office < length p.offices → p.run < 2 ^ 63 → All (IsEntryOf p) xs → All (EntryReadsBack p) xs → IsJournal p (journal_text p office xs) office xs true
 is_journal_text p office xs ok lt small h b =
-    let good : list_all is_word (header_words p office) ≡ true = all6 (codes "journal") (codes "1") (codes "run") (decimal p.run) (codes "office") (office_name p office) refl refl refl (number_word p.run small) refl (office_word p ok office lt) in
+    let good : list_all is_word (header_words p office) ≡ true = header_is_words p office ok lt small in
     record {
       first = (1, line_of_words (header_words p office));
       rest = statements_from 2 (lines (flat_map (entry_line p) xs));

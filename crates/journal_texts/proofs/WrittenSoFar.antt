@@ -1,7 +1,6 @@
 -- The entries of a journal, written one after the other.
-use Rattle.std.proofs.Common.{◌≡◌, ℕ, ◌+◌, List, [], ◌∷◌, ◌++◌, length, take, Option, Some, None, sym, ap, ◌∙◌, subst, arith, append_assoc, inl, inr, Bor}
+use Rattle.std.proofs.Common.{◌≡◌, ℕ, zero, suc, ◌+◌, ◌-◌, ◌≤◌, refl, drop, List, [], ◌∷◌, ◌++◌, length, take, Option, Some, None, sym, ap, ◌∙◌, subst, arith, append_assoc, inl, inr, Bor}
 use Rattle.std.specs.Prelude.{All, slice_get}
-use Rattle.std.specs.List.{flat_map}
 use Rattle.std.specs.Option.{option_copied}
 use Rattle.std.proofs.lemmas.Bool.{cases_lt}
 use Rattle.std.proofs.lemmas.Grind.{flat_map-append}
@@ -15,7 +14,7 @@ use Rattle.site_core.specs.declared.event.Event.TheVariants as event
 use Rattle.site_core.specs.declared.event.Entry.{Entry}
 use Rattle.site_core.specs.declared.reply.Reply.{Reply}
 use Rattle.site_core.specs.Journals.{IsLegal}
-use Rattle.journal_texts.specs.Written.{header_line, entry_line, journal_text}
+use Rattle.journal_texts.specs.Written.{header_line, entry_line, lines_of, journal_text}
 use Rattle.journal_texts.specs.refinement.WrittenValues.{HasText, EntryReadsBack}
 use Rattle.journal_texts.proofs.LegalEntries.{IsEventOf, IsEntryOf, legal_entries}
 
@@ -44,14 +43,31 @@ none_in xs i o h is = sym h ∙ ap option_copied is
 longer : (xs : List Entry) (i : ℕ) (x : Entry) → slice_get xs i ≡ Some x → take (i + 1) xs ≡ take i xs ++ x ∷ []
 longer xs i x at = take_more xs i x (slice_get_within xs i x at) ∙ ap (λ y. take i xs ++ y ∷ []) (get_or_from_slice_get xs i x x at)
 
-pub one_written : (p : PlanValue) (o : ℕ) (xs : List Entry) (i : ℕ) (x : Entry) (text grown : List ℕ) → slice_get xs i ≡ Some x → text ≡ journal_text p o (take i xs) → grown ≡ text ++ entry_line p x
-    → grown ≡ journal_text p o (take (i + 1) xs)
-one_written p o xs i x text grown at so_far g =
-    let one : flat_map (entry_line p) (x ∷ []) ≡ entry_line p x = append-nil (entry_line p x) in
-    let more : journal_text p o (take i xs ++ x ∷ []) ≡ journal_text p o (take i xs) ++ entry_line p x =
-    ap (λ l. header_line p o ++ l) (flat_map-append (entry_line p) (take i xs) (x ∷ []) ∙ ap (λ l. flat_map (entry_line p) (take i xs) ++ l) one)
-    ∙ sym (append_assoc (header_line p o) (flat_map (entry_line p) (take i xs)) (entry_line p x)) in
-    g ∙ ap (λ t. t ++ entry_line p x) so_far ∙ sym more ∙ ap (journal_text p o) (sym (longer xs i x at))
+pub lines_more : (p : PlanValue) (xs : List Entry) (i n : ℕ) (x : Entry) (before text grown : List ℕ) → n ≡ i + 1 → slice_get xs i ≡ Some x → text ≡ before ++ lines_of p (take i xs) → grown ≡ text ++ entry_line p x
+    → grown ≡ before ++ lines_of p (take n xs)
+lines_more p xs i n x before text grown next at so_far g =
+    let one : lines_of p (x ∷ []) ≡ entry_line p x = append-nil (entry_line p x) in
+    let more : lines_of p (take i xs) ++ entry_line p x ≡ lines_of p (take n xs) =
+    ap (λ l. lines_of p (take i xs) ++ l) (sym one) ∙ sym (flat_map-append (entry_line p) (take i xs) (x ∷ [])) ∙ ap (lines_of p) (sym (longer xs i x at)) ∙ ap (λ k. lines_of p (take k xs)) (sym next) in
+    g ∙ ap (λ t. t ++ entry_line p x) so_far ∙ append_assoc before (lines_of p (take i xs)) (entry_line p x) ∙ ap (λ l. before ++ l) more
+
+pub texts_go_on : (p : PlanValue) (office : ℕ) (xs more : List Entry) → journal_text p office (xs ++ more) ≡ journal_text p office xs ++ lines_of p more
+texts_go_on p office xs more = ap (λ l. header_line p office ++ l) (flat_map-append (entry_line p) xs more) ∙ sym (append_assoc (header_line p office) (lines_of p xs) (lines_of p more))
+
+-- what stands from a place on
+get_drop : (xs : List Entry) (from k : ℕ) → slice_get (drop from xs) k ≡ slice_get xs (from + k)
+get_drop xs zero k = ap (slice_get xs) (omega arith)
+get_drop [] (suc from) k = refl
+get_drop (y ∷ xs) (suc from) k = get_drop xs from k ∙ next
+  where
+    next : slice_get xs (from + k) ≡ slice_get (y ∷ xs) (suc from + k)
+    next = let on : suc (from + k) ≡ suc from + k = omega arith in ap (slice_get (y ∷ xs)) on
+
+pub in_rest : (xs : List Entry) (from i : ℕ) (x : Entry) → from ≤ i → slice_get xs i ≡ Some x → slice_get (drop from xs) (i - from) ≡ Some x
+in_rest xs from i x le at = get_drop xs from (i - from) ∙ ap (slice_get xs) (omega (arith, le)) ∙ at
+
+pub no_more : (xs : List Entry) (from i : ℕ) → from ≤ i → slice_get xs i ≡ None → slice_get (drop from xs) (i - from) ≡ None
+no_more xs from i le none = get_drop xs from (i - from) ∙ ap (slice_get xs) (omega (arith, le)) ∙ none
 
 pub one_read_back : (p : PlanValue) (xs : List Entry) (i : ℕ) (x : Entry) → slice_get xs i ≡ Some x → All (EntryReadsBack p) (take i xs) → EntryReadsBack p x → All (EntryReadsBack p) (take (i + 1) xs)
 one_read_back p xs i x at all h =

@@ -2,4 +2,5 @@ pub mod Limits
 pub mod Lines
 pub mod JournalText
 pub mod Written
+pub mod Growing
 pub mod refinement

@@ -33,6 +33,9 @@ entry_line p x = line_of_words (entry_words p x) ++ 10 ∷ []
 abbrev pub header_line : PlanValue → ℕ → List ℕ
 header_line p office = line_of_words (header_words p office) ++ 10 ∷ []
 
+abbrev pub lines_of : PlanValue → List Entry → List ℕ
+lines_of p = flat_map (entry_line p)
+
 -- the header, and then a line for each entry
 abbrev pub journal_text : PlanValue → ℕ → List Entry → List ℕ
-journal_text p office entries = header_line p office ++ flat_map (entry_line p) entries
+journal_text p office entries = header_line p office ++ lines_of p entries

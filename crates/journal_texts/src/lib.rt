@@ -2,6 +2,8 @@
 //!
 //! - [`text`] writes the journal of an office: a first line with the run and the office's name, and then a line for each entry
 //!   (clause `text`). What is written is the text of that journal (clause `reads_back`).
+//! - [`add_header`] and [`add_lines`] write it part by part, as a journal grows: what was written stays as it is
+//!   (`specs/Growing.antt`).
 //! - [`read_journal`] reads a text of a journal under a plan: whose it is, its entries, and whether it ends with them (clause
 //!   `meaning`), or its first fault (clause `fault`).
 //! - Both speak of one relation, `IsJournal` of `specs/JournalText.antt`, and [`laws`] says that a text is one journal at most, and
@@ -16,9 +18,11 @@ mod journal_text;
 pub mod laws;
 mod line;
 mod reading;
+mod torn;
 mod writing;
 
 pub use crate::fault::{JournalFault, JournalRefusal, JournalRule};
 pub use crate::journal_text::JournalText;
 pub use crate::reading::read_journal;
-pub use crate::writing::text;
+pub use crate::torn::whole_lines;
+pub use crate::writing::{add_header, add_lines, text};

@@ -1,6 +1,6 @@
 //! Writing a journal.
 
-ghost use Rattle.std.specs.Prelude.{◌≡◌, ◌<◌, ◌^◌, ◌++◌, ◌∷◌, [], length, true, IfOk, OnOk, IsTrue};
+ghost use Rattle.std.specs.Prelude.{◌≡◌, ◌<◌, ◌^◌, ◌++◌, ◌∷◌, [], length, drop, true, IfOk, OnOk, IsTrue, All};
 ghost use Rattle.std.specs.Fmt.{decimal};
 ghost use Rattle.std.specs.String.{string_bytes};
 ghost use Rattle.session_language.specs.Program.{fits};
@@ -9,9 +9,10 @@ ghost use Rattle.site_core.specs.declared.event.Event.TheVariants as events;
 ghost use Rattle.run_words.specs.Digits.{frame_digits};
 ghost use Rattle.run_words.specs.Words.{line_of_words};
 ghost use Rattle.journal_texts.specs.JournalText.{IsJournal};
-ghost use Rattle.journal_texts.specs.Written.{header_line, event_words, entry_line, journal_text};
+ghost use Rattle.journal_texts.specs.Written.{header_line, event_words, entry_line, lines_of, journal_text};
 ghost use Rattle.journal_texts.specs.refinement.WrittenValues.{HasText, FrameReadsBack, EventReadsBack, EntryReadsBack};
 
+use crate::laws::written_is_read;
 use frame_codec::Frame;
 use office_map::{OfficeId, Plan};
 use run_words::digits::{digits, frame_digits};
@@ -23,7 +24,6 @@ use site_core::{Entry, Event, Journal};
 use std::alloc::{AllocError, Global};
 
 /// The text of an office's journal: a first line, and then a line for each entry.
-#[tactic(auto, using(crate::proofs::WrittenSoFar::text_at))]
 pub fn text(
     alloc: Global,
     journal: &Journal,
@@ -35,19 +35,41 @@ pub fn text(
     ensures text { IfOk result (λ text. string_bytes text ≡ journal_text plan.now office journal.now.entries) }
     ensures reads_back { IfOk result (λ text. IsJournal plan.now (string_bytes text) office journal.now.entries true) }
 {
+    written_is_read();
     // The plan is consistent.
     let _ = plan.offices();
     let mut text = String::new(alloc);
     add_header(&mut text, plan, office)?;
-    let mut place = 0;
-    while let Some(entry) = journal.get(place) {
-        add_entry(alloc, &mut text, plan, entry)?;
-        place += 1;
-    }
+    add_lines(alloc, &mut text, journal, plan, office, 0)?;
     Ok(text)
 }
 
-fn add_header(text: &mut String, plan: &Plan, office: OfficeId) -> Result<(), AllocError>
+/// The lines of an office's entries from that place on, from 0, are added: a text of the entries before them becomes the text
+/// of the journal.
+pub fn add_lines(
+    alloc: Global,
+    text: &mut String,
+    journal: &Journal,
+    plan: &Plan,
+    office: OfficeId,
+    from: usize,
+) -> Result<(), AllocError>
+    requires legal { IsLegal (record { plan = plan.now; me = office; entries = journal.now.entries }) }
+    ensures lines { OnOk result (string_bytes text.new ≡ string_bytes text.old ++ lines_of plan.now (drop from journal.now.entries)) }
+    ensures reads_back { OnOk result (All (EntryReadsBack plan.now) (drop from journal.now.entries)) }
+{
+    // The plan is consistent.
+    let _ = plan.offices();
+    let mut place = from;
+    while let Some(entry) = journal.get(place) {
+        add_entry(alloc, text, plan, entry)?;
+        place += 1;
+    }
+    Ok(())
+}
+
+/// The first line of an office's journal is added.
+pub fn add_header(text: &mut String, plan: &Plan, office: OfficeId) -> Result<(), AllocError>
     ensures run { plan.now.run < 2 ^ 32 }
     ensures line { OnOk result (string_bytes text.new ≡ string_bytes text.old ++ header_line plan.now office) }
 {

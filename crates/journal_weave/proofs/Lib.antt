@@ -1,9 +1,9 @@
-mod Frames
+pub mod Frames
 mod SentFrames
 mod EntriesTold
-mod AcceptedEvents
+pub mod AcceptedEvents
 mod Furthest
-mod Merging
+pub mod Merging
 mod Pushing
 mod Limits
 mod Ending

@@ -526,12 +526,12 @@ fn has_moved(outcome: &Option<Outcome>) -> bool {
         && ending.end == End::Done
         && are(&ending.reads, 100, 0)
         && are(&ending.writes, 70, 30)
-        && ending.gives.as_slice() == [Value { number: 70 }, Value { number: 30 }].as_slice()
+        && ending.gives.as_slice() == [Value::from(70), Value::from(30)].as_slice()
 }
 
 /// Whether the first two records have these values.
 fn are(values: &RecordValues, x: i64, y: i64) -> bool {
-    let x = (RecordId::new(0), Value { number: x });
-    let y = (RecordId::new(1), Value { number: y });
+    let x = (RecordId::new(0), Value::from(x));
+    let y = (RecordId::new(1), Value::from(y));
     values.as_slice() == [x, y].as_slice()
 }

@@ -1,8 +1,9 @@
 -- What reading accepts, and where it refuses.
-use Rattle.std.proofs.Common.{◌≡◌, ℕ, ◌+◌, ◌≤◌, List, [], ◌∷◌, length, Bool, true, false, not, eqb, inl, inr, Option, Some, None, IfSome, is_some, ℤ, codes, Result, Ok, Err, refl, arith, subst, nat_lt, nat_le, if◌then◌else◌}
+use Rattle.std.proofs.Common.{◌≡◌, ℕ, ◌+◌, ◌≤◌, List, [], ◌∷◌, length, Bool, true, false, not, eqb, inl, inr, Option, Some, None, IfSome, is_some, codes, Result, Ok, Err, refl, arith, subst, nat_lt, nat_le, if◌then◌else◌}
 use Rattle.std.specs.Option.{ok_or}
 use Rattle.std.specs.Result.{MatchResult}
 use Rattle.std.proofs.lemmas.Bool.{eqb-false, leb-false, ltb-false, not-false}
+use Rattle.bottle_values.specs.Values.{Value}
 use Rattle.office_map.specs.declared.entries.OfficeEntry.{OfficeEntry}
 use Rattle.office_map.specs.declared.entries.PairEntry.{PairEntry}
 use Rattle.office_map.specs.declared.entries.RecordEntry.{RecordEntry}
@@ -124,7 +125,7 @@ pair_named_so (Some a) (Some b) at_first = tt
 pair_named_so (Some a) None at_first = tt
 pair_named_so None b at_first = tt
 
-record_named_so : (name a b : Option (List ℕ)) (value : Option ℤ) (at_first : Bool) → IfSome name (λ n. is_name n ≡ true) → IfSome (record_of name a b value at_first) IsNamed
+record_named_so : (name a b : Option (List ℕ)) (value : Option Value) (at_first : Bool) → IfSome name (λ n. is_name n ≡ true) → IfSome (record_of name a b value at_first) IsNamed
 record_named_so (Some name) (Some a) (Some b) (Some value) at_first h = h
 record_named_so (Some name) (Some a) (Some b) None at_first h = tt
 record_named_so (Some name) (Some a) None value at_first h = tt

@@ -4,6 +4,8 @@ use Rattle.std.specs.List.{list_any, list_all}
 use Rattle.std.specs.Str.{bytes_eq}
 use Rattle.std.specs.Option.{ok_or}
 use Rattle.std.specs.Result.{MatchResult}
+use Rattle.bottle_values.specs.Values.{Value}
+use Rattle.bottle_values.specs.Values.{Number}
 use Rattle.office_map.specs.declared.entries.OfficeEntry.{OfficeEntry}
 use Rattle.office_map.specs.declared.fault.PlanRule.{PlanRule}
 use Rattle.office_map.specs.declared.fault.PlanRule.TheVariants.{Header, Line, NameTwice, UnknownName, SelfPair, PairTwice, Limit}
@@ -39,7 +41,7 @@ and_then (Some x) f = f x
 pub data Declaration : Type 0 where
   AnOffice : (name address : List ℕ) → Declaration
   APair : (a b : List ℕ) (at_first : Bool) → Declaration
-  ARecord : (name a b : List ℕ) (value : ℤ) (at_first : Bool) → Declaration
+  ARecord : (name a b : List ℕ) (value : Value) (at_first : Bool) → Declaration
 
 -- each declaration, where all its words are good
 abbrev pub office_of : Option (List ℕ) → Option (List ℕ) → Option Declaration
@@ -52,7 +54,7 @@ pair_of (Some a) (Some b) at_first = Some (APair a b at_first)
 pair_of (Some a) None at_first = None
 pair_of None b at_first = None
 
-abbrev pub record_of : Option (List ℕ) → Option (List ℕ) → Option (List ℕ) → Option ℤ → Bool → Option Declaration
+abbrev pub record_of : Option (List ℕ) → Option (List ℕ) → Option (List ℕ) → Option Value → Bool → Option Declaration
 record_of (Some name) (Some a) (Some b) (Some value) at_first = Some (ARecord name a b value at_first)
 record_of (Some name) (Some a) (Some b) None at_first = None
 record_of (Some name) (Some a) None value at_first = None
@@ -75,10 +77,13 @@ negative_of digits =
     if bytes_eq digits (codes "9223372036854775808") then Some (neg_ℤ (pos (2 ^ 63))) else option_map (λ n. neg_ℤ (pos n)) (number_of digits)
 
 -- a NUMBER, or - with a NUMBER or 2 ^ 63 right after it
-abbrev pub value_of : List ℕ → Option ℤ
-value_of [] = None
-value_of (first ∷ digits) =
+abbrev pub integer_of : List ℕ → Option ℤ
+integer_of [] = None
+integer_of (first ∷ digits) =
     if first == 45 then negative_of digits else option_map pos (number_of (first ∷ digits))
+
+abbrev pub value_of : List ℕ → Option Value
+value_of word = option_map Number (integer_of word)
 
 -- record NAME A B VALUE at E, where E is A or B
 abbrev pub record_line : List ℕ → List ℕ → List ℕ → List ℕ → List ℕ → List ℕ → List ℕ → Option Declaration

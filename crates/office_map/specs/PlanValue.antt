@@ -1,9 +1,10 @@
 -- A plan as contracts see it: its tables, and what can be asked of them.
 -- Offices and records go by number: the count of the lines of their kind before theirs.
-use Rattle.std.specs.Prelude.{ℕ, ℤ, List, ◌++◌, [], ◌∷◌, length, map, filter, find, position, count_by, slice_get, Bool, false, ◌&&◌, ◌||◌, ◌==◌, Option, if◌then◌else◌, option_map, codes}
+use Rattle.std.specs.Prelude.{ℕ, List, ◌++◌, [], ◌∷◌, length, map, filter, find, position, count_by, slice_get, Bool, false, ◌&&◌, ◌||◌, ◌==◌, Option, if◌then◌else◌, option_map, codes}
 use Rattle.std.specs.List.{list_any, range_with_len}
 use Rattle.std.specs.Option.{option_map_or}
 use Rattle.std.specs.Str.{bytes_eq}
+use Rattle.bottle_values.specs.Values.{Value}
 use Rattle.office_map.specs.declared.entries.OfficeEntry.{OfficeEntry}
 use Rattle.office_map.specs.declared.entries.PairEntry.{PairEntry}
 use Rattle.office_map.specs.declared.entries.RecordEntry.{RecordEntry}
@@ -100,7 +101,7 @@ abbrev pub bottle_starts_at : PlanValue → ℕ → ℕ → Bool
 bottle_starts_at p r x = option_map_or (λ e. start_end e == x) (slice_get p.records r) false
 
 -- the records' values at the start, in order
-abbrev pub start_values : PlanValue → List ℤ
+abbrev pub start_values : PlanValue → List Value
 start_values p = map (λ (e : RecordEntry). e.value) p.records
 
 -- the plan with one more office, pair or record

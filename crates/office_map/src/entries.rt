@@ -4,6 +4,7 @@ ghost use Rattle.std.specs.Prelude.{◌≡◌, IfOk};
 
 use crate::ids::OfficeId;
 use crate::word::Word;
+use bottle_values::Value;
 use std::alloc::{AllocError, Global};
 
 /// An office's name, and its address or `-`.
@@ -73,7 +74,7 @@ pub struct RecordEntry {
     pub name: Word,
     pub first: OfficeId,
     pub second: OfficeId,
-    pub value: i64,
+    pub value: Value,
     pub starts_at_first: bool,
 }
 

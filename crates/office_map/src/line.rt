@@ -1,7 +1,7 @@
 //! One line of a plan.
 
 ghost use Rattle.std.specs.Prelude.{◌≡◌, map, option_map};
-ghost use Rattle.office_map.specs.PlanText.{declaration_of, office_line, pair_line, record_line, run_of, small_number, value_of, negative_of};
+ghost use Rattle.office_map.specs.PlanText.{declaration_of, office_line, pair_line, record_line, run_of, small_number, integer_of, negative_of};
 ghost use Rattle.text_lines.specs.Text.{number_of, words_of};
 ghost use Rattle.std.specs.Str.{bytes_eq};
 ghost use Rattle.office_map.specs.refinement.PlanReader.{seen};
@@ -93,7 +93,7 @@ fn record<'a>(
     let record_name = name(word)?;
     let a = name(a)?;
     let b = name(b)?;
-    let value = value(start)?;
+    let value = integer(start)?;
     Some(Declaration::Record(NewRecord {
         name: record_name,
         a,
@@ -126,8 +126,8 @@ fn small_number(word: &[u8]) -> Option<u32>
     }
 }
 
-fn value(word: &[u8]) -> Option<i64>
-    ensures { result ≡ value_of word.now }
+fn integer(word: &[u8]) -> Option<i64>
+    ensures { result ≡ integer_of word.now }
 {
     match word {
         [b'-', digits @ ..] => negative(digits),

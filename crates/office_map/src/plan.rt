@@ -9,6 +9,7 @@ use crate::index::{OfficeIndex, index};
 use crate::plan_entries::PlanEntries;
 use crate::precedence::order;
 use crate::read::read_entries;
+use bottle_values::Value;
 use std::alloc::{AllocError, Global};
 use std::marker::Model;
 
@@ -188,7 +189,7 @@ impl Plan {
     }
 
     /// The value with which a record's bottle starts.
-    pub fn start_value(&self, r: RecordId) -> i64
+    pub fn start_value(&self, r: RecordId) -> Value
         requires { r < length self.now.records }
         ensures { slice_get (start_values self.now) r ≡ Some result }
     {

@@ -1,5 +1,6 @@
 //! The tables of a plan, while its lines are read and afterwards.
 
+ghost use Rattle.bottle_values.specs.Values.{Number};
 ghost use Rattle.std.specs.Prelude.{◌≡◌, ◌<◌, [], length, Some, IfOk, IsTrue};
 ghost use Rattle.std.specs.List.{list_any};
 ghost use Rattle.std.specs.Str.{bytes_eq};
@@ -14,6 +15,7 @@ use crate::line::Declaration;
 use crate::new_entries::{NewOffice, NewPair, NewRecord};
 use crate::records::RecordTable;
 use crate::word::Word;
+use bottle_values::Value;
 use std::alloc::{AllocError, Global};
 use std::marker::Model;
 
@@ -225,7 +227,7 @@ impl PlanEntries {
         declared: NewRecord<'_>,
     ) -> Result<(), PlanFault>
         ensures { UnlessMemory (λ _. self.new) Fails result
-            (at_line number (declare self.old (ARecord declared.entry.name.now declared.entry.a.now declared.entry.b.now declared.entry.value declared.entry.starts_at_first))) }
+            (at_line number (declare self.old (ARecord declared.entry.name.now declared.entry.a.now declared.entry.b.now (Number declared.entry.value) declared.entry.starts_at_first))) }
     {
         let Some(first) = self.office_named(declared.a) else {
             return Err(refused(PlanRule::UnknownName, number));
@@ -246,7 +248,7 @@ impl PlanEntries {
             name: Word::of(alloc, declared.name)?,
             first,
             second,
-            value: declared.value,
+            value: Value::from(declared.value),
             starts_at_first: declared.starts_at_first,
         };
         self.records.push(alloc, entry)?;

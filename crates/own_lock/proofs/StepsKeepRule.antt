@@ -13,7 +13,7 @@ use Rattle.own_lock.specs.declared.seat_view.Part.{Part}
 use Rattle.own_lock.specs.declared.seat_view.SeatView.{SeatView}
 use Rattle.own_lock.specs.Entries.{Every, longer, tagged, AddsOnly}
 use Rattle.own_lock.specs.Rule.{DistinctTags, PartAgrees, SeatAgrees, IsStateOf, LockRule, word_of}
-use Rattle.own_lock.specs.Steps.{rest, first_part, the_part, second_part, part_with, parts_from, opening_view, without_first, first_alone, joined_view, spent_view, holder_view, giver_view, told_view, Step, Deals, Takes, FindsTaken, Gives, TakesIn, Tells, May, MayAll, table_after, table_after_all}
+use Rattle.own_lock.specs.Steps.{rest, first_part, the_part, second_part, part_with, parts_from, opening_view, without_first, first_alone, joined_view, spent_view, holder_view, giver_view, told_view, Step, Deals, Takes, FindsTaken, LeavesWord, Gives, TakesIn, Tells, May, MayAll, table_after, table_after_all}
 use Rattle.own_lock.specs.refinement.Plays.{Tried, GaveBack, Told}
 use Rattle.own_lock.proofs.Prefixes.{IsPrefix-refl, IsPrefix-trans, longer-covers}
 use Rattle.own_lock.proofs.TaggedEntries.{Every-map, Every-zip, AddsOnly-prefix, tagged-adds_other, tagged-between}
@@ -97,6 +97,53 @@ module _ {S K E : Type 0} (tag_of : E → ℕ) (key : S → K) (entries : S → 
             }
             (λ j u ne e. let old = r.views j u e in record { distinct = old.distinct; parts = old.parts; key = old.key; holding = λ h. absurd ((old.holding h).0 free) });
       }
+
+  -- the word isn't 0, and becomes another that isn't
+  marked : (m : ℕ) → m ≢ 0 → (s : Table) → Rule s → word_of s ≢ 0 → Rule record { words = set s.words 0 m; homes = s.homes; views = s.views }
+  marked m not_free s r busy =
+      let not_now : get_or (set s.words 0 m) 0 0 ≢ 0 = λ zero_now. not_free (sym (written s r m) ∙ zero_now) in
+      record {
+        history = r.history;
+        seat_of = r.seat_of;
+        holder = r.holder;
+        one_word = length-set s.words 0 m ∙ r.one_word;
+        one_slot = r.one_slot;
+        free = λ zero_now. absurd (not_now zero_now);
+        taken = λ _. r.taken busy;
+        views = λ seat v at. let old = r.views seat v at in record { distinct = old.distinct; parts = old.parts; key = old.key; holding = λ h. let was = old.holding h in (not_now, was.1, was.2) };
+      }
+
+  pub presses : (id : ℕ) (me : Seat) → me.0.parts ≡ the_part me.0 ∷ [] → me.1 ≡ []
+      → Allows Rule 1 id me 0 (λ found. 2) (Tried tag_of key entries fits (step 1 0 2 0 none) me)
+  presses id me one bare s r slots at small = dite (ℕ_discrete (word_of s) 0)
+      (λ free.
+      let lies = r.free free in
+      let x : S = lies.0 in
+      let w : View = holder_view tag_of me.0 (entries x) in
+      let known = one_part s r id me.0 at one in (
+        w,
+        takes 0 (Some x),
+        lies.1,
+        taken 2 (λ no. omega arith) s r id me.0 at one x lies.2 free,
+        (
+          (λ _. (
+            x,
+            ap (λ c. (w, (0, Some x) ∷ c)) bare,
+            lies.2.fit,
+            key_of s r id me.0 at one ∙ ap Some (sym lies.2.key_is),
+            subst (IsPrefix (the_part me.0).seen) (sym lies.2.entries_are) known.seen,
+            ap (tagged tag_of (the_part me.0).tag) lies.2.entries_are ∙ sym known.mine,
+          )),
+          λ busy. absurd (busy free),
+        ),
+      ))
+      (λ busy. (
+        me.0,
+        keeps,
+        tt,
+        subst (λ (vs : List View). Rule record { words = set s.words 0 2; homes = s.homes; views = vs }) (sym (set_again s.views id me.0 at)) (marked 2 (λ no. omega arith) s r busy),
+        ((λ free. absurd (busy free)), λ _. refl),
+      ))
 
   pub tries : (id : ℕ) (me : Seat) → me.0.parts ≡ the_part me.0 ∷ [] → me.1 ≡ []
       → Allows Rule 1 id me 0 (λ found. either (found == 0) 1 found) (Tried tag_of key entries fits (step 1 0 0 1 none) me)
@@ -389,6 +436,7 @@ module _ {S K E : Type 0} (tag_of : E → ℕ) (key : S → K) (entries : S → 
       let same : lies.0 ≡ x = cc values in
       taken word may.3 s r seat v may.0 may.1.1 x (subst (IsStateOf key entries fits k r.history) same lies.2) may.2
   LockRule-table_after s (FindsTaken seat v) r may = r
+  LockRule-table_after s (LeavesWord word seat v) r may = marked word may.2 s r may.1
   LockRule-table_after s (Gives seat v x) r may = given s r seat v x may.0 may.2 may.1 may.3 may.4 may.5
   LockRule-table_after s (TakesIn seat v other w) r may =
       joins seat v other w may.1.0 may.1.1 may.3.0 may.3.1 s r may.0 may.4 (set_else s.views seat other (joined_view v w) may.4 ∙ may.2)

@@ -84,6 +84,8 @@ pub data Step (S K E : Type 0) : Type 0 where
   Takes : (word seat : ℕ) (v : SeatView K E) (x : S) → Step S K E
   -- the word isn't 0, and stays
   FindsTaken : (seat : ℕ) (v : SeatView K E) → Step S K E
+  -- the word isn't 0, and becomes another that isn't
+  LeavesWord : (word seat : ℕ) (v : SeatView K E) → Step S K E
   -- the word becomes 0: a state goes from the seat to the slot
   Gives : (seat : ℕ) (v : SeatView K E) (x : S) → Step S K E
   -- a load by which the pass of another seat comes to this one
@@ -105,6 +107,7 @@ module _ {S K E : Type 0} (tag_of : E → ℕ) (key : S → K) (entries : S → 
   May s (Deals seat v) = IsAt s.views seat v × (v.holds ≡ false) × (v.parts ≡ the_part v ∷ rest v.parts)
   May s (Takes word seat v x) = IsAt s.views seat v × IsIdle v × (word_of s ≡ 0) × (word ≢ 0) × (get_elem? s.homes 0 ≡ some (some (Some x)))
   May s (FindsTaken seat v) = IsAt s.views seat v × (word_of s ≢ 0)
+  May s (LeavesWord word seat v) = IsAt s.views seat v × (word_of s ≢ 0) × (word ≢ 0)
   May s (Gives seat v x) = IsAt s.views seat v × (v.holds ≡ true) × (v.parts ≡ the_part v ∷ []) × fits x × (v.key ≡ Some (key x)) × AddsOnly tag_of (the_part v).tag (the_part v).seen (entries x)
   May s (TakesIn seat v other w) = IsAt s.views seat v × IsIdle v × IsAt s.views other w × IsIdle w × (other ≢ seat)
   May s (Tells seat v) = IsAt s.views seat v × (v.holds ≡ false) × (v.parts ≡ the_part v ∷ second_part v ∷ [])
@@ -115,6 +118,7 @@ module _ {S K E : Type 0} (tag_of : E → ℕ) (entries : S → List E) where
   table_after s (Deals seat v) = record { words = s.words; homes = s.homes; views = slice_set s.views seat (without_first v) ++ first_alone v ∷ [] }
   table_after s (Takes word seat v x) = record { words = slice_set s.words 0 word; homes = slice_set s.homes 0 none; views = slice_set s.views seat (holder_view tag_of v (entries x)) }
   table_after s (FindsTaken seat v) = s
+  table_after s (LeavesWord word seat v) = record { words = slice_set s.words 0 word; homes = s.homes; views = s.views }
   table_after s (Gives seat v x) = record { words = slice_set s.words 0 0; homes = slice_set s.homes 0 (some (Some x)); views = slice_set s.views seat (giver_view tag_of v (entries x)) }
   table_after s (TakesIn seat v other w) = record { words = s.words; homes = s.homes; views = slice_set (slice_set s.views seat (joined_view v w)) other spent_view }
   table_after s (Tells seat v) = record { words = s.words; homes = s.homes; views = slice_set s.views seat (told_view v) }

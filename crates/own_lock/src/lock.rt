@@ -12,22 +12,34 @@ use crate::pass::Pass;
 use crate::seat_view::{Opening, SeatView};
 use crate::table_rule::{Deal, GiveBack, History, Tell, Together, Try};
 use atomic_table::{Seat, Table};
+use crossbeam_utils::sync::{Parker, Unparker};
 use std::alloc::{AllocError, Global};
 use std::marker::Model;
 use std::snapshot::Snapshot;
 use std::sync::Wait;
+use std::sync::atomic::AtomicU64;
+use std::sync::atomic::Ordering::SeqCst;
 use std::thread::yield_now;
 use thiserror::Error;
 
-// The words of the lock's table: nobody holds the state, or a pass does.
+// The words of the lock's table: nobody holds the state, a pass does, or a pass does and others may wait.
 const FREE: u64 = 0;
 
 const TAKEN: u64 = 1;
+
+const AWAITED: u64 = 2;
+
+// How often a pass tries before it waits.
+const TRIES: u32 = 20;
 
 /// A lock round a state. Contracts see which lock it is, and the state's key.
 #[derive(Drop)]
 pub struct OwnLock<S: Kept> {
     table: Table<Option<Boxed<S>>, SeatView<S::Key, S::Entry>, Opening<S>, History<S>, Global>,
+    // one for each pass
+    unparkers: Vec<Unparker>,
+    // a bit for each pass that waits, by its tag
+    waiting: AtomicU64,
 }
 
 impl<S: Kept> Model for OwnLock<S> {
@@ -45,6 +57,13 @@ impl<S: Kept> Model for OwnLock<S> {
 #[derive(Clone, Copy, Debug, PartialEq, Eq, Error)]
 #[error("Busy")]
 pub struct Busy;
+
+// A parker, which one of the list wakes.
+fn parker_among(alloc: Global, unparkers: &mut Vec<Unparker>) -> Result<Parker, AllocError> {
+    let parker = Parker::new(alloc)?;
+    unparkers.push(parker.unparker().clone()?)?;
+    Ok(parker)
+}
 
 impl<S: Kept> OwnLock<S> {
     /// A lock round this state, and passes with the tags from 0 on, which have seen its entries.
@@ -74,16 +93,28 @@ impl<S: Kept> OwnLock<S> {
             return Err(AllocError);
         };
         let mut all = Vec::new(alloc);
+        let mut unparkers = Vec::new(alloc);
         for tag in 0..passes - 1 {
             let next = table.shared.split_seat::<Deal>(&mut seat);
-            all.push(Pass { tag, seat: next })?;
+            let parker = parker_among(alloc, &mut unparkers)?;
+            all.push(Pass {
+                tag,
+                seat: next,
+                parker,
+            })?;
         }
         let tag = passes - 1;
-        all.push(Pass { tag, seat })?;
-        Ok((OwnLock { table }, all))
+        let parker = parker_among(alloc, &mut unparkers)?;
+        all.push(Pass { tag, seat, parker })?;
+        let lock = OwnLock {
+            table,
+            unparkers,
+            waiting: AtomicU64::new(0),
+        };
+        Ok((lock, all))
     }
 
-    /// Takes the state. While another pass holds it, tries again and again.
+    /// Takes the state. While another pass holds it, waits.
     pub fn take<R: Wait>(&self, rt: &R, pass: &mut Pass<S>) -> Held<S>
         requires of { IsOf self.now pass.old }
         requires idle { pass.old.holds ≡ false }
@@ -93,13 +124,41 @@ impl<S: Kept> OwnLock<S> {
         ensures fits { S.fits result }
         ensures key { S.key result ≡ self.now.key }
     {
-        for _ in rt.forever() {
+        for _ in 0..TRIES {
             if let Ok(held) = self.try_take(pass) {
                 return held;
             }
             yield_now();
         }
+        let mark = 1u64.wrapping_shl(pass.tag as u32);
+        self.waiting.fetch_or(mark, SeqCst);
+        for _ in rt.forever() {
+            if let Ok(held) = self.press(pass) {
+                self.waiting.fetch_and(!mark, SeqCst);
+                return held;
+            }
+            pass.parker.park(rt);
+        }
         unreachable!()
+    }
+
+    // Takes the state if nobody holds it, and else leaves word that a pass waits.
+    fn press(&self, pass: &mut Pass<S>) -> Result<Held<S>, Busy>
+        requires of { IsOf self.now pass.old }
+        requires idle { pass.old.holds ≡ false }
+        ensures taken { IfOk result (λ held. pass.new ≡ pass_after_take pass.old (S.entries held)) }
+        ensures begins { IfOk result (λ held. IsPrefix pass.old.seen (S.entries held)) }
+        ensures mine { IfOk result (λ held. tagged S.tag_of pass.old.tag (S.entries held) ≡ pass.old.mine) }
+        ensures fits { IfOk result (λ held. S.fits held) }
+        ensures key { IfOk result (λ held. S.key held ≡ self.now.key) }
+        ensures busy { IfErr result (λ _. pass.new ≡ pass.old) }
+    {
+        let seat = &mut pass.seat;
+        let before = self.table.shared.swap::<Try<S>>(seat, 0, AWAITED);
+        if before != FREE {
+            return Err(Busy);
+        }
+        Ok(self.lift(seat))
     }
 
     /// Takes the state if nobody holds it.
@@ -154,9 +213,22 @@ impl<S: Kept> OwnLock<S> {
         let boxed = held.into_boxed();
         let empty = self.table.shared.exchange(&mut pass.seat, 0, Some(boxed));
         drop(empty);
-        self.table
+        let found = self
+            .table
             .shared
             .swap::<GiveBack<S>>(&mut pass.seat, 0, FREE);
+        if found == AWAITED {
+            self.wake();
+        }
+    }
+
+    // Wakes a pass that waits, if one does.
+    fn wake(&self) {
+        let waiting = self.waiting.load(SeqCst);
+        let first = waiting.trailing_zeros() as usize;
+        if let Some(unparker) = self.unparkers.get(first) {
+            unparker.unpark();
+        }
     }
 
     /// The second pass learns what the first one has seen: one of them has seen the beginning of what the
@@ -172,7 +244,11 @@ impl<S: Kept> OwnLock<S> {
         ensures first_mine { tagged S.tag_of first.tag second.new.seen ≡ first.mine }
         ensures mine { tagged S.tag_of second.old.tag second.new.seen ≡ second.old.mine }
     {
-        let Pass { tag: _, seat } = first;
+        let Pass {
+            tag: _,
+            seat,
+            parker: _,
+        } = first;
         self.table
             .shared
             .join_seat::<Together>(&mut second.seat, seat);
@@ -187,8 +263,16 @@ impl<S: Kept> OwnLock<S> {
         ensures begins { IfSome result (λ state. IsPrefix pass.seen (S.entries state)) }
         ensures mine { IfSome result (λ state. tagged S.tag_of pass.tag (S.entries state) ≡ pass.mine) }
     {
-        let OwnLock { table } = self;
-        let Pass { tag: _, seat } = pass;
+        let OwnLock {
+            table,
+            unparkers: _,
+            waiting: _,
+        } = self;
+        let Pass {
+            tag: _,
+            seat,
+            parker: _,
+        } = pass;
         let mut closed = table.close_with(seat);
         let word = closed.word(0);
         let state = closed.take(0);

@@ -7,6 +7,7 @@ use crate::boxed::Boxed;
 use crate::kept::Kept;
 use crate::seat_view::SeatView;
 use atomic_table::Seat;
+use crossbeam_utils::sync::Parker;
 use std::marker::Model;
 
 /// One of the passes that a lock was opened with. It may be handed from thread to thread. Contracts see
@@ -15,6 +16,7 @@ use std::marker::Model;
 pub struct Pass<S: Kept> {
     pub(crate) tag: u8,
     pub(crate) seat: Seat<Option<Boxed<S>>, SeatView<S::Key, S::Entry>>,
+    pub(crate) parker: Parker,
 }
 
 impl<S: Kept> Model for Pass<S> {

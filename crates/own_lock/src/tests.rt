@@ -7,7 +7,8 @@ use std::alloc::{AllocError, Global};
 use std::process::Abort;
 use std::sync::Wait;
 use std::test::Fail;
-use std::thread::{Threads, join};
+use std::thread::{Threads, join, sleep};
+use std::time::{Clock, Duration};
 
 #[derive(Clone, Copy, Debug, PartialEq)]
 struct Entry {
@@ -275,6 +276,65 @@ fn each_pass_adds_once_and_in_order(rt: HostRuntime) -> Result<(), Fail> {
     assert_eq!(rt; log.entries.len(), 4000);
     for tag in 0..4 {
         assert!(rt; log.counts(tag, 1000));
+    }
+    Ok(())
+}
+
+// Adds the numbers from 0 on, and holds the log for a millisecond each time.
+fn add_slowly<R: Wait + Clock>(
+    rt: &R,
+    lock: &OwnLock<Log>,
+    mut pass: Pass<Log>,
+    count: u32,
+) -> Pass<Log>
+    requires of { IsOf lock.now pass }
+    requires idle { pass.holds ≡ false }
+    ensures { IsOf lock.entry.now result × (result.holds ≡ false) }
+{
+    for number in 0..count {
+        let held = lock.take(rt, &mut pass);
+        sleep(rt, Duration::from_millis(1));
+        let _ = add_held(lock, &mut pass, held, number);
+    }
+    pass
+}
+
+// Two passes that wait for each other.
+fn wait_in_two_threads<R: Threads + Wait + Clock + Sync>(
+    rt: &R,
+    lock: OwnLock<Log>,
+    a: Pass<Log>,
+    b: Pass<Log>,
+    count: u32,
+) -> Option<Log>
+    requires a { IsOf lock a × (a.holds ≡ false) }
+    requires b { IsOf lock b × (b.holds ≡ false) }
+{
+    let shared = &lock;
+    let (a, mut b) = join(
+        rt,
+        move || -> Pass<Log>
+            requires { IsSync R.row × IsOf shared.now a × (a.holds ≡ false) }
+            ensures { IsOf shared.entry.now result × (result.holds ≡ false) }
+        { add_slowly(rt, shared, a, count) },
+        move || -> Pass<Log>
+            requires { IsSync R.row × IsOf shared.now b × (b.holds ≡ false) }
+            ensures { IsOf shared.entry.now result × (result.holds ≡ false) }
+        { add_slowly(rt, shared, b, count) },
+    );
+    lock.meet(a, &mut b);
+    lock.close(b)
+}
+
+#[test]
+fn a_pass_that_waits_is_woken(rt: HostRuntime) -> Result<(), Fail> {
+    let (lock, mut passes) = OwnLock::open(rt.alloc(), Log::new(rt.alloc(), 7), 2)?;
+    let b = last(&lock, &mut passes).ok_or("two")?;
+    let a = last(&lock, &mut passes).ok_or("two")?;
+    let log = wait_in_two_threads(&rt, lock, a, b, 50).ok_or("free")?;
+    assert_eq!(rt; log.entries.len(), 100);
+    for tag in 0..2 {
+        assert!(rt; log.counts(tag, 50));
     }
     Ok(())
 }

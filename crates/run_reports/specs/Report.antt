@@ -1,8 +1,10 @@
 -- What is printed of sessions and of records.
-use Rattle.std.specs.Prelude.{ℕ, List, [], ◌∷◌, ◌++◌, length, codes, pos}
+use Rattle.std.specs.Prelude.{ℕ, List, [], ◌∷◌, ◌++◌, length, codes}
 use Rattle.std.specs.List.{flat_map, range_with_len, slice_index_or}
-use Rattle.std.specs.Fmt.{decimal, signed_decimal}
-use Rattle.bottle_values.specs.declared.Value.{Value}
+use Rattle.std.specs.Fmt.{decimal}
+use Rattle.bottle_values.specs.Values.{Value}
+use Rattle.bottle_values.specs.Operations.{nought}
+use Rattle.bottle_values.specs.Printed.{value_text}
 use Rattle.office_map.specs.PlanValue.{PlanValue}
 use Rattle.session_meaning.specs.declared.ending.End.{End}
 use Rattle.session_meaning.specs.declared.ending.End.TheVariants.{Done, Refused, Overflow}
@@ -21,10 +23,7 @@ listed text (x ∷ xs) = flat_map (λ y. 32 ∷ text y) (x ∷ xs)
 
 -- NAME=VALUE
 abbrev pub record_text : PlanValue → ℕ × Value → List ℕ
-record_text p w = record_name p w.0 ++ (61 ∷ signed_decimal w.1.number)
-
-abbrev pub value_text : Value → List ℕ
-value_text v = signed_decimal v.number
+record_text p w = record_name p w.0 ++ (61 ∷ value_text w.1)
 
 -- OFFICE.TICKET END
 abbrev pub title : PlanValue → Outcome → List ℕ
@@ -38,7 +37,7 @@ outcome_line p o =
 
 -- value NAME VALUE
 abbrev pub value_line : PlanValue → ℕ → Value → List ℕ
-value_line p r v = codes "value " ++ (record_name p r ++ (32 ∷ (signed_decimal v.number ++ 10 ∷ [])))
+value_line p r v = codes "value " ++ (record_name p r ++ (32 ∷ (value_text v ++ 10 ∷ [])))
 
 -- the records in order, with the values that the map has
 abbrev pub value_lines : PlanValue → (ℕ → Value) → List ℕ
@@ -50,4 +49,4 @@ report_of p outcomes m = flat_map (outcome_line p) outcomes ++ value_lines p m
 
 -- a list of values as a map; 0 past its end
 abbrev pub value_at : List Value → ℕ → Value
-value_at values r = slice_index_or values r (record { number = pos 0 })
+value_at values r = slice_index_or values r nought

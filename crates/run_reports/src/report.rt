@@ -3,7 +3,8 @@
 ghost use Rattle.std.specs.Prelude.{◌≡◌, ◌++◌, ◌∷◌, [], codes, length, IfOk, OnOk};
 ghost use Rattle.std.specs.List.{flat_map};
 ghost use Rattle.std.specs.String.{string_bytes};
-ghost use Rattle.run_reports.specs.Report.{end_text, listed, record_text, value_text, title, outcome_line, value_at, value_line, value_lines, report_of};
+ghost use Rattle.bottle_values.specs.Printed.{value_text};
+ghost use Rattle.run_reports.specs.Report.{end_text, listed, record_text, title, outcome_line, value_at, value_line, value_lines, report_of};
 
 use bottle_values::Value;
 use itoa::Buffer;
@@ -86,7 +87,7 @@ fn add_record(text: &mut String, plan: &Plan, id: RecordId, value: Value) -> Res
     text.push_str(" ")?;
     text.push_str(record_name(plan, id))?;
     text.push_str("=")?;
-    add_number(text, value)
+    add_text(text, value)
 }
 
 fn add_gives(text: &mut String, gives: &[Value]) -> Result<(), AllocError>
@@ -106,14 +107,14 @@ fn add_given(text: &mut String, value: Value) -> Result<(), AllocError>
     ensures { OnOk result (string_bytes text.new ≡ string_bytes text.old ++ (32 ∷ value_text value)) }
 {
     text.push_str(" ")?;
-    add_number(text, value)
+    add_text(text, value)
 }
 
-fn add_number(text: &mut String, value: Value) -> Result<(), AllocError>
+fn add_text(text: &mut String, value: Value) -> Result<(), AllocError>
     ensures { OnOk result (string_bytes text.new ≡ string_bytes text.old ++ value_text value) }
 {
     let mut buffer = Buffer::new();
-    text.push_str(buffer.format(value.number))
+    text.push_str(buffer.format(value.number()))
 }
 
 fn add_values(text: &mut String, plan: &Plan, values: &[Value]) -> Result<(), AllocError>
@@ -138,6 +139,6 @@ pub fn add_value(
     text.push_str("value ")?;
     text.push_str(record_name(plan, id))?;
     text.push_str(" ")?;
-    add_number(text, value)?;
+    add_text(text, value)?;
     text.push_str("\n")
 }

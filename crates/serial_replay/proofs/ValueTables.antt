@@ -1,5 +1,5 @@
 -- Tables of values, and what one more session changes.
-use Rattle.std.proofs.Common.{◌≡◌, ℕ, zero, suc, ◌<◌, ◌≤◌, ◌+◌, ℤ, pos, List, [], ◌∷◌, ◌++◌, length, map, take, get_or, Bool, true, false, ◌==◌, ◌&&◌, Option, Some, None, nat_lt, if◌then◌else◌, slice_get, count_by, All, IsTrue, refl, sym, ap, subst, ◌∙◌, arith}
+use Rattle.std.proofs.Common.{◌≡◌, ℕ, zero, suc, ◌<◌, ◌≤◌, ◌+◌, List, [], ◌∷◌, ◌++◌, length, map, take, get_or, Bool, true, false, ◌==◌, ◌&&◌, Option, Some, None, nat_lt, if◌then◌else◌, slice_get, count_by, All, IsTrue, refl, sym, ap, subst, ◌∙◌, arith}
 use Rattle.std.proofs.lemmas.List.{take_more, length-append, get_or-set_same, get_or-set_other}
 use Rattle.std.proofs.lemmas.List.Sums.{count_by_more_yes, count_by_more_no}
 use Rattle.std.proofs.lemmas.Option.{slice_get_within, get_or_from_slice_get}
@@ -8,7 +8,7 @@ use Rattle.std.proofs.lemmas.Bool.Decides.{nat_tests}
 use Rattle.std.proofs.Math.ListN.{set}
 use Rattle.std.specs.Option.{option_map_or}
 use Rattle.std.specs.List.{list_all, zip, slice_index_or}
-use Rattle.bottle_values.specs.declared.Value.{Value}
+use Rattle.bottle_values.specs.Values.{Value}
 use Rattle.bottle_values.specs.Maps.{put, reads_of, write_all}
 use Rattle.office_map.specs.PlanValue.{PlanValue, is_end, has_end, start_values}
 use Rattle.session_meaning.specs.ProgramValue.{ProgramValue}
@@ -17,7 +17,7 @@ use Rattle.session_language.specs.Program.{fits}
 use Rattle.session_meaning.specs.declared.ending.Ending.{Ending}
 use Rattle.session_meaning.specs.declared.ending.Outcome.{Outcome}
 use Rattle.serial_replay.specs.Serial.{ticket_of, outcomes_after, map_of, map_after, start_map, ending_on, ListsValues}
-use Rattle.bottle_values.specs.Arithmetic.{nought}
+use Rattle.bottle_values.specs.Operations.{nought}
 
 -- each record of the list is one of the plan's
 ends_within : (p : PlanValue) (office : ℕ) (rs : List ℕ) → list_all (λ r. is_end p r office) rs ≡ true → All (λ r. r < length p.records) rs
@@ -113,11 +113,11 @@ table_more vs n m v t e = record { size = length-append vs (v ∷ []) ∙ ap (λ
         let k : n ≡ j = grind (h, lt, arith, nat_tests) in
         ap (λ i. slice_get (vs ++ v ∷ []) i) (sym s) ∙ last_at vs v ∙ ap Some e ∙ ap (λ i. Some (m i)) k
 
-pub start_more : (p : PlanValue) (vs : List Value) (n : ℕ) (z : ℤ) → ListsValues vs n (start_map p) → slice_get (start_values p) n ≡ Some z
-    → ListsValues (vs ++ record { number = z } ∷ []) (n + 1) (start_map p)
-start_more p vs n z t h =
-    let e : slice_index_or (start_values p) n (pos 0) ≡ z = get_or_from_slice_get (start_values p) n z (pos 0) h in
-    table_more vs n (start_map p) (record { number = z }) t (ap (λ k. record { number = k }) (sym e))
+pub start_more : (p : PlanValue) (vs : List Value) (n : ℕ) (v : Value) → ListsValues vs n (start_map p) → slice_get (start_values p) n ≡ Some v
+    → ListsValues (vs ++ v ∷ []) (n + 1) (start_map p)
+start_more p vs n v t h =
+    let e : slice_index_or (start_values p) n nought ≡ v = get_or_from_slice_get (start_values p) n v nought h in
+    table_more vs n (start_map p) v t (sym e)
 
 pub table_written : (vs : List Value) (n : ℕ) (m : ℕ → Value) (ws : List (ℕ × Value)) (i : ℕ) (w : ℕ × Value) → i < length ws → w ≡ get_or ws i w
     → ListsValues vs n (put (write_all (take i ws) m) w.0 w.1) → ListsValues vs n (write_all (take (i + 1) ws) m)

@@ -1,8 +1,9 @@
 -- The serial run of a list of sessions: the first one on a map from records to values, and each next one on the map
 -- that the one before left. It has no offices that wait, no messages and no moments.
-use Rattle.std.specs.Prelude.{◌≡◌, ℕ, ◌+◌, ◌<◌, pos, List, [], ◌∷◌, ◌++◌, length, count_by, ◌==◌, slice_get, Some}
+use Rattle.std.specs.Prelude.{◌≡◌, ℕ, ◌+◌, ◌<◌, List, [], ◌∷◌, ◌++◌, length, count_by, ◌==◌, slice_get, Some}
 use Rattle.std.specs.List.{slice_index_or}
-use Rattle.bottle_values.specs.declared.Value.{Value}
+use Rattle.bottle_values.specs.Values.{Value}
+use Rattle.bottle_values.specs.Operations.{nought}
 use Rattle.bottle_values.specs.Maps.{reads_of, write_all}
 use Rattle.office_map.specs.PlanValue.{PlanValue, start_values}
 use Rattle.session_meaning.specs.declared.ending.Ending.{Ending}
@@ -38,7 +39,7 @@ map_of m (p ∷ ps) = map_of (map_after p m) ps
 
 -- the values that a plan starts with
 abbrev pub start_map : PlanValue → ℕ → Value
-start_map p r = record { number = slice_index_or (start_values p) r (pos 0) }
+start_map p r = slice_index_or (start_values p) r nought
 
 -- the list has the map's values for the first n records
 pub record ListsValues (values : List Value) (n : ℕ) (m : ℕ → Value) : Type 0 where

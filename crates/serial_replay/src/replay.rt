@@ -17,7 +17,7 @@ ghost use Rattle.std.specs.Prelude.{
 };
 ghost use Rattle.std.proofs.Math.ListN.{set};
 ghost use Rattle.bottle_values.specs.Maps.{put, write_all};
-ghost use Rattle.bottle_values.specs.declared.Value as bottle;
+ghost use Rattle.bottle_values.specs.Values as bottle;
 ghost use Rattle.session_meaning.specs.Needs.{needs_of};
 ghost use Rattle.session_language.specs.Program.{fits};
 ghost use Rattle.serial_replay.specs.Serial.{
@@ -27,7 +27,7 @@ ghost use Rattle.serial_replay.specs.Serial.{
   ending_on,
   ListsValues,
 };
-ghost use Rattle.bottle_values.specs.Arithmetic.{nought};
+ghost use Rattle.bottle_values.specs.Operations.{nought};
 
 use crate::alone::alone;
 use bottle_values::Value;
@@ -76,9 +76,7 @@ fn start_values(alloc: Global, plan: &Plan) -> Result<Vec<Value>, AllocError>
 {
     let mut values = Vec::with_capacity(alloc, plan.records())?;
     for r in 0..plan.records() {
-        values.push(Value {
-            number: plan.start_value(RecordId::new(r as u16)),
-        })?;
+        values.push(plan.start_value(RecordId::new(r as u16)))?;
     }
     Ok(values)
 }

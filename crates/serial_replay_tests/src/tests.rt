@@ -103,7 +103,7 @@ fn described(alloc: Global, plan: &Plan, replay: &Replay) -> Result<String, Allo
     for value in &replay.values {
         text.push_str("value ")?;
         push_name(&mut text, plan, RecordId::new(number))?;
-        write!(text, " {}\n", value.number)?;
+        write!(text, " {}\n", value)?;
         number = number.wrapping_add(1);
     }
     Ok(text)
@@ -145,7 +145,7 @@ fn describe_records(
     for (record, value) in records {
         text.push(' ')?;
         push_name(text, plan, *record)?;
-        write!(text, "={}", value.number)?;
+        write!(text, "={}", value)?;
     }
     Ok(())
 }
@@ -155,7 +155,7 @@ fn describe_values(text: &mut String, values: &[Value]) -> Result<(), AllocError
         return text.push_str(" -");
     }
     for value in values {
-        write!(text, " {}", value.number)?;
+        write!(text, " {}", value)?;
     }
     Ok(())
 }

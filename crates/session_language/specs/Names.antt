@@ -4,6 +4,7 @@ use Rattle.std.specs.List.{list_all}
 use Rattle.std.specs.Str.{bytes_eq}
 use Rattle.std.specs.String.{string_bytes}
 use Rattle.office_map.specs.PlanValue.{PlanValue, record_named, is_end}
+use Rattle.bottle_values.specs.Values.{Number}
 use Rattle.session_meaning.specs.declared.node.Node.{Node}
 use Rattle.session_meaning.specs.declared.node.Node.TheVariants.{Literal, Variable, Read}
 use Rattle.session_language.specs.declared.builder.Element.{Element}
@@ -45,12 +46,12 @@ knows_record s (ARecord name) = is_some (record_of s name)
 
 -- an unknown name is at place 0
 abbrev pub node_of : Scope → Operand → Node
-node_of s (ANumber n) = Literal (record { number = pos n })
+node_of s (ANumber n) = Literal (Number (pos n))
 node_of s (AVariable name) = Variable (unwrap_or (variable_named s name) 0)
 node_of s (ARecord name) = Read (unwrap_or (record_of s name) 0)
 
 abbrev pub operand_of : Scope → Operand → Term
-operand_of s (ANumber n) = Constant (record { number = pos n })
+operand_of s (ANumber n) = Constant (Number (pos n))
 operand_of s (AVariable name) = Var (unwrap_or (variable_named s name) 0)
 operand_of s (ARecord name) = ReadOf (unwrap_or (record_of s name) 0)
 

@@ -8,7 +8,7 @@ use Rattle.session_language.specs.declared.words.Words as code_words
 use Rattle.session_language.specs.declared.words.RecordNames.{RecordNames}
 use Rattle.session_language.specs.declared.words.RecordNames.TheVariants.{Of, Wide}
 use Rattle.std.specs.List.{slice_index_or}
-use Rattle.bottle_values.specs.declared.Value.{Value}
+use Rattle.bottle_values.specs.Values.{Value, Number}
 use Rattle.session_meaning.specs.declared.node.Operator.{Operator}
 use Rattle.session_meaning.specs.declared.node.Operator.TheVariants as op
 use Rattle.session_meaning.specs.declared.node.Comparison.{Comparison}
@@ -40,7 +40,7 @@ magnitude (pos n) = n
 magnitude (negsuc n) = 0
 
 abbrev pub literal : Value → List ℕ
-literal v = decimal (magnitude v.number)
+literal (Number z) = decimal (magnitude z)
 
 abbrev pub in_parentheses : List ℕ → List ℕ
 in_parentheses text = 40 ∷ (text ++ 41 ∷ [])

@@ -1,5 +1,6 @@
 -- What holds of every program: all that a reader can have read, and no more.
 use Rattle.std.specs.Prelude.{◌≡◌, ◌≢◌, ◌<◌, ◌≤◌, ◌^◌, ℕ, suc, max, ℤ, pos, negsuc, List, length, All, AllPairs, IsTrue, false}
+use Rattle.bottle_values.specs.Values.{Value, Number}
 use Rattle.text_lines.specs.Text.{is_name}
 use Rattle.session_meaning.specs.declared.node.Operator.TheVariants as op
 use Rattle.session_language.specs.declared.rank.Rank.{Rank}
@@ -33,14 +34,17 @@ depth (Bin op.Times a b) = suc (max (product_depth (rank_of a) (depth a)) (facto
 depth (Bin op.Plus a b) = suc (max (depth a) (product_depth (rank_of b) (depth b)))
 depth (Bin op.Minus a b) = suc (max (depth a) (product_depth (rank_of b) (depth b)))
 
+abbrev pub IsUnsigned : ℤ → Type 0
+IsUnsigned (pos n) = n < 2 ^ 63
+IsUnsigned (negsuc n) = ⊥
+
 -- a literal is a number of a text, which has no sign
-abbrev pub IsLiteral : ℤ → Type 0
-IsLiteral (pos n) = n < 2 ^ 63
-IsLiteral (negsuc n) = ⊥
+abbrev pub IsLiteral : Value → Type 0
+IsLiteral (Number z) = IsUnsigned z
 
 -- an expression over the first variables, so many as are known
 abbrev pub IsOver : ℕ → Term → Type 0
-IsOver known (Constant v) = IsLiteral v.number
+IsOver known (Constant v) = IsLiteral v
 IsOver known (Var k) = k < known
 IsOver known (ReadOf r) = Unit {0}
 IsOver known (Neg e) = IsOver known e

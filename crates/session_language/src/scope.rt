@@ -66,9 +66,7 @@ impl Scope<'_> {
         ensures { result ≡ placed_of (scope_of self.now) (Leaf (leaf_of operand.entry)) }
     {
         match operand {
-            Operand::Number(n) => known_node(Node::Literal(Value {
-                number: n.value as i64,
-            })),
+            Operand::Number(n) => known_node(Node::Literal(Value::from(n.value as i64))),
             Operand::Variable(name) => match self.variable_named(guesses, name) {
                 Some(place) => known_node(Node::Variable(place as u8)),
                 None => Placed {

@@ -8,13 +8,14 @@ ghost use Rattle.session_meaning.specs.refinement.TreeOfStatements.{test_of, com
 ghost use Rattle.session_language.specs.Limits.{past_bytes};
 ghost use Rattle.session_meaning.specs.Tree.{Term, Bin};
 ghost use Rattle.session_meaning.specs.refinement.Postfix.{push_node, push_nodes};
-ghost use Rattle.session_language.specs.Text.{Words, wide_words, variable_name, rank_of, term_text, test_text, command_text, block_text, session_text};
+ghost use Rattle.session_language.specs.Text.{Words, wide_words, literal, variable_name, rank_of, term_text, test_text, command_text, block_text, session_text};
 ghost use Rattle.session_language.specs.refinement.TextSizes.{ranks_of, bytes_of, around_factor, around_product, around_both};
 
 use crate::limits::PAST_BYTES;
 use crate::listing::comparison_text;
 use crate::rank::Rank;
 use crate::text::magnitude;
+use bottle_values::Value;
 use session_meaning::{Condition, Expression, Node, Operator, Statement};
 use std::alloc::{AllocError, Global};
 
@@ -134,7 +135,7 @@ fn with_node(
         IfOk result (λ n. (ranks.new.items ≡ ranks_of (push_node node st)) × (n ≡ min past_bytes (bytes_of (wide_words (map string_bytes variables.now)) (push_node node st)))) }
 {
     match node {
-        Node::Literal(value) => with_leaf(ranks, size, digits(magnitude(value))),
+        Node::Literal(value) => with_leaf(ranks, size, literal_size(value)),
         Node::Variable(place) => with_leaf(ranks, size, name_size(variables, place)),
         Node::Read(_) => with_leaf(ranks, size, 21),
         Node::Negate => with_sign(ranks, size),
@@ -240,6 +241,14 @@ fn sum(a: u32, b: u32) -> u32
     ensures { result ≡ min past_bytes (a + b) }
 {
     (a + b).min(PAST_BYTES)
+}
+
+/// How many bytes a literal has.
+fn literal_size(value: Value) -> u32
+    ensures count { result ≡ length (literal value) }
+    ensures few { result ≤ 20 }
+{
+    digits(magnitude(value.number()))
 }
 
 /// How many digits a number has.

@@ -106,18 +106,14 @@ fn write_literal(out: &mut String, value: Value) -> Result<(), AllocError>
     ensures { OnOk result (string_bytes out.new ≡ string_bytes out.old ++ literal value) }
 {
     let mut buffer = Buffer::new();
-    out.push_str(buffer.format(magnitude(value)))
+    out.push_str(buffer.format(magnitude(value.number())))
 }
 
 /// The number of a literal, which has no sign.
-pub(crate) fn magnitude(value: Value) -> u64
-    ensures { result ≡ magnitude value.number }
+pub(crate) fn magnitude(number: i64) -> u64
+    ensures { result ≡ magnitude number }
 {
-    if value.number < 0 {
-        0
-    } else {
-        value.number as u64
-    }
+    if number < 0 { 0 } else { number as u64 }
 }
 
 pub fn write_variable(out: &mut String, words: &Words<'_>, place: u8) -> Result<(), AllocError>

@@ -384,7 +384,7 @@ fn first_values(alloc: Global, needs: &[RecordId]) -> Result<RecordValues, Alloc
     let mut reads = RecordValues::new(alloc);
     for id in needs {
         let number = if id.number() == 0 { 100 } else { 0 };
-        reads.push(*id, Value { number })?;
+        reads.push(*id, Value::from(number))?;
     }
     Ok(reads)
 }
@@ -442,7 +442,7 @@ fn describe(text: &mut String, ending: &Ending) -> Result<(), AllocError> {
     describe_values(text, ending.writes.as_slice())?;
     text.push_str(" gives")?;
     for value in ending.gives.as_slice() {
-        write!(text, " {}", value.number)?;
+        write!(text, " {}", value)?;
     }
     text.push_str("; ")
 }
@@ -457,7 +457,7 @@ fn describe_end(text: &mut String, end: End) -> Result<(), AllocError> {
 
 fn describe_values(text: &mut String, values: &[(RecordId, Value)]) -> Result<(), AllocError> {
     for (id, value) in values {
-        write!(text, " {}={}", id.number(), value.number)?;
+        write!(text, " {}={}", id.number(), value)?;
     }
     Ok(())
 }

@@ -1,9 +1,10 @@
 -- What a session writes, and what it tells.
-use Rattle.std.proofs.Common.{◌≡◌, ℕ, zero, suc, List, [], ◌∷◌, map, Bool, true, false, ◌==◌, All, Option, Some, None, if◌then◌else◌, refl, ap, ◌∙◌, subst, arith}
+use Rattle.std.proofs.Common.{◌≡◌, ℕ, zero, suc, List, [], ◌∷◌, map, Bool, true, false, ◌==◌, All, Result, Ok, Err, if◌then◌else◌, refl, ap, ◌∙◌, subst, arith}
 use Rattle.std.specs.Prelude.{Contains}
 use Rattle.std.proofs.lemmas.List.Elements.{All-cons}
 use Rattle.std.proofs.lemmas.Bool.Decides.{nat_tests}
-use Rattle.bottle_values.specs.declared.Value.{Value}
+use Rattle.bottle_values.specs.Values.{Value}
+use Rattle.bottle_values.specs.declared.ValueFault.{ValueFault}
 use Rattle.session_meaning.specs.Tree.{Command, LetVar, SetTo, GiveOf, Requires, When, Choice, Loop, Block, Nothing, Then}
 use Rattle.session_meaning.specs.Meaning.{Slot, Environment, value_of, truth_of, set_in, Step, Goes, Ends, with_value, with_truth, and_then, repeated, command, block, slot_of, begun, writes_of, ending_of, alone}
 use Rattle.session_meaning.specs.Laws.{WritesWhatItHas, TellsWhatItRead}
@@ -25,14 +26,14 @@ set_keeps r v (s ∷ rest) = by_test (s.r == r) refl (set_keeps r v rest)
     by_test true e more = ap (λ k. k ∷ names rest) (grind (e, arith, nat_tests))
     by_test false e more = ap (λ ks. s.r ∷ ks) more
 
-value_keeps : (rs : List ℕ) (o : Option Value) (go : Value → Step) → ((v : Value) → Keeps rs (go v)) → Keeps rs (with_value o go)
-value_keeps rs None go h = tt
-value_keeps rs (Some v) go h = h v
+value_keeps : (rs : List ℕ) (o : Result Value ValueFault) (go : Value → Step) → ((v : Value) → Keeps rs (go v)) → Keeps rs (with_value o go)
+value_keeps rs (Err e) go h = tt
+value_keeps rs (Ok v) go h = h v
 
-truth_keeps : (rs : List ℕ) (o : Option Bool) (a b : Step) → Keeps rs a → Keeps rs b → Keeps rs (with_truth o a b)
-truth_keeps rs None a b h k = tt
-truth_keeps rs (Some true) a b h k = h
-truth_keeps rs (Some false) a b h k = k
+truth_keeps : (rs : List ℕ) (o : Result Bool ValueFault) (a b : Step) → Keeps rs a → Keeps rs b → Keeps rs (with_truth o a b)
+truth_keeps rs (Err e) a b h k = tt
+truth_keeps rs (Ok true) a b h k = h
+truth_keeps rs (Ok false) a b h k = k
 
 then_keeps : (rs : List ℕ) (s : Step) (go : Environment → Step) → Keeps rs s → ((d : Environment) → names d.slots ≡ rs → Keeps rs (go d)) → Keeps rs (and_then s go)
 then_keeps rs (Goes d) go h k = k d h

@@ -1,6 +1,6 @@
 -- Worked examples of the definitions, by computing.
 use Rattle.std.specs.Prelude.{◌≡◌, ℕ, pos, negsuc, ℤ, List, [], ◌∷◌, refl}
-use Rattle.bottle_values.specs.declared.Value.{Value}
+use Rattle.bottle_values.specs.Values.{Value, Number}
 use Rattle.session_meaning.specs.declared.node.Operator.TheVariants as op
 use Rattle.session_meaning.specs.declared.node.Comparison.{Comparison}
 use Rattle.session_meaning.specs.declared.node.Comparison.TheVariants as cmp
@@ -12,7 +12,7 @@ use Rattle.session_meaning.specs.Meaning.{alone}
 use Rattle.session_meaning.specs.Length.{length_on}
 
 abbrev pub value : ℤ → Value
-value z = record { number = z }
+value z = Number z
 
 abbrev pub number : ℕ → Term
 number n = Constant (value (pos n))

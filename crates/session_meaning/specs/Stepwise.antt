@@ -1,16 +1,17 @@
 -- A session read one step at a time: a list of what is left to do, from which each step takes one thing. Nodes come
 -- after their operands, a statement and a comparison after their expressions. So a session's length is how many steps
 -- it takes.
-use Rattle.std.specs.Prelude.{◌≡◌, ℕ, zero, suc, neg_ℤ, List, [], ◌∷◌, ◌++◌, Bool, true, false, Option, Some, None, slice_set}
+use Rattle.std.specs.Prelude.{◌≡◌, ℕ, zero, suc, List, [], ◌∷◌, ◌++◌, Bool, true, false, Option, Some, None, Result, Ok, Err, slice_set}
 use Rattle.std.specs.List.{slice_index_or}
-use Rattle.bottle_values.specs.declared.Value.{Value}
-use Rattle.bottle_values.specs.Arithmetic.{exact, nought}
+use Rattle.bottle_values.specs.Values.{Value}
+use Rattle.bottle_values.specs.declared.ValueFault.{ValueFault}
+use Rattle.bottle_values.specs.Operations.{nought, opposite}
 use Rattle.session_meaning.specs.declared.node.Operator.{Operator}
 use Rattle.session_meaning.specs.declared.node.Comparison.{Comparison}
 use Rattle.session_meaning.specs.declared.ending.End.TheVariants.{Refused, Overflow}
 use Rattle.session_meaning.specs.Tree.{Term, Constant, Var, ReadOf, Neg, Bin, Test, Command, LetVar, SetTo, GiveOf, Requires, When, Choice, Loop, Block, Nothing, Then}
 use Rattle.session_meaning.specs.ProgramValue.{ProgramValue}
-use Rattle.session_meaning.specs.Meaning.{Environment, Step, Goes, Ends, apply, holds, value_in, set_in, block, begun}
+use Rattle.session_meaning.specs.Meaning.{Environment, Step, Goes, Ends, ended_by, apply, holds, value_in, set_in, block, begun}
 use Rattle.session_meaning.specs.Length.{length_on}
 
 -- one thing to do
@@ -60,9 +61,14 @@ pub data Stage : Type 0 where
   Over : (s : Step) → Stage
 
 -- a value comes in hand, unless there is none
-abbrev pub in_hand : Option Value → List Item → List Value → Option Bool → Environment → Stage
-in_hand None rest vs t d = Over (Ends Overflow)
-in_hand (Some v) rest vs t d = Left rest (v ∷ vs) t d
+abbrev pub in_hand : Result Value ValueFault → List Item → List Value → Option Bool → Environment → Stage
+in_hand (Err e) rest vs t d = Over (Ends (ended_by e))
+in_hand (Ok v) rest vs t d = Left rest (v ∷ vs) t d
+
+-- a truth comes in hand, unless there is none
+abbrev pub told : Result Bool ValueFault → List Item → List Value → Environment → Stage
+told (Err e) rest vs d = Over (Ends (ended_by e))
+told (Ok b) rest vs d = Left rest vs (Some b) d
 
 -- one step. Where nothing is left it is the session's end
 abbrev pub step : Stage → Stage
@@ -71,9 +77,9 @@ step (Left [] vs t d) = Over (Goes d)
 step (Left (number v ∷ rest) vs t d) = Left rest (v ∷ vs) t d
 step (Left (variable place ∷ rest) vs t d) = Left rest (slice_index_or d.variables place nought ∷ vs) t d
 step (Left (read r ∷ rest) vs t d) = Left rest (value_in d.slots r ∷ vs) t d
-step (Left (minus ∷ rest) (v ∷ vs) t d) = in_hand (exact (neg_ℤ v.number)) rest vs t d
+step (Left (minus ∷ rest) (v ∷ vs) t d) = in_hand (opposite v) rest vs t d
 step (Left (operator op ∷ rest) (b ∷ (a ∷ vs)) t d) = in_hand (apply op a b) rest vs t d
-step (Left (compare c ∷ rest) (b ∷ (a ∷ vs)) t d) = Left rest vs (Some (holds c a.number b.number)) d
+step (Left (compare c ∷ rest) (b ∷ (a ∷ vs)) t d) = told (holds c a b) rest vs d
 step (Left (to_variable place ∷ rest) (v ∷ vs) t d) = Left rest vs t (record d { variables = slice_set d.variables place v })
 step (Left (to_record r ∷ rest) (v ∷ vs) t d) = Left rest vs t (record d { slots = set_in r v d.slots })
 step (Left (give ∷ rest) (v ∷ vs) t d) = Left rest vs t (record d { gives = d.gives ++ v ∷ [] })

@@ -2,7 +2,7 @@
 
 ghost use Rattle.std.specs.Prelude.{◌≡◌, [], ◌∷◌, ◌++◌, OnOk, OnErr, IfOk};
 
-use bottle_values::Value;
+use bottle_values::{Value, ValueFault};
 use office_map::{OfficeId, RecordId};
 use std::alloc::{AllocError, Global};
 use std::marker::Model;
@@ -17,6 +17,19 @@ pub enum End {
     Overflow,
 }
 
+impl End {
+    ghost use Rattle.session_meaning.specs.Meaning.{ended_by};
+
+    /// How a session ends where an operation or a comparison has this fault.
+    pub fn by(fault: ValueFault) -> End
+        ensures { result ≡ ended_by fault }
+    {
+        match fault {
+            ValueFault::Overflow => End::Overflow,
+        }
+    }
+}
+
 /// Values of records, in order of number. Contracts see the list.
 #[derive(Debug, Drop)]
 pub struct RecordValues {
@@ -25,7 +38,7 @@ pub struct RecordValues {
 
 impl Model for RecordValues {
     ghost use Rattle.std.specs.Prelude.{ℕ, List};
-    ghost use Rattle.bottle_values.specs.declared.Value as bottle;
+    ghost use Rattle.bottle_values.specs.Values as bottle;
 
     ghost Value = { List (ℕ × bottle.Value) };
 
@@ -83,7 +96,7 @@ pub struct Gives {
 
 impl Model for Gives {
     ghost use Rattle.std.specs.Prelude.{List};
-    ghost use Rattle.bottle_values.specs.declared.Value as bottle;
+    ghost use Rattle.bottle_values.specs.Values as bottle;
 
     ghost Value = { List bottle.Value };
 

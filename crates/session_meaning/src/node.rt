@@ -1,6 +1,6 @@
 //! The parts that an expression is made of.
 
-use bottle_values::{Overflow, Value};
+use bottle_values::{Value, ValueFault};
 use office_map::RecordId;
 
 /// An operator between two operands.
@@ -13,12 +13,11 @@ pub enum Operator {
 
 impl Operator {
     ghost use Rattle.std.specs.Prelude.{◌≡◌};
-    ghost use Rattle.std.specs.Result.{result_ok};
     ghost use Rattle.session_meaning.specs.Meaning.{apply};
 
-    /// The exact result, or Overflow.
-    pub fn apply(self, a: Value, b: Value) -> Result<Value, Overflow>
-        ensures { result_ok result ≡ apply self a b }
+    /// The result, or the fault that two values have here.
+    pub fn apply(self, a: Value, b: Value) -> Result<Value, ValueFault>
+        ensures { result ≡ apply self a b }
     {
         match self {
             Operator::Plus => a.add(b),
@@ -43,17 +42,17 @@ impl Comparison {
     ghost use Rattle.std.specs.Prelude.{◌≡◌};
     ghost use Rattle.session_meaning.specs.Meaning.{holds};
 
-    /// Whether it holds of two values.
-    pub fn holds(self, a: Value, b: Value) -> bool
-        ensures { result ≡ holds self a.number b.number }
+    /// Whether it holds of two values, or the fault that they have here.
+    pub fn holds(self, a: Value, b: Value) -> Result<bool, ValueFault>
+        ensures { result ≡ holds self a b }
     {
         match self {
-            Comparison::Equal => a.number == b.number,
-            Comparison::NotEqual => a.number != b.number,
-            Comparison::Less => a.number < b.number,
-            Comparison::AtMost => a.number <= b.number,
-            Comparison::Greater => a.number > b.number,
-            Comparison::AtLeast => a.number >= b.number,
+            Comparison::Equal => Ok(a.equals(b)),
+            Comparison::NotEqual => Ok(!a.equals(b)),
+            Comparison::Less => a.is_less(b),
+            Comparison::AtMost => a.is_at_most(b),
+            Comparison::Greater => b.is_less(a),
+            Comparison::AtLeast => b.is_at_most(a),
         }
     }
 }

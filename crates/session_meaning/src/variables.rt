@@ -12,7 +12,7 @@ pub struct Variables {
 
 impl Model for Variables {
     ghost use Rattle.std.specs.Prelude.{List};
-    ghost use Rattle.bottle_values.specs.declared.Value as bottle;
+    ghost use Rattle.bottle_values.specs.Values as bottle;
 
     ghost Value = { List bottle.Value };
 
@@ -22,14 +22,14 @@ impl Model for Variables {
 impl Variables {
     ghost use Rattle.std.specs.Prelude.{◌≡◌, IfOk, replicate, slice_set};
     ghost use Rattle.std.specs.List.{slice_index_or};
-    ghost use Rattle.bottle_values.specs.Arithmetic.{nought};
+    ghost use Rattle.bottle_values.specs.Operations.{nought};
 
     /// So many variables, each 0.
     pub fn of(alloc: Global, count: usize) -> Result<Variables, AllocError>
         ensures { IfOk result (λ v. v ≡ replicate count nought) }
     {
         Ok(Variables {
-            values: vec![in alloc; Value { number: 0 }; count]?,
+            values: vec![in alloc; Value::from(0); count]?,
         })
     }
 
@@ -41,7 +41,7 @@ impl Variables {
         if place < self.values.len() {
             self.values[place]
         } else {
-            Value { number: 0 }
+            Value::from(0)
         }
     }
 

@@ -29,13 +29,13 @@ fn an_outcome(alloc: Global) -> Result<Outcome, AllocError> {
 /// A record's value.
 fn one_value(alloc: Global, record: u16, number: i64) -> Result<RecordValues, AllocError> {
     let mut values = RecordValues::new(alloc);
-    values.push(RecordId::new(record), Value { number })?;
+    values.push(RecordId::new(record), Value::from(number))?;
     Ok(values)
 }
 
 fn one_given(alloc: Global, number: i64) -> Result<Gives, AllocError> {
     let mut gives = Gives::new(alloc);
-    gives.push(Value { number })?;
+    gives.push(Value::from(number))?;
     Ok(gives)
 }
 
@@ -49,7 +49,7 @@ fn is_as_typed(outcome: &Outcome) -> bool {
     *office == OfficeId::new(1)
         && *ticket == 9
         && ending.end == End::Refused(7)
-        && ending.reads.as_slice() == [(RecordId::new(3), Value { number: -1 })].as_slice()
-        && ending.writes.as_slice() == [(RecordId::new(4), Value { number: 2 })].as_slice()
-        && ending.gives.as_slice() == [Value { number: 5 }].as_slice()
+        && ending.reads.as_slice() == [(RecordId::new(3), Value::from(-1))].as_slice()
+        && ending.writes.as_slice() == [(RecordId::new(4), Value::from(2))].as_slice()
+        && ending.gives.as_slice() == [Value::from(5)].as_slice()
 }

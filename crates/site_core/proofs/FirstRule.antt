@@ -1,6 +1,7 @@
 -- The first rule of a list that may be done, looked for one after the other.
 use Rattle.std.proofs.Common.{◌≡◌, ℕ, zero, suc, ◌+◌, ◌<◌, Bool, true, false, cond, List, [], ◌∷◌, ◌++◌, length, map, take, get_or, Option, None, Some, refl, sym, ap, ◌∙◌, arith}
-use Rattle.std.specs.Prelude.{◌&&◌, find}
+use Rattle.std.specs.Prelude.{◌&&◌, find, filter, option_map}
+use mathlib.Core.Path.{fun_ext}
 use Rattle.std.proofs.lemmas.List.{take_more, map-append}
 
 pub skipped : {A : Type 0} (p : A → Bool) (x : A) (xs : List A) → find p (x ∷ xs) ≡ None → (p x ≡ false) × (find p xs ≡ None)
@@ -61,3 +62,25 @@ pub barred : (a b c : Bool) → b ≡ false → (a && (b && c)) ≡ false
 barred true false c h = refl
 barred false false c h = refl
 barred a true c h = absurd cc
+
+-- ---- the first of those that pass a test, where the guard asks for the test
+
+pub kept_first : (q g : ℕ → Bool) (ys : List ℕ) → find (λ x. q x && g x) (filter q ys) ≡ find g (filter q ys)
+kept_first q g [] = refl
+kept_first q g (y ∷ ys) = go (kept_first q g ys) (q y) refl
+  where
+    go : find (λ x. q x && g x) (filter q ys) ≡ find g (filter q ys) → (b : Bool) → q y ≡ b → find (λ x. q x && g x) (cond b (y ∷ filter q ys) (filter q ys)) ≡ find g (cond b (y ∷ filter q ys) (filter q ys))
+    go later true e = ap (λ b. cond (b && g y) (Some y) (find (λ x. q x && g x) (filter q ys))) e ∙ ap (λ o. cond (g y) (Some y) o) later
+    go later false e = later
+
+find_mapped : {A : Type 0} (p : A → Bool) (f : ℕ → A) (xs : List ℕ) → find p (map f xs) ≡ option_map f (find (λ x. p (f x)) xs)
+find_mapped p f [] = refl
+find_mapped p f (x ∷ xs) = go (find_mapped p f xs) (p (f x)) refl
+  where
+    go : find p (map f xs) ≡ option_map f (find (λ z. p (f z)) xs) → (b : Bool) → p (f x) ≡ b → find p (map f (x ∷ xs)) ≡ option_map f (find (λ z. p (f z)) (x ∷ xs))
+    go later true e = ap (λ b. cond b (Some (f x)) (find p (map f xs))) e ∙ sym (ap (λ b. option_map f (cond b (Some x) (find (λ z. p (f z)) xs))) e)
+    go later false e = ap (λ b. cond b (Some (f x)) (find p (map f xs))) e ∙ later ∙ sym (ap (λ b. option_map f (cond b (Some x) (find (λ z. p (f z)) xs))) e)
+
+pub first_kept : {A : Type 0} (p : A → Bool) (f : ℕ → A) (q g : ℕ → Bool) (ys : List ℕ) (o : Option ℕ) → ((x : ℕ) → p (f x) ≡ (q x && g x)) → o ≡ find g (filter q ys) → find p (map f (filter q ys)) ≡ option_map f o
+first_kept p f q g ys o guard is =
+    find_mapped p f (filter q ys) ∙ ap (λ (t : ℕ → Bool). option_map f (find t (filter q ys))) (fun_ext guard) ∙ ap (option_map f) (kept_first q g ys ∙ sym is)

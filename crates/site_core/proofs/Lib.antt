@@ -10,6 +10,7 @@ pub mod SessionsAreOurs
 pub mod OfficeLimits
 pub mod OfficeSteps
 pub mod FirstRule
+pub mod LeastNeighbour
 pub mod NoneNext
 pub mod SessionsInOrder
 pub mod WithdrawnSessions

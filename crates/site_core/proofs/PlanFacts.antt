@@ -18,7 +18,7 @@ in_range a (suc n) (suc k) lt =
     let same : a + suc k ≡ a + 1 + k = omega arith in
     or_right (a == a + suc k) _ (ap (λ j. list_any (λ x. x == j) (range_with_len (a + 1) n)) same ∙ in_range (a + 1) n k (omega arith))
 
-among_those : (p : ℕ → Bool) (n k : ℕ) → k < n → p k ≡ true → is_among (filter p (range_with_len 0 n)) k ≡ true
+pub among_those : (p : ℕ → Bool) (n k : ℕ) → k < n → p k ≡ true → is_among (filter p (range_with_len 0 n)) k ≡ true
 among_those p n k lt e =
     let same : 0 + k ≡ k = omega arith in
     any-filter_same (λ x. x == k) p true (λ x h. ap p (eqb-true x k h) ∙ e) (range_with_len 0 n) ∙ ap (λ j. list_any (λ x. x == j) (range_with_len 0 n)) (sym same) ∙ in_range 0 n k lt

@@ -11,7 +11,7 @@ use Rattle.session_meaning.specs.ProgramValue.{ProgramValue}
 use Rattle.session_language.specs.Program.{fits}
 use Rattle.session_meaning.specs.Needs.{needs_of}
 use Rattle.site_core.specs.declared.session.Session.{Session}
-use Rattle.bottle_values.specs.declared.Value.{Value}
+use Rattle.bottle_values.specs.Values.{Value}
 use Rattle.site_core.specs.Agenda.{Agenda, Current, Idle, Gathering, Working, first_needs, gathering, begun, with_current}
 use Rattle.site_core.specs.Offices.{is_ours}
 

@@ -1,7 +1,7 @@
 -- An office, the guard and the effect of each of its rules, and what it answers to an event.
 use Rattle.std.specs.Prelude.{ℕ, zero, suc, ◌+◌, Bool, ◌==◌, nat_le, ◌&&◌, ◌||◌, if◌then◌else◌, length, Option, None, Some, Result, Ok, Err, unwrap_or}
-use Rattle.bottle_values.specs.declared.Value.{Value}
-use Rattle.bottle_values.specs.Arithmetic.{nought}
+use Rattle.bottle_values.specs.Values.{Value}
+use Rattle.bottle_values.specs.Operations.{nought}
 use Rattle.frame_codec.specs.Frame.{Fields}
 use Rattle.office_map.specs.PlanValue.{PlanValue, are_neighbours, is_end}
 use Rattle.session_meaning.specs.ProgramValue.{ProgramValue}

@@ -1,6 +1,6 @@
 -- What can be asked of an office.
 use Rattle.std.specs.Prelude.{◌≡◌, ℕ, ◌+◌, ◌==◌, List, length, slice_get, find, Option, None, Some}
-use Rattle.bottle_values.specs.declared.Value.{Value}
+use Rattle.bottle_values.specs.Values.{Value}
 use Rattle.frame_codec.specs.declared.message.Msg.{Msg}
 use Rattle.frame_codec.specs.declared.message.Msg.TheVariants.{Bottle}
 use Rattle.session_meaning.specs.declared.ending.Outcome.{Outcome}

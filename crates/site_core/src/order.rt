@@ -15,25 +15,24 @@ use crate::limits::USUAL_PIECE;
 use crate::pairs::Pairs;
 use crate::rule::Rule;
 use crate::rules::may;
-use dining_core::Phase;
 
 /// The first rule that may be done, in the order in which an office looks at them.
 pub fn next_rule(pairs: &Pairs, agenda: &Agenda) -> Option<Rule>
     ensures { (a : sessions.Agenda) → Means agenda.now a → result ≡ find (offices.may pairs.now.plan pairs.now.me (office_at pairs.now a)) (rules_in_order pairs.now.plan pairs.now.me) }
 {
-    if let Some(rule) = give_bottle(pairs, agenda) {
+    if let Some(rule) = give_bottle(pairs) {
         return Some(rule);
     }
-    if let Some(rule) = give_fork(pairs, agenda) {
+    if let Some(rule) = give_fork(pairs) {
         return Some(rule);
     }
     if let Some(rule) = of_no_pair(pairs, agenda) {
         return Some(rule);
     }
-    if let Some(rule) = ask_bottle(pairs, agenda) {
+    if let Some(rule) = ask_bottle(pairs) {
         return Some(rule);
     }
-    ask_fork(pairs, agenda)
+    ask_fork(pairs)
 }
 
 /// The first of the rules that are of no neighbour and no record.
@@ -60,55 +59,41 @@ fn of_no_pair(pairs: &Pairs, agenda: &Agenda) -> Option<Rule>
 }
 
 /// A bottle that is given, of the least record.
-fn give_bottle(pairs: &Pairs, agenda: &Agenda) -> Option<Rule>
-    ensures { (a : sessions.Agenda) → Means agenda.now a → result ≡ find (offices.may pairs.now.plan pairs.now.me (office_at pairs.now a)) (map rules.GiveBottle (records_of pairs.now.plan pairs.now.me)) }
+fn give_bottle(pairs: &Pairs) -> Option<Rule>
+    ensures { (a : sessions.Agenda) → result ≡ find (offices.may pairs.now.plan pairs.now.me (office_at pairs.now a)) (map rules.GiveBottle (records_of pairs.now.plan pairs.now.me)) }
 {
-    for r in pairs.records() {
-        if may(pairs, agenda, &Rule::GiveBottle(*r)) {
-            return Some(Rule::GiveBottle(*r));
-        }
+    match pairs.first_given() {
+        Some(r) => Some(Rule::GiveBottle(r)),
+        None => None,
     }
-    None
 }
 
 /// A fork that is given, to the least neighbour.
-fn give_fork(pairs: &Pairs, agenda: &Agenda) -> Option<Rule>
-    ensures { (a : sessions.Agenda) → Means agenda.now a → result ≡ find (offices.may pairs.now.plan pairs.now.me (office_at pairs.now a)) (map rules.GiveFork (neighbours_of pairs.now.plan pairs.now.me)) }
+fn give_fork(pairs: &Pairs) -> Option<Rule>
+    ensures { (a : sessions.Agenda) → result ≡ find (offices.may pairs.now.plan pairs.now.me (office_at pairs.now a)) (map rules.GiveFork (neighbours_of pairs.now.plan pairs.now.me)) }
 {
-    for v in pairs.neighbours() {
-        if may(pairs, agenda, &Rule::GiveFork(*v)) {
-            return Some(Rule::GiveFork(*v));
-        }
+    match pairs.first_fork_given() {
+        Some(v) => Some(Rule::GiveFork(v)),
+        None => None,
     }
-    None
 }
 
-/// A bottle that is asked for, of the least record. An office that is not thirsty asks for none, and looks at none.
-fn ask_bottle(pairs: &Pairs, agenda: &Agenda) -> Option<Rule>
-    ensures { (a : sessions.Agenda) → Means agenda.now a → result ≡ find (offices.may pairs.now.plan pairs.now.me (office_at pairs.now a)) (map rules.AskBottle (records_of pairs.now.plan pairs.now.me)) }
+/// A bottle that is asked for, of the least record.
+fn ask_bottle(pairs: &Pairs) -> Option<Rule>
+    ensures { (a : sessions.Agenda) → result ≡ find (offices.may pairs.now.plan pairs.now.me (office_at pairs.now a)) (map rules.AskBottle (records_of pairs.now.plan pairs.now.me)) }
 {
-    if !pairs.bar().phase().is_thirsty() {
-        return None;
+    match pairs.first_asked() {
+        Some(r) => Some(Rule::AskBottle(r)),
+        None => None,
     }
-    for r in pairs.records() {
-        if may(pairs, agenda, &Rule::AskBottle(*r)) {
-            return Some(Rule::AskBottle(*r));
-        }
-    }
-    None
 }
 
-/// A fork that is asked for, of the least neighbour. An office that is not hungry asks for none, and looks at none.
-fn ask_fork(pairs: &Pairs, agenda: &Agenda) -> Option<Rule>
-    ensures { (a : sessions.Agenda) → Means agenda.now a → result ≡ find (offices.may pairs.now.plan pairs.now.me (office_at pairs.now a)) (map rules.AskFork (neighbours_of pairs.now.plan pairs.now.me)) }
+/// A fork that is asked for, of the least neighbour.
+fn ask_fork(pairs: &Pairs) -> Option<Rule>
+    ensures { (a : sessions.Agenda) → result ≡ find (offices.may pairs.now.plan pairs.now.me (office_at pairs.now a)) (map rules.AskFork (neighbours_of pairs.now.plan pairs.now.me)) }
 {
-    if !matches!(pairs.table().phase(), Phase::Hungry) {
-        return None;
+    match pairs.first_fork_asked() {
+        Some(v) => Some(Rule::AskFork(v)),
+        None => None,
     }
-    for v in pairs.neighbours() {
-        if may(pairs, agenda, &Rule::AskFork(*v)) {
-            return Some(Rule::AskFork(*v));
-        }
-    }
-    None
 }

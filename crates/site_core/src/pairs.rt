@@ -1,6 +1,6 @@
 //! What an office shares with its neighbours.
 
-ghost use Rattle.std.specs.Prelude.{◌≡◌, ◌<◌, ◌&&◌, ◌↔◌, ℕ, Some, None, true, false, length, option_map, is_some, IsSome, IsErr, IfOk, OnOk, OnErr, All, if◌then◌else◌};
+ghost use Rattle.std.specs.Prelude.{◌≡◌, ◌<◌, ◌&&◌, ◌↔◌, ℕ, Some, None, true, false, length, option_map, is_some, IsSome, IsErr, IfOk, OnOk, OnErr, All, if◌then◌else◌, find};
 ghost use Rattle.std.specs.Option.{ForSome, option_copied};
 ghost use Rattle.std.specs.Result.{result_err};
 ghost use Rattle.office_map.specs.PlanValue.{are_neighbours, is_end, peer, records_of, neighbours_of};
@@ -18,8 +18,8 @@ ghost use Rattle.site_core.specs.refinement.PairsOfCode.{pairs_of, IsOf, HaveRoo
 
 use crate::channels::Channels;
 use bottle_values::Value;
-use dining_core::{NotNow, Table};
-use drinking_core::Bar;
+use dining_core::{MaskedTable, NotNow, Table};
+use drinking_core::{Bar, MaskedBar};
 use frame_codec::{Frame, Msg};
 use office_map::{OfficeId, Plan, RecordId};
 use std::alloc::{AllocError, Global};
@@ -33,8 +33,8 @@ use window_link::{Arrival, LinkFault, MAX_KEPT};
 pub struct Pairs {
     plan: Plan,
     me: OfficeId,
-    table: Table,
-    bar: Bar,
+    table: MaskedTable,
+    bar: MaskedBar,
     channels: Channels,
 }
 
@@ -58,8 +58,8 @@ impl Pairs {
         opens_as_the_plan_starts();
         let _ = plan.offices();
         let plan = plan.copy(alloc)?;
-        let table = Table::open(alloc, &plan, me)?;
-        let bar = Bar::open(alloc, &plan, me)?;
+        let table = MaskedTable::open(alloc, &plan, me)?;
+        let bar = MaskedBar::open(alloc, &plan, me)?;
         let channels = Channels::open(alloc, &plan, me)?;
         Ok(Pairs {
             plan,
@@ -90,28 +90,62 @@ impl Pairs {
     pub fn table(&self) -> &Table
         ensures { result.now ≡ self.now.table }
     {
-        &self.table
+        self.table.table()
     }
 
     /// The bottles.
     pub fn bar(&self) -> &Bar
         ensures { result.now ≡ self.now.bar }
     {
-        &self.bar
+        self.bar.bar()
     }
 
     /// The records that the office shares with its neighbours, the least number first.
     pub fn records(&self) -> &[RecordId]
         ensures { result.now ≡ records_of self.now.plan self.now.me }
     {
-        self.bar.records()
+        self.bar.bar().records()
+    }
+
+    /// The least of its records whose bottle may be given now.
+    pub fn first_given(&self) -> Option<RecordId>
+        ensures { result ≡ find (λ r. bottles.may (pairs_of self.now).drinker (bottles.GiveBottle r (pairs_of self.now).diner.held)) (records_of self.now.plan self.now.me) }
+    {
+        self.bar.first_given(self.table.table())
+    }
+
+    /// The least of its records whose bottle may be asked for now.
+    pub fn first_asked(&self) -> Option<RecordId>
+        ensures { result ≡ find (λ r. bottles.may (pairs_of self.now).drinker (bottles.AskBottle r)) (records_of self.now.plan self.now.me) }
+    {
+        self.bar.first_asked()
+    }
+
+    /// The least neighbour to whom a fork may be given now.
+    pub fn first_fork_given(&self) -> Option<OfficeId>
+        ensures { result ≡ find (λ v. forks.may (pairs_of self.now).diner (forks.GiveFork v)) (neighbours_of self.now.plan self.now.me) }
+    {
+        match self.table.first_given() {
+            Some(v) => Some(office(v)),
+            None => None,
+        }
+    }
+
+    /// The least neighbour who may be asked for a fork now.
+    pub fn first_fork_asked(&self) -> Option<OfficeId>
+        ensures { result ≡ find (λ v. forks.may (pairs_of self.now).diner (forks.AskFork v)) (neighbours_of self.now.plan self.now.me) }
+    {
+        match self.table.first_asked() {
+            Some(v) => Some(office(v)),
+            None => None,
+        }
     }
 
     /// The offices with which this one shares a fork, the least number first.
     pub fn neighbours(&self) -> &[OfficeId]
         ensures { result.now ≡ neighbours_of self.now.plan self.now.me }
     {
-        self.table.neighbours()
+        self.table.table().neighbours()
     }
 
     /// The request token of a neighbour's fork is sent.
@@ -174,11 +208,11 @@ impl Pairs {
         if !self.plan.has_end(r, self.me) {
             return Err(NotNow);
         }
-        let Some(value) = self.bar.value(r) else {
+        let Some(value) = self.bar.bar().value(r) else {
             return Err(NotNow);
         };
         let v = self.plan.other_end(r, self.me);
-        self.bar.give_bottle(r, &self.table)?;
+        self.bar.give_bottle(r, self.table.table())?;
         self.channels.send(v, Msg::Bottle(r.number(), value));
         Ok(())
     }
@@ -190,7 +224,7 @@ impl Pairs {
         ensures done { OnOk result (pairs_of self.new ≡ after_fork_rule (pairs_of self.old) (forks.BecomeHungry (is_thirsty (pairs_of self.old)))) }
         ensures unchanged { OnErr result (self.new ≡ self.old) }
     {
-        let thirsty = self.bar.phase().is_thirsty();
+        let thirsty = self.bar.bar().phase().is_thirsty();
         self.table.hungry(thirsty)?;
         Ok(())
     }
@@ -213,7 +247,7 @@ impl Pairs {
         ensures done { OnOk result (pairs_of self.new ≡ after_fork_rule (pairs_of self.old) (forks.Leave (is_thirsty (pairs_of self.old)))) }
         ensures unchanged { OnErr result (self.new ≡ self.old) }
     {
-        let thirsty = self.bar.phase().is_thirsty();
+        let thirsty = self.bar.bar().phase().is_thirsty();
         self.table.leave(thirsty)?;
         Ok(())
     }
@@ -362,9 +396,18 @@ impl Pairs {
         what_comes_was_away();
         let v = OfficeId::new(frame.from());
         let arrival = self.channels.accept(v, frame);
+        // A copy, since the borrow checker takes an arrival that was passed for lent.
+        let told = arrival;
         take_in(&mut self.table, &mut self.bar, v, arrival);
-        arrival
+        told
     }
+}
+
+fn office(v: u32) -> OfficeId
+    requires { v < 16 }
+    ensures { result ≡ v }
+{
+    OfficeId::new(v as u8)
 }
 
 fn as_arrival(followed: Option<Msg>) -> Arrival
@@ -377,7 +420,7 @@ fn as_arrival(followed: Option<Msg>) -> Arrival
 }
 
 /// What arrived from a neighbour is held.
-fn take_in(table: &mut Table, bar: &mut Bar, v: OfficeId, arrival: Arrival)
+fn take_in(table: &mut MaskedTable, bar: &mut MaskedBar, v: OfficeId, arrival: Arrival)
     requires { MayArrive (diner_of table.old) (drinker_of bar.old) v arrival }
     ensures forks { diner_of table.new ≡ diner_after (diner_of table.old) v arrival }
     ensures bottles { drinker_of bar.new ≡ drinker_after (drinker_of bar.old) arrival }

@@ -451,14 +451,14 @@ fn describe_one(text: &mut String, outcome: &Outcome) -> Result<(), AllocError> 
 
 fn tell_values(text: &mut String, values: &RecordValues) -> Result<(), AllocError> {
     for (r, value) in values.as_slice() {
-        write!(text, " {}={}", r.number(), value.number)?;
+        write!(text, " {}={}", r.number(), value)?;
     }
     Ok(())
 }
 
 fn tell_gives(text: &mut String, gives: &[Value]) -> Result<(), AllocError> {
     for value in gives {
-        write!(text, " {}", value.number)?;
+        write!(text, " {}", value)?;
     }
     Ok(())
 }
@@ -706,7 +706,9 @@ fn tell_of_records<R: Abort>(rt: &R, office: &Office) {
 }
 
 fn held(office: &Office, r: u16) -> Option<i64> {
-    office.held_value(RecordId::new(r)).map(|v| v.number)
+    office
+        .held_value(RecordId::new(r))
+        .map(|value| value.number())
 }
 
 fn tell_of_journal<R: Abort>(rt: &R, office: &Office) {
@@ -734,7 +736,7 @@ fn give_a_bottle<R: Abort>(rt: &R, office: &mut Office) {
 /// The number of the message that brings the bottle, and its value.
 fn leaves(office: &Office, r: u16) -> Option<(u64, i64)> {
     let (number, value) = office.waiting_value(RecordId::new(r))?;
-    Some((number, value.number))
+    Some((number, value.number()))
 }
 
 /// A fork is kept though the office has it; by its turn it would be a breach, and is thrown out.

@@ -1,6 +1,7 @@
 ghost use Rattle.std.specs.Prelude.{◌≡◌, false, IfOk, IfSome};
 ghost use Rattle.own_lock.specs.Passes.{IsOf, AreIdle};
 
+use bottle_values::Value;
 use frame_codec::decode;
 use locked_office::Desk;
 use office_map::{OfficeId, Plan};
@@ -118,7 +119,12 @@ fn submit<R: Wait>(rt: &R, side: &mut Side, program: &Program) -> Option<u32> {
 /// The first record's value when that session of the office had finished.
 fn value_after<R: Wait>(rt: &R, side: &mut Side, ticket: u32) -> Option<i64> {
     match side.desk.outcome(rt, &mut side.pass, ticket) {
-        Ok(Some(outcome)) => outcome.ending.writes.as_slice().first().map(|w| w.1.number),
+        Ok(Some(outcome)) => outcome
+            .ending
+            .writes
+            .as_slice()
+            .first()
+            .map(|w| w.1.number()),
         _ => None,
     }
 }

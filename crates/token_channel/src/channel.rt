@@ -110,7 +110,9 @@ impl Channel {
         ensures held { OnOk result ((t : Thing) → holds self.new.places t ≡ hold (holds self.old.places) (thing_of msg) false t) }
         ensures unchanged { OnErr result (self.new ≡ self.old) }
     {
-        self.link.queue(msg)?;
+        // A copy, since the borrow checker takes a message that was passed for lent.
+        let queued = msg;
+        self.link.queue(queued)?;
         places::change(&mut self.places, Thing::of(msg), false);
         Ok(())
     }
@@ -173,14 +175,17 @@ impl Channel {
         ensures channel { self.new ≡ after_kept self.old }
     {
         let msg = self.link.kept()?;
+        // Copies, since the borrow checker takes a message that was passed for lent.
+        let taken = msg;
+        let brought = msg;
         if self.is_breach(self.acked(), msg) {
             self.link.drop_kept();
             return None;
         }
-        let thing = Thing::of(msg);
+        let thing = Thing::of(taken);
         places::change(&mut self.places, thing, true);
         self.link.accept_kept();
-        Some(msg)
+        Some(brought)
     }
 
     /// Whether a frame that comes can be taken in.

@@ -59,7 +59,7 @@ fn goes(rt: &impl Abort, from: &mut Channel, to: &mut Channel, msg: Msg) {
 #[test]
 fn a_bottle_goes_to_and_fro(rt: HostRuntime) -> Result<(), Fail> {
     let (mut here, mut there) = ends(&rt, rt.alloc(), ONE_RECORD)?;
-    let bottle = Msg::Bottle(0, Value { number: 100 });
+    let bottle = Msg::Bottle(0, Value::from(100));
     for _ in 0..10 {
         goes(&rt, &mut there, &mut here, Msg::AskBottle(0));
         goes(&rt, &mut here, &mut there, bottle);
@@ -111,7 +111,7 @@ fn what_was_kept_is_thrown_out(rt: HostRuntime) -> Result<(), Fail> {
 #[test]
 fn what_was_kept_follows(rt: HostRuntime) -> Result<(), Fail> {
     let (mut a, _) = ends(&rt, rt.alloc(), TWO_RECORDS)?;
-    let bottle = Msg::Bottle(1, Value { number: 7 });
+    let bottle = Msg::Bottle(1, Value::from(7));
     for (number, msg) in [(3, Msg::AskBottle(0)), (2, bottle)] {
         comes(
             &rt,
@@ -186,8 +186,8 @@ static MESSAGES: [Msg; 6] = [
     Msg::Fork,
     Msg::AskBottle(0),
     Msg::AskBottle(1),
-    Msg::Bottle(0, Value { number: 7 }),
-    Msg::Bottle(1, Value { number: -7 }),
+    Msg::Bottle(0, Value::from(7)),
+    Msg::Bottle(1, Value::from(-7)),
 ];
 
 // Numbers that are drawn from a seed.

@@ -392,14 +392,14 @@ fn describe_ending(text: &mut String, outcome: &Outcome) -> Result<(), AllocErro
     describe_values(text, &outcome.ending.writes)?;
     text.push_str(" gives")?;
     for value in outcome.ending.gives.as_slice() {
-        write!(text, " {}", value.number)?;
+        write!(text, " {}", value)?;
     }
     text.push_str("; ")
 }
 
 fn describe_values(text: &mut String, values: &RecordValues) -> Result<(), AllocError> {
     for (r, value) in values.as_slice() {
-        write!(text, " {}={}", r.number(), value.number)?;
+        write!(text, " {}={}", r.number(), value)?;
     }
     Ok(())
 }

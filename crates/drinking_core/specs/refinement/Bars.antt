@@ -1,7 +1,7 @@
 -- The places that the code keeps, and the office that they mean.
 use Rattle.std.specs.Prelude.{◌≡◌, ℕ, ◌+◌, ◌<◌, Bool, true, false, not, ◌&&◌, List, [], ◌∷◌, length, get_or, Option, None, is_some, option_map, slice_get}
 use Rattle.std.proofs.Math.ListN.{set}
-use Rattle.bottle_values.specs.declared.Value.{Value}
+use Rattle.bottle_values.specs.Values.{Value}
 use Rattle.office_map.specs.PlanValue.{PlanValue, peer}
 use Rattle.drinking_core.specs.declared.phase.Phase.{Phase}
 use Rattle.drinking_core.specs.declared.shared_bottle.SharedBottle.{SharedBottle}

@@ -163,7 +163,7 @@ fn changed(rt: &impl Abort, msg: Option<Msg>, want: Want) -> Result<Frame, Frame
         Want::Number(field) => number = field,
         Want::Count(field) => count = field,
         Want::Message(field) => msg = Some(field),
-        Want::Value(number) => msg = Some(Msg::Bottle(RECORD, Value { number })),
+        Want::Value(number) => msg = Some(Msg::Bottle(RECORD, Value::from(number))),
     }
     assert!(rt; 0 < number && number <= MAX_NUMBER);
     assert!(rt; count <= MAX_NUMBER);

@@ -1,5 +1,6 @@
 -- What the functions that read a plan answer, in the words of reading.
 use Rattle.std.specs.Prelude.{◌≡◌, ℕ, length, Result, Err, ◌≢◌, ◌<◌, true}
+use Rattle.bottle_values.specs.Values.{Number}
 use Rattle.office_map.specs.declared.fault.PlanRefusal.{PlanRefusal}
 use Rattle.office_map.specs.declared.fault.PlanFault.{PlanFault}
 use Rattle.office_map.specs.declared.fault.PlanFault.TheVariants.{Memory, Refused, Ring}
@@ -12,7 +13,7 @@ use Rattle.office_map.specs.PlanText.{Declaration, AnOffice, APair, ARecord}
 abbrev pub seen : code.Declaration → Declaration
 seen (variants.Office o) = AnOffice o.name.now o.address.now
 seen (variants.Pair p) = APair p.a.now p.b.now p.fork_at_first
-seen (variants.Record r) = ARecord r.name.now r.a.now r.b.now r.value r.starts_at_first
+seen (variants.Record r) = ARecord r.name.now r.a.now r.b.now (Number r.value) r.starts_at_first
 
 -- what an error says of what reading gives; a ring is told by no line
 abbrev pub Fails : {A : Type 0} → PlanFault → Result A PlanRefusal → Type 0

@@ -6,7 +6,7 @@ use Rattle.std.proofs.lemmas.Bool.{and_parts}
 use Rattle.std.proofs.lemmas.Bool.Decides.{nat_tests}
 use Rattle.std.specs.Fmt as fmt
 use Rattle.text_lines.specs.Text.{is_blank, is_name, is_name_byte}
-use Rattle.bottle_values.specs.declared.Value.{Value}
+use Rattle.bottle_values.specs.Values.{Value, Number}
 use Rattle.session_meaning.specs.declared.node.Operator.TheVariants as op
 use Rattle.session_language.specs.declared.rank.Rank.{Rank}
 use Rattle.session_language.specs.declared.rank.Rank.TheVariants.{Factor, Product, Sum}
@@ -17,11 +17,11 @@ use Rattle.session_language.specs.Spelling.{Operand, ANumber, AVariable, ARecord
 use Rattle.session_language.specs.Lexer.{Piece, AWord, ASymbol, word_len, begins_equals, two_bytes, long_symbol, symbol_at, piece_at, pieces_of}
 use Rattle.session_language.specs.Phrase.{Run, run, stop_at, with_token, with_operand, with_record, operand_in, is_read, phrase_of, phrase_in, phrase_at}
 use Rattle.session_language.specs.Parse.{read_part}
-use Rattle.session_language.specs.Text.{Words, magnitude, literal, variable_name, read_text, in_parentheses, factor_text, product_text, rank_of, term_text}
+use Rattle.session_language.specs.Text.{Words, literal, variable_name, read_text, in_parentheses, factor_text, product_text, rank_of, term_text}
 use Rattle.session_language.specs.WellFormed.{IsLiteral, IsOver, depth}
 use Rattle.session_language.proofs.Pieces.{pieces_of-blank, pieces_of-piece}
 use Rattle.session_language.proofs.canonical.Lexemes.{IsWord, number_is_word, number_operand, name_bytes, name_operand, name_again}
-use Rattle.session_language.proofs.canonical.Tokens.{enclose, factor_tokens, product_tokens, tokens, spelled, phrase, is_spelled}
+use Rattle.session_language.proofs.canonical.Tokens.{enclose, factor_tokens, product_tokens, tokens, said, spelled, phrase, is_spelled}
 use Rattle.session_language.proofs.expressions.ParserComplete.{expression_read}
 use Rattle.session_language.proofs.session_reading.ProgramsFit.{term_within}
 
@@ -166,12 +166,9 @@ joined_spelled b s t ls bs us vs lexed taken left right sign rest f =
     ∙ ap (prepend us) (taken (pieces_of (bs ++ rest)) ∙ ap (with_token t) (right rest f) ∙ sym (prepend-append (t ∷ []) vs (reading rest)))
     ∙ sym (prepend-append us (t ∷ vs) (reading rest))
 
-literal_spelled : (v : Value) → IsLiteral v.number → Spells (literal v) (Leaf (ANumber (magnitude v.number)) ∷ [])
-literal_spelled v h = by_sign v.number h
-  where
-    by_sign : (z : ℤ) → IsLiteral z → Spells (fmt.decimal (magnitude z)) (Leaf (ANumber (magnitude z)) ∷ [])
-    by_sign (pos n) h = number_spelled n h
-    by_sign (negsuc n) h = absurd h
+literal_spelled : (v : Value) → IsLiteral v → Spells (literal v) (Leaf (said v) ∷ [])
+literal_spelled (Number (pos n)) h = number_spelled n h
+literal_spelled (Number (negsuc n)) h = absurd h
 
 -- where the words are names, the text of an expression spells its tokens
 module _ (w : Words) (known : ℕ) (ok : ℕ → Bool) (variables : (k : ℕ) → k < known → is_name (variable_name w k) ≡ true) (records : (r : ℕ) → ok r ≡ true → is_name (w.record_name r) ≡ true) where

@@ -16,16 +16,17 @@ use Rattle.office_map.specs.declared.entries.RecordEntry.{RecordEntry}
 use Rattle.office_map.specs.PlanValue.{PlanValue, office_named, record_named, record_name_of, is_end, has_end}
 use Rattle.office_map.specs.Consistency.{IsConsistent}
 use Rattle.text_lines.specs.Text.{is_name}
+use Rattle.bottle_values.specs.Values.{Value, Number}
 use Rattle.session_meaning.specs.declared.node.Operator.TheVariants as op
 use Rattle.session_language.specs.declared.rank.Rank.{Rank}
 use Rattle.session_language.specs.declared.rank.Rank.TheVariants.{Factor, Product, Sum}
 use Rattle.session_meaning.specs.Tree.{Term, Constant, Var, ReadOf, Neg, Bin}
 use Rattle.session_language.specs.Spelling.{ANumber, AVariable, ARecord, Token, Leaf, Plus, Minus, Times, Open, Close}
-use Rattle.session_language.specs.Names.{Scope, variable_named, if_of_office, record_of, placed, token_variable, token_record, knows_variables, knows_records}
-use Rattle.session_language.specs.Text.{Words, magnitude, variable_name, rank_of}
+use Rattle.session_language.specs.Names.{Scope, variable_named, if_of_office, record_of, operand_of, placed, token_variable, token_record, knows_variables, knows_records}
+use Rattle.session_language.specs.Text.{Words, variable_name, rank_of}
 use Rattle.session_language.specs.WellFormed.{IsLiteral, IsOver}
 use Rattle.session_language.specs.Reading.{with_variable, place_of}
-use Rattle.session_language.proofs.canonical.Tokens.{enclose, factor_tokens, product_tokens, tokens, spelled}
+use Rattle.session_language.proofs.canonical.Tokens.{enclose, factor_tokens, product_tokens, tokens, said, spelled}
 use Rattle.session_language.proofs.session_reading.ProgramsFit.{term_within}
 use Rattle.session_language.proofs.Places.{place_there, place_new}
 
@@ -163,15 +164,12 @@ module _ (p : PlanValue) (ok : IsConsistent p) where
 
 -- each name of an expression is in its place again
 module _ (s : Scope) (w : Words) (known : ℕ) (ok : ℕ → Bool) (variables : (k : ℕ) → k < known → variable_named s (variable_name w k) ≡ Some k) (records : (r : ℕ) → ok r ≡ true → record_of s (w.record_name r) ≡ Some r) where
-  literal_again : (z : ℤ) → IsLiteral z → pos (magnitude z) ≡ z
-  literal_again (pos n) h = refl
-  literal_again (negsuc n) h = absurd h
-
-  abbrev of_number : ℤ → Term
-  of_number z = Constant (record { number = z })
+  literal_again : (v : Value) → IsLiteral v → operand_of s (said v) ≡ Constant v
+  literal_again (Number (pos n)) h = refl
+  literal_again (Number (negsuc n)) h = absurd h
 
   pub placed_again : (e : Term) → IsOver known e → term_within ok e ≡ true → placed s (spelled w e) ≡ e
-  placed_again (Constant v) h g = ap of_number (literal_again v.number h)
+  placed_again (Constant v) h g = literal_again v h
   placed_again (Var k) h g = ap (λ o. Var (unwrap_or o 0)) (variables k h)
   placed_again (ReadOf r) h g = ap (λ o. ReadOf (unwrap_or o 0)) (records r g)
   placed_again (Neg e) h g = ap Neg (placed_again e h g)
@@ -187,7 +185,7 @@ record IsOfSigns (p : Token → Bool) : Type 0 where
   at_open : p Open ≡ true
   at_close : p Close ≡ true
 
-module _ (p : Token → Bool) (signs : IsOfSigns p) (w : Words) (known : ℕ) (ok : ℕ → Bool) (numbers : (n : ℕ) → p (Leaf (ANumber n)) ≡ true) (variables : (k : ℕ) → k < known → p (Leaf (AVariable (variable_name w k))) ≡ true) (records : (r : ℕ) → ok r ≡ true → p (Leaf (ARecord (w.record_name r))) ≡ true) where
+module _ (p : Token → Bool) (signs : IsOfSigns p) (w : Words) (known : ℕ) (ok : ℕ → Bool) (literals : (v : Value) → p (Leaf (said v)) ≡ true) (variables : (k : ℕ) → k < known → p (Leaf (AVariable (variable_name w k))) ≡ true) (records : (r : ℕ) → ok r ≡ true → p (Leaf (ARecord (w.record_name r))) ≡ true) where
   first : (t : Token) (ts : List Token) → p t ≡ true → list_all p ts ≡ true → list_all p (t ∷ ts) ≡ true
   first t ts h g = ap (λ b. b && list_all p ts) h ∙ g
 
@@ -208,7 +206,7 @@ module _ (p : Token → Bool) (signs : IsOfSigns p) (w : Words) (known : ℕ) (o
   product Sum ts h = enclosed ts h
 
   all_tokens : (e : Term) → IsOver known e → term_within ok e ≡ true → list_all p (tokens w e) ≡ true
-  all_tokens (Constant v) h g = first _ [] (numbers (magnitude v.number)) refl
+  all_tokens (Constant v) h g = first _ [] (literals v) refl
   all_tokens (Var k) h g = first _ [] (variables k h) refl
   all_tokens (ReadOf r) h g = first _ [] (records r g) refl
   all_tokens (Neg e) h g = first Minus _ signs.at_minus (factor (rank_of e) _ (all_tokens e h g))
@@ -223,8 +221,14 @@ module _ (p : Token → Bool) (signs : IsOfSigns p) (w : Words) (known : ℕ) (o
       both _ _ (all_tokens a h.0 parts.0) (first Minus _ signs.at_minus (product (rank_of b) _ (all_tokens b h.1 parts.1)))
 
 module _ (s : Scope) (w : Words) (known : ℕ) (ok : ℕ → Bool) (variables : (k : ℕ) → k < known → variable_named s (variable_name w k) ≡ Some k) (records : (r : ℕ) → ok r ≡ true → record_of s (w.record_name r) ≡ Some r) where
+  literal_knows_variable : (v : Value) → token_variable s (Leaf (said v)) ≡ true
+  literal_knows_variable (Number z) = refl
+
+  literal_knows_record : (v : Value) → token_record s (Leaf (said v)) ≡ true
+  literal_knows_record (Number z) = refl
+
   pub variables_known : (e : Term) → IsOver known e → term_within ok e ≡ true → knows_variables s (tokens w e) ≡ true
-  variables_known = all_tokens (token_variable s) (record { at_plus = refl; at_minus = refl; at_times = refl; at_open = refl; at_close = refl }) w known ok (λ n. refl) (λ k lt. ap is_some (variables k lt)) (λ r h. refl)
+  variables_known = all_tokens (token_variable s) (record { at_plus = refl; at_minus = refl; at_times = refl; at_open = refl; at_close = refl }) w known ok literal_knows_variable (λ k lt. ap is_some (variables k lt)) (λ r h. refl)
 
   pub records_known : (e : Term) → IsOver known e → term_within ok e ≡ true → knows_records s (tokens w e) ≡ true
-  records_known = all_tokens (token_record s) (record { at_plus = refl; at_minus = refl; at_times = refl; at_open = refl; at_close = refl }) w known ok (λ n. refl) (λ k lt. refl) (λ r h. ap is_some (records r h))
+  records_known = all_tokens (token_record s) (record { at_plus = refl; at_minus = refl; at_times = refl; at_open = refl; at_close = refl }) w known ok literal_knows_record (λ k lt. refl) (λ r h. ap is_some (records r h))

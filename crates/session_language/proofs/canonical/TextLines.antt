@@ -14,7 +14,8 @@ use Rattle.session_meaning.specs.declared.node.Comparison.TheVariants.{Equal, No
 use Rattle.session_language.specs.declared.rank.Rank.{Rank}
 use Rattle.session_language.specs.declared.rank.Rank.TheVariants.{Factor, Product, Sum}
 use Rattle.session_meaning.specs.Tree.{Term, Constant, Var, ReadOf, Neg, Bin, Test, Command, LetVar, SetTo, GiveOf, Requires, When, Choice, Loop}
-use Rattle.session_language.specs.Text.{Words, magnitude, variable_name, in_parentheses, factor_text, product_text, rank_of, operator_text, comparison_text, term_text, test_text}
+use Rattle.bottle_values.specs.Values.{Value, Number}
+use Rattle.session_language.specs.Text.{Words, literal, variable_name, in_parentheses, factor_text, product_text, rank_of, operator_text, comparison_text, term_text, test_text}
 use Rattle.session_language.specs.WellFormed.{IsLiteral, IsOver, IsTestOver}
 use Rattle.session_language.proofs.canonical.Lexemes.{number_is_word, name_bytes, word_is_plain}
 use Rattle.session_language.proofs.session_reading.ProgramsFit.{term_within}
@@ -82,9 +83,9 @@ number_plain n h = plainly (fmt.decimal n) (word_is_plain (fmt.decimal n) (numbe
 pub name_plain : (w : List ℕ) → is_name w ≡ true → IsPlain w
 name_plain w h = plainly w (word_is_plain w (name_bytes w h).word)
 
-literal_plain : (z : ℤ) → IsLiteral z → IsPlain (fmt.decimal (magnitude z))
-literal_plain (pos n) h = number_plain n h
-literal_plain (negsuc n) h = absurd h
+literal_plain : (v : Value) → IsLiteral v → IsPlain (literal v)
+literal_plain (Number (pos n)) h = number_plain n h
+literal_plain (Number (negsuc n)) h = absurd h
 
 comparison_plain : (c : Comparison) → IsPlain (comparison_text c)
 comparison_plain Equal = plainly (comparison_text Equal) refl
@@ -106,7 +107,7 @@ command_within ok (Loop n b) = Unit {0}
 
 module _ (w : Words) (known : ℕ) (ok : ℕ → Bool) (variables : (k : ℕ) → k < known → is_name (variable_name w k) ≡ true) (records : (r : ℕ) → ok r ≡ true → is_name (w.record_name r) ≡ true) where
   pub term_plain : (e : Term) → IsOver known e → term_within ok e ≡ true → IsPlain (term_text w e)
-  term_plain (Constant v) h g = literal_plain v.number h
+  term_plain (Constant v) h g = literal_plain v h
   term_plain (Var k) h g = name_plain (variable_name w k) (variables k h)
   term_plain (ReadOf r) h g = both_plain (codes "read ") (w.record_name r) (plainly (codes "read ") refl) (name_plain (w.record_name r) (records r g))
   term_plain (Neg e) h g = both_plain (45 ∷ []) _ (plainly (45 ∷ []) refl) (factor_plain (rank_of e) (term_text w e) (term_plain e h g))

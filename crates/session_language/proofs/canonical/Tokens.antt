@@ -1,5 +1,6 @@
 -- The canonical tokens of an expression: they spell it, and no tokens that spell it are less deep.
 use Rattle.std.proofs.Common.{◌≤◌, ℕ, suc, List, [], ◌∷◌, ◌++◌, arith}
+use Rattle.bottle_values.specs.Values.{Value, Number}
 use Rattle.session_meaning.specs.declared.node.Operator.TheVariants as op
 use Rattle.session_language.specs.declared.rank.Rank.{Rank}
 use Rattle.session_language.specs.declared.rank.Rank.TheVariants.{Factor, Product, Sum}
@@ -24,15 +25,19 @@ product_tokens Factor ts = ts
 product_tokens Product ts = ts
 product_tokens Sum ts = enclose ts
 
+-- a literal as a token
+abbrev pub said : Value → Operand
+said (Number z) = ANumber (magnitude z)
+
 abbrev pub spelled : Words → Term → Spelled
-spelled w (Constant v) = Plain (ANumber (magnitude v.number))
+spelled w (Constant v) = Plain (said v)
 spelled w (Var k) = Plain (AVariable (variable_name w k))
 spelled w (ReadOf r) = Plain (ARecord (w.record_name r))
 spelled w (Neg e) = Negative (spelled w e)
 spelled w (Bin o a b) = Binary o (spelled w a) (spelled w b)
 
 abbrev pub tokens : Words → Term → List Token
-tokens w (Constant v) = Leaf (ANumber (magnitude v.number)) ∷ []
+tokens w (Constant v) = Leaf (said v) ∷ []
 tokens w (Var k) = Leaf (AVariable (variable_name w k)) ∷ []
 tokens w (ReadOf r) = Leaf (ARecord (w.record_name r)) ∷ []
 tokens w (Neg e) = Minus ∷ factor_tokens (rank_of e) (tokens w e)
@@ -67,7 +72,7 @@ module _ (w : Words) where
   expr Sum e h = h
 
   own : (e : Term) → AtRank (rank_of e) e
-  own (Constant v) = operand (ANumber (magnitude v.number))
+  own (Constant v) = operand (said v)
   own (Var k) = operand (AVariable (variable_name w k))
   own (ReadOf r) = operand (ARecord (w.record_name r))
   own (Neg e) = negative _ _ _ (factor (rank_of e) e (own e))

@@ -3,7 +3,7 @@ use Rattle.std.proofs.Common.{◌≡◌, ◌≤◌, ◌<◌, ◌*◌, ℕ, ℤ, 
 use Rattle.std.specs.Fmt.{decimal}
 use Rattle.std.proofs.lemmas.Fmt.{length-decimal-le}
 use Rattle.std.proofs.lemmas.Bool.Decides.{nat_tests}
-use Rattle.bottle_values.specs.declared.Value.{Value}
+use Rattle.bottle_values.specs.Values.{Value, Number}
 use Rattle.text_lines.specs.Text.{is_name}
 use Rattle.session_meaning.specs.declared.node.Operator.{Operator}
 use Rattle.session_meaning.specs.declared.node.Operator.TheVariants as op
@@ -16,7 +16,7 @@ use Rattle.session_meaning.specs.ProgramValue.{ProgramValue}
 use Rattle.session_language.specs.Reading.{is_too_long}
 use Rattle.session_meaning.specs.Measures.{nodes, test_nodes, block_cost, block_statements}
 use Rattle.session_meaning.specs.refinement.Extent.{extent, block_extent}
-use Rattle.session_language.specs.WellFormed.{IsLiteral, IsOver, IsTestOver, IsStatementOver, known_after, known_after_block, AreStatements}
+use Rattle.session_language.specs.WellFormed.{IsUnsigned, IsLiteral, IsOver, IsTestOver, IsStatementOver, known_after, known_after_block, AreStatements}
 use Rattle.session_language.specs.Text.{Words, magnitude, literal, variable_name, wide_words, rank_of, term_text, comparison_text, test_text, let_text, set_text, require_text, line, command_text, block_text, session_text}
 use Rattle.session_language.specs.refinement.TextSizes.{around_factor, around_product, around_both}
 use Rattle.session_language.proofs.canonical.Lexemes.{name_bytes}
@@ -45,12 +45,12 @@ short_sign AtMost = omega arith
 short_sign Greater = omega arith
 short_sign AtLeast = omega arith
 
-short_number : (z : ℤ) → IsLiteral z → length (decimal (magnitude z)) ≤ 19
+short_number : (z : ℤ) → IsUnsigned z → length (decimal (magnitude z)) ≤ 19
 short_number (pos n) h = length-decimal-le 19 n (omega arith) (omega arith) (omega arith)
 short_number (negsuc n) h = absurd h
 
-short_literal : (v : Value) → IsLiteral v.number → length (literal v) ≤ 19
-short_literal v h = short_number v.number h
+short_literal : (v : Value) → IsLiteral v → length (literal v) ≤ 19
+short_literal (Number z) h = short_number z h
 
 past_names : (vs : List (List ℕ)) (k : ℕ) → length vs ≤ k → length (slice_index_or vs k []) ≤ 16
 past_names [] k h = omega arith

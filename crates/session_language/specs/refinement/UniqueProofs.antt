@@ -2,18 +2,22 @@
 use Rattle.std.specs.Prelude.{ℕ, suc, ℤ, pos, negsuc, List, [], ◌∷◌, length}
 use Rattle.std.specs.Coded.{×_prop, Unit-prop, le_prop}
 use Rattle.std.proofs.Props.{props}
+use Rattle.bottle_values.specs.Values.{Value, Number}
 use Rattle.session_meaning.specs.Tree.{Term, Constant, Var, ReadOf, Neg, Bin, Test, Command, LetVar, SetTo, GiveOf, Requires, When, Choice, Loop, Block, Nothing, Then}
-use Rattle.session_language.specs.WellFormed.{IsLiteral, IsOver, IsExpressionOver, IsTestOver, IsStatementOver, known_after, known_after_block, AreStatements}
+use Rattle.session_language.specs.WellFormed.{IsUnsigned, IsLiteral, IsOver, IsExpressionOver, IsTestOver, IsStatementOver, known_after, known_after_block, AreStatements}
 use Rattle.session_meaning.specs.refinement.TreeOfStatements.{block_from}
 use Rattle.session_language.specs.Reading.{Head, IfHead, ElseHead, RepeatHead, OpenBlock, Draft}
 use Rattle.session_language.specs.refinement.KeptDraft.{known_in, IsHeadOver, AreOpen, IsKept}
 
-literal-prop : (z : ℤ) → IsProp (IsLiteral z)
-literal-prop (pos n) = Prim.hlevel props
-literal-prop (negsuc n) = Prim.hlevel props
+unsigned-prop : (z : ℤ) → IsProp (IsUnsigned z)
+unsigned-prop (pos n) = Prim.hlevel props
+unsigned-prop (negsuc n) = Prim.hlevel props
+
+literal-prop : (v : Value) → IsProp (IsLiteral v)
+literal-prop (Number z) = unsigned-prop z
 
 over-prop : (known : ℕ) (e : Term) → IsProp (IsOver known e)
-over-prop known (Constant v) = literal-prop v.number
+over-prop known (Constant v) = literal-prop v
 over-prop known (Var k) = Prim.hlevel props
 over-prop known (ReadOf r) = Unit-prop
 over-prop known (Neg e) = over-prop known e

@@ -109,7 +109,7 @@ fn drawn_reads(
     let mut reads = RecordValues::new(alloc);
     for id in program.needs() {
         let number = draws.number();
-        reads.push(*id, Value { number })?;
+        reads.push(*id, Value::from(number))?;
     }
     Ok(reads)
 }
@@ -185,7 +185,7 @@ fn walk_writes(alloc: Global, end: End, walk: &Walk) -> Result<Vec<(RecordId, Va
         for kept in &walk.kept {
             if kept.is_set {
                 let number = kept.number;
-                writes.push((kept.id, Value { number }))?;
+                writes.push((kept.id, Value::from(number)))?;
             }
         }
     }
@@ -209,7 +209,7 @@ fn walk_gives(alloc: Global, end: End, walk: &Walk) -> Result<Vec<Value>, AllocE
     let mut gives = Vec::new(alloc);
     if end == End::Done {
         for number in &walk.given {
-            gives.push(Value { number: *number })?;
+            gives.push(Value::from(*number))?;
         }
     }
     Ok(gives)

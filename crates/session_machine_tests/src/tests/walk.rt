@@ -65,9 +65,10 @@ impl Walk {
     pub fn of(alloc: Global, variables: usize, reads: &RecordValues) -> Result<Walk, AllocError> {
         let mut kept = Vec::new(alloc);
         for (id, value) in reads.as_slice() {
+            let number = value.number();
             kept.push(Kept {
                 id: *id,
-                number: value.number,
+                number,
                 is_set: false,
             })?;
         }
@@ -232,7 +233,7 @@ impl Walk {
     /// What a node makes of the numbers before it.
     fn result(&self, node: &Node, numbers: &mut Vec<i64>) -> i128 {
         match *node {
-            Node::Literal(value) => i128::from(value.number),
+            Node::Literal(value) => i128::from(value.number()),
             Node::Variable(place) => {
                 let number = self.variables.get(usize::from(place)).copied();
                 i128::from(number.unwrap_or(0))

@@ -1,20 +1,21 @@
 -- A session does something, and at most one more than its cost.
-use Rattle.std.proofs.Common.{ℕ, zero, suc, ◌+◌, ◌*◌, ◌≤◌, Bool, true, false, Option, Some, None, arith, max}
+use Rattle.std.proofs.Common.{ℕ, zero, suc, ◌+◌, ◌*◌, ◌≤◌, Bool, true, false, Result, Ok, Err, arith, max}
 use Rattle.std.proofs.Math.Nat.{suc-mul}
+use Rattle.bottle_values.specs.declared.ValueFault.{ValueFault}
 use Rattle.session_meaning.specs.Tree.{Term, Constant, Var, ReadOf, Neg, Bin, Test, Command, LetVar, SetTo, GiveOf, Requires, When, Choice, Loop, Block, Nothing, Then}
 use Rattle.session_meaning.specs.Meaning.{Environment, Step, Goes, Ends, value_of, truth_of, command, block, begun}
 use Rattle.session_meaning.specs.Measures.{nodes, test_nodes, cost, block_cost}
-use Rattle.session_meaning.specs.Length.{if_some, if_goes, if_true, term_length, test_length, times_length, command_length, block_length, length_on}
+use Rattle.session_meaning.specs.Length.{if_ok, if_goes, if_true, term_length, test_length, times_length, command_length, block_length, length_on}
 use Rattle.session_meaning.specs.Laws.{EndsWithinItsCost}
 
-some_le : {A : Type 0} (o : Option A) (m n : ℕ) → m ≤ n → if_some o m ≤ n
-some_le None m n le = omega arith
-some_le (Some x) m n le = le
+ok_le : {A : Type 0} (o : Result A ValueFault) (m n : ℕ) → m ≤ n → if_ok o m ≤ n
+ok_le (Err e) m n le = omega arith
+ok_le (Ok x) m n le = le
 
-true_le : (o : Option Bool) (a b n : ℕ) → a ≤ n → b ≤ n → if_true o a b ≤ n
-true_le None a b n la lb = omega arith
-true_le (Some true) a b n la lb = la
-true_le (Some false) a b n la lb = lb
+true_le : (o : Result Bool ValueFault) (a b n : ℕ) → a ≤ n → b ≤ n → if_true o a b ≤ n
+true_le (Err e) a b n la lb = omega arith
+true_le (Ok true) a b n la lb = la
+true_le (Ok false) a b n la lb = lb
 
 goes_le : (x : Step) (f : Environment → ℕ) (n : ℕ) → ((d : Environment) → f d ≤ n) → if_goes x f ≤ n
 goes_le (Goes d) f n h = h d
@@ -24,16 +25,16 @@ term_le : (e : Term) (d : Environment) → term_length e d ≤ nodes e
 term_le (Constant n) d = omega arith
 term_le (Var place) d = omega arith
 term_le (ReadOf r) d = omega arith
-term_le (Neg e) d = let h = term_le e d in let s = some_le (value_of e d) 1 1 (omega arith) in omega (arith, h, s)
+term_le (Neg e) d = let h = term_le e d in let s = ok_le (value_of e d) 1 1 (omega arith) in omega (arith, h, s)
 term_le (Bin op a b) d =
-    let s = some_le (value_of b d) 1 1 (omega arith) in
-    let r = some_le (value_of a d) (term_length b d + if_some (value_of b d) 1) (nodes b + 1) (omega (arith, term_le b d, s)) in
+    let s = ok_le (value_of b d) 1 1 (omega arith) in
+    let r = ok_le (value_of a d) (term_length b d + if_ok (value_of b d) 1) (nodes b + 1) (omega (arith, term_le b d, s)) in
     omega (arith, term_le a d, r)
 
 test_le : (t : Test) (d : Environment) → test_length t d ≤ test_nodes t
 test_le t d =
-    let s = some_le (value_of t.right d) 1 1 (omega arith) in
-    let r = some_le (value_of t.left d) (term_length t.right d + if_some (value_of t.right d) 1) (nodes t.right + 1) (omega (arith, term_le t.right d, s)) in
+    let s = ok_le (value_of t.right d) 1 1 (omega arith) in
+    let r = ok_le (value_of t.left d) (term_length t.right d + if_ok (value_of t.right d) 1) (nodes t.right + 1) (omega (arith, term_le t.right d, s)) in
     omega (arith, term_le t.left d, r)
 
 times_le : (n c : ℕ) (go : Environment → Step) (count : Environment → ℕ) (d : Environment) → ((x : Environment) → count x ≤ c) → times_length n go count d ≤ 1 + n * (1 + c)
@@ -44,10 +45,10 @@ times_le (suc n) c go count d h =
 
 mutual
   command_le : (c : Command) (d : Environment) → command_length c d ≤ cost c
-  command_le (LetVar place e) d = let s = some_le (value_of e d) 1 1 (omega arith) in omega (arith, term_le e d, s)
-  command_le (SetTo r e) d = let s = some_le (value_of e d) 1 1 (omega arith) in omega (arith, term_le e d, s)
-  command_le (GiveOf e) d = let s = some_le (value_of e d) 1 1 (omega arith) in omega (arith, term_le e d, s)
-  command_le (Requires t code) d = let s = some_le (truth_of t d) 1 1 (omega arith) in omega (arith, test_le t d, s)
+  command_le (LetVar place e) d = let s = ok_le (value_of e d) 1 1 (omega arith) in omega (arith, term_le e d, s)
+  command_le (SetTo r e) d = let s = ok_le (value_of e d) 1 1 (omega arith) in omega (arith, term_le e d, s)
+  command_le (GiveOf e) d = let s = ok_le (value_of e d) 1 1 (omega arith) in omega (arith, term_le e d, s)
+  command_le (Requires t code) d = let s = ok_le (truth_of t d) 1 1 (omega arith) in omega (arith, test_le t d, s)
   command_le (When t body) d =
       let r = true_le (truth_of t d) (suc (block_length body d)) 1 (suc (block_cost body)) (omega (arith, block_le body d)) (omega arith) in
       omega (arith, test_le t d, r)

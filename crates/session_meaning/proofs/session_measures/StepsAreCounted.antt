@@ -1,11 +1,12 @@
 -- A session takes as many steps as its length.
-use Rattle.std.proofs.Common.{◌≡◌, ◌+◌, ℕ, zero, suc, List, [], ◌∷◌, Bool, true, false, Option, Some, None, refl, sym, ap, subst, arith}
-use Rattle.bottle_values.specs.declared.Value.{Value}
-use Rattle.session_meaning.specs.declared.ending.End.TheVariants.{Refused, Overflow}
+use Rattle.std.proofs.Common.{◌≡◌, ◌+◌, ℕ, zero, suc, List, [], ◌∷◌, Bool, true, false, Option, Some, None, Result, Ok, Err, refl, sym, ap, subst, arith}
+use Rattle.bottle_values.specs.Values.{Value}
+use Rattle.bottle_values.specs.declared.ValueFault.{ValueFault}
+use Rattle.session_meaning.specs.declared.ending.End.TheVariants.{Refused}
 use Rattle.session_meaning.specs.Tree.{Term, Constant, Var, ReadOf, Neg, Bin, Test, Command, LetVar, SetTo, GiveOf, Requires, When, Choice, Loop, Block, Nothing, Then}
-use Rattle.session_meaning.specs.Meaning.{Environment, Step, Goes, Ends, apply, holds, negated, both, value_of, truth_of, with_value, with_truth, and_then, repeated, command, block, begun}
-use Rattle.session_meaning.specs.Length.{length_on, if_some, if_true, if_goes, term_length, test_length, times_length, command_length, block_length}
-use Rattle.session_meaning.specs.Stepwise.{Item, minus, operator, compare, to_variable, to_record, give, require, choose, repeat, term_items, test_items, command_items, block_items, Stage, Left, Over, in_hand, step, IsLeft, Takes, no_step, step_more, start, LengthCountsSteps}
+use Rattle.session_meaning.specs.Meaning.{Environment, Step, Goes, Ends, ended_by, apply, holds, negated, both, value_of, truth_of, with_value, with_truth, and_then, repeated, command, block, begun}
+use Rattle.session_meaning.specs.Length.{length_on, if_ok, if_true, if_goes, term_length, test_length, times_length, command_length, block_length}
+use Rattle.session_meaning.specs.Stepwise.{Item, minus, operator, compare, to_variable, to_record, give, require, choose, repeat, term_items, test_items, command_items, block_items, Stage, Left, Over, in_hand, told, step, IsLeft, Takes, no_step, step_more, start, LengthCountsSteps}
 
 -- ---- steps after steps
 
@@ -23,11 +24,11 @@ one_step s l = step_more 0 s (step s) l (no_step (step s))
 -- ---- expressions
 
 -- what comes next, where there is a value
-then_in_hand : (o : Option Value) (rest : List Item) (vs : List Value) (t : Option Bool) (d : Environment) (n : ℕ) (next : Option Value → Stage)
-    → next None ≡ Over (Ends Overflow) → ((v : Value) → Takes n (Left rest (v ∷ vs) t d) (next (Some v)))
-    → Takes (if_some o n) (in_hand o rest vs t d) (next o)
-then_in_hand None rest vs t d n next e h = subst (Takes 0 (Over (Ends Overflow))) (sym e) (no_step (Over (Ends Overflow)))
-then_in_hand (Some v) rest vs t d n next e h = h v
+then_in_hand : (o : Result Value ValueFault) (rest : List Item) (vs : List Value) (t : Option Bool) (d : Environment) (n : ℕ) (next : Result Value ValueFault → Stage)
+    → ((e : ValueFault) → next (Err e) ≡ Over (Ends (ended_by e))) → ((v : Value) → Takes n (Left rest (v ∷ vs) t d) (next (Ok v)))
+    → Takes (if_ok o n) (in_hand o rest vs t d) (next o)
+then_in_hand (Err e) rest vs t d n next over h = subst (Takes 0 (Over (Ends (ended_by e)))) (sym (over e)) (no_step (Over (Ends (ended_by e))))
+then_in_hand (Ok v) rest vs t d n next over h = h v
 
 pub term_steps : (e : Term) (rest : List Item) (vs : List Value) (t : Option Bool) (d : Environment)
     → Takes (term_length e d) (Left (term_items e rest) vs t d) (in_hand (value_of e d) rest vs t d)
@@ -35,39 +36,37 @@ term_steps (Constant v) rest vs t d = one_step (Left (term_items (Constant v) re
 term_steps (Var place) rest vs t d = one_step (Left (term_items (Var place) rest) vs t d) tt
 term_steps (ReadOf r) rest vs t d = one_step (Left (term_items (ReadOf r) rest) vs t d) tt
 term_steps (Neg e) rest vs t d =
-    and_more (term_length e d) (if_some (value_of e d) 1) (Left (term_items e (minus ∷ rest)) vs t d) (in_hand (value_of e d) (minus ∷ rest) vs t d)
+    and_more (term_length e d) (if_ok (value_of e d) 1) (Left (term_items e (minus ∷ rest)) vs t d) (in_hand (value_of e d) (minus ∷ rest) vs t d)
     (in_hand (negated (value_of e d)) rest vs t d) (term_steps e (minus ∷ rest) vs t d)
-    (then_in_hand (value_of e d) (minus ∷ rest) vs t d 1 (λ o. in_hand (negated o) rest vs t d) refl (λ v. one_step (Left (minus ∷ rest) (v ∷ vs) t d) tt))
+    (then_in_hand (value_of e d) (minus ∷ rest) vs t d 1 (λ o. in_hand (negated o) rest vs t d) (λ e. refl) (λ v. one_step (Left (minus ∷ rest) (v ∷ vs) t d) tt))
 term_steps (Bin op a b) rest vs t d =
-    and_more (term_length a d) (if_some (value_of a d) (term_length b d + if_some (value_of b d) 1)) (Left (term_items a (term_items b (operator op ∷ rest))) vs t d)
+    and_more (term_length a d) (if_ok (value_of a d) (term_length b d + if_ok (value_of b d) 1)) (Left (term_items a (term_items b (operator op ∷ rest))) vs t d)
     (in_hand (value_of a d) (term_items b (operator op ∷ rest)) vs t d) (in_hand (both (value_of a d) (value_of b d) (apply op)) rest vs t d)
     (term_steps a (term_items b (operator op ∷ rest)) vs t d)
-    (then_in_hand (value_of a d) (term_items b (operator op ∷ rest)) vs t d (term_length b d + if_some (value_of b d) 1) (λ o. in_hand (both o (value_of b d) (apply op)) rest vs t d) refl
-    (λ x. and_more (term_length b d) (if_some (value_of b d) 1) (Left (term_items b (operator op ∷ rest)) (x ∷ vs) t d)
-    (in_hand (value_of b d) (operator op ∷ rest) (x ∷ vs) t d) (in_hand (both (Some x) (value_of b d) (apply op)) rest vs t d)
+    (then_in_hand (value_of a d) (term_items b (operator op ∷ rest)) vs t d (term_length b d + if_ok (value_of b d) 1) (λ o. in_hand (both o (value_of b d) (apply op)) rest vs t d) (λ e. refl)
+    (λ x. and_more (term_length b d) (if_ok (value_of b d) 1) (Left (term_items b (operator op ∷ rest)) (x ∷ vs) t d)
+    (in_hand (value_of b d) (operator op ∷ rest) (x ∷ vs) t d) (in_hand (both (Ok x) (value_of b d) (apply op)) rest vs t d)
     (term_steps b (operator op ∷ rest) (x ∷ vs) t d)
-    (then_in_hand (value_of b d) (operator op ∷ rest) (x ∷ vs) t d 1 (λ o. in_hand (both (Some x) o (apply op)) rest vs t d) refl
+    (then_in_hand (value_of b d) (operator op ∷ rest) (x ∷ vs) t d 1 (λ o. in_hand (both (Ok x) o (apply op)) rest vs t d) (λ e. refl)
     (λ y. one_step (Left (operator op ∷ rest) (y ∷ (x ∷ vs)) t d) tt))))
 
 -- ---- conditions
 
-abbrev truth_in_hand : Option Bool → List Item → Environment → Stage
-truth_in_hand None rest d = Over (Ends Overflow)
-truth_in_hand (Some b) rest d = Left rest [] (Some b) d
+abbrev truth_in_hand : Result Bool ValueFault → List Item → Environment → Stage
+truth_in_hand b rest d = told b rest [] d
 
 test_steps : (t : Test) (rest : List Item) (d : Environment)
     → Takes (test_length t d) (Left (test_items t rest) [] None d) (truth_in_hand (truth_of t d) rest d)
 test_steps t rest d =
     let compared = compare t.comparison ∷ rest in
-    let told : Value → Value → Option Bool = λ a b. Some (holds t.comparison a.number b.number) in
-    and_more (term_length t.left d) (if_some (value_of t.left d) (term_length t.right d + if_some (value_of t.right d) 1)) (Left (test_items t rest) [] None d)
+    and_more (term_length t.left d) (if_ok (value_of t.left d) (term_length t.right d + if_ok (value_of t.right d) 1)) (Left (test_items t rest) [] None d)
     (in_hand (value_of t.left d) (term_items t.right compared) [] None d) (truth_in_hand (truth_of t d) rest d)
     (term_steps t.left (term_items t.right compared) [] None d)
-    (then_in_hand (value_of t.left d) (term_items t.right compared) [] None d (term_length t.right d + if_some (value_of t.right d) 1) (λ o. truth_in_hand (both o (value_of t.right d) told) rest d) refl
-    (λ x. and_more (term_length t.right d) (if_some (value_of t.right d) 1) (Left (term_items t.right compared) (x ∷ []) None d)
-    (in_hand (value_of t.right d) compared (x ∷ []) None d) (truth_in_hand (both (Some x) (value_of t.right d) told) rest d)
+    (then_in_hand (value_of t.left d) (term_items t.right compared) [] None d (term_length t.right d + if_ok (value_of t.right d) 1) (λ o. truth_in_hand (both o (value_of t.right d) (holds t.comparison)) rest d) (λ e. refl)
+    (λ x. and_more (term_length t.right d) (if_ok (value_of t.right d) 1) (Left (term_items t.right compared) (x ∷ []) None d)
+    (in_hand (value_of t.right d) compared (x ∷ []) None d) (truth_in_hand (both (Ok x) (value_of t.right d) (holds t.comparison)) rest d)
     (term_steps t.right compared (x ∷ []) None d)
-    (then_in_hand (value_of t.right d) compared (x ∷ []) None d 1 (λ o. truth_in_hand (both (Some x) o told) rest d) refl
+    (then_in_hand (value_of t.right d) compared (x ∷ []) None d 1 (λ o. truth_in_hand (both (Ok x) o (holds t.comparison)) rest d) (λ e. refl)
     (λ y. one_step (Left compared (y ∷ (x ∷ [])) None d) tt))))
 
 -- ---- statements
@@ -82,24 +81,24 @@ then_goes : (s : Step) (n : Environment → ℕ) (middle rest : List Item) (go :
 then_goes (Goes d) n middle rest go h = h d
 then_goes (Ends e) n middle rest go h = no_step (Over (Ends e))
 
-given : (o : Option Value) (item : Item) (rest : List Item) (d : Environment) (go : Value → Step)
+given : (o : Result Value ValueFault) (item : Item) (rest : List Item) (d : Environment) (go : Value → Step)
     → ((v : Value) → Takes 1 (Left (item ∷ rest) (v ∷ []) None d) (goes_on (go v) rest))
-    → Takes (if_some o 1) (in_hand o (item ∷ rest) [] None d) (goes_on (with_value o go) rest)
-given None item rest d go h = no_step (Over (Ends Overflow))
-given (Some v) item rest d go h = h v
+    → Takes (if_ok o 1) (in_hand o (item ∷ rest) [] None d) (goes_on (with_value o go) rest)
+given (Err e) item rest d go h = no_step (Over (Ends (ended_by e)))
+given (Ok v) item rest d go h = h v
 
-required : (o : Option Bool) (code : ℕ) (rest : List Item) (d : Environment)
-    → Takes (if_some o 1) (truth_in_hand o (require code ∷ rest) d) (goes_on (with_truth o (Goes d) (Ends (Refused code))) rest)
-required None code rest d = no_step (Over (Ends Overflow))
-required (Some true) code rest d = one_step (Left (require code ∷ rest) [] (Some true) d) tt
-required (Some false) code rest d = one_step (Left (require code ∷ rest) [] (Some false) d) tt
+required : (o : Result Bool ValueFault) (code : ℕ) (rest : List Item) (d : Environment)
+    → Takes (if_ok o 1) (truth_in_hand o (require code ∷ rest) d) (goes_on (with_truth o (Goes d) (Ends (Refused code))) rest)
+required (Err e) code rest d = no_step (Over (Ends (ended_by e)))
+required (Ok true) code rest d = one_step (Left (require code ∷ rest) [] (Some true) d) tt
+required (Ok false) code rest d = one_step (Left (require code ∷ rest) [] (Some false) d) tt
 
-chosen : (o : Option Bool) (first second : Block) (rest : List Item) (d : Environment) (m n : ℕ) (a b : Step)
+chosen : (o : Result Bool ValueFault) (first second : Block) (rest : List Item) (d : Environment) (m n : ℕ) (a b : Step)
     → Takes m (Left (block_items first rest) [] None d) (goes_on a rest) → Takes n (Left (block_items second rest) [] None d) (goes_on b rest)
     → Takes (if_true o (suc m) (suc n)) (truth_in_hand o (choose first second ∷ rest) d) (goes_on (with_truth o a b) rest)
-chosen None first second rest d m n a b h k = no_step (Over (Ends Overflow))
-chosen (Some true) first second rest d m n a b h k = step_more m (Left (choose first second ∷ rest) [] (Some true) d) (goes_on a rest) tt h
-chosen (Some false) first second rest d m n a b h k = step_more n (Left (choose first second ∷ rest) [] (Some false) d) (goes_on b rest) tt k
+chosen (Err e) first second rest d m n a b h k = no_step (Over (Ends (ended_by e)))
+chosen (Ok true) first second rest d m n a b h k = step_more m (Left (choose first second ∷ rest) [] (Some true) d) (goes_on a rest) tt h
+chosen (Ok false) first second rest d m n a b h k = step_more n (Left (choose first second ∷ rest) [] (Some false) d) (goes_on b rest) tt k
 
 turns : (n : ℕ) (body : Block) (rest : List Item) (d : Environment)
     → ((after : List Item) (e : Environment) → Takes (block_length body e) (Left (block_items body after) [] None e) (goes_on (block body e) after))
@@ -116,19 +115,19 @@ turns (suc n) body rest d h =
 mutual
   command_steps : (c : Command) (rest : List Item) (d : Environment) → Takes (command_length c d) (Left (command_items c rest) [] None d) (goes_on (command c d) rest)
   command_steps (LetVar place e) rest d =
-      and_more (term_length e d) (if_some (value_of e d) 1) (Left (command_items (LetVar place e) rest) [] None d) (in_hand (value_of e d) (to_variable place ∷ rest) [] None d)
+      and_more (term_length e d) (if_ok (value_of e d) 1) (Left (command_items (LetVar place e) rest) [] None d) (in_hand (value_of e d) (to_variable place ∷ rest) [] None d)
       (goes_on (command (LetVar place e) d) rest) (term_steps e (to_variable place ∷ rest) [] None d)
       (given (value_of e d) (to_variable place) rest d _ (λ v. one_step (Left (to_variable place ∷ rest) (v ∷ []) None d) tt))
   command_steps (SetTo r e) rest d =
-      and_more (term_length e d) (if_some (value_of e d) 1) (Left (command_items (SetTo r e) rest) [] None d) (in_hand (value_of e d) (to_record r ∷ rest) [] None d)
+      and_more (term_length e d) (if_ok (value_of e d) 1) (Left (command_items (SetTo r e) rest) [] None d) (in_hand (value_of e d) (to_record r ∷ rest) [] None d)
       (goes_on (command (SetTo r e) d) rest) (term_steps e (to_record r ∷ rest) [] None d)
       (given (value_of e d) (to_record r) rest d _ (λ v. one_step (Left (to_record r ∷ rest) (v ∷ []) None d) tt))
   command_steps (GiveOf e) rest d =
-      and_more (term_length e d) (if_some (value_of e d) 1) (Left (command_items (GiveOf e) rest) [] None d) (in_hand (value_of e d) (give ∷ rest) [] None d)
+      and_more (term_length e d) (if_ok (value_of e d) 1) (Left (command_items (GiveOf e) rest) [] None d) (in_hand (value_of e d) (give ∷ rest) [] None d)
       (goes_on (command (GiveOf e) d) rest) (term_steps e (give ∷ rest) [] None d)
       (given (value_of e d) give rest d _ (λ v. one_step (Left (give ∷ rest) (v ∷ []) None d) tt))
   command_steps (Requires t code) rest d =
-      and_more (test_length t d) (if_some (truth_of t d) 1) (Left (command_items (Requires t code) rest) [] None d) (truth_in_hand (truth_of t d) (require code ∷ rest) d)
+      and_more (test_length t d) (if_ok (truth_of t d) 1) (Left (command_items (Requires t code) rest) [] None d) (truth_in_hand (truth_of t d) (require code ∷ rest) d)
       (goes_on (command (Requires t code) d) rest) (test_steps t (require code ∷ rest) d) (required (truth_of t d) code rest d)
   command_steps (When t body) rest d =
       and_more (test_length t d) (if_true (truth_of t d) (suc (block_length body d)) 1) (Left (command_items (When t body) rest) [] None d)

@@ -6,10 +6,10 @@ use Rattle.std.proofs.lemmas.List.{get_or-map, length-map}
 use Rattle.std.specs.List.{slice_index}
 use Rattle.std.specs.List.Sorted.{IsStrictlyIncreasing}
 use Rattle.std.proofs.lemmas.List.Kept.{AllPairs-from_increasing}
-use Rattle.bottle_values.specs.declared.Value.{Value}
+use Rattle.bottle_values.specs.Values.{Value}
 use Rattle.session_meaning.specs.Meaning as meaning
 use Rattle.session_meaning.specs.Meaning.{set_in, value_in}
-use Rattle.bottle_values.specs.Arithmetic.{nought}
+use Rattle.bottle_values.specs.Operations.{nought}
 use Rattle.session_meaning.specs.declared.slots.Slot.{Slot}
 use Rattle.session_meaning.specs.refinement.CopiedSlots.{slot_of}
 

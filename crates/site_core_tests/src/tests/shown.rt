@@ -75,7 +75,7 @@ fn tell_held(text: &mut String, office: &Office) -> Result<(), AllocError> {
     text.push_str("; here")?;
     for (name, r) in &RECORDS {
         if let Some(value) = office.held_value(RecordId::new(*r)) {
-            write!(text, " {name}={}", value.number)?;
+            write!(text, " {name}={}", value)?;
         }
     }
     Ok(())
@@ -84,7 +84,7 @@ fn tell_held(text: &mut String, office: &Office) -> Result<(), AllocError> {
 fn tell_leaving(text: &mut String, office: &Office) -> Result<(), AllocError> {
     for (name, r) in &RECORDS {
         if let Some((number, value)) = office.waiting_value(RecordId::new(*r)) {
-            write!(text, ", {name}={} leaves as {number}", value.number)?;
+            write!(text, ", {name}={} leaves as {number}", value)?;
         }
     }
     Ok(())
@@ -137,7 +137,7 @@ fn tell_message(text: &mut String, msg: Option<Msg>) -> Result<(), AllocError> {
         Some(Msg::AskFork) => text.push_str(" askfork"),
         Some(Msg::Fork) => text.push_str(" fork"),
         Some(Msg::AskBottle(r)) => write!(text, " askbottle {}", name_of(r)),
-        Some(Msg::Bottle(r, value)) => write!(text, " bottle {}={}", name_of(r), value.number),
+        Some(Msg::Bottle(r, value)) => write!(text, " bottle {}={}", name_of(r), value),
     }
 }
 

@@ -79,11 +79,10 @@ fn arrive(left: &mut Link, right: &mut Link, frames: &[Posted], k: usize) -> Lin
     let Some(posted) = frames.get(k - 1) else {
         return LinkReply::Idle;
     };
-    let arrival = match posted.by {
-        End::Left => take(right, &posted.frame),
-        End::Right => take(left, &posted.frame),
-    };
-    LinkReply::Arrived(arrival)
+    match posted.by {
+        End::Left => LinkReply::Arrived(take(right, &posted.frame)),
+        End::Right => LinkReply::Arrived(take(left, &posted.frame)),
+    }
 }
 
 // What was kept follows a message that is taken.

@@ -330,7 +330,7 @@ fn tell_replay(text: &mut String, replay: &Replay) -> Result<(), AllocError> {
     }
     text.push_str("values")?;
     for value in &replay.values {
-        write!(text, " {}", value.number)?;
+        write!(text, " {}", value)?;
     }
     Ok(())
 }

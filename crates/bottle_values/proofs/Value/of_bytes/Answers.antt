@@ -6,9 +6,3 @@ use Rattle.bottle_values.proofs.Value.of_bytes.Goals as goal
 pub returns-clause-bytes : goal.returns-clause-bytes
 returns-clause-bytes c =
     sym (be_bytes_8 c.args.bytes _ (search rules) (search rules) (search rules))
-
-pub returns-clause-number : goal.returns-clause-number
-returns-clause-number c = search rules
-
-pub returns-clause-only : goal.returns-clause-only
-returns-clause-only c = search rules

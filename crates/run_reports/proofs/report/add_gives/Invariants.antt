@@ -1,7 +1,7 @@
 use Rattle.std.proofs.Common.{◌≡◌, ◌++◌, ◌∷◌, take}
 use Rattle.std.specs.List.{flat_map}
 use Rattle.std.specs.String.{string_bytes}
-use Rattle.run_reports.specs.Report.{value_text}
+use Rattle.bottle_values.specs.Printed.{value_text}
 use Rattle.run_reports.proofs.report.add_gives.Given as goal
 
 abbrev pub invariant-loop-value : goal.invariant-loop-value

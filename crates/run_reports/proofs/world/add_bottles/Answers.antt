@@ -1,6 +1,6 @@
 use Rattle.std.proofs.Common.{◌≡◌, ◌++◌, ℕ, List, sym, ap, ap₂, ◌∙◌, append_assoc, get_or}
 use Rattle.std.specs.String.{string_bytes}
-use Rattle.bottle_values.specs.Arithmetic.{nought}
+use Rattle.bottle_values.specs.Operations.{nought}
 use Rattle.run_reports.specs.Report.{value_line}
 use Rattle.run_reports.specs.WorldReport.{bottle_value}
 use Rattle.run_reports.proofs.Rows.{rows_more}

@@ -11,14 +11,14 @@ use Rattle.serial_replay.proofs.walk.+walk.Goals as goal
 pub walk-loop-init : goal.walk-loop-init
 walk-loop-init t c = search (rules, the_lemmas, row_block_is)
 
-pub walk-returns-in-Some-true-2 : goal.walk-returns-in-Some-true-2
-walk-returns-in-Some-true-2 t c = search (rules, the_lemmas, row_block_is)
+pub walk-returns-in-Ok-true-2 : goal.walk-returns-in-Ok-true-2
+walk-returns-in-Ok-true-2 t c = search (rules, the_lemmas, row_block_is)
 
-pub walk-returns-in-Some-true-3 : goal.walk-returns-in-Some-true-3
-walk-returns-in-Some-true-3 t c = search (rules, the_lemmas, row_block_is)
+pub walk-returns-in-Ok-true-3 : goal.walk-returns-in-Ok-true-3
+walk-returns-in-Ok-true-3 t c = search (rules, the_lemmas, row_block_is)
 
-pub walk-returns-in-Some-false-3 : goal.walk-returns-in-Some-false-3
-walk-returns-in-Some-false-3 t c = search (rules, the_lemmas, row_block_is)
+pub walk-returns-in-Ok-false-3 : goal.walk-returns-in-Ok-false-3
+walk-returns-in-Ok-false-3 t c = search (rules, the_lemmas, row_block_is)
 
 pub walk-returns-in_err-walk_all-in-Repeat : goal.walk-returns-in_err-walk_all-in-Repeat
 walk-returns-in_err-walk_all-in-Repeat t c =

@@ -14,7 +14,7 @@ pub returns-else-place-slots : goal.returns-else-place-slots
 returns-else-place-slots c =
     elim c.else-place-slots.branch [
       | else-place-slots-via-then-place-slots+else-eq w ↦
-          another c.args.slots.now c.requires c.args.id c.place_of-place.result c.place_of-place.ensures.before w.index-slots-place.result w.if-place-slots.true
+          c.from.ensures ∙ another c.args.slots.now c.requires c.args.id c.place_of-place.result c.place_of-place.ensures.before w.index-slots-place.result w.if-place-slots.true
           (c.place_of-place.ensures.after c.place_of-place.result w.index-slots-place.result (omega arith) w.if-place-slots.true) (sym w.eq.ensures ∙ w.if-eq.false)
-      | else-place-slots-via-else-place-slots w ↦ past_all c.args.slots.now c.requires c.args.id c.place_of-place.result c.place_of-place.ensures.before w.if-place-slots.false
+      | else-place-slots-via-else-place-slots w ↦ c.from.ensures ∙ past_all c.args.slots.now c.requires c.args.id c.place_of-place.result c.place_of-place.ensures.before w.if-place-slots.false
     ]

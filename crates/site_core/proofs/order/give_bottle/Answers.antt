@@ -1,23 +1,24 @@
-use Rattle.std.proofs.Common.{◌≡◌, ◌<◌, length, get_or, sym, ap, subst, ◌∙◌}
-use Rattle.office_map.specs.PlanValue.{records_of}
+use Rattle.std.proofs.Common.{length, refl, sym, ap, ◌∙◌}
+use Rattle.std.specs.Prelude.{option_map}
+use Rattle.std.specs.List.{range_with_len}
+use Rattle.office_map.specs.PlanValue.{is_end}
+use Rattle.drinking_core.specs.Drinkers as bottles
 use Rattle.site_core.specs.declared.rule.Rule.TheVariants.{GiveBottle}
 use Rattle.site_core.specs.Offices.{may}
 use Rattle.site_core.specs.refinement.OfficeOfCode.{office_at}
-use Rattle.site_core.proofs.FirstRule.{found_at, not_yet}
+use Rattle.site_core.proofs.FirstRule.{first_kept}
 use Rattle.site_core.proofs.order.give_bottle.Goals as goal
 
-pub returns-then-may : goal.returns-then-may
-returns-then-may c = λ a m.
+pub returns-in-Some : goal.returns-in-Some
+returns-in-Some c = λ a.
     let p = c.args.pairs.now in
-    let rs = records_of p.plan p.me in
-    let lt : c.loop-r.r-index < length rs = subst (λ l. c.loop-r.r-index < length l) c.records-r-items.ensures c.loop-r-test.true in
-    let is : c.r-item.result ≡ get_or rs c.loop-r.r-index c.r-item.result = c.r-item.is ∙ ap (λ l. get_or l c.loop-r.r-index c.r-item.result) c.records-r-items.ensures in
-    sym (found_at (may p.plan p.me (office_at p a)) GiveBottle rs c.loop-r.r-index c.r-item.result c.r-item.result lt is (c.loop-r.invariant a m) (sym (c.may.ensures a m) ∙ c.if-may.true))
+    let o = office_at p a in
+    sym (first_kept (may p.plan p.me o) GiveBottle (λ r. is_end p.plan r p.me) (λ r. bottles.may o.pairs.drinker (bottles.GiveBottle r o.pairs.diner.held)) (range_with_len 0 (length p.plan.records)) _ (λ r. refl) c.first_given.ensures
+    ∙ ap (option_map GiveBottle) c.in-Some.is)
 
-pub loop-r-preserved : goal.loop-r-preserved
-loop-r-preserved c = λ a m.
+pub returns-in-None : goal.returns-in-None
+returns-in-None c = λ a.
     let p = c.args.pairs.now in
-    let rs = records_of p.plan p.me in
-    let lt : c.loop-r.r-index < length rs = subst (λ l. c.loop-r.r-index < length l) c.records-r-items.ensures c.loop-r-test.true in
-    let is : c.r-item.result ≡ get_or rs c.loop-r.r-index c.r-item.result = c.r-item.is ∙ ap (λ l. get_or l c.loop-r.r-index c.r-item.result) c.records-r-items.ensures in
-    not_yet (may p.plan p.me (office_at p a)) GiveBottle rs c.loop-r.r-index c.r-item.result c.r-item.result lt is (c.loop-r.invariant a m) (sym (c.may.ensures a m) ∙ c.if-may.false)
+    let o = office_at p a in
+    sym (first_kept (may p.plan p.me o) GiveBottle (λ r. is_end p.plan r p.me) (λ r. bottles.may o.pairs.drinker (bottles.GiveBottle r o.pairs.diner.held)) (range_with_len 0 (length p.plan.records)) _ (λ r. refl) c.first_given.ensures
+    ∙ ap (option_map GiveBottle) c.in-None.is)

@@ -37,28 +37,28 @@ pub returns-in-Some : goal.returns-in-Some
 returns-in-Some c = λ a m.
     let q = c.args.pairs.now in
     let p = may q.plan q.me (office_at q a) in
-    sym (found_before p (part0 q) (rest0 q) c.in-Some.rule (sym (c.give_bottle.ensures a m) ∙ c.in-Some.is))
+    sym (found_before p (part0 q) (rest0 q) c.in-Some.rule (sym (c.give_bottle.ensures a) ∙ c.in-Some.is))
 
 pub returns-in-Some-give_fork : goal.returns-in-Some-give_fork
 returns-in-Some-give_fork c = λ a m.
     let q = c.args.pairs.now in
     let p = may q.plan q.me (office_at q a) in
-    sym (found_after p (part0 q) (rest0 q) _ (sym (c.give_bottle.ensures a m) ∙ c.in_default.is) (found_before p (part1 q) (rest1 q) c.in-Some-give_fork.rule (sym (c.give_fork.ensures a m) ∙ c.in-Some-give_fork.is)))
+    sym (found_after p (part0 q) (rest0 q) _ (sym (c.give_bottle.ensures a) ∙ c.in_default.is) (found_before p (part1 q) (rest1 q) c.in-Some-give_fork.rule (sym (c.give_fork.ensures a) ∙ c.in-Some-give_fork.is)))
 
 pub returns-in-Some-of_no_pair : goal.returns-in-Some-of_no_pair
 returns-in-Some-of_no_pair c = λ a m.
     let q = c.args.pairs.now in
     let p = may q.plan q.me (office_at q a) in
-    sym (found_after p (part0 q) (rest0 q) _ (sym (c.give_bottle.ensures a m) ∙ c.in_default.is) (found_after p (part1 q) (rest1 q) _ (sym (c.give_fork.ensures a m) ∙ c.in_default-give_fork.is) (found_before p (part2 q) (rest2 q) c.in-Some-of_no_pair.rule (sym (c.of_no_pair.ensures a m) ∙ c.in-Some-of_no_pair.is))))
+    sym (found_after p (part0 q) (rest0 q) _ (sym (c.give_bottle.ensures a) ∙ c.in_default.is) (found_after p (part1 q) (rest1 q) _ (sym (c.give_fork.ensures a) ∙ c.in_default-give_fork.is) (found_before p (part2 q) (rest2 q) c.in-Some-of_no_pair.rule (sym (c.of_no_pair.ensures a m) ∙ c.in-Some-of_no_pair.is))))
 
 pub returns-in-Some-ask_bottle : goal.returns-in-Some-ask_bottle
 returns-in-Some-ask_bottle c = λ a m.
     let q = c.args.pairs.now in
     let p = may q.plan q.me (office_at q a) in
-    sym (found_after p (part0 q) (rest0 q) _ (sym (c.give_bottle.ensures a m) ∙ c.in_default.is) (found_after p (part1 q) (rest1 q) _ (sym (c.give_fork.ensures a m) ∙ c.in_default-give_fork.is) (found_after p (part2 q) (rest2 q) _ (sym (c.of_no_pair.ensures a m) ∙ c.in_default-of_no_pair.is) (found_before p (part3 q) (part4 q) c.in-Some-ask_bottle.rule (sym (c.ask_bottle.ensures a m) ∙ c.in-Some-ask_bottle.is)))))
+    sym (found_after p (part0 q) (rest0 q) _ (sym (c.give_bottle.ensures a) ∙ c.in_default.is) (found_after p (part1 q) (rest1 q) _ (sym (c.give_fork.ensures a) ∙ c.in_default-give_fork.is) (found_after p (part2 q) (rest2 q) _ (sym (c.of_no_pair.ensures a m) ∙ c.in_default-of_no_pair.is) (found_before p (part3 q) (part4 q) c.in-Some-ask_bottle.rule (sym (c.ask_bottle.ensures a) ∙ c.in-Some-ask_bottle.is)))))
 
 pub returns : goal.returns
 returns c = λ a m.
     let q = c.args.pairs.now in
     let p = may q.plan q.me (office_at q a) in
-    sym (found_after p (part0 q) (rest0 q) _ (sym (c.give_bottle.ensures a m) ∙ c.in_default.is) (found_after p (part1 q) (rest1 q) _ (sym (c.give_fork.ensures a m) ∙ c.in_default-give_fork.is) (found_after p (part2 q) (rest2 q) _ (sym (c.of_no_pair.ensures a m) ∙ c.in_default-of_no_pair.is) (found_after p (part3 q) (part4 q) _ (sym (c.ask_bottle.ensures a m) ∙ c.in_default-ask_bottle.is) (sym (c.ask_fork.ensures a m))))))
+    sym (found_after p (part0 q) (rest0 q) _ (sym (c.give_bottle.ensures a) ∙ c.in_default.is) (found_after p (part1 q) (rest1 q) _ (sym (c.give_fork.ensures a) ∙ c.in_default-give_fork.is) (found_after p (part2 q) (rest2 q) _ (sym (c.of_no_pair.ensures a m) ∙ c.in_default-of_no_pair.is) (found_after p (part3 q) (part4 q) _ (sym (c.ask_bottle.ensures a) ∙ c.in_default-ask_bottle.is) (sym (c.ask_fork.ensures a))))))

@@ -1,0 +1,13 @@
+//! Sets of small numbers, each a bit of one word.
+//!
+//! A [`Mask16`] has numbers below 16, a [`Mask128`] below 128. `is_in16` and `is_in128`, in `specs/Sets.antt`, say which a
+//! mask has. `first` finds the least by the word's trailing zeros: no loop, and no table.
+//!
+//! No call takes memory.
+#![tactic(auto)]
+
+mod mask128;
+mod mask16;
+
+pub use mask16::Mask16;
+pub use mask128::Mask128;

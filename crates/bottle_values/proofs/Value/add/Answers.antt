@@ -1,5 +1,0 @@
-use Rattle.std.proofs.Common.{rules}
-use Rattle.bottle_values.proofs.Value.add.Goals as goal
-
-pub returns : goal.returns
-returns c = search rules

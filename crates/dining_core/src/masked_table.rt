@@ -1,0 +1,191 @@
+//! A table with masks beside it: what is done next of it, without a look at each neighbour.
+
+ghost use Rattle.std.specs.Prelude.{◌≡◌, ◌<◌, ◌↔◌, ℕ, length, IsErr, IfOk, OnOk, OnErr, true, false, ◌&&◌};
+ghost use Rattle.bit_masks.specs.Sets.{is_in16, IsLeast};
+ghost use Rattle.bottle_values.specs.Lists.{is_among};
+ghost use Rattle.dining_core.specs.Diners.{BecomeHungry, AskFork, GiveFork, Eat, Leave, may, act, with_token, with_fork, diner_at_start};
+ghost use Rattle.dining_core.specs.refinement.Tables.{diner_of};
+ghost use Rattle.dining_core.specs.refinement.Masks.{Tells};
+
+use crate::fault::NotNow;
+use crate::phase::Phase;
+use crate::table::Table;
+use bit_masks::Mask16;
+use office_map::{OfficeId, Plan};
+use std::alloc::{AllocError, Global};
+use std::marker::Model;
+
+/// A [`Table`], and of the offices below 16, as bits: which are neighbours, and whose forks, clean forks and request tokens
+/// are here.
+#[derive(Debug, Drop)]
+pub struct MaskedTable {
+    table: Table,
+    near: Mask16,
+    held: Mask16,
+    clean: Mask16,
+    tokens: Mask16,
+}
+
+impl Model for MaskedTable {
+    ghost use Rattle.dining_core.specs.refinement.Tables.{TableValue, diner_of};
+    ghost use Rattle.dining_core.specs.refinement.Masks.{AreMasks};
+
+    ghost Value = { TableValue };
+
+    ghost view = { λ t. t.table };
+
+    ghost invariant = { λ t. AreMasks (diner_of t.table) t.near t.held t.clean t.tokens };
+}
+
+impl MaskedTable {
+    /// The table of an office as the plan starts.
+    pub fn open(alloc: Global, plan: &Plan, id: OfficeId) -> Result<MaskedTable, AllocError>
+        requires { id < length plan.now.offices }
+        ensures { IfOk result (λ t. diner_of t ≡ diner_at_start plan.now id) }
+    {
+        let table = Table::open(alloc, plan, id)?;
+        let near = near_in(&table);
+        let held = held_in(&table);
+        let tokens = tokens_in(&table);
+        Ok(MaskedTable {
+            table,
+            near,
+            held,
+            clean: Mask16::empty(),
+            tokens,
+        })
+    }
+
+    /// The table.
+    pub fn table(&self) -> &Table
+        ensures { result.now ≡ self.now }
+    {
+        &self.table
+    }
+
+    /// The least neighbour to whom a fork may be given now.
+    pub fn first_given(&self) -> Option<u32>
+        ensures { IsLeast 16 (λ v. is_among (diner_of self.now).neighbours v && may (diner_of self.now) (GiveFork v)) result }
+    {
+        if matches!(self.table.phase(), Phase::Eating) {
+            return None;
+        }
+        self.near
+            .and(self.tokens.and(self.held.and_not(self.clean)))
+            .first()
+    }
+
+    /// The least neighbour who may be asked for a fork now.
+    pub fn first_asked(&self) -> Option<u32>
+        ensures { IsLeast 16 (λ v. is_among (diner_of self.now).neighbours v && may (diner_of self.now) (AskFork v)) result }
+    {
+        if !matches!(self.table.phase(), Phase::Hungry) {
+            return None;
+        }
+        self.near.and(self.tokens.and_not(self.held)).first()
+    }
+
+    /// A thinking office that is thirsty becomes hungry.
+    pub fn hungry(&mut self, thirsty: bool) -> Result<(), NotNow>
+        ensures not_now { IsErr result ↔ (may (diner_of self.old) (BecomeHungry thirsty) ≡ false) }
+        ensures done { OnOk result (diner_of self.new ≡ act (diner_of self.old) (BecomeHungry thirsty)) }
+        ensures unchanged { OnErr result (self.new ≡ self.old) }
+    {
+        self.table.hungry(thirsty)?;
+        Ok(())
+    }
+
+    /// A hungry office sends the request token of a fork that isn't here.
+    pub fn ask_fork(&mut self, v: OfficeId) -> Result<(), NotNow>
+        ensures not_now { IsErr result ↔ (may (diner_of self.old) (AskFork v) ≡ false) }
+        ensures done { OnOk result (diner_of self.new ≡ act (diner_of self.old) (AskFork v)) }
+        ensures unchanged { OnErr result (self.new ≡ self.old) }
+    {
+        self.table.ask_fork(v)?;
+        self.tokens.clear(v.number() as u32);
+        Ok(())
+    }
+
+    /// An office that doesn't eat sends a dirty fork to the neighbour who asked for it.
+    pub fn give_fork(&mut self, v: OfficeId) -> Result<(), NotNow>
+        ensures not_now { IsErr result ↔ (may (diner_of self.old) (GiveFork v) ≡ false) }
+        ensures done { OnOk result (diner_of self.new ≡ act (diner_of self.old) (GiveFork v)) }
+        ensures unchanged { OnErr result (self.new ≡ self.old) }
+    {
+        self.table.give_fork(v)?;
+        self.held.clear(v.number() as u32);
+        Ok(())
+    }
+
+    /// A hungry office that has all its forks eats, and each of them is dirty.
+    pub fn eat(&mut self) -> Result<(), NotNow>
+        ensures not_now { IsErr result ↔ (may (diner_of self.old) Eat ≡ false) }
+        ensures done { OnOk result (diner_of self.new ≡ act (diner_of self.old) Eat) }
+        ensures unchanged { OnErr result (self.new ≡ self.old) }
+    {
+        self.table.eat()?;
+        self.clean = Mask16::empty();
+        Ok(())
+    }
+
+    /// An eating office that isn't thirsty thinks again.
+    pub fn leave(&mut self, thirsty: bool) -> Result<(), NotNow>
+        ensures not_now { IsErr result ↔ (may (diner_of self.old) (Leave thirsty) ≡ false) }
+        ensures done { OnOk result (diner_of self.new ≡ act (diner_of self.old) (Leave thirsty)) }
+        ensures unchanged { OnErr result (self.new ≡ self.old) }
+    {
+        self.table.leave(thirsty)?;
+        Ok(())
+    }
+
+    /// The request token of a fork came.
+    pub fn got_token(&mut self, v: OfficeId)
+        requires ours { is_among (diner_of self.old).neighbours v ≡ true }
+        requires away { (diner_of self.old).token v ≡ false }
+        ensures { diner_of self.new ≡ with_token (diner_of self.old) v }
+    {
+        self.table.got_token(v);
+        self.tokens.set(v.number() as u32);
+    }
+
+    /// A fork came.
+    pub fn got_fork(&mut self, v: OfficeId)
+        requires ours { is_among (diner_of self.old).neighbours v ≡ true }
+        requires away { (diner_of self.old).held v ≡ false }
+        ensures { diner_of self.new ≡ with_fork (diner_of self.old) v }
+    {
+        self.table.got_fork(v);
+        self.held.set(v.number() as u32);
+        self.clean.set(v.number() as u32);
+    }
+}
+
+fn near_in(table: &Table) -> Mask16
+    ensures { Tells result (is_among (diner_of table.now).neighbours) }
+{
+    let mut mask = Mask16::empty();
+    for v in table.neighbours() {
+        mask.set(v.number() as u32);
+    }
+    mask
+}
+
+fn held_in(table: &Table) -> Mask16
+    ensures { Tells result (diner_of table.now).held }
+{
+    let mut mask = Mask16::empty();
+    for v in 0..16u8 {
+        mask.put(v as u32, table.holds(OfficeId::new(v)));
+    }
+    mask
+}
+
+fn tokens_in(table: &Table) -> Mask16
+    ensures { Tells result (diner_of table.now).token }
+{
+    let mut mask = Mask16::empty();
+    for v in 0..16u8 {
+        mask.put(v as u32, table.has_token(OfficeId::new(v)));
+    }
+    mask
+}

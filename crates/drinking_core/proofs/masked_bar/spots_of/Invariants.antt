@@ -1,0 +1,15 @@
+use Rattle.std.proofs.Common.{◌≡◌, ◌<◌, ◌≤◌, ℕ, length, take, false}
+use Rattle.std.specs.Prelude.{◌==◌}
+use Rattle.std.specs.List.{list_any}
+use Rattle.bit_masks.specs.Sets.{is_in128, size128}
+use Rattle.dining_core.specs.refinement.Tables.{diner_of}
+use Rattle.drinking_core.specs.Drinkers.{GiveBottle, may, holds}
+use Rattle.drinking_core.specs.refinement.Bars.{drinker_of}
+use Rattle.drinking_core.specs.refinement.Masks.{spot_in, record_at}
+use Rattle.drinking_core.proofs.masked_bar.spots_of.Given as goal
+
+abbrev pub invariant-loop-k : goal.invariant-loop-k
+invariant-loop-k l =
+    (length l.spots.items ≡ l.count)
+    × ((j : ℕ) → j < l.k → spot_in l.spots.items (record_at l.records j) ≡ j)
+    × ((r : ℕ) → spot_in l.spots.items r < 255 → (spot_in l.spots.items r < l.k) × (record_at l.records (spot_in l.spots.items r) ≡ r))

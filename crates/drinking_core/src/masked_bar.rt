@@ -1,0 +1,272 @@
+//! A bar with masks beside it: what is done next of it, without a look at each record.
+
+ghost use Rattle.std.specs.Prelude.{◌≡◌, ◌<◌, ◌≤◌, ◌↔◌, ◌≢◌, ℕ, length, find, IsErr, IfOk, OnOk, OnErr, All, true, false, ◌&&◌, ◌==◌};
+ghost use Rattle.std.specs.List.{list_any};
+ghost use Rattle.std.specs.Option.{ForSome, option_copied};
+ghost use Rattle.bit_masks.specs.Sets.{is_in128};
+ghost use Rattle.bottle_values.specs.Lists.{is_among};
+ghost use Rattle.dining_core.specs.refinement.Tables.{diner_of};
+ghost use Rattle.drinking_core.specs.Drinkers.{Start, AskBottle, GiveBottle, Drink, Finish, Withdraw, may, act, with_token, with_bottle, holds, opened};
+ghost use Rattle.drinking_core.specs.refinement.Bars.{drinker_of};
+ghost use Rattle.drinking_core.specs.refinement.Masks.{spot_in, record_at, AreSpots, Tells};
+
+use crate::bar::Bar;
+use bit_masks::Mask128;
+use bottle_values::Value;
+use dining_core::{NotNow, Table};
+use office_map::{OfficeId, Plan, RecordId};
+use std::alloc::{AllocError, Global};
+use std::marker::Model;
+
+/// A [`Bar`], and of the office's own records, each at its place among them, as bits: which bottles and which request tokens
+/// are here, and which records are needed.
+#[derive(Debug, Drop)]
+pub struct MaskedBar {
+    bar: Bar,
+    spots: Vec<u8>,
+    held: Mask128,
+    tokens: Mask128,
+    needed: Mask128,
+}
+
+impl Model for MaskedBar {
+    ghost use Rattle.drinking_core.specs.refinement.Bars.{BarValue, drinker_of};
+    ghost use Rattle.drinking_core.specs.refinement.Masks.{AreSpots, AreMasks};
+
+    ghost Value = { BarValue };
+
+    ghost view = { λ b. b.bar };
+
+    ghost invariant = { λ b. AreSpots (drinker_of b.bar).records b.spots.items × AreMasks (drinker_of b.bar) b.held b.tokens b.needed };
+}
+
+impl MaskedBar {
+    /// The bar of an office as the plan starts.
+    pub fn open(alloc: Global, plan: &Plan, id: OfficeId) -> Result<MaskedBar, AllocError>
+        requires { id < length plan.now.offices }
+        ensures { IfOk result (λ b. drinker_of b ≡ opened plan.now id) }
+    {
+        let bar = Bar::open(alloc, plan, id)?;
+        let spots = spots_of(alloc, plan.records(), plan.records_of(id))?;
+        let held = held_in(&bar);
+        let tokens = tokens_in(&bar);
+        Ok(MaskedBar {
+            bar,
+            spots,
+            held,
+            tokens,
+            needed: Mask128::empty(),
+        })
+    }
+
+    /// The bar.
+    pub fn bar(&self) -> &Bar
+        ensures { result.now ≡ self.now }
+    {
+        &self.bar
+    }
+
+    /// The least of the office's records whose bottle may be given now.
+    pub fn first_given(&self, table: &Table) -> Option<RecordId>
+        ensures { result ≡ find (λ r. may (drinker_of self.now) (GiveBottle r (diner_of table.now).held)) (drinker_of self.now).records }
+    {
+        let owed = self.held.and(self.tokens);
+        if self.bar.phase().is_drinking() {
+            first_given_of(&self.bar, owed.and_not(self.needed), table)
+        } else {
+            first_given_of(&self.bar, owed, table)
+        }
+    }
+
+    /// The least of the office's records whose bottle may be asked for now.
+    pub fn first_asked(&self) -> Option<RecordId>
+        ensures { result ≡ find (λ r. may (drinker_of self.now) (AskBottle r)) (drinker_of self.now).records }
+    {
+        if !self.bar.phase().is_thirsty() {
+            return None;
+        }
+        let asked = self.needed.and(self.tokens).and_not(self.held);
+        let Some(k) = asked.first() else {
+            return None;
+        };
+        match self.bar.records().get(k as usize) {
+            Some(r) => Some(*r),
+            None => None,
+        }
+    }
+
+    /// A tranquil office begins with the first waiting session, which needs these records; none where no session waits.
+    pub fn start(&mut self, session: Option<&[RecordId]>) -> Result<(), NotNow>
+        requires { ForSome session (λ rs. All (λ r. is_among (drinker_of self.old).records r ≡ true) rs.now) }
+        ensures not_now { IsErr result ↔ (may (drinker_of self.old) (Start (option_copied session.entry)) ≡ false) }
+        ensures done { OnOk result (drinker_of self.new ≡ act (drinker_of self.old) (Start (option_copied session.entry))) }
+        ensures unchanged { OnErr result (self.new ≡ self.old) }
+    {
+        self.bar.start(session)?;
+        if let Some(records) = session {
+            self.needed = mask_of(&self.spots, records);
+        }
+        Ok(())
+    }
+
+    /// A thirsty office sends the request token of a bottle that its session needs and that isn't here.
+    pub fn ask_bottle(&mut self, r: RecordId) -> Result<(), NotNow>
+        ensures not_now { IsErr result ↔ (may (drinker_of self.old) (AskBottle r) ≡ false) }
+        ensures done { OnOk result (drinker_of self.new ≡ act (drinker_of self.old) (AskBottle r)) }
+        ensures unchanged { OnErr result (self.new ≡ self.old) }
+    {
+        self.bar.ask_bottle(r)?;
+        self.tokens.clear(spot(&self.spots, r));
+        Ok(())
+    }
+
+    /// An office sends a bottle that is asked for, with its value, unless its session needs the bottle and works, or
+    /// needs it and has the fork.
+    pub fn give_bottle(&mut self, r: RecordId, table: &Table) -> Result<(), NotNow>
+        ensures not_now { IsErr result ↔ (may (drinker_of self.old) (GiveBottle r (diner_of table.now).held) ≡ false) }
+        ensures done { OnOk result (drinker_of self.new ≡ act (drinker_of self.old) (GiveBottle r (diner_of table.now).held)) }
+        ensures unchanged { OnErr result (self.new ≡ self.old) }
+    {
+        self.bar.give_bottle(r, table)?;
+        self.held.clear(spot(&self.spots, r));
+        Ok(())
+    }
+
+    /// A thirsty office that has all bottles that its session needs begins to work.
+    pub fn drink(&mut self) -> Result<(), NotNow>
+        ensures not_now { IsErr result ↔ (may (drinker_of self.old) Drink ≡ false) }
+        ensures done { OnOk result (drinker_of self.new ≡ act (drinker_of self.old) Drink) }
+        ensures unchanged { OnErr result (self.new ≡ self.old) }
+    {
+        self.bar.drink()?;
+        Ok(())
+    }
+
+    /// A drinking office ends its session with what the session's work wrote, each record with its value; none where
+    /// the work hasn't ended. Where a record is written twice, the last value counts. What is written to a record
+    /// whose bottle isn't here is lost.
+    pub fn finish(&mut self, writes: Option<&[(RecordId, Value)]>) -> Result<(), NotNow>
+        ensures not_now { IsErr result ↔ (may (drinker_of self.old) (Finish (option_copied writes.entry)) ≡ false) }
+        ensures done { OnOk result (drinker_of self.new ≡ act (drinker_of self.old) (Finish (option_copied writes.entry))) }
+        ensures unchanged { OnErr result (self.new ≡ self.old) }
+    {
+        self.bar.finish(writes)?;
+        self.needed = Mask128::empty();
+        Ok(())
+    }
+
+    /// A thirsty office's session is withdrawn: the office is tranquil again and needs no record. A bottle that was asked
+    /// for still comes.
+    pub fn withdraw(&mut self) -> Result<(), NotNow>
+        ensures not_now { IsErr result ↔ (may (drinker_of self.old) Withdraw ≡ false) }
+        ensures done { OnOk result (drinker_of self.new ≡ act (drinker_of self.old) Withdraw) }
+        ensures unchanged { OnErr result (self.new ≡ self.old) }
+    {
+        self.bar.withdraw()?;
+        self.needed = Mask128::empty();
+        Ok(())
+    }
+
+    /// The request token of a record's bottle came.
+    pub fn got_token(&mut self, r: RecordId)
+        requires ours { is_among (drinker_of self.old).records r ≡ true }
+        requires away { (drinker_of self.old).token r ≡ false }
+        ensures { drinker_of self.new ≡ with_token (drinker_of self.old) r }
+    {
+        self.bar.got_token(r);
+        self.tokens.set(spot(&self.spots, r));
+    }
+
+    /// A record's bottle came with this value.
+    pub fn got_bottle(&mut self, r: RecordId, value: Value)
+        requires ours { is_among (drinker_of self.old).records r ≡ true }
+        requires away { holds (drinker_of self.old) r ≡ false }
+        ensures { drinker_of self.new ≡ with_bottle (drinker_of self.old) r value }
+    {
+        self.bar.got_bottle(r, value);
+        self.held.set(spot(&self.spots, r));
+    }
+}
+
+/// Where a record stands among the office's own; no place of a mask where it isn't one of them.
+fn spot(spots: &[u8], r: RecordId) -> u32
+    ensures { result ≡ spot_in spots.now r }
+{
+    match spots.get(r.index()) {
+        Some(spot) => *spot as u32,
+        None => 255,
+    }
+}
+
+/// The bits of these records.
+fn mask_of(spots: &[u8], records: &[RecordId]) -> Mask128
+    ensures { (k : ℕ) → k < 128 → is_in128 result k ≡ list_any (λ r. spot_in spots.now r == k) records.now }
+{
+    let mut mask = Mask128::empty();
+    for r in records {
+        mask.set(spot(spots, *r));
+    }
+    mask
+}
+
+/// Each record's place among these. There is room for 128 of them, and none stands twice.
+fn spots_of(alloc: Global, count: usize, records: &[RecordId]) -> Result<Vec<u8>, AllocError>
+    requires within { All (λ r. r < count) records.now }
+    ensures { IfOk result (λ s. AreSpots records.now s.items) }
+{
+    if records.len() > 128 {
+        return Err(AllocError);
+    }
+    let mut spots = vec![in alloc; 255u8; count]?;
+    for k in 0..records.len() {
+        let r = records[k];
+        if spots[r.index()] != 255 {
+            return Err(AllocError);
+        }
+        spots[r.index()] = k as u8;
+    }
+    Ok(spots)
+}
+
+/// The bits of the bottles that are here.
+fn held_in(bar: &Bar) -> Mask128
+    requires { length (drinker_of bar.now).records ≤ 128 }
+    ensures { Tells (drinker_of bar.now).records result (holds (drinker_of bar.now)) }
+{
+    let mut mask = Mask128::empty();
+    for k in 0..bar.records().len() {
+        mask.put(k as u32, bar.holds(bar.records()[k]));
+    }
+    mask
+}
+
+/// The bits of the request tokens that are here.
+fn tokens_in(bar: &Bar) -> Mask128
+    requires { length (drinker_of bar.now).records ≤ 128 }
+    ensures { Tells (drinker_of bar.now).records result (drinker_of bar.now).token }
+{
+    let mut mask = Mask128::empty();
+    for k in 0..bar.records().len() {
+        mask.put(k as u32, bar.has_token(bar.records()[k]));
+    }
+    mask
+}
+
+/// The least of these records whose bottle may be given now; of no other it may.
+fn first_given_of(bar: &Bar, among: Mask128, table: &Table) -> Option<RecordId>
+    requires others { (k : ℕ) → k < length (drinker_of bar.now).records → k < 128 → is_in128 among k ≡ false → may (drinker_of bar.now) (GiveBottle (record_at (drinker_of bar.now).records k) (diner_of table.now).held) ≡ false }
+    requires few { length (drinker_of bar.now).records ≤ 128 }
+    ensures { result ≡ find (λ r. may (drinker_of bar.now) (GiveBottle r (diner_of table.now).held)) (drinker_of bar.now).records }
+{
+    let mut left = among;
+    'left: while let Some(k) = left.first() {
+        let Some(r) = bar.records().get(k as usize) else {
+            return None;
+        };
+        if bar.may_give_bottle(*r, table) {
+            return Some(*r);
+        }
+        left.clear(k);
+    }
+    None
+}

@@ -1,0 +1,142 @@
+-- What left is of entries that stand.
+use Rattle.std.proofs.Common.{◌≡◌, ℕ, zero, suc, ◌+◌, ◌≤◌, Bool, true, List, [], ◌∷◌, ◌++◌, length, map, take, drop, Option, Some, None, refl, sym, ap, subst, ◌∙◌, arith, length-append, append_assoc, append-nil}
+use Rattle.std.specs.Prelude.{All, slice_get}
+use mathlib.Core.List.{IsPrefix}
+use Rattle.std.proofs.lemmas.List.{take_more, take-append-le, take_all, take-append-drop}
+use Rattle.std.proofs.lemmas.List.Elements.{All-nil, All-cons, All-take}
+use Rattle.std.proofs.lemmas.List.Concat.{flat_map-append}
+use Rattle.std.proofs.lemmas.Option.{slice_get_within, get_or_from_slice_get}
+use Rattle.office_map.specs.PlanValue.{PlanValue}
+use Rattle.site_core.specs.declared.event.Entry.{Entry}
+use Rattle.site_core.specs.Journals.{Site}
+use Rattle.locked_office.specs.Calls.{Key, DeskPass, Does, Looks}
+use Rattle.site_core.specs.Journals.{Receives}
+use Rattle.journal_stores.specs.Stores.{Stands}
+use Rattle.journal_texts.specs.Written.{header_line, lines_of, entry_line, journal_text}
+use Rattle.socket_pump.specs.declared.pump.Turn.{Turn}
+use Rattle.socket_pump.specs.declared.pump.PumpFault.{PumpFault}
+use Rattle.socket_pump.specs.Wires.{Account, counted}
+use Rattle.socket_pump.specs.Chains.{Heard, Made, Hears, MakesFrame, Sends, sent_entry, datagram}
+use Rattle.socket_pump.specs.Turns.{Times, Turned, Stage, WhileHearing, AtRules, WhileTelling}
+use Rattle.socket_pump.proofs.Telling.{Begins, begins_both, does_begins, sees_begins, sends_begins}
+use Rattle.durable_turns.specs.Letting.{StoreHas, IsOfStanding, LetsOut, Posts}
+
+-- ---- journals that go on
+
+hears_begins : (tag : ℕ) (k : Key) (p q : DeskPass) (hs : List Heard) → Hears tag k p hs q → Begins p q
+hears_begins tag k p q [] s = sees_begins p q s
+hears_begins tag k p q (h ∷ hs) s = begins_both p s.0 q (does_begins (λ x y. Receives x tag h.bytes h.answer y) k p s.0 s.1) (hears_begins tag k s.0 q hs s.2)
+
+pub turned_begins : (tells : Bool) (tag : ℕ) (k : Key) (last : Times) (now : ℕ) (p : DeskPass) (a : Account) (t : Turn) (b : Account) (q : DeskPass) (then : Times) → Turned tells tag k last now p a t b q then → Begins p q
+turned_begins tells tag k last now p a t b q then x =
+    begins_both p x.mid q (hears_begins tag k p x.mid x.heard.heard x.heard.hearing.hears)
+    (begins_both x.mid x.ruled q (does_begins _ k x.mid x.ruled x.rules) (sends_begins tag k x.ruled q x.made x.told.sends))
+
+pub stage_begins : (tells : Bool) (tag : ℕ) (k : Key) (last : Times) (now : ℕ) (p : DeskPass) (a : Account) (f : PumpFault) (b : Account) (q : DeskPass) (then : Times) → Stage tells tag k last now p a f b q then → Begins p q
+stage_begins tells tag k last now p a f b q then (WhileHearing heard times) = hears_begins tag k p q heard.heard heard.hears
+stage_begins tells tag k last now p a f b q then (AtRules mid received took refused heard why rules fault wire times) = begins_both p mid q (hears_begins tag k p mid heard.heard heard.hearing.hears) (does_begins _ k mid q rules)
+stage_begins tells tag k last now p a f b q then (WhileTelling mid ruled received took refused done heard rules made told due_once remembers) =
+    begins_both p mid q (hears_begins tag k p mid heard.heard heard.hearing.hears) (begins_both mid ruled q (does_begins _ k mid ruled rules) (sends_begins tag k ruled q made told.sends))
+
+-- ---- what stands
+
+has_on : (o : Option (List ℕ)) (k : Key) (old entries : List Entry) (n : ℕ) → n ≤ length old → IsPrefix old entries → StoreHas o k old n → StoreHas o k entries n
+has_on None k old entries n le b h = tt
+has_on (Some bytes) k old entries n le b h = h ∙ ap (journal_text k.0 k.1) (sym (take-append-le n old b.0 le) ∙ ap (take n) b.1)
+
+pub has_later : (o : Option (List ℕ)) (k : Key) (p q : DeskPass) (n : ℕ) → n ≤ length p.seen → Begins p q → StoreHas o k p.seen n → StoreHas o k q.seen n
+has_later None k p q n le b h = tt
+has_later (Some bytes) k p q n le b h = h ∙ ap (journal_text k.0 k.1) (sym (take-append-le n p.seen b.0 le) ∙ ap (take n) (sym b.1))
+
+pub within_later : (p q : DeskPass) (n : ℕ) → n ≤ length p.seen → Begins p q → n ≤ length q.seen
+within_later p q n le b = omega (arith, le, ap length b.1, length-append p.seen b.0)
+
+-- ---- what leaves
+
+at_end : (xs ys : List Entry) (x : Entry) → slice_get ((xs ++ x ∷ []) ++ ys) (length xs) ≡ Some x
+at_end [] ys x = refl
+at_end (z ∷ xs) ys x = at_end xs ys x
+
+get_on : (xs ys : List Entry) (i : ℕ) (x : Entry) → slice_get xs i ≡ Some x → slice_get (xs ++ ys) i ≡ Some x
+get_on [] ys i x e = cc
+get_on (z ∷ xs) ys zero x e = e
+get_on (z ∷ xs) ys (suc i) x e = get_on xs ys i x e
+
+-- its entry is in the journal
+abbrev IsThere : ℕ → List Entry → Made → Type 0
+IsThere tag es m = (i : ℕ) × (slice_get es i ≡ Some (sent_entry tag m))
+
+there_on : (tag : ℕ) (p q : DeskPass) (m : Made) → Begins p q → IsThere tag p.seen m → IsThere tag q.seen m
+there_on tag p q m b h = (h.0, ap (λ l. slice_get l h.0) b.1 ∙ get_on p.seen b.0 h.0 (sent_entry tag m) h.1)
+
+one_there : (tag : ℕ) (k : Key) (p x : DeskPass) (m : Made) → Does (MakesFrame tag m) k p x → IsThere tag x.seen m
+one_there tag k p x m d =
+    let grown : x.seen ≡ (p.seen ++ d.0) ++ sent_entry tag m ∷ [] = ap (λ (s : Site). s.entries) d.1.done in
+    (length (p.seen ++ d.0), ap (λ l. slice_get l (length (p.seen ++ d.0))) (grown ∙ sym (append-nil ((p.seen ++ d.0) ++ sent_entry tag m ∷ []))) ∙ at_end (p.seen ++ d.0) [] (sent_entry tag m))
+
+all_there : (tag : ℕ) (k : Key) (p q z : DeskPass) (ms : List Made) → Sends tag k p ms q → Begins q z → All (IsOfStanding tag z.seen (length z.seen)) (map datagram ms)
+all_there tag k p q z [] s b = All-nil (IsOfStanding tag z.seen (length z.seen))
+all_there tag k p q z (m ∷ ms) s b =
+    let on : Begins s.0 z = begins_both s.0 q z (sends_begins tag k s.0 q ms s.2) b in
+    let here = there_on tag s.0 z m on (one_there tag k p s.0 m s.1) in
+    let one : IsOfStanding tag z.seen (length z.seen) (datagram m) = (m, refl, here.0, slice_get_within z.seen here.0 (sent_entry tag m) here.1, here.1) in
+    All-cons (IsOfStanding tag z.seen (length z.seen)) (datagram m) (map datagram ms) one (all_there tag k s.0 q z ms s.2 b)
+
+-- what the memory accepted are the frames that were made
+mail_is : (tag : ℕ) (k : Key) (last : Times) (now : ℕ) (p : DeskPass) (t : Turn) (b : Account) (q : DeskPass) (then : Times) → (x : Turned true tag k last now p (counted 0) t b q then) → b.accepted ≡ map datagram x.made
+mail_is tag k last now p t b q then x =
+    ap (λ (y : Account). y.accepted) (x.told.wire refl) ∙ ap (λ (y : Account). y.accepted ++ map datagram x.made) (x.heard.hearing.wire refl)
+
+pub nothing_out : (tells : Bool) (tag : ℕ) (a b : Account) (es : List Entry) (n : ℕ) → (tells ≡ true → b.accepted ≡ a.accepted) → LetsOut tells tag a b es n
+nothing_out tells tag a b es n same = record { out = []; went = λ h. same h ∙ sym (append-nil a.accepted); stand = All-nil (IsOfStanding tag es n) }
+
+pub posted : (tells : Bool) (tag : ℕ) (k : Key) (last : Times) (now : ℕ) (p : DeskPass) (t : Turn) (mail : Account) (m q : DeskPass) (then : Times) (a b c : Account) (n : ℕ) → Turned true tag k last now p (counted 0) t mail m then → Looks k m q →
+    (tells ≡ true → b.accepted ≡ a.accepted) → Posts tells b mail.accepted c → n ≡ length q.seen → LetsOut tells tag a c q.seen n
+posted tells tag k last now p t mail m q then a b c n x looks same posts all = record {
+  out = take posts.0 (map datagram x.made);
+  went = λ h. posts.1 h ∙ ap (λ l. l ++ take posts.0 mail.accepted) (same h) ∙ ap (λ l. a.accepted ++ take posts.0 l) (mail_is tag k last now p t mail m then x);
+  stand = subst (λ i. All (IsOfStanding tag q.seen i) (take posts.0 (map datagram x.made))) (sym all)
+      (All-take (IsOfStanding tag q.seen (length q.seen)) posts.0 (map datagram x.made) (all_there tag k x.ruled m q x.made x.told.sends (does_begins _ k m q looks)));
+}
+
+-- ---- entries that are made to stand
+
+-- ---- entries that are made to stand
+
+whole : (k : Key) (es : List Entry) (n : ℕ) → journal_text k.0 k.1 (take n es) ++ lines_of k.0 (drop n es) ≡ journal_text k.0 k.1 es
+whole k es n =
+    append_assoc (header_line k.0 k.1) (lines_of k.0 (take n es)) (lines_of k.0 (drop n es))
+    ∙ ap (λ l. header_line k.0 k.1 ++ l) (sym (flat_map-append (entry_line k.0) (take n es) (drop n es)) ∙ ap (lines_of k.0) (take-append-drop n es))
+
+pub has_all : (o new : Option (List ℕ)) (k : Key) (es : List Entry) (n m : ℕ) (text : List ℕ) → StoreHas o k es n → text ≡ lines_of k.0 (drop n es) → Stands o text new → m ≡ length es → StoreHas new k es m
+has_all None new k es n m text h is stands all = subst (λ x. StoreHas x k es m) (sym stands) tt
+has_all (Some bytes) new k es n m text h is stands all =
+    subst (λ x. StoreHas x k es m) (sym stands) (ap (λ b. b ++ text) h ∙ ap (λ t. journal_text k.0 k.1 (take n es) ++ t) is ∙ whole k es n ∙ ap (journal_text k.0 k.1) (sym (take_all m es (omega (arith, all)))))
+
+pub kept : (o new : Option (List ℕ)) (k : Key) (es : List Entry) (n : ℕ) → StoreHas o k es n → new ≡ o → StoreHas new k es n
+kept o new k es n h same = subst (λ x. StoreHas x k es n) (sym same) h
+
+pub stood_all : (o new : Option (List ℕ)) (k : Key) (old es entries : List Entry) (n m : ℕ) (plan : PlanValue) (me : ℕ) (before text : List ℕ) → StoreHas o k old n → n ≤ length old → IsPrefix old entries → es ≡ entries → (plan, me) ≡ k →
+    before ≡ [] → text ≡ before ++ lines_of plan (drop n entries) → m ≡ length entries → Stands o text new → StoreHas new k es m
+stood_all o new k old es entries n m plan me before text has le begins same key none is all stands =
+    let later : StoreHas o k entries n = has_on o k old entries n le begins has in
+    let lines : text ≡ lines_of k.0 (drop n entries) = is ∙ ap (λ l. l ++ lines_of plan (drop n entries)) none ∙ ap (λ (x : Key). lines_of x.0 (drop n entries)) key in
+    subst (λ l. StoreHas new k l m) (sym same) (has_all o new k entries n m text later lines stands all)
+
+-- ---- what is posted
+
+pub posts_more : (tells : Bool) (a b c : Account) (out : List (ℕ × List ℕ)) (i : ℕ) (x : ℕ × List ℕ) → slice_get out i ≡ Some x → (tells ≡ true → b.accepted ≡ a.accepted ++ take i out) → (tells ≡ true → c ≡ record b { accepted = b.accepted ++ x ∷ [] }) →
+    tells ≡ true → c.accepted ≡ a.accepted ++ take (i + 1) out
+posts_more tells a b c out i x at so_far more told =
+    let next : take i out ++ x ∷ [] ≡ take (i + 1) out = sym (take_more out i x (slice_get_within out i x at) ∙ ap (λ y. take i out ++ y ∷ []) (get_or_from_slice_get out i x x at)) in
+    ap (λ (y : Account). y.accepted) (more told) ∙ ap (λ l. l ++ x ∷ []) (so_far told) ∙ append_assoc a.accepted (take i out) (x ∷ []) ∙ ap (λ l. a.accepted ++ l) next
+
+-- ---- a turn, with the memory that it began with
+
+abbrev pub TurnedFrom : Account → ℕ → Key → Times → ℕ → DeskPass → Turn → Account → DeskPass → Times → Type 0
+TurnedFrom start tag k last now p t mail m then = Turned true tag k last now p start t mail m then
+
+pub lets_out : (tells : Bool) (tag : ℕ) (k : Key) (last : Times) (now : ℕ) (p : DeskPass) (start : Account) (t : Turn) (mail : Account) (m q : DeskPass) (then : Times) (a b c : Account) (n : ℕ) (out : List (ℕ × List ℕ)) → start ≡ counted 0 →
+    Turned true tag k last now p start t mail m then → Looks k m q → (tells ≡ true → b.accepted ≡ a.accepted) → out ≡ mail.accepted → Posts tells b out c → n ≡ length q.seen → LetsOut tells tag a c q.seen n
+lets_out tells tag k last now p start t mail m q then a b c n out empty x looks same are posts all =
+    posted tells tag k last now p t mail m q then a b c n (subst (λ s. TurnedFrom s tag k last now p t mail m then) empty x) looks same (subst (λ l. Posts tells b l c) are posts) all

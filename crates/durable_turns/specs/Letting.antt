@@ -1,0 +1,38 @@
+-- What a turn lets out, where frames leave only when their entries stand.
+use Rattle.std.specs.Prelude.{◌≡◌, ◌<◌, ℕ, Bool, true, List, ◌++◌, take, slice_get, All, Option, Some, None}
+use Rattle.site_core.specs.declared.event.Entry.{Entry}
+use Rattle.locked_office.specs.Calls.{Key, DeskPass, Looks}
+use Rattle.journal_texts.specs.Written.{journal_text}
+use Rattle.socket_pump.specs.declared.pump.Turn.{Turn}
+use Rattle.socket_pump.specs.Wires.{Account, counted}
+use Rattle.socket_pump.specs.Chains.{Made, sent_entry, datagram}
+use Rattle.socket_pump.specs.Turns.{Times, Turned}
+
+-- the bytes that stand, where they are known, are the text of the journal's first n entries
+abbrev pub StoreHas : Option (List ℕ) → Key → List Entry → ℕ → Type 0
+StoreHas None k es n = Unit {0}
+StoreHas (Some bytes) k es n = bytes ≡ journal_text k.0 k.1 (take n es)
+
+-- the datagram is of a frame whose entry is among the first n
+abbrev pub IsOfStanding : ℕ → List Entry → ℕ → ℕ × List ℕ → Type 0
+IsOfStanding tag es n d = (m : Made) × (d ≡ datagram m) × (i : ℕ) × (i < n) × (slice_get es i ≡ Some (sent_entry tag m))
+
+-- These datagrams left, where the wire tells them, and each is of a frame whose entry stands: it is among the first n.
+pub record LetsOut (tells : Bool) (tag : ℕ) (a b : Account) (es : List Entry) (n : ℕ) : Type 0 where
+  pub out : List (ℕ × List ℕ)
+  pub went : tells ≡ true → b.accepted ≡ a.accepted ++ out
+  pub stand : All (IsOfStanding tag es n) out
+
+-- a pump turned between the office and memory, and then the office was looked at
+pub record TurnsInMemory (tag : ℕ) (k : Key) (last : Times) (now : ℕ) (p : DeskPass) (t : Turn) (q : DeskPass) (then : Times) : Type 0 where
+  pub mid : DeskPass
+  pub mail : Account
+  pub turned : Turned true tag k last now p (counted 0) t mail mid then
+  pub looked : Looks k mid q
+
+abbrev pub SendsNothing : Bool → Account → Account → Type 0
+SendsNothing tells a b = tells ≡ true → b.accepted ≡ a.accepted
+
+-- the first of these datagrams went out
+abbrev pub Posts : Bool → Account → List (ℕ × List ℕ) → Account → Type 0
+Posts tells a out b = (n : ℕ) × (tells ≡ true → b.accepted ≡ a.accepted ++ take n out)

@@ -1,0 +1,22 @@
+//! Why a turn breaks off.
+
+use socket_pump::PumpFault;
+
+/// Why a turn breaks off. What stood stands; of the entries since, none has let anything out.
+#[derive(Clone, Copy, Debug, PartialEq, Eq)]
+pub enum TurnFault {
+    WireFailed,
+    StoreFailed,
+    JournalFull,
+    Memory,
+}
+
+impl TurnFault {
+    pub(crate) fn of_pump(fault: PumpFault) -> TurnFault {
+        match fault {
+            PumpFault::WireFailed => TurnFault::WireFailed,
+            PumpFault::JournalFull => TurnFault::JournalFull,
+            PumpFault::Memory => TurnFault::Memory,
+        }
+    }
+}

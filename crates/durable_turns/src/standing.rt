@@ -1,0 +1,72 @@
+//! Entries are made to stand.
+
+ghost use Rattle.std.specs.Prelude.{◌≡◌, ◌≤◌, ◌++◌, false, length, drop, OnOk, OnErr, IfOk};
+ghost use Rattle.std.specs.String.{string_bytes};
+ghost use Rattle.own_lock.specs.Passes.{IsOf};
+ghost use Rattle.locked_office.specs.Calls.{Stays, Looks};
+ghost use Rattle.journal_texts.specs.Written.{lines_of};
+ghost use Rattle.durable_turns.specs.Letting.{StoreHas};
+
+use crate::fault::TurnFault;
+use journal_stores::{Store, StoreFailed};
+use journal_texts::add_lines;
+use locked_office::Desk;
+use own_lock::Pass;
+use site_core::Office;
+use std::alloc::{AllocError, Global};
+use std::sync::Wait;
+
+/// All entries that the office has now stand from now on. Where none is new, nothing is appended.
+pub(crate) fn stand<R: Wait, S: Store>(
+    rt: &R,
+    alloc: Global,
+    desk: &Desk,
+    pass: &mut Pass<Office>,
+    store: &mut S,
+    stood: &mut usize,
+) -> Result<(), TurnFault>
+    requires of { IsOf desk.now pass.old }
+    requires idle { pass.old.holds ≡ false }
+    requires usable { S.failed store.old ≡ false }
+    requires has { StoreHas (S.stood store.old) desk.now.key pass.old.seen stood.old }
+    requires within { stood.old ≤ length pass.old.seen }
+    ensures stays { Stays desk.now pass.old pass.new }
+    ensures looked { Looks desk.now.key pass.old pass.new }
+    ensures has { StoreHas (S.stood store.new) desk.now.key pass.new.seen stood.new }
+    ensures all { OnOk result (stood.new ≡ length pass.new.seen) }
+    ensures same { OnErr result (stood.new ≡ stood.old) }
+    ensures usable { OnOk result (S.failed store.new ≡ false) }
+{
+    let mut text = String::new(alloc);
+    let held = desk.lock().take(rt, pass);
+    let written = lines_since(alloc, &mut text, held.get(), *stood);
+    desk.lock().give(pass, held);
+    let count = match written {
+        Ok(count) => count,
+        Err(_) => return Err(TurnFault::Memory),
+    };
+    if count == *stood {
+        return Ok(());
+    }
+    match store.append(text.as_bytes()) {
+        Ok(()) => {}
+        Err(StoreFailed) => return Err(TurnFault::StoreFailed),
+    }
+    *stood = count;
+    Ok(())
+}
+
+/// The lines of the office's entries from that place on, and how many entries it has in all.
+fn lines_since(
+    alloc: Global,
+    text: &mut String,
+    office: &Office,
+    from: usize,
+) -> Result<usize, AllocError>
+    ensures lines { OnOk result (string_bytes text.new ≡ string_bytes text.old ++ lines_of office.now.plan (drop from office.now.entries)) }
+    ensures count { IfOk result (λ n. n ≡ length office.now.entries) }
+{
+    let journal = office.journal();
+    add_lines(alloc, text, journal, office.plan(), office.number(), from)?;
+    Ok(journal.len())
+}

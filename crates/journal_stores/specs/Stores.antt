@@ -1,0 +1,19 @@
+-- Bytes that stand in a store, where these are known, and what may be found there after a loss.
+use Rattle.std.specs.Prelude.{◌≡◌, ℕ, List, ◌++◌, Option, Some, None}
+
+-- known bytes stay, and then come these; unknown ones stay unknown
+abbrev pub Stands : Option (List ℕ) → List ℕ → Option (List ℕ) → Type 0
+Stands None bytes new = new ≡ None
+Stands (Some old) bytes new = new ≡ Some (old ++ bytes)
+
+-- they stay as they are
+abbrev pub Keeps : Option (List ℕ) → Option (List ℕ) → Type 0
+Keeps old new = new ≡ old
+
+-- What a start may find of a store in which these bytes stood, where those were to be appended when it was lost, or when an append
+-- failed: a beginning of them after what stood.
+pub record MayBeFound (stood under_way found : List ℕ) : Type 0 where
+  pub part : List ℕ
+  pub rest : List ℕ
+  pub begins : under_way ≡ part ++ rest
+  pub after : found ≡ stood ++ part

@@ -1,0 +1,4 @@
+mod LegalBeginnings
+mod Parts
+mod Kept
+mod Restarts

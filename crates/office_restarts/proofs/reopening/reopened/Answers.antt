@@ -1,0 +1,21 @@
+use Rattle.std.proofs.Common.{◌≡◌, ℕ, take, Some, sym, ap, subst, ◌∙◌}
+use Rattle.std.specs.Prelude.{slice_get}
+use Rattle.std.proofs.lemmas.Option.{slice_get-get_or}
+use Rattle.office_map.specs.PlanValue.{PlanValue}
+use Rattle.site_core.specs.Journals.{Site, IsLegal}
+use Rattle.office_restarts.specs.Reopening.{site_with}
+use Rattle.office_restarts.specs.refinement.Giving.{Gives}
+use Rattle.office_restarts.proofs.LegalBeginnings.{cut_at}
+use Rattle.office_restarts.proofs.reopening.reopened.Goals as goal
+
+pub returns-then-not-branch-clause-fault : goal.returns-then-not-branch-clause-fault
+returns-then-not-branch-clause-fault c =
+    let k = c.loop-entry.invariant in
+    let x = c.entry-item.result in
+    let i : ℕ = c.loop-entry.entry-index in
+    let plan : PlanValue = c.args.plan.now in
+    let me : ℕ = c.args.me in
+    let es = c.args.entries.now in
+    let stands : slice_get es i ≡ Some x = slice_get-get_or es i x c.loop-entry-test.true ∙ ap Some (sym c.entry-item.is) in
+    let legal : IsLegal (site_with plan me (take i es)) = subst IsLegal k.at c.gives.ensures.legal in
+    cut_at plan me es i c.loop-entry.given x k.counted stands legal (λ g. c.in_ok-gives.ensures.other c.if-not-branch.true (subst (λ (o : Site). Gives o x) (sym k.at) g))

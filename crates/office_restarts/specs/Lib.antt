@@ -1,0 +1,4 @@
+pub mod Reopening
+pub mod Lives
+pub mod Restarts
+pub mod refinement

@@ -1,0 +1,63 @@
+//! An office that is opened again.
+
+ghost use Rattle.std.specs.Prelude.{◌≡◌, ◌<◌, ◌↔◌, [], true, false, length, IfOk, IfErr, IsTrue};
+ghost use Rattle.site_core.specs.Journals.{IsLegal, noted};
+ghost use Rattle.office_restarts.specs.Reopening.{site_with, IsNoJournal};
+ghost use Rattle.office_restarts.specs.refinement.Giving.{Gives};
+
+use crate::fault::ReopenFault;
+use office_map::{OfficeId, Plan};
+use site_core::{Entry, Office, Refusal, Reply};
+use std::alloc::{AllocError, Global};
+
+/// The office of which these entries are the journal. It is the one that had accepted them, and goes on where they end.
+///
+/// # Errors
+/// `NotGiven` where no office has that journal, with how many of the entries one gives; `Memory`.
+pub fn reopened(
+    alloc: Global,
+    plan: &Plan,
+    me: OfficeId,
+    entries: &[Entry],
+) -> Result<Office, ReopenFault>
+    requires { me < length plan.now.offices }
+    ensures office { IfOk result (λ o. o ≡ site_with plan.now me entries.now) }
+    ensures legal { IfOk result IsLegal }
+    ensures fault { IfErr result (IsNoJournal plan.now me entries.now) }
+{
+    let mut office = Office::open(alloc, plan, me)?;
+    let mut given = 0;
+    for entry in entries {
+        if !gives(&mut office, entry)? {
+            return Err(ReopenFault::NotGiven(given));
+        }
+        given += 1;
+    }
+    // Its journal is legal.
+    let _ = office.journal();
+    Ok(office)
+}
+
+/// Whether an office accepts an entry's event with its reply. If so it has that entry more.
+fn gives(office: &mut Office, entry: &Entry) -> Result<bool, AllocError>
+    ensures given { IfOk result (λ b. b ≡ true → office.new ≡ noted office.old entry.now.tag entry.now.event entry.now.reply) }
+    ensures other { IfOk result (λ b. b ≡ false → Gives office.old entry.now → ⊥) }
+    ensures legal { IsLegal office.old }
+{
+    // Its journal is legal.
+    let _ = office.journal();
+    if entry.tag >= 16 {
+        return Ok(false);
+    }
+    match office.step(entry.tag, &entry.event) {
+        Ok(reply) => Ok(is_same(&reply, &entry.reply)),
+        Err(Refusal::Memory) => Err(AllocError),
+        Err(_) => Ok(false),
+    }
+}
+
+fn is_same(a: &Reply, b: &Reply) -> bool
+    ensures { IsTrue result ↔ (a.now ≡ b.now) }
+{
+    a == b
+}
