@@ -10,4 +10,5 @@ pub mod Rings
 pub mod OrderOrRing
 pub mod RecordCountsKept
 pub mod RecordEnds
+pub mod OwnRecords
 pub mod RefusedLines

@@ -7,7 +7,7 @@ use Rattle.std.proofs.lemmas.List.Filters.{length-filter_both}
 use Rattle.std.proofs.lemmas.List.Sums.{sum_by-cons, length-filter}
 
 -- an element that passes no test counts nothing
-counted : {X : Type 0} (p : X → Bool) (x : X) (xs : List X) → count_by p (x ∷ xs) ≡ cond (p x) 1 0 + count_by p xs
+pub counted : {X : Type 0} (p : X → Bool) (x : X) (xs : List X) → count_by p (x ∷ xs) ≡ cond (p x) 1 0 + count_by p xs
 counted p x xs = sum_by-cons (λ y. cond (p y) 1 0) x xs
 
 one_more : {X : Type 0} (p q r : X → Bool) (x : X) (xs : List X) → (q x ≡ true → p x ≡ true → r x ≡ true) → count_by p (filter q xs) ≤ count_by r xs → (a b c : Bool) → q x ≡ a → p x ≡ b → r x ≡ c → count_by p (cond a (x ∷ filter q xs) (filter q xs)) ≤ cond c 1 0 + count_by r xs

@@ -1,6 +1,6 @@
 //! Plans.
 
-ghost use Rattle.std.specs.Prelude.{◌≡◌, ◌≢◌, ◌<◌, ◌≤◌, ◌^◌, ◌⊎◌, length, slice_get, Some, IfOk, IfErr, IsTrue, All};
+ghost use Rattle.std.specs.Prelude.{◌≡◌, ◌≢◌, ◌<◌, ◌≤◌, ◌^◌, ◌*◌, ◌⊎◌, length, slice_get, Some, IfOk, IfErr, IsTrue, All, AllPairs};
 
 use crate::entries::{OfficeEntry, RecordEntry};
 use crate::fault::PlanFault;
@@ -38,6 +38,7 @@ impl Model for Plan {
 
 impl Plan {
     ghost use Rattle.office_map.specs.PlanValue.{office_named, record_named, office_name_of, address_of, record_name_of, are_neighbours, neighbours_of, fork_end_of, is_end, records_of, ends_of, peer, start_end_of, start_values};
+    ghost use Rattle.office_map.specs.Limits.{most_offices, most_pair_records};
     ghost use Rattle.office_map.specs.PlanText.{plan_of, Answers, IfRefused, IsLineOf};
     ghost use Rattle.office_map.specs.Precedence.{IsLeastFirst};
     ghost use Rattle.office_map.specs.Consistency.{IsConsistent, IsAccepted};
@@ -125,6 +126,8 @@ impl Plan {
         ensures all { result.now ≡ records_of self.now id }
         ensures each { All (λ r. IsTrue (is_end self.now r id)) result.now }
         ensures records { All (λ r. r < length self.now.records) result.now }
+        ensures few { length result.now ≤ most_offices * most_pair_records }
+        ensures increase { AllPairs (λ r s. r < s) result.now }
     {
         self.index[id.index()].records()
     }
