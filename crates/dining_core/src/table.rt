@@ -106,8 +106,7 @@ impl Table {
     pub fn may_eat(&self) -> bool
         ensures { result ≡ may (diner_of self.now) Eat }
     {
-        let has_all = places::hold_all(&self.places, self.neighbours());
-        matches!(self.phase, Phase::Hungry) && has_all
+        matches!(self.phase, Phase::Hungry) && places::hold_all(&self.places, self.neighbours())
     }
 
     /// Whether [`Table::leave`] would be done now.

@@ -1,6 +1,6 @@
 //! A bar with masks beside it: what is done next of it, without a look at each record.
 
-ghost use Rattle.std.specs.Prelude.{◌≡◌, ◌<◌, ◌≤◌, ◌↔◌, ◌≢◌, ℕ, length, find, IsErr, IfOk, OnOk, OnErr, All, true, false, ◌&&◌, ◌==◌};
+ghost use Rattle.std.specs.Prelude.{◌≡◌, ◌<◌, ◌≤◌, ◌↔◌, ◌≢◌, ℕ, length, find, IsErr, IfOk, OnOk, OnErr, All, AllPairs, true, false, ◌&&◌, ◌==◌};
 ghost use Rattle.std.specs.List.{list_any};
 ghost use Rattle.std.specs.Option.{ForSome, option_copied};
 ghost use Rattle.bit_masks.specs.Sets.{is_in128};
@@ -209,21 +209,16 @@ fn mask_of(spots: &[u8], records: &[RecordId]) -> Mask128
     mask
 }
 
-/// Each record's place among these. There is room for 128 of them, and none stands twice.
+/// Each record's place among these.
 fn spots_of(alloc: Global, count: usize, records: &[RecordId]) -> Result<Vec<u8>, AllocError>
     requires within { All (λ r. r < count) records.now }
+    requires few { length records.now ≤ 128 }
+    requires increase { AllPairs (λ r s. r < s) records.now }
     ensures { IfOk result (λ s. AreSpots records.now s.items) }
 {
-    if records.len() > 128 {
-        return Err(AllocError);
-    }
     let mut spots = vec![in alloc; 255u8; count]?;
     for k in 0..records.len() {
-        let r = records[k];
-        if spots[r.index()] != 255 {
-            return Err(AllocError);
-        }
-        spots[r.index()] = k as u8;
+        spots[records[k].index()] = k as u8;
     }
     Ok(spots)
 }

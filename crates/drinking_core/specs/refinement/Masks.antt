@@ -1,7 +1,5 @@
 -- The masks that the code keeps beside a bar: a bit for each of the office's own records.
 use Rattle.std.specs.Prelude.{◌≡◌, ℕ, ◌<◌, ◌≤◌, Bool, List, length, get_or}
-use Rattle.std.specs.List.{list_any}
-use Rattle.std.specs.Prelude.{◌==◌}
 use Rattle.bit_masks.specs.declared.mask128.Mask128.{Mask128}
 use Rattle.bit_masks.specs.Sets.{is_in128}
 use Rattle.drinking_core.specs.Drinkers.{Drinker, holds}

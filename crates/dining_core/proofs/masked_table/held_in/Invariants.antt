@@ -1,6 +1,5 @@
-use Rattle.std.proofs.Common.{◌≡◌, ◌<◌, ℕ, take}
+use Rattle.std.proofs.Common.{◌≡◌, ◌<◌, ℕ}
 use Rattle.bit_masks.specs.Sets.{is_in16}
-use Rattle.bottle_values.specs.Lists.{is_among}
 use Rattle.dining_core.specs.refinement.Tables.{diner_of}
 use Rattle.dining_core.proofs.masked_table.held_in.Given as goal
 

@@ -1,11 +1,8 @@
-use Rattle.std.proofs.Common.{◌≡◌, ◌<◌, ◌≤◌, ℕ, length, take, false}
+use Rattle.std.proofs.Common.{◌≡◌, ◌<◌, ℕ, take}
 use Rattle.std.specs.Prelude.{◌==◌}
 use Rattle.std.specs.List.{list_any}
-use Rattle.bit_masks.specs.Sets.{is_in128, size128}
-use Rattle.dining_core.specs.refinement.Tables.{diner_of}
-use Rattle.drinking_core.specs.Drinkers.{GiveBottle, may, holds}
-use Rattle.drinking_core.specs.refinement.Bars.{drinker_of}
-use Rattle.drinking_core.specs.refinement.Masks.{spot_in, record_at}
+use Rattle.bit_masks.specs.Sets.{is_in128}
+use Rattle.drinking_core.specs.refinement.Masks.{spot_in}
 use Rattle.drinking_core.proofs.masked_bar.mask_of.Given as goal
 
 abbrev pub invariant-loop-r : goal.invariant-loop-r

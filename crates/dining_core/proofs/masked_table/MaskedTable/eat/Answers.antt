@@ -1,7 +1,7 @@
-use Rattle.std.proofs.Common.{sym, subst, true, false}
+use Rattle.std.proofs.Common.{sym, subst}
 use Rattle.dining_core.specs.refinement.Tables.{diner_of}
 use Rattle.dining_core.specs.refinement.Masks.{AreMasks}
-use Rattle.dining_core.proofs.MaskUpdates.{IsPut, eaten}
+use Rattle.dining_core.proofs.MaskUpdates.{eaten}
 use Rattle.dining_core.proofs.masked_table.MaskedTable.eat.Goals as goal
 
 pub invariant_of-self-2 : goal.invariant_of-self-2

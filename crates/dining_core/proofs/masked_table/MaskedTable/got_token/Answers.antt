@@ -1,4 +1,4 @@
-use Rattle.std.proofs.Common.{sym, subst, true, false}
+use Rattle.std.proofs.Common.{sym, subst, true}
 use Rattle.dining_core.specs.refinement.Tables.{diner_of}
 use Rattle.dining_core.specs.refinement.Masks.{AreMasks}
 use Rattle.dining_core.proofs.MaskUpdates.{IsPut, token_came}

@@ -1,7 +1,7 @@
-use Rattle.std.proofs.Common.{sym, subst, true, false}
+use Rattle.std.proofs.Common.{sym, subst}
 use Rattle.dining_core.specs.refinement.Tables.{diner_of}
 use Rattle.dining_core.specs.refinement.Masks.{AreMasks}
-use Rattle.dining_core.proofs.MaskUpdates.{IsPut, left}
+use Rattle.dining_core.proofs.MaskUpdates.{left}
 use Rattle.dining_core.proofs.masked_table.MaskedTable.leave.Goals as goal
 
 pub invariant_of-self-2 : goal.invariant_of-self-2

@@ -1,4 +1,4 @@
-use Rattle.std.proofs.Common.{◌≡◌, ap, sym, subst, ◌∙◌, false, true}
+use Rattle.std.proofs.Common.{◌≡◌, ap, sym, subst, ◌∙◌, false}
 use Rattle.dining_core.specs.refinement.Tables.{diner_of}
 use Rattle.drinking_core.specs.refinement.Bars.{drinker_of}
 use Rattle.drinking_core.specs.refinement.Masks.{spot_in}
