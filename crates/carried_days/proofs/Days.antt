@@ -1,12 +1,13 @@
 -- A serial run that is cut in two.
 use Rattle.std.proofs.Common.{◌≡◌, ℕ, zero, suc, ◌+◌, ◌<◌, true, false, cond, List, [], ◌∷◌, ◌++◌, length, map, Option, None, Some, refl, sym, ap, ap₂, subst, ◌∙◌, arith}
-use Rattle.std.specs.Prelude.{All, IsTrue, slice_get, pos, nat_lt, ◌==◌}
+use Rattle.std.specs.Prelude.{All, IsTrue, slice_get, nat_lt, ◌==◌}
 use Rattle.std.specs.List.{list_all, slice_index_or}
 use Rattle.std.specs.Option.{option_map_or}
 use Rattle.std.proofs.lemmas.Bool.{and_parts}
 use Rattle.std.proofs.lemmas.List.Elements.{All-head, All-tail}
 use Rattle.std.proofs.lemmas.Option.{slice_get_within}
-use Rattle.bottle_values.specs.declared.Value.{Value}
+use Rattle.bottle_values.specs.Values.{Value}
+use Rattle.bottle_values.specs.Operations.{nought}
 use Rattle.bottle_values.specs.Maps.{put, reads_of, write_all}
 use Rattle.office_map.specs.PlanValue.{PlanValue, is_end, has_end}
 use Rattle.office_map.specs.declared.entries.RecordEntry.{RecordEntry}
@@ -21,13 +22,13 @@ use Rattle.carried_days.specs.Days.{with_values, endings, next_day, CarriedStart
 
 -- ---- the values at the start
 
-value_at : (m : ℕ → Value) (from r : ℕ) (xs : List RecordEntry) → r < length xs → slice_index_or (map (λ (e : RecordEntry). e.value) (with_values m from xs)) r (pos 0) ≡ (m (from + r)).number
+value_at : (m : ℕ → Value) (from r : ℕ) (xs : List RecordEntry) → r < length xs → slice_index_or (map (λ (e : RecordEntry). e.value) (with_values m from xs)) r nought ≡ m (from + r)
 value_at m from r [] lt = absurd (omega (arith, lt))
-value_at m from zero (x ∷ xs) lt = ap (λ n. (m n).number) (omega arith)
-value_at m from (suc r) (x ∷ xs) lt = value_at m (suc from) r xs (omega (arith, lt)) ∙ ap (λ n. (m n).number) (omega arith)
+value_at m from zero (x ∷ xs) lt = ap m (omega arith)
+value_at m from (suc r) (x ∷ xs) lt = value_at m (suc from) r xs (omega (arith, lt)) ∙ ap m (omega arith)
 
 pub carried_starts_with : CarriedStartsWith
-carried_starts_with p run m r lt = let on : 0 + r ≡ r = omega arith in ap (λ n. record { number = n }) (value_at m 0 r p.records lt) ∙ ap m on
+carried_starts_with p run m r lt = let on : 0 + r ≡ r = omega arith in value_at m 0 r p.records lt ∙ ap m on
 
 -- ---- maps that agree on the records
 

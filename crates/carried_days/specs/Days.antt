@@ -1,6 +1,6 @@
 -- The plan of the next day: the same offices, pairs and records, with the values that a serial run left, and another run number.
 use Rattle.std.specs.Prelude.{◌≡◌, ℕ, suc, ◌<◌, List, [], ◌∷◌, ◌++◌, length, map, All, IsTrue}
-use Rattle.bottle_values.specs.declared.Value.{Value}
+use Rattle.bottle_values.specs.Values.{Value}
 use Rattle.office_map.specs.PlanValue.{PlanValue}
 use Rattle.office_map.specs.declared.entries.RecordEntry.{RecordEntry}
 use Rattle.session_meaning.specs.ProgramValue.{ProgramValue}
@@ -12,7 +12,7 @@ use Rattle.serial_replay.specs.Serial.{start_map, map_of, outcomes_of}
 -- the records from number r on, with a map's values
 abbrev pub with_values : (ℕ → Value) → ℕ → List RecordEntry → List RecordEntry
 with_values m r [] = []
-with_values m r (x ∷ xs) = record x { value = (m r).number } ∷ with_values m (suc r) xs
+with_values m r (x ∷ xs) = record x { value = m r } ∷ with_values m (suc r) xs
 
 abbrev pub carried : PlanValue → ℕ → (ℕ → Value) → PlanValue
 carried p run m = record { run = run; offices = p.offices; pairs = p.pairs; records = with_values m 0 p.records }

@@ -371,7 +371,7 @@ fn tell_outcomes(text: &mut String, world: &World) -> Result<(), AllocError> {
 fn tell_values(text: &mut String, world: &World) -> Result<(), AllocError> {
     text.push_str("values")?;
     for r in 0..world.plan().records() {
-        let value = world.value_of(RecordId::new(r as u16)).number;
+        let value = world.value_of(RecordId::new(r as u16));
         write!(text, " {value}")?;
     }
     Ok(())
