@@ -1,5 +1,5 @@
 -- What two offices share starts at one of them.
-use Rattle.std.proofs.Common.{◌≡◌, ℕ, ◌+◌, Bool, true, false, not, ◌&&◌, List, [], ◌∷◌, Option, None, Some, refl, sym, ap, ◌∙◌, subst, arith, inl, inr, ◌⊎◌, ⊎_elim}
+use Rattle.std.proofs.Common.{◌≡◌, ℕ, ◌+◌, Bool, true, false, not, ◌&&◌, List, [], ◌∷◌, Option, None, Some, refl, sym, ap, ◌∙◌, arith, inl, inr, ◌⊎◌, ⊎_elim}
 use Rattle.std.specs.Prelude.{slice_get, ◌==◌, find, option_map}
 use Rattle.std.specs.Option.{option_map_or}
 use Rattle.std.specs.List.{list_any}
@@ -10,7 +10,7 @@ use Rattle.office_map.specs.PlanValue.{PlanValue, joins, fork_end, lies_between,
 use Rattle.bottle_values.specs.Lists.{num}
 use Rattle.token_channel.specs.declared.thing.Thing.{Thing}
 use Rattle.token_channel.specs.declared.thing.Thing.TheVariants.{Fork, ForkToken, Bottle, BottleToken}
-use Rattle.token_channel.specs.Ends.{is_shared, starts_here}
+use Rattle.token_channel.specs.Ends.{is_shared}
 use Rattle.office_map.proofs.RecordEnds.{joins_swap, find_same, near_both, has_ends_both, between_cases}
 
 pub shared_both : (p : PlanValue) (a b : ℕ) (t : Thing) → is_shared p a b t ≡ is_shared p b a t
