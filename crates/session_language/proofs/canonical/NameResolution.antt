@@ -1,5 +1,5 @@
 -- The names of a canonical text stand for what they were written for.
-use Rattle.std.proofs.Common.{◌≡◌, ◌≢◌, ◌<◌, ◌≤◌, ◌+◌, ℕ, zero, suc, ℤ, pos, negsuc, List, [], ◌∷◌, ◌++◌, length, take, get_or, Bool, true, false, not, ◌&&◌, nat_lt, cond, Option, Some, None, is_some, option_map, unwrap_or, if◌then◌else◌, refl, sym, ap, ◌∙◌, subst, arith}
+use Rattle.std.proofs.Common.{◌≡◌, ◌≢◌, ◌<◌, ◌≤◌, ◌+◌, ℕ, zero, suc, pos, negsuc, List, [], ◌∷◌, ◌++◌, length, take, get_or, Bool, true, false, not, ◌&&◌, nat_lt, cond, Option, Some, None, is_some, option_map, unwrap_or, if◌then◌else◌, refl, sym, ap, ◌∙◌, subst, arith}
 use Rattle.std.specs.Prelude.{AllPairs}
 use Rattle.std.specs.List.{list_all, position, position_or_len}
 use Rattle.std.specs.Option.{option_map_or}
@@ -21,7 +21,7 @@ use Rattle.session_meaning.specs.declared.node.Operator.TheVariants as op
 use Rattle.session_language.specs.declared.rank.Rank.{Rank}
 use Rattle.session_language.specs.declared.rank.Rank.TheVariants.{Factor, Product, Sum}
 use Rattle.session_meaning.specs.Tree.{Term, Constant, Var, ReadOf, Neg, Bin}
-use Rattle.session_language.specs.Spelling.{ANumber, AVariable, ARecord, Token, Leaf, Plus, Minus, Times, Open, Close}
+use Rattle.session_language.specs.Spelling.{AVariable, ARecord, Token, Leaf, Plus, Minus, Times, Open, Close}
 use Rattle.session_language.specs.Names.{Scope, variable_named, if_of_office, record_of, operand_of, placed, token_variable, token_record, knows_variables, knows_records}
 use Rattle.session_language.specs.Text.{Words, variable_name, rank_of}
 use Rattle.session_language.specs.WellFormed.{IsLiteral, IsOver}
