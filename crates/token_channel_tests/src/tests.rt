@@ -180,15 +180,17 @@ fn faults_are_printed_with_their_codes(rt: HostRuntime) -> Result<(), Fail> {
 
 static SEEDS: [u64; 4] = [0, 1, 42, 4_294_967_295];
 
-// A message for each thing of the two.
-static MESSAGES: [Msg; 6] = [
-    Msg::AskFork,
-    Msg::Fork,
-    Msg::AskBottle(0),
-    Msg::AskBottle(1),
-    Msg::Bottle(0, Value::from(7)),
-    Msg::Bottle(1, Value::from(-7)),
-];
+// A message for each of the six things of the two.
+fn message(k: usize) -> Msg {
+    match k {
+        0 => Msg::AskFork,
+        1 => Msg::Fork,
+        2 => Msg::AskBottle(0),
+        3 => Msg::AskBottle(1),
+        4 => Msg::Bottle(0, Value::from(7)),
+        _ => Msg::Bottle(1, Value::from(-7)),
+    }
+}
 
 // Numbers that are drawn from a seed.
 #[derive(Drop)]
@@ -218,7 +220,7 @@ fn acts(
     end: &mut Channel,
     frames: &mut Vec<Frame>,
 ) -> Result<(), AllocError> {
-    let msg = MESSAGES[draws.below(6)];
+    let msg = message(draws.below(6));
     if end.holds(Thing::of(msg)) {
         assert_eq!(rt; end.send(msg), Ok(()));
     }
@@ -277,7 +279,7 @@ fn ten_thousand_random_events(rt: HostRuntime) -> Result<(), Fail> {
                 2 | 3 => arrives(&rt, &mut draws, &mut b, &from_a),
                 _ => arrives(&rt, &mut draws, &mut a, &from_b),
             }
-            let thing = Thing::of(MESSAGES[draws.below(6)]);
+            let thing = Thing::of(message(draws.below(6)));
             is_once(&rt, &a, &b, thing);
         }
         assert!(rt; a.taken() > 100 && b.taken() > 100, "seed {seed}");

@@ -98,8 +98,7 @@ fn brings(rt: &impl Abort, link: &mut Link, number: u64, msg: Msg, arrival: Arri
 #[test]
 fn early_messages_are_kept(rt: HostRuntime) {
     let mut link = Link::open(42, 0, 1);
-    let second = Msg::AskBottle(2);
-    brings(&rt, &mut link, 2, second, Arrival::Kept, 0);
+    brings(&rt, &mut link, 2, Msg::AskBottle(2), Arrival::Kept, 0);
     brings(&rt, &mut link, 2, Msg::Fork, Arrival::Kept, 0);
     brings(&rt, &mut link, 18, Msg::Fork, Arrival::Kept, 0);
     brings(&rt, &mut link, 19, Msg::Fork, Arrival::Early, 0);
@@ -112,12 +111,12 @@ fn early_messages_are_kept(rt: HostRuntime) {
         Arrival::Fresh(Msg::AskFork),
         1,
     );
-    assert_eq!(rt; link.kept(), Some(second));
+    assert_eq!(rt; link.kept(), Some(Msg::AskBottle(2)));
     if link.kept().is_some() {
         link.accept_kept();
     }
     assert_eq!(rt; link.kept(), None);
-    brings(&rt, &mut link, 2, second, Arrival::Repeat, 2);
+    brings(&rt, &mut link, 2, Msg::AskBottle(2), Arrival::Repeat, 2);
     brings(&rt, &mut link, 20, Msg::Fork, Arrival::Kept, 2);
     brings(&rt, &mut link, 21, Msg::Fork, Arrival::Early, 2);
 }
@@ -125,7 +124,6 @@ fn early_messages_are_kept(rt: HostRuntime) {
 #[test]
 fn what_is_kept_is_thrown_out(rt: HostRuntime) {
     let mut link = Link::open(42, 0, 1);
-    let second = Msg::AskBottle(2);
     for number in [2, 3] {
         brings(&rt, &mut link, number, Msg::Fork, Arrival::Kept, 0);
     }
@@ -141,9 +139,23 @@ fn what_is_kept_is_thrown_out(rt: HostRuntime) {
         link.drop_kept();
     }
     assert_eq!(rt; link.kept(), None);
-    brings(&rt, &mut link, 2, second, Arrival::Fresh(second), 2);
+    brings(
+        &rt,
+        &mut link,
+        2,
+        Msg::AskBottle(2),
+        Arrival::Fresh(Msg::AskBottle(2)),
+        2,
+    );
     assert_eq!(rt; link.kept(), Some(Msg::Fork));
-    brings(&rt, &mut link, 3, second, Arrival::Fresh(second), 3);
+    brings(
+        &rt,
+        &mut link,
+        3,
+        Msg::AskBottle(2),
+        Arrival::Fresh(Msg::AskBottle(2)),
+        3,
+    );
     assert_eq!(rt; link.kept(), None);
 }
 

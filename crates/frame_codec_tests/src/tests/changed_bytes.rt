@@ -24,9 +24,7 @@ const BOTTLE_FRAME: [u8; 37] =
 
 const RECORD: u16 = 0x1314;
 
-const VALUE: Value = Value {
-    number: 0x1516_1718_191a_1b1c,
-};
+const NUMBER: i64 = 0x1516_1718_191a_1b1c;
 
 /// What is read of a changed frame: a fault, or the frame with one field changed.
 #[derive(Clone, Copy)]
@@ -38,6 +36,7 @@ enum Want {
     Number(u64),
     Count(u64),
     Message(Msg),
+    Bottle(u16),
     Value(i64),
 }
 
@@ -134,8 +133,8 @@ const REST_OF_BOTTLE: [Row; 16] = [
     (26, 0x05, Want::Fault(FrameFault::Tag)),
     (26, 0x01, Want::Fault(FrameFault::Length)),
     (26, 0x03, Want::Fault(FrameFault::Length)),
-    (27, 0xec, Want::Message(Msg::Bottle(0xec14, VALUE))),
-    (28, 0xeb, Want::Message(Msg::Bottle(0x13eb, VALUE))),
+    (27, 0xec, Want::Bottle(0xec14)),
+    (28, 0xeb, Want::Bottle(0x13eb)),
     (29, 0xea, Want::Value(-0x15e9_e8e7_e6e5_e4e4)),
     (30, 0xe9, Want::Value(0x15e9_1718_191a_1b1c)),
     (31, 0xe8, Want::Value(0x1516_e818_191a_1b1c)),
@@ -163,6 +162,7 @@ fn changed(rt: &impl Abort, msg: Option<Msg>, want: Want) -> Result<Frame, Frame
         Want::Number(field) => number = field,
         Want::Count(field) => count = field,
         Want::Message(field) => msg = Some(field),
+        Want::Bottle(record) => msg = Some(Msg::Bottle(record, Value::from(NUMBER))),
         Want::Value(number) => msg = Some(Msg::Bottle(RECORD, Value::from(number))),
     }
     assert!(rt; 0 < number && number <= MAX_NUMBER);
@@ -232,7 +232,7 @@ fn bytes_of_bottles(rt: HostRuntime) -> Result<(), Fail> {
     are_read(
         &rt,
         &BOTTLE_FRAME,
-        Some(Msg::Bottle(RECORD, VALUE)),
+        Some(Msg::Bottle(RECORD, Value::from(NUMBER))),
         &[&HEADER, &DATA, &REST_OF_BOTTLE],
     )
 }

@@ -207,13 +207,14 @@ impl Way {
     }
 }
 
-fn note(
-    two: &Two,
+// An event happens, and what went either way is noted.
+fn happens(
+    two: &mut Two,
     left: &mut Way,
     right: &mut Way,
     event: LinkEvent,
-    reply: LinkReply,
 ) -> Result<(), AllocError> {
+    let reply = two.apply(&event)?;
     let frames = two.frames();
     match (event, reply) {
         (LinkEvent::Queue(End::Left, msg), LinkReply::Queued) => left.sent.push(msg)?,
@@ -245,8 +246,7 @@ fn ten_thousand_random_events(rt: HostRuntime) -> Result<(), Fail> {
         let mut right = Way::new(rt.alloc());
         for _ in 0..10_000 {
             let event = draws.event(two.frames().len());
-            let reply = two.apply(&event)?;
-            note(&two, &mut left, &mut right, event, reply)?;
+            happens(&mut two, &mut left, &mut right, event)?;
         }
         left.is_kept(&rt, two.link(End::Left), two.link(End::Right));
         right.is_kept(&rt, two.link(End::Right), two.link(End::Left));
