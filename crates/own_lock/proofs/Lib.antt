@@ -4,3 +4,4 @@ pub mod Views
 pub mod StepsKeepRule
 pub mod Dealing
 pub mod PassCalls
+pub mod WaitingTags

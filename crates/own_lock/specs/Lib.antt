@@ -2,4 +2,5 @@ pub mod Entries
 pub mod Rule
 pub mod Steps
 pub mod Passes
+pub mod Waking
 pub mod refinement

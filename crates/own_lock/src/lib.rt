@@ -26,6 +26,7 @@ mod lock;
 mod pass;
 mod seat_view;
 mod table_rule;
+mod waking;
 
 pub use held::Held;
 pub use kept::Kept;

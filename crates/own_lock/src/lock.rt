@@ -11,14 +11,12 @@ use crate::kept::Kept;
 use crate::pass::Pass;
 use crate::seat_view::{Opening, SeatView};
 use crate::table_rule::{Deal, GiveBack, History, Tell, Together, Try};
+use crate::waking::Waiters;
 use atomic_table::{Seat, Table};
-use crossbeam_utils::sync::{Parker, Unparker};
 use std::alloc::{AllocError, Global};
 use std::marker::Model;
 use std::snapshot::Snapshot;
 use std::sync::Wait;
-use std::sync::atomic::AtomicU64;
-use std::sync::atomic::Ordering::SeqCst;
 use std::thread::yield_now;
 use thiserror::Error;
 
@@ -35,11 +33,8 @@ const TRIES: u32 = 20;
 /// A lock round a state. Contracts see which lock it is, and the state's key.
 #[derive(Drop)]
 pub struct OwnLock<S: Kept> {
-    table: Table<Option<Boxed<S>>, SeatView<S::Key, S::Entry>, Opening<S>, History<S>, Global>,
-    // one for each pass
-    unparkers: Vec<Unparker>,
-    // a bit for each pass that waits, by its tag
-    waiting: AtomicU64,
+    pub(crate) table: Table<Option<Boxed<S>>, SeatView<S::Key, S::Entry>, Opening<S>, History<S>, Global>,
+    pub(crate) waiters: Waiters,
 }
 
 impl<S: Kept> Model for OwnLock<S> {
@@ -50,20 +45,13 @@ impl<S: Kept> Model for OwnLock<S> {
 
     ghost view = { λ l. record { name = l.table.shared.table_id; key = S.key l.table.shared.key.state.value } };
 
-    ghost invariant = { λ l. (l.table.shared.table_id.words ≡ 1) × (l.table.shared.table_id.slots ≡ 1) };
+    ghost invariant = { λ l. (l.table.shared.table_id.words ≡ 1) × (l.table.shared.table_id.slots ≡ 1) × (l.waiters ≡ l.table.shared.key.passes) };
 }
 
 /// Another pass holds the state. Nothing changed.
 #[derive(Clone, Copy, Debug, PartialEq, Eq, Error)]
 #[error("Busy")]
 pub struct Busy;
-
-// A parker, which one of the list wakes.
-fn parker_among(alloc: Global, unparkers: &mut Vec<Unparker>) -> Result<Parker, AllocError> {
-    let parker = Parker::new(alloc)?;
-    unparkers.push(parker.unparker().clone()?)?;
-    Ok(parker)
-}
 
 impl<S: Kept> OwnLock<S> {
     /// A lock round this state, and passes with the tags from 0 on, which have seen its entries.
@@ -93,10 +81,10 @@ impl<S: Kept> OwnLock<S> {
             return Err(AllocError);
         };
         let mut all = Vec::new(alloc);
-        let mut unparkers = Vec::new(alloc);
+        let mut waiters = Waiters::new(alloc);
         for tag in 0..passes - 1 {
             let next = table.shared.split_seat::<Deal>(&mut seat);
-            let parker = parker_among(alloc, &mut unparkers)?;
+            let parker = waiters.parker(alloc)?;
             all.push(Pass {
                 tag,
                 seat: next,
@@ -104,14 +92,9 @@ impl<S: Kept> OwnLock<S> {
             })?;
         }
         let tag = passes - 1;
-        let parker = parker_among(alloc, &mut unparkers)?;
+        let parker = waiters.parker(alloc)?;
         all.push(Pass { tag, seat, parker })?;
-        let lock = OwnLock {
-            table,
-            unparkers,
-            waiting: AtomicU64::new(0),
-        };
-        Ok((lock, all))
+        Ok((OwnLock { table, waiters }, all))
     }
 
     /// Takes the state. While another pass holds it, waits.
@@ -130,11 +113,10 @@ impl<S: Kept> OwnLock<S> {
             }
             yield_now();
         }
-        let mark = 1u64.wrapping_shl(pass.tag as u32);
-        self.waiting.fetch_or(mark, SeqCst);
+        self.waiters.enter(pass.tag);
         for _ in rt.forever() {
             if let Ok(held) = self.press(pass) {
-                self.waiting.fetch_and(!mark, SeqCst);
+                self.waiters.leave(pass.tag);
                 return held;
             }
             pass.parker.park(rt);
@@ -218,16 +200,7 @@ impl<S: Kept> OwnLock<S> {
             .shared
             .swap::<GiveBack<S>>(&mut pass.seat, 0, FREE);
         if found == AWAITED {
-            self.wake();
-        }
-    }
-
-    // Wakes a pass that waits, if one does.
-    fn wake(&self) {
-        let waiting = self.waiting.load(SeqCst);
-        let first = waiting.trailing_zeros() as usize;
-        if let Some(unparker) = self.unparkers.get(first) {
-            unparker.unpark();
+            self.waiters.wake_after(pass.tag);
         }
     }
 
@@ -263,11 +236,7 @@ impl<S: Kept> OwnLock<S> {
         ensures begins { IfSome result (λ state. IsPrefix pass.seen (S.entries state)) }
         ensures mine { IfSome result (λ state. tagged S.tag_of pass.tag (S.entries state) ≡ pass.mine) }
     {
-        let OwnLock {
-            table,
-            unparkers: _,
-            waiting: _,
-        } = self;
+        let OwnLock { table, waiters: _ } = self;
         let Pass {
             tag: _,
             seat,

@@ -36,6 +36,7 @@ loop-tag-preserved g c =
       AreFresh-snoc _ _ _ _ _ _ _ c.loop-tag.invariant.2
           (pass_view-first g.S.Kept.tag_of (g.S.Kept.key x) (g.S.Kept.entries x) n c.loop-tag.tag _ _ _ _ me more (out.3 ∙ c.loop-tag.invariant.0) out.4)
           c.in_ok-push-2.ensures.items,
+      c.in_ok-parker.ensures ∙ ap (λ n. n + 1) c.loop-tag.invariant.3,
     )
 
 pub returns-clause-fresh : goal.returns-clause-fresh

@@ -9,4 +9,5 @@ invariant-loop-tag g l =
     (l.seat.table_id ≡ l.table.shared.table_id)
     × (l.seat.me ≡ dealing g.S.Kept.tag_of (g.S.Kept.key state) (g.S.Kept.entries state) (l.passes - l.tag) l.tag)
     × AreFresh (record { name = l.table.shared.table_id; key = g.S.Kept.key state }) g.S.Kept.tag_of (g.S.Kept.entries state) l.tag l.all.items
+    × (l.waiters ≡ l.tag)
     )
