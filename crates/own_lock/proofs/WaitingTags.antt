@@ -44,15 +44,15 @@ waits_in-greater m n fits lt t =
     ∙ ap (λ d. eqb d 1) (bit_at_and m (2 ^ 64 - 2 ^ (n + 1)) t)
     ∙ ⊎_elim
     (λ greater.
-      ⊎_elim
-      (λ inside. ap (λ b. eqb (min (bit_at m t) b) 1) (bit_at_mask_inside (n + 1) 64 t (omega (arith, greater)) inside) ∙ ap (λ d. eqb d 1) (min_inside (bit_at m t) (bit_at-lt m t)))
-      (λ past. ap (λ b. eqb (min b (bit_at (2 ^ 64 - 2 ^ (n + 1)) t)) 1) (bit_at_above m 64 t fits past) ∙ ap (λ d. eqb d 1) (min_none (bit_at (2 ^ 64 - 2 ^ (n + 1)) t)) ∙ sym (ap (λ d. eqb d 1) (bit_at_above m 64 t fits past)))
-      (cases_lt t 64)
-      ∙ sym (ap (λ b. b && waits_in m t) (lt-ltb n t greater)))
+    ⊎_elim
+    (λ inside. ap (λ b. eqb (min (bit_at m t) b) 1) (bit_at_mask_inside (n + 1) 64 t (omega (arith, greater)) inside) ∙ ap (λ d. eqb d 1) (min_inside (bit_at m t) (bit_at-lt m t)))
+    (λ past. ap (λ b. eqb (min b (bit_at (2 ^ 64 - 2 ^ (n + 1)) t)) 1) (bit_at_above m 64 t fits past) ∙ ap (λ d. eqb d 1) (min_none (bit_at (2 ^ 64 - 2 ^ (n + 1)) t)) ∙ sym (ap (λ d. eqb d 1) (bit_at_above m 64 t fits past)))
+    (cases_lt t 64)
+    ∙ sym (ap (λ b. b && waits_in m t) (lt-ltb n t greater)))
     (λ low.
-      ap (λ b. eqb (min (bit_at m t) b) 1) (bit_at_mask_below (n + 1) 64 t (omega (arith, low)))
-      ∙ ap (λ d. eqb d 1) (min_below (bit_at m t))
-      ∙ sym (ap (λ b. b && waits_in m t) (le-ltb n t low)))
+    ap (λ b. eqb (min (bit_at m t) b) 1) (bit_at_mask_below (n + 1) 64 t (omega (arith, low)))
+    ∙ ap (λ d. eqb d 1) (min_below (bit_at m t))
+    ∙ sym (ap (λ b. b && waits_in m t) (le-ltb n t low)))
     (cases_lt n t)
 
 by_cases : (n : ℕ) (p : ℕ → Bool) (a b : Option ℕ) → IsLeast (above n p) a → IsLeast p b → IsNextAfter n p (option_or a b)

@@ -25,7 +25,7 @@ const FREE: u64 = 0;
 
 const TAKEN: u64 = 1;
 
-const AWAITED: u64 = 2;
+pub(crate) const AWAITED: u64 = 2;
 
 // How often a pass tries before it waits.
 const TRIES: u32 = 20;
@@ -33,7 +33,13 @@ const TRIES: u32 = 20;
 /// A lock round a state. Contracts see which lock it is, and the state's key.
 #[derive(Drop)]
 pub struct OwnLock<S: Kept> {
-    pub(crate) table: Table<Option<Boxed<S>>, SeatView<S::Key, S::Entry>, Opening<S>, History<S>, Global>,
+    pub(crate) table: Table<
+        Option<Boxed<S>>,
+        SeatView<S::Key, S::Entry>,
+        Opening<S>,
+        History<S>,
+        Global,
+    >,
     pub(crate) waiters: Waiters,
 }
 
@@ -125,7 +131,7 @@ impl<S: Kept> OwnLock<S> {
     }
 
     // Takes the state if nobody holds it, and else leaves word that a pass waits.
-    fn press(&self, pass: &mut Pass<S>) -> Result<Held<S>, Busy>
+    pub(crate) fn press(&self, pass: &mut Pass<S>) -> Result<Held<S>, Busy>
         requires of { IsOf self.now pass.old }
         requires idle { pass.old.holds ≡ false }
         ensures taken { IfOk result (λ held. pass.new ≡ pass_after_take pass.old (S.entries held)) }

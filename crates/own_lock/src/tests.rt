@@ -9,6 +9,10 @@ use std::sync::Wait;
 use std::test::Fail;
 use std::thread::{Threads, join, sleep};
 use std::time::{Clock, Duration};
+use watch::Watch;
+
+mod waking;
+mod watch;
 
 #[derive(Clone, Copy, Debug, PartialEq)]
 struct Entry {
@@ -101,15 +105,25 @@ fn add_held(
     done
 }
 
-// Adds the numbers from 0 on.
-fn add_all<R: Wait>(rt: &R, lock: &OwnLock<Log>, mut pass: Pass<Log>, count: u32) -> Pass<Log>
+// Adds the numbers from 0 on, and holds the log for a millisecond now and then, so that others wait.
+fn add_all<R: Wait + Clock>(
+    rt: &R,
+    lock: &OwnLock<Log>,
+    mut pass: Pass<Log>,
+    count: u32,
+    watch: &Watch,
+) -> Pass<Log>
     requires of { IsOf lock.now pass }
     requires idle { pass.holds ≡ false }
     ensures { IsOf lock.entry.now result × (result.holds ≡ false) }
 {
     for number in 0..count {
         let held = lock.take(rt, &mut pass);
+        if number % 50 == 0 {
+            sleep(rt, Duration::from_millis(1));
+        }
         let _ = add_held(lock, &mut pass, held, number);
+        watch.tell();
     }
     pass
 }
@@ -130,12 +144,13 @@ fn is_busy(lock: &OwnLock<Log>, pass: &mut Pass<Log>) -> bool
     }
 }
 
-fn add_in_two_threads<R: Threads + Wait + Sync>(
+fn add_in_two_threads<R: Threads + Wait + Clock + Sync>(
     rt: &R,
     lock: &OwnLock<Log>,
     a: Pass<Log>,
     b: Pass<Log>,
     count: u32,
+    watch: &Watch,
 ) -> (Pass<Log>, Pass<Log>)
     requires a { IsOf lock.now a × (a.holds ≡ false) }
     requires b { IsOf lock.now b × (b.holds ≡ false) }
@@ -147,11 +162,43 @@ fn add_in_two_threads<R: Threads + Wait + Sync>(
         move || -> Pass<Log>
             requires { IsSync R.row × IsOf lock.now a × (a.holds ≡ false) }
             ensures { IsOf lock.entry.now result × (result.holds ≡ false) }
-        { add_all(rt, lock, a, count) },
+        { add_all(rt, lock, a, count, watch) },
         move || -> Pass<Log>
             requires { IsSync R.row × IsOf lock.now b × (b.holds ≡ false) }
             ensures { IsOf lock.entry.now result × (result.holds ≡ false) }
-        { add_all(rt, lock, b, count) },
+        { add_all(rt, lock, b, count, watch) },
+    )
+}
+
+fn add_two_and_two<R: Threads + Wait + Clock + Sync>(
+    rt: &R,
+    lock: &OwnLock<Log>,
+    a: Pass<Log>,
+    b: Pass<Log>,
+    c: Pass<Log>,
+    d: Pass<Log>,
+    count: u32,
+    watch: &Watch,
+) -> ((Pass<Log>, Pass<Log>), (Pass<Log>, Pass<Log>))
+    requires a { IsOf lock.now a × (a.holds ≡ false) }
+    requires b { IsOf lock.now b × (b.holds ≡ false) }
+    requires c { IsOf lock.now c × (c.holds ≡ false) }
+    requires d { IsOf lock.now d × (d.holds ≡ false) }
+    ensures a { IsOf lock.entry.now result.0.0 × (result.0.0.holds ≡ false) }
+    ensures b { IsOf lock.entry.now result.0.1 × (result.0.1.holds ≡ false) }
+    ensures c { IsOf lock.entry.now result.1.0 × (result.1.0.holds ≡ false) }
+    ensures d { IsOf lock.entry.now result.1.1 × (result.1.1.holds ≡ false) }
+{
+    join(
+        rt,
+        move || -> (Pass<Log>, Pass<Log>)
+            requires { IsSync R.row × IsOf lock.now a × (a.holds ≡ false) × IsOf lock.now b × (b.holds ≡ false) }
+            ensures { IsOf lock.entry.now result.0 × (result.0.holds ≡ false) × IsOf lock.entry.now result.1 × (result.1.holds ≡ false) }
+        { add_in_two_threads(rt, lock, a, b, count, watch) },
+        move || -> (Pass<Log>, Pass<Log>)
+            requires { IsSync R.row × IsOf lock.now c × (c.holds ≡ false) × IsOf lock.now d × (d.holds ≡ false) }
+            ensures { IsOf lock.entry.now result.0 × (result.0.holds ≡ false) × IsOf lock.entry.now result.1 × (result.1.holds ≡ false) }
+        { add_in_two_threads(rt, lock, c, d, count, watch) },
     )
 }
 
@@ -232,8 +279,9 @@ fn busy_and_none_come_with_a_holder(rt: HostRuntime) -> Result<(), Fail> {
     Ok(())
 }
 
-// Each of the passes adds as many, two and two side by side.
-fn add_in_four_threads<R: Threads + Wait + Sync>(
+// Each of the passes adds as many, two and two side by side, while another thread watches them. It says whether
+// they came to their end without help.
+fn add_in_four_threads<R: Threads + Wait + Clock + Sync>(
     rt: &R,
     lock: OwnLock<Log>,
     a: Pass<Log>,
@@ -241,100 +289,42 @@ fn add_in_four_threads<R: Threads + Wait + Sync>(
     c: Pass<Log>,
     d: Pass<Log>,
     count: u32,
-) -> Option<Log>
+    watch: &Watch,
+) -> (Option<Log>, bool)
     requires a { IsOf lock a × (a.holds ≡ false) }
     requires b { IsOf lock b × (b.holds ≡ false) }
     requires c { IsOf lock c × (c.holds ≡ false) }
     requires d { IsOf lock d × (d.holds ≡ false) }
 {
     let shared = &lock;
-    let ((a, b), (c, mut d)) = join(
+    let (((a, b), (c, mut d)), by_themselves) = join(
         rt,
-        move || -> (Pass<Log>, Pass<Log>)
-            requires { IsSync R.row × IsOf shared.now a × (a.holds ≡ false) × IsOf shared.now b × (b.holds ≡ false) }
-            ensures { IsOf shared.entry.now result.0 × (result.0.holds ≡ false) × IsOf shared.entry.now result.1 × (result.1.holds ≡ false) }
-        { add_in_two_threads(rt, shared, a, b, count) },
-        move || -> (Pass<Log>, Pass<Log>)
-            requires { IsSync R.row × IsOf shared.now c × (c.holds ≡ false) × IsOf shared.now d × (d.holds ≡ false) }
-            ensures { IsOf shared.entry.now result.0 × (result.0.holds ≡ false) × IsOf shared.entry.now result.1 × (result.1.holds ≡ false) }
-        { add_in_two_threads(rt, shared, c, d, count) },
+        move || -> ((Pass<Log>, Pass<Log>), (Pass<Log>, Pass<Log>))
+            requires { IsSync R.row × IsOf shared.now a × (a.holds ≡ false) × IsOf shared.now b × (b.holds ≡ false) × IsOf shared.now c × (c.holds ≡ false) × IsOf shared.now d × (d.holds ≡ false) }
+            ensures { IsOf shared.entry.now result.0.0 × (result.0.0.holds ≡ false) × IsOf shared.entry.now result.0.1 × (result.0.1.holds ≡ false) × IsOf shared.entry.now result.1.0 × (result.1.0.holds ≡ false) × IsOf shared.entry.now result.1.1 × (result.1.1.holds ≡ false) }
+        { add_two_and_two(rt, shared, a, b, c, d, count, watch) },
+        move || watch.comes(rt, 4 * count as u64),
     );
     lock.meet(a, &mut d);
     lock.meet(b, &mut d);
     lock.meet(c, &mut d);
-    lock.close(d)
+    (lock.close(d), by_themselves)
 }
 
 #[test]
 fn each_pass_adds_once_and_in_order(rt: HostRuntime) -> Result<(), Fail> {
     let (lock, mut passes) = OwnLock::open(rt.alloc(), Log::new(rt.alloc(), 7), 4)?;
+    let watch = Watch::new(rt.alloc(), &passes)?;
     let d = last(&lock, &mut passes).ok_or("four")?;
     let c = last(&lock, &mut passes).ok_or("four")?;
     let b = last(&lock, &mut passes).ok_or("four")?;
     let a = last(&lock, &mut passes).ok_or("four")?;
-    let log = add_in_four_threads(&rt, lock, a, b, c, d, 1000).ok_or("free")?;
+    let (log, by_themselves) = add_in_four_threads(&rt, lock, a, b, c, d, 1000, &watch);
+    assert!(rt; by_themselves, "a pass waits that nobody wakes");
+    let log = log.ok_or("free")?;
     assert_eq!(rt; log.entries.len(), 4000);
     for tag in 0..4 {
         assert!(rt; log.counts(tag, 1000));
-    }
-    Ok(())
-}
-
-// Adds the numbers from 0 on, and holds the log for a millisecond each time.
-fn add_slowly<R: Wait + Clock>(
-    rt: &R,
-    lock: &OwnLock<Log>,
-    mut pass: Pass<Log>,
-    count: u32,
-) -> Pass<Log>
-    requires of { IsOf lock.now pass }
-    requires idle { pass.holds ≡ false }
-    ensures { IsOf lock.entry.now result × (result.holds ≡ false) }
-{
-    for number in 0..count {
-        let held = lock.take(rt, &mut pass);
-        sleep(rt, Duration::from_millis(1));
-        let _ = add_held(lock, &mut pass, held, number);
-    }
-    pass
-}
-
-// Two passes that wait for each other.
-fn wait_in_two_threads<R: Threads + Wait + Clock + Sync>(
-    rt: &R,
-    lock: OwnLock<Log>,
-    a: Pass<Log>,
-    b: Pass<Log>,
-    count: u32,
-) -> Option<Log>
-    requires a { IsOf lock a × (a.holds ≡ false) }
-    requires b { IsOf lock b × (b.holds ≡ false) }
-{
-    let shared = &lock;
-    let (a, mut b) = join(
-        rt,
-        move || -> Pass<Log>
-            requires { IsSync R.row × IsOf shared.now a × (a.holds ≡ false) }
-            ensures { IsOf shared.entry.now result × (result.holds ≡ false) }
-        { add_slowly(rt, shared, a, count) },
-        move || -> Pass<Log>
-            requires { IsSync R.row × IsOf shared.now b × (b.holds ≡ false) }
-            ensures { IsOf shared.entry.now result × (result.holds ≡ false) }
-        { add_slowly(rt, shared, b, count) },
-    );
-    lock.meet(a, &mut b);
-    lock.close(b)
-}
-
-#[test]
-fn a_pass_that_waits_is_woken(rt: HostRuntime) -> Result<(), Fail> {
-    let (lock, mut passes) = OwnLock::open(rt.alloc(), Log::new(rt.alloc(), 7), 2)?;
-    let b = last(&lock, &mut passes).ok_or("two")?;
-    let a = last(&lock, &mut passes).ok_or("two")?;
-    let log = wait_in_two_threads(&rt, lock, a, b, 50).ok_or("free")?;
-    assert_eq!(rt; log.entries.len(), 100);
-    for tag in 0..2 {
-        assert!(rt; log.counts(tag, 50));
     }
     Ok(())
 }

@@ -15,7 +15,7 @@ pub(crate) struct Waiters {
     // one for each pass, by its tag
     unparkers: Vec<Unparker>,
     // a bit for each pass that waits, by its tag
-    waiting: AtomicU64,
+    pub(crate) waiting: AtomicU64,
 }
 
 impl Model for Waiters {

@@ -1,0 +1,186 @@
+ghost use Rattle.std.specs.Prelude.{◌≡◌, true, false};
+ghost use Rattle.std.specs.Thread.{IsSync};
+ghost use Rattle.own_lock.specs.Passes.{IsOf};
+
+use super::watch::{LOOKS, Watch};
+use super::{Log, add_held, last};
+use crate::lock::{AWAITED, Busy, OwnLock};
+use crate::pass::Pass;
+use crate::waking::next_after;
+use std::sync::Wait;
+use std::sync::atomic::Ordering::SeqCst;
+use std::test::Fail;
+use std::thread::{Threads, join, sleep};
+use std::time::{Clock, Duration, Instant};
+
+// The bits of a word of those that wait, a tag, and the tag that comes next.
+static NEXT: [(u64, u8, Option<usize>); 13] = [
+    (0b0, 0, None),
+    (0b0, 15, None),
+    (0b1, 0, Some(0)),
+    (0b10, 0, Some(1)),
+    (0b101, 0, Some(2)),
+    (0b101, 1, Some(2)),
+    (0b101, 2, Some(0)),
+    (0b1_1010, 3, Some(4)),
+    (0b1_1010, 4, Some(1)),
+    (0xff, 7, Some(0)),
+    (0x1ff, 7, Some(8)),
+    (0x8001, 0, Some(15)),
+    (0x8001, 15, Some(0)),
+];
+
+#[test]
+fn the_next_tag_comes_after_the_givers_own(rt: HostRuntime) {
+    for (waiting, tag, next) in &NEXT {
+        if *tag < 16 {
+            assert_eq!(rt; next_after(*waiting, *tag), *next, "{waiting} {tag}");
+        }
+    }
+}
+
+// Whether the pass has been woken. One that hasn't been is waited for long.
+fn is_woken<R: Wait + Clock>(rt: &R, pass: &Pass<Log>) -> bool {
+    let long = Duration::from_secs(10);
+    let Ok(before) = Instant::now(rt) else {
+        return false;
+    };
+    pass.parker.park_timeout(rt, long);
+    before.elapsed(rt).is_ok_and(|waited| waited < long)
+}
+
+// The pass waits, as far as the lock knows. It says whether it found the log taken. What it takes it gives back.
+fn waits(lock: &OwnLock<Log>, pass: &mut Pass<Log>) -> bool
+    requires of { IsOf lock.now pass.old }
+    requires idle { pass.old.holds ≡ false }
+    ensures of { IsOf lock.now pass.new }
+    ensures idle { pass.new.holds ≡ false }
+{
+    lock.waiters.enter(pass.tag());
+    match lock.press(pass) {
+        Ok(held) => {
+            lock.give(pass, held);
+            false
+        }
+        Err(Busy) => true,
+    }
+}
+
+// The second pass holds the log while the others wait, and gives it back. It says whether the third one was woken
+// then, and whether the first one was, once the third one took the log and gave it back.
+fn wake_in_turn<R: Wait + Clock>(
+    rt: &R,
+    lock: &OwnLock<Log>,
+    mut a: Pass<Log>,
+    mut b: Pass<Log>,
+    mut c: Pass<Log>,
+) -> (bool, bool)
+    requires a { IsOf lock.now a × (a.holds ≡ false) }
+    requires b { IsOf lock.now b × (b.holds ≡ false) }
+    requires c { IsOf lock.now c × (c.holds ≡ false) }
+{
+    let Ok(held) = lock.try_take(&mut b) else {
+        return (false, false);
+    };
+    let wait = waits(lock, &mut a) && waits(lock, &mut c);
+    lock.give(&mut b, held);
+    let third = wait && is_woken(rt, &c);
+    let Ok(held) = lock.press(&mut c) else {
+        return (third, false);
+    };
+    lock.waiters.leave(c.tag());
+    lock.give(&mut c, held);
+    (third, is_woken(rt, &a))
+}
+
+#[test]
+fn those_that_wait_are_woken_in_turn(rt: HostRuntime) -> Result<(), Fail> {
+    let (lock, mut passes) = OwnLock::open(rt.alloc(), Log::new(rt.alloc(), 7), 3)?;
+    let c = last(&lock, &mut passes).ok_or("three")?;
+    let b = last(&lock, &mut passes).ok_or("three")?;
+    let a = last(&lock, &mut passes).ok_or("three")?;
+    let (third, first) = wake_in_turn(&rt, &lock, a, b, c);
+    assert!(rt; third, "the tag after the giver's wasn't woken");
+    assert!(rt; first, "the least tag wasn't woken after the greatest");
+    Ok(())
+}
+
+// The bits of those that wait.
+fn waiting_at(lock: &OwnLock<Log>) -> u64 {
+    lock.waiters.waiting.load(SeqCst)
+}
+
+// Whether the pass with the tag 1 comes to wait before long.
+fn comes_to_wait<R: Clock>(rt: &R, lock: &OwnLock<Log>) -> bool {
+    for _ in 0..LOOKS {
+        if waiting_at(lock) == 0b10 && lock.table.shared.peek(0) == AWAITED {
+            return true;
+        }
+        sleep(rt, Duration::from_millis(1));
+    }
+    false
+}
+
+// Takes the log and gives it back once the other pass waits. It says whether that one came to wait, and whether it
+// took the log then without help.
+fn hold_until_awaited<R: Wait + Clock>(
+    rt: &R,
+    lock: &OwnLock<Log>,
+    mut pass: Pass<Log>,
+    watch: &Watch,
+) -> (bool, bool)
+    requires of { IsOf lock.now pass }
+    requires idle { pass.holds ≡ false }
+{
+    let held = lock.take(rt, &mut pass);
+    watch.tell();
+    let waits = comes_to_wait(rt, lock);
+    lock.give(&mut pass, held);
+    (waits, watch.comes(rt, 2))
+}
+
+// Takes the log after the other pass.
+fn take_second<R: Wait + Clock>(rt: &R, lock: &OwnLock<Log>, mut pass: Pass<Log>, watch: &Watch)
+    requires of { IsOf lock.now pass }
+    requires idle { pass.holds ≡ false }
+{
+    let _ = watch.comes(rt, 1);
+    let held = lock.take(rt, &mut pass);
+    watch.tell();
+    lock.give(&mut pass, held);
+}
+
+fn wait_in_a_thread<R: Threads + Wait + Clock + Sync>(
+    rt: &R,
+    lock: &OwnLock<Log>,
+    a: Pass<Log>,
+    b: Pass<Log>,
+    watch: &Watch,
+) -> (bool, bool)
+    requires a { IsOf lock.now a × (a.holds ≡ false) }
+    requires b { IsOf lock.now b × (b.holds ≡ false) }
+{
+    let (done, ()) = join(
+        rt,
+        move || -> (bool, bool)
+            requires { IsSync R.row × IsOf lock.now a × (a.holds ≡ false) }
+        { hold_until_awaited(rt, lock, a, watch) },
+        move || -> ()
+            requires { IsSync R.row × IsOf lock.now b × (b.holds ≡ false) }
+        { take_second(rt, lock, b, watch) },
+    );
+    done
+}
+
+#[test]
+fn a_pass_that_waits_is_woken(rt: HostRuntime) -> Result<(), Fail> {
+    let (lock, mut passes) = OwnLock::open(rt.alloc(), Log::new(rt.alloc(), 7), 2)?;
+    let watch = Watch::new(rt.alloc(), &passes)?;
+    let b = last(&lock, &mut passes).ok_or("two")?;
+    let a = last(&lock, &mut passes).ok_or("two")?;
+    let (waits, woken) = wait_in_a_thread(&rt, &lock, a, b, &watch);
+    assert!(rt; waits, "a pass waits and doesn't tell");
+    assert!(rt; woken, "a pass waits that nobody wakes");
+    assert_eq!(rt; waiting_at(&lock), 0);
+    Ok(())
+}
