@@ -10,12 +10,15 @@
 //! - Between any two atomic steps the rule of the lock holds (`LockRule`, in `specs/Rule.antt`): [`laws`]
 //!   says that each kind of step keeps it (`specs/Steps.antt`), and that it holds after every list of them.
 //!   The rule says "word not 0" where a pass holds the state, so it doesn't ask whether others wait.
-//! - The word is 0, 1, or 2 where passes may wait. A pass that finds the state taken tries a while, sets the
-//!   word to 2 and parks; one that gives the state back and finds 2 wakes one of those that wait. That they
-//!   wake is tested, and not proved.
+//! - The word is 0, 1, or 2 where passes may wait. A pass that finds the state taken tries a while. Then it
+//!   enters itself among those that wait, sets the word to 2 and parks. One that gives the state back and
+//!   finds 2 wakes the next of those that wait: going round in order of tags, the first after its own.
+//!   Proved is which tag comes next (`IsNextAfter`, in `specs/Waking.antt`), and that the lock keeps an
+//!   unparker for each pass. That a pass that waits wakes isn't proved: tests show it.
 //!
 //! No call but [`OwnLock::open`] takes memory, and none but [`OwnLock::take`] waits. Nothing is said of who
-//! gets the state first. It stands on `atomic_table` and `crossbeam_utils`, with no `unsafe`.
+//! gets the state first: one that tries may come before the one that was woken. It stands on `atomic_table`
+//! and `crossbeam_utils`, with no `unsafe`.
 #![tactic(auto)]
 
 mod boxed;
