@@ -4,14 +4,14 @@ ghost use Rattle.bottle_values.specs.Lists.{is_among};
 
 use bottle_values::Value;
 use dining_core::Table;
-use drinking_core::{Bar, Phase};
+use drinking_core::{Bar, MaskedBar, Phase};
 use office_map::{OfficeId, Plan, RecordId};
 use std::alloc::{AllocError, Global};
 use std::fmt::Write;
 use std::process::Abort;
 
-const TWO_OFFICES: &str =
-    "plan 1 run 42\noffice a -\noffice b -\npair a b fork a\nrecord x a b 100 at a\nrecord y a b 0 at b\n";
+const OFFICES: &str =
+    "plan 1 run 42\noffice a -\noffice b -\noffice c -\npair a b fork a\npair b c fork b\nrecord x a b 100 at a\nrecord y a b 0 at b\nrecord z b c 5 at b\n";
 
 fn office_a() -> OfficeId
     ensures { result ≡ 0 }
@@ -25,21 +25,21 @@ fn office_b() -> OfficeId
     OfficeId::new(1)
 }
 
-/// An office's bottles and forks.
+/// An office's bottles, with masks beside them, and its forks.
 #[derive(Drop)]
 struct Seat {
-    bar: Bar,
+    bar: MaskedBar,
     table: Table,
 }
 
 fn seated(rt: &impl Abort, alloc: Global, plan: &Plan, id: OfficeId) -> Seat {
     assert!(rt; id.index() < plan.offices());
-    let bar = Bar::open(alloc, plan, id).expect(rt, "memory");
+    let bar = MaskedBar::open(alloc, plan, id).expect(rt, "memory");
     let table = Table::open(alloc, plan, id).expect(rt, "memory");
     Seat { bar, table }
 }
 
-/// The two offices of the plan.
+/// The first two offices of the plan.
 #[derive(Drop)]
 struct TwoSeats {
     a: Seat,
@@ -47,7 +47,7 @@ struct TwoSeats {
 }
 
 fn seats(rt: &impl Abort, alloc: Global) -> TwoSeats {
-    let plan = Plan::read(alloc, TWO_OFFICES.as_bytes()).expect(rt, "the plan is accepted");
+    let plan = Plan::read(alloc, OFFICES.as_bytes()).expect(rt, "the plan is accepted");
     let at_a = seated(rt, alloc, &plan, office_a());
     let at_b = seated(rt, alloc, &plan, office_b());
     TwoSeats { a: at_a, b: at_b }
@@ -59,7 +59,7 @@ enum Office {
     B,
 }
 
-/// A rule, something that comes, or a question. Records go by number: x is 0 and y is 1.
+/// A rule, something that comes, or a question. Records go by number: x is 0, y is 1, and z of b and c is 2.
 #[derive(Clone, Copy)]
 enum Step {
     /// Both offices are as the plan starts.
@@ -103,11 +103,18 @@ enum Question {
     HasNoValue(u16),
     /// The record's other end is the office with this number.
     SharesWith(u16, u8),
+    /// This is the least record whose bottle may be given.
+    FirstGiven(u16),
+    NoneGiven,
+    /// This is the least record whose bottle may be asked for.
+    FirstAsked(u16),
+    NoneAsked,
 }
 
 use Office::{A, B};
 use Question::{
-    HasNeeded, HasNoValue, HasToken, HasValue, Holds, Needs, Records, SharesWith, Tranquil,
+    FirstAsked, FirstGiven, HasNeeded, HasNoValue, HasToken, HasValue, Holds, Needs, NoneAsked,
+    NoneGiven, Records, SharesWith, Tranquil,
 };
 use Rule::{
     AsksBottle, Drinks, Finishes, FinishesNone, GivesBottle, Starts, StartsEmpty, StartsNone,
@@ -116,7 +123,9 @@ use Rule::{
 use Step::{Asks, BottleComes, Does, ForkGoesOver, Opens, TokenComes};
 
 /// Where a step is, and whether it is done, or the answer to the question.
-static STEPS: [(Office, Step, bool); 112] = [
+type Row = (Office, Step, bool);
+
+static STEPS: [Row; 112] = [
     // A bottle starts where the plan says.
     (A, Opens, true),
     (A, Asks(Records), true),
@@ -242,16 +251,78 @@ static STEPS: [(Office, Step, bool); 112] = [
     (A, Does(GivesBottle(0)), true),
 ];
 
+/// Which bottle is next.
+static NEXT: [Row; 45] = [
+    // What a session needs and isn't here is asked for, once.
+    (A, Opens, true),
+    (A, Asks(NoneGiven), true),
+    (A, Asks(NoneAsked), true),
+    (A, Does(Starts(1)), true),
+    (A, Asks(FirstAsked(1)), true),
+    (A, Does(AsksBottle(1)), true),
+    (A, Asks(NoneAsked), true),
+    (B, Asks(NoneGiven), true),
+    (B, TokenComes(1), true),
+    (B, Asks(FirstGiven(1)), true),
+    (B, Does(GivesBottle(1)), true),
+    (B, Asks(NoneGiven), true),
+    (A, BottleComes(1, 0), true),
+    (A, Asks(NoneGiven), true),
+    (A, Does(Withdraws), true),
+    (A, Asks(NoneAsked), true),
+    // What is here and asked for is given, the least first.
+    (B, Does(Starts(1)), true),
+    (B, Does(AsksBottle(1)), true),
+    (A, TokenComes(1), true),
+    (A, Asks(FirstGiven(1)), true),
+    (B, Does(Withdraws), true),
+    (B, Does(Starts(0)), true),
+    (B, Does(AsksBottle(0)), true),
+    (A, TokenComes(0), true),
+    (A, Asks(FirstGiven(0)), true),
+    (A, Asks(FirstGiven(1)), false),
+    // A bottle that is needed is passed over, with the fork and in use.
+    (A, Does(Starts(0)), true),
+    (A, Asks(FirstGiven(1)), true),
+    (A, Does(Drinks), true),
+    (A, ForkGoesOver, true),
+    (A, Asks(FirstGiven(1)), true),
+    (A, Does(GivesBottle(1)), true),
+    (A, Asks(NoneGiven), true),
+    (A, Does(Finishes(0, (0, 0), (0, 0), (0, 0))), true),
+    (A, Asks(FirstGiven(0)), true),
+    (A, Does(GivesBottle(0)), true),
+    (A, Asks(NoneGiven), true),
+    (B, BottleComes(0, 100), true),
+    (B, Asks(NoneAsked), true),
+    (B, Asks(NoneGiven), true),
+    // A record of others, and one that isn't there.
+    (A, Does(AsksBottle(2)), false),
+    (A, Does(GivesBottle(2)), false),
+    (A, Does(AsksBottle(65535)), false),
+    (A, Does(GivesBottle(65535)), false),
+    (A, Asks(NoneGiven), true),
+];
+
 #[test]
 fn each_step_does_what_its_row_says(rt: HostRuntime) {
-    let mut seats = seats(&rt, rt.alloc());
-    for (row, (at, step, expected)) in STEPS.iter().enumerate() {
+    do_as_told(&rt, rt.alloc(), &STEPS);
+}
+
+#[test]
+fn the_least_bottle_is_given_and_asked_for(rt: HostRuntime) {
+    do_as_told(&rt, rt.alloc(), &NEXT);
+}
+
+fn do_as_told(rt: &impl Abort, alloc: Global, rows: &[Row]) {
+    let mut seats = seats(rt, alloc);
+    for (row, (at, step, expected)) in rows.iter().enumerate() {
         let told = match *step {
-            Step::Opens => opens(&rt, rt.alloc(), &mut seats),
-            Step::ForkGoesOver => fork_goes_over(&rt, &mut seats.a.table, &mut seats.b.table),
+            Step::Opens => opens(rt, alloc, &mut seats),
+            Step::ForkGoesOver => fork_goes_over(rt, &mut seats.a.table, &mut seats.b.table),
             _ => match *at {
-                Office::A => happens(&rt, &mut seats.a, *step),
-                Office::B => happens(&rt, &mut seats.b, *step),
+                Office::A => happens(rt, &mut seats.a, *step),
+                Office::B => happens(rt, &mut seats.b, *step),
             },
         };
         assert!(rt; told == *expected, "row {row}");
@@ -280,7 +351,7 @@ fn happens(rt: &impl Abort, seat: &mut Seat, step: Step) -> bool {
         Step::BottleComes(r, number) => {
             bottle_comes(rt, &mut seat.bar, RecordId::new(r), Value::from(number))
         }
-        Step::Asks(question) => answer(&seat.bar, question),
+        Step::Asks(question) => answer(seat, question),
         _ => false,
     }
 }
@@ -302,18 +373,23 @@ fn does(rt: &impl Abort, seat: &mut Seat, rule: Rule) -> bool {
     }
 }
 
-fn has_record(bar: &Bar, r: RecordId) -> bool
+fn has_record(bar: &MaskedBar, r: RecordId) -> bool
     ensures { result ≡ is_among (drinker_of bar.now).records r }
 {
-    bar.records().iter().any(|q| *q == r)
+    bar.bar().records().iter().any(|q| *q == r)
 }
 
-fn starts(rt: &impl Abort, bar: &mut Bar, r: RecordId) -> bool {
+fn starts(rt: &impl Abort, bar: &mut MaskedBar, r: RecordId) -> bool {
     assert!(rt; has_record(bar, r));
     bar.start(Some(&[r])).is_ok()
 }
 
-fn finishes(rt: &impl Abort, bar: &mut Bar, count: usize, writes: &[(RecordId, Value)]) -> bool {
+fn finishes(
+    rt: &impl Abort,
+    bar: &mut MaskedBar,
+    count: usize,
+    writes: &[(RecordId, Value)],
+) -> bool {
     assert!(rt; count <= writes.len());
     bar.finish(Some(&writes[..count])).is_ok()
 }
@@ -322,19 +398,20 @@ fn entry((r, number): (u16, i64)) -> (RecordId, Value) {
     (RecordId::new(r), Value::from(number))
 }
 
-fn token_comes(rt: &impl Abort, bar: &mut Bar, r: RecordId) -> bool {
-    assert!(rt; has_record(bar, r) && !bar.has_token(r));
+fn token_comes(rt: &impl Abort, bar: &mut MaskedBar, r: RecordId) -> bool {
+    assert!(rt; has_record(bar, r) && !bar.bar().has_token(r));
     bar.got_token(r);
     true
 }
 
-fn bottle_comes(rt: &impl Abort, bar: &mut Bar, r: RecordId, value: Value) -> bool {
-    assert!(rt; has_record(bar, r) && !bar.holds(r));
+fn bottle_comes(rt: &impl Abort, bar: &mut MaskedBar, r: RecordId, value: Value) -> bool {
+    assert!(rt; has_record(bar, r) && !bar.bar().holds(r));
     bar.got_bottle(r, value);
     true
 }
 
-fn answer(bar: &Bar, question: Question) -> bool {
+fn answer(seat: &Seat, question: Question) -> bool {
+    let bar = seat.bar.bar();
     match question {
         Question::Records => bar.records() == [RecordId::new(0), RecordId::new(1)].as_slice(),
         Question::Tranquil => bar.phase() == Phase::Tranquil,
@@ -345,6 +422,10 @@ fn answer(bar: &Bar, question: Question) -> bool {
         Question::HasValue(r, number) => bar.value(RecordId::new(r)) == Some(Value::from(number)),
         Question::HasNoValue(r) => bar.value(RecordId::new(r)).is_none(),
         Question::SharesWith(r, v) => bar.peer(RecordId::new(r)) == OfficeId::new(v),
+        Question::FirstGiven(r) => seat.bar.first_given(&seat.table) == Some(RecordId::new(r)),
+        Question::NoneGiven => seat.bar.first_given(&seat.table).is_none(),
+        Question::FirstAsked(r) => seat.bar.first_asked() == Some(RecordId::new(r)),
+        Question::NoneAsked => seat.bar.first_asked().is_none(),
     }
 }
 
@@ -375,7 +456,7 @@ fn the_largest_plan(rt: HostRuntime) {
     let plan = Plan::read(rt.alloc(), text.as_bytes()).expect(&rt, "the plan is accepted");
     assert!(rt; plan.records() == 960);
     let first = seated(&rt, rt.alloc(), &plan, OfficeId::new(0));
-    has_its_records(&rt, &first.bar);
+    has_its_records(&rt, first.bar.bar());
     let mut last = seated(&rt, rt.alloc(), &plan, OfficeId::new(15));
     gets_the_last_bottle(&rt, &mut last.bar);
 }
@@ -385,10 +466,11 @@ fn has_its_records(rt: &impl Abort, bar: &Bar) {
     assert!(rt; bar.value(RecordId::new(7)) == Some(Value::from(7)));
 }
 
-fn gets_the_last_bottle(rt: &impl Abort, bar: &mut Bar) {
+fn gets_the_last_bottle(rt: &impl Abort, bar: &mut MaskedBar) {
     let last = RecordId::new(959);
-    assert!(rt; bar.records().len() == 120);
-    assert!(rt; bar.value(last).is_none() && bar.has_token(last));
-    assert!(rt; starts(rt, bar, last) && bar.ask_bottle(last).is_ok());
+    assert!(rt; bar.bar().records().len() == 120);
+    assert!(rt; bar.bar().value(last).is_none() && bar.bar().has_token(last));
+    assert!(rt; starts(rt, bar, last) && bar.first_asked() == Some(last));
+    assert!(rt; bar.ask_bottle(last).is_ok() && bar.first_asked().is_none());
     assert!(rt; bottle_comes(rt, bar, last, Value::from(7)) && bar.drink().is_ok());
 }
