@@ -208,7 +208,7 @@ impl Way {
 }
 
 // An event happens, and what went either way is noted.
-fn happens(
+fn note(
     two: &mut Two,
     left: &mut Way,
     right: &mut Way,
@@ -246,7 +246,7 @@ fn ten_thousand_random_events(rt: HostRuntime) -> Result<(), Fail> {
         let mut right = Way::new(rt.alloc());
         for _ in 0..10_000 {
             let event = draws.event(two.frames().len());
-            happens(&mut two, &mut left, &mut right, event)?;
+            note(&mut two, &mut left, &mut right, event)?;
         }
         left.is_kept(&rt, two.link(End::Left), two.link(End::Right));
         right.is_kept(&rt, two.link(End::Right), two.link(End::Left));
