@@ -1,9 +1,10 @@
 -- Names and numbers are words, and read back.
-use Rattle.std.proofs.Common.{◌≡◌, ℕ, pos, ◌<◌, ◌≤◌, ◌^◌, List, [], length, get_or, true, ◌&&◌, nat_lt, nat_le, Some, option_map, unwrap_or, refl, ap, ap₂, ◌∙◌, arith}
+use Rattle.std.proofs.Common.{◌≡◌, ℕ, ◌<◌, ◌≤◌, ◌^◌, List, [], length, get_or, true, ◌&&◌, nat_lt, nat_le, Some, option_map, unwrap_or, refl, ap, ap₂, ◌∙◌, arith}
 use Rattle.std.specs.Prelude.{slice_get}
 use Rattle.std.specs.Fmt.{decimal}
 use Rattle.std.proofs.lemmas.Bool.Decides.{nat_tests}
 use Rattle.std.proofs.lemmas.Option.{slice_get-get_or}
+use Rattle.bottle_values.specs.Operations.{nought}
 use Rattle.office_map.specs.declared.entries.OfficeEntry.{OfficeEntry}
 use Rattle.office_map.specs.declared.entries.RecordEntry.{RecordEntry}
 use Rattle.office_map.specs.PlanValue.{PlanValue, office_named, record_named}
@@ -61,7 +62,7 @@ module _ (p : PlanValue) (ok : IsConsistent p) where
   office_again o lt = ap (λ w. and_then w (office_named p)) (name_of_office o lt) ∙ office_name_again o lt
 
   abbrev no_record : RecordEntry
-  no_record = record { name = []; first = 0; second = 0; value = pos 0; starts_at_first = true }
+  no_record = record { name = []; first = 0; second = 0; value = nought; starts_at_first = true }
 
   record_at : (r : ℕ) → r < length p.records → slice_get p.records r ≡ Some (get_or p.records r no_record)
   record_at r lt = slice_get-get_or p.records r no_record lt
