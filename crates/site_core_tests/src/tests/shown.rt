@@ -5,6 +5,7 @@ use super::rule_rows::Step::{
     AskBottle, AskFork, Drink, Eat, Finish, GiveBottle, GiveFork, Hungry, Leave, Start, Work,
 };
 use super::rule_rows::{B, C, Step, V, W, X, Y, Z, rule_of};
+use bottle_values::Value;
 use frame_codec::Msg;
 use office_map::{OfficeId, RecordId};
 use site_core::{Office, Refusal, Reply};
@@ -137,8 +138,12 @@ fn tell_message(text: &mut String, msg: Option<Msg>) -> Result<(), AllocError> {
         Some(Msg::AskFork) => text.push_str(" askfork"),
         Some(Msg::Fork) => text.push_str(" fork"),
         Some(Msg::AskBottle(r)) => write!(text, " askbottle {}", name_of(r)),
-        Some(Msg::Bottle(r, value)) => write!(text, " bottle {}={}", name_of(r), value),
+        Some(Msg::Bottle(r, value)) => tell_bottle(text, name_of(r), value),
     }
+}
+
+fn tell_bottle(text: &mut String, name: &str, value: Value) -> Result<(), AllocError> {
+    write!(text, " bottle {name}={value}")
 }
 
 fn name_of(r: u16) -> &'static str {
