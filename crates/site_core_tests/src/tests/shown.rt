@@ -134,11 +134,17 @@ fn message_in(reply: &Result<Reply, Refusal>) -> Option<Msg> {
 
 fn tell_message(text: &mut String, msg: Option<Msg>) -> Result<(), AllocError> {
     match msg {
+        Some(msg) => tell_said(text, &msg),
         None => text.push_str(" no message"),
-        Some(Msg::AskFork) => text.push_str(" askfork"),
-        Some(Msg::Fork) => text.push_str(" fork"),
-        Some(Msg::AskBottle(r)) => write!(text, " askbottle {}", name_of(r)),
-        Some(Msg::Bottle(r, value)) => tell_bottle(text, name_of(r), value),
+    }
+}
+
+fn tell_said(text: &mut String, msg: &Msg) -> Result<(), AllocError> {
+    match msg {
+        Msg::AskFork => text.push_str(" askfork"),
+        Msg::Fork => text.push_str(" fork"),
+        Msg::AskBottle(r) => write!(text, " askbottle {}", name_of(*r)),
+        Msg::Bottle(r, value) => tell_bottle(text, name_of(*r), *value),
     }
 }
 
