@@ -1,5 +1,5 @@
 -- Bytes that stand in a store, where these are known, and what may be found there after a loss.
-use Rattle.std.specs.Prelude.{◌≡◌, ℕ, List, ◌++◌, Option, Some, None}
+use Rattle.std.specs.Prelude.{◌≡◌, ℕ, List, ◌++◌, Bool, Option, Some, None}
 
 -- known bytes stay, and then come these; unknown ones stay unknown
 abbrev pub Stands : Option (List ℕ) → List ℕ → Option (List ℕ) → Type 0
@@ -17,3 +17,15 @@ pub record MayBeFound (stood under_way found : List ℕ) : Type 0 where
   pub rest : List ℕ
   pub begins : under_way ≡ part ++ rest
   pub after : found ≡ stood ++ part
+
+-- the same, where both are known
+abbrev pub Finds : Option (List ℕ) → List ℕ → Option (List ℕ) → Type 0
+Finds None bytes found = Unit {0}
+Finds (Some stood) bytes None = Unit {0}
+Finds (Some stood) bytes (Some found) = MayBeFound stood bytes found
+
+-- a store in memory: what stands, what is found after it, and whether an append failed
+pub record Kept : Type 0 where
+  pub stood : List ℕ
+  pub torn : List ℕ
+  pub failed : Bool

@@ -1,58 +1,78 @@
-//! A file of the operating system.
+//! A store in a file of the operating system.
 
-ghost use Rattle.std.specs.Prelude.{◌≡◌, None, false, IfOk};
+ghost use Rattle.std.specs.Prelude.{◌≡◌, None, false, OnOk};
+ghost use Rattle.std.specs.Io.KnownBytes.{Appends};
 
 use crate::store::{Store, StoreFailed};
-use std::fs::{OpenFile, OpenOptions};
-use std::io::Write;
-use std::rt::Files;
-use std::{fs, io};
+use std::fs::{File, OpenFile, TryLockError};
+use std::io;
+use std::io::{Read, Write};
+use std::marker::Model;
 
-/// A file to which bytes are appended and synced. What it has isn't known.
+/// A file that a store may have: one that only one handle holds at a time.
+pub trait StoreFile: Read + Write + OpenFile + Drop {
+    /// Holds the file until it is closed, if no other handle holds it.
+    fn try_hold(&self) -> Result<(), TryLockError>;
+}
+
+impl StoreFile for File {
+    fn try_hold(&self) -> Result<(), TryLockError> {
+        self.try_lock()
+    }
+}
+
+/// A file that this handle holds, and to which bytes are appended and synced. What it has isn't known. Contracts see whether an
+/// append failed.
 #[derive(Drop)]
-pub struct FileStore<F: Write + OpenFile + Drop> {
+pub struct FileStore<F: StoreFile> {
     file: F,
     has_failed: bool,
 }
 
-impl<F: Write + OpenFile + Drop> FileStore<F> {
-    /// A store in that file, which is made where it isn't there. What it has, and its name in that folder, stands from now on.
-    ///
-    /// # Errors
-    /// What the system answers.
-    pub fn open<R: Files<File = F>>(files: &R, folder: &str, name: &str) -> io::Result<FileStore<F>>
-        ensures { IfOk result (λ s. s.has_failed ≡ false) }
+impl<F: StoreFile> Model for FileStore<F> {
+    ghost use Rattle.std.specs.Prelude.{Bool};
+
+    ghost Value = { Bool };
+
+    ghost view = { λ s. s.has_failed };
+}
+
+impl<F: StoreFile> FileStore<F> {
+    // A store in that file, which is held and synced.
+    pub(crate) fn over(file: F) -> FileStore<F>
+        ensures { result ≡ false }
     {
-        let file = OpenOptions::new()
-            .read(true)
-            .append(true)
-            .create(true)
-            .open(files, name)?;
-        file.sync_all()?;
-        let holder = fs::open(files, folder)?;
-        holder.sync_all()?;
-        Ok(FileStore {
+        FileStore {
             file,
             has_failed: false,
-        })
+        }
     }
 }
 
-impl<F: Write + OpenFile + Drop> Store for FileStore<F> {
+impl<F: StoreFile> Store for FileStore<F> {
     ghost stood = { λ _. None };
 
-    ghost failed = { λ s. s.has_failed };
+    ghost found = { λ _. None };
+
+    ghost failed = { λ s. s };
+
+    fn has_failed(&self) -> bool {
+        self.has_failed
+    }
 
     fn append(&mut self, bytes: &[u8]) -> Result<(), StoreFailed> {
-        if write_and_sync(&mut self.file, bytes).is_err() {
+        let Ok(()) = write_and_sync(&mut self.file, bytes) else {
             self.has_failed = true;
             return Err(StoreFailed);
-        }
+        };
         Ok(())
     }
 }
 
-fn write_and_sync<F: Write + OpenFile>(file: &mut F, bytes: &[u8]) -> io::Result<()> {
+// All of the bytes are written, and then synced.
+fn write_and_sync<F: Write + OpenFile>(file: &mut F, bytes: &[u8]) -> io::Result<()>
+    ensures whole { OnOk result (Appends (F.contents file.old) (F.contents file.new) bytes.now) }
+{
     file.write_all(bytes)?;
     file.sync_data()
 }

@@ -1,16 +1,16 @@
 //! A store in memory.
 
-ghost use Rattle.std.specs.Prelude.{◌≡◌, ◌++◌, [], Some, false, IfOk, OnOk, OnErr};
+ghost use Rattle.std.specs.Prelude.{◌≡◌, ◌++◌, [], Some, true, false, OnOk, OnErr};
+ghost use Rattle.journal_stores.specs.Stores.{MayBeFound};
 
 use crate::store::{Store, StoreFailed};
 use std::alloc::{AllocError, Global};
 use std::marker::Model;
 
-/// Keeps what is appended. Contracts see the bytes that stand.
+/// Keeps what is appended. Contracts see the bytes that stand, those that are found after them, and whether an append failed.
 #[derive(Drop)]
 pub struct MemoryStore {
     bytes: Vec<u8>,
-    /// What stands after a failed append beside them.
     torn: Vec<u8>,
     calls: usize,
     /// The call that fails, and how many of its bytes are found then.
@@ -19,17 +19,20 @@ pub struct MemoryStore {
 }
 
 impl Model for MemoryStore {
-    ghost use Rattle.std.specs.Prelude.{ℕ, List, Bool};
+    ghost use Rattle.std.specs.Prelude.{◌≡◌, [], false};
+    ghost use Rattle.journal_stores.specs.Stores.{Kept};
 
-    ghost Value = { List ℕ × Bool };
+    ghost Value = { Kept };
 
-    ghost view = { λ m. (m.bytes.items, m.has_failed) };
+    ghost view = { λ m. record { stood = m.bytes.items; torn = m.torn.items; failed = m.has_failed } };
+
+    ghost invariant = { λ m. m.has_failed ≡ false → m.torn.items ≡ [] };
 }
 
 impl MemoryStore {
     /// One in which nothing stands. It fails only for want of memory.
     pub fn new(alloc: Global) -> MemoryStore
-        ensures { result ≡ ([], false) }
+        ensures { result ≡ record { stood = []; torn = []; failed = false } }
     {
         MemoryStore {
             bytes: Vec::new(alloc),
@@ -49,13 +52,15 @@ impl MemoryStore {
 
     /// What stands.
     pub fn bytes(&self) -> &[u8]
-        ensures { result.now ≡ self.now.0 }
+        ensures { result.now ≡ self.now.stood }
     {
         self.bytes.as_slice()
     }
 
-    /// What a start finds after it.
-    pub fn torn(&self) -> &[u8] {
+    /// What a start finds after it: a beginning of the bytes whose append failed.
+    pub fn torn(&self) -> &[u8]
+        ensures { result.now ≡ self.now.torn }
+    {
         self.torn.as_slice()
     }
 
@@ -71,9 +76,12 @@ impl MemoryStore {
         }
     }
 
-    // This part of what was to be appended is found, where there is memory for it.
+    // The append of these failed. So many of them are found, or none where there is no memory for them.
     fn tear(&mut self, bytes: &[u8], found: usize)
-        ensures { self.new.0 ≡ self.old.0 }
+        requires { self.old.failed ≡ false }
+        ensures stood { self.new.stood ≡ self.old.stood }
+        ensures found { MayBeFound self.old.stood bytes.now (self.new.stood ++ self.new.torn) }
+        ensures failed { self.new.failed ≡ true }
     {
         let part = &bytes[..found.min(bytes.len())];
         let _ = self.torn.extend_from_slice(part);
@@ -81,8 +89,9 @@ impl MemoryStore {
     }
 
     fn add(&mut self, bytes: &[u8]) -> Result<(), AllocError>
-        ensures added { OnOk result (self.new ≡ (self.old.0 ++ bytes.now, self.old.1)) }
+        ensures added { OnOk result (self.new ≡ record self.old { stood = self.old.stood ++ bytes.now }) }
         ensures same { OnErr result (self.new ≡ self.old) }
+        ensures whole { self.new.failed ≡ false → self.new.torn ≡ [] }
     {
         self.bytes.extend_from_slice(bytes)?;
         Ok(())
@@ -90,9 +99,15 @@ impl MemoryStore {
 }
 
 impl Store for MemoryStore {
-    ghost stood = { λ m. Some m.0 };
+    ghost stood = { λ m. Some m.stood };
 
-    ghost failed = { λ m. m.1 };
+    ghost found = { λ m. Some (m.stood ++ m.torn) };
+
+    ghost failed = { λ m. m.failed };
+
+    fn has_failed(&self) -> bool {
+        self.has_failed
+    }
 
     fn append(&mut self, bytes: &[u8]) -> Result<(), StoreFailed> {
         if let Some(found) = self.failure() {

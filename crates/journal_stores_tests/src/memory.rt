@@ -1,0 +1,46 @@
+use journal_stores::{MemoryStore, Store, StoreFailed};
+
+static PARTS: [&[u8]; 3] = [b"one\n", b"two\n", b"three\n"];
+
+/// What stands before each of these, and after the last.
+static STOOD: [&[u8]; 4] = [b"", b"one\n", b"one\ntwo\n", b"one\ntwo\nthree\n"];
+
+/// Appends them in order, up to one that fails: how many stand.
+fn append_all<S: Store>(store: &mut S) -> usize
+    requires { S.failed store.old ≡ false }
+{
+    let mut count = 0;
+    for part in &PARTS {
+        if store.has_failed() {
+            return count;
+        }
+        match store.append(part) {
+            Ok(()) => count += 1,
+            Err(StoreFailed) => return count,
+        }
+    }
+    count
+}
+
+#[test]
+fn a_store_that_does_not_fail_has_all(rt: HostRuntime) {
+    let mut store = MemoryStore::new(rt.alloc());
+    assert_eq!(rt; append_all(&mut store), 3);
+    assert!(rt; !store.has_failed());
+    assert_eq!(rt; store.bytes(), STOOD[3]);
+    assert!(rt; store.torn().is_empty());
+}
+
+#[test]
+fn each_append_fails_with_each_part_of_its_bytes(rt: HostRuntime) {
+    for (call, part) in PARTS.iter().enumerate() {
+        for found in 0..=part.len() {
+            let mut store = MemoryStore::new(rt.alloc());
+            store.fail_at(call, found);
+            assert_eq!(rt; append_all(&mut store), call);
+            assert!(rt; store.has_failed());
+            assert_eq!(rt; store.bytes(), STOOD[call]);
+            assert_eq!(rt; store.torn(), &part[..found]);
+        }
+    }
+}
