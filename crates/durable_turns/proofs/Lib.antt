@@ -1,1 +1,2 @@
 mod Letting
+mod Mailing

@@ -4,7 +4,7 @@ use Rattle.site_core.specs.declared.event.Entry.{Entry}
 use Rattle.locked_office.specs.Calls.{Key, DeskPass, Looks}
 use Rattle.journal_texts.specs.Written.{journal_text}
 use Rattle.socket_pump.specs.declared.pump.Turn.{Turn}
-use Rattle.socket_pump.specs.Wires.{Account, counted}
+use Rattle.socket_pump.specs.Wires.{Account}
 use Rattle.socket_pump.specs.Chains.{Made, sent_entry, datagram}
 use Rattle.socket_pump.specs.Turns.{Times, Turned}
 
@@ -23,11 +23,16 @@ pub record LetsOut (tells : Bool) (tag : ℕ) (a b : Account) (es : List Entry) 
   pub went : tells ≡ true → b.accepted ≡ a.accepted ++ out
   pub stand : All (IsOfStanding tag es n) out
 
--- a pump turned between the office and memory, and then the office was looked at
-pub record TurnsInMemory (tag : ℕ) (k : Key) (last : Times) (now : ℕ) (p : DeskPass) (t : Turn) (q : DeskPass) (then : Times) : Type 0 where
+-- What a start finds, where it is known, is a beginning of the journal's text.
+abbrev pub FindsText : Option (List ℕ) → Option (List ℕ) → Key → List Entry → Type 0
+FindsText None found k es = Unit {0}
+FindsText (Some stood) None k es = Unit {0}
+FindsText (Some stood) (Some found) k es = (rest : List ℕ) × (journal_text k.0 k.1 es ≡ found ++ rest)
+
+-- a pump turned between the office and the wire, and then the office was looked at
+pub record Turns (tells : Bool) (tag : ℕ) (k : Key) (last : Times) (now : ℕ) (p : DeskPass) (a : Account) (t : Turn) (b : Account) (q : DeskPass) (then : Times) : Type 0 where
   pub mid : DeskPass
-  pub mail : Account
-  pub turned : Turned true tag k last now p (counted 0) t mail mid then
+  pub turned : Turned tells tag k last now p a t b mid then
   pub looked : Looks k mid q
 
 abbrev pub SendsNothing : Bool → Account → Account → Type 0

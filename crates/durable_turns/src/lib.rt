@@ -1,14 +1,19 @@
 //! Turns of an office whose frames leave only when their entries stand in a store.
 //!
-//! - [`turn`] fetches what came, has the pump turn between the office and memory, appends the entries that are new to the store, and
-//!   then posts the frames that were made (clause `lets_out`, `specs/Letting.antt`): whatever the answer is, each datagram that left
-//!   is of a frame whose entry stands. A loss at any moment is a turn whose calls fail from then on.
+//! - [`turn`] does what the pump's does (clause `turned`, definitions in `specs/Letting.antt`): it fetches what came from the wire
+//!   into the [`Mail`], has the pump turn between the office and the mail, appends the entries that are new to the store, and then
+//!   posts the frames that were made. Whatever the answer is, the store has the text of the journal's first entries (`has`), and
+//!   each datagram that left is of a frame whose entry is among these (`lets_out`): a loss at any moment is a turn whose calls
+//!   fail from then on. What a start may find after a failed append is a beginning of the journal's text (`found`).
 #![tactic(auto)]
 
 mod fault;
+mod letter;
 mod mail;
+mod posting;
 mod standing;
 mod turning;
 
 pub use crate::fault::TurnFault;
+pub use crate::mail::Mail;
 pub use crate::turning::turn;

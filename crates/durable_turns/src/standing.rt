@@ -5,7 +5,7 @@ ghost use Rattle.std.specs.String.{string_bytes};
 ghost use Rattle.own_lock.specs.Passes.{IsOf};
 ghost use Rattle.locked_office.specs.Calls.{Stays, Looks};
 ghost use Rattle.journal_texts.specs.Written.{lines_of};
-ghost use Rattle.durable_turns.specs.Letting.{StoreHas};
+ghost use Rattle.durable_turns.specs.Letting.{StoreHas, FindsText};
 
 use crate::fault::TurnFault;
 use journal_stores::{Store, StoreFailed};
@@ -36,6 +36,8 @@ pub(crate) fn stand<R: Wait, S: Store>(
     ensures all { OnOk result (stood.new ≡ length pass.new.seen) }
     ensures same { OnErr result (stood.new ≡ stood.old) }
     ensures usable { OnOk result (S.failed store.new ≡ false) }
+    ensures whole { OnOk result (S.found store.old ≡ S.stood store.old → S.found store.new ≡ S.stood store.new) }
+    ensures found { OnErr result (S.found store.old ≡ S.stood store.old → FindsText (S.stood store.new) (S.found store.new) desk.now.key pass.new.seen) }
 {
     let mut text = String::new(alloc);
     let held = desk.lock().take(rt, pass);

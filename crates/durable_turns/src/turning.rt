@@ -1,24 +1,26 @@
 //! A turn.
 
-ghost use Rattle.std.specs.Prelude.{◌≡◌, ◌≤◌, false, true, length, OnOk, IfOk};
+ghost use Rattle.std.specs.Prelude.{◌≡◌, ◌≤◌, false, true, length, OnOk, OnErr, IfOk};
 ghost use Rattle.own_lock.specs.Passes.{IsOf};
 ghost use Rattle.locked_office.specs.Calls.{Stays};
 ghost use Rattle.socket_pump.specs.Last.{last_of};
-ghost use Rattle.durable_turns.specs.Letting.{StoreHas, LetsOut, TurnsInMemory};
+ghost use Rattle.durable_turns.specs.Letting.{StoreHas, FindsText, LetsOut, Turns};
 
 use crate::fault::TurnFault;
-use crate::mail::{fetch, post};
+use crate::mail::Mail;
+use crate::posting::{fetch, post};
 use crate::standing::stand;
 use journal_stores::Store;
 use locked_office::Desk;
 use own_lock::Pass;
 use site_core::Office;
-use socket_pump::{MemoryWire, Pump, Turn, Wire};
+use socket_pump::{Pump, Turn, Wire};
 use std::alloc::Global;
 use std::sync::Wait;
 
 /// Takes in what came on the wire, does the rules that come next, and makes frames, as [`Pump::turn`] does; then all entries are
-/// made to stand in the store; then the frames go out. The first `stood` entries of the journal stand in the store.
+/// made to stand in the store; then the frames go out. The first `stood` entries of the journal stand in the store. What the
+/// mail had is forgotten.
 ///
 /// # Errors
 /// `WireFailed`, `JournalFull` and `Memory` as of a pump; `StoreFailed` where it isn't sure that the new entries stand. No frame
@@ -28,6 +30,7 @@ pub fn turn<R: Wait, W: Wire, S: Store>(
     alloc: Global,
     pump: &mut Pump,
     wire: &mut W,
+    mail: &mut Mail,
     desk: &Desk,
     pass: &mut Pass<Office>,
     store: &mut S,
@@ -47,14 +50,15 @@ pub fn turn<R: Wait, W: Wire, S: Store>(
     ensures lets_out { LetsOut W.tells pass.old.tag (W.account wire.old) (W.account wire.new) pass.new.seen stood.new }
     ensures all { OnOk result (stood.new ≡ length pass.new.seen) }
     ensures usable { OnOk result (S.failed store.new ≡ false) }
-    ensures turned { IfOk result (λ t. TurnsInMemory pass.old.tag desk.now.key (last_of pump.old.lasts) now pass.old t pass.new (last_of pump.new.lasts)) }
+    ensures turned { IfOk result (λ t. Turns W.tells pass.old.tag desk.now.key (last_of pump.old.lasts) now pass.old (W.account wire.old) t (W.account wire.new) pass.new (last_of pump.new.lasts)) }
+    ensures whole { OnOk result (S.found store.old ≡ S.stood store.old → S.found store.new ≡ S.stood store.new) }
+    ensures found { OnErr result (S.found store.old ≡ S.stood store.old → FindsText (S.stood store.new) (S.found store.new) desk.now.key pass.new.seen) }
 {
-    let mut mail = MemoryWire::new(alloc);
-    match fetch(wire, &mut mail) {
+    match fetch(wire, mail) {
         Ok(()) => {}
         Err(fault) => return Err(fault),
     }
-    let turn = match pump.turn(rt, &mut mail, desk, pass, now) {
+    let turn = match pump.turn(rt, mail, desk, pass, now) {
         Ok(turn) => turn,
         Err(fault) => return Err(TurnFault::of_pump(fault)),
     };
@@ -62,7 +66,7 @@ pub fn turn<R: Wait, W: Wire, S: Store>(
         Ok(()) => {}
         Err(fault) => return Err(fault),
     }
-    match post(wire, mail.accepted()) {
+    match post(wire, mail.out()) {
         Ok(()) => Ok(turn),
         Err(fault) => Err(fault),
     }

@@ -1,4 +1,4 @@
-use durable_turns::{TurnFault, turn};
+use durable_turns::{Mail, TurnFault, turn};
 use journal_stores::{MemoryStore, Store};
 use journal_texts::{add_header, read_journal, whole_lines};
 use journal_weave::{GivenJournal, weave};
@@ -27,6 +27,7 @@ struct Side {
     pass: Pass<Office>,
     pump: Pump,
     wire: MemoryWire,
+    mail: Mail,
     store: MemoryStore,
     stood: usize,
     tickets: u32,
@@ -58,6 +59,7 @@ fn open(alloc: Global, plan: &Plan, me: OfficeId, found: &[u8]) -> Result<Side, 
         pass,
         pump: Pump::open(alloc, plan, me)?,
         wire: MemoryWire::new(alloc),
+        mail: Mail::new(),
         store,
         stood,
         tickets,
@@ -92,6 +94,7 @@ fn step<R: Wait>(
         alloc,
         &mut side.pump,
         &mut side.wire,
+        &mut side.mail,
         &side.desk,
         &mut side.pass,
         &mut side.store,
