@@ -11,15 +11,17 @@ use Rattle.site_core.specs.declared.event.Entry.{Entry}
 use Rattle.site_core.specs.Journals.{Site}
 use Rattle.locked_office.specs.Calls.{Key, DeskPass, Does, Looks}
 use Rattle.site_core.specs.Journals.{Receives}
-use Rattle.journal_stores.specs.Stores.{Stands}
+use Rattle.journal_stores.specs.Stores.{Stands, Finds}
 use Rattle.journal_texts.specs.Written.{header_line, lines_of, entry_line, journal_text}
 use Rattle.socket_pump.specs.declared.pump.Turn.{Turn}
 use Rattle.socket_pump.specs.declared.pump.PumpFault.{PumpFault}
-use Rattle.socket_pump.specs.Wires.{Account, counted}
-use Rattle.socket_pump.specs.Chains.{Heard, Made, Hears, MakesFrame, Sends, sent_entry, datagram}
+use Rattle.socket_pump.specs.Wires.{Account}
+use Rattle.socket_pump.specs.Chains.{Heard, Made, Hears, MakesFrame, Sends, sent_entry, datagram, answers}
 use Rattle.socket_pump.specs.Turns.{Times, Turned, Stage, WhileHearing, AtRules, WhileTelling}
 use Rattle.socket_pump.proofs.Telling.{Begins, begins_both, does_begins, sees_begins, sends_begins}
-use Rattle.durable_turns.specs.Letting.{StoreHas, IsOfStanding, LetsOut, Posts}
+use Rattle.durable_turns.specs.Letting.{StoreHas, FindsText, IsOfStanding, LetsOut, Posts, Turns}
+use Rattle.durable_turns.specs.refinement.Mailed.{Mailed, IsMail, fresh, account_of, Fetches}
+use Rattle.durable_turns.proofs.Mailing.{heard_is_fetched}
 
 -- ---- journals that go on
 
@@ -82,24 +84,82 @@ all_there tag k p q z (m ∷ ms) s b =
     let one : IsOfStanding tag z.seen (length z.seen) (datagram m) = (m, refl, here.0, slice_get_within z.seen here.0 (sent_entry tag m) here.1, here.1) in
     All-cons (IsOfStanding tag z.seen (length z.seen)) (datagram m) (map datagram ms) one (all_there tag k s.0 q z ms s.2 b)
 
--- what the memory accepted are the frames that were made
-mail_is : (tag : ℕ) (k : Key) (last : Times) (now : ℕ) (p : DeskPass) (t : Turn) (b : Account) (q : DeskPass) (then : Times) → (x : Turned true tag k last now p (counted 0) t b q then) → b.accepted ≡ map datagram x.made
-mail_is tag k last now p t b q then x =
-    ap (λ (y : Account). y.accepted) (x.told.wire refl) ∙ ap (λ (y : Account). y.accepted ++ map datagram x.made) (x.heard.hearing.wire refl)
+-- what the mail accepted are the frames that were made
+mail_is : (tag : ℕ) (k : Key) (last : Times) (now : ℕ) (p : DeskPass) (t : Turn) (a b : Account) (q : DeskPass) (then : Times) → a.accepted ≡ [] → (x : Turned true tag k last now p a t b q then) → b.accepted ≡ map datagram x.made
+mail_is tag k last now p t a b q then none x =
+    ap (λ (y : Account). y.accepted) (x.told.wire refl)
+    ∙ ap (λ (y : Account). y.accepted ++ map datagram x.made) (x.heard.hearing.wire refl)
+    ∙ ap (λ l. l ++ map datagram x.made) none
 
 pub nothing_out : (tells : Bool) (tag : ℕ) (a b : Account) (es : List Entry) (n : ℕ) → (tells ≡ true → b.accepted ≡ a.accepted) → LetsOut tells tag a b es n
 nothing_out tells tag a b es n same = record { out = []; went = λ h. same h ∙ sym (append-nil a.accepted); stand = All-nil (IsOfStanding tag es n) }
 
-pub posted : (tells : Bool) (tag : ℕ) (k : Key) (last : Times) (now : ℕ) (p : DeskPass) (t : Turn) (mail : Account) (m q : DeskPass) (then : Times) (a b c : Account) (n : ℕ) → Turned true tag k last now p (counted 0) t mail m then → Looks k m q →
-    (tells ≡ true → b.accepted ≡ a.accepted) → Posts tells b mail.accepted c → n ≡ length q.seen → LetsOut tells tag a c q.seen n
-posted tells tag k last now p t mail m q then a b c n x looks same posts all = record {
+pub posted : (tells : Bool) (tag : ℕ) (k : Key) (last : Times) (now : ℕ) (p : DeskPass) (t : Turn) (before mail : Mailed) (m q : DeskPass) (then : Times) (a b c : Account) (n : ℕ) (out : List (ℕ × List ℕ)) → before ≡ fresh before.came →
+    Turned true tag k last now p (account_of before) t (account_of mail) m then → Looks k m q → (tells ≡ true → b.accepted ≡ a.accepted) → out ≡ mail.out → Posts tells b out c → n ≡ length q.seen → LetsOut tells tag a c q.seen n
+posted tells tag k last now p t before mail m q then a b c n out clear x looks same are posts all = record {
   out = take posts.0 (map datagram x.made);
-  went = λ h. posts.1 h ∙ ap (λ l. l ++ take posts.0 mail.accepted) (same h) ∙ ap (λ l. a.accepted ++ take posts.0 l) (mail_is tag k last now p t mail m then x);
+  went = λ h. posts.1 h ∙ ap (λ l. l ++ take posts.0 out) (same h) ∙ ap (λ l. a.accepted ++ take posts.0 l) (are ∙ mail_is tag k last now p t (account_of before) (account_of mail) m then (ap (λ (y : Mailed). y.out) clear) x);
   stand = subst (λ i. All (IsOfStanding tag q.seen i) (take posts.0 (map datagram x.made))) (sym all)
       (All-take (IsOfStanding tag q.seen (length q.seen)) posts.0 (map datagram x.made) (all_there tag k x.ruled m q x.made x.told.sends (does_begins _ k m q looks)));
 }
 
--- ---- entries that are made to stand
+-- ---- what the wire answered, and what went out on it
+
+-- the account of a turn with the mail is one of a turn with the wire
+on_wire : (tells : Bool) (tag : ℕ) (k : Key) (last : Times) (now : ℕ) (p : DeskPass) (t : Turn) (before mail : Mailed) (m : DeskPass) (then : Times) (a b c : Account) (out : List (ℕ × List ℕ)) → before ≡ fresh before.came → IsMail mail.came mail.handed mail.ended →
+    Fetches tells a b before.came → Turned true tag k last now p (account_of before) t (account_of mail) m then → out ≡ mail.out → (tells ≡ true → c ≡ record b { accepted = b.accepted ++ out }) → c.failures ≡ b.failures → Turned tells tag k last now p a t c m then
+on_wire tells tag k last now p t before mail m then a b c out clear is_mail fetches x are posts failures = record {
+  mid = x.mid;
+  ruled = x.ruled;
+  received = record a { received = a.received ++ answers x.heard.heard x.heard.ends };
+  heard = record {
+    ends = x.heard.ends;
+    heard = x.heard.heard;
+    ended = x.heard.ended;
+    hearing = record {
+      hears = x.heard.hearing.hears;
+      count = x.heard.hearing.count;
+      tooks = x.heard.hearing.tooks;
+      are = x.heard.hearing.are;
+      mine = x.heard.hearing.mine;
+      failures = refl;
+      wire = λ h. refl;
+    };
+    taken = x.heard.taken;
+    all = x.heard.all;
+  };
+  rules = x.rules;
+  made = x.made;
+  told = record { sends = x.told.sends; mine = x.told.mine; failures = failures ∙ fetches.gives.0; wire = wire };
+  sent = x.sent;
+  all_due = x.all_due;
+  due_once = x.due_once;
+  remembers = x.remembers;
+}
+  where
+    heard : (account_of mail).received ≡ (account_of (fresh before.came)).received ++ answers x.heard.heard x.heard.ends
+    heard =
+        ap (λ (y : Account). y.received) (x.told.wire refl)
+        ∙ ap (λ (y : Account). y.received) (x.heard.hearing.wire refl)
+        ∙ ap (λ (y : Mailed). (account_of y).received ++ answers x.heard.heard x.heard.ends) clear
+
+    fetched : tells ≡ true → b ≡ record a { received = a.received ++ answers x.heard.heard x.heard.ends }
+    fetched h =
+        fetches.gives.1 h
+        ∙ ap (λ l. record a { received = l })
+        (append_assoc a.received (map (λ y. Some y) before.came) fetches.ends
+        ∙ ap (λ l. a.received ++ l) (heard_is_fetched before.came mail x.heard.heard x.heard.ends fetches.ends is_mail fetches.ended x.heard.ended heard))
+
+    wire : tells ≡ true → c ≡ record a { received = a.received ++ answers x.heard.heard x.heard.ends; accepted = a.accepted ++ map datagram x.made }
+    wire h =
+        posts h
+        ∙ ap (λ (y : Account). record y { accepted = y.accepted ++ out }) (fetched h)
+        ∙ ap (λ l. record a { received = a.received ++ answers x.heard.heard x.heard.ends; accepted = a.accepted ++ l }) (are ∙ mail_is tag k last now p t (account_of before) (account_of mail) m then (ap (λ (y : Mailed). y.out) clear) x)
+
+pub turns : (tells : Bool) (tag : ℕ) (k : Key) (last : Times) (now : ℕ) (p : DeskPass) (t : Turn) (before mail : Mailed) (m q : DeskPass) (then : Times) (a b c : Account) (out : List (ℕ × List ℕ)) → before ≡ fresh before.came → IsMail mail.came mail.handed mail.ended →
+    Fetches tells a b before.came → Turned true tag k last now p (account_of before) t (account_of mail) m then → Looks k m q → out ≡ mail.out → (tells ≡ true → c ≡ record b { accepted = b.accepted ++ out }) → c.failures ≡ b.failures → Turns tells tag k last now p a t c q then
+turns tells tag k last now p t before mail m q then a b c out clear is_mail fetches x looks are posts failures =
+    record { mid = m; turned = on_wire tells tag k last now p t before mail m then a b c out clear is_mail fetches x are posts failures; looked = looks }
 
 -- ---- entries that are made to stand
 
@@ -123,20 +183,23 @@ stood_all o new k old es entries n m plan me before text has le begins same key 
     let lines : text ≡ lines_of k.0 (drop n entries) = is ∙ ap (λ l. l ++ lines_of plan (drop n entries)) none ∙ ap (λ (x : Key). lines_of x.0 (drop n entries)) key in
     subst (λ l. StoreHas new k l m) (sym same) (has_all o new k entries n m text later lines stands all)
 
--- ---- what is posted
+-- ---- what a start finds
 
-pub posts_more : (tells : Bool) (a b c : Account) (out : List (ℕ × List ℕ)) (i : ℕ) (x : ℕ × List ℕ) → slice_get out i ≡ Some x → (tells ≡ true → b.accepted ≡ a.accepted ++ take i out) → (tells ≡ true → c ≡ record b { accepted = b.accepted ++ x ∷ [] }) →
-    tells ≡ true → c.accepted ≡ a.accepted ++ take (i + 1) out
-posts_more tells a b c out i x at so_far more told =
-    let next : take i out ++ x ∷ [] ≡ take (i + 1) out = sym (take_more out i x (slice_get_within out i x at) ∙ ap (λ y. take i out ++ y ∷ []) (get_or_from_slice_get out i x x at)) in
-    ap (λ (y : Account). y.accepted) (more told) ∙ ap (λ l. l ++ x ∷ []) (so_far told) ∙ append_assoc a.accepted (take i out) (x ∷ []) ∙ ap (λ l. a.accepted ++ l) next
+pub finds : (o found : Option (List ℕ)) (k : Key) (es : List Entry) (n : ℕ) → StoreHas o k es n → found ≡ o → FindsText o found k es
+finds None found k es n h same = tt
+finds (Some bytes) found k es n h same =
+    subst (λ x. FindsText (Some bytes) x k es) (sym same)
+        (lines_of k.0 (drop n es), sym (whole k es n) ∙ ap (λ l. l ++ lines_of k.0 (drop n es)) (sym h))
 
--- ---- a turn, with the memory that it began with
+torn : (o found : Option (List ℕ)) (k : Key) (es : List Entry) (n : ℕ) (text : List ℕ) → StoreHas o k es n → text ≡ lines_of k.0 (drop n es) → Finds o text found → FindsText o found k es
+torn None found k es n text h is f = tt
+torn (Some bytes) None k es n text h is f = tt
+torn (Some bytes) (Some found) k es n text h is f =
+    (f.rest, sym (whole k es n) ∙ ap (λ l. l ++ lines_of k.0 (drop n es)) (sym h) ∙ ap (λ l. bytes ++ l) (sym is ∙ f.begins) ∙ sym (append_assoc bytes f.part f.rest) ∙ ap (λ l. l ++ f.rest) (sym f.after))
 
-abbrev pub TurnedFrom : Account → ℕ → Key → Times → ℕ → DeskPass → Turn → Account → DeskPass → Times → Type 0
-TurnedFrom start tag k last now p t mail m then = Turned true tag k last now p start t mail m then
-
-pub lets_out : (tells : Bool) (tag : ℕ) (k : Key) (last : Times) (now : ℕ) (p : DeskPass) (start : Account) (t : Turn) (mail : Account) (m q : DeskPass) (then : Times) (a b c : Account) (n : ℕ) (out : List (ℕ × List ℕ)) → start ≡ counted 0 →
-    Turned true tag k last now p start t mail m then → Looks k m q → (tells ≡ true → b.accepted ≡ a.accepted) → out ≡ mail.accepted → Posts tells b out c → n ≡ length q.seen → LetsOut tells tag a c q.seen n
-lets_out tells tag k last now p start t mail m q then a b c n out empty x looks same are posts all =
-    posted tells tag k last now p t mail m q then a b c n (subst (λ s. TurnedFrom s tag k last now p t mail m then) empty x) looks same (subst (λ l. Posts tells b l c) are posts) all
+pub torn_later : (o new found : Option (List ℕ)) (k : Key) (old es entries : List Entry) (n : ℕ) (plan : PlanValue) (me : ℕ) (before text : List ℕ) → StoreHas o k old n → n ≤ length old → IsPrefix old entries → es ≡ entries → (plan, me) ≡ k → before ≡ [] →
+    text ≡ before ++ lines_of plan (drop n entries) → Finds o text found → new ≡ o → FindsText new found k es
+torn_later o new found k old es entries n plan me before text has le begins same key none is f kept =
+    let later : StoreHas o k entries n = has_on o k old entries n le begins has in
+    let lines : text ≡ lines_of k.0 (drop n entries) = is ∙ ap (λ l. l ++ lines_of plan (drop n entries)) none ∙ ap (λ (x : Key). lines_of x.0 (drop n entries)) key in
+    subst (λ y. FindsText y found k es) (sym kept) (subst (λ l. FindsText o found k l) (sym same) (torn o found k entries n text later lines f))

@@ -6,16 +6,14 @@ static PARTS: [&[u8]; 3] = [b"one\n", b"two\n", b"three\n"];
 static STOOD: [&[u8]; 4] = [b"", b"one\n", b"one\ntwo\n", b"one\ntwo\nthree\n"];
 
 /// Appends them in order, up to one that fails: how many stand.
-fn append_all<S: Store>(store: &mut S) -> usize
-    requires { S.failed store.old ≡ false }
-{
-    let mut count = 0;
+fn append_all<S: Store>(store: &mut S) -> usize {
+    let mut count: usize = 0;
     for part in &PARTS {
         if store.has_failed() {
             return count;
         }
         match store.append(part) {
-            Ok(()) => count += 1,
+            Ok(()) => count = count.saturating_add(1),
             Err(StoreFailed) => return count,
         }
     }
@@ -43,4 +41,15 @@ fn each_append_fails_with_each_part_of_its_bytes(rt: HostRuntime) {
             assert_eq!(rt; store.torn(), &part[..found]);
         }
     }
+}
+
+/// Whatever allocation fails: what was answered by an `Ok` stands, and of what failed for want of memory nothing is found.
+#[test]
+fn what_is_told_stands(rt: HostRuntime) {
+    let mut store = MemoryStore::new(rt.alloc());
+    let told = append_all(&mut store);
+    assert!(rt; told < STOOD.len());
+    assert_eq!(rt; store.bytes(), STOOD[told]);
+    assert_eq!(rt; store.has_failed(), told < PARTS.len());
+    assert!(rt; store.torn().is_empty());
 }
