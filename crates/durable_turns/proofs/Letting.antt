@@ -1,11 +1,11 @@
 -- What left is of entries that stand.
-use Rattle.std.proofs.Common.{◌≡◌, ℕ, zero, suc, ◌+◌, ◌≤◌, Bool, true, List, [], ◌∷◌, ◌++◌, length, map, take, drop, Option, Some, None, refl, sym, ap, subst, ◌∙◌, arith, length-append, append_assoc, append-nil}
+use Rattle.std.proofs.Common.{◌≡◌, ℕ, zero, suc, ◌≤◌, Bool, true, List, [], ◌∷◌, ◌++◌, length, map, take, drop, Option, Some, None, refl, sym, ap, subst, ◌∙◌, arith, length-append, append_assoc, append-nil}
 use Rattle.std.specs.Prelude.{All, slice_get}
 use mathlib.Core.List.{IsPrefix}
-use Rattle.std.proofs.lemmas.List.{take_more, take-append-le, take_all, take-append-drop}
+use Rattle.std.proofs.lemmas.List.{take-append-le, take_all, take-append-drop}
 use Rattle.std.proofs.lemmas.List.Elements.{All-nil, All-cons, All-take}
 use Rattle.std.proofs.lemmas.List.Concat.{flat_map-append}
-use Rattle.std.proofs.lemmas.Option.{slice_get_within, get_or_from_slice_get}
+use Rattle.std.proofs.lemmas.Option.{slice_get_within}
 use Rattle.office_map.specs.PlanValue.{PlanValue}
 use Rattle.site_core.specs.declared.event.Entry.{Entry}
 use Rattle.site_core.specs.Journals.{Site}
@@ -189,7 +189,10 @@ pub finds : (o found : Option (List ℕ)) (k : Key) (es : List Entry) (n : ℕ) 
 finds None found k es n h same = tt
 finds (Some bytes) found k es n h same =
     subst (λ x. FindsText (Some bytes) x k es) (sym same)
-        (lines_of k.0 (drop n es), sym (whole k es n) ∙ ap (λ l. l ++ lines_of k.0 (drop n es)) (sym h))
+    (lines_of k.0 (drop n es), sym (whole k es n) ∙ ap (λ l. l ++ lines_of k.0 (drop n es)) (sym h))
+
+pub found_still : (o found : Option (List ℕ)) (k : Key) (old es entries : List Entry) (n : ℕ) → StoreHas o k old n → n ≤ length old → IsPrefix old entries → es ≡ entries → found ≡ o → FindsText o found k es
+found_still o found k old es entries n has le begins same is = subst (λ l. FindsText o found k l) (sym same) (finds o found k entries n (has_on o k old entries n le begins has) is)
 
 torn : (o found : Option (List ℕ)) (k : Key) (es : List Entry) (n : ℕ) (text : List ℕ) → StoreHas o k es n → text ≡ lines_of k.0 (drop n es) → Finds o text found → FindsText o found k es
 torn None found k es n text h is f = tt

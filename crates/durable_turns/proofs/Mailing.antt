@@ -1,5 +1,5 @@
 -- What the mail of a turn answers.
-use Rattle.std.proofs.Common.{◌≡◌, ℕ, suc, ◌+◌, ◌<◌, ◌≤◌, inl, inr, Bool, true, false, List, [], ◌∷◌, ◌++◌, length, map, take, Option, None, Some, refl, sym, ap, subst, ◌∙◌, arith, rules, append_assoc, append-nil}
+use Rattle.std.proofs.Common.{◌≡◌, ℕ, ◌+◌, ◌<◌, inl, inr, Bool, true, false, List, [], ◌∷◌, ◌++◌, length, map, take, Option, None, Some, refl, sym, ap, subst, ◌∙◌, arith, append_assoc, append-nil}
 use Rattle.std.specs.Prelude.{slice_get}
 use Rattle.std.proofs.lemmas.List.{take_more, take_all, length-take-le, length-map}
 use Rattle.std.proofs.lemmas.Option.{slice_get_within, get_or_from_slice_get}
@@ -34,10 +34,13 @@ account_next a b x at is goes =
 -- ---- what is fetched
 
 gives_end : (tells : Bool) (a b d : Account) (came : List (List ℕ)) → Gives tells a came [] b → Gives tells b [] (None ∷ []) d → Gives tells a came (None ∷ []) d
-gives_end tells a b d came x y = (y.0 ∙ x.0, λ t.
-    let last : d ≡ record b { received = b.received ++ None ∷ [] } = y.1 t ∙ ap (λ l. record b { received = l ++ None ∷ [] }) (append-nil b.received) in
-    let first : b ≡ record a { received = a.received ++ map (λ z. Some z) came } = x.1 t ∙ ap (λ l. record a { received = l }) (append-nil (a.received ++ map (λ z. Some z) came)) in
-    last ∙ ap (λ (z : Account). record z { received = z.received ++ None ∷ [] }) first)
+gives_end tells a b d came x y = (
+  y.0 ∙ x.0,
+  λ t.
+      let last : d ≡ record b { received = b.received ++ None ∷ [] } = y.1 t ∙ ap (λ l. record b { received = l ++ None ∷ [] }) (append-nil b.received) in
+      let first : b ≡ record a { received = a.received ++ map (λ z. Some z) came } = x.1 t ∙ ap (λ l. record a { received = l }) (append-nil (a.received ++ map (λ z. Some z) came)) in
+      last ∙ ap (λ (z : Account). record z { received = z.received ++ None ∷ [] }) first,
+)
 
 pub fetched_fewer : (tells : Bool) (a b d : Account) (came : List (List ℕ)) (m : Mailed) (more : Bool) → more ≡ false → length came < 32 → Gives tells a came [] b → FetchesOne tells b came more d m → Fetches tells a d m.came
 fetched_fewer tells a b d came m more none few x y =

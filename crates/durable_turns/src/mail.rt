@@ -12,6 +12,7 @@ use std::marker::Model;
 
 /// The most datagrams that a turn fetches, and the most that it posts.
 pub(crate) const MOST_IN: usize = 32;
+
 const MOST_OUT: usize = 304;
 
 /// A datagram to be posted. Contracts see for whom it is, and its bytes.

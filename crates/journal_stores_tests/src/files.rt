@@ -1,4 +1,6 @@
+use crate::noted::{NotedFile, NotedFiles, Notes};
 use journal_stores::{FileStore, FoundStore, OpenFault, Store};
+use std::alloc::Global;
 use std::fs::File;
 use std::io::ErrorKind;
 use std::process::Abort;
@@ -52,5 +54,56 @@ fn a_file_goes_on(rt: HostRuntime) -> Result<(), Fail> {
     let removed = fs::remove_file(&rt, name.as_str());
     went?;
     removed?;
+    Ok(())
+}
+
+/// What a store that is made asks for, and then what each of two appends asks for.
+static MADE: &str = "open hold sync folder sync write sync_data write sync_data ";
+
+/// The same of one that is found with ten bytes, of which eight are kept.
+static FOUND: &str = "open hold sync folder sync read read cut sync write sync_data write sync_data ";
+
+fn append_two(mut store: FileStore<NotedFile<'_>>) -> Result<(), OpenFault> {
+    for part in [b"one\n".as_slice(), b"two\n"] {
+        if store.has_failed() || store.append(part).is_err() {
+            return Err(OpenFault::InUse);
+        }
+    }
+    Ok(())
+}
+
+fn make(files: &NotedFiles<'_>) -> Result<(), OpenFault> {
+    append_two(FileStore::create(files, "store")?)
+}
+
+fn find(files: &NotedFiles<'_>, alloc: Global) -> Result<(), OpenFault> {
+    let found = FoundStore::open(files, alloc, "store")?;
+    let kept = found.bytes().len().min(8);
+    append_two(found.go_on(kept)?)
+}
+
+/// Where a call fails, none comes after it.
+#[test]
+fn each_call_comes_in_its_order(rt: HostRuntime) -> Result<(), Fail> {
+    for (is_found, wanted, count) in [(false, MADE, 9), (true, FOUND, 13)] {
+        for fails in 0..count + 1 {
+            let notes = Notes::new(String::new(rt.alloc()), fails);
+            let files = NotedFiles {
+                notes: &notes,
+                bytes: b"one\ntwo\nth",
+            };
+            let went = if is_found {
+                find(&files, rt.alloc())
+            } else {
+                make(&files)
+            };
+            assert_eq!(rt; went.is_ok(), fails == count);
+            let Ok(words) = notes.words.try_borrow() else {
+                return Err(Fail::from("the notes are in use"));
+            };
+            assert!(rt; wanted.starts_with(words.as_str()));
+            assert_eq!(rt; words.as_str().split(' ').count(), count.min(fails + 1) + 1);
+        }
+    }
     Ok(())
 }

@@ -5,3 +5,5 @@
 mod files;
 #[cfg(test)]
 mod memory;
+#[cfg(test)]
+mod noted;

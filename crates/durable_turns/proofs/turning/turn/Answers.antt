@@ -1,44 +1,63 @@
-use Rattle.std.proofs.Common.{◌≡◌, ℕ, true, sym, subst, ◌∙◌, ◌≤◌, length}
+use Rattle.std.proofs.Common.{◌≡◌, ℕ, true, sym, subst, ◌≤◌, length}
 use Rattle.socket_pump.specs.Last.{last_of}
 use Rattle.socket_pump.proofs.Telling.{begins_both, does_begins}
-use Rattle.durable_turns.proofs.Letting.{turned_begins, stage_begins, has_later, within_later, lets_out}
+use Rattle.durable_turns.specs.refinement.Mailed.{account_of}
+use Rattle.durable_turns.proofs.Letting.{turned_begins, stage_begins, has_later, within_later, finds, posted, turns}
 use Rattle.durable_turns.proofs.turning.turn.Goals as goal
+
+pub returns-in-Err-clause-found : goal.returns-in-Err-clause-found
+returns-in-Err-clause-found g c = λ same. finds (g.S.Store.stood c.args.store.now) (g.S.Store.found c.args.store.now) c.args.desk.now.key c.args.pass.now.seen c.args.stood.now c.requires.has same
 
 pub returns-in-Err-turn-clause-has : goal.returns-in-Err-turn-clause-has
 returns-in-Err-turn-clause-has g c =
-    let b = stage_begins true c.args.pass.now.tag c.args.desk.now.key (last_of c.args.pump.now.lasts) c.args.now c.args.pass.now c.fetch.new.mail c.in-Err-turn.fault c.turn.new.wire c.turn.new.pass (last_of c.turn.new.self.lasts) c.in-Err-turn.ensures.turned in
+    let b = stage_begins true c.args.pass.now.tag c.args.desk.now.key (last_of c.args.pump.now.lasts) c.args.now c.args.pass.now (account_of c.fetch.new.mail) c.in-Err-turn.fault (account_of c.turn.new.wire) c.turn.new.pass (last_of c.turn.new.self.lasts) c.in-Err-turn.ensures.turned in
     has_later (g.S.Store.stood c.args.store.now) c.args.desk.now.key c.args.pass.now c.turn.new.pass c.args.stood.now c.requires.within b c.requires.has
 
 pub returns-in-Err-turn-clause-within : goal.returns-in-Err-turn-clause-within
 returns-in-Err-turn-clause-within g c =
-    let b = stage_begins true c.args.pass.now.tag c.args.desk.now.key (last_of c.args.pump.now.lasts) c.args.now c.args.pass.now c.fetch.new.mail c.in-Err-turn.fault c.turn.new.wire c.turn.new.pass (last_of c.turn.new.self.lasts) c.in-Err-turn.ensures.turned in
+    let b = stage_begins true c.args.pass.now.tag c.args.desk.now.key (last_of c.args.pump.now.lasts) c.args.now c.args.pass.now (account_of c.fetch.new.mail) c.in-Err-turn.fault (account_of c.turn.new.wire) c.turn.new.pass (last_of c.turn.new.self.lasts) c.in-Err-turn.ensures.turned in
     within_later c.args.pass.now c.turn.new.pass c.args.stood.now c.requires.within b
+
+pub returns-in-Err-turn-clause-found : goal.returns-in-Err-turn-clause-found
+returns-in-Err-turn-clause-found g c = λ same.
+    let b = stage_begins true c.args.pass.now.tag c.args.desk.now.key (last_of c.args.pump.now.lasts) c.args.now c.args.pass.now (account_of c.fetch.new.mail) c.in-Err-turn.fault (account_of c.turn.new.wire) c.turn.new.pass (last_of c.turn.new.self.lasts) c.in-Err-turn.ensures.turned in
+    let has = has_later (g.S.Store.stood c.args.store.now) c.args.desk.now.key c.args.pass.now c.turn.new.pass c.args.stood.now c.requires.within b c.requires.has in
+    finds (g.S.Store.stood c.args.store.now) (g.S.Store.found c.args.store.now) c.args.desk.now.key c.turn.new.pass.seen c.args.stood.now has same
 
 pub stand-requires-clause-has : goal.stand-requires-clause-has
 stand-requires-clause-has g c =
-    let b = turned_begins true c.args.pass.now.tag c.args.desk.now.key (last_of c.args.pump.now.lasts) c.args.now c.args.pass.now c.fetch.new.mail c.in-Ok-turn.turn c.turn.new.wire c.turn.new.pass (last_of c.turn.new.self.lasts) c.in-Ok-turn.ensures.turned in
+    let b = turned_begins true c.args.pass.now.tag c.args.desk.now.key (last_of c.args.pump.now.lasts) c.args.now c.args.pass.now (account_of c.fetch.new.mail) c.in-Ok-turn.turn (account_of c.turn.new.wire) c.turn.new.pass (last_of c.turn.new.self.lasts) c.in-Ok-turn.ensures.turned in
     has_later (g.S.Store.stood c.args.store.now) c.args.desk.now.key c.args.pass.now c.turn.new.pass c.args.stood.now c.requires.within b c.requires.has
 
 pub stand-requires-clause-within : goal.stand-requires-clause-within
 stand-requires-clause-within g c =
-    let b = turned_begins true c.args.pass.now.tag c.args.desk.now.key (last_of c.args.pump.now.lasts) c.args.now c.args.pass.now c.fetch.new.mail c.in-Ok-turn.turn c.turn.new.wire c.turn.new.pass (last_of c.turn.new.self.lasts) c.in-Ok-turn.ensures.turned in
+    let b = turned_begins true c.args.pass.now.tag c.args.desk.now.key (last_of c.args.pump.now.lasts) c.args.now c.args.pass.now (account_of c.fetch.new.mail) c.in-Ok-turn.turn (account_of c.turn.new.wire) c.turn.new.pass (last_of c.turn.new.self.lasts) c.in-Ok-turn.ensures.turned in
     within_later c.args.pass.now c.turn.new.pass c.args.stood.now c.requires.within b
 
 pub returns-in-Err-stand-clause-within : goal.returns-in-Err-stand-clause-within
 returns-in-Err-stand-clause-within g c =
-    let b = turned_begins true c.args.pass.now.tag c.args.desk.now.key (last_of c.args.pump.now.lasts) c.args.now c.args.pass.now c.fetch.new.mail c.in-Ok-turn.turn c.turn.new.wire c.turn.new.pass (last_of c.turn.new.self.lasts) c.in-Ok-turn.ensures.turned in
+    let b = turned_begins true c.args.pass.now.tag c.args.desk.now.key (last_of c.args.pump.now.lasts) c.args.now c.args.pass.now (account_of c.fetch.new.mail) c.in-Ok-turn.turn (account_of c.turn.new.wire) c.turn.new.pass (last_of c.turn.new.self.lasts) c.in-Ok-turn.ensures.turned in
     let on = begins_both c.args.pass.now c.turn.new.pass c.stand.new.pass b (does_begins _ c.args.desk.now.key c.turn.new.pass c.stand.new.pass c.stand.ensures.looked) in
     let same : c.args.stood.now ≡ c.stand.new.stood = sym c.in-Err-stand.ensures.same in
     subst (λ (n : ℕ). n ≤ length c.stand.new.pass.seen) same (within_later c.args.pass.now c.stand.new.pass c.args.stood.now c.requires.within on)
 
 pub returns-in-Ok-post-clause-lets_out : goal.returns-in-Ok-post-clause-lets_out
 returns-in-Ok-post-clause-lets_out g c =
-    lets_out g.W.Wire.tells c.args.pass.now.tag c.args.desk.now.key (last_of c.args.pump.now.lasts) c.args.now c.args.pass.now c.fetch.new.mail c.in-Ok-turn.turn c.turn.new.wire c.turn.new.pass c.stand.new.pass (last_of c.turn.new.self.lasts)
-    (g.W.Wire.account c.args.wire.now) (g.W.Wire.account c.fetch.new.wire) (g.W.Wire.account c.post.new.wire) c.stand.new.stood c.accepted.result.now (c.fetch.ensures.mail ∙ c.new-mail.ensures)
-    c.in-Ok-turn.ensures.turned c.stand.ensures.looked c.fetch.ensures.nothing c.accepted.ensures c.post.ensures.posts c.in-Ok-stand.ensures.all
+    posted g.W.Wire.tells c.args.pass.now.tag c.args.desk.now.key (last_of c.args.pump.now.lasts) c.args.now c.args.pass.now c.in-Ok-turn.turn c.fetch.new.mail c.turn.new.wire c.turn.new.pass c.stand.new.pass (last_of c.turn.new.self.lasts)
+    (g.W.Wire.account c.args.wire.now) (g.W.Wire.account c.fetch.new.wire) (g.W.Wire.account c.post.new.wire) c.stand.new.stood c.out.result.now c.in-Ok.ensures.fresh
+    c.in-Ok-turn.ensures.turned c.stand.ensures.looked c.fetch.ensures.nothing c.out.ensures.value c.post.ensures.posts c.in-Ok-stand.ensures.all
 
-pub returns-clause-lets_out : goal.returns-clause-lets_out
-returns-clause-lets_out g c =
-    lets_out g.W.Wire.tells c.args.pass.now.tag c.args.desk.now.key (last_of c.args.pump.now.lasts) c.args.now c.args.pass.now c.fetch.new.mail c.in-Ok-turn.turn c.turn.new.wire c.turn.new.pass c.stand.new.pass (last_of c.turn.new.self.lasts)
-    (g.W.Wire.account c.args.wire.now) (g.W.Wire.account c.fetch.new.wire) (g.W.Wire.account c.post.new.wire) c.stand.new.stood c.accepted.result.now (c.fetch.ensures.mail ∙ c.new-mail.ensures)
-    c.in-Ok-turn.ensures.turned c.stand.ensures.looked c.fetch.ensures.nothing c.accepted.ensures c.post.ensures.posts c.in-Ok-stand.ensures.all
+pub returns-in-Err-post-clause-lets_out : goal.returns-in-Err-post-clause-lets_out
+returns-in-Err-post-clause-lets_out g c =
+    posted g.W.Wire.tells c.args.pass.now.tag c.args.desk.now.key (last_of c.args.pump.now.lasts) c.args.now c.args.pass.now c.in-Ok-turn.turn c.fetch.new.mail c.turn.new.wire c.turn.new.pass c.stand.new.pass (last_of c.turn.new.self.lasts)
+    (g.W.Wire.account c.args.wire.now) (g.W.Wire.account c.fetch.new.wire) (g.W.Wire.account c.post.new.wire) c.stand.new.stood c.out.result.now c.in-Ok.ensures.fresh
+    c.in-Ok-turn.ensures.turned c.stand.ensures.looked c.fetch.ensures.nothing c.out.ensures.value c.post.ensures.posts c.in-Ok-stand.ensures.all
+
+pub returns-in-Ok-post-clause-turned : goal.returns-in-Ok-post-clause-turned
+returns-in-Ok-post-clause-turned g c =
+    turns g.W.Wire.tells c.args.pass.now.tag c.args.desk.now.key (last_of c.args.pump.now.lasts) c.args.now c.args.pass.now c.in-Ok-turn.turn c.fetch.new.mail c.turn.new.wire c.turn.new.pass c.stand.new.pass (last_of c.turn.new.self.lasts)
+    (g.W.Wire.account c.args.wire.now) (g.W.Wire.account c.fetch.new.wire) (g.W.Wire.account c.post.new.wire) c.out.result.now c.in-Ok.ensures.fresh c.out.ensures.mail c.in-Ok.ensures.fetches
+    c.in-Ok-turn.ensures.turned c.stand.ensures.looked c.out.ensures.value c.in-Ok-post.ensures.all c.in-Ok-post.ensures.failures
+
+pub returns-in-Err-post-clause-found : goal.returns-in-Err-post-clause-found
+returns-in-Err-post-clause-found g c = λ same. finds (g.S.Store.stood c.stand.new.store) (g.S.Store.found c.stand.new.store) c.args.desk.now.key c.stand.new.pass.seen c.stand.new.stood c.stand.ensures.has (c.in-Ok-stand.ensures.whole same)

@@ -1,4 +1,4 @@
-use Rattle.std.proofs.Common.{ap, ◌∙◌}
+use Rattle.std.proofs.Common.{ap}
 use Rattle.durable_turns.specs.refinement.Mailed.{Mailed}
 use Rattle.durable_turns.proofs.Mailing.{account_next}
 use Rattle.durable_turns.proofs.mail.MailWire.receive.Goals as goal
