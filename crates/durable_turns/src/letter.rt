@@ -44,9 +44,7 @@ impl Letter {
     {
         &self.bytes[..self.length]
     }
-}
 
-impl Letter {
     /// The bytes are put at the beginning of the buffer. How many they are.
     pub(crate) fn put(&self, buffer: &mut [u8; MOST_BYTES]) -> usize
         ensures within { result ≤ 64 }

@@ -61,7 +61,8 @@ fn a_file_goes_on(rt: HostRuntime) -> Result<(), Fail> {
 static MADE: &str = "open hold sync folder sync write sync_data write sync_data ";
 
 /// The same of one that is found with ten bytes, of which eight are kept.
-static FOUND: &str = "open hold sync folder sync read read cut sync write sync_data write sync_data ";
+static FOUND: &str =
+    "open hold sync folder sync read read cut sync write sync_data write sync_data ";
 
 fn append_two(mut store: FileStore<NotedFile<'_>>) -> Result<(), OpenFault> {
     for part in [b"one\n".as_slice(), b"two\n"] {

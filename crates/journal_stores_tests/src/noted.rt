@@ -1,13 +1,12 @@
 //! Files that note what a store asks of them.
 
+use journal_stores::StoreFile;
+use std::alloc::Allocator;
 use std::cell::{Cell, RefCell};
 use std::fs::{Metadata, OpenFile, OpenOptions, TryLockError};
 use std::io;
 use std::io::{Error, ErrorKind, Read, Seek, SeekFrom, Write};
 use std::rt::Files;
-
-use journal_stores::StoreFile;
-use std::alloc::Allocator;
 
 /// The calls so far, a word each, and the one that fails, from 0 on.
 #[derive(Drop)]
