@@ -56,15 +56,18 @@ fn goes(rt: &impl Abort, from: &mut Channel, to: &mut Channel, msg: Msg) {
     );
 }
 
+fn bottle(r: u16, number: i64) -> Msg {
+    Msg::Bottle(r, Value::from(number))
+}
+
 #[test]
 fn a_bottle_goes_to_and_fro(rt: HostRuntime) -> Result<(), Fail> {
     let (mut here, mut there) = ends(&rt, rt.alloc(), ONE_RECORD)?;
-    let bottle = Msg::Bottle(0, Value::from(100));
     for _ in 0..10 {
         goes(&rt, &mut there, &mut here, Msg::AskBottle(0));
-        goes(&rt, &mut here, &mut there, bottle);
+        goes(&rt, &mut here, &mut there, bottle(0, 100));
         goes(&rt, &mut here, &mut there, Msg::AskBottle(0));
-        goes(&rt, &mut there, &mut here, bottle);
+        goes(&rt, &mut there, &mut here, bottle(0, 100));
     }
     Ok(())
 }
@@ -111,8 +114,7 @@ fn what_was_kept_is_thrown_out(rt: HostRuntime) -> Result<(), Fail> {
 #[test]
 fn what_was_kept_follows(rt: HostRuntime) -> Result<(), Fail> {
     let (mut a, _) = ends(&rt, rt.alloc(), TWO_RECORDS)?;
-    let bottle = Msg::Bottle(1, Value::from(7));
-    for (number, msg) in [(3, Msg::AskBottle(0)), (2, bottle)] {
+    for (number, msg) in [(3, Msg::AskBottle(0)), (2, bottle(1, 7))] {
         comes(
             &rt,
             &mut a,
@@ -122,7 +124,7 @@ fn what_was_kept_follows(rt: HostRuntime) -> Result<(), Fail> {
     }
     match a.take(&Frame::data(42, 1, 0, 1, 0, Msg::AskFork)) {
         Ok(Taken::Fresh(messages)) => {
-            let all = [Msg::AskFork, bottle, Msg::AskBottle(0)];
+            let all = [Msg::AskFork, bottle(1, 7), Msg::AskBottle(0)];
             assert_eq!(rt; messages.as_slice(), all.as_slice());
         }
         other => assert!(rt; false, "{other:?}"),
@@ -134,22 +136,26 @@ fn what_was_kept_follows(rt: HostRuntime) -> Result<(), Fail> {
 #[test]
 fn what_waits_is_not_taken(rt: HostRuntime) -> Result<(), Fail> {
     let (mut a, _) = ends(&rt, rt.alloc(), TWO_RECORDS)?;
-    let asked = Msg::AskBottle(1);
-    assert!(rt; a.holds(Thing::of(asked)));
-    assert_eq!(rt; a.send(asked), Ok(()));
+    assert!(rt; a.holds(Thing::of(Msg::AskBottle(1))));
+    assert_eq!(rt; a.send(Msg::AskBottle(1)), Ok(()));
     let ahead = ChannelFault::Link(LinkFault::AckAhead);
     comes(
         &rt,
         &mut a,
-        Frame::data(42, 1, 0, 1, 0, asked),
+        Frame::data(42, 1, 0, 1, 0, Msg::AskBottle(1)),
         Err(ChannelFault::Breach),
     );
-    comes(&rt, &mut a, Frame::data(42, 1, 0, 1, 2, asked), Err(ahead));
     comes(
         &rt,
         &mut a,
-        Frame::data(42, 1, 0, 1, 1, asked),
-        Ok(Arrival::Fresh(asked)),
+        Frame::data(42, 1, 0, 1, 2, Msg::AskBottle(1)),
+        Err(ahead),
+    );
+    comes(
+        &rt,
+        &mut a,
+        Frame::data(42, 1, 0, 1, 1, Msg::AskBottle(1)),
+        Ok(Arrival::Fresh(Msg::AskBottle(1))),
     );
     let stranger = ChannelFault::Link(LinkFault::Stranger);
     comes(
@@ -187,8 +193,8 @@ fn message(k: usize) -> Msg {
         1 => Msg::Fork,
         2 => Msg::AskBottle(0),
         3 => Msg::AskBottle(1),
-        4 => Msg::Bottle(0, Value::from(7)),
-        _ => Msg::Bottle(1, Value::from(-7)),
+        4 => bottle(0, 7),
+        _ => bottle(1, -7),
     }
 }
 
@@ -220,9 +226,9 @@ fn acts(
     end: &mut Channel,
     frames: &mut Vec<Frame>,
 ) -> Result<(), AllocError> {
-    let msg = message(draws.below(6));
-    if end.holds(Thing::of(msg)) {
-        assert_eq!(rt; end.send(msg), Ok(()));
+    let k = draws.below(6);
+    if end.holds(Thing::of(message(k))) {
+        assert_eq!(rt; end.send(message(k)), Ok(()));
     }
     let i = draws.below(4);
     if 0 < i && i <= end.waiting().len() {
