@@ -226,9 +226,11 @@ fn acts(
     end: &mut Channel,
     frames: &mut Vec<Frame>,
 ) -> Result<(), AllocError> {
-    let k = draws.below(6);
-    if end.holds(Thing::of(message(k))) {
-        assert_eq!(rt; end.send(message(k)), Ok(()));
+    let msg = message(draws.below(6));
+    // A copy, since the borrow checker takes a message that was passed for lent.
+    let queued = msg;
+    if end.holds(Thing::of(msg)) {
+        assert_eq!(rt; end.send(queued), Ok(()));
     }
     let i = draws.below(4);
     if 0 < i && i <= end.waiting().len() {
