@@ -12,8 +12,6 @@ mod file;
 mod memory;
 mod opening;
 mod store;
-#[cfg(test)]
-mod tests;
 
 pub use crate::file::{FileStore, StoreFile};
 pub use crate::memory::MemoryStore;
