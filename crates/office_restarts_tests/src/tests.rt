@@ -1,8 +1,9 @@
 use office_map::{OfficeId, Plan};
 use office_restarts::{ReopenFault, reopened};
-use session_language::read_sessions;
-use site_core::{Entry, Event, Office, Reply, Rule};
-use std::alloc::Global;
+use session_language::{Program, read_sessions};
+use site_core::{Entry, Event, Office, Refusal, Reply, Rule};
+use std::alloc::{AllocError, Global};
+use std::process::Abort;
 use std::test::Fail;
 
 const PLAN: &str =
@@ -10,13 +11,25 @@ const PLAN: &str =
 
 const SESSION: &str = "session a\nset y = read y + 1\nend\n";
 
-/// An office a that submitted a session, began it and asked for its bottle, with the frame made.
-fn asked(alloc: Global, plan: &Plan) -> Result<Office, Fail> {
-    let programs = read_sessions(alloc, SESSION.as_bytes(), plan)?;
-    let mut office = Office::open(alloc, plan, OfficeId::new(0))?;
-    if let Some(program) = programs.first() {
-        office.submit(0, program)?;
+/// Office a, in a list of its own.
+fn opened(alloc: Global, plan: &Plan) -> Result<Vec<Office>, AllocError> {
+    let mut offices = Vec::new(alloc);
+    offices.push(Office::open(alloc, plan, OfficeId::new(0))?)?;
+    Ok(offices)
+}
+
+/// The office a of these entries, in a list of its own.
+fn opened_again(alloc: Global, plan: &Plan, entries: &[Entry]) -> Result<Vec<Office>, ReopenFault> {
+    let mut offices = Vec::new(alloc);
+    match offices.push(reopened(alloc, plan, OfficeId::new(0), entries)?) {
+        Ok(()) => Ok(offices),
+        Err(_) => Err(ReopenFault::Memory),
     }
+}
+
+/// An office submits a session, begins it and asks for its bottle, and the frame is made.
+fn asks(office: &mut Office, program: &Program) -> Result<(), Refusal> {
+    office.submit(0, program)?;
     for _ in 0..9 {
         let Some(rule) = office.next_rule() else {
             break;
@@ -24,44 +37,75 @@ fn asked(alloc: Global, plan: &Plan) -> Result<Office, Fail> {
         office.act(0, rule)?;
     }
     office.send(0, OfficeId::new(1), 1)?;
-    Ok(office)
+    Ok(())
+}
+
+/// The entries of an office that did so.
+fn entries_of(
+    alloc: Global,
+    offices: &mut [Office],
+    programs: &[Program],
+) -> Result<Vec<Entry>, Fail> {
+    match (offices, programs) {
+        ([office], [program]) => {
+            asks(office, program)?;
+            Ok(office.journal().part(alloc, 0, 100)?)
+        }
+        _ => Err(Fail::from("one office and one session")),
+    }
+}
+
+fn asked(alloc: Global, plan: &Plan) -> Result<Vec<Entry>, Fail> {
+    let programs = read_sessions(alloc, SESSION.as_bytes(), plan)?;
+    entries_of(alloc, &mut opened(alloc, plan)?, &programs)
+}
+
+/// It goes on where it ended.
+fn goes_on(rt: &impl Abort, office: &mut Office) {
+    assert_eq!(rt; office.waiting(OfficeId::new(1)), Some((1, 1)));
+    assert_eq!(rt; office.tickets(), 1);
+    assert_eq!(rt; office.next_rule(), None);
+    assert!(rt; office.send(0, OfficeId::new(1), 1).is_ok());
+    assert_eq!(rt; office.journal().len(), 7);
+}
+
+fn all_go_on(rt: &impl Abort, offices: &mut [Office]) {
+    assert_eq!(rt; offices.len(), 1);
+    for office in offices {
+        goes_on(rt, office);
+    }
 }
 
 #[test]
 fn an_office_goes_on_where_it_ended(rt: HostRuntime) -> Result<(), Fail> {
-    let alloc = rt.alloc();
-    let plan = Plan::read(alloc, PLAN.as_bytes())?;
-    let first = asked(alloc, &plan)?;
-    let entries = first.journal().part(alloc, 0, 100)?;
+    let plan = Plan::read(rt.alloc(), PLAN.as_bytes())?;
+    let entries = asked(rt.alloc(), &plan)?;
     assert_eq!(rt; entries.len(), 6);
-    let mut again = reopened(alloc, &plan, OfficeId::new(0), &entries)?;
-    assert_eq!(rt; again.waiting(OfficeId::new(1)), Some((1, 1)));
-    assert_eq!(rt; again.tickets(), 1);
-    assert_eq!(rt; again.next_rule(), None);
-    assert!(rt; again.send(0, OfficeId::new(1), 1).is_ok());
-    assert_eq!(rt; again.journal().len(), 7);
+    all_go_on(&rt, &mut opened_again(rt.alloc(), &plan, &entries)?);
     Ok(())
+}
+
+fn refused(alloc: Global, plan: &Plan, entries: &[Entry]) -> Option<ReopenFault> {
+    opened_again(alloc, plan, entries).err()
+}
+
+fn late(event: Event, tag: u8, reply: Reply) -> Entry {
+    Entry { tag, event, reply }
 }
 
 #[test]
 fn an_entry_that_no_office_gives_is_named(rt: HostRuntime) -> Result<(), Fail> {
-    let alloc = rt.alloc();
-    let plan = Plan::read(alloc, PLAN.as_bytes())?;
-    let mut entries = asked(alloc, &plan)?.journal().part(alloc, 0, 100)?;
-    let late = Entry {
-        tag: 0,
-        event: Event::Do(Rule::Drink),
-        reply: Reply::Done,
-    };
-    entries.push(late)?;
-    let answer = reopened(alloc, &plan, OfficeId::new(0), &entries).err();
-    assert_eq!(rt; answer, Some(ReopenFault::NotGiven(6)));
-    let one = [Entry {
-        tag: 16,
-        event: Event::Send(OfficeId::new(1), 0),
-        reply: Reply::Acked,
-    }];
-    let answer = reopened(alloc, &plan, OfficeId::new(0), &one).err();
-    assert_eq!(rt; answer, Some(ReopenFault::NotGiven(0)));
+    let plan = Plan::read(rt.alloc(), PLAN.as_bytes())?;
+    let mut entries = asked(rt.alloc(), &plan)?;
+    entries.push(late(Event::Do(Rule::Drink), 0, Reply::Done))?;
+    assert_eq!(rt;
+        refused(rt.alloc(), &plan, &entries),
+        Some(ReopenFault::NotGiven(6))
+    );
+    let one = [late(Event::Send(OfficeId::new(1), 0), 16, Reply::Acked)];
+    assert_eq!(rt;
+        refused(rt.alloc(), &plan, &one),
+        Some(ReopenFault::NotGiven(0))
+    );
     Ok(())
 }
