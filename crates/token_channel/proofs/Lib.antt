@@ -6,3 +6,4 @@ pub mod StartsOnce
 pub mod Opening
 pub mod FewWait
 pub mod KeptMessages
+pub mod TakenHeld

@@ -8,7 +8,7 @@ ghost use Rattle.window_link.specs.Links.{frame_of, ack_frame_of, arrival_at};
 ghost use Rattle.token_channel.specs.Things.{thing_of, hold};
 ghost use Rattle.token_channel.specs.Places.{holds, shares};
 ghost use Rattle.token_channel.specs.Channels.{IsApart, opened, sent, channel_fault, after_frame, after_taking, after_kept, follows, following, followed, most_following, is_breach, next_of};
-ghost use Rattle.token_channel.specs.Answers.{Tells};
+ghost use Rattle.token_channel.specs.Answers.{Tells, HoldsWhatIsBrought};
 ghost use Rattle.frame_codec.specs.Limits.{sequence_space};
 ghost use Rattle.window_link.specs.Limits.{greatest};
 
@@ -142,6 +142,7 @@ impl Channel {
         ensures fault { result_err result ≡ channel_fault self.old frame.now }
         ensures taken { IfOk result (λ taken. Tells taken (arrival_at self.old.link frame.now) (following most_following (after_frame self.old frame.now))) }
         ensures channel { OnOk result (self.new ≡ after_taking self.old frame.now) }
+        ensures held { IfOk result (λ taken. HoldsWhatIsBrought self.old taken self.new) }
         ensures unchanged { OnErr result (self.new ≡ self.old) }
     {
         self.check(frame)?;
