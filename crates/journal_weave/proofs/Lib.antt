@@ -8,3 +8,7 @@ mod Pushing
 mod Limits
 mod Ending
 mod Rounds
+mod AcceptedAlone
+mod FinishedAt
+mod SentFromAll
+mod WorldRecords

@@ -1,4 +1,5 @@
 pub mod Weaving
 pub mod Given
 pub mod Laws
+pub mod WorldRecords
 pub mod refinement

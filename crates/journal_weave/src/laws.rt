@@ -1,8 +1,11 @@
 //! What holds of schedules beside what offices tell.
 
 ghost use Rattle.journal_weave.specs.Laws.{NoneGoesFurther, WovenIsSerial};
+ghost use Rattle.journal_weave.specs.WorldRecords.{WovenIsRecord, WorldsAreWoven, SchedulesDifferInOrder, WorldsAreFoundAgain};
 
-use frame_world::laws::{bottles_are_serial, sessions_are_serial};
+use frame_world::laws::{
+    bottles_are_serial, each_office_is_told, finished_have_their_tickets, sessions_are_serial,
+};
 
 /// A schedule that goes along with what is told can go on, or has all that any other has.
 pub fn none_goes_further()
@@ -15,4 +18,32 @@ pub fn woven_is_serial()
 {
     sessions_are_serial();
     bottles_are_serial();
+}
+
+/// Journals are woven from a schedule just where all its events are accepted, and they are the record of its world.
+pub fn woven_is_record()
+    ensures { WovenIsRecord }
+{}
+
+/// The journals of every world that events lead to, good or refused, are woven from a schedule, which leads to that world.
+pub fn worlds_are_woven()
+    ensures { WorldsAreWoven }
+{
+    woven_is_record();
+}
+
+/// Two schedules of the same journals lead to the same offices, and to worlds that differ in order alone.
+pub fn schedules_differ_in_order()
+    ensures { SchedulesDifferInOrder }
+{
+    finished_have_their_tickets();
+    each_office_is_told();
+}
+
+/// A world differs in order alone from each to which a schedule leads that is woven from its journals.
+pub fn worlds_are_found_again()
+    ensures { WorldsAreFoundAgain }
+{
+    worlds_are_woven();
+    schedules_differ_in_order();
 }

@@ -5,6 +5,8 @@
 //! - `specs/Weaving.antt`: when a schedule is woven from what offices tell, and when it goes along with it.
 //! - `specs/Given.antt`: the same of journals as they are given, and which entry is missed.
 //! - `specs/Laws.antt`: a schedule that can't go on has all that any schedule has; [`laws`] has it proved.
+//! - `specs/WorldRecords.antt`: the journals of every world are woven, and two schedules of the same journals lead to worlds that
+//!   differ in order alone; [`laws`] has it proved.
 //!
 //! How it works: what an office answers depends on its own earlier entries alone. So each journal is replayed by itself first,
 //! on one office at a time (`following`), up to the first entry that the office doesn't give. Then these beginnings are merged
