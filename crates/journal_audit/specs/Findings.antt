@@ -32,7 +32,8 @@ pub record TellsWoven (p : PlanValue) (journals : List GivenJournal) (text : Lis
 abbrev pub unwoven_line : PlanValue → ℕ → ℕ → List ℕ
 unwoven_line p office entry = codes "unwoven " ++ (office_name p office ++ (32 ∷ (decimal entry ++ 10 ∷ [])))
 
--- they are the record of none: the text names an entry, from 1, that no schedule has, though one has all before it
+-- they are the record of none: the text names an entry, from 1, that no schedule has, though one has all before it, of the
+-- office that is to be named
 pub record TellsUnwoven (p : PlanValue) (journals : List GivenJournal) (text : List ℕ) : Type 0 where
   pub office : ℕ
   pub entry : ℕ

@@ -6,6 +6,7 @@ mod Furthest
 pub mod Merging
 mod Pushing
 mod Limits
+mod Naming
 mod Ending
 mod Rounds
 mod AcceptedAlone

@@ -1,7 +1,11 @@
--- Journals as they are given: of which schedules they are the record, and which entry no schedule has.
-use Rattle.std.specs.Prelude.{◌≡◌, ℕ, ◌+◌, ◌<◌, ◌≤◌, IsTrue, if◌then◌else◌, List, [], length, map, get_or, All}
+-- Journals as they are given: of which schedules they are the record, which entry no schedule has, and which office is named.
+use Rattle.std.specs.Prelude.{◌≡◌, ◌⊎◌, ℕ, ◌+◌, ◌<◌, ◌≤◌, IsTrue, if◌then◌else◌, List, [], length, map, take, get_or, slice_get, Some, All, Any}
 use Rattle.office_map.specs.PlanValue.{PlanValue}
+use Rattle.frame_codec.specs.Frame.{Fields}
 use Rattle.site_core.specs.declared.event.Entry.{Entry}
+use Rattle.site_core.specs.declared.event.Event.TheVariants as event
+use Rattle.site_core.specs.declared.reply.Reply.{Reply}
+use Rattle.site_core.specs.declared.reply.Reply.TheVariants as reply
 use Rattle.frame_world.specs.declared.event.WorldEvent.{WorldEvent}
 use Rattle.frame_world.specs.Worlds.{opening, run_of}
 use Rattle.journal_weave.specs.declared.given.GivenJournal.{GivenJournal}
@@ -37,19 +41,54 @@ pub record AreFurthest (plan : PlanValue) (told : ℕ → List Entry) (at : ℕ 
   pub had : (events : List WorldEvent) × GoesAlong plan told events × ((a : ℕ) → entries_of plan events a ≡ at a)
   pub most : (events : List WorldEvent) → GoesAlong plan told events → (a : ℕ) → entries_of plan events a ≤ at a
 
+-- ---- which office is named
+
 -- an office stands before the end of its journal
 abbrev pub Stands : List GivenJournal → (ℕ → ℕ) → ℕ → Type 0
 Stands journals at a = at a < lines_of journals a
 
--- the office tells an entry of that number, from 1, and no schedule that goes along with the journals has it, though one has
--- all those before it
+-- the reply is a frame for that office, with that number
+abbrev pub IsFrameFor : ℕ → ℕ → Reply → Type 0
+IsFrameFor to number (reply.Frame f) = (f.to ≡ to) × (f.number ≡ number)
+IsFrameFor to number r = ⊥
+
+-- some of these entries made such a frame
+abbrev pub HasMade : List Entry → ℕ → ℕ → Type 0
+HasMade entries to number = Any (λ (x : Entry). IsFrameFor to number x.reply) entries
+
+-- the entry after the first n takes that frame
+abbrev pub TakesNext : List Entry → ℕ → Fields → Type 0
+TakesNext entries n f = (x : Entry) × (slice_get entries n ≡ Some x) × (x.event ≡ event.Took f)
+
+-- the office's next entry takes a frame whose sender stands too, and has made it none of that number
+pub record Waits (journals : List GivenJournal) (at : ℕ → ℕ) (a : ℕ) : Type 0 where
+  pub frame : Fields
+  pub takes : TakesNext (told_in journals a) (at a) frame
+  pub sender_stands : Stands journals at frame.from
+  pub none_made : HasMade (take (at frame.from) (told_in journals frame.from)) a frame.number → ⊥
+
+-- of all offices of which that holds it is the least
+abbrev pub IsLeastOffice : (ℕ → Type 0) → ℕ → Type 0
+IsLeastOffice P a = P a × ((b : ℕ) → b < a → P b → ⊥)
+
+-- it is the least that stands and doesn't wait; or, where all wait that stand, the least of them
+abbrev pub IsNamed : List GivenJournal → (ℕ → ℕ) → ℕ → Type 0
+IsNamed journals at a =
+    IsLeastOffice (λ b. Stands journals at b × (Waits journals at b → ⊥)) a
+    ⊎ (((b : ℕ) → Stands journals at b → Waits journals at b) × IsLeastOffice (Stands journals at) a)
+
+-- ---- why there is no schedule
+
+-- the office is the one to be named, and tells an entry of that number, from 1, and no schedule that goes along with the journals
+-- has it, though one has all those before it
 pub record IsLeft (plan : PlanValue) (journals : List GivenJournal) (a entry : ℕ) : Type 0 where
   pub at : ℕ → ℕ
   pub furthest : AreFurthest plan (told_in journals) at
   pub stands : Stands journals at a
+  pub named : IsNamed journals at a
   pub next : entry ≡ at a + 1
 
--- why there is no schedule: an entry is left, or memory ran out
+-- an entry is left, or memory ran out
 abbrev pub IsUnwoven : PlanValue → List GivenJournal → WeaveFault → Type 0
 IsUnwoven plan journals (fault.Unwoven a entry) = IsLeft plan journals a entry
 IsUnwoven plan journals fault.Memory = Unit {0}

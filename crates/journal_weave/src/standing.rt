@@ -1,12 +1,14 @@
 //! Which office is named where none goes on.
 
-ghost use Rattle.std.specs.Prelude.{◌≡◌, ◌+◌, ◌<◌, ℕ, length, get_or, IfSome, IfNone};
-ghost use Rattle.journal_weave.specs.Given.{lines_in, Stands};
+ghost use Rattle.std.specs.Prelude.{◌≡◌, ◌+◌, ◌<◌, ◌↔◌, ℕ, length, get_or, take, slice_get, Some, IfSome, IfNone, IsTrue};
+ghost use Rattle.frame_codec.specs.Frame.{Fields};
+ghost use Rattle.journal_weave.specs.Given.{lines_in, told_in, Stands, TakesNext, HasMade, IsFrameFor, Waits, IsNamed};
 
 use crate::given::GivenJournal;
 use crate::merge::Merge;
+use frame_codec::Frame;
 use office_map::{OfficeId, Plan};
-use site_core::{Event, Reply};
+use site_core::{Entry, Event, Reply};
 
 /// The office that is named where none goes on, and the entry at which it stands, from 1: the least that doesn't wait, or the
 /// least, where all wait that stand.
@@ -19,6 +21,7 @@ pub(crate) fn first_left(
     requires size { length merge.now.at.items ≡ length plan.now.offices }
     ensures none { IfNone result ((a : ℕ) → Stands journals.now (λ b. get_or merge.now.at.items b 0) a → ⊥) }
     ensures stands { IfSome result (λ left. Stands journals.now (λ b. get_or merge.now.at.items b 0) left.0) }
+    ensures named { IfSome result (λ left. IsNamed journals.now (λ b. get_or merge.now.at.items b 0) left.0) }
     ensures next { IfSome result (λ left. left.1 ≡ get_or merge.now.at.items left.0 0 + 1) }
 {
     let mut first = None;
@@ -63,25 +66,42 @@ fn lines(journal: &GivenJournal) -> usize
 fn waits(journals: &[GivenJournal], merge: &Merge, a: OfficeId) -> bool
     requires office { a < length journals.now }
     requires size { length merge.now.at.items ≡ length journals.now }
+    ensures { IsTrue result ↔ Waits journals.now (λ b. get_or merge.now.at.items b 0) a }
 {
-    let Some(entry) = journals[a.index()].entries.get(merge.done(a)) else {
-        return false;
-    };
-    let Event::Took(frame) = &entry.event else {
+    let Some(frame) = taken_next(&journals[a.index()].entries, merge.done(a)) else {
         return false;
     };
     let from = OfficeId::new(frame.from());
     if from.index() >= journals.len() || left_at(journals, merge, from).is_none() {
         return false;
     }
-    let made = journals[from.index()].entries.iter();
-    !made
-        .take(merge.done(from))
-        .any(|entry| is_frame(&entry.reply, a.number(), frame.number()))
+    let made = &journals[from.index()].entries;
+    !has_made(made, merge.done(from), a.number(), frame.number())
+}
+
+/// The frame that the entry after so many takes, if there is one and it does.
+fn taken_next(entries: &[Entry], done: usize) -> Option<Frame>
+    ensures takes { IfSome result (TakesNext entries.now done) }
+    ensures none { IfNone result ((f : Fields) → TakesNext entries.now done f → ⊥) }
+{
+    match &entries.get(done)?.event {
+        Event::Took(frame) => Some(*frame),
+        _ => None,
+    }
+}
+
+/// Whether one of the first so many entries made a frame of that number for the office.
+fn has_made(entries: &[Entry], done: usize, to: u8, number: u64) -> bool
+    ensures { IsTrue result ↔ HasMade (take done entries.now) to number }
+{
+    let mut made = entries.iter().take(done);
+    made.any(|entry| is_frame(&entry.reply, to, number))
 }
 
 /// Whether the reply is a frame of that number for the office.
-fn is_frame(reply: &Reply, to: u8, number: u64) -> bool {
+fn is_frame(reply: &Reply, to: u8, number: u64) -> bool
+    ensures { IsTrue result ↔ IsFrameFor to number reply.now }
+{
     match reply {
         Reply::Frame(frame) => frame.to() == to && frame.number() == number,
         _ => false,

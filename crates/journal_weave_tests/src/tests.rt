@@ -13,6 +13,7 @@ use std::test::Fail;
 
 mod drawn;
 mod long;
+mod named;
 mod searched;
 
 /// Two offices, and two records of theirs.

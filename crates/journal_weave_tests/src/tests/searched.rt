@@ -73,14 +73,19 @@ fn told_and_found_under(
     most: usize,
     seed: u64,
 ) -> Result<Pair, Fail> {
-    let journals = short_journals(alloc, plan, offices, most, seed)?;
+    let course = Course {
+        offices,
+        seed,
+        events: 30,
+    };
+    let journals = changed_journals(alloc, plan, course, most)?;
     let told = told(alloc, plan, &journals)?;
     let found = found(alloc, plan, &journals)?;
     Ok(Pair { told, found })
 }
 
 /// What is answered, and of a schedule what it makes of another world.
-fn told(alloc: Global, plan: &[u8], journals: &[GivenJournal]) -> Result<String, Fail> {
+pub fn told(alloc: Global, plan: &[u8], journals: &[GivenJournal]) -> Result<String, Fail> {
     let read = Plan::read(alloc, plan)?;
     if journals.len() != read.offices() {
         return Ok(String::new(alloc));
@@ -106,20 +111,14 @@ fn woven(alloc: Global, again: Remade) -> Result<String, AllocError> {
 }
 
 /// Beginnings of a drawn world's journals, with some changes.
-fn short_journals(
+pub fn changed_journals(
     alloc: Global,
     plan: &[u8],
-    offices: u8,
+    course: Course,
     most: usize,
-    seed: u64,
 ) -> Result<Vec<GivenJournal>, Fail> {
-    let course = Course {
-        offices,
-        seed,
-        events: 30,
-    };
     let mut journals = drawn_journals(alloc, plan, course)?;
-    if !shortened(&mut journals, offices, most, seed) {
+    if !shortened(&mut journals, course.offices, most, course.seed) {
         return Err(Fail::from("out of memory"));
     }
     Ok(journals)
@@ -281,7 +280,11 @@ impl Search {
     }
 }
 
-fn with_one_more(alloc: Global, order: &[usize], next: usize) -> Result<Vec<usize>, AllocError> {
+pub fn with_one_more(
+    alloc: Global,
+    order: &[usize],
+    next: usize,
+) -> Result<Vec<usize>, AllocError> {
     let mut longer = Vec::with_capacity(alloc, order.len().saturating_add(1))?;
     longer.extend_from_slice(order)?;
     longer.push(next)?;
@@ -295,7 +298,7 @@ fn raise(best: &mut [usize], counts: &[usize]) {
 }
 
 /// How many entries of each office there are, if they are accepted in that order of their offices.
-fn counts_of(
+pub fn counts_of(
     alloc: Global,
     plan: &[u8],
     journals: &[GivenJournal],
@@ -387,7 +390,11 @@ fn number_of(world: &World, frame: &Frame) -> Option<WorldEvent> {
 }
 
 /// The entry that is to be named; where no office stands, that all are woven.
-fn named(alloc: Global, journals: &[GivenJournal], best: &[usize]) -> Result<String, AllocError> {
+pub fn named(
+    alloc: Global,
+    journals: &[GivenJournal],
+    best: &[usize],
+) -> Result<String, AllocError> {
     for waiting in [false, true] {
         for at in 0..journals.len() {
             if stands(journals, best, at) && waits(journals, best, at) == waiting {
@@ -408,7 +415,7 @@ fn named(alloc: Global, journals: &[GivenJournal], best: &[usize]) -> Result<Str
 }
 
 /// Whether the office's next entry takes a frame that may still come.
-fn waits(journals: &[GivenJournal], best: &[usize], at: usize) -> bool {
+pub fn waits(journals: &[GivenJournal], best: &[usize], at: usize) -> bool {
     let Some(journal) = journals.get(at) else {
         return false;
     };
@@ -432,7 +439,7 @@ fn done(best: &[usize], at: usize) -> usize {
     best.get(at).copied().unwrap_or(0)
 }
 
-fn stands(journals: &[GivenJournal], best: &[usize], at: usize) -> bool {
+pub fn stands(journals: &[GivenJournal], best: &[usize], at: usize) -> bool {
     match journals.get(at) {
         Some(journal) => !journal.ends || done(best, at) < journal.entries.len(),
         None => false,

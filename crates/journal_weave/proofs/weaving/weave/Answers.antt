@@ -22,7 +22,7 @@ returns-in-Some c =
       woven = tt;
       sessions = tt;
       bottles = tt;
-      unwoven = record { at = at_of m; furthest = most; stands = c.in-Some.ensures.stands; next = c.in-Some.ensures.next };
+      unwoven = record { at = at_of m; furthest = most; stands = c.in-Some.ensures.stands; named = c.in-Some.ensures.named; next = c.in-Some.ensures.next };
       never = inr (never_woven plan js (at_of m) _ most c.in-Some.ensures.stands);
     }
 
