@@ -3,3 +3,4 @@ mod ScriptLines
 mod Steps
 mod Advancing
 mod Settling
+mod OneWay

@@ -1,5 +1,5 @@
 -- What a world does that is left to itself.
-use Rattle.std.proofs.Common.{◌≡◌, ℕ, zero, suc, ◌+◌, ◌<◌, ◌≤◌, Bool, true, false, cond, List, [], ◌∷◌, ◌++◌, length, get_or, Option, None, Some, Ok, Err, refl, sym, ap, subst, ◌∙◌, arith, inl, inr}
+use Rattle.std.proofs.Common.{◌≡◌, ◌≢◌, ℕ, zero, suc, ◌+◌, ◌<◌, ◌≤◌, Bool, true, false, cond, List, [], ◌∷◌, ◌++◌, length, get_or, Option, None, Some, Ok, Err, refl, sym, ap, subst, ◌∙◌, arith, inl, inr}
 use Rattle.std.specs.Prelude.{Result, nat_lt, nat_le, IsOk, ◌==◌, ◌&&◌, unwrap_or}
 use Rattle.std.specs.List.{list_all}
 use Rattle.std.specs.Option.{option_or}
@@ -55,7 +55,7 @@ none_left (x ∷ xs) d h =
     ap (λ b. b && list_all (λ (s : Site). unfinished (office_of s).agenda == 0) xs) (eq-eqb (unfinished (office_of x).agenda) 0 (h 0))
     ∙ none_left xs (λ i. d (suc i)) (λ i. h (suc i))
 
-next_if_finished : (w : World) → AllAreFinished w → next_step w ≡ next.AllFinished
+pub next_if_finished : (w : World) → AllAreFinished w → next_step w ≡ next.AllFinished
 next_if_finished w h = ap (λ b. cond b next.AllFinished (unwrap_or (option_or (first_office w (rule_at w)) (first_office w (message_from w))) next.AllFinished)) (none_left w.sites (silent w.plan) h)
 
 rule_is_left : (w : World) (a : ℕ) (r : Rule) → next_step w ≡ next.Rule a r → AllAreFinished w → ⊥
@@ -63,6 +63,12 @@ rule_is_left w a r is h = absurd (let both : next.Rule a r ≡ next.AllFinished 
 
 message_is_left : (w : World) (a b number : ℕ) → next_step w ≡ next.Message a b number → AllAreFinished w → ⊥
 message_is_left w a b number is h = absurd (let both : next.Message a b number ≡ next.AllFinished = sym is ∙ next_if_finished w h in cc)
+
+rule_is_a_step : (a : ℕ) (r : Rule) → next.Rule a r ≢ next.AllFinished
+rule_is_a_step a r h = absurd cc
+
+message_is_a_step : (a b number : ℕ) → next.Message a b number ≢ next.AllFinished
+message_is_a_step a b number h = absurd cc
 
 -- ---- what is accepted
 
@@ -130,11 +136,11 @@ one_more before left done w (Ok (Rules n), v) h = absurd h
 one_more before left done w (Err r, v) (few, is, full) = (omega (arith, few), is, full)
 
 -- a step is done, and what comes after it follows
-follows : (w v : World) (before left : ℕ) (s : NextStep) (t : Told) → next_step w ≡ s → AreAccepted w (events_of w s) → worlds.run_of w (events_of w s) ≡ v → SettlesAfter v (before + 1) left t → SettlesAfter w before (suc left) t
-follows w v before left s t is ok led rest = record {
+follows : (w v : World) (before left : ℕ) (s : NextStep) (t : Told) → next_step w ≡ s → s ≢ next.AllFinished → AreAccepted w (events_of w s) → worlds.run_of w (events_of w s) ≡ v → SettlesAfter v (before + 1) left t → SettlesAfter w before (suc left) t
+follows w v before left s t is done ok led rest = record {
   steps = s ∷ rest.steps;
   world = rest.world;
-  lead = (is, ok, subst (λ u. Lead u rest.steps rest.world) (sym led) rest.lead);
+  lead = (is, done, ok, subst (λ u. Lead u rest.steps rest.world) (sym led) rest.lead);
   ends = one_more before left (length rest.steps) rest.world t rest.ends;
 }
 
@@ -152,7 +158,7 @@ module _ (plan : PlanValue) (laws : Laws plan) (w : World) (reached : Reached pl
   ruled : (a : ℕ) (r : Rule) → next_step w ≡ next.Rule a r → MayDo w a r → (x : Answer) → happens w (happening.Do a r) ≡ x → SettlesAfter w before (suc left) (further on x)
   ruled a r is may (Ok y, v) e =
       let led : (happens w (happening.Do a r)).1 ≡ v = ap (λ (x : Answer). x.1) e in
-      follows w v before left (next.Rule a r) (on v) is (accepted (happens w (happening.Do a r)) y v e, tt) led (rest v (later plan w v (happening.Do a r) led reached))
+      follows w v before left (next.Rule a r) (on v) is (rule_is_a_step a r) (accepted (happens w (happening.Do a r)) y v e, tt) led (rest v (later plan w v (happening.Do a r) led reached))
   ruled a r is may (Err y, v) e =
       refuses w v before left (next.Rule a r) y is (inl e) (λ room. not_both (happens w (happening.Do a r)) reply.Done y v (laws.rules w reached a r may (room a)) e)
 
@@ -171,7 +177,7 @@ module _ (plan : PlanValue) (laws : Laws plan) (w : World) (reached : Reached pl
         let to_v : (happens w sending).1 ≡ v = ap (λ (x : Answer). x.1) e in
         let to_u : (happens v coming).1 ≡ u = ap (λ (x : Answer). x.1) f in
         let there : happens (happens w sending).1 coming ≡ (Ok z, u) = ap (λ x. happens x coming) to_v ∙ f in
-        follows w u before left (next.Message a b number) (on u) is (accepted (happens w sending) y v e, (accepted (happens (happens w sending).1 coming) z u there, tt)) (ap (λ (x : Answer). x.1) there)
+        follows w u before left (next.Message a b number) (on u) is (message_is_a_step a b number) (accepted (happens w sending) y v e, (accepted (happens (happens w sending).1 coming) z u there, tt)) (ap (λ (x : Answer). x.1) there)
         (rest u (later plan v u coming to_u (later plan w v sending to_v reached)))
     comes y v e (Err z, u) f =
         let to_v : (happens w sending).1 ≡ v = ap (λ (x : Answer). x.1) e in

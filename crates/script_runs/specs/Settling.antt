@@ -1,5 +1,5 @@
 -- What a world does that is left to itself: the steps that come next, one after the other, until no session is left.
-use Rattle.std.specs.Prelude.{◌≡◌, ℕ, suc, ◌≤◌, ◌<◌, ◌⊎◌, List, [], ◌∷◌, length, Ok, Err, IsOk}
+use Rattle.std.specs.Prelude.{◌≡◌, ◌≢◌, ℕ, suc, ◌≤◌, ◌<◌, ◌⊎◌, List, [], ◌∷◌, length, Ok, Err, IsOk}
 use Rattle.office_map.specs.Consistency.{IsAccepted}
 use Rattle.frame_world.specs.declared.event.WorldEvent.{WorldEvent}
 use Rattle.frame_world.specs.declared.event.WorldEvent.TheVariants as happening
@@ -25,11 +25,11 @@ abbrev pub IsRefused : World → List WorldEvent → WorldRefusal → World → 
 IsRefused w [] r v = ⊥
 IsRefused w (e ∷ es) r v = (happens w e ≡ (Err r, v)) ⊎ (IsOk (happens w e).0 × IsRefused (happens w e).1 es r v)
 
--- steps of which each is the one that comes next in the world that those before it led to, and is accepted there; and the
--- world that all of them lead to
+-- steps of which each is the one that comes next in the world that those before it led to, where a session is left, and is
+-- accepted there; and the world that all of them lead to
 abbrev pub Lead : World → List NextStep → World → Type 0
 Lead w [] v = v ≡ w
-Lead w (s ∷ ss) v = (next_step w ≡ s) × AreAccepted w (events_of w s) × Lead (worlds.run_of w (events_of w s)) ss v
+Lead w (s ∷ ss) v = (next_step w ≡ s) × (s ≢ next.AllFinished) × AreAccepted w (events_of w s) × Lead (worlds.run_of w (events_of w s)) ss v
 
 -- Where so many steps of the most led to a world: they are told as finished, and no office has a session left; or all that
 -- were asked for are told as open, and some office has one left; or the next step is refused, and some journal is full.
@@ -49,3 +49,7 @@ pub record Settles (w : World) (most : ℕ) (told : Told) : Type 0 where
 -- a world of an accepted plan settles so, if a list of events leads to it
 abbrev pub WorldsSettleByTheirNextSteps : Type 0
 WorldsSettleByTheirNextSteps = (w : World) (most : ℕ) → IsReached w → IsAccepted w.plan → Settles w most (does w (scripts.Settles most))
+
+-- and whatever is told so of a world is the one thing that can be told of it: so many steps, and what came of them
+abbrev pub WorldsSettleInOneWay : Type 0
+WorldsSettleInOneWay = (w : World) (most : ℕ) (t u : Told) → Settles w most t → Settles w most u → t ≡ u

@@ -2,7 +2,7 @@
 
 ghost use Rattle.script_runs.specs.Advancing.{OfficesAdvanceByTheirNextRules};
 ghost use Rattle.script_runs.specs.ScriptLines.{LinesReadBack, ScriptsReadBack};
-ghost use Rattle.script_runs.specs.Settling.{WorldsSettleByTheirNextSteps};
+ghost use Rattle.script_runs.specs.Settling.{WorldsSettleByTheirNextSteps, WorldsSettleInOneWay};
 
 use frame_world::laws::{messages_are_taken, never_stuck, rules_are_done};
 
@@ -32,3 +32,9 @@ pub fn worlds_settle_by_their_next_steps()
     rules_are_done();
     messages_are_taken();
 }
+
+/// What is told of a world that settles so is one thing: just as many steps as were done while a session was left, how it
+/// ended, and the world then.
+pub fn worlds_settle_in_one_way()
+    ensures { WorldsSettleInOneWay }
+{}

@@ -8,7 +8,7 @@
 //!   `serial`).
 //! - [`laws`] says that the line which prints an event reads back as that event, that an office which is told to advance
 //!   does the rules that come next (`specs/Advancing.antt`), and that a world which is told to settle takes the steps that
-//!   come next (`specs/Settling.antt`).
+//!   come next, and tells just how many they are (`specs/Settling.antt`).
 //!
 //! Which acts a line asks for is in `specs/Script.antt`, what they do in `specs/Runs.antt`, over the world of
 //! `frame_world`; what is printed in `specs/Transcript.antt`. The words of rules, offices and records are those of
