@@ -12,6 +12,7 @@ use std::process::Abort;
 use std::test::Fail;
 
 mod drawn;
+mod found_again;
 mod long;
 mod named;
 mod searched;

@@ -1,5 +1,9 @@
 //! Drawn worlds, and their journals.
 
+ghost use Rattle.std.specs.Prelude.{◌≡◌, length, IsTrue, IfOk};
+ghost use Rattle.journal_weave.specs.Given.{entries_in};
+ghost use Rattle.journal_weave.specs.WorldRecords.{AreRecordOf};
+
 use frame_world::{WorldEvent, WorldRefusal};
 use journal_weave::{GivenJournal, weave};
 use office_map::{OfficeId, Plan};
@@ -13,7 +17,7 @@ use std::test::Fail;
 use world_schedule::World;
 
 /// How many offices there are, a number from which the events are drawn, and how many of them.
-static DRAWN: [(u8, u64, usize); 4] = [
+pub static DRAWN: [(u8, u64, usize); 4] = [
     (2, 11, 4_000),
     (3, 220, 4_000),
     (5, 3300, 4_000),
@@ -116,11 +120,17 @@ pub fn drawn_journals(
 }
 
 fn drawn_in(alloc: Global, world: &mut World, course: Course) -> Result<Vec<GivenJournal>, Fail> {
+    happens_in(alloc, world, course)?;
+    Ok(journals_of(alloc, world)?)
+}
+
+/// The drawn events happen, good or refused.
+pub fn happens_in(alloc: Global, world: &mut World, course: Course) -> Result<(), Fail> {
     let programs = programs_of(alloc, world.plan(), course.offices)?;
     if !happens(world, &programs, course) {
         return Err(Fail::from("out of memory"));
     }
-    Ok(journals_of(alloc, world)?)
+    Ok(())
 }
 
 fn programs_of(alloc: Global, plan: &Plan, offices: u8) -> Result<Vec<Program>, Fail> {
@@ -195,7 +205,10 @@ fn tickets(world: &World, at: OfficeId) -> u32 {
 }
 
 /// All that each office accepted.
-pub fn journals_of(alloc: Global, world: &World) -> Result<Vec<GivenJournal>, AllocError> {
+pub fn journals_of(alloc: Global, world: &World) -> Result<Vec<GivenJournal>, AllocError>
+    ensures one_each { IfOk result (λ v. length v.items ≡ length world.now.plan.offices) }
+    ensures record { IfOk result (λ v. AreRecordOf world.now v.items) }
+{
     let mut journals = Vec::new(alloc);
     for office in world.offices() {
         journals.push(journal_of(alloc, office.journal())?)?;
@@ -203,7 +216,10 @@ pub fn journals_of(alloc: Global, world: &World) -> Result<Vec<GivenJournal>, Al
     Ok(journals)
 }
 
-fn journal_of(alloc: Global, journal: &Journal) -> Result<GivenJournal, AllocError> {
+fn journal_of(alloc: Global, journal: &Journal) -> Result<GivenJournal, AllocError>
+    ensures all { IfOk result (λ j. entries_in j ≡ journal.now.entries) }
+    ensures whole { IfOk result (λ j. IsTrue j.ends) }
+{
     Ok(GivenJournal {
         entries: journal.part(alloc, 0, journal.len())?,
         ends: true,
