@@ -1,8 +1,9 @@
 #!/bin/sh
 # What `drink audit` takes for journals of two offices, and of sixteen in a ring, up to the limit of a journal: time, whose growth
-# with twice the entries is to be seen, memory, and instructions; and what reading them takes by itself. `docs/BENCHMARKS.md` has
-# the figures. It needs a program that is built, awk, and GNU time; for the counts of instructions valgrind. It fails only where
-# the program doesn't audit the journals as it is to: the report has to have each session and the values at last.
+# with twice the entries is to be seen, memory, and instructions; and what reading them takes by itself. Then the time for journals
+# that were made so that it might be long (crafted.py). `docs/BENCHMARKS.md` has the figures. It needs a program that is built, awk,
+# python3, and GNU time; for the counts of instructions valgrind. It fails only where the program doesn't audit the journals as it
+# is to: the report has to have each session and the values at last.
 #
 #   sh bench/audit/run.sh [PROGRAM]        PROGRAM is crates/drink/out/drink where it is left out
 #
@@ -15,8 +16,18 @@ top=$(cd "$here/../.." && pwd)
 
 # OFFICES ENTRIES: a plan, and a journal of so many entries for each office.
 journals() {
-    rm -f "$work"/journal.* "$work/plan" "$work/values" "$work/sessions"
+    empty
     awk -v offices="$1" -v entries="$2" -v work="$work" -f "$here/journals.awk"
+}
+
+# KIND ENTRIES: the same of two offices, crafted.
+crafted() {
+    empty
+    python3 "$here/crafted.py" "$1" "$2" "$work"
+}
+
+empty() {
+    rm -f "$work"/journal.* "$work/plan" "$work/values" "$work/sessions"
 }
 
 # The bytes of all journals.
@@ -121,4 +132,16 @@ for row in '2 50000' '2 100000' '16 6250' '16 12500'; do
     refuse_last
     reading=$(instructions refused)
     printf '| %s | %s | %s | %s | %s | %s | %s |\n' "$1" "$2" "$size" "$all" "$(for_each "$all" "$none" $(($1 * $2)))" "$reading" "$(for_each "$reading" "$header" "$size")"
+done
+
+printf '\n| %s | %s | %s | %s | %s | %s |\n' Crafted 'Entries of each' Bytes Milliseconds 'By half as many' 'Memory, KiB'
+for kind in values resends; do
+    before=-
+    for entries in ${ENTRIES:-125000 250000 500000 1000000}; do
+        crafted "$kind" "$entries"
+        set -- $(takes)
+        is_reported
+        printf '| %s | %s | %s | %s | %s | %s |\n' "$kind" "$entries" "$(bytes)" "$1" "$(growth "$1" "$before")" "$2"
+        before=$1
+    done
 done

@@ -5,12 +5,13 @@ use Rattle.std.proofs.lemmas.Bool.{cases_lt}
 use Rattle.std.proofs.lemmas.List.{length-append, length-map}
 use Rattle.std.proofs.lemmas.List.Sums.{sum_by-cons}
 use Rattle.std.proofs.Math.Seq.{take-length}
+use Rattle.std.specs.declared.cmp.Ordering.{Ordering}
 use Rattle.office_map.specs.PlanValue.{PlanValue}
-use Rattle.frame_codec.specs.Frame.{Fields}
 use Rattle.site_core.specs.declared.event.Entry.{Entry}
 use Rattle.frame_world.specs.declared.event.WorldEvent.{WorldEvent}
 use Rattle.frame_world.specs.Worlds.{opening, run_of}
 use Rattle.journal_weave.specs.declared.given.GivenJournal.{GivenJournal}
+use Rattle.journal_weave.specs.declared.key.FrameKey.{FrameKey}
 use Rattle.journal_weave.specs.declared.merge.Merge.{Merge}
 use Rattle.journal_weave.specs.Weaving.{untagged, entries_at, IsWoven, GoesAlong}
 use Rattle.journal_weave.specs.Given.{told_in, lines_of, IsWovenFrom, AreFurthest, Stands}
@@ -59,7 +60,7 @@ all_end (j ∷ journals) h (suc k) d lt = all_end journals (λ a. h (suc a)) k d
 
 -- ---- the end
 
-module _ (E : Fields → Fields → Bool) (plan : PlanValue) (told : ℕ → List Entry) (limits : List ℕ) (m : Merge) (goods : AreLimits plan told limits) (merged : IsMerged E plan told limits m) where
+module _ (C : FrameKey → FrameKey → Ordering) (plan : PlanValue) (told : ℕ → List Entry) (limits : List ℕ) (m : Merge) (goods : AreLimits plan told limits) (merged : IsMerged C plan told limits m) where
   pub has : Has plan told (at_of m) m.schedule.items
   has = record { accepted = merged.accepted; entries = merged.has }
 
@@ -110,11 +111,11 @@ never_woven plan journals at a furthest stands events w =
     )
 
 -- where none does, the schedule is
-pub all_woven : (E : Fields → Fields → Bool) (plan : PlanValue) (journals : List GivenJournal) (limits : List ℕ) (m : Merge) → AreLimits plan (told_in journals) limits → IsMerged E plan (told_in journals) limits m →
+pub all_woven : (C : FrameKey → FrameKey → Ordering) (plan : PlanValue) (journals : List GivenJournal) (limits : List ℕ) (m : Merge) → AreLimits plan (told_in journals) limits → IsMerged C plan (told_in journals) limits m →
     ((a : ℕ) → Stands journals (at_of m) a → ⊥) → IsWovenFrom plan journals m.schedule.items
-all_woven E plan journals limits m goods merged none =
+all_woven C plan journals limits m goods merged none =
     let past : (a : ℕ) → lines_of journals a ≤ at_of m a = λ a. ⊎_elim (λ lt. absurd (none a lt)) (λ ge. ge) (cases_lt (at_of m a) (lines_of journals a)) in
     record {
-      whole = all_end journals (λ a. omega (arith, past a, within E plan (told_in journals) limits m goods merged a));
-      woven = woven E plan (told_in journals) limits m goods merged (λ a. omega (arith, past a, told_within journals a));
+      whole = all_end journals (λ a. omega (arith, past a, within C plan (told_in journals) limits m goods merged a));
+      woven = woven C plan (told_in journals) limits m goods merged (λ a. omega (arith, past a, told_within journals a));
     }

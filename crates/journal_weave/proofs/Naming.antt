@@ -1,6 +1,6 @@
 -- Which office is named of those that stand.
 use Rattle.std.proofs.Common.{◌≡◌, ℕ, ◌<◌, ◌≤◌, Bool, true, false, not, List, length, take, get_or, Option, Some, None, refl, sym, ap, subst, ◌∙◌, arith, inl, inr, ⊎_elim}
-use Rattle.std.specs.Prelude.{slice_get, IsTrue, is_some, IfSome, ◌↔◌}
+use Rattle.std.specs.Prelude.{IsTrue, is_some, IfSome, ◌↔◌}
 use Rattle.std.proofs.lemmas.Bool.{cases_lt, false≢true}
 use Rattle.frame_codec.specs.Frame.{Fields}
 use Rattle.site_core.specs.declared.event.Event.TheVariants as event

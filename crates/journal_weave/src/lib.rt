@@ -17,6 +17,7 @@
 mod fault;
 mod following;
 mod given;
+mod key;
 pub mod laws;
 mod merge;
 mod sent;

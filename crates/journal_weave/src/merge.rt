@@ -9,6 +9,7 @@ ghost use Rattle.frame_world.specs.Worlds.{frames_of};
 ghost use Rattle.journal_weave.specs.refinement.Following.{AreLimits};
 ghost use Rattle.journal_weave.specs.refinement.Merging.{Knows, CannotCome, IsFound, IsPushed, GoesOn, IsMerged, IsStuck, IsTold};
 
+use crate::key::FrameKey;
 use crate::sent::SentFrames;
 use frame_codec::Frame;
 use frame_world::WorldEvent;
@@ -30,7 +31,7 @@ impl Merge {
     /// The empty schedule, of so many offices.
     pub(crate) fn new(alloc: Global, offices: usize) -> Result<Merge, AllocError>
         ensures size { IfOk result (λ m. length m.at.items ≡ offices) }
-        ensures merged { IfOk result (λ m. (plan : PlanValue) (told : ℕ → List Entry) (limits : List ℕ) → IsMerged ⟦<Frame as PartialEq>⟧.eq plan told limits m) }
+        ensures merged { IfOk result (λ m. (plan : PlanValue) (told : ℕ → List Entry) (limits : List ℕ) → IsMerged ⟦<FrameKey as Ord>⟧.cmp plan told limits m) }
     {
         Ok(Merge {
             at: vec![in alloc; 0; offices]?,
@@ -64,7 +65,7 @@ impl Merge {
         requires office { a < length self.old.at.items }
         requires limit { limit ≤ length entries.now }
         requires room { self.old.sent.count ≤ length self.old.schedule.items }
-        ensures merged { OnOk result ((plan : PlanValue) (told : ℕ → List Entry) (limits : List ℕ) → a < length plan.offices → IsTold told limits a entries.now limit → AreLimits plan told limits → IsMerged ⟦<Frame as PartialEq>⟧.eq plan told limits self.old → IsMerged ⟦<Frame as PartialEq>⟧.eq plan told limits self.new × IsStuck plan told limits self.new a) }
+        ensures merged { OnOk result ((plan : PlanValue) (told : ℕ → List Entry) (limits : List ℕ) → a < length plan.offices → IsTold told limits a entries.now limit → AreLimits plan told limits → IsMerged ⟦<FrameKey as Ord>⟧.cmp plan told limits self.old → IsMerged ⟦<FrameKey as Ord>⟧.cmp plan told limits self.new × IsStuck plan told limits self.new a) }
         ensures size { length self.new.at.items ≡ length self.old.at.items }
         ensures longer { OnOk result (length self.old.schedule.items ≤ length self.new.schedule.items) }
         ensures same { OnOk result (length self.new.schedule.items ≡ length self.old.schedule.items → self.new ≡ self.old) }
@@ -84,8 +85,8 @@ impl Merge {
         requires office { a < length self.old.at.items }
         requires next { get_or self.old.at.items a 0 + 1 < 2 ^ 64 }
         requires room { self.old.sent.count ≤ length self.old.schedule.items }
-        ensures pushed { IfOk result (λ goes. goes ≡ true → GoesOn ⟦<Frame as PartialEq>⟧.eq self.old self.new a entry.now) }
-        ensures lacks { IfOk result (λ goes. goes ≡ false → (frames : List Fields) → Knows ⟦<Frame as PartialEq>⟧.eq self.old.sent frames → CannotCome frames a entry.now.event) }
+        ensures pushed { IfOk result (λ goes. goes ≡ true → GoesOn ⟦<FrameKey as Ord>⟧.cmp self.old self.new a entry.now) }
+        ensures lacks { IfOk result (λ goes. goes ≡ false → (frames : List Fields) → Knows ⟦<FrameKey as Ord>⟧.cmp self.old.sent frames → CannotCome frames a entry.now.event) }
         ensures same { IfOk result (λ goes. goes ≡ false → self.new ≡ self.old) }
         ensures size { length self.new.at.items ≡ length self.old.at.items }
     {
@@ -98,7 +99,7 @@ impl Merge {
 
     /// The world's event that is this event of the office, if its frame is there for it.
     fn event_of(&self, a: OfficeId, event: &Event) -> Result<Option<WorldEvent>, AllocError>
-        ensures { IfOk result (λ found. (frames : List Fields) → Knows ⟦<Frame as PartialEq>⟧.eq self.now.sent frames → IsFound frames a event.now found) }
+        ensures { IfOk result (λ found. (frames : List Fields) → Knows ⟦<FrameKey as Ord>⟧.cmp self.now.sent frames → IsFound frames a event.now found) }
     {
         match event {
             Event::Submit(program) => Ok(Some(WorldEvent::Submit(a, program.copy()?))),
@@ -111,7 +112,7 @@ impl Merge {
 
     /// The event that the frame comes to the office.
     fn arrival_of(&self, a: OfficeId, frame: &Frame) -> Option<WorldEvent>
-        ensures { (frames : List Fields) → Knows ⟦<Frame as PartialEq>⟧.eq self.now.sent frames → IsFound frames a (events.Took frame.now) result }
+        ensures { (frames : List Fields) → Knows ⟦<FrameKey as Ord>⟧.cmp self.now.sent frames → IsFound frames a (events.Took frame.now) result }
     {
         if frame.to() != a.number() {
             return None;
@@ -125,15 +126,12 @@ impl Merge {
         requires office { a < length self.old.at.items }
         requires next { get_or self.old.at.items a 0 + 1 < 2 ^ 64 }
         requires room { self.old.sent.count ≤ length self.old.schedule.items }
-        ensures pushed { OnOk result (IsPushed ⟦<Frame as PartialEq>⟧.eq self.old self.new a event reply.now) }
+        ensures pushed { OnOk result (IsPushed ⟦<FrameKey as Ord>⟧.cmp self.old self.new a event reply.now) }
         ensures size { length self.new.at.items ≡ length self.old.at.items }
     {
         self.schedule.push(event)?;
         self.at[a.index()] += 1;
-        if let Reply::Frame(frame) = reply {
-            self.sent.add(*frame)?;
-        }
-        Ok(())
+        self.sent.add_of(reply)
     }
 
     /// The schedule.

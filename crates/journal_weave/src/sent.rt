@@ -1,18 +1,22 @@
 //! The frames of a schedule.
 
-ghost use Rattle.std.specs.Prelude.{◌≡◌, ◌+◌, ◌<◌, ◌^◌, ◌++◌, ◌∷◌, ◌↔◌, [], List, IsTrue, OnOk, IfSome, IfNone};
+ghost use Rattle.std.specs.Prelude.{◌≡◌, ◌+◌, ◌<◌, ◌≤◌, ◌^◌, ◌++◌, ◌∷◌, [], List, OnOk, IfSome, IfNone};
 ghost use Rattle.frame_codec.specs.Frame.{Fields};
+ghost use Rattle.frame_world.specs.Worlds.{frames_of};
 ghost use Rattle.journal_weave.specs.refinement.Merging.{Knows, WasSent, WasNotSent};
 
+use crate::key::{FrameKey, frames_are_told_apart};
 use frame_codec::Frame;
+use site_core::Reply;
 use std::alloc::{AllocError, Global};
-use std::collections::HashMap;
+use std::collections::BTreeMap;
 
-/// The frames that a schedule sends, each with a number that it was sent under.
+/// The frames that a schedule sends, each with a number that it was sent under. They are kept in order, so that the time of a
+/// look-up grows with the logarithm of their count, whatever they say.
 #[derive(Drop)]
 pub(crate) struct SentFrames {
     /// From 1. A frame that was sent more than once has the last of its numbers.
-    numbers: HashMap<Frame, usize>,
+    numbers: BTreeMap<FrameKey, usize>,
     /// How many frames were sent.
     count: usize,
 }
@@ -20,37 +24,44 @@ pub(crate) struct SentFrames {
 impl SentFrames {
     /// None was sent.
     pub(crate) fn new(alloc: Global) -> SentFrames
-        ensures knows { Knows ⟦<Frame as PartialEq>⟧.eq result [] }
+        ensures knows { Knows ⟦<FrameKey as Ord>⟧.cmp result [] }
         ensures none { result.count ≡ 0 }
     {
         SentFrames {
-            numbers: HashMap::new(alloc),
+            numbers: BTreeMap::new(alloc),
             count: 0,
         }
     }
 
-    /// One frame more.
-    pub(crate) fn add(&mut self, frame: Frame) -> Result<(), AllocError>
+    /// The frame that a reply is, if it is one.
+    pub(crate) fn add_of(&mut self, reply: &Reply) -> Result<(), AllocError>
         requires { self.old.count + 1 < 2 ^ 64 }
-        ensures knows { OnOk result ((frames : List Fields) → Knows ⟦<Frame as PartialEq>⟧.eq self.old frames → Knows ⟦<Frame as PartialEq>⟧.eq self.new (frames ++ frame ∷ [])) }
+        ensures knows { OnOk result ((frames : List Fields) → Knows ⟦<FrameKey as Ord>⟧.cmp self.old frames → Knows ⟦<FrameKey as Ord>⟧.cmp self.new (frames ++ frames_of reply.now)) }
+        ensures count { OnOk result (self.new.count ≤ self.old.count + 1) }
+    {
+        match reply {
+            Reply::Frame(frame) => self.add(frame),
+            _ => Ok(()),
+        }
+    }
+
+    /// One frame more.
+    fn add(&mut self, frame: &Frame) -> Result<(), AllocError>
+        requires { self.old.count + 1 < 2 ^ 64 }
+        ensures knows { OnOk result ((frames : List Fields) → Knows ⟦<FrameKey as Ord>⟧.cmp self.old frames → Knows ⟦<FrameKey as Ord>⟧.cmp self.new (frames ++ frame.now ∷ [])) }
         ensures count { OnOk result (self.new.count ≡ self.old.count + 1) }
     {
         frames_are_told_apart();
-        self.numbers.insert(frame, self.count + 1)?;
+        self.numbers.insert(FrameKey::of(frame), self.count + 1)?;
         self.count += 1;
         Ok(())
     }
 
     /// A number under which that frame was sent, if it was.
     pub(crate) fn number_of(&self, frame: &Frame) -> Option<usize>
-        ensures sent { IfSome result (λ k. (frames : List Fields) → Knows ⟦<Frame as PartialEq>⟧.eq self.now frames → WasSent frames frame.now k) }
-        ensures never { IfNone result ((frames : List Fields) → Knows ⟦<Frame as PartialEq>⟧.eq self.now frames → WasNotSent frames frame.now) }
+        ensures sent { IfSome result (λ k. (frames : List Fields) → Knows ⟦<FrameKey as Ord>⟧.cmp self.now frames → WasSent frames frame.now k) }
+        ensures never { IfNone result ((frames : List Fields) → Knows ⟦<FrameKey as Ord>⟧.cmp self.now frames → WasNotSent frames frame.now) }
     {
-        self.numbers.get(frame).copied()
+        self.numbers.get(&FrameKey::of(frame)).copied()
     }
 }
-
-/// Two frames are the same where `==` says so.
-fn frames_are_told_apart()
-    ensures { (f g : Fields) → IsTrue (⟦<Frame as PartialEq>⟧.eq f g) ↔ (f ≡ g) }
-{}

@@ -12,10 +12,10 @@ ghost use Rattle.journal_weave.specs.refinement.Merging.{IsMerged, IsStuck};
 use crate::fault::WeaveFault;
 use crate::following::followed;
 use crate::given::GivenJournal;
+use crate::key::FrameKey;
 use crate::laws::{none_goes_further, woven_is_serial};
 use crate::merge::Merge;
 use crate::standing::first_left;
-use frame_codec::Frame;
 use frame_world::WorldEvent;
 use office_map::{OfficeId, Plan};
 use std::alloc::{AllocError, Global};
@@ -79,7 +79,7 @@ fn merged(
     requires size { length limits.now ≡ length plan.now.offices }
     requires limits { AreLimits plan.now (told_in journals.now) limits.now }
     ensures size { IfOk result (λ m. length m.at.items ≡ length plan.now.offices) }
-    ensures merged { IfOk result (λ m. IsMerged ⟦<Frame as PartialEq>⟧.eq plan.now (told_in journals.now) limits.now m) }
+    ensures merged { IfOk result (λ m. IsMerged ⟦<FrameKey as Ord>⟧.cmp plan.now (told_in journals.now) limits.now m) }
     ensures stuck { IfOk result (λ m. (a : ℕ) → IsStuck plan.now (told_in journals.now) limits.now m a) }
 {
     let mut merge = Merge::new(alloc, plan.offices())?;
@@ -101,9 +101,9 @@ fn round(
     requires size { length limits.now ≡ length plan.now.offices }
     requires limits { AreLimits plan.now (told_in journals.now) limits.now }
     requires at { length merge.old.at.items ≡ length plan.now.offices }
-    requires merged { IsMerged ⟦<Frame as PartialEq>⟧.eq plan.now (told_in journals.now) limits.now merge.old }
+    requires merged { IsMerged ⟦<FrameKey as Ord>⟧.cmp plan.now (told_in journals.now) limits.now merge.old }
     ensures at { length merge.new.at.items ≡ length plan.now.offices }
-    ensures merged { OnOk result (IsMerged ⟦<Frame as PartialEq>⟧.eq plan.now (told_in journals.now) limits.now merge.new) }
+    ensures merged { OnOk result (IsMerged ⟦<FrameKey as Ord>⟧.cmp plan.now (told_in journals.now) limits.now merge.new) }
     ensures longer { OnOk result (length merge.old.schedule.items ≤ length merge.new.schedule.items) }
     ensures moved { IfOk result (λ moved. moved ≡ true → length merge.old.schedule.items < length merge.new.schedule.items) }
     ensures stuck { IfOk result (λ moved. moved ≡ false → (a : ℕ) → IsStuck plan.now (told_in journals.now) limits.now merge.new a) }

@@ -1,6 +1,7 @@
 -- What is kept while journals are merged.
-use Rattle.std.specs.Prelude.{◌≡◌, ◌≢◌, ℕ, suc, ◌+◌, ◌≤◌, Bool, List, [], ◌∷◌, ◌++◌, length, map, sum, take, get_or, set, slice_get, Option, Some, None, ◌⊎◌}
-use Rattle.std.specs.HashMap.{get}
+use Rattle.std.specs.Prelude.{◌≡◌, ◌≢◌, ℕ, suc, ◌+◌, ◌≤◌, List, [], ◌∷◌, ◌++◌, length, map, sum, take, get_or, set, slice_get, Option, Some, None, ◌⊎◌}
+use Rattle.std.specs.BTreeMap.{get}
+use Rattle.std.specs.declared.cmp.Ordering.{Ordering}
 use Rattle.office_map.specs.PlanValue.{PlanValue}
 use Rattle.frame_codec.specs.Frame.{Fields}
 use Rattle.site_core.specs.declared.event.Event.{Event}
@@ -10,9 +11,11 @@ use Rattle.site_core.specs.declared.reply.Reply.{Reply}
 use Rattle.frame_world.specs.declared.event.WorldEvent.{WorldEvent}
 use Rattle.frame_world.specs.declared.event.WorldEvent.TheVariants as happening
 use Rattle.frame_world.specs.Worlds.{opening, frames_of, run_of, AreAccepted}
+use Rattle.journal_weave.specs.declared.key.FrameKey.{FrameKey}
 use Rattle.journal_weave.specs.declared.sent.SentFrames.{SentFrames}
 use Rattle.journal_weave.specs.declared.merge.Merge.{Merge}
 use Rattle.journal_weave.specs.Weaving.{untagged, entries_at}
+use Rattle.journal_weave.specs.refinement.Keys.{key_of}
 
 -- ---- events of offices in a world
 
@@ -42,11 +45,11 @@ abbrev pub IsFound : List Fields → ℕ → Event → Option WorldEvent → Typ
 IsFound frames a e (Some found) = IsEventAt frames a e found
 IsFound frames a e None = CannotCome frames a e
 
--- ---- a merge; E says which frames are the same
+-- ---- a merge; C compares the keys of frames
 
-module _ (E : Fields → Fields → Bool) where
+module _ (C : FrameKey → FrameKey → Ordering) where
   abbrev pub number_in : SentFrames → Fields → Option ℕ
-  number_in s f = get E s.numbers f
+  number_in s f = get C s.numbers (key_of f)
 
   -- the frames of a world: each with a number that it was sent under
   pub record Knows (s : SentFrames) (frames : List Fields) : Type 0 where

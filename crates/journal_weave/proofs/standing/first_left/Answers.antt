@@ -1,5 +1,4 @@
-use Rattle.std.proofs.Common.{◌≡◌, ℕ, ◌≤◌, length, Some, None, arith}
-use Rattle.std.specs.Prelude.{IfSome}
+use Rattle.std.proofs.Common.{◌≤◌, length, arith}
 use Rattle.journal_weave.proofs.Pushing.{at_of}
 use Rattle.journal_weave.proofs.Naming.{named_waiting}
 use Rattle.journal_weave.proofs.standing.first_left.Goals as goal

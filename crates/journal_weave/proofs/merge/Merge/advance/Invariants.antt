@@ -1,5 +1,5 @@
 use Rattle.std.proofs.Common.{◌≡◌, ℕ, ◌-◌, ◌<◌, ◌≤◌, List, length, get_or}
-use Rattle.frame_codec.specs.contracts.frame.FramePartialEq.TheImpl.{eq-value}
+use Rattle.journal_weave.specs.contracts.key.FrameKeyOrd.TheImpl.{cmp-value}
 use Rattle.office_map.specs.PlanValue.{PlanValue}
 use Rattle.site_core.specs.declared.event.Entry.{Entry}
 use Rattle.journal_weave.specs.refinement.Following.{AreLimits}
@@ -12,7 +12,7 @@ invariant-loop-at l = record {
   size : length l.self.at.items ≡ length l.initial.self.at.items;
   room : l.self.sent.count ≤ length l.self.schedule.items;
   merged : (plan : PlanValue) (told : ℕ → List Entry) (limits : List ℕ) → l.fn.a < length plan.offices → IsTold told limits l.fn.a l.entries l.limit → AreLimits plan told limits →
-      IsMerged eq-value.it plan told limits l.initial.self → IsMerged eq-value.it plan told limits l.self;
+      IsMerged cmp-value.it plan told limits l.initial.self → IsMerged cmp-value.it plan told limits l.self;
   longer : length l.initial.self.schedule.items ≤ length l.self.schedule.items;
   same : length l.self.schedule.items ≡ length l.initial.self.schedule.items → l.self ≡ l.initial.self;
 }
