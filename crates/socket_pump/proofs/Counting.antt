@@ -1,6 +1,7 @@
 -- Counts that go alone.
 use Rattle.std.proofs.Common.{◌≡◌, ℕ, ◌+◌, ◌<◌, ◌⊎◌, inl, inr, Bool, true, false, cond, List, [], ◌∷◌, ◌++◌, length, Option, None, Some, Result, Ok, Err, refl, sym, ap, subst, ◌∙◌, arith, length-append, ⊎_elim}
-use Rattle.std.specs.Prelude.{nat_le}
+use Rattle.std.specs.Prelude.{nat_le, ◌↔◌}
+use Rattle.std.proofs.lemmas.Bool.{cases_eq}
 use Rattle.std.proofs.lemmas.Bool.Decides.{nat_tests}
 use Rattle.frame_codec.specs.Frame.{Fields}
 use Rattle.frame_codec.specs.Version01.{spelling}
@@ -20,9 +21,10 @@ use Rattle.socket_pump.specs.declared.pump.PumpFault.{PumpFault}
 use Rattle.socket_pump.specs.Wires.{Account}
 use Rattle.socket_pump.specs.Chains.{Made, MakesFrame, Sent}
 use Rattle.socket_pump.specs.Turns.{Told, BrokeTelling, IsFaultOf}
+use Rattle.socket_pump.specs.refinement.Counts.{Needs, Acknowledges, AcknowledgesOnly}
 use Rattle.socket_pump.specs.refinement.Stages.{AreCounts, AreFor, frame_in}
 use Rattle.socket_pump.proofs.Left.{sees_self}
-use Rattle.socket_pump.proofs.Telling.{unchanged, one_told, none_told, told_both, broke_none, broke_both, sent_cases, counts_both}
+use Rattle.socket_pump.proofs.Telling.{unchanged, one_told, none_told, told_both, broke_none, broke_both, sent_left, sent_right, sent_cases, counts_both}
 
 -- a count for a neighbour is a frame without a message, where there is room
 abbrev pub MakesCount : Site → ℕ → ℕ → Result (Option Fields) Refusal → Site → Type 0
@@ -99,32 +101,54 @@ only_for v m to u n (inr e) = elim e [ ]
 
 -- ---- several
 
--- so many counts went out so far, to offices with a number below
-pub record CountedSoFar (tells : Bool) (tag : ℕ) (k : Key) (p : DeskPass) (a : Account) (sent : ℕ) (b : Account) (q : DeskPass) (below : ℕ) : Type 0 where
+-- so many counts went out so far: to those neighbours that are owed one and have a number below
+pub record CountedSoFar (tells : Bool) (tag : ℕ) (k : Key) (owed : List Bool) (p : DeskPass) (a : Account) (sent : ℕ) (b : Account) (q : DeskPass) (below : ℕ) : Type 0 where
   pub made : List Made
   pub told : Told tells tag k p a b q made
   pub count : length made ≡ sent
   pub are : AreCounts made
   pub before : (v n : ℕ) → Sent v n made → v < below
+  pub who : (v : ℕ) → v < below → Sent v 0 made ↔ Needs k owed v
 
-pub counting_starts : (tells : Bool) (tag : ℕ) (k : Key) (p : DeskPass) (a : Account) → CountedSoFar tells tag k p a 0 a p 0
-counting_starts tells tag k p a = record { made = []; told = none_told tells tag k p p a (sees_self p); count = refl; are = tt; before = λ v n s. elim s [ ] }
+pub counting_starts : (tells : Bool) (tag : ℕ) (k : Key) (owed : List Bool) (p : DeskPass) (a : Account) → CountedSoFar tells tag k owed p a 0 a p 0
+counting_starts tells tag k owed p a = record { made = []; told = none_told tells tag k p p a (sees_self p); count = refl; are = tt; before = λ v n s. elim s [ ]; who = λ v lt. absurd (omega (arith, lt)) }
 
 -- who needs none is passed over
-pub counting_past : (tells : Bool) (tag : ℕ) (k : Key) (p q : DeskPass) (a b : Account) (sent v : ℕ) → CountedSoFar tells tag k p a sent b q v → CountedSoFar tells tag k p a sent b q (v + 1)
-counting_past tells tag k p q a b sent v h = record { made = h.made; told = h.told; count = h.count; are = h.are; before = λ u n s. omega (arith, h.before u n s) }
+pub counting_past : (tells : Bool) (tag : ℕ) (k : Key) (owed : List Bool) (p q : DeskPass) (a b : Account) (sent v : ℕ) → (Needs k owed v → ⊥) → CountedSoFar tells tag k owed p a sent b q v → CountedSoFar tells tag k owed p a sent b q (v + 1)
+counting_past tells tag k owed p q a b sent v none h = record { made = h.made; told = h.told; count = h.count; are = h.are; before = λ u n s. omega (arith, h.before u n s); who = who }
+  where
+    who : (u : ℕ) → u < v + 1 → Sent u 0 h.made ↔ Needs k owed u
+    who u lt = ⊎_elim (λ e. (λ s. absurd (omega (arith, h.before u 0 s, e)), λ x. absurd (none (subst (Needs k owed) e x)))) (λ ne. h.who u (omega (arith, lt, ne))) (cases_eq u v)
 
-pub counting_on : (tells : Bool) (tag : ℕ) (k : Key) (p m q : DeskPass) (a b d : Account) (sent v : ℕ) → CountedSoFar tells tag k p a sent b m v → (x : Made) × Told tells tag k m b d q (x ∷ []) × (x.frame.number ≡ 0) × (x.to ≡ v) →
-    CountedSoFar tells tag k p a (sent + 1) d q (v + 1)
-counting_on tells tag k p m q a b d sent v h (x, told, number, to) = record {
+pub counting_on : (tells : Bool) (tag : ℕ) (k : Key) (owed : List Bool) (p m q : DeskPass) (a b d : Account) (sent v : ℕ) → Needs k owed v → CountedSoFar tells tag k owed p a sent b m v → (x : Made) × Told tells tag k m b d q (x ∷ []) × (x.frame.number ≡ 0) × (x.to ≡ v) →
+    CountedSoFar tells tag k owed p a (sent + 1) d q (v + 1)
+counting_on tells tag k owed p m q a b d sent v needs h (x, told, number, to) = record {
   made = h.made ++ x ∷ [];
   told = told_both tells tag k p m q a b d h.made (x ∷ []) h.told told;
   count = omega (arith, length-append h.made (x ∷ []), h.count);
   are = counts_both h.made (x ∷ []) (λ u n s t. absurd (omega (arith, h.before u n s, only_for v x to u n t))) h.are (number, λ s. elim s [ ], tt);
   before = λ u n s. ⊎_elim (λ t. omega (arith, h.before u n t)) (λ t. omega (arith, only_for v x to u n t)) (sent_cases u n h.made (x ∷ []) s);
+  who = who;
 }
+  where
+    who : (u : ℕ) → u < v + 1 → Sent u 0 (h.made ++ x ∷ []) ↔ Needs k owed u
+    who u lt = ⊎_elim
+        (λ e. (λ s. subst (Needs k owed) (sym e) needs, λ y. sent_right u 0 h.made (x ∷ []) (inl (to ∙ sym e, number))))
+        (λ ne. let old = h.who u (omega (arith, lt, ne)) in (
+          λ s. old.0 (⊎_elim (λ y. y) (λ y. absurd (ne (only_for v x to u 0 y))) (sent_cases u 0 h.made (x ∷ []) s)),
+          λ y. sent_left u 0 h.made (x ∷ []) (old.1 y),
+        ))
+        (cases_eq u v)
 
-pub counting_broke : (tells : Bool) (tag : ℕ) (k : Key) (p m q : DeskPass) (a b d : Account) (sent v : ℕ) (f : PumpFault) → CountedSoFar tells tag k p a sent b m v → (made : List Made) × BrokeTelling tells tag k m b f d q made × AreCounts made × AreFor v made →
-    (made : List Made) × BrokeTelling tells tag k p a f d q made × AreCounts made
-counting_broke tells tag k p m q a b d sent v f h (ns, broke, are, for) =
-    (h.made ++ ns, broke_both tells tag k p m q a b d f h.made ns h.told broke, counts_both h.made ns (λ u n s t. absurd (omega (arith, h.before u n s, for u n t))) h.are are)
+-- all that need one are below
+pub counting_ends : (tells : Bool) (tag : ℕ) (k : Key) (owed : List Bool) (p q : DeskPass) (a b : Account) (sent below : ℕ) → ((v : ℕ) → Needs k owed v → v < below) → (h : CountedSoFar tells tag k owed p a sent b q below) → Acknowledges k owed h.made
+counting_ends tells tag k owed p q a b sent below within h v = (λ s. (h.who v (h.before v 0 s)).0 s, λ x. (h.who v (within v x)).1 x)
+
+pub counting_broke : (tells : Bool) (tag : ℕ) (k : Key) (owed : List Bool) (p m q : DeskPass) (a b d : Account) (sent v : ℕ) (f : PumpFault) → Needs k owed v → CountedSoFar tells tag k owed p a sent b m v → (made : List Made) × BrokeTelling tells tag k m b f d q made × AreCounts made × AreFor v made →
+    (made : List Made) × BrokeTelling tells tag k p a f d q made × AreCounts made × AcknowledgesOnly k owed made
+counting_broke tells tag k owed p m q a b d sent v f needs h (ns, broke, are, for) = (
+  h.made ++ ns,
+  broke_both tells tag k p m q a b d f h.made ns h.told broke,
+  counts_both h.made ns (λ u n s t. absurd (omega (arith, h.before u n s, for u n t))) h.are are,
+  λ u s. ⊎_elim (λ t. (h.who u (h.before u 0 t)).0 t) (λ t. subst (Needs k owed) (sym (for u 0 t)) needs) (sent_cases u 0 h.made ns s),
+)

@@ -18,9 +18,11 @@ use Rattle.socket_pump.specs.declared.pump.PumpFault.{PumpFault}
 use Rattle.socket_pump.specs.declared.pump.PumpFault.TheVariants as faults
 use Rattle.socket_pump.specs.Wires.{Account, risen}
 use Rattle.socket_pump.specs.Chains.{Heard, Sees, Hears, taken, Counts, AllCount, IsTook, AreTooks, answers}
-use Rattle.socket_pump.specs.Turns.{Hearing, HeardAll, BrokeHearing, Faulted, IsFaultOf, HadNoRoom, EndsBy}
-use Rattle.socket_pump.specs.refinement.Stages.{HeardOne, BrokeOne}
+use Rattle.socket_pump.specs.Turns.{Hearing, BrokeHearing, Faulted, IsFaultOf, HadNoRoom, EndsBy}
+use Rattle.socket_pump.specs.refinement.Counts.{Owes}
+use Rattle.socket_pump.specs.refinement.Stages.{HeardOne, HeardFrom, BrokeOne}
 use Rattle.socket_pump.proofs.Left.{does_later, sees_self, sees_both}
+use Rattle.socket_pump.proofs.Owing.{owes_none, owes_both}
 
 -- ---- one call
 
@@ -180,50 +182,58 @@ hearing_none tells tag k p a = record {
 
 -- ---- so far
 
--- so many were taken and refused
-pub record HeardSoFar (tells : Bool) (tag : ℕ) (k : Key) (p : DeskPass) (a : Account) (took refused : ℕ) (b : Account) (q : DeskPass) : Type 0 where
+-- so many were taken and refused, and these are owed a count, before and then
+pub record HeardSoFar (tells : Bool) (tag : ℕ) (k : Key) (p : DeskPass) (a : Account) (s : List Bool) (took refused : ℕ) (b : Account) (q : DeskPass) (t : List Bool) : Type 0 where
   pub heard : List Heard
   pub hearing : Hearing tells tag k p a [] b q heard
   pub taken : taken heard ≡ took
   pub all : length heard ≡ took + refused
+  pub owes : Owes s heard t
 
-pub so_far_none : (tells : Bool) (tag : ℕ) (k : Key) (p : DeskPass) (a : Account) → HeardSoFar tells tag k p a 0 0 a p
-so_far_none tells tag k p a = record { heard = []; hearing = hearing_none tells tag k p a; taken = refl; all = refl }
+pub so_far_none : (tells : Bool) (tag : ℕ) (k : Key) (p : DeskPass) (a : Account) (s : List Bool) → HeardSoFar tells tag k p a s 0 0 a p s
+so_far_none tells tag k p a s = record { heard = []; hearing = hearing_none tells tag k p a; taken = refl; all = refl; owes = owes_none s }
 
-so_far_both : (tells : Bool) (tag : ℕ) (k : Key) (p m q : DeskPass) (a b d : Account) (took refused n r : ℕ) (h : Heard) → HeardSoFar tells tag k p a took refused b m → Hearing tells tag k m b [] d q (h ∷ []) →
-    taken (h ∷ []) ≡ n → n + r ≡ 1 → HeardSoFar tells tag k p a (took + n) (refused + r) d q
-so_far_both tells tag k p m q a b d took refused n r h s one is sum = record {
-  heard = s.heard ++ h ∷ [];
-  hearing = hearing_both tells tag k p m q a b d [] s.heard (h ∷ []) s.hearing one;
-  taken = omega (arith, taken_both s.heard (h ∷ []), s.taken, is);
-  all = omega (arith, length-append s.heard (h ∷ []), s.all, sum);
+so_far_both : (tells : Bool) (tag : ℕ) (k : Key) (p m q : DeskPass) (a b d : Account) (s o t : List Bool) (took refused n r : ℕ) (h : Heard) → HeardSoFar tells tag k p a s took refused b m o → Hearing tells tag k m b [] d q (h ∷ []) →
+    taken (h ∷ []) ≡ n → Owes o (h ∷ []) t → n + r ≡ 1 → HeardSoFar tells tag k p a s (took + n) (refused + r) d q t
+so_far_both tells tag k p m q a b d s o t took refused n r h x one is more sum = record {
+  heard = x.heard ++ h ∷ [];
+  hearing = hearing_both tells tag k p m q a b d [] x.heard (h ∷ []) x.hearing one;
+  taken = omega (arith, taken_both x.heard (h ∷ []), x.taken, is);
+  all = omega (arith, length-append x.heard (h ∷ []), x.all, sum);
+  owes = owes_both s o t x.heard (h ∷ []) x.owes more;
 }
 
-pub one_taken_more : (tells : Bool) (tag : ℕ) (k : Key) (p m q : DeskPass) (a b d : Account) (took refused : ℕ) → HeardSoFar tells tag k p a took refused b m → HeardOne tells tag k m b (Some true) d q →
-    HeardSoFar tells tag k p a (took + 1) refused d q
-one_taken_more tells tag k p m q a b d took refused s (h, one, is) = subst (λ r. HeardSoFar tells tag k p a (took + 1) r d q) (omega arith) (so_far_both tells tag k p m q a b d took refused 1 0 h s one is refl)
+pub one_taken_more : (tells : Bool) (tag : ℕ) (k : Key) (p m q : DeskPass) (a b d : Account) (s o t : List Bool) (took refused : ℕ) → HeardSoFar tells tag k p a s took refused b m o → HeardOne tells tag k m b o (Some true) d q t →
+    HeardSoFar tells tag k p a s (took + 1) refused d q t
+one_taken_more tells tag k p m q a b d s o t took refused x (h, one, is, owes) =
+    subst (λ r. HeardSoFar tells tag k p a s (took + 1) r d q t) (omega arith) (so_far_both tells tag k p m q a b d s o t took refused 1 0 h x one is owes refl)
 
-pub one_refused_more : (tells : Bool) (tag : ℕ) (k : Key) (p m q : DeskPass) (a b d : Account) (took refused : ℕ) → HeardSoFar tells tag k p a took refused b m → HeardOne tells tag k m b (Some false) d q →
-    HeardSoFar tells tag k p a took (refused + 1) d q
-one_refused_more tells tag k p m q a b d took refused s (h, one, is) = subst (λ n. HeardSoFar tells tag k p a n (refused + 1) d q) (omega arith) (so_far_both tells tag k p m q a b d took refused 0 1 h s one is refl)
+pub one_refused_more : (tells : Bool) (tag : ℕ) (k : Key) (p m q : DeskPass) (a b d : Account) (s o t : List Bool) (took refused : ℕ) → HeardSoFar tells tag k p a s took refused b m o → HeardOne tells tag k m b o (Some false) d q t →
+    HeardSoFar tells tag k p a s took (refused + 1) d q t
+one_refused_more tells tag k p m q a b d s o t took refused x (h, one, is, owes) =
+    subst (λ n. HeardSoFar tells tag k p a s n (refused + 1) d q t) (omega arith) (so_far_both tells tag k p m q a b d s o t took refused 0 1 h x one is owes refl)
 
 -- ---- the end
 
-pub heard_all_full : (tells : Bool) (tag : ℕ) (k : Key) (p q : DeskPass) (a b : Account) (took refused : ℕ) → HeardSoFar tells tag k p a took refused b q → took + refused ≡ 32 → HeardAll tells tag k p a took refused b q
-heard_all_full tells tag k p q a b took refused s full = record { ends = []; heard = s.heard; ended = inl (s.all ∙ full, refl); hearing = s.hearing; taken = s.taken; all = s.all }
+pub heard_all_full : (tells : Bool) (tag : ℕ) (k : Key) (p q : DeskPass) (a b : Account) (s t : List Bool) (took refused : ℕ) → HeardSoFar tells tag k p a s took refused b q t → took + refused ≡ 32 → HeardFrom tells tag k p a s took refused b q t
+heard_all_full tells tag k p q a b s t took refused x full =
+    (record { ends = []; heard = x.heard; ended = inl (x.all ∙ full, refl); hearing = x.hearing; taken = x.taken; all = x.all }, x.owes)
 
-pub heard_all_fewer : (tells : Bool) (tag : ℕ) (k : Key) (p m q : DeskPass) (a b d : Account) (took refused : ℕ) → HeardSoFar tells tag k p a took refused b m → took + refused < 32 → HeardOne tells tag k m b None d q → HeardAll tells tag k p a took refused d q
-heard_all_fewer tells tag k p m q a b d took refused s few (same, f, w) =
-    let all = hearing_both tells tag k p m m a b d (None ∷ []) s.heard [] s.hearing (hearing_end tells tag k m b d f w) in
-    let these : Hearing tells tag k p a (None ∷ []) d m s.heard = subst (λ (hs : List Heard). Hearing tells tag k p a (None ∷ []) d m hs) (append-nil s.heard) all in
-    record {
-      ends = None ∷ [];
-      heard = s.heard;
-      ended = inr (omega (arith, s.all, few), refl);
-      hearing = subst (λ (x : DeskPass). Hearing tells tag k p a (None ∷ []) d x s.heard) (sym same) these;
-      taken = s.taken;
-      all = s.all;
-    }
+pub heard_all_fewer : (tells : Bool) (tag : ℕ) (k : Key) (p m q : DeskPass) (a b d : Account) (s o t : List Bool) (took refused : ℕ) → HeardSoFar tells tag k p a s took refused b m o → took + refused < 32 → HeardOne tells tag k m b o None d q t →
+    HeardFrom tells tag k p a s took refused d q t
+heard_all_fewer tells tag k p m q a b d s o t took refused x few (same, f, w, owed) =
+    let all = hearing_both tells tag k p m m a b d (None ∷ []) x.heard [] x.hearing (hearing_end tells tag k m b d f w) in
+    let these : Hearing tells tag k p a (None ∷ []) d m x.heard = subst (λ (hs : List Heard). Hearing tells tag k p a (None ∷ []) d m hs) (append-nil x.heard) all in (
+      record {
+        ends = None ∷ [];
+        heard = x.heard;
+        ended = inr (omega (arith, x.all, few), refl);
+        hearing = subst (λ (y : DeskPass). Hearing tells tag k p a (None ∷ []) d y x.heard) (sym same) these;
+        taken = x.taken;
+        all = x.all;
+      },
+      subst (λ (l : List Bool). Owes s x.heard l) (sym owed) x.owes,
+    )
 
 faulted_from : (a b d : Account) (fault : PumpFault) (q : DeskPass) → b.failures ≡ a.failures → Faulted b fault d q → Faulted a fault d q
 faulted_from a b d faults.WireFailed q e f = f ∙ ap risen e
@@ -235,9 +245,9 @@ ends_later faults.WireFailed hs is c e = count_both hs is c e
 ends_later faults.Memory hs is c (before, h, at, counts, none) = (hs ++ before, h, ap (λ l. hs ++ l) at ∙ sym (append_assoc hs before (h ∷ [])), count_both hs before c counts, none)
 ends_later faults.JournalFull hs is c (before, h, at, counts, none) = (hs ++ before, h, ap (λ l. hs ++ l) at ∙ sym (append_assoc hs before (h ∷ [])), count_both hs before c counts, none)
 
-pub broke_later : (tells : Bool) (tag : ℕ) (k : Key) (p m q : DeskPass) (a b d : Account) (took refused : ℕ) (fault : PumpFault) → HeardSoFar tells tag k p a took refused b m → took + refused < 32 → BrokeOne tells tag k m b fault d q →
+pub broke_later : (tells : Bool) (tag : ℕ) (k : Key) (p m q : DeskPass) (a b d : Account) (before after : List Bool) (took refused : ℕ) (fault : PumpFault) → HeardSoFar tells tag k p a before took refused b m after → took + refused < 32 → BrokeOne tells tag k m b fault d q →
     BrokeHearing tells tag k p a fault d q
-broke_later tells tag k p m q a b d took refused fault s few (x, one) = record {
+broke_later tells tag k p m q a b d before after took refused fault s few (x, one) = record {
   heard = s.heard ++ x.heard;
   few = omega (arith, length-append s.heard x.heard, s.all, few, one);
   ends = ends_later fault s.heard x.heard s.hearing.count x.ends;

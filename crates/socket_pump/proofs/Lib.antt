@@ -1,4 +1,5 @@
 pub mod Left
+pub mod Owing
 pub mod Hearing
 pub mod Near
 pub mod Telling

@@ -18,7 +18,9 @@ use Rattle.socket_pump.specs.Last.{IsDue}
 use Rattle.socket_pump.specs.Chains.{Made, Sees, Sent}
 use Rattle.socket_pump.specs.Turns.{Times, SentTo}
 use Rattle.socket_pump.specs.refinement.Stages.{AreFor, AreOf, Spoke, SpokeOf, SpokeTo, SpokeToAll, Broken, BrokenWith}
-use Rattle.socket_pump.proofs.Telling.{sees_begins, sends_begins, grows_on, waits_between, unchanged, sent_left, sent_right, sent_cases, spoke_both, spoke_none, broke_on}
+use Rattle.socket_pump.specs.refinement.Counts.{Spares, Gets}
+use Rattle.socket_pump.proofs.Owing.{spares_none, spares_both}
+use Rattle.socket_pump.proofs.Telling.{sees_begins, sends_begins, grows_on, waits_between, unchanged, sent_left, sent_right, sent_cases, messages_both, spoke_both, spoke_none, broke_on}
 
 -- ---- what waits for a neighbour
 
@@ -107,9 +109,9 @@ spoken_to tells tag k last then now p q a b sent v first end h = (h.made, h.spok
 
 pub speaking_broke : LinksOnlyGrow → (tells : Bool) (tag : ℕ) (k : Key) (last mid then : Times) (now : ℕ) (p m q : DeskPass) (a b d : Account) (sent v first end number : ℕ) (f : PumpFault) → number < first + 18 →
     SpokeSoFar tells tag k last mid now p a sent b m v first end number → BrokenWith (AreOf v number) tells tag k mid then now m b f d q → BrokenWith (AreFor v) tells tag k last then now p a f d q
-speaking_broke grow tells tag k last mid then now p m q a b d sent v first end number f near h (ns, x, only, r, of) =
+speaking_broke grow tells tag k last mid then now p m q a b d sent v first end number f near h (ns, x, only, r, messages, of) =
     let o = broke_on grow tells tag k last mid then now p m q a b d sent f h.made ns (λ u i x y. absurd (omega (arith, h.before u i x, (of u i y).1))) still h.spoke x only r in
-    (h.made ++ ns, o.0, o.1, o.2, λ u i y. ⊎_elim (h.for u i) (λ z. (of u i z).0) (sent_cases u i h.made ns y))
+    (h.made ++ ns, o.0, o.1, o.2, messages_both h.made ns h.spoke.messages messages, λ u i y. ⊎_elim (h.for u i) (λ z. (of u i z).0) (sent_cases u i h.made ns y))
   where
     still : (u i : ℕ) → Sent u i ns → mid u i ≡ last u i
     still u i y =
@@ -123,28 +125,37 @@ spoken_to_none tells tag k last now p q a v why idle d e = ([], spoke_none tells
 -- ---- to all
 
 -- so far, to those with a number below: those from it on are as they were
-pub record SpokeBelow (tells : Bool) (tag : ℕ) (k : Key) (last then : Times) (now : ℕ) (p : DeskPass) (a : Account) (sent : ℕ) (b : Account) (q : DeskPass) (below : ℕ) : Type 0 where
+pub record SpokeBelow (tells : Bool) (tag : ℕ) (k : Key) (last then : Times) (now : ℕ) (p : DeskPass) (a : Account) (s : List Bool) (sent : ℕ) (b : Account) (q : DeskPass) (t : List Bool) (below : ℕ) : Type 0 where
   pub made : List Made
   pub spoke : Spoke tells tag k last then now p a sent b q made
   pub before : (v i : ℕ) → Sent v i made → v < below
   pub ahead : (v i : ℕ) → below ≤ v → then v i ≡ last v i
   pub done : (v : ℕ) → v < below → SentTo k last now p q made v
+  pub spares : Spares s made t
 
-pub below_starts : (tells : Bool) (tag : ℕ) (k : Key) (last : Times) (now : ℕ) (p q : DeskPass) (a : Account) → Sees p q → SpokeBelow tells tag k last last now p a 0 a q 0
-below_starts tells tag k last now p q a sees = record { made = []; spoke = spoke_none tells tag k last now p q a sees; before = λ v i s. elim s [ ]; ahead = λ v i le. refl; done = λ v lt. absurd (omega (arith, lt)) }
+pub below_starts : (tells : Bool) (tag : ℕ) (k : Key) (last : Times) (now : ℕ) (p q : DeskPass) (a : Account) (s : List Bool) → Sees p q → SpokeBelow tells tag k last last now p a s 0 a q s 0
+below_starts tells tag k last now p q a s sees = record {
+  made = [];
+  spoke = spoke_none tells tag k last now p q a sees;
+  before = λ v i x. elim x [ ];
+  ahead = λ v i le. refl;
+  done = λ v lt. absurd (omega (arith, lt));
+  spares = spares_none s;
+}
 
 -- where no message waits, nothing is to be told
-pub silent_to_all : (tells : Bool) (tag : ℕ) (k : Key) (last : Times) (now : ℕ) (p q : DeskPass) (a : Account) → p.holds ≡ false → Looks k p q → (SomeWaits (office_with k q.seen) → ⊥) → SpokeToAll tells tag k last last now p a 0 a q
-silent_to_all tells tag k last now p q a idle d none = ([], spoke_none tells tag k last now p q a (looked k p q idle d), λ v i x y due. absurd (none (v, i, y)))
+pub silent_to_all : (tells : Bool) (tag : ℕ) (k : Key) (last : Times) (now : ℕ) (p q : DeskPass) (a : Account) (s : List Bool) → p.holds ≡ false → Looks k p q → (SomeWaits (office_with k q.seen) → ⊥) → SpokeToAll tells tag k last last now p a s 0 a q s
+silent_to_all tells tag k last now p q a s idle d none = ([], spoke_none tells tag k last now p q a (looked k p q idle d), λ v i x y due. absurd (none (v, i, y)), spares_none s)
 
-pub below_on : LinksOnlyGrow → (tells : Bool) (tag : ℕ) (k : Key) (last mid then : Times) (now : ℕ) (p m q : DeskPass) (a b d : Account) (sent more v : ℕ) → SpokeBelow tells tag k last mid now p a sent b m v → SpokeTo tells tag k mid then now m b more d q v →
-    ((u i : ℕ) → (u ≡ v → ⊥) → then u i ≡ mid u i) → SpokeBelow tells tag k last then now p a (sent + more) d q (v + 1)
-below_on grow tells tag k last mid then now p m q a b d sent more v h (ns, s, for, told) others = record {
+pub below_on : LinksOnlyGrow → (tells : Bool) (tag : ℕ) (k : Key) (last mid then : Times) (now : ℕ) (p m q : DeskPass) (a b d : Account) (before owed after : List Bool) (sent more v : ℕ) → SpokeBelow tells tag k last mid now p a before sent b m owed v → SpokeTo tells tag k mid then now m b more d q v →
+    ((u i : ℕ) → (u ≡ v → ⊥) → then u i ≡ mid u i) → Gets v more owed after → SpokeBelow tells tag k last then now p a before (sent + more) d q after (v + 1)
+below_on grow tells tag k last mid then now p m q a b d before owed after sent more v h (ns, s, for, told) others gets = record {
   made = h.made ++ ns;
   spoke = spoke_both grow tells tag k last mid then now p m q a b d sent more h.made ns (λ u i x y. absurd (omega (arith, h.before u i x, for u i y))) (λ u i x. h.ahead u i (omega (arith, for u i x))) h.spoke s;
   before = λ u i x. ⊎_elim (λ y. omega (arith, h.before u i y)) (λ y. omega (arith, for u i y)) (sent_cases u i h.made ns x);
   ahead = λ u i le. others u i (λ e. absurd (omega (arith, e, le))) ∙ h.ahead u i (omega (arith, le));
   done = done;
+  spares = spares_both before owed after v more h.made ns for s.count h.spares gets;
 }
   where
     between : (u i : ℕ) → WaitsFor (office_with k p.seen) u i → WaitsFor (office_with k q.seen) u i → WaitsFor (office_with k m.seen) u i
@@ -160,19 +171,21 @@ below_on grow tells tag k last mid then now p m q a b d sent more v h (ns, s, fo
         (cases_eq u v)
 
 -- who is no neighbour needs nothing
-pub below_past : (tells : Bool) (tag : ℕ) (k : Key) (last then : Times) (now : ℕ) (p q : DeskPass) (a b : Account) (sent v : ℕ) → are_neighbours k.0 k.1 v ≡ false → SpokeBelow tells tag k last then now p a sent b q v → SpokeBelow tells tag k last then now p a sent b q (v + 1)
-below_past tells tag k last then now p q a b sent v far h = record {
+pub below_past : (tells : Bool) (tag : ℕ) (k : Key) (last then : Times) (now : ℕ) (p q : DeskPass) (a b : Account) (s t : List Bool) (sent v : ℕ) → are_neighbours k.0 k.1 v ≡ false → SpokeBelow tells tag k last then now p a s sent b q t v → SpokeBelow tells tag k last then now p a s sent b q t (v + 1)
+below_past tells tag k last then now p q a b s t sent v far h = record {
   made = h.made;
   spoke = h.spoke;
   before = λ u i x. omega (arith, h.before u i x);
   ahead = λ u i le. h.ahead u i (omega (arith, le));
   done = λ u lt i x y due. ⊎_elim (λ e. let w = x.near in let z : are_neighbours k.0 k.1 v ≡ true = subst (λ t. are_neighbours k.0 k.1 t ≡ true) e w in absurd cc) (λ ne. h.done u (omega (arith, lt, ne)) i x y due) (cases_eq u v);
+  spares = h.spares;
 }
 
-pub spoken_to_all : (tells : Bool) (tag : ℕ) (k : Key) (last then : Times) (now : ℕ) (p q : DeskPass) (a b : Account) (sent most : ℕ) → ((v : ℕ) → are_neighbours k.0 k.1 v ≡ true → v < most) → SpokeBelow tells tag k last then now p a sent b q most → SpokeToAll tells tag k last then now p a sent b q
-spoken_to_all tells tag k last then now p q a b sent most within h = (h.made, h.spoke, λ v i x y due. h.done v (within v x.near) i x y due)
+pub spoken_to_all : (tells : Bool) (tag : ℕ) (k : Key) (last then : Times) (now : ℕ) (p q : DeskPass) (a b : Account) (s t : List Bool) (sent most : ℕ) → ((v : ℕ) → are_neighbours k.0 k.1 v ≡ true → v < most) → SpokeBelow tells tag k last then now p a s sent b q t most →
+    SpokeToAll tells tag k last then now p a s sent b q t
+spoken_to_all tells tag k last then now p q a b s t sent most within h = (h.made, h.spoke, λ v i x y due. h.done v (within v x.near) i x y due, h.spares)
 
-pub below_broke : LinksOnlyGrow → (tells : Bool) (tag : ℕ) (k : Key) (last mid then : Times) (now : ℕ) (p m q : DeskPass) (a b d : Account) (sent v : ℕ) (f : PumpFault) → SpokeBelow tells tag k last mid now p a sent b m v → BrokenWith (AreFor v) tells tag k mid then now m b f d q → Broken tells tag k last then now p a f d q
-below_broke grow tells tag k last mid then now p m q a b d sent v f h (ns, x, only, r, for) =
+pub below_broke : LinksOnlyGrow → (tells : Bool) (tag : ℕ) (k : Key) (last mid then : Times) (now : ℕ) (p m q : DeskPass) (a b d : Account) (before owed : List Bool) (sent v : ℕ) (f : PumpFault) → SpokeBelow tells tag k last mid now p a before sent b m owed v → BrokenWith (AreFor v) tells tag k mid then now m b f d q → Broken tells tag k last then now p a f d q
+below_broke grow tells tag k last mid then now p m q a b d before owed sent v f h (ns, x, only, r, messages, for) =
     let o = broke_on grow tells tag k last mid then now p m q a b d sent f h.made ns (λ u i x y. absurd (omega (arith, h.before u i x, for u i y))) (λ u i y. h.ahead u i (omega (arith, for u i y))) h.spoke x only r in
-    (h.made ++ ns, o.0, o.1, o.2)
+    (h.made ++ ns, o.0, o.1, o.2, messages_both h.made ns h.spoke.messages messages)

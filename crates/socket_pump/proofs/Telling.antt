@@ -175,7 +175,7 @@ pub counts_both : (ms ns : List Made) → AreApart ms ns → AreCounts ms → Ar
 counts_both [] ns apart h i = i
 counts_both (m ∷ ms) ns apart h i = (h.0, not_again m ms ns h.1 apart, counts_both ms ns (λ u i s. apart u i (inr s)) h.2 i)
 
-messages_both : (ms ns : List Made) → AreMessages ms → AreMessages ns → AreMessages (ms ++ ns)
+pub messages_both : (ms ns : List Made) → AreMessages ms → AreMessages ns → AreMessages (ms ++ ns)
 messages_both ms ns h i = λ v n s. ⊎_elim (h v n) (i v n) (sent_cases v n ms ns s)
 
 used_both : LinksOnlyGrow → (k : Key) (m q : DeskPass) (ms ns : List Made) → Begins m q → AreUsed k m ms → AreUsed k q ns → AreUsed k q (ms ++ ns)
@@ -370,6 +370,7 @@ message_refused tells tag k last now v n p q a why f idle d fault = (
   broke_none tells tag k p q a (p.seen ++ d.0) why f (unchanged (λ s s'. SendsNumber tag v n (Err why) s s') k p q d idle seen) seen d.1.done.1 fault,
   tt,
   remembers_none k last last now p q (λ u i. refl),
+  λ u i s. elim s [ ],
   λ u i s. elim s [ ],
 )
   where

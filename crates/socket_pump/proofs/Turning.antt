@@ -1,15 +1,17 @@
 -- The stages of a turn, put together.
-use Rattle.std.proofs.Common.{◌≡◌, ℕ, ◌+◌, Bool, List, [], ◌∷◌, ◌++◌, length, Result, refl, sym, subst, ◌∙◌, arith, length-append, inl, inr}
+use Rattle.std.proofs.Common.{◌≡◌, ℕ, ◌+◌, Bool, List, [], ◌∷◌, ◌++◌, length, Result, refl, sym, subst, ◌∙◌, arith, length-append, inl, inr, ⊎_elim, ◌<◌, true}
+use Rattle.office_map.specs.PlanValue.{are_neighbours}
 use Rattle.site_core.specs.Growing.{LinksOnlyGrow}
 use Rattle.locked_office.specs.declared.advance.Stopped.{Stopped}
 use Rattle.locked_office.specs.Advance.{Advances}
 use Rattle.locked_office.specs.Calls.{Key, DeskPass, Does}
 use Rattle.socket_pump.specs.declared.pump.PumpFault.{PumpFault}
 use Rattle.socket_pump.specs.Wires.{Account}
-use Rattle.socket_pump.specs.Chains.{Made, Sent, DueOnce}
-use Rattle.socket_pump.specs.Turns.{Times, Told, Remembers, SentTo, BrokeTelling}
+use Rattle.socket_pump.specs.Chains.{Heard, Brought, Made, Sent, DueOnce}
+use Rattle.socket_pump.specs.Turns.{Times, Told, Remembers, SentTo, GotMessage, CountsGo, CountsBroke, BrokeTelling}
+use Rattle.socket_pump.specs.refinement.Counts.{Owed, Owes, Spares, Acknowledges, AcknowledgesOnly}
 use Rattle.socket_pump.specs.refinement.Stages.{AreMessages, SpokeToAll, AreCounts}
-use Rattle.socket_pump.proofs.Telling.{Begins, sends_begins, waits_between, told_both, broke_both, sent_left, due_both, remembers_both}
+use Rattle.socket_pump.proofs.Telling.{Begins, sends_begins, waits_between, told_both, broke_both, sent_left, sent_right, sent_cases, due_both, remembers_both}
 
 -- ---- counts that follow messages
 
@@ -30,18 +32,42 @@ counts_are_due last now (m ∷ ms) c = (inl c.0, c.1, counts_are_due last now ms
 due_then_counts : (last : Times) (now : ℕ) (ms ns : List Made) → AreMessages ms → DueOnce last now ms → AreCounts ns → DueOnce last now (ms ++ ns)
 due_then_counts last now ms ns messages due c = due_both last now ms ns (λ v n s t. absurd (omega (arith, messages v n s, count_number v n ns c t))) due (counts_are_due last now ns c)
 
+-- no count but to who brought a message and got none
+counts_only : (k : Key) (hs : List Heard) (none s t : List Bool) (ms ns : List Made) → ((v : ℕ) → Owed none v → ⊥) → Owes none hs s → Spares s ms t → AcknowledgesOnly k t ns → AreMessages ms → AreCounts ns →
+    ((v : ℕ) → are_neighbours k.0 k.1 v ≡ true → v < 16) → CountsBroke hs (ms ++ ns)
+counts_only k hs none s t ms ns nobody owes spares acks messages counts within v x =
+    let need = acks v (⊎_elim (λ y. absurd (omega (arith, messages v 0 y))) (λ y. y) (sent_cases v 0 ms ns x)) in
+    let owed = (spares v).0 need.0 in (
+      ⊎_elim (λ y. absurd (nobody v y)) (λ y. y) ((owes v (within v need.1)).0 owed.0),
+      λ got. ⊎_elim (owed.1 got.0) (λ y. absurd (omega (arith, got.1, count_number v got.0 ns counts y))) (sent_cases v got.0 ms ns got.2),
+    )
+
+-- and one to each such
+counts_go : (k : Key) (hs : List Heard) (none s t : List Bool) (ms ns : List Made) → ((v : ℕ) → Owed none v → ⊥) → Owes none hs s → Spares s ms t → Acknowledges k t ns → AreMessages ms → AreCounts ns →
+    ((v : ℕ) → Brought v hs → are_neighbours k.0 k.1 v ≡ true) → ((v : ℕ) → are_neighbours k.0 k.1 v ≡ true → v < 16) → CountsGo hs (ms ++ ns)
+counts_go k hs none s t ms ns nobody owes spares acks messages counts near within v = (counts_only k hs none s t ms ns nobody owes spares (λ u. (acks u).0) messages counts within v, from)
+  where
+    from : Brought v hs × (GotMessage v (ms ++ ns) → ⊥) → Sent v 0 (ms ++ ns)
+    from x =
+        let close = near v x.0 in
+        let owed = (owes v (within v close)).1 (inr x.0) in
+        let spared = (spares v).1 (owed, λ n y. x.1 (n, messages v n y, sent_left v n ms ns y)) in
+        sent_right v 0 ms ns ((acks v).1 (spared, close))
+
 -- messages to all, and then counts
-pub record SpokeAndCounted (tells : Bool) (tag : ℕ) (k : Key) (last then : Times) (now : ℕ) (p : DeskPass) (a : Account) (sent : ℕ) (b : Account) (q : DeskPass) : Type 0 where
+pub record SpokeAndCounted (tells : Bool) (tag : ℕ) (k : Key) (last then : Times) (now : ℕ) (hs : List Heard) (p : DeskPass) (a : Account) (sent : ℕ) (b : Account) (q : DeskPass) : Type 0 where
   pub made : List Made
   pub told : Told tells tag k p a b q made
   pub counted : length made ≡ sent
   pub all_due : (v : ℕ) → SentTo k last now p q made v
   pub due_once : DueOnce last now made
+  pub counts_go : CountsGo hs made
   pub remembers : Remembers k last then now p q made
 
-pub counts_after : LinksOnlyGrow → (tells : Bool) (tag : ℕ) (k : Key) (last then : Times) (now : ℕ) (p m q : DeskPass) (a b d : Account) (messages counts : ℕ) (ns : List Made) → SpokeToAll tells tag k last then now p a messages b m →
-    Told tells tag k m b d q ns → length ns ≡ counts → AreCounts ns → SpokeAndCounted tells tag k last then now p a (messages + counts) d q
-counts_after grow tells tag k last then now p m q a b d messages counts ns (ms, spoke, all) told number are =
+pub counts_after : LinksOnlyGrow → (tells : Bool) (tag : ℕ) (k : Key) (last then : Times) (now : ℕ) (hs : List Heard) (none s t : List Bool) (p m q : DeskPass) (a b d : Account) (messages counts : ℕ) (ns : List Made) →
+    ((v : ℕ) → Owed none v → ⊥) → Owes none hs s → ((v : ℕ) → Brought v hs → are_neighbours k.0 k.1 v ≡ true) → ((v : ℕ) → are_neighbours k.0 k.1 v ≡ true → v < 16) → SpokeToAll tells tag k last then now p a s messages b m t →
+    Told tells tag k m b d q ns → length ns ≡ counts → AreCounts ns → Acknowledges k t ns → SpokeAndCounted tells tag k last then now hs p a (messages + counts) d q
+counts_after grow tells tag k last then now hs none s t p m q a b d messages counts ns nobody owes near within (ms, spoke, all, spares) told number are acks =
     let pm : Begins p m = sends_begins tag k p m ms spoke.told.sends in
     let mq : Begins m q = sends_begins tag k m q ns told.sends in
     record {
@@ -50,25 +76,29 @@ counts_after grow tells tag k last then now p m q a b d messages counts ns (ms, 
       counted = omega (arith, length-append ms ns, spoke.count, number);
       all_due = λ v n x y due. sent_left v n ms ns (all v n x (waits_between grow k p m q v n pm mq x y) due);
       due_once = due_then_counts last now ms ns spoke.messages spoke.due_once are;
+      counts_go = counts_go k hs none s t ms ns nobody owes spares acks spoke.messages are near within;
       remembers = remembers_both grow k last then then now p m q ms ns pm mq spoke.used spoke.remembers (counts_remember k then now m q ns are);
     }
 
 -- messages to all, and then a fault among the counts
-pub record SpokeAndBroke (tells : Bool) (tag : ℕ) (k : Key) (last then : Times) (now : ℕ) (p : DeskPass) (a : Account) (f : PumpFault) (b : Account) (q : DeskPass) : Type 0 where
+pub record SpokeAndBroke (tells : Bool) (tag : ℕ) (k : Key) (last then : Times) (now : ℕ) (hs : List Heard) (p : DeskPass) (a : Account) (f : PumpFault) (b : Account) (q : DeskPass) : Type 0 where
   pub made : List Made
   pub told : BrokeTelling tells tag k p a f b q made
   pub due_once : DueOnce last now made
+  pub counts_broke : CountsBroke hs made
   pub remembers : Remembers k last then now p q made
 
-pub fault_after : LinksOnlyGrow → (tells : Bool) (tag : ℕ) (k : Key) (last then : Times) (now : ℕ) (p m q : DeskPass) (a b d : Account) (messages : ℕ) (f : PumpFault) (ns : List Made) → SpokeToAll tells tag k last then now p a messages b m →
-    BrokeTelling tells tag k m b f d q ns → AreCounts ns → SpokeAndBroke tells tag k last then now p a f d q
-fault_after grow tells tag k last then now p m q a b d messages f ns (ms, spoke, all) broke are =
+pub fault_after : LinksOnlyGrow → (tells : Bool) (tag : ℕ) (k : Key) (last then : Times) (now : ℕ) (hs : List Heard) (none s t : List Bool) (p m q : DeskPass) (a b d : Account) (messages : ℕ) (f : PumpFault) (ns : List Made) →
+    ((v : ℕ) → Owed none v → ⊥) → Owes none hs s → ((v : ℕ) → are_neighbours k.0 k.1 v ≡ true → v < 16) → SpokeToAll tells tag k last then now p a s messages b m t →
+    BrokeTelling tells tag k m b f d q ns → AreCounts ns → AcknowledgesOnly k t ns → SpokeAndBroke tells tag k last then now hs p a f d q
+fault_after grow tells tag k last then now hs none s t p m q a b d messages f ns nobody owes within (ms, spoke, all, spares) broke are acks =
     let pm : Begins p m = sends_begins tag k p m ms spoke.told.sends in
     let mq : Begins m q = sends_begins tag k m q ns broke.sends in
     record {
       made = ms ++ ns;
       told = broke_both tells tag k p m q a b d f ms ns spoke.told broke;
       due_once = due_then_counts last now ms ns spoke.messages spoke.due_once are;
+      counts_broke = counts_only k hs none s t ms ns nobody owes spares acks spoke.messages are within;
       remembers = remembers_both grow k last then then now p m q ms ns pm mq spoke.used spoke.remembers (counts_remember k then now m q ns are);
     }
 
@@ -80,6 +110,6 @@ Rules tag k result p q = Does (λ s s'. Advances tag 64 result s s') k p q
 pub rules_with : (tag tag' : ℕ) (k : Key) (result : Result ℕ Stopped) (p q : DeskPass) → tag ≡ tag' → Rules tag k result p q → Rules tag' k result p q
 rules_with tag tag' k result p q e r = subst (λ (t : ℕ). Rules t k result p q) e r
 
-pub spoke_with : (tells : Bool) (tag tag' : ℕ) (k : Key) (last then : Times) (now : ℕ) (p : DeskPass) (a : Account) (sent : ℕ) (b : Account) (q : DeskPass) → tag ≡ tag' → SpokeToAll tells tag k last then now p a sent b q →
-    SpokeToAll tells tag' k last then now p a sent b q
-spoke_with tells tag tag' k last then now p a sent b q e s = subst (λ (t : ℕ). SpokeToAll tells t k last then now p a sent b q) e s
+pub spoke_with : (tells : Bool) (tag tag' : ℕ) (k : Key) (last then : Times) (now : ℕ) (p : DeskPass) (a : Account) (s : List Bool) (sent : ℕ) (b : Account) (q : DeskPass) (t : List Bool) → tag ≡ tag' → SpokeToAll tells tag k last then now p a s sent b q t →
+    SpokeToAll tells tag' k last then now p a s sent b q t
+spoke_with tells tag tag' k last then now p a s sent b q t e spoke = subst (λ (i : ℕ). SpokeToAll tells i k last then now p a s sent b q t) e spoke

@@ -6,6 +6,7 @@ use Rattle.site_core.specs.declared.event.Entry.{Entry}
 use Rattle.site_core.specs.declared.event.Event.TheVariants.{Send, Took}
 use Rattle.site_core.specs.declared.reply.Reply.{Reply}
 use Rattle.site_core.specs.declared.reply.Reply.TheVariants.{Frame}
+use Rattle.site_core.specs.declared.reply.Reply.TheVariants as reply
 use Rattle.site_core.specs.declared.reply.Refusal.{Refusal}
 use Rattle.site_core.specs.declared.reply.Refusal.TheVariants.{Memory, JournalFull}
 use Rattle.site_core.specs.Journals.{Site, noted, Receives}
@@ -63,6 +64,20 @@ IsTook tag bytes (Err why) es = es ≡ []
 abbrev pub AreTooks : ℕ → List Heard → List Entry → Type 0
 AreTooks tag [] es = es ≡ []
 AreTooks tag (h ∷ hs) es = (first rest : List Entry) × (es ≡ first ++ rest) × IsTook tag h.bytes h.answer first × AreTooks tag hs rest
+
+-- an answer to a message: it was taken, now or before, or it came before its turn
+abbrev pub BringsMessage : Result Reply Refusal → Type 0
+BringsMessage (Ok reply.Taken) = Unit {0}
+BringsMessage (Ok reply.Repeat) = Unit {0}
+BringsMessage (Ok reply.Kept) = Unit {0}
+BringsMessage (Ok reply.Early) = Unit {0}
+BringsMessage (Ok _) = ⊥
+BringsMessage (Err why) = ⊥
+
+-- a frame of v is among them, and brought a message
+abbrev pub Brought : ℕ → List Heard → Type 0
+Brought v [] = ⊥
+Brought v (h ∷ hs) = ((f : Fields) × Spells h.bytes f × (f.from ≡ v) × BringsMessage h.answer) ⊎ Brought v hs
 
 -- what the wire answered: these datagrams, and then that
 abbrev pub answers : List Heard → List (Option (List ℕ)) → List (Option (List ℕ))

@@ -1,5 +1,5 @@
 -- What a turn of a pump does.
-use Rattle.std.specs.Prelude.{◌≡◌, ℕ, ◌+◌, ◌<◌, ◌≤◌, ◌⊎◌, Bool, true, List, [], ◌∷◌, ◌++◌, length, map, Option, Some, None, Ok, Err}
+use Rattle.std.specs.Prelude.{◌≡◌, ℕ, ◌+◌, ◌<◌, ◌≤◌, ◌⊎◌, ◌↔◌, Bool, true, List, [], ◌∷◌, ◌++◌, length, map, Option, Some, None, Ok, Err}
 use Rattle.site_core.specs.declared.event.Entry.{Entry}
 use Rattle.site_core.specs.declared.reply.Refusal.{Refusal}
 use Rattle.site_core.specs.declared.reply.Refusal.TheVariants as refusal
@@ -13,7 +13,7 @@ use Rattle.socket_pump.specs.declared.pump.PumpFault.{PumpFault}
 use Rattle.socket_pump.specs.declared.pump.PumpFault.TheVariants.{WireFailed, Memory, JournalFull}
 use Rattle.socket_pump.specs.Wires.{Account, risen}
 use Rattle.socket_pump.specs.Last.{IsDue}
-use Rattle.socket_pump.specs.Chains.{Heard, Made, Hears, taken, AllCount, AreTooks, answers, Sends, sent_entry, datagram, Sent, DueOnce}
+use Rattle.socket_pump.specs.Chains.{Heard, Made, Hears, taken, AllCount, AreTooks, Brought, answers, Sends, sent_entry, datagram, Sent, DueOnce}
 
 -- when the message of each neighbour and number was last sent
 abbrev pub Times : Type 0
@@ -96,6 +96,18 @@ pub record Told (tells : Bool) (tag : ℕ) (k : Key) (p : DeskPass) (a : Account
 abbrev pub SentTo : Key → Times → ℕ → DeskPass → DeskPass → List Made → ℕ → Type 0
 SentTo k last now p q made v = (n : ℕ) → WaitsFor (office_with k p.seen) v n → WaitsFor (office_with k q.seen) v n → IsDue (last v n) now → Sent v n made
 
+-- a message to v is among them
+abbrev pub GotMessage : ℕ → List Made → Type 0
+GotMessage v made = (n : ℕ) × (0 < n) × Sent v n made
+
+-- a count, which is a frame with the number 0, goes to each who brought a message and gets none, and to no other
+abbrev pub CountsGo : List Heard → List Made → Type 0
+CountsGo heard made = (v : ℕ) → Sent v 0 made ↔ (Brought v heard × (GotMessage v made → ⊥))
+
+-- before a fault: each goes to one who brought a message and gets none
+abbrev pub CountsBroke : List Heard → List Made → Type 0
+CountsBroke heard made = (v : ℕ) → Sent v 0 made → Brought v heard × (GotMessage v made → ⊥)
+
 -- which of the frames that were made went out before a fault: all, but where the wire failed at the last
 abbrev pub Lost : PumpFault → List Made → List Made → Type 0
 Lost WireFailed made out = (m : Made) × (made ≡ out ++ m ∷ [])
@@ -113,7 +125,7 @@ pub record BrokeTelling (tells : Bool) (tag : ℕ) (k : Key) (p : DeskPass) (a :
 
 -- ---- a turn
 
--- Datagrams, 32 or fewer and then none; rules, at most 64, and fewer only where none is next; messages, all that are due and no other, and counts.
+-- Datagrams, 32 or fewer and then none; rules, at most 64, and fewer only where none is next; messages, all that are due and no other; and a count to each who brought a message and got none.
 pub record Turned (tells : Bool) (tag : ℕ) (k : Key) (last : Times) (now : ℕ) (p : DeskPass) (a : Account) (t : Turn) (b : Account) (q : DeskPass) (then : Times) : Type 0 where
   pub mid : DeskPass
   pub ruled : DeskPass
@@ -125,6 +137,7 @@ pub record Turned (tells : Bool) (tag : ℕ) (k : Key) (last : Times) (now : ℕ
   pub sent : length made ≡ t.sent
   pub all_due : (v : ℕ) → SentTo k last now ruled q made v
   pub due_once : DueOnce last now made
+  pub counts : CountsGo heard.heard made
   pub remembers : Remembers k last then now ruled q made
 
 -- where a turn broke off: while it heard, at the rules, or while it told
@@ -133,4 +146,4 @@ pub data Stage (tells : Bool) (tag : ℕ) (k : Key) (last : Times) (now : ℕ) (
   AtRules : (mid : DeskPass) (received : Account) (took refused : ℕ) (heard : HeardAll tells tag k p a took refused received mid) (why : Stopped) (rules : Does (λ s s'. Advances tag 64 (Err why) s s') k mid q)
       (fault : IsFaultOf why.refusal f) (wire : b ≡ received) (times : (v n : ℕ) → then v n ≡ last v n) → Stage tells tag k last now p a f b q then
   WhileTelling : (mid ruled : DeskPass) (received : Account) (took refused done : ℕ) (heard : HeardAll tells tag k p a took refused received mid) (rules : Does (λ s s'. Advances tag 64 (Ok done) s s') k mid ruled)
-      (made : List Made) (told : BrokeTelling tells tag k ruled received f b q made) (due_once : DueOnce last now made) (remembers : Remembers k last then now ruled q made) → Stage tells tag k last now p a f b q then
+      (made : List Made) (told : BrokeTelling tells tag k ruled received f b q made) (due_once : DueOnce last now made) (counts : CountsBroke heard.heard made) (remembers : Remembers k last then now ruled q made) → Stage tells tag k last now p a f b q then

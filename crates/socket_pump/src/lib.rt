@@ -9,6 +9,7 @@
 mod last;
 mod memory;
 mod pump;
+mod senders;
 mod udp;
 mod wire;
 

@@ -9,12 +9,14 @@ ghost use Rattle.locked_office.specs.Calls.{Stays};
 ghost use Rattle.socket_pump.specs.Wires.{Accepts};
 ghost use Rattle.socket_pump.specs.Last.{last_of};
 ghost use Rattle.socket_pump.specs.Chains.{Made};
-ghost use Rattle.socket_pump.specs.Turns.{Turned, Stage, HeardAll, BrokeHearing, IsFaultOf, Told, BrokeTelling};
-ghost use Rattle.socket_pump.specs.refinement.Stages.{HeardOne, BrokeOne, Judged, frame_in, SpokeOf, SpokeTo, SpokeToAll, Broken, BrokenWith, AreCounts, AreFor, AreOf};
+ghost use Rattle.socket_pump.specs.Turns.{Turned, Stage, BrokeHearing, IsFaultOf, Told, BrokeTelling};
+ghost use Rattle.socket_pump.specs.refinement.Counts.{Acknowledges, AcknowledgesOnly};
+ghost use Rattle.socket_pump.specs.refinement.Stages.{HeardOne, HeardFrom, BrokeOne, Judged, frame_in, SpokeOf, SpokeTo, SpokeToAll, Broken, BrokenWith, AreCounts, AreFor, AreOf};
 
 use crate::last::Lasts;
+use crate::senders::Senders;
 use crate::wire::{Wire, WireFailed};
-use frame_codec::{Frame, FrameFault, MAX_LENGTH, decode, encode};
+use frame_codec::{Frame, MAX_LENGTH, decode, encode};
 use locked_office::Desk;
 use office_map::{OfficeId, Plan};
 use own_lock::Pass;
@@ -70,13 +72,6 @@ impl Model for Pump {
     ghost invariant = { λ p. p.me < length p.plan.offices };
 }
 
-/// Whom an office heard in a turn: of each number whether, and one more than the greatest of them.
-#[derive(Clone, Copy)]
-struct Senders {
-    heard: [bool; 16],
-    end: usize,
-}
-
 impl Pump {
     /// A pump of that office, which sent nothing yet. It keeps a copy of the plan.
     ///
@@ -119,10 +114,8 @@ impl Pump {
             (λ f. Stage W.tells pass.old.tag desk.now.key (last_of self.old.lasts) now pass.old (W.account wire.old) f (W.account wire.new) pass.new (last_of self.new.lasts)) }
     {
         links_only_grow();
-        let mut senders = Senders {
-            heard: [false; 16],
-            end: 0,
-        };
+        let _ = self.plan.offices();
+        let mut senders = Senders::none();
         let (taken, refused) = match hear(rt, wire, desk, pass, &mut senders) {
             Ok(counts) => counts,
             Err(fault) => return Err(fault),
@@ -164,7 +157,7 @@ impl Pump {
         ensures stays { Stays desk.now pass.old pass.new }
         ensures few { IfOk result (λ sent. sent ≤ 288) }
         ensures told { MatchResult result
-            (λ sent. SpokeToAll W.tells pass.old.tag desk.now.key (last_of self.old.lasts) (last_of self.new.lasts) now pass.old (W.account wire.old) sent (W.account wire.new) pass.new)
+            (λ sent. SpokeToAll W.tells pass.old.tag desk.now.key (last_of self.old.lasts) (last_of self.new.lasts) now pass.old (W.account wire.old) senders.old sent (W.account wire.new) pass.new senders.new)
             (λ f. Broken W.tells pass.old.tag desk.now.key (last_of self.old.lasts) (last_of self.new.lasts) now pass.old (W.account wire.old) f (W.account wire.new) pass.new) }
     {
         links_only_grow();
@@ -202,13 +195,13 @@ impl Pump {
         ensures stays { Stays desk.now pass.old pass.new }
         ensures few { IfOk result (λ sent. sent ≤ 16) }
         ensures told { MatchResult result
-            (λ sent. (made : List Made) × Told W.tells pass.old.tag desk.now.key pass.old (W.account wire.old) (W.account wire.new) pass.new made × (length made ≡ sent) × AreCounts made)
-            (λ f. (made : List Made) × BrokeTelling W.tells pass.old.tag desk.now.key pass.old (W.account wire.old) f (W.account wire.new) pass.new made × AreCounts made) }
+            (λ sent. (made : List Made) × Told W.tells pass.old.tag desk.now.key pass.old (W.account wire.old) (W.account wire.new) pass.new made × (length made ≡ sent) × AreCounts made × Acknowledges desk.now.key senders.now made)
+            (λ f. (made : List Made) × BrokeTelling W.tells pass.old.tag desk.now.key pass.old (W.account wire.old) f (W.account wire.new) pass.new made × AreCounts made × AcknowledgesOnly desk.now.key senders.now made) }
     {
         let mut sent = 0;
-        for k in 0..senders.end.min(self.plan.offices()) {
+        for k in 0..senders.end().min(self.plan.offices()) {
             let v = OfficeId::new(k as u8);
-            if !senders.heard[v.index()] {
+            if !senders.has(v) {
                 continue;
             }
             if !self.plan.are_neighbours(self.me, v) {
@@ -366,7 +359,7 @@ fn hear<R: Wait, W: Wire>(
     requires idle { pass.old.holds ≡ false }
     ensures stays { Stays desk.now pass.old pass.new }
     ensures heard { MatchResult result
-        (λ r. HeardAll W.tells pass.old.tag desk.now.key pass.old (W.account wire.old) r.0 r.1 (W.account wire.new) pass.new)
+        (λ r. HeardFrom W.tells pass.old.tag desk.now.key pass.old (W.account wire.old) senders.old r.0 r.1 (W.account wire.new) pass.new senders.new)
         (λ f. BrokeHearing W.tells pass.old.tag desk.now.key pass.old (W.account wire.old) f (W.account wire.new) pass.new) }
 {
     let mut taken = 0;
@@ -394,7 +387,7 @@ fn hear_one<R: Wait, W: Wire>(
     requires idle { pass.old.holds ≡ false }
     ensures stays { Stays desk.now pass.old pass.new }
     ensures heard { MatchResult result
-        (λ o. HeardOne W.tells pass.old.tag desk.now.key pass.old (W.account wire.old) o (W.account wire.new) pass.new)
+        (λ o. HeardOne W.tells pass.old.tag desk.now.key pass.old (W.account wire.old) senders.old o (W.account wire.new) pass.new senders.new)
         (λ f. BrokeOne W.tells pass.old.tag desk.now.key pass.old (W.account wire.old) f (W.account wire.new) pass.new) }
 {
     let mut buffer = [0; 64];
@@ -411,31 +404,6 @@ fn hear_one<R: Wait, W: Wire>(
     match judged(answer) {
         Ok(took) => Ok(Some(took)),
         Err(fault) => Err(fault),
-    }
-}
-
-impl Senders {
-    // Who got a message needs no count.
-    fn got(&mut self, v: OfficeId, count: u32)
-        requires { v < 16 }
-    {
-        if count > 0 {
-            self.heard[v.index()] = false;
-        }
-    }
-
-    // A message came, if only once more or before its turn.
-    fn note(&mut self, read: &Result<Frame, FrameFault>, answer: &Result<Reply, Refusal>) {
-        let (Ok(frame), Ok(Reply::Taken | Reply::Repeat | Reply::Kept | Reply::Early)) = (
-            read, answer,
-        ) else {
-            return;
-        };
-        let from = usize::from(frame.from());
-        if let Some(heard) = self.heard.get_mut(from) {
-            *heard = true;
-            self.end = self.end.max(from + 1);
-        }
     }
 }
 

@@ -12,16 +12,21 @@ use Rattle.socket_pump.specs.declared.pump.PumpFault.{PumpFault}
 use Rattle.socket_pump.specs.Wires.{Account}
 use Rattle.socket_pump.specs.Last.{IsDue}
 use Rattle.socket_pump.specs.Chains.{Heard, Made, one_taken, taken, Counts, Sent, DueOnce}
-use Rattle.socket_pump.specs.Turns.{Times, Hearing, BrokeHearing, IsFaultOf, Remembers, Told, SentTo, BrokeTelling}
+use Rattle.socket_pump.specs.refinement.Counts.{Owes, Spares}
+use Rattle.socket_pump.specs.Turns.{Times, Hearing, HeardAll, BrokeHearing, IsFaultOf, Remembers, Told, SentTo, BrokeTelling}
 
 abbrev pub one_if : Bool → ℕ
 one_if true = 1
 one_if false = 0
 
--- no datagram came, or one that the office took or refused
-abbrev pub HeardOne : Bool → ℕ → Key → DeskPass → Account → Option Bool → Account → DeskPass → Type 0
-HeardOne tells tag k p a None b q = (q ≡ p) × (b.failures ≡ a.failures) × (tells ≡ true → b ≡ record a { received = a.received ++ None ∷ [] })
-HeardOne tells tag k p a (Some took) b q = (h : Heard) × Hearing tells tag k p a [] b q (h ∷ []) × (taken (h ∷ []) ≡ one_if took)
+-- no datagram came, or one that the office took or refused; and who is owed a count, before and then
+abbrev pub HeardOne : Bool → ℕ → Key → DeskPass → Account → List Bool → Option Bool → Account → DeskPass → List Bool → Type 0
+HeardOne tells tag k p a s None b q t = (q ≡ p) × (b.failures ≡ a.failures) × (tells ≡ true → b ≡ record a { received = a.received ++ None ∷ [] }) × (t ≡ s)
+HeardOne tells tag k p a s (Some took) b q t = (h : Heard) × Hearing tells tag k p a [] b q (h ∷ []) × (taken (h ∷ []) ≡ one_if took) × Owes s (h ∷ []) t
+
+-- all datagrams, and who is owed a count then
+abbrev pub HeardFrom : Bool → ℕ → Key → DeskPass → Account → List Bool → ℕ → ℕ → Account → DeskPass → List Bool → Type 0
+HeardFrom tells tag k p a s took refused b q t = (all : HeardAll tells tag k p a took refused b q) × Owes s all.heard t
 
 -- the wire failed, or there was no room for what the one datagram brought
 abbrev pub BrokeOne : Bool → ℕ → Key → DeskPass → Account → PumpFault → Account → DeskPass → Type 0
@@ -70,16 +75,16 @@ SpokeOf tells tag k last then now p a sent b q v n =
 abbrev pub SpokeTo : Bool → ℕ → Key → Times → Times → ℕ → DeskPass → Account → ℕ → Account → DeskPass → ℕ → Type 0
 SpokeTo tells tag k last then now p a sent b q v = (made : List Made) × Spoke tells tag k last then now p a sent b q made × AreFor v made × SentTo k last now p q made v
 
-abbrev pub SpokeToAll : Bool → ℕ → Key → Times → Times → ℕ → DeskPass → Account → ℕ → Account → DeskPass → Type 0
-SpokeToAll tells tag k last then now p a sent b q = (made : List Made) × Spoke tells tag k last then now p a sent b q made × ((v : ℕ) → SentTo k last now p q made v)
+abbrev pub SpokeToAll : Bool → ℕ → Key → Times → Times → ℕ → DeskPass → Account → List Bool → ℕ → Account → DeskPass → List Bool → Type 0
+SpokeToAll tells tag k last then now p a s sent b q t = (made : List Made) × Spoke tells tag k last then now p a sent b q made × ((v : ℕ) → SentTo k last now p q made v) × Spares s made t
 
--- some went out, and then a fault
+-- some messages went out, and then a fault
 abbrev pub Broken : Bool → ℕ → Key → Times → Times → ℕ → DeskPass → Account → PumpFault → Account → DeskPass → Type 0
-Broken tells tag k last then now p a f b q = (made : List Made) × BrokeTelling tells tag k p a f b q made × DueOnce last now made × Remembers k last then now p q made
+Broken tells tag k last then now p a f b q = (made : List Made) × BrokeTelling tells tag k p a f b q made × DueOnce last now made × Remembers k last then now p q made × AreMessages made
 
 -- the same, where all were such
 abbrev pub BrokenWith : (List Made → Type 0) → Bool → ℕ → Key → Times → Times → ℕ → DeskPass → Account → PumpFault → Account → DeskPass → Type 0
-BrokenWith such tells tag k last then now p a f b q = (made : List Made) × BrokeTelling tells tag k p a f b q made × DueOnce last now made × Remembers k last then now p q made × such made
+BrokenWith such tells tag k last then now p a f b q = (made : List Made) × BrokeTelling tells tag k p a f b q made × DueOnce last now made × Remembers k last then now p q made × AreMessages made × such made
 
 -- frames with a count alone, one at most for each office
 abbrev pub AreCounts : List Made → Type 0

@@ -27,4 +27,4 @@ returns-in-Err-put_out-clause-told g c =
     let h = rw c.in-Ok-Some.field-0-is at c.in-Ok-Some.ensures.sent in
     let due = c.if-not-is_due.ensures.0 refl in
     let o = one_made c.links_only_grow.ensures c.args.pass.now.tag c.args.desk.now.key (last_of c.args.last.now) (last_of c.put.new.self) c.args.now c.args.v c.args.number c.args.pass.now c.send_number.new.pass c.in-Ok-Some.frame h due c.put.ensures.this c.put.ensures.others in
-    (o.made ∷ [], message_lost g.W.Wire.tells c.args.pass.now.tag c.args.desk.now.key c.args.pass.now c.send_number.new.pass (g.W.Wire.account c.args.wire.now) (g.W.Wire.account c.put_out.new.wire) o.made o.does c.in-Err-put_out.ensures.0 c.in-Err-put_out.ensures.1, o.due_once, o.remembers, o.are)
+    (o.made ∷ [], message_lost g.W.Wire.tells c.args.pass.now.tag c.args.desk.now.key c.args.pass.now c.send_number.new.pass (g.W.Wire.account c.args.wire.now) (g.W.Wire.account c.put_out.new.wire) o.made o.does c.in-Err-put_out.ensures.0 c.in-Err-put_out.ensures.1, o.due_once, o.remembers, o.messages, o.are)

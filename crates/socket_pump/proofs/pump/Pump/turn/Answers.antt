@@ -1,56 +1,74 @@
-use Rattle.std.proofs.Common.{◌≡◌, ℕ, List, length, Ok, Err, refl, subst, ◌∙◌}
-use Rattle.socket_pump.specs.Last.{last_of}
+use Rattle.std.proofs.Common.{◌≡◌, ℕ, ◌<◌, List, length, Ok, Err, true, refl, sym, ap, subst, ◌∙◌, arith}
+use Rattle.office_map.specs.PlanValue.{are_neighbours}
+use Rattle.office_map.specs.Consistency.{IsConsistent}
+use Rattle.office_map.proofs.RecordEnds.{near_within}
+use Rattle.locked_office.specs.Calls.{Key}
+use Rattle.socket_pump.specs.Last.{PumpView, last_of}
 use Rattle.socket_pump.specs.Chains.{Made}
 use Rattle.socket_pump.specs.Turns.{Told, BrokeTelling}
 use Rattle.socket_pump.specs.Turns.{AtRules, WhileTelling}
+use Rattle.socket_pump.specs.refinement.Counts.{Acknowledges, AcknowledgesOnly}
 use Rattle.socket_pump.specs.refinement.Stages.{Broken, AreCounts}
+use Rattle.socket_pump.proofs.Owing.{brought_near}
 use Rattle.socket_pump.proofs.Turning.{rules_with, spoke_with, counts_after, fault_after}
 use Rattle.socket_pump.proofs.pump.Pump.turn.Goals as goal
 
 pub returns-in-Err-advance-clause-turned : goal.returns-in-Err-advance-clause-turned
 returns-in-Err-advance-clause-turned g c =
     let rules = rules_with c.hear.new.pass.tag c.args.pass.now.tag c.args.desk.now.key (Err c.in-Err-advance.stopped) c.hear.new.pass c.advance.new.pass c.hear.ensures.stays.1 c.in-Err-advance.ensures.advanced in
-    AtRules c.hear.new.pass (g.W.Wire.account c.hear.new.wire) c.in-Ok.counts.0 c.in-Ok.counts.1 c.in-Ok.ensures.heard c.in-Err-advance.stopped rules c.fault_of.ensures refl (λ v n. refl)
+    AtRules c.hear.new.pass (g.W.Wire.account c.hear.new.wire) c.in-Ok.counts.0 c.in-Ok.counts.1 c.in-Ok.ensures.heard.0 c.in-Err-advance.stopped rules c.fault_of.ensures refl (λ v n. refl)
 
 pub returns-in-Err-tell-clause-turned : goal.returns-in-Err-tell-clause-turned
 returns-in-Err-tell-clause-turned g c =
     let rules = rules_with c.hear.new.pass.tag c.args.pass.now.tag c.args.desk.now.key (Ok c.in-Ok-advance.rules) c.hear.new.pass c.advance.new.pass c.hear.ensures.stays.1 c.in-Ok-advance.ensures.advanced in
     let told = subst (λ (t : ℕ). Broken g.W.Wire.tells t c.args.desk.now.key (last_of c.args.self.now.lasts) (last_of c.tell.new.self.lasts) c.args.now c.advance.new.pass (g.W.Wire.account c.hear.new.wire) c.in-Err-tell.fault (g.W.Wire.account c.tell.new.wire) c.tell.new.pass)
     (c.advance.ensures.stays.1 ∙ c.hear.ensures.stays.1) c.in-Err-tell.ensures.told in
-    WhileTelling c.hear.new.pass c.advance.new.pass (g.W.Wire.account c.hear.new.wire) c.in-Ok.counts.0 c.in-Ok.counts.1 c.in-Ok-advance.rules c.in-Ok.ensures.heard rules told.0 told.1 told.2 told.3
+    WhileTelling c.hear.new.pass c.advance.new.pass (g.W.Wire.account c.hear.new.wire) c.in-Ok.counts.0 c.in-Ok.counts.1 c.in-Ok-advance.rules c.in-Ok.ensures.heard.0 rules told.0 told.1 told.2 (λ v x. absurd (omega (arith, told.4 v 0 x))) told.3
 
 pub returns-in-Err-acknowledge-clause-turned : goal.returns-in-Err-acknowledge-clause-turned
 returns-in-Err-acknowledge-clause-turned g c =
     let rules = rules_with c.hear.new.pass.tag c.args.pass.now.tag c.args.desk.now.key (Ok c.in-Ok-advance.rules) c.hear.new.pass c.advance.new.pass c.hear.ensures.stays.1 c.in-Ok-advance.ensures.advanced in
     let tagged : c.advance.new.pass.tag ≡ c.args.pass.now.tag = c.advance.ensures.stays.1 ∙ c.hear.ensures.stays.1 in
-    let spoke = spoke_with g.W.Wire.tells c.advance.new.pass.tag c.args.pass.now.tag c.args.desk.now.key (last_of c.args.self.now.lasts) (last_of c.tell.new.self.lasts) c.args.now c.advance.new.pass (g.W.Wire.account c.hear.new.wire) c.in-Ok-tell.sent
-    (g.W.Wire.account c.tell.new.wire) c.tell.new.pass tagged c.in-Ok-tell.ensures.told in
-    let told = subst (λ (t : ℕ). (made : List Made) × BrokeTelling g.W.Wire.tells t c.args.desk.now.key c.tell.new.pass (g.W.Wire.account c.tell.new.wire) c.in-Err-acknowledge.fault (g.W.Wire.account c.acknowledge.new.wire) c.acknowledge.new.pass made × AreCounts made)
+    let spoke = spoke_with g.W.Wire.tells c.advance.new.pass.tag c.args.pass.now.tag c.args.desk.now.key (last_of c.args.self.now.lasts) (last_of c.tell.new.self.lasts) c.args.now c.advance.new.pass (g.W.Wire.account c.hear.new.wire) c.hear.new.senders c.in-Ok-tell.sent
+    (g.W.Wire.account c.tell.new.wire) c.tell.new.pass c.tell.new.senders tagged c.in-Ok-tell.ensures.told in
+    let told = subst (λ (t : ℕ). (made : List Made) × BrokeTelling g.W.Wire.tells t c.args.desk.now.key c.tell.new.pass (g.W.Wire.account c.tell.new.wire) c.in-Err-acknowledge.fault (g.W.Wire.account c.acknowledge.new.wire) c.acknowledge.new.pass made × AreCounts made × AcknowledgesOnly c.args.desk.now.key c.tell.new.senders made)
     (c.tell.ensures.stays.1 ∙ tagged) c.in-Err-acknowledge.ensures.told in
-    let all = fault_after c.links_only_grow.ensures g.W.Wire.tells c.args.pass.now.tag c.args.desk.now.key (last_of c.args.self.now.lasts) (last_of c.tell.new.self.lasts) c.args.now c.advance.new.pass c.tell.new.pass c.acknowledge.new.pass (g.W.Wire.account c.hear.new.wire)
-    (g.W.Wire.account c.tell.new.wire) (g.W.Wire.account c.acknowledge.new.wire) c.in-Ok-tell.sent c.in-Err-acknowledge.fault told.0 spoke told.1 told.2 in
-    WhileTelling c.hear.new.pass c.advance.new.pass (g.W.Wire.account c.hear.new.wire) c.in-Ok.counts.0 c.in-Ok.counts.1 c.in-Ok-advance.rules c.in-Ok.ensures.heard rules all.made all.told all.due_once all.remembers
+    let k = c.args.desk.now.key in
+    let heard = c.in-Ok.ensures.heard.0 in
+    let plan : k.0 ≡ c.self.inside.plan = ap (λ (x : Key). x.0) (c.requires.key ∙ sym (ap (λ (x : PumpView). x.key) c.self.view_is)) in
+    let ok = subst IsConsistent (sym plan) c.offices.ensures.consistent in
+    let within : (v : ℕ) → are_neighbours k.0 k.1 v ≡ true → v < 16 = λ v near. omega (arith, near_within k.0 k.1 v ok near, ok.offices_fit) in
+    let all = fault_after c.links_only_grow.ensures g.W.Wire.tells c.args.pass.now.tag k (last_of c.args.self.now.lasts) (last_of c.tell.new.self.lasts) c.args.now heard.heard c.none-senders.result c.hear.new.senders c.tell.new.senders c.advance.new.pass c.tell.new.pass c.acknowledge.new.pass (g.W.Wire.account c.hear.new.wire)
+    (g.W.Wire.account c.tell.new.wire) (g.W.Wire.account c.acknowledge.new.wire) c.in-Ok-tell.sent c.in-Err-acknowledge.fault told.0 c.none-senders.ensures c.in-Ok.ensures.heard.1 within spoke told.1 told.2 told.3 in
+    WhileTelling c.hear.new.pass c.advance.new.pass (g.W.Wire.account c.hear.new.wire) c.in-Ok.counts.0 c.in-Ok.counts.1 c.in-Ok-advance.rules c.in-Ok.ensures.heard.0 rules all.made all.told all.due_once all.counts_broke all.remembers
 
 pub returns-clause-turned : goal.returns-clause-turned
 returns-clause-turned g c =
     let rules = rules_with c.hear.new.pass.tag c.args.pass.now.tag c.args.desk.now.key (Ok c.in-Ok-advance.rules) c.hear.new.pass c.advance.new.pass c.hear.ensures.stays.1 c.in-Ok-advance.ensures.advanced in
     let tagged : c.advance.new.pass.tag ≡ c.args.pass.now.tag = c.advance.ensures.stays.1 ∙ c.hear.ensures.stays.1 in
-    let spoke = spoke_with g.W.Wire.tells c.advance.new.pass.tag c.args.pass.now.tag c.args.desk.now.key (last_of c.args.self.now.lasts) (last_of c.tell.new.self.lasts) c.args.now c.advance.new.pass (g.W.Wire.account c.hear.new.wire) c.in-Ok-tell.sent
-    (g.W.Wire.account c.tell.new.wire) c.tell.new.pass tagged c.in-Ok-tell.ensures.told in
-    let told = subst (λ (t : ℕ). (made : List Made) × Told g.W.Wire.tells t c.args.desk.now.key c.tell.new.pass (g.W.Wire.account c.tell.new.wire) (g.W.Wire.account c.acknowledge.new.wire) c.acknowledge.new.pass made × (length made ≡ c.in-Ok-acknowledge.sent) × AreCounts made)
+    let spoke = spoke_with g.W.Wire.tells c.advance.new.pass.tag c.args.pass.now.tag c.args.desk.now.key (last_of c.args.self.now.lasts) (last_of c.tell.new.self.lasts) c.args.now c.advance.new.pass (g.W.Wire.account c.hear.new.wire) c.hear.new.senders c.in-Ok-tell.sent
+    (g.W.Wire.account c.tell.new.wire) c.tell.new.pass c.tell.new.senders tagged c.in-Ok-tell.ensures.told in
+    let told = subst (λ (t : ℕ). (made : List Made) × Told g.W.Wire.tells t c.args.desk.now.key c.tell.new.pass (g.W.Wire.account c.tell.new.wire) (g.W.Wire.account c.acknowledge.new.wire) c.acknowledge.new.pass made × (length made ≡ c.in-Ok-acknowledge.sent) × AreCounts made × Acknowledges c.args.desk.now.key c.tell.new.senders made)
     (c.tell.ensures.stays.1 ∙ tagged) c.in-Ok-acknowledge.ensures.told in
-    let all = counts_after c.links_only_grow.ensures g.W.Wire.tells c.args.pass.now.tag c.args.desk.now.key (last_of c.args.self.now.lasts) (last_of c.tell.new.self.lasts) c.args.now c.advance.new.pass c.tell.new.pass c.acknowledge.new.pass (g.W.Wire.account c.hear.new.wire)
-    (g.W.Wire.account c.tell.new.wire) (g.W.Wire.account c.acknowledge.new.wire) c.in-Ok-tell.sent c.in-Ok-acknowledge.sent told.0 spoke told.1 told.2 told.3 in
+    let k = c.args.desk.now.key in
+    let heard = c.in-Ok.ensures.heard.0 in
+    let plan : k.0 ≡ c.self.inside.plan = ap (λ (x : Key). x.0) (c.requires.key ∙ sym (ap (λ (x : PumpView). x.key) c.self.view_is)) in
+    let ok = subst IsConsistent (sym plan) c.offices.ensures.consistent in
+    let within : (v : ℕ) → are_neighbours k.0 k.1 v ≡ true → v < 16 = λ v near. omega (arith, near_within k.0 k.1 v ok near, ok.offices_fit) in
+    let all = counts_after c.links_only_grow.ensures g.W.Wire.tells c.args.pass.now.tag k (last_of c.args.self.now.lasts) (last_of c.tell.new.self.lasts) c.args.now heard.heard c.none-senders.result c.hear.new.senders c.tell.new.senders c.advance.new.pass c.tell.new.pass c.acknowledge.new.pass (g.W.Wire.account c.hear.new.wire)
+    (g.W.Wire.account c.tell.new.wire) (g.W.Wire.account c.acknowledge.new.wire) c.in-Ok-tell.sent c.in-Ok-acknowledge.sent told.0
+    c.none-senders.ensures c.in-Ok.ensures.heard.1 (λ v x. brought_near c.args.pass.now.tag k c.args.pass.now c.hear.new.pass heard.heard v heard.hearing.hears x) within spoke told.1 told.2 told.3 told.4 in
     record {
       mid = c.hear.new.pass;
       ruled = c.advance.new.pass;
       received = g.W.Wire.account c.hear.new.wire;
-      heard = c.in-Ok.ensures.heard;
+      heard = c.in-Ok.ensures.heard.0;
       rules = rules;
       made = all.made;
       told = all.told;
       sent = all.counted;
       all_due = all.all_due;
       due_once = all.due_once;
+      counts = all.counts_go;
       remembers = all.remembers;
     }
