@@ -1,0 +1,124 @@
+"""What checks/program, its parts and checks/network share: how the program is run, and how it is told what came of that."""
+import os, re, shutil, socket, struct, subprocess
+
+TOP = os.path.dirname(os.path.dirname(os.path.abspath(__file__)))
+HOST = "127.0.0.1"
+SECONDS = 60
+
+PLAN = b"plan 1 run 1\noffice a -\noffice b -\npair a b fork a\nrecord x a b 5 at a\n"
+SESSIONS = b"session a\ngive read x\nend\n"
+ANSWER = b"a.1 done reads x=5 writes - gives 5\nvalue x 5\n"
+
+# Tags of data frames that bring a question for a bottle, and a bottle.
+ASK_BOTTLE, BOTTLE = 3, 4
+
+
+def program_of(words, check):
+    """The program that a check runs; where it isn't built, that is said, and there is none."""
+    program = os.path.abspath(words[1] if len(words) > 1 else os.path.join(TOP, "crates", "drink", "out", "drink"))
+    if os.path.isfile(program) and os.access(program, os.X_OK):
+        return program
+    print(f"{check}: {program} isn't built: ./drink --build builds it\n0 passed, 1 failed")
+    return None
+
+
+def free_ports(count):
+    """Ports of this machine that nobody has now."""
+    held = [socket.socket(socket.AF_INET, socket.SOCK_DGRAM) for _ in range(count)]
+    for it in held:
+        it.bind((HOST, 0))
+    ports = [it.getsockname()[1] for it in held]
+    for it in held:
+        it.close()
+    return ports
+
+
+def at_ports(plan, ports):
+    """A plan whose offices have these ports, in order, in place of their addresses."""
+    left = iter(ports)
+    return re.sub(rb"(?m)^(office \S+) \S+$", lambda it: it[1] + b" 127.0.0.1:%d" % next(left), plan)
+
+
+def frame(run, sender, to, number, count, tag=None, record=None, value=None):
+    """A datagram as docs/formats.md lays it out: an acknowledgement where it has no tag."""
+    parts = [struct.pack(">2sBBIBBQQ", b"DP", 1, 2 if tag is None else 1, run, sender, to, number, count)]
+    parts += [] if tag is None else [struct.pack(">B", tag)]
+    parts += [] if record is None else [struct.pack(">H", record)]
+    parts += [] if value is None else [struct.pack(">q", value)]
+    return b"".join(parts)
+
+
+class Ran:
+    """How a run ended."""
+
+    def __init__(self, status, out, err):
+        self.status, self.out, self.err = status, out, err
+
+    def __str__(self):
+        return f"status {self.status}, output {self.out[:300]!r}, standard error {self.err[:300]!r}"
+
+
+class Check:
+    """What is tried, and how it went. `work` has the program under the name drink, through a link, and the examples."""
+
+    def __init__(self, program, work):
+        self.work, self.passed, self.failed, self.statuses = work, 0, 0, set()
+        self.program = os.path.join(work, "bin", "drink")
+        self.link = os.path.join(work, "drink")
+        os.mkdir(os.path.dirname(self.program))
+        shutil.copy(program, self.program)
+        os.symlink(os.path.join("bin", "drink"), self.link)
+        os.symlink(os.path.join(TOP, "examples"), os.path.join(work, "examples"))
+        os.mkdir(os.path.join(work, "folder"))
+
+    def files(self, texts):
+        for name, text in texts.items():
+            with open(os.path.join(self.work, name), "wb") as file:
+                file.write(text)
+
+    def bytes_of(self, name):
+        """What a file has; nothing where there is none."""
+        try:
+            with open(os.path.join(self.work, name), "rb") as file:
+                return file.read()
+        except OSError:
+            return b""
+
+    def say(self, name, wrong=None):
+        self.passed, self.failed = self.passed + (not wrong), self.failed + bool(wrong)
+        print(f"FAILED {name}: {wrong}" if wrong else f"ok     {name}", flush=True)
+
+    def equal(self, name, found, wanted):
+        self.say(name, None if found == wanted else f"{shown(wanted)} is wanted, and not {shown(found)}")
+
+    def wants(self, name, ran, status, out=None, err=None):
+        """Tells whether a run ended as it has to. `out` and `err` are bytes, or a pattern as text, or None for any."""
+        wrong = [f"status {status} is wanted"] if ran.status != status else []
+        for stream, has, wanted in (("output", ran.out, out), ("standard error", ran.err, err)):
+            is_well = wanted is None or (has == wanted if isinstance(wanted, bytes) else re.search(wanted, has.decode(errors="replace")))
+            wrong += [] if is_well else [f"on the {stream} {shown(wanted)} is wanted"]
+        self.say(name, f"{' and '.join(wrong)}; {ran}" if wrong else None)
+
+    def run(self, words, given=b"", **how):
+        """Runs the program on words, a text that is cut at spaces or a list, with this standard input."""
+        words = words.split() if isinstance(words, str) else words
+        how = {"cwd": self.work, "stdout": subprocess.PIPE, "stderr": subprocess.PIPE, "timeout": SECONDS, **how}
+        if "stdin" not in how:
+            how["input"] = given
+        is_drink = "program" not in how
+        try:
+            ran = subprocess.run([how.pop("program", self.link), *words], **how)
+        except subprocess.TimeoutExpired:
+            return Ran(None, b"", f"it had not ended after {how['timeout']} seconds".encode())
+        if is_drink:
+            self.statuses.add(ran.returncode)
+        return Ran(ran.returncode, ran.stdout or b"", ran.stderr or b"")
+
+    def shell(self, text, **how):
+        return self.run(["-c", text], program="/bin/sh", **how)
+
+
+def shown(what):
+    """As much of it as a line can tell."""
+    text = repr(what)
+    return text if len(text) <= 400 else f"{text[:300]}.. ({len(text)} characters)"

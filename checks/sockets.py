@@ -1,0 +1,262 @@
+"""Offices on sockets: single ones, with a neighbour that this script plays, on a terminal, and those that the manual prints."""
+import os, pty, re, select, shutil, signal, socket, subprocess
+
+from common import ASK_BOTTLE, BOTTLE, HOST, PLAN, SECONDS, TOP, Ran, at_ports, frame, free_ports
+
+# Turns enough for two processes to find each other, 3 seconds where nothing comes.
+FEWER_TURNS = 600
+
+# A session that moves 30 from a record that is here to one that a neighbour has, and what it does.
+SHARED = b"plan 1 run 42\noffice a -\noffice b -\npair a b fork a\nrecord x a b 100 at a\nrecord y a b 0 at b\n"
+MOVES = b"session a\nlet v = read x\nset x = v - 30\nset y = read y + 30\ngive read x\ngive read y\nend\n"
+MOVED = b"a.1 done reads x=100 y=0 writes x=70 y=30 gives 70 30\n"
+VALUES = b"value x 70\nvalue y 30\n"
+# What its office asks, as which of its things, and what it tells once it has the answer.
+RUN, A, B, Y = 42, 0, 1, 1
+ASKED = frame(RUN, A, B, 1, 0, ASK_BOTTLE, Y)
+TAKEN = frame(RUN, A, B, 0, 1)
+
+# Datagrams that the office b refuses: no frame, one of another run, of no neighbour, of itself, to another office, and one that
+# acknowledges what wasn't sent; and those that it takes, since what comes again is none to refuse.
+REFUSED = [b"", b"D", b"x" * 26, b"DP" + bytes(1000), frame(2, A, B, 0, 0), frame(1, 2, B, 0, 0), frame(1, B, B, 0, 0), frame(1, A, A, 0, 0), frame(1, A, B, 0, 9)]
+TAKEN_BY_B = [frame(1, A, B, 0, 0), frame(1, A, B, 0, 0)]
+
+# Fails one call that takes or sends a datagram, by its number: before the session has ended there are some six, and the last of these
+# comes long after it.
+BROKEN_CALLS = (1, 2, 3, 4, 5, 6, 300)
+BREAKS = rb"""
+#define _GNU_SOURCE
+#include <dlfcn.h>
+#include <errno.h>
+#include <stdlib.h>
+#include <sys/socket.h>
+
+static int fails(void) {
+    static long count;
+    const char *n = getenv("BROKEN");
+    errno = EIO;
+    return n && ++count == atol(n);
+}
+ssize_t recvfrom(int s, void *to, size_t size, int flags, struct sockaddr *at, socklen_t *length) {
+    static ssize_t (*next)(int, void *, size_t, int, struct sockaddr *, socklen_t *);
+    if (!next) next = dlsym(RTLD_NEXT, "recvfrom");
+    return fails() ? -1 : next(s, to, size, flags, at, length);
+}
+ssize_t sendto(int s, const void *from, size_t size, int flags, const struct sockaddr *at, socklen_t length) {
+    static ssize_t (*next)(int, const void *, size_t, int, const struct sockaddr *, socklen_t);
+    if (!next) next = dlsym(RTLD_NEXT, "sendto");
+    return fails() ? -1 : next(s, from, size, flags, at, length);
+}
+"""
+
+
+def runs(check):
+    """Single offices, and all of a plan."""
+    one, other = free_ports(2)
+    own, fetches = b"session a\ngive read x\nend\n", b"session b\ngive read x\nend\n"
+    answer, left = b"a.1 done reads x=5 writes - gives 5\nunfinished 0\n", b"unfinished 1\n"
+    plan = at_ports(PLAN, (one, other))
+    check.files({"plan.txt": PLAN, "ports.txt": plan, "own.txt": own, "fetches.txt": fetches, "both.txt": own + fetches})
+    check.wants("run: a session that needs nobody", check.run("run ports.txt a own.txt --turns 5"), 0, answer, b"")
+    check.wants("run: on the standard input", check.run("run - a - --turns 5", plan + b"---\n" + own), 0, answer, b"")
+    check.wants("run: another office's session", check.run("run ports.txt a fetches.txt --turns 1"), 0, b"unfinished 0\n", b"")
+    check.wants("run: a neighbour that never starts", check.run("run ports.txt b fetches.txt --turns 100"), 1, left, b"")
+    for words in ("run ports.txt a own.txt --turns 5", "live plan.txt own.txt"):
+        check.wants(f"{words} > /dev/full", check.shell(f"./drink {words} > /dev/full"), 1, b"", r"\Adrink: X5 WriteFailed: [^\n]*\n\Z")
+        check.wants(f"{words} 2>&-", check.shell(f"./drink {words} 2>&-"), 0, answer, b"")
+    with socket.socket(socket.AF_INET, socket.SOCK_DGRAM) as taken:
+        taken.bind((HOST, one))
+        wanted = rf"\Adrink: U2 BindFailed: [^\n]* 127\.0\.0\.1:{one}: the address is in use\n\Z"
+        check.wants("run: an address that is in use", check.run("run ports.txt a own.txt"), 1, b"", wanted)
+    check.files({"ports.txt": plan.replace(b"a 127.0.0.1", b"a 192.0.2.1")})
+    check.wants("run: an address of another machine", check.run("run ports.txt a own.txt"), 1, b"", r"\Adrink: U2 BindFailed: [^\n]*no such address\n\Z")
+    check.files({"ports.txt": plan})
+    check.wants("live: plan.txt", check.run("live plan.txt own.txt"), 0, answer, b"")
+    check.wants("live: a session at each end", check.run("live plan.txt both.txt"), 0, answer.replace(b"unfinished", b"b.1 done reads x=5 writes - gives 5\nunfinished"), b"")
+    told_on_a_terminal(check)
+    interrupted(check)
+    answered(check)
+    broken(check)
+    two_processes(check)
+    two_terminals(check)
+
+
+class Door:
+    """A socket that stands for an office, until the block ends."""
+
+    def __init__(self, port=0):
+        self.socket = socket.socket(socket.AF_INET, socket.SOCK_DGRAM)
+        self.socket.bind((HOST, port))
+        self.port = self.socket.getsockname()[1]
+
+    def __enter__(self):
+        return self
+
+    def __exit__(self, *_):
+        self.socket.close()
+
+    def came(self, seconds):
+        """The next datagram, and where it came from; None where nothing comes."""
+        self.socket.settimeout(seconds)
+        try:
+            return self.socket.recvfrom(2048)
+        except TimeoutError:
+            return None
+
+
+def started(check, words, **how):
+    return subprocess.Popen([check.link, *words.split()], cwd=check.work, stdin=subprocess.DEVNULL, stdout=subprocess.PIPE, **{"stderr": subprocess.PIPE, **how})
+
+
+def ended(it):
+    try:
+        out, err = it.communicate(timeout=SECONDS)
+    except subprocess.TimeoutExpired:
+        it.kill()
+        out, err = it.communicate()
+    return Ran(it.returncode, out, err or b"")
+
+
+def read_on(terminal):
+    """What a terminal shows next; nothing where nobody has its other end any more."""
+    try:
+        return os.read(terminal, 4096)
+    except OSError:
+        return b""
+
+
+def told_on_a_terminal(check):
+    """How far a run is goes to the standard error while that is a terminal, with each datagram that came, went and was refused."""
+    theirs, ours = pty.openpty()
+    with Door() as a:
+        plan = at_ports(PLAN, (a.port, *free_ports(1)))
+        check.files({"ports.txt": plan})
+        run = started(check, "run ports.txt b fetches.txt --turns 600", stderr=ours)
+        os.close(ours)
+        first, went = a.came(SECONDS), 1
+        for it in (REFUSED + TAKEN_BY_B if first else []):
+            a.socket.sendto(it, first[1])
+        told = b""
+        while run.poll() is None:
+            ready = select.select([theirs, a.socket], [], [], 0.1)[0]
+            went += a.socket in ready and a.came(0) is not None
+            told += read_on(theirs) if theirs in ready else b""
+        went += sum(1 for _ in iter(lambda: a.came(0.01), None))
+    told += b"".join(iter(lambda: read_on(theirs), b""))
+    os.close(theirs)
+    ran = Ran(run.returncode, run.stdout.read(), told.replace(b"\r", b""))
+    run.stdout.close()
+    count, refused = len(REFUSED + TAKEN_BY_B), len(REFUSED)
+    line = r"drink: 0 of 1 sessions finished; \d+ datagrams came, [1-9]\d* went, \d+ were refused\n"
+    last = rf"drink: 0 of 1 sessions finished; {count} datagrams came, (\d+) went, {refused} were refused\n"
+    check.wants("run: told on a terminal, each second", ran, 1, b"unfinished 1\n", rf"\A({line})+\Z")
+    check.wants("run: told on a terminal: what came and was refused", ran, 1, b"unfinished 1\n", rf"{last}\Z")
+    told = re.search(rf"{last}\Z", ran.err.decode(errors="replace"))
+    check.say("run: told on a terminal: what went", None if told and went // 2 <= int(told[1]) <= went else f"{went} came of them; {ran}")
+
+
+def interrupted(check):
+    """Ctrl-C ends a run at once: nothing is printed, and a journal's file has what it had."""
+    with Door() as a:
+        check.files({"ports.txt": at_ports(PLAN, (a.port, *free_ports(1))), "old.journal": b"old\n"})
+        run = started(check, f"run ports.txt b fetches.txt --turns {FEWER_TURNS} --journal old.journal", preexec_fn=lambda: signal.signal(signal.SIGINT, signal.SIG_DFL))
+        a.came(SECONDS)
+        run.send_signal(signal.SIGINT)
+        check.wants("run: an interrupt", ended(run), -signal.SIGINT, b"", b"")
+    check.equal("run: an interrupt: the journal's file", check.bytes_of("old.journal"), b"old\n")
+
+
+def beside(check, turns, journal, value=0, repeats=1, **how):
+    """How the office a ran beside a neighbour that this script plays, which answers its question with this value; all that the
+    neighbour got, and what it would write down."""
+    with Door() as b:
+        check.files({"shared.txt": at_ports(SHARED, (*free_ports(1), b.port)), "moves.txt": MOVES})
+        run = started(check, f"run shared.txt a moves.txt --turns {turns} --journal {journal}", **how)
+        answer, got = frame(RUN, B, A, 1, 1, BOTTLE, Y, value), set()
+        while run.poll() is None:
+            came = b.came(0.1)
+            for _ in range(repeats if came and came[0] == ASKED else 0):
+                b.socket.sendto(answer, came[1])
+            got |= {came[0]} if came else set()
+        ran = ended(run)
+    told = b"0 took %s = taken\n0 do givebottle y = done\n0 send a 1 = frame %s\n" % (ASKED.hex().encode(), answer.hex().encode())
+    return ran, got, b"journal 1 run 42 office b\n" + (told if ASKED in got else b"")
+
+
+def answered(check):
+    """What an office sends is what the format says, to the byte, and what its neighbour answers is believed."""
+    typed = ("445001010000002a000100000000000000010000000000000000030001", "445001010000002a0100000000000000000100000000000000010400010000000000000000")
+    check.equal("run: frames as this check makes them", (ASKED.hex(), frame(RUN, B, A, 1, 1, BOTTLE, Y, 0).hex()), typed)
+    for name, value, repeats in (("a value", 0, 1), ("another value, three times", -7, 3)):
+        line = MOVED.replace(b"y=0", b"y=%d" % value).replace(b"30", b"%d" % (value + 30)) if value else MOVED
+        ran, got, _ = beside(check, FEWER_TURNS, "told.journal", value, repeats)
+        check.wants(f"run: a neighbour that answers: {name}", ran, 0, line + b"unfinished 0\n", b"")
+        check.equal(f"run: a neighbour that answers: {name}: what it got", sorted(got), sorted([ASKED, TAKEN]))
+
+
+def broken(check):
+    """Each of the first calls that take or send a datagram fails in turn: the run ends with that, prints what stands, and leaves a
+    journal that an audit takes."""
+    if not shutil.which("cc"):
+        print("not tried: each call of a socket fails in turn, since there is no C compiler")
+        return
+    check.files({"breaks.c": BREAKS})
+    check.wants("run: calls that can fail", check.shell("cc -O2 -shared -fPIC -o breaks.so breaks.c -ldl"), 0, b"", b"")
+    outs = []
+    for call in BROKEN_CALLS:
+        env = {**os.environ, "LD_PRELOAD": os.path.join(check.work, "breaks.so"), "BROKEN": str(call)}
+        ran, _, theirs = beside(check, FEWER_TURNS, "broken.journal", env=env)
+        outs.append(ran.out)
+        name = f"run: call {call} of a socket fails"
+        check.wants(name, ran, 1, rf"\A({re.escape(MOVED.decode())})?unfinished [01]\n\Z", r"\Adrink: U1 WireFailed: [^\n]*\n\Z")
+        check.files({"theirs.journal": theirs})
+        values = VALUES if MOVED in ran.out else b"value x 100\nvalue y 0\n"
+        check.wants(f"{name}: an audit", check.run("audit shared.txt broken.journal theirs.journal"), 0, ran.out + values, b"")
+    check.equal("run: what stands where the first and the last of these calls fail", (outs[0], outs[-1]), (b"unfinished 1\n", MOVED + b"unfinished 0\n"))
+
+
+def two_processes(check):
+    """Two offices, each a process, and an audit of what they wrote down."""
+    check.files({"shared.txt": at_ports(SHARED, free_ports(2)), "moves.txt": MOVES})
+    running = {it: started(check, f"run shared.txt {it} moves.txt --turns {FEWER_TURNS} --journal {it}.told") for it in "ba"}
+    for office, out in (("a", MOVED + b"unfinished 0\n"), ("b", b"unfinished 0\n")):
+        check.wants(f"run: two processes: {office}", ended(running[office]), 0, out, b"")
+    check.wants("run: two processes: an audit", check.run("audit shared.txt b.told a.told"), 0, MOVED + b"unfinished 0\n" + VALUES, b"")
+
+
+def two_terminals(check):
+    """The runs of single offices that the manual prints, side by side, at ports of their own and with fewer turns; then what it
+    prints of the journals that they leave, whichever of them came first."""
+    with open(os.path.join(TOP, "docs/manual.md"), encoding="utf-8") as file:
+        found = blocks(file.read())
+    given = [(block.strip(), found[at + 1][0]) for at, (block, _, after) in enumerate(found) if "drink run " in block and after.strip() == "prints"]
+    check.say(f"docs/manual.md: offices side by side: {len(given)}", None if len(given) == 2 else "two are wanted")
+    room = os.path.join(check.work, "room")
+    shutil.copytree(os.path.join(TOP, "examples"), os.path.join(room, "examples"))
+    shutil.copy(check.program, room)
+    for example in {re.search(r"examples/\w+/plan.txt", block)[0] for block, _ in given}:
+        with open(os.path.join(room, example), "r+b") as file:
+            plan = at_ports(file.read(), free_ports(len(given)))
+            file.seek(0)
+            file.truncate()
+            file.write(plan)
+    running = [subprocess.Popen(["/bin/sh", "-c", f"exec {block} --turns {FEWER_TURNS}"], cwd=room, stdout=subprocess.PIPE, stderr=subprocess.PIPE) for block, _ in given]
+    for (block, wanted), it in zip(given, running):
+        check.wants(f"docs/manual.md: {block}", ended(it), 0, wanted.encode(), b"")
+    audits = [(block.strip(), found[at + 1][0]) for at, (block, _, _) in enumerate(found) if is_after_a_run(block)]
+    check.say(f"docs/manual.md: audits of offices side by side: {len(audits)}", None if len(audits) == 1 else "one is wanted")
+    for block, wanted in audits:
+        one, other, *rest = wanted.splitlines(keepends=True)
+        orders = [re.escape("".join((*two, *rest))) for two in ((one, other), (other, one))]
+        check.wants(f"docs/manual.md: {block}", check.shell(block, cwd=room), 0, rf"\A({'|'.join(orders)})\Z", b"")
+
+
+def blocks(text):
+    """The fenced blocks of a document, each with the words before it, back to the block above, and those after it."""
+    parts = re.split(r"(?m)^```.*\n", text)
+    return [(parts[at], parts[at - 1], parts[at + 1]) for at in range(1, len(parts) - 1, 2)]
+
+
+def is_after_a_run(block):
+    """Whether the block takes journals that a run before it has written."""
+    return "./drink audit" in block and re.search(r" \w+\.journal", block) is not None
