@@ -2,7 +2,9 @@
 # Refuses each allocation of the program in turn, the first, the second and so on, until a run needs no more. Each such run
 # has to say that memory ran out and nothing else, with status 1 and nothing written, or to end as a run that is refused
 # nothing. An office that runs may be cut short besides: then it prints what stands, and says so; and where its socket lacked
-# memory, it names the address. It fails where one doesn't. It needs a program that is built, and a C compiler. checks/program calls it.
+# memory, it names the address. Where journals are written to files, a file that lacks memory may be told after all was printed, and
+# each file that is there is whole. It fails where one doesn't, and where a run has no allocation that could be refused. It needs a
+# program that is built, and a C compiler. checks/program calls it.
 #
 #   sh checks/allocations.sh [PROGRAM]        PROGRAM is crates/drink/out/drink where it is left out
 set -eu
@@ -53,35 +55,74 @@ __attribute__((constructor)) static void begin(void) {
 C
 cc -O2 -shared -fPIC -o "$work/refuse.so" "$work/refuse.c" -ldl
 
-# NAME WORDS..: the program on these words, with the standard input of $work/in.
+# NAME WORDS..: the program on these words, with the standard input of $work/in. What it writes to files goes below $work/left.
 row() {
     name=$1
     shift
     wanted=0
+    forget
     "$program" "$@" < "$work/in" > "$work/out.wanted" 2> "$work/err.wanted" || wanted=$?
+    rm -rf "$work/left.wanted"
+    cp -r "$work/left" "$work/left.wanted"
     n=0
     answered=0
     cut=0
     while :; do
         n=$((n + 1))
         status=0
+        forget
         REFUSED=$n LD_PRELOAD="$work/refuse.so" "$program" "$@" < "$work/in" > "$work/out" 2> "$work/err" 3> "$work/told" || status=$?
         [ -s "$work/told" ] || break
-        if [ "$status" -eq 1 ] && [ ! -s "$work/out" ] && cmp -s "$work/err" "$work/memory"; then
+        if did_nothing "$@"; then
             :
-        elif [ "${1-}" = run ] && [ "$status" -eq 1 ] && [ ! -s "$work/out" ] && grep -qx "drink: U2 BindFailed: no socket can have the address [0-9.:]*: out of memory" "$work/err" && [ "$(wc -l < "$work/err")" -eq 1 ]; then
-            :
-        elif [ "${1-}" = run ] && [ "$status" -eq 1 ] && cmp -s "$work/err" "$work/cut" && stands; then
+        elif was_cut_short "$@" || lacked_a_file; then
             cut=$((cut + 1))
-        elif [ "$status" -eq "$wanted" ] && cmp -s "$work/out" "$work/out.wanted" && cmp -s "$work/err" "$work/err.wanted"; then
+        elif [ "$status" -eq "$wanted" ] && cmp -s "$work/out" "$work/out.wanted" && cmp -s "$work/err" "$work/err.wanted" && diff -r "$work/left" "$work/left.wanted" > "$work/differs"; then
             answered=$((answered + 1))
         else
-            echo "checks/allocations.sh: $name, allocation $n: status $status" >&2
+            echo "checks/allocations.sh: $name, allocation $n: status $status, files $(ls "$work/left")" >&2
             head -n 3 "$work/out" "$work/err" >&2
             failed=$((failed + 1))
         fi
     done
+    if [ "$n" -eq 1 ]; then
+        echo "checks/allocations.sh: $name: no allocation was seen, so none was refused: is $program linked to a C library whose calls can be replaced?" >&2
+        failed=$((failed + 1))
+    fi
     echo "| $name | $((n - 1)) | $((n - 1 - answered - cut)) | $cut | $answered |"
+}
+
+# No file of a run before is left.
+forget() {
+    rm -rf "$work/left"
+    mkdir "$work/left"
+}
+
+# Whether nothing was written, for want of memory or of a socket.
+did_nothing() {
+    [ "$status" -eq 1 ] && [ ! -s "$work/out" ] && [ -z "$(ls "$work/left")" ] || return 1
+    cmp -s "$work/err" "$work/memory" || { [ "${1-}" = run ] && says "drink: U2 BindFailed: no socket can have the address [0-9.:]*: out of memory"; }
+}
+
+# Whether a run was cut short, told what stands, and wrote down what was done.
+was_cut_short() {
+    [ "${1-}" = run ] && [ "$status" -eq 1 ] && cmp -s "$work/err" "$work/cut" && stands || return 1
+    for file in "$work/left"/*; do
+        [ ! -e "$file" ] || head -n "$(wc -l < "$file")" "$work/left.wanted/${file##*/}" | cmp -s - "$file" || return 1
+    done
+}
+
+# Whether all was printed, and a file of journals lacked memory; those that are there are whole.
+lacked_a_file() {
+    [ "$status" -eq 1 ] && [ -n "$(ls "$work/left.wanted")" ] && cmp -s "$work/out" "$work/out.wanted" && says "drink: \(.*: \)\{0,1\}X5 WriteFailed: .*: out of memory" || return 1
+    for file in "$work/left"/*; do
+        [ ! -e "$file" ] || cmp -s "$file" "$work/left.wanted/${file##*/}" || return 1
+    done
+}
+
+# Whether this line, and no other, went to the standard error.
+says() {
+    [ "$(wc -l < "$work/err")" -eq 1 ] && grep -qx "$1" "$work/err"
 }
 
 # Whether what was written is what stands of a run: some of its sessions, and how many are left.
@@ -106,8 +147,14 @@ row "random, shared_stock" random "$stock/plan.txt" "$stock/sessions.txt" --seed
 # Addresses of this machine that no other run has.
 here=127.$((200 + $$ % 50)).$(($$ / 256 % 256)).$(($$ % 256))
 sed "s/127\.0\.0\.1/$here/" "$examples/two_desks/plan.txt" > "$work/desks"
-printf 'session desk1\nset places = read places - 1\ngive 1\nend\nsession desk1\ngive read keys\nend\n' > "$work/sessions"
+printf 'session desk1\nset places = read places - 1\ngive 1\nend\n' > "$work/own"
+{ cat "$work/own"; printf 'session desk1\ngive read keys\nend\n'; } > "$work/sessions"
 row "run, two_desks, alone" run "$work/desks" desk1 "$work/sessions" --turns 3
+row "run, its journal" run "$work/desks" desk1 "$work/own" --turns 3 --journal "$work/left/desk1.journal"
+row "sim, journals" sim "$stock/plan.txt" "$stock/sessions.txt" "$stock/script.txt" --journals "$work/left"
+safe=$examples/till_and_safe
+row "audit, till_and_safe" audit "$safe/plan.txt" "$safe/till.journal" "$safe/safe.journal"
+row "audit, an office without a journal" audit "$safe/plan.txt" "$safe/till.journal"
 ledger=$examples/branch_ledger
 { cat "$ledger/plan.txt"; echo ---; cat "$ledger/sessions.txt"; } > "$work/in"
 row "serial - -" serial - -
@@ -117,4 +164,4 @@ row "serial, a word too few" serial -
 row "no words"
 row "--help" --help
 row "--version" --version
-[ "$failed" -eq 0 ] || { echo "checks/allocations.sh: $failed runs ended otherwise" >&2; exit 1; }
+[ "$failed" -eq 0 ] || { echo "checks/allocations.sh: $failed of these failed" >&2; exit 1; }
