@@ -1,0 +1,245 @@
+//! Offices whose stores fail are lost, and opened again from what is found.
+
+use crate::tests::{Both, PAIR, Side, carry, open_both, open_side, programs, turn, value_after};
+use durable_turns::TurnFault;
+use journal_stores::MemoryStore;
+use journal_weave::{GivenJournal, weave};
+use office_map::Plan;
+use session_language::Program;
+use site_core::{Entry, Event, Rule};
+use socket_pump::MemoryWire;
+use std::alloc::{AllocError, Global};
+use std::process::Abort;
+use std::sync::Wait;
+use std::test::Fail;
+
+/// How often an office was lost, and how many bytes were found of the first append that failed; and what was told of its session.
+#[derive(Clone, Copy)]
+struct Losses {
+    count: u32,
+    torn: usize,
+    told: Option<i64>,
+}
+
+const NONE: Losses = Losses {
+    count: 0,
+    torn: 0,
+    told: None,
+};
+
+/// What a start finds.
+fn found(alloc: Global, store: &MemoryStore) -> Result<Vec<u8>, AllocError> {
+    let mut bytes = Vec::new(alloc);
+    bytes.extend_from_slice(store.bytes())?;
+    bytes.extend_from_slice(store.torn())?;
+    Ok(bytes)
+}
+
+/// An office is lost with all that doesn't stand, and opened again. Its store soon fails again, until half a second is over.
+fn lose(alloc: Global, plan: &Plan, side: &mut Box<Side>, now: u64) -> Result<(), Fail> {
+    let found = found(alloc, &side.store)?;
+    *side = open_side(alloc, plan, side.me, &found)?;
+    if now < 500 {
+        let call = 1 + (now / 50 % 3) as usize;
+        side.store.fail_at(call, (now / 7 % 90) as usize);
+    }
+    Ok(())
+}
+
+/// The session is submitted where the office was given none.
+fn submit_once<R: Wait>(rt: &R, side: &mut Side, program: &Program) {
+    if side.tickets == 0 && side.desk.submit(rt, &mut side.pass, program).is_ok() {
+        side.tickets = 1;
+    }
+}
+
+/// What is told of a session when its end stands is told for good.
+fn tell<R: Wait>(rt: &R, side: &mut Side, losses: &mut Losses) -> Result<(), Fail> {
+    let value = value_after(rt, side);
+    if losses.told.is_some() && losses.told != value {
+        return Err(Fail::from("another outcome"));
+    }
+    losses.told = value;
+    Ok(())
+}
+
+/// A turn, after which an office whose store failed is lost. What left comes to the other, whatever the turn's answer is.
+fn step<R: Wait>(
+    rt: &R,
+    alloc: Global,
+    plan: &Plan,
+    side: &mut Box<Side>,
+    other: &mut MemoryWire,
+    losses: &mut Losses,
+    now: u64,
+) -> Result<(), Fail> {
+    let turned = turn(rt, alloc, side, now);
+    carry(side, other)?;
+    match turned {
+        Ok(_) => tell(rt, side, losses),
+        Err(TurnFault::StoreFailed) => {
+            if losses.count == 0 {
+                losses.torn = side.store.torn().len();
+            }
+            losses.count = losses.count.saturating_add(1);
+            lose(alloc, plan, side, now)
+        }
+        Err(_) => Err(Fail::from("another fault")),
+    }
+}
+
+/// Twelve turns of each office, and more until both sessions ended: what is told of each.
+fn go_on<R: Wait>(
+    rt: &R,
+    alloc: Global,
+    plan: &Plan,
+    both: &mut Both,
+    programs: &[Program],
+) -> Result<(Losses, Losses), Fail> {
+    let [first, second] = programs else {
+        return Err(Fail::from("two sessions"));
+    };
+    let mut a = NONE;
+    let mut b = NONE;
+    for round in 0..60u64 {
+        if round >= 12 && a.told.is_some() && b.told.is_some() {
+            break;
+        }
+        submit_once(rt, &mut both.a, first);
+        step(
+            rt,
+            alloc,
+            plan,
+            &mut both.a,
+            &mut both.b.wire,
+            &mut a,
+            round * 50,
+        )?;
+        submit_once(rt, &mut both.b, second);
+        step(
+            rt,
+            alloc,
+            plan,
+            &mut both.b,
+            &mut both.a.wire,
+            &mut b,
+            round * 50,
+        )?;
+    }
+    Ok((a, b))
+}
+
+fn journal<R: Wait>(rt: &R, side: &mut Side) -> Result<GivenJournal, AllocError> {
+    Ok(GivenJournal {
+        entries: side.desk.journal_part(rt, &mut side.pass, 0, 100_000)?,
+        ends: true,
+    })
+}
+
+fn journals<R: Wait>(rt: &R, alloc: Global, both: &mut Both) -> Result<Vec<GivenJournal>, Fail> {
+    let mut all = Vec::new(alloc);
+    all.push(journal(rt, &mut both.a)?)?;
+    all.push(journal(rt, &mut both.b)?)?;
+    Ok(all)
+}
+
+/// How many of the entries submit a session, and how many end one.
+fn sessions_of(entries: &[Entry]) -> (usize, usize) {
+    let submitted = entries
+        .iter()
+        .filter(|entry| matches!(entry.event, Event::Submit(_)))
+        .count();
+    let finished = entries
+        .iter()
+        .filter(|entry| matches!(entry.event, Event::Do(Rule::Finish)))
+        .count();
+    (submitted, finished)
+}
+
+/// The journals are those of one world, in which each office was given its session once and ended it once.
+fn is_one_world<R: Abort>(
+    rt: &R,
+    alloc: Global,
+    plan: &Plan,
+    journals: &[GivenJournal],
+) -> Result<(), Fail> {
+    if journals.len() != plan.offices() {
+        return Err(Fail::from("a journal of each"));
+    }
+    weave(alloc, plan, journals)?;
+    for journal in journals {
+        assert_eq!(rt; sessions_of(&journal.entries), (1, 1));
+    }
+    Ok(())
+}
+
+/// Whose store fails first.
+#[derive(Clone, Copy)]
+enum Who {
+    A,
+    B,
+}
+
+/// That office's store fails at this append, of which so many bytes are found: both sessions finish, one after the other, and
+/// the journals are those of one world.
+fn lost_at<R: Wait + Abort>(
+    rt: &R,
+    alloc: Global,
+    who: Who,
+    call: usize,
+    found: usize,
+) -> Result<Losses, Fail> {
+    let plan = Plan::read(alloc, PAIR.as_bytes())?;
+    let programs = programs(alloc, &plan)?;
+    let mut both = open_both(alloc, &plan)?;
+    match who {
+        Who::A => both.a.store.fail_at(call, found),
+        Who::B => both.b.store.fail_at(call, found),
+    }
+    let (a, b) = go_on(rt, alloc, &plan, &mut both, &programs)?;
+    let told = (a.told, b.told);
+    assert!(rt; told == (Some(70), Some(71)) || told == (Some(71), Some(101)));
+    let journals = journals(rt, alloc, &mut both)?;
+    is_one_world(rt, alloc, &plan, &journals)?;
+    Ok(match who {
+        Who::A => a,
+        Who::B => b,
+    })
+}
+
+/// Every seventh beginning of the bytes of that append is found. How often offices were lost.
+fn each_part<R: Wait + Abort>(rt: &R, alloc: Global, who: Who, call: usize) -> Result<u32, Fail> {
+    let mut lost: u32 = 0;
+    for seventh in 0..1000 {
+        let losses = lost_at(rt, alloc, who, call, seventh * 7)?;
+        lost = lost.saturating_add(losses.count);
+        if losses.torn < seventh * 7 || losses.count == 0 {
+            return Ok(lost);
+        }
+    }
+    Err(Fail::from("a shorter append"))
+}
+
+/// Each of its appends fails, in a run of its own, up to one that isn't made. How many were made.
+fn each_append<R: Wait + Abort>(rt: &R, alloc: Global, who: Who) -> Result<usize, Fail> {
+    for call in 1..100 {
+        if each_part(rt, alloc, who, call)? == 0 {
+            return Ok(call - 1);
+        }
+    }
+    Err(Fail::from("fewer appends"))
+}
+
+#[test]
+fn the_first_is_lost(rt: HostRuntime) -> Result<(), Fail> {
+    let appends = each_append(&rt, rt.alloc(), Who::A)?;
+    assert!(rt; appends > 1);
+    Ok(())
+}
+
+#[test]
+fn the_second_is_lost(rt: HostRuntime) -> Result<(), Fail> {
+    let appends = each_append(&rt, rt.alloc(), Who::B)?;
+    assert!(rt; appends > 1);
+    Ok(())
+}
