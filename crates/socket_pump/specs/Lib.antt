@@ -1,4 +1,5 @@
 pub mod Wires
+pub mod Contacts
 pub mod Last
 pub mod Chains
 pub mod Turns
