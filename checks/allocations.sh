@@ -55,11 +55,15 @@ __attribute__((constructor)) static void begin(void) {
 C
 cc -O2 -shared -fPIC -o "$work/refuse.so" "$work/refuse.c" -ldl
 
-# NAME WORDS..: the program on these words, with the standard input of $work/in. What it writes to files goes below $work/left.
+# NAME WORDS..: the program on these words, with the standard input of $work/in. Files that it writes are those in $work/left.
 row() {
     name=$1
     shift
     wanted=0
+    case "$*" in
+    *"$work/left"*) writes=yes ;;
+    *) writes=no ;;
+    esac
     forget
     "$program" "$@" < "$work/in" > "$work/out.wanted" 2> "$work/err.wanted" || wanted=$?
     rm -rf "$work/left.wanted"
@@ -77,7 +81,7 @@ row() {
             :
         elif was_cut_short "$@" || lacked_a_file; then
             cut=$((cut + 1))
-        elif [ "$status" -eq "$wanted" ] && cmp -s "$work/out" "$work/out.wanted" && cmp -s "$work/err" "$work/err.wanted" && diff -r "$work/left" "$work/left.wanted" > "$work/differs"; then
+        elif [ "$status" -eq "$wanted" ] && cmp -s "$work/out" "$work/out.wanted" && cmp -s "$work/err" "$work/err.wanted" && has_all_files; then
             answered=$((answered + 1))
         else
             echo "checks/allocations.sh: $name, allocation $n: status $status, files $(ls "$work/left")" >&2
@@ -94,13 +98,12 @@ row() {
 
 # No file of a run before is left.
 forget() {
-    rm -rf "$work/left"
-    mkdir "$work/left"
+    [ "$writes" = no ] || rm -f "$work/left"/*
 }
 
 # Whether nothing was written, for want of memory or of a socket.
 did_nothing() {
-    [ "$status" -eq 1 ] && [ ! -s "$work/out" ] && [ -z "$(ls "$work/left")" ] || return 1
+    [ "$status" -eq 1 ] && [ ! -s "$work/out" ] && has_no_files || return 1
     cmp -s "$work/err" "$work/memory" || { [ "${1-}" = run ] && says "drink: U2 BindFailed: no socket can have the address [0-9.:]*: out of memory"; }
 }
 
@@ -114,10 +117,18 @@ was_cut_short() {
 
 # Whether all was printed, and a file of journals lacked memory; those that are there are whole.
 lacked_a_file() {
-    [ "$status" -eq 1 ] && [ -n "$(ls "$work/left.wanted")" ] && cmp -s "$work/out" "$work/out.wanted" && says "drink: \(.*: \)\{0,1\}X5 WriteFailed: .*: out of memory" || return 1
+    [ "$status" -eq 1 ] && [ "$writes" = yes ] && cmp -s "$work/out" "$work/out.wanted" && says "drink: \(.*: \)\{0,1\}X5 WriteFailed: .*: out of memory" || return 1
     for file in "$work/left"/*; do
         [ ! -e "$file" ] || cmp -s "$file" "$work/left.wanted/${file##*/}" || return 1
     done
+}
+
+has_no_files() {
+    [ "$writes" = no ] || [ -z "$(ls "$work/left")" ]
+}
+
+has_all_files() {
+    [ "$writes" = no ] || diff -r "$work/left" "$work/left.wanted" > "$work/differs"
 }
 
 # Whether this line, and no other, went to the standard error.
@@ -134,6 +145,7 @@ stands() {
 echo "drink: out of memory" > "$work/memory"
 echo "drink: out of memory; the run ended with it, and what was done before is printed" > "$work/cut"
 failed=0
+mkdir "$work/left"
 examples=$top/examples
 echo "| Run | Allocations | Out of memory, nothing written | Out of memory, what stands written | Right answer all the same |"
 echo "|---|---|---|---|---|"
