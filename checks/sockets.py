@@ -21,9 +21,9 @@ TAKEN = frame(RUN, A, B, 0, 1)
 REFUSED = [b"", b"D", b"x" * 26, b"DP" + bytes(1000), frame(2, A, B, 0, 0), frame(1, 2, B, 0, 0), frame(1, B, B, 0, 0), frame(1, A, A, 0, 0), frame(1, A, B, 0, 9)]
 TAKEN_BY_B = [frame(1, A, B, 0, 0), frame(1, A, B, 0, 0)]
 
-# Fails one call that takes or sends a datagram, by its number: before the session has ended there are some six, and the last of these
-# comes long after it.
-BROKEN_CALLS = (1, 2, 3, 4, 5, 6, 300)
+# Fails the calls that take or send a datagram from one of them to another, by their numbers: before the session has ended there are
+# some six, and the three hundredth comes long after it.
+BROKEN_ONCE, BROKEN_FROM, ALL = (1, 2, 3, 4, 5, 6), (1, 300), 2**31 - 1
 BREAKS = rb"""
 #define _GNU_SOURCE
 #include <dlfcn.h>
@@ -33,9 +33,10 @@ BREAKS = rb"""
 
 static int fails(void) {
     static long count;
-    const char *n = getenv("BROKEN");
+    const char *first = getenv("BROKEN_FIRST"), *last = getenv("BROKEN_LAST");
     errno = EIO;
-    return n && ++count == atol(n);
+    ++count;
+    return first && last && atol(first) <= count && count <= atol(last);
 }
 ssize_t recvfrom(int s, void *to, size_t size, int flags, struct sockaddr *at, socklen_t *length) {
     static ssize_t (*next)(int, void *, size_t, int, struct sockaddr *, socklen_t *);
@@ -195,24 +196,27 @@ def answered(check):
 
 
 def broken(check):
-    """Each of the first calls that take or send a datagram fails in turn: the run ends with that, prints what stands, and leaves a
-    journal that an audit takes."""
+    """A call that takes or sends a datagram fails, each of the first in turn: nothing but a datagram is lost. Where all fail from one
+    on, the run ends with that, prints what stands, and leaves a journal that an audit takes."""
     if not shutil.which("cc"):
-        print("not tried: each call of a socket fails in turn, since there is no C compiler")
+        print("not tried: calls of a socket that fail, since there is no C compiler")
         return
     check.files({"breaks.c": BREAKS})
     check.wants("run: calls that can fail", check.shell("cc -O2 -shared -fPIC -o breaks.so breaks.c -ldl"), 0, b"", b"")
-    outs = []
-    for call in BROKEN_CALLS:
-        env = {**os.environ, "LD_PRELOAD": os.path.join(check.work, "breaks.so"), "BROKEN": str(call)}
-        ran, _, theirs = beside(check, FEWER_TURNS, "broken.journal", env=env)
-        outs.append(ran.out)
-        name = f"run: call {call} of a socket fails"
-        check.wants(name, ran, 1, rf"\A({re.escape(MOVED.decode())})?unfinished [01]\n\Z", r"\Adrink: U1 WireFailed: [^\n]*\n\Z")
-        check.files({"theirs.journal": theirs})
-        values = VALUES if MOVED in ran.out else b"value x 100\nvalue y 0\n"
-        check.wants(f"{name}: an audit", check.run("audit shared.txt broken.journal theirs.journal"), 0, ran.out + values, b"")
-    check.equal("run: what stands where the first and the last of these calls fail", (outs[0], outs[-1]), (b"unfinished 1\n", MOVED + b"unfinished 0\n"))
+    for call in BROKEN_ONCE:
+        breaks(check, f"run: call {call} of a socket fails", call, call, (0, MOVED + b"unfinished 0\n", b""))
+    for call, out in zip(BROKEN_FROM, (b"unfinished 1\n", MOVED + b"unfinished 0\n")):
+        breaks(check, f"run: all calls of a socket fail from the {call}th on", call, ALL, (1, out, r"\Adrink: U1 WireFailed: [^\n]*\n\Z"))
+
+
+def breaks(check, name, first, last, wanted):
+    """How a run ends in which these calls fail, and an audit of what it leaves."""
+    env = {**os.environ, "LD_PRELOAD": os.path.join(check.work, "breaks.so"), "BROKEN_FIRST": str(first), "BROKEN_LAST": str(last)}
+    ran, _, theirs = beside(check, FEWER_TURNS, "broken.journal", env=env)
+    check.wants(name, ran, *wanted)
+    check.files({"theirs.journal": theirs})
+    values = VALUES if MOVED in ran.out else b"value x 100\nvalue y 0\n"
+    check.wants(f"{name}: an audit", check.run("audit shared.txt broken.journal theirs.journal"), 0, ran.out + values, b"")
 
 
 def two_processes(check):
