@@ -1,2 +1,3 @@
 mod Letting
 mod Mailing
+mod Faults

@@ -1,12 +1,15 @@
 -- What a turn lets out, where frames leave only when their entries stand.
-use Rattle.std.specs.Prelude.{◌≡◌, ◌<◌, ℕ, Bool, true, List, ◌++◌, take, slice_get, All, Option, Some, None}
+use Rattle.std.specs.Prelude.{◌≡◌, ◌<◌, ◌≤◌, ℕ, Bool, true, false, List, ◌++◌, length, take, slice_get, All, Option, Some, None}
 use Rattle.site_core.specs.declared.event.Entry.{Entry}
+use Rattle.site_core.specs.Limits.{most_entries}
 use Rattle.locked_office.specs.Calls.{Key, DeskPass, Looks}
 use Rattle.journal_texts.specs.Written.{journal_text}
 use Rattle.socket_pump.specs.declared.pump.Turn.{Turn}
 use Rattle.socket_pump.specs.Wires.{Account}
 use Rattle.socket_pump.specs.Chains.{Made, sent_entry, datagram}
 use Rattle.socket_pump.specs.Turns.{Times, Turned}
+use Rattle.durable_turns.specs.declared.fault.TurnFault.{TurnFault}
+use Rattle.durable_turns.specs.declared.fault.TurnFault.TheVariants.{WireFailed, StoreFailed, JournalFull, Memory}
 
 -- the bytes that stand, where they are known, are the text of the journal's first n entries
 abbrev pub StoreHas : Option (List ℕ) → Key → List Entry → ℕ → Type 0
@@ -41,3 +44,10 @@ SendsNothing tells a b = tells ≡ true → b.accepted ≡ a.accepted
 -- the first of these datagrams went out
 abbrev pub Posts : Bool → Account → List (ℕ × List ℕ) → Account → Type 0
 Posts tells a out b = (n : ℕ) × (tells ≡ true → b.accepted ≡ a.accepted ++ take n out)
+
+-- StoreFailed just where the store's append failed, and JournalFull only at a full journal; at these and Memory no call of the wire failed
+abbrev pub BreaksOff : Bool → List Entry → Account → Account → TurnFault → Type 0
+BreaksOff failed es a b WireFailed = failed ≡ false
+BreaksOff failed es a b StoreFailed = (failed ≡ true) × (b.failures ≡ a.failures)
+BreaksOff failed es a b JournalFull = (failed ≡ false) × (b.failures ≡ a.failures) × (most_entries ≤ length es)
+BreaksOff failed es a b Memory = (failed ≡ false) × (b.failures ≡ a.failures)

@@ -1,1 +1,2 @@
 pub mod Mailed
+pub mod Faults

@@ -1,5 +1,8 @@
 //! Why a turn breaks off.
 
+ghost use Rattle.std.specs.Prelude.{◌≡◌};
+ghost use Rattle.durable_turns.specs.refinement.Faults.{told_as};
+
 use socket_pump::PumpFault;
 
 /// Why a turn breaks off. What stood stands; of the entries since, none has let anything out.
@@ -12,7 +15,9 @@ pub enum TurnFault {
 }
 
 impl TurnFault {
-    pub(crate) fn of_pump(fault: PumpFault) -> TurnFault {
+    pub(crate) fn of_pump(fault: PumpFault) -> TurnFault
+        ensures { result ≡ told_as fault }
+    {
         match fault {
             PumpFault::WireFailed => TurnFault::WireFailed,
             PumpFault::JournalFull => TurnFault::JournalFull,

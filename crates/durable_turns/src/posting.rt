@@ -1,6 +1,7 @@
 //! What comes is fetched from a wire into the mail, and what is to be posted goes out on it.
 
-ghost use Rattle.std.specs.Prelude.{◌≡◌, ◌<◌, ◌++◌, ◌∷◌, [], true, length, IfOk, OnOk, OnErr};
+ghost use Rattle.std.specs.Prelude.{◌≡◌, ◌<◌, ◌++◌, ◌∷◌, [], true, length, IfErr, IfOk, OnOk, OnErr};
+ghost use Rattle.durable_turns.specs.declared.fault.TurnFault.TheVariants as faults;
 ghost use Rattle.durable_turns.specs.Letting.{SendsNothing, Posts};
 ghost use Rattle.durable_turns.specs.refinement.Mailed.{fresh, FetchesOne, Fetches};
 
@@ -13,6 +14,7 @@ pub(crate) fn fetch<W: Wire>(wire: &mut W, mail: &mut Mail) -> Result<(), TurnFa
     ensures nothing { SendsNothing W.tells (W.account wire.old) (W.account wire.new) }
     ensures fetches { OnOk result (Fetches W.tells (W.account wire.old) (W.account wire.new) mail.new.came) }
     ensures fresh { OnOk result (mail.new ≡ fresh mail.new.came) }
+    ensures fault { IfErr result (λ f. f ≡ faults.WireFailed) }
 {
     mail.clear();
     for i in 0..MOST_IN {
@@ -31,6 +33,7 @@ fn fetch_one<W: Wire>(wire: &mut W, mail: &mut Mail) -> Result<bool, TurnFault>
     requires room { length mail.old.came < 32 }
     ensures nothing { SendsNothing W.tells (W.account wire.old) (W.account wire.new) }
     ensures one { IfOk result (λ more. FetchesOne W.tells (W.account wire.old) mail.old.came more (W.account wire.new) mail.new) }
+    ensures fault { IfErr result (λ f. f ≡ faults.WireFailed) }
 {
     let mut buffer = [0; 64];
     match wire.receive(&mut buffer) {
@@ -48,6 +51,7 @@ pub(crate) fn post<W: Wire>(wire: &mut W, out: &[Addressed]) -> Result<(), TurnF
     ensures posts { Posts W.tells (W.account wire.old) out.now (W.account wire.new) }
     ensures all { OnOk result (W.tells ≡ true → W.account wire.new ≡ record (W.account wire.old) { accepted = (W.account wire.old).accepted ++ out.now }) }
     ensures failures { OnOk result ((W.account wire.new).failures ≡ (W.account wire.old).failures) }
+    ensures fault { IfErr result (λ f. f ≡ faults.WireFailed) }
 {
     for item in out {
         match post_one(wire, item) {
@@ -62,6 +66,7 @@ fn post_one<W: Wire>(wire: &mut W, item: &Addressed) -> Result<(), TurnFault>
     ensures sent { OnOk result (W.tells ≡ true → W.account wire.new ≡ record (W.account wire.old) { accepted = (W.account wire.old).accepted ++ item.now ∷ [] }) }
     ensures failures { OnOk result ((W.account wire.new).failures ≡ (W.account wire.old).failures) }
     ensures nothing { OnErr result (SendsNothing W.tells (W.account wire.old) (W.account wire.new)) }
+    ensures fault { IfErr result (λ f. f ≡ faults.WireFailed) }
 {
     match wire.send(item.to(), item.bytes()) {
         Ok(()) => Ok(()),

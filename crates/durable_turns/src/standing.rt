@@ -1,11 +1,12 @@
 //! Entries are made to stand.
 
-ghost use Rattle.std.specs.Prelude.{◌≡◌, ◌≤◌, ◌++◌, false, length, drop, OnOk, OnErr, IfOk};
+ghost use Rattle.std.specs.Prelude.{◌≡◌, ◌≤◌, ◌++◌, false, length, drop, OnOk, OnErr, IfErr, IfOk};
 ghost use Rattle.std.specs.String.{string_bytes};
 ghost use Rattle.own_lock.specs.Passes.{IsOf};
 ghost use Rattle.locked_office.specs.Calls.{Stays, Looks};
 ghost use Rattle.journal_texts.specs.Written.{lines_of};
 ghost use Rattle.durable_turns.specs.Letting.{StoreHas, FindsText};
+ghost use Rattle.durable_turns.specs.refinement.Faults.{BreaksStanding};
 
 use crate::fault::TurnFault;
 use journal_stores::{Store, StoreFailed};
@@ -36,6 +37,7 @@ pub(crate) fn stand<R: Wait, S: Store>(
     ensures all { OnOk result (stood.new ≡ length pass.new.seen) }
     ensures same { OnErr result (stood.new ≡ stood.old) }
     ensures usable { OnOk result (S.failed store.new ≡ false) }
+    ensures fault { IfErr result (BreaksStanding (S.failed store.new)) }
     ensures whole { OnOk result (S.found store.old ≡ S.stood store.old → S.found store.new ≡ S.stood store.new) }
     ensures found { OnErr result (S.found store.old ≡ S.stood store.old → FindsText (S.stood store.new) (S.found store.new) desk.now.key pass.new.seen) }
 {

@@ -3,6 +3,7 @@ use Rattle.socket_pump.specs.Last.{last_of}
 use Rattle.socket_pump.proofs.Telling.{begins_both, does_begins}
 use Rattle.durable_turns.specs.refinement.Mailed.{account_of}
 use Rattle.durable_turns.proofs.Letting.{turned_begins, stage_begins, has_later, within_later, finds, posted, turns}
+use Rattle.durable_turns.proofs.Faults.{wire_failed, pump_broke, standing_broke}
 use Rattle.durable_turns.proofs.turning.turn.Goals as goal
 
 pub returns-in-Err-clause-found : goal.returns-in-Err-clause-found
@@ -61,3 +62,20 @@ returns-in-Ok-post-clause-turned g c =
 
 pub returns-in-Err-post-clause-found : goal.returns-in-Err-post-clause-found
 returns-in-Err-post-clause-found g c = λ same. finds (g.S.Store.stood c.stand.new.store) (g.S.Store.found c.stand.new.store) c.args.desk.now.key c.stand.new.pass.seen c.stand.new.stood c.stand.ensures.has (c.in-Ok-stand.ensures.whole same)
+
+pub returns-in-Err-clause-fault : goal.returns-in-Err-clause-fault
+returns-in-Err-clause-fault g c =
+    wire_failed (g.S.Store.failed c.args.store.now) c.args.pass.now.seen (g.W.Wire.account c.args.wire.now) (g.W.Wire.account c.fetch.new.wire) c.in-Err.fault c.in-Err.ensures.fault c.requires.usable
+
+pub returns-in-Err-turn-clause-fault : goal.returns-in-Err-turn-clause-fault
+returns-in-Err-turn-clause-fault g c =
+    pump_broke true c.args.pass.now.tag c.args.desk.now.key (last_of c.args.pump.now.lasts) c.args.now c.args.pass.now (account_of c.fetch.new.mail) c.in-Err-turn.fault (account_of c.turn.new.wire) c.turn.new.pass (last_of c.turn.new.self.lasts)
+    (g.S.Store.failed c.args.store.now) (g.W.Wire.account c.args.wire.now) (g.W.Wire.account c.fetch.new.wire) c.of_pump.result c.in-Err-turn.ensures.turned c.requires.usable c.in-Ok.ensures.fetches.gives.0 c.of_pump.ensures
+
+pub returns-in-Err-stand-clause-fault : goal.returns-in-Err-stand-clause-fault
+returns-in-Err-stand-clause-fault g c =
+    standing_broke (g.S.Store.failed c.stand.new.store) c.stand.new.pass.seen (g.W.Wire.account c.args.wire.now) (g.W.Wire.account c.fetch.new.wire) c.in-Err-stand.fault c.in-Err-stand.ensures.fault c.in-Ok.ensures.fetches.gives.0
+
+pub returns-in-Err-post-clause-fault : goal.returns-in-Err-post-clause-fault
+returns-in-Err-post-clause-fault g c =
+    wire_failed (g.S.Store.failed c.stand.new.store) c.stand.new.pass.seen (g.W.Wire.account c.args.wire.now) (g.W.Wire.account c.post.new.wire) c.in-Err-post.fault c.in-Err-post.ensures.fault c.in-Ok-stand.ensures.usable
