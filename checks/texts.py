@@ -8,6 +8,24 @@ from common import PLAN, SESSIONS, TOP, at_ports, frame, free_ports
 LIMITS = {"plan.txt": (262_144, "P7 Limit"), "sessions.txt": (1_048_576, "S5 TooLong"), "script.txt": (16_777_216, "X1 Script")}
 MIB = 1_048_576
 
+HEAD = "".join(PLAN.decode().splitlines(keepends=True)[:4])
+session = lambda lines: "session a\n" + lines + "end\n"
+# Of what there is a limit: the file, its text with so many, the most, and how one more is refused.
+COUNTS = [
+    ("offices", "plan.txt", lambda n: PLAN.decode() + "".join(f"office o{it} -\n" for it in range(n - 2)), 16, "line 20: P7 Limit"),
+    ("records of a pair", "plan.txt", lambda n: HEAD + "".join(f"record {'x' * it} a b 5 at a\n" for it in range(1, n + 1)), 8, "line 13: P7 Limit"),
+    ("sessions", "sessions.txt", lambda n: session("") * n, 1024, "line 2049: S5 TooLong"),
+    ("statements", "sessions.txt", lambda n: session("let v = 1\n" * n), 256, "line 259: S5 TooLong"),
+    ("cost", "sessions.txt", lambda n: session("repeat 9999\nend\n" * (n == 10_000) + "repeat 10000\nend\n" * (n > 10_000)), 10_000, "line 4: S5 TooLong"),
+    ("depth", "sessions.txt", lambda n: session(f"let v = {'(' * (n - 1)}1{')' * (n - 1)}\n"), 32, "line 2: S4 TooDeep"),
+    ("blocks", "sessions.txt", lambda n: session("if 1 == 1\n" * n + "end\n" * n), 8, "line 10: S4 TooDeep"),
+    ("gives", "sessions.txt", lambda n: session("give 1\n" * n), 64, "line 67: S7 TooManyGives"),
+    ("variables", "sessions.txt", lambda n: session("".join(f"let v{it} = 1\n" for it in range(n))), 32, "line 34: S8 TooManyVariables"),
+    ("instructions of work", "script.txt", lambda n: f"do a work {n}\n", 1000, "line 1: X1 Script"),
+    ("rules of advance", "script.txt", lambda n: f"advance a {n}\n", 1000, "line 1: X1 Script"),
+    ("steps of settle", "script.txt", lambda n: f"settle {n}\n", 1_000_000, "line 1: X1 Script"),
+]
+
 SCRIPT = b"submit 1\nsettle 9\n"
 SETTLED = b"ticket 1\nsettled 4 finished\na.1 done reads x=5 writes - gives 5\nunfinished 0\nvalue x 5\n"
 AUDITED = b"a.1 done reads x=5 writes - gives 5\nunfinished 0\nvalue x 5\n"
@@ -90,10 +108,21 @@ def limits(check):
         check.wants(f"limits: {name} of {limit + 1} bytes", check.run("sim plan.txt sessions.txt script.txt"), 1, b"", rf"\Adrink: {name}{refused}")
         given = [padded(text, limit + 1)[:-1] + b"\n" if it == name else text for it, text in texts.items()]
         check.wants(f"limits: {name} of {limit + 1} bytes on the standard input", check.run("sim - - -", b"---\n".join(given)), 1, b"", rf"\Adrink: -{refused}")
+    counts(check)
     check.files({**texts, "long.journal": padded(JOURNALS["a.journal"], 17 * MIB)})
     check.wants("limits: a journal of 17 MiB", check.run("audit plan.txt b.journal long.journal"), 0, AUDITED, b"")
     given = b"---\n".join((PLAN, padded(JOURNALS["a.journal"], 17 * MIB)[:-1] + b"\n", JOURNALS["b.journal"]))
     check.wants("limits: a journal of 17 MiB on the standard input", check.run("audit - - -", given), 0, AUDITED, b"")
+
+
+def counts(check):
+    """Of each thing as many as there may be, and one more."""
+    texts, words = {"plan.txt": PLAN, "sessions.txt": SESSIONS, "script.txt": b""}, "sim plan.txt sessions.txt script.txt"
+    for name, file, text_with, most, refusal in COUNTS:
+        check.files({**texts, file: text_with(most).encode()})
+        check.wants(f"limits: {name}: {most}", check.run(words), 0, r"unfinished 0\n(value x+ 5\n)+\Z", b"")
+        check.files({**texts, file: text_with(most + 1).encode()})
+        check.wants(f"limits: {name}: {most + 1}", check.run(words), 1, b"", rf"\Adrink: {file}: {refusal}: [^\n]*\n\Z")
 
 
 def long_sessions():
