@@ -24,6 +24,14 @@ const PAIR: &str =
 const SESSIONS: &str =
     "session a\nset x = read x - 30\nset y = read y + 30\nend\nsession b\nset x = read x + 30\nset y = read y - 30\nend\n";
 
+/// An office between two others, with a record of each.
+const STAR: &str =
+    "plan 1 run 42\noffice a -\noffice b -\noffice c -\npair a b fork a\npair a c fork a\nrecord x a b 100 at a\nrecord y a c 0 at c\n";
+
+/// A session of the middle one, for which the third has to give its bottle, and one of the second, for which the middle one has to.
+const STAR_SESSIONS: &str =
+    "session a\nset y = read y + 1\nend\nsession b\nset x = read x - 30\nend\n";
+
 /// An office with its pump.
 #[derive(Drop)]
 struct Side {
@@ -36,8 +44,8 @@ struct Side {
 }
 
 /// An office of the plan.
-fn office(alloc: Global, me: u8) -> Result<Office, Fail> {
-    let plan = Plan::read(alloc, PAIR.as_bytes())?;
+fn office(alloc: Global, plan: &str, me: u8) -> Result<Office, Fail> {
+    let plan = Plan::read(alloc, plan.as_bytes())?;
     if usize::from(me) >= plan.offices() {
         return Err(Fail::from("an office"));
     }
@@ -74,8 +82,8 @@ fn last(desk: &Desk, passes: &mut Vec<Pass<Office>>) -> Option<Pass<Office>>
 }
 
 /// An office of the plan with its pump, in a box: who owns so many fields and leaves early is long to prove.
-fn open_side(alloc: Global, me: u8) -> Result<Box<Side>, Fail> {
-    let office = office(alloc, me)?;
+fn open_side(alloc: Global, plan: &str, me: u8) -> Result<Box<Side>, Fail> {
+    let office = office(alloc, plan, me)?;
     let pump = pump_of(alloc, &office)?;
     side_of(alloc, office, pump)
 }
@@ -96,8 +104,12 @@ fn boxed(alloc: Global, side: Side) -> Result<Box<Side>, Fail> {
 
 /// The sessions of the plan's offices.
 fn programs(alloc: Global) -> Result<Vec<Program>, Fail> {
-    let plan = Plan::read(alloc, PAIR.as_bytes())?;
-    Ok(read_sessions(alloc, SESSIONS.as_bytes(), &plan)?)
+    programs_of(alloc, PAIR, SESSIONS)
+}
+
+fn programs_of(alloc: Global, plan: &str, sessions: &str) -> Result<Vec<Program>, Fail> {
+    let plan = Plan::read(alloc, plan.as_bytes())?;
+    Ok(read_sessions(alloc, sessions.as_bytes(), &plan)?)
 }
 
 fn turn<R: Wait, W: Wire>(
@@ -129,11 +141,18 @@ fn value_after<R: Wait>(rt: &R, side: &mut Side, ticket: u32) -> Option<i64> {
     }
 }
 
-/// What went out since comes to the other.
-fn carry(from: &MemoryWire, carried: &mut usize, to: &mut MemoryWire) -> Result<(), Fail> {
+/// What went out to it since comes to that office, and nothing comes to others.
+fn carry(
+    from: &MemoryWire,
+    carried: &mut usize,
+    v: OfficeId,
+    to: &mut MemoryWire,
+) -> Result<(), Fail> {
     let all = from.accepted();
     for i in *carried..all.len() {
-        to.comes(all[i].1.bytes())?;
+        if all[i].0 == v {
+            to.comes(all[i].1.bytes())?;
+        }
     }
     *carried = all.len();
     Ok(())
@@ -162,8 +181,13 @@ struct Both {
 }
 
 fn open_both(alloc: Global) -> Result<Box<Both>, Fail> {
-    let a = open_side(alloc, 0)?;
-    let b = open_side(alloc, 1)?;
+    open_both_of(alloc, PAIR)
+}
+
+/// The first two offices of the plan.
+fn open_both_of(alloc: Global, plan: &str) -> Result<Box<Both>, Fail> {
+    let a = open_side(alloc, plan, 0)?;
+    let b = open_side(alloc, plan, 1)?;
     Ok(Box::new(alloc, linked(alloc, a, b))?)
 }
 
@@ -196,8 +220,18 @@ impl Both {
 
     /// What went out comes to the other.
     fn carry(&mut self) -> Result<(), Fail> {
-        carry(&self.wire_a, &mut self.from_a, &mut self.wire_b)?;
-        carry(&self.wire_b, &mut self.from_b, &mut self.wire_a)
+        carry(
+            &self.wire_a,
+            &mut self.from_a,
+            OfficeId::new(1),
+            &mut self.wire_b,
+        )?;
+        carry(
+            &self.wire_b,
+            &mut self.from_b,
+            OfficeId::new(0),
+            &mut self.wire_a,
+        )
     }
 }
 
@@ -426,4 +460,38 @@ fn round<R: Wait>(rt: &R, both: &mut Both) -> Result<(), Fail> {
         both.carry()?;
     }
     Ok(())
+}
+
+/// Of the middle of three offices each frame for the third is lost. It sends them on and on, and serves the second.
+#[test]
+fn a_neighbour_gets_no_frame(rt: HostRuntime) -> Result<(), Fail> {
+    let programs = programs_of(rt.alloc(), STAR, STAR_SESSIONS)?;
+    let mut both = open_both_of(rt.alloc(), STAR)?;
+    one_gets_no_frame(&rt, &mut both, &programs)
+}
+
+fn one_gets_no_frame<R: Wait + Abort>(
+    rt: &R,
+    both: &mut Both,
+    programs: &[Program],
+) -> Result<(), Fail> {
+    let (Some(first), Some(second)) = (programs.get(0), programs.get(1)) else {
+        return Err(Fail::from("sessions"));
+    };
+    assert_eq!(rt; submit(rt, &mut both.a, first), Some(1));
+    assert_eq!(rt; submit(rt, &mut both.b, second), Some(1));
+    for now in [0, 50, 100, 150] {
+        assert_eq!(rt; broke_off(both.turn_a(rt, now))?, 0);
+        both.carry()?;
+        assert_eq!(rt; broke_off(both.turn_b(rt, now))?, 0);
+        both.carry()?;
+    }
+    assert_eq!(rt; value_after(rt, &mut both.b, 1), Some(70));
+    assert_eq!(rt; value_after(rt, &mut both.a, 1), None);
+    assert_eq!(rt; frames_to(&both.wire_a, OfficeId::new(2)), 4);
+    Ok(())
+}
+
+fn frames_to(wire: &MemoryWire, v: OfficeId) -> usize {
+    wire.accepted().iter().filter(|sent| sent.0 == v).count()
 }

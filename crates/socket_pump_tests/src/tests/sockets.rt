@@ -1,12 +1,16 @@
 //! Two pumps over UDP on loopback.
 
-use crate::tests::{Both, open_both, programs, submit, turn, value_after};
+use crate::tests::{
+    Both, STAR, STAR_SESSIONS, open_both, open_both_of, programs, programs_of, submit, turn,
+    value_after,
+};
 use office_map::OfficeId;
 use session_language::Program;
-use socket_pump::UdpWire;
+use socket_pump::{Contact, UdpWire};
 use std::alloc::Global;
 use std::io;
 use std::net::{Ipv4Addr, Net, SocketAddr};
+use std::process::Abort;
 use std::sync::Wait;
 use std::test::Fail;
 
@@ -52,6 +56,85 @@ fn crosses<R: Wait>(
             return None;
         }
         if let Some(value) = value_after(rt, &mut both.a, ticket) {
+            return Some(value);
+        }
+        if wire_a.poll(1).is_err() {
+            return None;
+        }
+    }
+    None
+}
+
+/// The system takes no frame for the third office: for one since nothing has port 0, for the other since nobody asked to send to
+/// all. The second office gets its frames.
+#[test]
+fn the_system_takes_no_frame(rt: HostRuntime) -> Result<(), Fail> {
+    let programs = programs_of(rt.alloc(), STAR, STAR_SESSIONS)?;
+    let nobody = SocketAddr::from((Ipv4Addr::LOCALHOST, 0));
+    let contact = third_at(&rt, rt.alloc(), nobody, &programs)?;
+    assert_eq!(rt;
+        (contact.went, contact.cause, contact.heard),
+        (0, Some(22), false)
+    );
+    assert!(rt; contact.lost > 1);
+    let all = SocketAddr::from((Ipv4Addr::new(255, 255, 255, 255), 9));
+    let contact = third_at(&rt, rt.alloc(), all, &programs)?;
+    assert_eq!(rt; (contact.went, contact.heard), (0, false));
+    assert!(rt; contact.lost > 1 && contact.cause.is_some());
+    Ok(())
+}
+
+/// Nobody has the third office's port any more. What the system tells of that ends no run.
+#[test]
+fn a_port_is_closed(rt: HostRuntime) -> Result<(), Fail> {
+    let programs = programs_of(rt.alloc(), STAR, STAR_SESSIONS)?;
+    let closed = bound(&rt, rt.alloc())?.address()?;
+    let contact = third_at(&rt, rt.alloc(), closed, &programs)?;
+    assert!(rt; contact.went > 0 && !contact.heard);
+    Ok(())
+}
+
+/// The first two offices of the star turn, and the second finishes its session. What the first then knows of the third.
+fn third_at<R: Net + Wait + Abort>(
+    rt: &R,
+    alloc: Global,
+    at: SocketAddr,
+    programs: &[Program],
+) -> Result<Contact, Fail> {
+    let mut wires = connected(rt, alloc)?;
+    let mut both = open_both_of(alloc, STAR)?;
+    wires.0.set_peer(OfficeId::new(2), at);
+    assert_eq!(rt;
+        is_served(rt, &mut both, &mut wires.0, &mut wires.1, programs),
+        Some(70)
+    );
+    assert!(rt; is_near(wires.0.contact(OfficeId::new(1))));
+    assert!(rt; is_near(wires.1.contact(OfficeId::new(0))));
+    Ok(wires.0.contact(OfficeId::new(2)))
+}
+
+/// Frames went to it, none was lost on the way out, and it was heard.
+fn is_near(contact: Contact) -> bool {
+    contact.went > 0 && contact.lost == 0 && contact.cause.is_none() && contact.heard
+}
+
+fn is_served<R: Wait>(
+    rt: &R,
+    both: &mut Both,
+    wire_a: &mut UdpWire,
+    wire_b: &mut UdpWire,
+    programs: &[Program],
+) -> Option<i64> {
+    submit(rt, &mut both.a, programs.get(0)?)?;
+    let ticket = submit(rt, &mut both.b, programs.get(1)?)?;
+    for round in 0..2_000u64 {
+        if turn(rt, &mut both.a, wire_a, round * 50).is_err() {
+            return None;
+        }
+        if turn(rt, &mut both.b, wire_b, round * 50).is_err() {
+            return None;
+        }
+        if let Some(value) = value_after(rt, &mut both.b, ticket) {
             return Some(value);
         }
         if wire_a.poll(1).is_err() {
