@@ -65,8 +65,7 @@ fn crosses<R: Wait>(
     None
 }
 
-/// The system takes no frame for the third office: for one since nothing has port 0, for the other since nobody asked to send to
-/// all. The second office gets its frames.
+/// The system takes no frame for the third office, since nothing has port 0. The second office gets its frames.
 #[test]
 fn the_system_takes_no_frame(rt: HostRuntime) -> Result<(), Fail> {
     let programs = programs_of(rt.alloc(), STAR, STAR_SESSIONS)?;
@@ -77,10 +76,6 @@ fn the_system_takes_no_frame(rt: HostRuntime) -> Result<(), Fail> {
         (0, Some(22), false)
     );
     assert!(rt; contact.lost > 1);
-    let all = SocketAddr::from((Ipv4Addr::new(255, 255, 255, 255), 9));
-    let contact = third_at(&rt, rt.alloc(), all, &programs)?;
-    assert_eq!(rt; (contact.went, contact.heard), (0, false));
-    assert!(rt; contact.lost > 1 && contact.cause.is_some());
     Ok(())
 }
 
