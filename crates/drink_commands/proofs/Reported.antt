@@ -39,11 +39,11 @@ reported files u v w a b a_text b_text p programs old new printed plan sessions 
       written = subst (λ t. Appends old new t) e written;
     }
 
-pub ran : (files : List ℕ → Option (List ℕ)) (u v w : Unread) (a b a_text b_text : List ℕ) (p : PlanValue) (programs seen : List ProgramValue)
+pub ran : (files : List ℕ → Option (List ℕ)) (u v w : Unread) (a b a_text b_text : List ℕ) (p : PlanValue) (programs seen : List ProgramValue) (loss : ℕ)
     (old new : Option (List ℕ)) (printed : List ℕ) → TakesPlan files u a v p → TakesSessions files v b w p programs
-    → HaveTexts files u (a ∷ b ∷ []) (a_text ∷ b_text ∷ []) → seen ≡ programs → Tells p seen printed → Appends old new printed
-    → TellsRun a_text b_text old new
-ran files u v w a b a_text b_text p programs seen old new printed plan sessions (after, has, (next, has_next, more)) same told written =
+    → HaveTexts files u (a ∷ b ∷ []) (a_text ∷ b_text ∷ []) → seen ≡ programs → Tells p seen loss printed → Appends old new printed
+    → TellsRun a_text b_text loss old new
+ran files u v w a b a_text b_text p programs seen loss old new printed plan sessions (after, has, (next, has_next, more)) same told written =
     let it = plan a_text after has in
     record {
       p = p;
@@ -51,7 +51,7 @@ ran files u v w a b a_text b_text p programs seen old new printed plan sessions 
       printed = printed;
       is_plan = it.0;
       are_sessions = (sessions b_text next (subst (λ s. HasText files s b b_text next) (sym it.1) has_next)).0;
-      told = subst (λ ps. Tells p ps printed) same told;
+      told = subst (λ ps. Tells p ps loss printed) same told;
       written = written;
     }
 

@@ -7,13 +7,13 @@ use Rattle.session_language.specs.Reading.{sessions_of}
 use Rattle.random_runs.specs.Runs.{Tells}
 use Rattle.drink_commands.specs.Plans.{IsAcceptedAs}
 
--- The two texts mean a plan and sessions under it, and the report of a run of these, whichever was drawn, was written after what
--- the writer held.
-pub record TellsRun (plan sessions : List ℕ) (old new : Option (List ℕ)) : Type 0 where
+-- The two texts mean a plan and sessions under it, and the report of a run of these with this loss, whichever was drawn, was
+-- written after what the writer held.
+pub record TellsRun (plan sessions : List ℕ) (loss : ℕ) (old new : Option (List ℕ)) : Type 0 where
   pub p : PlanValue
   pub programs : List ProgramValue
   pub printed : List ℕ
   pub is_plan : IsAcceptedAs plan p
   pub are_sessions : sessions_of p sessions ≡ Ok programs
-  pub told : Tells p programs printed
+  pub told : Tells p programs loss printed
   pub written : Appends old new printed

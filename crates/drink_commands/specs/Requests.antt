@@ -71,7 +71,7 @@ IsDone tells files standard (Sim plan sessions script folder) status old new kep
     → StandFor files standard (plan.now ∷ sessions.now ∷ script.now ∷ []) (plan_text ∷ sessions_text ∷ script_text ∷ [])
     → Simulates plan_text sessions_text script_text (option_copied folder) old new kept left
 IsDone tells files standard (Random plan sessions seed loss steps) status old new kept left = KeepsFiles kept left × ((plan_text sessions_text : List ℕ)
-    → StandFor files standard (plan.now ∷ sessions.now ∷ []) (plan_text ∷ sessions_text ∷ []) → TellsRun plan_text sessions_text old new)
+    → StandFor files standard (plan.now ∷ sessions.now ∷ []) (plan_text ∷ sessions_text ∷ []) → TellsRun plan_text sessions_text loss old new)
 IsDone tells files standard (Run plan office sessions turns file) status old new kept left = RunsOffice tells files standard plan.now office.now sessions.now turns (option_copied file) (EndsWith status) old new kept left
 IsDone tells files standard (Live plan sessions folder) status old new kept left = RunsOffices files standard plan.now sessions.now (option_copied folder) (EndsWith status) old new kept left
 IsDone tells files standard (Audit plan journals) status old new kept left = KeepsFiles kept left × ((plan_text : List ℕ) (texts : List (List ℕ))

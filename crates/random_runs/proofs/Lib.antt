@@ -1,1 +1,3 @@
-pub mod Running
+mod TranquilOffices
+mod Refusals
+mod Running

@@ -1,12 +1,13 @@
 -- What a random run may be, and what is told of it. Which events are drawn is left open.
-use Rattle.std.specs.Prelude.{◌≡◌, ◌-◌, ℕ, List, [], ◌∷◌, ◌++◌, length, All, IsOk, IsPermutation}
+use Rattle.std.specs.Prelude.{◌≡◌, ◌+◌, ◌-◌, ◌<◌, ◌≤◌, ℕ, List, [], ◌∷◌, ◌++◌, length, Some, All, IsOk, IsPermutation}
 use Rattle.std.specs.List.{flat_map}
 use Rattle.office_map.specs.PlanValue.{PlanValue}
 use Rattle.session_meaning.specs.ProgramValue.{ProgramValue}
 use Rattle.dining_core.specs.Worlds.{HasNoRing}
+use Rattle.site_core.specs.RuleOrder.{next_rule}
 use Rattle.frame_world.specs.declared.event.WorldEvent.{WorldEvent}
 use Rattle.frame_world.specs.declared.event.WorldEvent.TheVariants as happening
-use Rattle.frame_world.specs.Worlds.{World, opening, happens, run_of}
+use Rattle.frame_world.specs.Worlds.{World, opening, office_at, happens, run_of}
 use Rattle.frame_world.specs.Ways.{pairs_at, tables_of}
 use Rattle.frame_world.specs.Headline.{HasSerialSessions, HasSerialValues, HasOnePlaceEach, NeighboursEatApart, EatersHaveTheirForks, DrinkersHaveTheirBottles, FramesAreTaken, NoneIsEarly, FramesGoByBytes, CountsAreTimely}
 use Rattle.frame_world.specs.Tickets.{HaveTheirTickets, TicketsRise, TellsEachOffice}
@@ -24,40 +25,49 @@ submitted_by (happening.Deliver k) = []
 abbrev pub submitted : List WorldEvent → List ProgramValue
 submitted = flat_map submitted_by
 
--- a session is submitted at its own office, and none is withdrawn
-abbrev pub IsAtHome : WorldEvent → Type 0
-IsAtHome (happening.Submit a p) = a ≡ p.office
-IsAtHome (happening.Withdraw a ticket) = ⊥
-IsAtHome (happening.Do a rule) = Unit {0}
-IsAtHome (happening.Send a v i) = Unit {0}
-IsAtHome (happening.Deliver k) = Unit {0}
+-- its own office refuses the session in this world
+abbrev pub IsRefused : World → ProgramValue → Type 0
+IsRefused w p = IsOk (happens w (happening.Submit p.office p)).0 → ⊥
 
--- a session that is submitted is taken by its office
-abbrev pub IsTaken : World → WorldEvent → Type 0
-IsTaken w (happening.Submit a p) = IsOk (happens w (happening.Submit a p)).0
-IsTaken w (happening.Withdraw a ticket) = Unit {0}
-IsTaken w (happening.Do a rule) = Unit {0}
-IsTaken w (happening.Send a v i) = Unit {0}
-IsTaken w (happening.Deliver k) = Unit {0}
+-- how many of the frames that were sent last may come
+abbrev pub last_frames : ℕ
+last_frames = 64
 
--- and so is each of these events, one after the other
-abbrev pub AreTaken : World → List WorldEvent → Type 0
-AreTaken w [] = Unit {0}
-AreTaken w (e ∷ es) = IsTaken w e × AreTaken (happens w e).1 es
+-- the frame of this number, from 1, is one of these
+abbrev pub IsRecent : World → ℕ → Type 0
+IsRecent w k = (0 < k) × (k ≤ length w.frames) × (length w.frames < k + last_frames)
 
--- Events lead from one world to the other. They submit sessions of a list, each as often as it stands there at most and at its
--- own office, which takes it, and withdraw none; those that are left are the other list.
-pub record Leads (w w' : World) (sessions left : List ProgramValue) : Type 0 where
+-- What may happen in a world: a session is submitted at its own office, which takes it; an office does the rule that comes next
+-- there; it makes a frame; or, where fewer than a hundred of a hundred are lost, a recent frame comes. None is withdrawn.
+abbrev pub MayHappen : ℕ → World → WorldEvent → Type 0
+MayHappen loss w (happening.Submit a p) = (a ≡ p.office) × IsOk (happens w (happening.Submit a p)).0
+MayHappen loss w (happening.Withdraw a ticket) = ⊥
+MayHappen loss w (happening.Do a rule) = next_rule w.plan a (office_at w a) ≡ Some rule
+MayHappen loss w (happening.Send a v i) = Unit {0}
+MayHappen loss w (happening.Deliver k) = (loss < 100) × IsRecent w k
+
+-- Each of these events may happen, one after the other; and before each that submits no session, all sessions that are
+-- submitted later or left at last are refused, so that each was submitted as soon as its office took it.
+abbrev pub MayAllHappen : ℕ → World → List WorldEvent → List ProgramValue → Type 0
+MayAllHappen loss w [] left = Unit {0}
+MayAllHappen loss w (e ∷ es) left =
+    MayHappen loss w e
+    × (submitted_by e ≡ [] → All (IsRefused w) (submitted es ++ left))
+    × MayAllHappen loss (happens w e).1 es left
+
+-- Events that may happen lead from one world to the other. They submit sessions of a list, each as often as it stands there at
+-- most; those that are left are the other list.
+pub record Leads (loss : ℕ) (w w' : World) (sessions left : List ProgramValue) : Type 0 where
   pub events : List WorldEvent
   pub led : run_of w events ≡ w'
-  pub home : All IsAtHome events
-  pub taken : AreTaken w events
+  pub each : MayAllHappen loss w events left
   pub once : IsPermutation (submitted events ++ left) sessions
 
--- events led to it from the plan's opening, with no sessions but these, each once at most
-pub record IsRun (p : PlanValue) (programs : List ProgramValue) (w : World) : Type 0 where
+-- such events led to it from the plan's opening, with no sessions but these, and those that are left are refused there
+pub record IsRun (p : PlanValue) (programs : List ProgramValue) (loss : ℕ) (w : World) : Type 0 where
   pub left : List ProgramValue
-  pub leads : Leads (opening p) w programs left
+  pub leads : Leads loss (opening p) w programs left
+  pub refused : All (IsRefused w) left
 
 -- all that holds of each world to which events lead
 pub record HasHeadline (w : World) : Type 0 where
@@ -81,8 +91,8 @@ abbrev pub unfinished_of : List ProgramValue → World → ℕ
 unfinished_of programs w = length programs - length w.finished
 
 -- the report of such a run's world, with how many of the file's sessions haven't finished
-pub record Tells (p : PlanValue) (programs : List ProgramValue) (text : List ℕ) : Type 0 where
+pub record Tells (p : PlanValue) (programs : List ProgramValue) (loss : ℕ) (text : List ℕ) : Type 0 where
   pub world : World
-  pub run : IsRun p programs world
+  pub run : IsRun p programs loss world
   pub headline : HasHeadline world
   pub told : text ≡ world_report world (unfinished_of programs world)

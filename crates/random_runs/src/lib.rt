@@ -2,12 +2,13 @@
 //!
 //! - [`run::run`] submits the sessions of a file, and then the offices do what is drawn: rules, sendings and deliveries, of
 //!   which some are lost. The world that it answers is one to which a list of events leads, with no session but the file's,
-//!   each at its own office (clause `run`), and all holds of it that holds of every world (clause `headline`).
+//!   each as soon as its own office takes it; each rule is the one that comes next, and a frame comes only where not all are
+//!   lost (clause `run`). All holds of it that holds of every world (clause `headline`).
 //! - [`run::report`] prints that world: the finished sessions in finishing order, how many of the file's haven't finished, and
 //!   the values (clause `reports`).
 //! - [`Schedule`] says from which seed is drawn, how much is lost, and how many steps there are. One seed gives one run.
 //!
-//! Which events are drawn is no promise; tests show it. What a run may be is in `specs/Runs.antt`, over the world of
+//! Which of these events are drawn is no promise; tests show it. What a run may be is in `specs/Runs.antt`, over the world of
 //! `frame_world`; what is printed in the crate `run_reports`.
 #![tactic(auto)]
 

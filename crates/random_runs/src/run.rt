@@ -1,8 +1,9 @@
 //! A random run, and what is printed of it.
 
-ghost use Rattle.std.specs.Prelude.{◌≡◌, IfOk, OnOk, length, map};
+ghost use Rattle.std.specs.Prelude.{◌≡◌, All, IfOk, OnOk, length, map};
 ghost use Rattle.std.specs.String.{string_bytes};
-ghost use Rattle.random_runs.specs.Runs.{HasHeadline, IsRun, Leads, Tells};
+ghost use Rattle.frame_world.specs.Headline.{IsReached};
+ghost use Rattle.random_runs.specs.Runs.{HasHeadline, IsRefused, IsRun, Leads, Tells};
 
 use crate::draws::Draws;
 use crate::schedule::Schedule;
@@ -22,7 +23,7 @@ pub fn report(
     programs: &[Program],
     schedule: Schedule,
 ) -> Result<String, AllocError>
-    ensures { IfOk result (λ text. Tells plan.now programs.now (string_bytes text)) }
+    ensures { IfOk result (λ text. Tells plan.now programs.now schedule.loss (string_bytes text)) }
 {
     let world = run(alloc, plan, programs, schedule)?;
     let unfinished = programs.len().saturating_sub(world.finished().len());
@@ -39,7 +40,7 @@ pub fn run(
     programs: &[Program],
     schedule: Schedule,
 ) -> Result<World, AllocError>
-    ensures run { IfOk result (λ w. IsRun plan.now programs.now w) }
+    ensures run { IfOk result (λ w. IsRun plan.now programs.now schedule.loss w) }
     ensures headline { IfOk result (λ w. HasHeadline w) }
 {
     let mut world = World::open(alloc, plan.copy(alloc)?)?;
@@ -68,18 +69,28 @@ fn go_on(
     loss: u64,
     all: usize,
 ) -> Result<(), AllocError>
-    ensures { OnOk result (Leads world.old world.new (map (λ p. p.now) waiting.old.items) (map (λ p. p.now) waiting.new.items)) }
+    requires { All (IsRefused world.now) (map (λ p. p.now) waiting.now.items) }
+    ensures leads { OnOk result (Leads loss world.old world.new (map (λ p. p.now) waiting.old.items) (map (λ p. p.now) waiting.new.items)) }
+    ensures refused { OnOk result (All (IsRefused world.new) (map (λ p. p.now) waiting.new.items)) }
 {
     let finished = world.finished().len();
     if finished >= all {
         return Ok(());
     }
+    is_reached(world);
     step(world, draws, loss)?;
     if world.finished().len() == finished {
         return Ok(());
     }
     submit_waiting(world, waiting)?;
     Ok(())
+}
+
+/// Events led to it from its plan.
+fn is_reached(world: &World)
+    ensures { IsReached world.now }
+{
+    world.is_serial();
 }
 
 /// What holds of every world.

@@ -1,9 +1,9 @@
 //! One step of a random run.
 
-ghost use Rattle.std.specs.Prelude.{◌≢◌, ◌<◌, Err, OnOk, length};
+ghost use Rattle.std.specs.Prelude.{◌≢◌, ◌<◌, ℕ, Err, OnOk, length};
 ghost use Rattle.site_core.specs.declared.reply.Refusal.TheVariants as refused;
 ghost use Rattle.frame_world.specs.declared.refusal.WorldRefusal.TheVariants as refusal;
-ghost use Rattle.random_runs.specs.refinement.Moves.{Moves};
+ghost use Rattle.random_runs.specs.refinement.Steps.{Steps};
 
 use crate::draws::Draws;
 use frame_world::WorldRefusal;
@@ -18,7 +18,7 @@ const LAST_FRAMES: usize = 64;
 /// An office does the rule that comes next there, or it sends a message that waits, or a frame comes; or the frame is lost.
 /// Which of these, where, and what, is drawn. Where there is none of the kind that was drawn, nothing happens.
 pub(crate) fn step(world: &mut World, draws: &mut Draws, loss: u64) -> Result<(), AllocError>
-    ensures { Moves world.old world.new }
+    ensures { Steps loss world.old world.new }
 {
     match draws.below(3) {
         0 => rule(world, draws),
@@ -29,7 +29,7 @@ pub(crate) fn step(world: &mut World, draws: &mut Draws, loss: u64) -> Result<()
 
 /// A drawn office does the rule that comes next there.
 fn rule(world: &mut World, draws: &mut Draws) -> Result<(), AllocError>
-    ensures { Moves world.old world.new }
+    ensures { (loss : ℕ) → Steps loss world.old world.new }
 {
     let office = office(world, draws);
     let Some(rule) = world.office(office).next_rule() else {
@@ -41,7 +41,7 @@ fn rule(world: &mut World, draws: &mut Draws) -> Result<(), AllocError>
 
 /// A drawn office makes a frame of a drawn one of the messages that wait there.
 fn send(world: &mut World, draws: &mut Draws) -> Result<(), AllocError>
-    ensures { Moves world.old world.new }
+    ensures { (loss : ℕ) → Steps loss world.old world.new }
 {
     let office = office(world, draws);
     let offices = world.plan().offices() as u8;
@@ -56,7 +56,7 @@ fn send(world: &mut World, draws: &mut Draws) -> Result<(), AllocError>
 
 /// A drawn one of the last frames comes, unless it is lost.
 fn deliver(world: &mut World, draws: &mut Draws, loss: u64) -> Result<(), AllocError>
-    ensures { Moves world.old world.new }
+    ensures { Steps loss world.old world.new }
 {
     let frames = world.frames();
     if frames == 0 {
@@ -108,7 +108,7 @@ fn waiting_for(office: &Office, v: u8) -> usize {
 }
 
 /// Whatever was answered: the run goes on, unless memory ran out.
-fn unless_memory(answer: &Result<Reply, WorldRefusal>) -> Result<(), AllocError>
+pub(crate) fn unless_memory(answer: &Result<Reply, WorldRefusal>) -> Result<(), AllocError>
     ensures { OnOk result (answer.now ≢ Err (refusal.Office refused.Memory)) }
 {
     match answer {

@@ -1,11 +1,11 @@
 //! Sessions are submitted as soon as their offices take them.
 
-ghost use Rattle.std.specs.Prelude.{◌≡◌, ◌<◌, ◌-◌, ◌∷◌, [], IfOk, IsOk, OnOk, false, length, map, true};
+ghost use Rattle.std.specs.Prelude.{◌≡◌, ◌<◌, ◌-◌, ◌∷◌, [], ℕ, All, IfOk, IsOk, OnOk, false, length, map, take, true};
 ghost use Rattle.frame_world.specs.declared.event.WorldEvent.TheVariants as events;
 ghost use Rattle.frame_world.specs.Worlds.{happens, run_of};
-ghost use Rattle.random_runs.specs.Runs.{Leads};
+ghost use Rattle.random_runs.specs.Runs.{IsRefused, Leads};
 
-use frame_world::WorldRefusal;
+use crate::steps::unless_memory;
 use session_language::Program;
 use std::alloc::{AllocError, Global};
 use world_schedule::World;
@@ -26,7 +26,8 @@ pub(crate) fn submit_waiting(
     world: &mut World,
     waiting: &mut Vec<&Program>,
 ) -> Result<(), AllocError>
-    ensures { OnOk result (Leads world.old world.new (map (λ p. p.now) waiting.old.items) (map (λ p. p.now) waiting.new.items)) }
+    ensures leads { OnOk result ((loss : ℕ) → Leads loss world.old world.new (map (λ p. p.now) waiting.old.items) (map (λ p. p.now) waiting.new.items)) }
+    ensures refused { OnOk result (All (IsRefused world.new) (map (λ p. p.now) waiting.new.items)) }
 {
     let mut place = 0;
     while place < waiting.len() {
@@ -43,7 +44,8 @@ fn submit_at(
     place: usize,
 ) -> Result<usize, AllocError>
     requires { place < length waiting.now.items }
-    ensures leads { OnOk result (Leads world.old world.new (map (λ p. p.now) waiting.old.items) (map (λ p. p.now) waiting.new.items)) }
+    ensures leads { OnOk result ((loss : ℕ) → Leads loss world.old world.new (map (λ p. p.now) waiting.old.items) (map (λ p. p.now) waiting.new.items)) }
+    ensures refused { IfOk result (λ next. All (IsRefused world.old) (map (λ p. p.now) (take place waiting.old.items)) → All (IsRefused world.new) (map (λ p. p.now) (take next waiting.new.items))) }
     ensures nearer { IfOk result (λ next. length waiting.new.items - next < length waiting.old.items - place) }
 {
     if is_taken(world, waiting[place])? {
@@ -57,11 +59,13 @@ fn submit_at(
 fn is_taken(world: &mut World, program: &Program) -> Result<bool, AllocError>
     ensures taken { result ≡ Ok true → world.new ≡ run_of world.old (events.Submit program.now.office program.now ∷ []) }
     ensures accepted { result ≡ Ok true → IsOk (happens world.old (events.Submit program.now.office program.now)).0 }
-    ensures refused { result ≡ Ok false → world.new ≡ world.old }
+    ensures refused { result ≡ Ok false → IsRefused world.new program.now }
+    ensures unchanged { result ≡ Ok false → world.new ≡ world.old }
 {
-    match world.submit(program.office(), program) {
+    let answer = world.submit(program.office(), program);
+    unless_memory(&answer)?;
+    match answer {
         Ok(_) => Ok(true),
-        Err(WorldRefusal::Office(site_core::Refusal::Memory)) => Err(AllocError),
         Err(_) => Ok(false),
     }
 }

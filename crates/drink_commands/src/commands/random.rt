@@ -29,7 +29,7 @@ pub fn run<S: Sources, W: Write>(
 ) -> Result<u8, Fault>
     ensures tells { OnOk result ((plan_text sessions_text : List ℕ)
         → StandFor (S.file_text sources.now) (S.standard_text sources.now) (plan.now ∷ sessions.now ∷ []) (plan_text ∷ sessions_text ∷ [])
-        → TellsRun plan_text sessions_text (W.contents out.old) (W.contents out.new)) }
+        → TellsRun plan_text sessions_text schedule.loss (W.contents out.old) (W.contents out.new)) }
     ensures status { IfOk result (λ status. status ≡ 0) }
 
     ensures judged { IfErr result (IsJudged (S.file_text sources.now) (S.standard_text sources.now) (plan.now ∷ sessions.now ∷ []) (Input.Plan ∷ Input.Sessions ∷ [])) }

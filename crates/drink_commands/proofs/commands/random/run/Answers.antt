@@ -49,7 +49,7 @@ pub returns-clause-tells : goal.returns-clause-tells
 returns-clause-tells g c = λ plan_text sessions_text known.
     let files = g.S.Sources.file_text c.args.sources.now in
     ran files c.new-standard.result c.read_plan.new.standard c.read_programs.new.standard c.args.plan.now c.args.sessions.now plan_text sessions_text
-    c.in_ok-plan.plan c.in_ok-programs.programs.items c.deref.result.now (g.W.Write.contents c.args.out.now) (g.W.Write.contents c.write_whole.new.out) c.deref-2.result.now
+    c.in_ok-plan.plan c.in_ok-programs.programs.items c.deref.result.now c.args.schedule.loss (g.W.Write.contents c.args.out.now) (g.W.Write.contents c.write_whole.new.out) c.deref-2.result.now
     c.in_ok-plan.ensures.meaning c.in_ok-programs.ensures.meaning
     (started c.new-standard.result (g.S.Sources.standard_text c.args.sources.now) files (c.args.plan.now ∷ c.args.sessions.now ∷ []) (plan_text ∷ sessions_text ∷ []) (search rules) known) c.deref.ensures.value (search rules) c.in_ok-write_whole.ensures.written
 
