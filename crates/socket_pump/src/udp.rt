@@ -2,7 +2,7 @@
 //! the system doesn't take is one that was accepted and lost, like any other that doesn't arrive: no route, no such address, a
 //! filter, a refusal that an earlier frame met, want of room. What is known of each neighbour is counted.
 
-ghost use Rattle.std.specs.Prelude.{◌≡◌, ◌≤◌, ◌<◌, IfOk, IfSome, OnSome};
+ghost use Rattle.std.specs.Prelude.{◌≡◌, ◌≤◌, ◌<◌, IfOk, IfSome, OnErr, OnOk, OnSome};
 ghost use Rattle.socket_pump.specs.Contacts.{contact_with, address_of, IsFresh, Finds};
 ghost use Rattle.socket_pump.specs.Wires.{risen};
 
@@ -91,12 +91,19 @@ impl UdpWire {
     /// Waits for a datagram, or until it is woken, so many milliseconds at most.
     ///
     /// # Errors
-    /// What the system answers.
+    /// What the system answers. It is counted, as a failure of the other calls.
     pub fn poll(&mut self, most: u64) -> io::Result<()>
-        ensures { self.new ≡ self.old }
+        ensures fine { OnOk result (self.new ≡ self.old) }
+        ensures failed { OnErr result (self.new ≡ record self.old { failures = risen self.old.failures }) }
     {
-        self.poll
-            .poll(&mut self.events, Some(Duration::from_millis(most)))
+        let time = Duration::from_millis(most);
+        match self.poll.poll(&mut self.events, Some(time)) {
+            Ok(()) => Ok(()),
+            Err(error) => {
+                self.failed();
+                Err(error)
+            }
+        }
     }
 
     /// What is known of the way to a neighbour, and from it.
