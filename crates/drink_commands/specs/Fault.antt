@@ -1,6 +1,5 @@
 -- What a fault says.
 use Rattle.std.specs.Prelude.{◌≡◌, ◌⊎◌, List, Contains, Option, Some, None}
-use Rattle.office_runs.specs.Runs.{IsUntold}
 use Rattle.drink_commands.specs.declared.input.Input.{Input}
 use Rattle.drink_commands.specs.declared.input.Input.TheVariants as inputs
 use Rattle.drink_commands.specs.declared.fault.Why.{Why}
@@ -59,7 +58,7 @@ IsNoJournal _ = ⊥
 
 -- a run can't begin, or there is no memory to tell of it; it ended before its time
 abbrev pub IsNoRun : Fault → Type 0
-IsNoRun (NoRun cause) = IsUntold cause
+IsNoRun (NoRun cause) = Unit {0}
 IsNoRun _ = ⊥
 
 abbrev pub IsCutShort : Fault → Type 0

@@ -8,7 +8,7 @@ use Rattle.office_map.specs.PlanValue.{PlanValue, office_named, office_name_of}
 use Rattle.session_meaning.specs.ProgramValue.{ProgramValue}
 use Rattle.session_language.specs.Reading.{sessions_of}
 use Rattle.office_runs.specs.Addresses.{is_without}
-use Rattle.office_runs.specs.Runs.{IsUntold, TellsCourse, TellsJournals}
+use Rattle.office_runs.specs.Runs.{TellsCourse, TellsJournals}
 use Rattle.office_runs.specs.declared.report.Ran.{Ran}
 use Rattle.office_runs.specs.declared.fault.RunFault.{RunFault}
 use Rattle.drink_commands.specs.Journals.{File, WritesFiles, files_of}
@@ -93,17 +93,21 @@ IsUnreached p v Memory = Unit {0}
 IsUnreached p v (NoAddress office) = office_name_of p v ≡ Some (string_bytes office)
 IsUnreached p v _ = ⊥
 
--- What it says of the office that a word names under a plan, if one has that name: whether it and its neighbours have addresses. P is
+-- of this office and its neighbours it is the first without an address
+abbrev pub IsFirstWithout : PlanValue → ℕ → ℕ → Type 0
+IsFirstWithout p me v = (is_without p me v ≡ true) × ((u : ℕ) → u < v → is_without p me u ≡ false)
+
+-- What it says of the office that a word names under a plan, if one has that name: which of it and its neighbours is the first without an address, if one is. P is
 -- what it says where all is as it has to be.
 abbrev pub SaysOf : PlanValue → (Fault → Type 0) → Option ℕ → Fault → Type 0
 SaysOf p P None f = IsNoOffice f
-SaysOf p P (Some me) f = ((v : ℕ) × (is_without p me v ≡ true) × IsUnreached p v f) ⊎ (IsReached p me × P f)
+SaysOf p P (Some me) f = ((v : ℕ) × IsFirstWithout p me v × IsUnreached p v f) ⊎ (IsReached p me × P f)
 
 -- an office can't be run, or nothing is told of its run, or it was cut short
 abbrev pub IsOfOffice : Fault → Type 0
 IsOfOffice (NoSuchOffice offices) = Unit {0}
 IsOfOffice (NoAddress office) = Unit {0}
-IsOfOffice (NoRun cause) = IsUntold cause
+IsOfOffice (NoRun cause) = Unit {0}
 IsOfOffice (CutShort cause) = Unit {0}
 IsOfOffice _ = ⊥
 

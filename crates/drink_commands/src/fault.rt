@@ -7,7 +7,7 @@ ghost use Rattle.drink_commands.specs.Fault.{input_of, refused_input};
 use crate::input::Input;
 use journal_texts::JournalRefusal;
 use office_map::{PlanRefusal, Ring};
-use office_runs::RunFault;
+use office_runs::{OpeningFault, RunFault};
 use script_runs::ScriptRefusal;
 use session_language::SessionRefusal;
 use std::alloc::{AllocError, AllocFailed};
@@ -79,7 +79,7 @@ pub enum Fault {
     /// No journal is of the office of this name.
     NoJournal(String),
     /// A run can't begin, or there is no memory to tell of it. Nothing was written.
-    NoRun(RunFault),
+    NoRun(OpeningFault),
     /// A run ended before its time. What stands was written.
     CutShort(RunFault),
     /// How much went out isn't known.
@@ -162,7 +162,7 @@ impl fmt::Display for Fault {
                     "J2 JournalHeader: no journal is of the office `{office}`, and an audit takes one of each office of the plan"
                 )
             }
-            Fault::NoRun(fault) => write_run_fault(f, *fault),
+            Fault::NoRun(fault) => write_opening_fault(f, *fault),
             Fault::CutShort(fault) => {
                 write_run_fault(f, *fault)?;
                 write!(
@@ -201,7 +201,25 @@ fn write_line<W: fmt::Write>(
     write!(f, ": ")
 }
 
-/// Why a run can't begin, or ended.
+/// Why a run can't begin.
+fn write_opening_fault<W: fmt::Write>(
+    f: &mut fmt::Formatter<W>,
+    fault: OpeningFault,
+) -> fmt::Result {
+    match fault {
+        OpeningFault::Memory => write!(f, "out of memory"),
+        OpeningFault::BindFailed(at, kind) => {
+            let cause = bind_cause(kind);
+            write!(
+                f,
+                "U2 BindFailed: no socket can have the address {at}: {cause}"
+            )
+        }
+        OpeningFault::NoClock => write!(f, "the clock cannot be read"),
+    }
+}
+
+/// Why a run ended before its time.
 fn write_run_fault<W: fmt::Write>(f: &mut fmt::Formatter<W>, fault: RunFault) -> fmt::Result {
     match fault {
         RunFault::Memory => write!(f, "out of memory"),
@@ -212,15 +230,7 @@ fn write_run_fault<W: fmt::Write>(f: &mut fmt::Formatter<W>, fault: RunFault) ->
                 "O4 JournalFull: the journal of an office has no room left"
             )
         }
-        RunFault::BindFailed(at, kind) => {
-            let cause = bind_cause(kind);
-            write!(
-                f,
-                "U2 BindFailed: no socket can have the address {at}: {cause}"
-            )
-        }
         RunFault::NoThread => write!(f, "U3 NoThread: no further thread can be started"),
-        RunFault::NoClock => write!(f, "the clock cannot be read"),
     }
 }
 
@@ -292,10 +302,10 @@ fn device_cause(kind: ErrorKind) -> &'static str {
     }
 }
 
-impl From<RunFault> for Fault {
+impl From<OpeningFault> for Fault {
     ghost from_gives = { λ f e. e ≡ NoRun f };
 
-    fn from(fault: RunFault) -> Fault {
+    fn from(fault: OpeningFault) -> Fault {
         Fault::NoRun(fault)
     }
 }

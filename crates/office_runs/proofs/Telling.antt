@@ -1,7 +1,6 @@
 -- What is told of one office, and of one more.
-use Rattle.std.proofs.Common.{◌≡◌, ℕ, ◌+◌, ◌-◌, List, [], ◌∷◌, ◌++◌, length, map, Bool, true, false, Option, None, Result, Ok, Err, refl, sym, ap, subst, ◌∙◌, append_assoc, arith}
+use Rattle.std.proofs.Common.{◌≡◌, ℕ, ◌+◌, ◌-◌, List, [], ◌∷◌, ◌++◌, length, map, Bool, true, false, Option, None, refl, sym, ap, subst, ◌∙◌, append_assoc, arith}
 use Rattle.std.specs.List.{flat_map}
-use Rattle.std.specs.Result.{IfOk}
 use Rattle.std.specs.String.{string_bytes}
 use Rattle.std.proofs.lemmas.List.Elements.{All-append, All-cons, All-nil}
 use Rattle.office_map.specs.PlanValue.{PlanValue}
@@ -72,10 +71,6 @@ journals_more true sites s before after has adds =
 journals_more false sites s before after has adds = adds ∙ has
 
 -- ---- one office alone
-
-pub ok_all : {T E : Type 0} (r : Result T E) (P Q R S U V : T → Type 0) → ((x : T) → P x → Q x → R x → S x → U x → V x) → IfOk r P → IfOk r Q → IfOk r R → IfOk r S → IfOk r U → IfOk r V
-ok_all (Ok x) P Q R S U V f p q r s u = f x p q r s u
-ok_all (Err e) P Q R S U V f p q r s u = p
 
 pub tells_runs : (p : PlanValue) (me : ℕ) (k : Key) (x q : DeskPass) (sessions count : ℕ) (wanted : Bool) (ran : Ran) → k ≡ (p, me) → sessions ≡ count → Looks k x q → ran.unfinished ≡ sessions - length (finished_of (office_with k q.seen)) →
     string_bytes ran.text ≡ runs_report p (office_with k q.seen ∷ []) ran.unfinished → HasJournals wanted (office_with k q.seen ∷ []) (map string_bytes ran.journals.items) → TellsJournals p (me ∷ []) count wanted ran

@@ -1,6 +1,6 @@
 -- The rounds of an office that runs: sessions are submitted as it takes them, and then its pump turns.
-use Rattle.std.specs.Prelude.{◌≡◌, ◌⊎◌, ◌<◌, ℕ, zero, suc, ◌==◌, Bool, List, [], ◌∷◌, ◌++◌, Option, None, Some, Ok, Err}
-use Rattle.std.specs.List.{filter}
+use Rattle.std.specs.Prelude.{◌≡◌, ◌⊎◌, ◌<◌, ◌*◌, ℕ, ◌==◌, ◌&&◌, nat_lt, not, Bool, List, [], ◌∷◌, ◌++◌, Option, None, Some, Ok, Err}
+use Rattle.std.specs.List.{filter, count_by}
 use Rattle.session_meaning.specs.ProgramValue.{ProgramValue}
 use Rattle.site_core.specs.declared.event.Event.TheVariants.{Submit}
 use Rattle.site_core.specs.declared.reply.Reply.{Reply}
@@ -11,10 +11,11 @@ use Rattle.locked_office.specs.Calls.{Key, DeskPass, Does, Looks}
 use Rattle.socket_pump.specs.declared.pump.Turn.{Turn}
 use Rattle.socket_pump.specs.declared.pump.PumpFault.{PumpFault}
 use Rattle.socket_pump.specs.declared.pump.PumpFault.TheVariants as pump
-use Rattle.socket_pump.specs.Wires.{Account}
+use Rattle.socket_pump.specs.Wires.{Account, risen}
 use Rattle.socket_pump.specs.Turns.{Times, Turned, Stage}
 use Rattle.office_runs.specs.declared.fault.RunFault.{RunFault}
 use Rattle.office_runs.specs.declared.fault.RunFault.TheVariants.{Memory, WireFailed, JournalFull}
+use Rattle.office_runs.specs.declared.pace.TimedTurn.{TimedTurn}
 
 -- where an office stands: the pass of who works for it, what its socket tells, and when its pump last sent what
 pub record Standing : Type 0 where
@@ -88,30 +89,54 @@ pub record StopsFilling (tag : ℕ) (k : Key) (p q : DeskPass) (sessions : List 
 
 -- ---- turns
 
--- a turn, after which the office may be looked at
-pub record Turns (tells : Bool) (tag : ℕ) (k : Key) (a b : Standing) : Type 0 where
-  pub now : ℕ
-  pub turn : Turn
+-- a turn at its time, after which the office may be looked at
+pub record Turns (tells : Bool) (tag : ℕ) (k : Key) (t : TimedTurn) (a b : Standing) : Type 0 where
   pub after : DeskPass
-  pub turned : Turned tells tag k a.last now a.pass a.wire turn b.wire after b.last
+  pub turned : Turned tells tag k a.last t.at a.pass a.wire t.turn b.wire after b.last
   pub looked : (after ≡ b.pass) ⊎ Looks k after b.pass
 
--- the socket failed before the turn, or the turn broke off, and that is this fault
+-- what a wire tells once a call more failed
+abbrev pub failed : Account → Account
+failed a = record a { failures = risen a.failures }
+
+-- the wait before the turn failed and was counted so, or the turn broke off; and that is this fault
 abbrev pub BreaksOff : Bool → ℕ → Key → Standing → Standing → RunFault → Type 0
-BreaksOff tells tag k a b fault = ((a ≡ b) × (fault ≡ WireFailed)) ⊎ ((now : ℕ) × (f : PumpFault) × Stage tells tag k a.last now a.pass a.wire f b.wire b.pass b.last × (fault ≡ run_fault f))
+BreaksOff tells tag k a b fault = ((b ≡ record a { wire = failed a.wire }) × (fault ≡ WireFailed)) ⊎ ((now : ℕ) × (f : PumpFault) × Stage tells tag k a.last now a.pass a.wire f b.wire b.pass b.last × (fault ≡ run_fault f))
+
+-- ---- which turns count
+
+-- the longest wait for a datagram before a turn, in milliseconds
+abbrev pub longest_wait : ℕ
+longest_wait = 5
+
+-- it brought refused datagrams, and nothing else was done
+abbrev pub is_void : Turn → Bool
+is_void t = nat_lt 0 t.refused && ((t.taken == 0) && ((t.rules == 0) && (t.sent == 0)))
+
+-- Of an office that has so many turns, whether this is one of them. A void one isn't, before the time is over that as many idle turns take.
+abbrev pub counts : ℕ → TimedTurn → Bool
+counts turns t = not (is_void t.turn && nat_lt t.at (longest_wait * turns))
+
+-- how many of these are
+abbrev pub counted : ℕ → List TimedTurn → ℕ
+counted turns = count_by (counts turns)
+
+-- the last of these turns, if there is one, was begun while fewer than so many counted
+abbrev pub IsLastBegun : ℕ → List TimedTurn → Type 0
+IsLastBegun turns made = (made ≡ []) ⊎ ((before : List TimedTurn) × (last : TimedTurn) × (made ≡ before ++ last ∷ []) × (counted turns before < turns))
 
 -- ---- rounds
 
 -- a round: sessions, as the office takes them, and then a turn
-pub record Round (tells : Bool) (tag : ℕ) (k : Key) (a b : Standing) (sessions left : List ProgramValue) : Type 0 where
+pub record Round (tells : Bool) (tag : ℕ) (k : Key) (t : TimedTurn) (a b : Standing) (sessions left : List ProgramValue) : Type 0 where
   pub filled : DeskPass
   pub fills : Fills tag k a.pass filled sessions left
-  pub turns : Turns tells tag k (with_pass a filled) b
+  pub turns : Turns tells tag k t (with_pass a filled) b
 
--- so many rounds, one after the other, and what they leave of the sessions
-abbrev pub Rounds : Bool → ℕ → Key → ℕ → Standing → Standing → List ProgramValue → List ProgramValue → Type 0
-Rounds tells tag k zero a b sessions left = (a ≡ b) × (sessions ≡ left)
-Rounds tells tag k (suc n) a b sessions left = (m : Standing) × (mid : List ProgramValue) × Rounds tells tag k n a m sessions mid × Round tells tag k m b mid left
+-- a round for each of these turns, one after the other, and what they leave of the sessions
+abbrev pub Rounds : Bool → ℕ → Key → List TimedTurn → Standing → Standing → List ProgramValue → List ProgramValue → Type 0
+Rounds tells tag k [] a b sessions left = (a ≡ b) × (sessions ≡ left)
+Rounds tells tag k (t ∷ ts) a b sessions left = (m : Standing) × (mid : List ProgramValue) × Round tells tag k t a m sessions mid × Rounds tells tag k ts m b mid left
 
 -- a round ends before its time: at its sessions, or at its turn
 abbrev pub Ends : Bool → ℕ → Key → Standing → Standing → List ProgramValue → RunFault → Type 0
@@ -119,16 +144,16 @@ Ends tells tag k a b sessions fault =
     (StopsFilling tag k a.pass b.pass sessions fault × (b ≡ with_pass a b.pass))
     ⊎ ((filled : DeskPass) × (left : List ProgramValue) × Fills tag k a.pass filled sessions left × BreaksOff tells tag k (with_pass a filled) b fault)
 
--- fewer rounds than so many, and then one that ends before its time
+-- rounds, of which fewer than so many count, and then one that ends before its time
 pub record EndsEarly (tells : Bool) (tag : ℕ) (k : Key) (turns : ℕ) (a b : Standing) (sessions : List ProgramValue) (fault : RunFault) : Type 0 where
-  pub taken : ℕ
-  pub few : taken < turns
+  pub made : List TimedTurn
+  pub few : counted turns made < turns
   pub at : Standing
   pub left : List ProgramValue
-  pub rounds : Rounds tells tag k taken a at sessions left
+  pub rounds : Rounds tells tag k made a at sessions left
   pub ends : Ends tells tag k at b left fault
 
--- so many rounds; or, where there is a fault, it ended one of them
+-- rounds until so many count; or, where there is a fault, it ended one of them
 abbrev pub Goes : Option RunFault → Bool → ℕ → Key → ℕ → Standing → Standing → List ProgramValue → Type 0
-Goes None tells tag k turns a b sessions = (left : List ProgramValue) × Rounds tells tag k turns a b sessions left
+Goes None tells tag k turns a b sessions = (made : List TimedTurn) × (counted turns made ≡ turns) × IsLastBegun turns made × (left : List ProgramValue) × Rounds tells tag k made a b sessions left
 Goes (Some fault) tells tag k turns a b sessions = EndsEarly tells tag k turns a b sessions fault

@@ -13,15 +13,6 @@ use Rattle.journal_texts.specs.JournalText.{IsJournal}
 use Rattle.journal_texts.specs.Written.{journal_text}
 use Rattle.office_runs.specs.Rounds.{Standing, Goes, of_office}
 use Rattle.office_runs.specs.declared.report.Ran.{Ran}
-use Rattle.office_runs.specs.declared.fault.RunFault.{RunFault}
-use Rattle.office_runs.specs.declared.fault.RunFault.TheVariants as fault
-
--- Why nothing is told of a run: it couldn't begin, or there is no memory. Any other fault comes with what stands.
-abbrev pub IsUntold : RunFault → Type 0
-IsUntold fault.Memory = Unit {0}
-IsUntold (fault.BindFailed at why) = Unit {0}
-IsUntold fault.NoClock = Unit {0}
-IsUntold why = ⊥
 
 -- how many of the sessions are of an office
 abbrev pub count_of : List ProgramValue → ℕ → ℕ

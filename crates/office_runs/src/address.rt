@@ -9,6 +9,7 @@ use std::net::SocketAddr;
 /// Of an office and its neighbours the one of the least number that has no address in the plan.
 pub fn without_address(plan: &Plan, me: OfficeId) -> Option<OfficeId>
     ensures some { IfSome result (λ v. is_without plan.now me v ≡ true) }
+    ensures least { IfSome result (λ v. (u : ℕ) → u < v → is_without plan.now me u ≡ false) }
     ensures office { IfSome result (λ v. v < length plan.now.offices) }
     ensures none { IfNone result ((v : ℕ) → v < length plan.now.offices → is_without plan.now me v ≡ false) }
 {

@@ -1,14 +1,10 @@
 //! Why a run ends before its time.
 
 ghost use Rattle.std.specs.Prelude.{◌≡◌};
-ghost use Rattle.office_runs.specs.declared.fault.RunFault.TheVariants.{Memory};
 ghost use Rattle.office_runs.specs.Rounds.{fault_of, run_fault};
 
 use site_core::Refusal;
 use socket_pump::PumpFault;
-use std::alloc::{AllocError, AllocFailed};
-use std::io::ErrorKind;
-use std::net::SocketAddr;
 
 /// Why a run ends before its time. What was done before stands.
 #[derive(Clone, Copy, Debug, PartialEq, Eq)]
@@ -18,12 +14,8 @@ pub enum RunFault {
     WireFailed,
     /// An office's journal is full.
     JournalFull,
-    /// A socket can't have this address, and why.
-    BindFailed(SocketAddr, ErrorKind),
     /// A thread can't be started.
     NoThread,
-    /// The clock can't be read.
-    NoClock,
 }
 
 impl RunFault {
@@ -46,21 +38,5 @@ impl RunFault {
             PumpFault::JournalFull => RunFault::JournalFull,
             PumpFault::Memory => RunFault::Memory,
         }
-    }
-}
-
-impl From<AllocError> for RunFault {
-    ghost from_gives = { λ _ e. e ≡ Memory };
-
-    fn from(_e: AllocError) -> RunFault {
-        RunFault::Memory
-    }
-}
-
-impl<T: Drop> From<AllocFailed<T>> for RunFault {
-    ghost from_gives = { λ _ e. e ≡ Memory };
-
-    fn from(_e: AllocFailed<T>) -> RunFault {
-        RunFault::Memory
     }
 }

@@ -7,8 +7,9 @@
 //! - [`Gate`]: is called before each turn, so that a test can hold an office.
 //! - [`Watch`]: is told once a second how far a run is.
 //!
-//! What is told of a run is what its offices' journals tell (clause `tells`, `specs/Runs.antt`). Nothing is told only where a run
-//! can't begin, or for want of memory (clause `untold`). How often a turn comes, and that a datagram arrives, is no promise.
+//! What is told of a run is what its offices' journals tell (clause `tells`, `specs/Runs.antt`), with a [`RunFault`] where it ended
+//! before its time. Nothing is told only where a run can't begin, or for want of memory ([`OpeningFault`]). How often a turn comes,
+//! and that a datagram arrives, is no promise.
 #![tactic(auto)]
 
 mod address;
@@ -19,6 +20,7 @@ mod finished;
 mod gate;
 pub mod live;
 mod opened;
+mod opening;
 mod pace;
 mod report;
 pub mod run;
@@ -33,6 +35,7 @@ pub use crate::address::without_address;
 pub use crate::around::Around;
 pub use crate::fault::RunFault;
 pub use crate::gate::{Gate, Open};
+pub use crate::opening::OpeningFault;
 pub use crate::report::Ran;
 pub use crate::socket::{Binds, Socket, Wakes};
 pub use crate::udp::UdpSockets;

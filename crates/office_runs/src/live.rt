@@ -1,12 +1,12 @@
 //! All offices of a plan, on threads.
 
-ghost use Rattle.std.specs.Prelude.{◌≡◌, ◌<◌, ◌+◌, ◌++◌, ◌∷◌, [], false, length, map, IfOk, IfErr, IfSome, IfNone};
+ghost use Rattle.std.specs.Prelude.{◌≡◌, ◌<◌, ◌+◌, ◌++◌, ◌∷◌, [], false, length, map, IfOk, IfSome, IfNone};
 ghost use Rattle.std.specs.List.{flat_map, range_with_len};
 ghost use Rattle.own_lock.specs.Passes.{IsOf};
 ghost use Rattle.locked_office.specs.Calls.{Stays};
 ghost use Rattle.run_reports.specs.Report.{outcome_line};
 ghost use Rattle.site_core.specs.Journals.{IsLegal, Site};
-ghost use Rattle.office_runs.specs.Runs.{TellsOffices, TellsJournals, IsUntold, finished_of, key_of};
+ghost use Rattle.office_runs.specs.Runs.{TellsOffices, TellsJournals, finished_of, key_of};
 ghost use Rattle.office_runs.specs.refinement.Opening.{opened_key};
 ghost use Rattle.office_runs.specs.refinement.Reports.{AddsJournal};
 
@@ -15,6 +15,7 @@ use crate::fault::RunFault;
 use crate::finished::add_sessions;
 use crate::gate::Gate;
 use crate::opened::{Opened, last, open_desk};
+use crate::opening::OpeningFault;
 use crate::report::{Ran, Report, with_unfinished};
 use crate::shared::Shared;
 use crate::socket::{Binds, Socket, Wakes};
@@ -58,7 +59,7 @@ pub fn live<R, B, G, W>(
     programs: &[Program],
     journals: bool,
     around: &Around<'_, B, G, W>,
-) -> Result<Ran, RunFault>
+) -> Result<Ran, OpeningFault>
 where
     R: Threads + Wait + Clock + Sync,
     B: Binds,
@@ -67,13 +68,13 @@ where
     G: Gate + Sync,
     W: Watch + Sync,
     ensures tells { IfOk result (TellsJournals plan.now (range_with_len 0 (length plan.now.offices)) (length programs.now) journals) }
-    ensures untold { IfErr result IsUntold }
 {
     let (offices, crews) = open_all(rt, alloc, plan, around.binds)?;
     let shared = Shared::new(programs.len() as u64);
     start_all(rt, crews, programs, around.gate, around.watch, &shared);
     let fault = shared.fault(rt);
-    told(rt, alloc, plan, offices, programs.len(), journals, fault)
+    let ran = told(rt, alloc, plan, offices, programs.len(), journals, fault)?;
+    Ok(ran)
 }
 
 /// Starts two threads for each office, and waits until all have ended.
@@ -160,9 +161,8 @@ fn open_all<R: Clock, B: Binds>(
     alloc: Global,
     plan: &Plan,
     binds: &B,
-) -> Result<AllOpened<B::Socket, B::Alarm>, RunFault>
+) -> Result<AllOpened<B::Socket, B::Alarm>, OpeningFault>
     ensures keys { IfOk result (λ r. map opened_key r.0.items ≡ map (λ me. (plan.now, me)) (range_with_len 0 (length plan.now.offices))) }
-    ensures untold { IfErr result IsUntold }
 {
     let (mut sockets, places) = bind_all(alloc, binds, plan.offices())?;
     let mut offices = VecDeque::new(alloc);
@@ -187,9 +187,8 @@ fn bind_all<B: Binds>(
     alloc: Global,
     binds: &B,
     count: usize,
-) -> Result<Bound<B::Socket, B::Alarm>, RunFault>
+) -> Result<Bound<B::Socket, B::Alarm>, OpeningFault>
     ensures count { IfOk result (λ r. length r.0.items ≡ count) }
-    ensures untold { IfErr result IsUntold }
 {
     let mut sockets = VecDeque::new(alloc);
     let mut places = Vec::new(alloc);
@@ -209,17 +208,15 @@ fn first_socket<S: Socket, A: Wakes>(sockets: &mut VecDeque<(S, A)>) -> Option<(
 }
 
 /// A socket on this machine, at a port of the system's choice.
-fn bound<B: Binds>(binds: &B) -> Result<(B::Socket, B::Alarm, SocketAddr), RunFault>
-    ensures { IfErr result IsUntold }
-{
+fn bound<B: Binds>(binds: &B) -> Result<(B::Socket, B::Alarm, SocketAddr), OpeningFault> {
     let at = SocketAddr::from((Ipv4Addr::LOCALHOST, 0));
     let (socket, alarm) = match binds.bind(at) {
         Ok(both) => both,
-        Err(error) => return Err(RunFault::BindFailed(at, error.kind())),
+        Err(error) => return Err(OpeningFault::BindFailed(at, error.kind())),
     };
     match socket.address() {
         Ok(at) => Ok((socket, alarm, at)),
-        Err(error) => Err(RunFault::BindFailed(at, error.kind())),
+        Err(error) => Err(OpeningFault::BindFailed(at, error.kind())),
     }
 }
 
@@ -231,10 +228,9 @@ fn open_one<R: Clock, S: Socket, A: Wakes>(
     mut socket: S,
     alarm: A,
     places: &[SocketAddr],
-) -> Result<(Opened, Crew<S, A>), RunFault>
+) -> Result<(Opened, Crew<S, A>), OpeningFault>
     requires { me < length plan.now.offices }
     ensures key { IfOk result (λ r. opened_key r.0 ≡ (plan.now, me)) }
-    ensures untold { IfErr result IsUntold }
 {
     for v in plan.neighbours(me) {
         if let Some(at) = places.get(v.index()) {
@@ -242,7 +238,7 @@ fn open_one<R: Clock, S: Socket, A: Wakes>(
         }
     }
     let Ok(start) = Instant::now(rt) else {
-        return Err(RunFault::NoClock);
+        return Err(OpeningFault::NoClock);
     };
     let pump = Pump::open(alloc, plan, me)?;
     let (desk, mut passes) = open_desk(alloc, plan, me, 3)?;
@@ -251,7 +247,7 @@ fn open_one<R: Clock, S: Socket, A: Wakes>(
         last(&desk, &mut passes),
         last(&desk, &mut passes),
     ) else {
-        return Err(RunFault::Memory);
+        return Err(OpeningFault::Memory);
     };
     let desk = Arc::new(alloc, desk)?;
     let crew = Crew {
@@ -282,10 +278,9 @@ fn told<R: Wait>(
     sessions: usize,
     journals: bool,
     fault: Option<RunFault>,
-) -> Result<Ran, RunFault>
+) -> Result<Ran, AllocError>
     ensures tells { IfOk result (TellsOffices plan.now (map opened_key offices.items) sessions journals) }
     ensures fault { IfOk result (λ r. r.fault ≡ fault) }
-    ensures untold { IfErr result IsUntold }
 {
     let mut report = Report::new(alloc, journals);
     let mut left = sessions;

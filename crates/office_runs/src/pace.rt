@@ -1,6 +1,7 @@
 //! How long an office waits before a turn, and the time of its turns.
 
-ghost use Rattle.std.specs.Prelude.{◌≤◌};
+ghost use Rattle.std.specs.Prelude.{◌≡◌, ◌≤◌, [], ◌∷◌};
+ghost use Rattle.office_runs.specs.Rounds.{counted, counts, is_void, longest_wait};
 
 use socket_pump::{MOST_DATAGRAMS, MOST_RULES, RESEND_AFTER, Turn};
 use std::rt::Clock;
@@ -11,6 +12,37 @@ const LONGEST_WAIT: u64 = 5;
 
 /// After how many milliseconds it is told again how far a run is.
 const TOLD_EACH: u64 = 1000;
+
+/// A turn: when it was, in milliseconds from when its office was opened, and what it did.
+#[derive(Clone, Copy, Debug, PartialEq, Eq)]
+pub struct TimedTurn {
+    pub at: u64,
+    pub turn: Turn,
+}
+
+impl TimedTurn {
+    /// How many of an office's turns it is, which has so many: one or none.
+    pub(crate) fn counted(&self, turns: u64) -> u64
+        ensures counted { result ≡ counted turns (self.now ∷ []) }
+        ensures one { result ≤ 1 }
+    {
+        u64::from(self.counts(turns))
+    }
+
+    /// A void turn is none before the time is over that as many idle ones take.
+    fn counts(&self, turns: u64) -> bool
+        ensures { result ≡ counts turns self.now }
+    {
+        !(is_void(&self.turn) && self.at / LONGEST_WAIT < turns)
+    }
+}
+
+/// It brought refused datagrams, and nothing else was done.
+fn is_void(turn: &Turn) -> bool
+    ensures { result ≡ is_void turn.now }
+{
+    turn.refused > 0 && turn.taken == 0 && turn.rules == 0 && turn.sent == 0
+}
 
 /// When an office's last turn was, and what is to come.
 #[derive(Drop)]
@@ -39,7 +71,7 @@ impl Pace {
 
     /// How long to wait for a datagram before the next turn, in milliseconds.
     pub(crate) fn wait(&self) -> u64
-        ensures { result ≤ 5 }
+        ensures { result ≤ longest_wait }
     {
         if self.busy {
             0
@@ -50,11 +82,12 @@ impl Pace {
         }
     }
 
-    /// The time now, in milliseconds from the start; where the clock can't be read, that of the turn before.
+    /// The time now, in milliseconds from the start; where the clock can't be read, one more than that of the turn before.
     pub(crate) fn tick<R: Clock>(&mut self, rt: &R) -> u64 {
-        if let Ok(time) = self.start.elapsed(rt) {
-            self.now = u64::try_from(time.as_millis()).unwrap_or(u64::MAX);
-        }
+        self.now = match self.start.elapsed(rt) {
+            Ok(time) => u64::try_from(time.as_millis()).unwrap_or(u64::MAX),
+            Err(_) => self.now.saturating_add(1),
+        };
         self.now
     }
 

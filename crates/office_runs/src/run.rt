@@ -1,6 +1,6 @@
 //! One office, alone in its process.
 
-ghost use Rattle.std.specs.Prelude.{◌≡◌, ◌<◌, ◌∷◌, ◌-◌, ℕ, [], None, false, length, map, IfOk, IfErr};
+ghost use Rattle.std.specs.Prelude.{◌≡◌, ◌<◌, ◌∷◌, ◌-◌, ℕ, [], None, false, length, map, IfOk};
 ghost use Rattle.std.specs.Result.{result_err};
 ghost use Rattle.std.specs.String.{string_bytes};
 ghost use Rattle.own_lock.specs.Passes.{IsOf};
@@ -8,7 +8,7 @@ ghost use Rattle.site_core.specs.Journals.{IsLegal};
 ghost use Rattle.locked_office.specs.Calls.{Stays, Looks, office_with};
 ghost use Rattle.socket_pump.specs.Last.{last_of};
 ghost use Rattle.office_runs.specs.Rounds.{Goes, of_office};
-ghost use Rattle.office_runs.specs.Runs.{TellsCourse, TellsJournals, HasJournals, IsUntold, count_of, finished_of, runs_report};
+ghost use Rattle.office_runs.specs.Runs.{TellsCourse, TellsJournals, HasJournals, count_of, finished_of, runs_report};
 ghost use Rattle.office_runs.specs.refinement.Standings.{standing};
 
 use crate::address::address;
@@ -18,6 +18,7 @@ use crate::fault::RunFault;
 use crate::finished::add_sessions;
 use crate::gate::Gate;
 use crate::opened::{only, open_desk};
+use crate::opening::OpeningFault;
 use crate::report::{Ran, Report, count_of, with_unfinished};
 use crate::shared::Shared;
 use crate::socket::{Binds, Socket};
@@ -37,7 +38,8 @@ use std::sync::Wait;
 use std::time::Instant;
 
 /// An office at its plan's address, which turns so often. Those of the sessions that are its own are submitted as it takes
-/// them. It takes all its turns, since neighbours may need it after its own sessions have finished. Where the
+/// them. It takes all its turns, since neighbours may need it after its own sessions have finished. A turn that brought refused
+/// datagrams alone isn't counted before the time is over that as many idle turns take, of 5 milliseconds each. Where the
 /// `journals` are wanted, the text of its one is told too.
 ///
 /// # Errors
@@ -52,16 +54,15 @@ pub fn run_office<R: Wait + Clock, B: Binds, G: Gate, W: Watch>(
     turns: u64,
     journals: bool,
     around: &Around<'_, B, G, W>,
-) -> Result<Ran, RunFault>
+) -> Result<Ran, OpeningFault>
     requires { me < length plan.now.offices }
     ensures tells { IfOk result (TellsJournals plan.now (me ∷ []) (count_of programs.now me) journals) }
     ensures ran { IfOk result (TellsCourse B.Socket.tells plan.now me programs.now turns journals) }
-    ensures untold { IfErr result IsUntold }
 {
     let mut station = station(rt, alloc, plan, me, around.binds)?;
     let (desk, passes) = open_desk(alloc, plan, me, 1)?;
     let Some(mut pass) = only(&desk, passes) else {
-        return Err(RunFault::Memory);
+        return Err(OpeningFault::Memory);
     };
     let shared = Shared::new(count_of(programs, me) as u64);
     let fault = take_turns(
@@ -77,7 +78,7 @@ pub fn run_office<R: Wait + Clock, B: Binds, G: Gate, W: Watch>(
         &shared,
     )
     .err();
-    told(
+    let ran = told(
         rt,
         alloc,
         plan,
@@ -86,7 +87,8 @@ pub fn run_office<R: Wait + Clock, B: Binds, G: Gate, W: Watch>(
         count_of(programs, me),
         journals,
         fault,
-    )
+    )?;
+    Ok(ran)
 }
 
 /// What turns the office: a pump, and a socket at the plan's address that knows those of its neighbours.
@@ -96,19 +98,18 @@ fn station<R: Clock, B: Binds>(
     plan: &Plan,
     me: OfficeId,
     binds: &B,
-) -> Result<Station<B::Socket>, RunFault>
+) -> Result<Station<B::Socket>, OpeningFault>
     requires { me < length plan.now.offices }
     ensures key { IfOk result (λ s. s.pump.key ≡ (plan.now, me)) }
     ensures last { IfOk result (λ s. (v n : ℕ) → last_of s.pump.lasts v n ≡ None) }
-    ensures untold { IfErr result IsUntold }
 {
     let Some(at) = address(plan, me) else {
         let nowhere = SocketAddr::from((Ipv4Addr::UNSPECIFIED, 0));
-        return Err(RunFault::BindFailed(nowhere, ErrorKind::InvalidInput));
+        return Err(OpeningFault::BindFailed(nowhere, ErrorKind::InvalidInput));
     };
     let mut socket = match binds.bind(at) {
         Ok((socket, _)) => socket,
-        Err(error) => return Err(RunFault::BindFailed(at, error.kind())),
+        Err(error) => return Err(OpeningFault::BindFailed(at, error.kind())),
     };
     for v in plan.neighbours(me) {
         if let Some(at) = address(plan, *v) {
@@ -118,7 +119,7 @@ fn station<R: Clock, B: Binds>(
     let pump = Pump::open(alloc, plan, me)?;
     match Instant::now(rt) {
         Ok(start) => Ok(Station::new(pump, socket, start)),
-        Err(_) => Err(RunFault::NoClock),
+        Err(_) => Err(OpeningFault::NoClock),
     }
 }
 
@@ -143,19 +144,24 @@ fn take_turns<R: Wait + Clock, S: Socket, G: Gate, W: Watch>(
         (standing pass.new (S.account station.new.socket) (last_of station.new.pump.lasts)) (of_office me programs.now) }
 {
     let mut next = 0;
-    for turn in 0..turns {
+    let mut count = 0;
+    for _ in rt.forever() {
+        if count >= turns {
+            return Ok(());
+        }
         match submit_some(rt, desk, pass, me, programs, &mut next) {
             Ok(()) => {}
             Err(fault) => return Err(fault),
         }
         gate.before(me);
-        match station.turn(rt, desk, pass, shared) {
-            Ok(()) => {}
+        let turn = match station.turn(rt, desk, pass, shared) {
+            Ok(turn) => turn,
             Err(fault) => return Err(fault),
-        }
+        };
         station.tell(true, watch, shared);
+        count += turn.counted(turns);
     }
-    Ok(())
+    unreachable!()
 }
 
 /// What came of it.
@@ -168,7 +174,7 @@ fn told<R: Wait>(
     sessions: usize,
     journals: bool,
     fault: Option<RunFault>,
-) -> Result<Ran, RunFault>
+) -> Result<Ran, AllocError>
     requires of { IsOf desk.now pass.old }
     requires idle { pass.old.holds ≡ false }
     requires office { desk.now.key.1 < length desk.now.key.0.offices }
@@ -177,7 +183,6 @@ fn told<R: Wait>(
     ensures text { IfOk result (λ r. string_bytes r.text ≡ runs_report plan.now (office_with desk.now.key pass.new.seen ∷ []) r.unfinished) }
     ensures left { IfOk result (λ r. r.unfinished ≡ sessions - length (finished_of (office_with desk.now.key pass.new.seen))) }
     ensures journals { IfOk result (λ r. HasJournals journals (office_with desk.now.key pass.new.seen ∷ []) (map string_bytes r.journals.items)) }
-    ensures untold { IfErr result IsUntold }
 {
     let mut report = Report::new(alloc, journals);
     let finished = add_sessions(rt, desk, pass, plan, &mut report)?;

@@ -1,6 +1,7 @@
 //! Wires that are bound to an address.
 
-ghost use Rattle.std.specs.Prelude.{◌≡◌, ◌<◌};
+ghost use Rattle.std.specs.Prelude.{◌≡◌, ◌<◌, OnOk, OnErr};
+ghost use Rattle.office_runs.specs.Rounds.{failed};
 
 use office_map::OfficeId;
 use socket_pump::{Wire, WireFailed};
@@ -20,9 +21,10 @@ pub trait Socket: Wire + Drop {
         requires { v < 16 }
         ensures { Self.account self.new ≡ Self.account self.old };
 
-    /// Waits for a datagram, or until it is woken, so many milliseconds at most.
+    /// Waits for a datagram, or until it is woken, so many milliseconds at most. That it failed is counted, as of the other calls.
     fn poll(&mut self, most: u64) -> Result<(), WireFailed>
-        ensures { Self.account self.new ≡ Self.account self.old };
+        ensures fine { OnOk result (Self.account self.new ≡ Self.account self.old) }
+        ensures failed { OnErr result (Self.account self.new ≡ failed (Self.account self.old)) };
 }
 
 /// What wakes who waits at a socket.

@@ -1,6 +1,6 @@
 //! What turns an office: its pump, its socket, and the time of its turns.
 
-ghost use Rattle.std.specs.Prelude.{◌≡◌, false, OnOk, IfErr};
+ghost use Rattle.std.specs.Prelude.{◌≡◌, false, IfOk, IfErr};
 ghost use Rattle.own_lock.specs.Passes.{IsOf};
 ghost use Rattle.locked_office.specs.Calls.{Stays};
 ghost use Rattle.socket_pump.specs.Last.{last_of};
@@ -9,7 +9,7 @@ ghost use Rattle.office_runs.specs.refinement.Standings.{standing};
 
 use crate::fault::RunFault;
 use crate::finished::count_finished;
-use crate::pace::Pace;
+use crate::pace::{Pace, TimedTurn};
 use crate::shared::Shared;
 use crate::socket::Socket;
 use crate::watch::Watch;
@@ -44,20 +44,20 @@ impl<S: Socket> Station<S> {
         }
     }
 
-    /// One turn, after a wait for what comes; and the sessions are counted that finished by it.
+    /// One turn, after a wait for what comes, and when it was; and the sessions are counted that finished by it.
     pub(crate) fn turn<R: Wait + Clock>(
         &mut self,
         rt: &R,
         desk: &Desk,
         pass: &mut Pass<Office>,
         shared: &Shared,
-    ) -> Result<(), RunFault>
+    ) -> Result<TimedTurn, RunFault>
         requires key { desk.now.key ≡ self.old.pump.key }
         requires of { IsOf desk.now pass.old }
         requires idle { pass.old.holds ≡ false }
         ensures key { self.new.pump.key ≡ self.old.pump.key }
         ensures stays { Stays desk.now pass.old pass.new }
-        ensures turns { OnOk result (Turns S.tells pass.old.tag desk.now.key
+        ensures turns { IfOk result (λ t. Turns S.tells pass.old.tag desk.now.key t
             (standing pass.old (S.account self.old.socket) (last_of self.old.pump.lasts)) (standing pass.new (S.account self.new.socket) (last_of self.new.pump.lasts))) }
         ensures breaks_off { IfErr result (BreaksOff S.tells pass.old.tag desk.now.key
             (standing pass.old (S.account self.old.socket) (last_of self.old.pump.lasts)) (standing pass.new (S.account self.new.socket) (last_of self.new.pump.lasts))) }
@@ -67,8 +67,8 @@ impl<S: Socket> Station<S> {
             Ok(()) => {}
             Err(WireFailed) => return Err(RunFault::WireFailed),
         }
-        let now = self.pace.tick(rt);
-        let turn = match self.pump.turn(rt, &mut self.socket, desk, pass, now) {
+        let at = self.pace.tick(rt);
+        let turn = match self.pump.turn(rt, &mut self.socket, desk, pass, at) {
             Ok(turn) => turn,
             Err(fault) => return Err(RunFault::of_pump(fault)),
         };
@@ -79,7 +79,7 @@ impl<S: Socket> Station<S> {
             shared.finish(finished.saturating_sub(self.told) as u64);
             self.told = finished;
         }
-        Ok(())
+        Ok(TimedTurn { at, turn })
     }
 
     /// Tells how far the run is, once a second, if this is who tells it.

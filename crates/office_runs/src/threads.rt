@@ -94,20 +94,23 @@ fn turn_all<R: Wait + Clock, S: Socket, G: Gate, W: Watch>(
     ensures stays { Stays desk.now pass.old pass.new }
 {
     let leads = me.index() == 0;
-    for turn in 0..MOST_TURNS {
-        if shared.is_over() {
+    let mut count = 0;
+    for _ in rt.forever() {
+        if count >= MOST_TURNS || shared.is_over() {
             return;
         }
         gate.before(me);
-        match station.turn(rt, desk, pass, shared) {
-            Ok(()) => {}
+        let turn = match station.turn(rt, desk, pass, shared) {
+            Ok(turn) => turn,
             Err(fault) => {
                 shared.fail(rt, fault);
                 return;
             }
-        }
+        };
         station.tell(leads, watch, shared);
+        count += turn.counted(MOST_TURNS);
     }
+    unreachable!()
 }
 
 impl<A: Wakes> Client<A> {

@@ -1,10 +1,11 @@
-use crate::tests::memory::{Mailbox, MemorySockets};
+use crate::tests::memory::{Comes, Mailbox, MemorySockets};
 use journal_texts::read_journal;
 use office_map::{OfficeId, Plan};
 use office_runs::live::live;
 use office_runs::run::run_office;
 use office_runs::{
-    Around, Gate, Open, Progress, Quiet, Ran, RunFault, UdpSockets, Watch, without_address,
+    Around, Binds, Gate, Open, OpeningFault, Progress, Quiet, Ran, RunFault, UdpSockets, Watch,
+    without_address,
 };
 use session_language::{Program, read_sessions};
 use std::alloc::Global;
@@ -14,6 +15,7 @@ use std::sync::Wait;
 use std::sync::atomic::{AtomicU64, Ordering};
 use std::test::Fail;
 use std::thread::{Threads, yield_now};
+use std::time::{Duration, Instant};
 
 mod memory;
 
@@ -25,8 +27,7 @@ const ROW_SESSIONS: &str =
     "session a\nrepeat 3\nset r = read r * 2\nend\ngive read r\nend\nsession c\nset s = read s + 5\ngive read s\nend\nsession b\nset r = read r + read s\nset s = 0\ngive read r\nend\n";
 
 /// Two offices that have addresses and share nothing.
-const APART: &str =
-    "plan 1 run 3\noffice a 127.0.0.1:47001\noffice b 127.0.0.1:47002\npair a b fork a\n";
+const APART: &str = "plan 1 run 3\noffice a 127.0.0.1:1\noffice b 127.0.0.1:2\npair a b fork a\n";
 
 const GIVE: &str = "session a\ngive 1\nend\n";
 
@@ -47,7 +48,7 @@ fn live_in_memory<R: Threads + Wait + Clock + Sync, G: Gate + Sync>(
     journals: bool,
     refused: u64,
     gate: &G,
-) -> Result<Result<Ran, RunFault>, Fail> {
+) -> Result<Result<Ran, OpeningFault>, Fail> {
     let plan = plan(alloc, text)?;
     let programs = programs(alloc, &plan, sessions)?;
     let boxes = Mailbox::some(alloc)?;
@@ -79,7 +80,7 @@ fn three_offices_finish_on_threads(rt: HostRuntime) -> Result<(), Fail> {
 }
 
 /// Whether nothing is left, no fault and no journal is told, and the lines begin so.
-fn is_told(ran: Result<Ran, RunFault>, lines: &[&str]) -> bool {
+fn is_told(ran: Result<Ran, OpeningFault>, lines: &[&str]) -> bool {
     match ran {
         Ok(ran) => {
             ran.unfinished == 0
@@ -142,6 +143,8 @@ fn offices_run_at_the_same_time(rt: HostRuntime) -> Result<(), Fail> {
     let told = ran.is_ok_and(|ran| ran.unfinished == 0);
     assert!(rt; told);
     assert_eq!(rt; gate.missed.load(Ordering::SeqCst), 0);
+    assert_eq!(rt; gate.seen[0].load(Ordering::SeqCst), 1);
+    assert_eq!(rt; gate.seen[1].load(Ordering::SeqCst), 1);
     Ok(())
 }
 
@@ -174,6 +177,55 @@ fn a_thread_that_cannot_be_started_is_told(rt: HostRuntime) -> Result<(), Fail> 
     Ok(())
 }
 
+/// Says no to the second office's first thread, once the first office's socket is gone.
+#[derive(Drop)]
+struct NoThreadAfter<'a> {
+    asked: AtomicU64,
+    first: Option<&'a Mailbox>,
+}
+
+impl<'a> Gate for NoThreadAfter<'a> {
+    fn before(&self, _office: OfficeId) {}
+
+    fn may_start(&self) -> bool {
+        if self.asked.fetch_add(1, Ordering::SeqCst) < 2 {
+            return true;
+        }
+        for _ in 0..10_000_000 {
+            if self
+                .first
+                .is_none_or(|mailbox| mailbox.gone.load(Ordering::SeqCst) == 1)
+            {
+                return false;
+            }
+            yield_now();
+        }
+        false
+    }
+}
+
+/// Of two faults the one that came first is told: here a socket fails, and its thread is over before another can't be started.
+#[test]
+fn the_first_fault_is_told(rt: HostRuntime) -> Result<(), Fail> {
+    let alloc = rt.alloc();
+    let plan = plan(alloc, ROW)?;
+    let programs = programs(alloc, &plan, ROW_SESSIONS)?;
+    let boxes = Mailbox::some(alloc)?;
+    let binds = MemorySockets::new(&rt, alloc, &boxes, u64::MAX, 0);
+    let gate = NoThreadAfter {
+        asked: AtomicU64::new(0),
+        first: boxes.first(),
+    };
+    let around = Around {
+        binds: &binds,
+        gate: &gate,
+        watch: &Quiet,
+    };
+    let ran = live(&rt, alloc, &plan, &programs, false, &around);
+    assert_eq!(rt; ran.map(|ran| ran.fault), Ok(Some(RunFault::WireFailed)));
+    Ok(())
+}
+
 /// Whichever socket can't be bound, nothing runs.
 #[test]
 fn a_socket_that_cannot_be_bound_is_told(rt: HostRuntime) -> Result<(), Fail> {
@@ -184,9 +236,9 @@ fn a_socket_that_cannot_be_bound_is_told(rt: HostRuntime) -> Result<(), Fail> {
     Ok(())
 }
 
-fn is_bind_fault(ran: Result<Ran, RunFault>) -> bool {
+fn is_bind_fault(ran: Result<Ran, OpeningFault>) -> bool {
     match ran {
-        Err(RunFault::BindFailed(_, kind)) => kind == ErrorKind::AddrInUse,
+        Err(OpeningFault::BindFailed(_, kind)) => kind == ErrorKind::AddrInUse,
         _ => false,
     }
 }
@@ -216,7 +268,7 @@ fn a_socket_that_fails_ends_the_run(rt: HostRuntime) -> Result<(), Fail> {
 }
 
 /// Whether it ended by a failing socket, and the lines begin so.
-fn is_broken(ran: Result<Ran, RunFault>, lines: &[&str]) -> bool {
+fn is_broken(ran: Result<Ran, OpeningFault>, lines: &[&str]) -> bool {
     match ran {
         Ok(ran) => ran.fault == Some(RunFault::WireFailed) && begins(ran.text.as_str(), lines),
         Err(_) => false,
@@ -259,9 +311,7 @@ fn alone<R: Wait + Clock, W: Watch>(
     journals: bool,
     fails_at: u64,
     watch: &W,
-) -> Result<Result<Ran, RunFault>, Fail> {
-    let plan = plan(alloc, APART)?;
-    let programs = programs(alloc, &plan, GIVE)?;
+) -> Result<Result<Ran, OpeningFault>, Fail> {
     let boxes = Mailbox::some(alloc)?;
     let binds = MemorySockets::new(rt, alloc, &boxes, u64::MAX, fails_at);
     let around = Around {
@@ -269,6 +319,19 @@ fn alone<R: Wait + Clock, W: Watch>(
         gate: &Open,
         watch,
     };
+    alone_with(rt, alloc, turns, journals, &around)
+}
+
+/// The same with what is around it.
+fn alone_with<R: Wait + Clock, B: Binds, G: Gate, W: Watch>(
+    rt: &R,
+    alloc: Global,
+    turns: u64,
+    journals: bool,
+    around: &Around<'_, B, G, W>,
+) -> Result<Result<Ran, OpeningFault>, Fail> {
+    let plan = plan(alloc, APART)?;
+    let programs = programs(alloc, &plan, GIVE)?;
     if plan.offices() == 0 {
         return Err(Fail::from("an office"));
     }
@@ -280,8 +343,105 @@ fn alone<R: Wait + Clock, W: Watch>(
         &programs,
         turns,
         journals,
-        &around,
+        around,
     ))
+}
+
+/// Counts the turns of each office.
+#[derive(Drop)]
+struct Counted {
+    turns: [AtomicU64; 3],
+}
+
+impl Counted {
+    fn none() -> Counted {
+        Counted {
+            turns: [AtomicU64::new(0), AtomicU64::new(0), AtomicU64::new(0)],
+        }
+    }
+
+    fn of(&self, office: usize) -> u64 {
+        self.turns
+            .get(office)
+            .map_or(0, |turns| turns.load(Ordering::SeqCst))
+    }
+}
+
+impl Gate for Counted {
+    fn before(&self, office: OfficeId) {
+        if let Some(turns) = self.turns.get(office.index()) {
+            turns.fetch_add(1, Ordering::SeqCst);
+        }
+    }
+}
+
+/// The gate is asked before each turn. The first one doesn't wait, and each other of an office that has nothing to do waits 5
+/// milliseconds at most.
+#[test]
+fn an_idle_office_waits_before_its_turns(rt: HostRuntime) -> Result<(), Fail> {
+    let alloc = rt.alloc();
+    let boxes = Mailbox::some(alloc)?;
+    let binds = MemorySockets::to_which(&rt, alloc, &boxes, Comes::Frames);
+    let gate = Counted::none();
+    let around = Around {
+        binds: &binds,
+        gate: &gate,
+        watch: &Quiet,
+    };
+    let ran = alone_with(&rt, alloc, 10, false, &around)?;
+    assert!(rt; is_told(ran, &["a.1 done reads - writes - gives 1", "unfinished 0"]));
+    assert_eq!(rt; gate.of(0), 10);
+    let waited = boxes
+        .first()
+        .map_or(0, |mailbox| mailbox.waited.load(Ordering::SeqCst));
+    assert_eq!(rt; waited, 45);
+    Ok(())
+}
+
+/// Beside datagrams that are no frames, as many as it reads, an office lives as long as its turns are where nothing comes.
+#[test]
+fn a_flood_takes_no_turns(rt: HostRuntime) -> Result<(), Fail> {
+    let alloc = rt.alloc();
+    let boxes = Mailbox::some(alloc)?;
+    let binds = MemorySockets::to_which(&rt, alloc, &boxes, Comes::Noise);
+    let gate = Counted::none();
+    let around = Around {
+        binds: &binds,
+        gate: &gate,
+        watch: &Quiet,
+    };
+    let start = Instant::now(&rt)?;
+    let ran = alone_with(&rt, alloc, 20, false, &around)?;
+    let time = start.elapsed(&rt)?;
+    assert!(rt; is_told(ran, &["a.1 done reads - writes - gives 1", "unfinished 0"]));
+    assert!(rt; gate.of(0) > 20);
+    assert!(rt; time >= Duration::from_millis(100));
+    Ok(())
+}
+
+/// Where nothing arrives and sessions wait for it, each office of a run of all has 100,000 turns, and then it ends.
+#[test]
+fn a_run_of_all_ends(rt: HostRuntime) -> Result<(), Fail> {
+    let alloc = rt.alloc();
+    let plan = plan(alloc, ROW)?;
+    let programs = programs(alloc, &plan, ROW_SESSIONS)?;
+    let boxes = Mailbox::some(alloc)?;
+    let binds = MemorySockets::to_which(&rt, alloc, &boxes, Comes::Nothing);
+    let gate = Counted::none();
+    let around = Around {
+        binds: &binds,
+        gate: &gate,
+        watch: &Quiet,
+    };
+    let ran = live(&rt, alloc, &plan, &programs, false, &around);
+    assert_eq!(rt;
+        ran.map(|ran| (ran.unfinished > 0, ran.fault)),
+        Ok((true, None))
+    );
+    for office in 0..3 {
+        assert_eq!(rt; gate.of(office), 100_000);
+    }
+    Ok(())
 }
 
 /// What the journal of the office alone is, which has so many turns and whose socket fails at that call: where it fails at
@@ -383,7 +543,7 @@ fn a_thousand_sessions_over_udp(rt: HostRuntime) -> Result<(), Fail> {
 }
 
 /// Whether all sessions finished, so many, and the values that they wrote have this sum.
-fn has_counted(ran: Result<Ran, RunFault>, count: usize, wanted: u64) -> bool {
+fn has_counted(ran: Result<Ran, OpeningFault>, count: usize, wanted: u64) -> bool {
     let Ok(ran) = ran else {
         return false;
     };
@@ -396,4 +556,28 @@ fn has_counted(ran: Result<Ran, RunFault>, count: usize, wanted: u64) -> bool {
         }
     }
     ran.unfinished == 0 && ran.text.lines().count().checked_sub(1) == Some(count) && sum == wanted
+}
+
+/// Whichever call of its socket fails at each office, a run of all ends with that, and says what stands.
+#[test]
+fn a_socket_that_fails_ends_a_run_of_all(rt: HostRuntime) -> Result<(), Fail> {
+    let alloc = rt.alloc();
+    let plan = plan(alloc, ROW)?;
+    let programs = programs(alloc, &plan, ROW_SESSIONS)?;
+    for call in 0..3u64 {
+        let boxes = Mailbox::some(alloc)?;
+        let binds = MemorySockets::new(&rt, alloc, &boxes, u64::MAX, call);
+        let around = Around {
+            binds: &binds,
+            gate: &Open,
+            watch: &Quiet,
+        };
+        let ran = live(&rt, alloc, &plan, &programs, false, &around);
+        assert_eq!(rt;
+            ran.map(|ran| ran.fault),
+            Ok(Some(RunFault::WireFailed)),
+            "call {call}"
+        );
+    }
+    Ok(())
 }

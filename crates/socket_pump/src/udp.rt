@@ -100,7 +100,7 @@ impl UdpWire {
         match self.poll.poll(&mut self.events, Some(time)) {
             Ok(()) => Ok(()),
             Err(error) => {
-                self.failed();
+                let WireFailed = self.failed();
                 Err(error)
             }
         }

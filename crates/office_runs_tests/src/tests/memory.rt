@@ -15,10 +15,12 @@ use std::sync::{Mutex, Wait};
 use std::thread::{sleep, yield_now};
 use std::time::Duration;
 
-/// The datagrams that came to a socket and weren't received.
+/// The datagrams that came to a socket and weren't received, how long it was to wait, in milliseconds, and whether it is gone.
 #[derive(Drop)]
 pub(crate) struct Mailbox {
     came: Mutex<VecDeque<Datagram>>,
+    pub(crate) waited: AtomicU64,
+    pub(crate) gone: AtomicU64,
 }
 
 impl Mailbox {
@@ -28,10 +30,23 @@ impl Mailbox {
         for _ in 0..16 {
             boxes.push(Mailbox {
                 came: Mutex::new(VecDeque::new(alloc)),
+                waited: AtomicU64::new(0),
+                gone: AtomicU64::new(0),
             })?;
         }
         Ok(boxes)
     }
+}
+
+/// What comes to a socket in memory.
+#[derive(Clone, Copy, PartialEq, Eq)]
+pub(crate) enum Comes {
+    /// What is sent to it.
+    Frames,
+    /// One byte, which is no frame, as often as it is asked.
+    Noise,
+    /// Nothing, and nobody waits at it.
+    Nothing,
 }
 
 /// What binds them. The one with this number, from 0, is refused, and of each the call of `receive` or `send` with that number
@@ -44,6 +59,7 @@ pub(crate) struct MemorySockets<'a, R: Wait + Clock> {
     bound: AtomicU64,
     refused: u64,
     fails_at: u64,
+    comes: Comes,
 }
 
 impl<'a, R: Wait + Clock> MemorySockets<'a, R> {
@@ -61,6 +77,25 @@ impl<'a, R: Wait + Clock> MemorySockets<'a, R> {
             bound: AtomicU64::new(0),
             refused,
             fails_at,
+            comes: Comes::Frames,
+        }
+    }
+
+    /// None is refused and none fails, and that comes to them.
+    pub(crate) fn to_which(
+        rt: &'a R,
+        alloc: Global,
+        boxes: &'a [Mailbox],
+        comes: Comes,
+    ) -> MemorySockets<'a, R> {
+        MemorySockets {
+            rt,
+            alloc,
+            boxes,
+            bound: AtomicU64::new(0),
+            refused: u64::MAX,
+            fails_at: u64::MAX,
+            comes,
         }
     }
 }
@@ -76,6 +111,22 @@ pub(crate) struct MemorySocket<'a, R: Wait + Clock> {
     calls: u64,
     fails_at: u64,
     failures: u64,
+    comes: Comes,
+    end: End<'a>,
+}
+
+/// Says at its mailbox that a socket is gone.
+struct End<'a> {
+    mailbox: Option<&'a Mailbox>,
+}
+
+impl<'a> Drop for End<'a> {
+    fn drop(self) {
+        let Self { mailbox } = self;
+        if let Some(mailbox) = mailbox {
+            mailbox.gone.store(1, Ordering::SeqCst);
+        }
+    }
 }
 
 /// Nobody sleeps at a socket in memory.
@@ -92,6 +143,9 @@ impl<'a, R: Wait + Clock> Binds for MemorySockets<'a, R> {
     type Alarm = NoAlarm;
 
     fn bind(&self, at: SocketAddr) -> io::Result<(MemorySocket<'a, R>, NoAlarm)> {
+        if !at.ip().is_loopback() {
+            return Err(io::Error::from(io::ErrorKind::AddrNotAvailable));
+        }
         let count = self.bound.fetch_add(1, Ordering::SeqCst);
         if count == self.refused {
             return Err(io::Error::from(io::ErrorKind::AddrInUse));
@@ -110,6 +164,10 @@ impl<'a, R: Wait + Clock> Binds for MemorySockets<'a, R> {
             calls: 0,
             fails_at: self.fails_at,
             failures: 0,
+            comes: self.comes,
+            end: End {
+                mailbox: self.boxes.get(own),
+            },
         };
         Ok((socket, NoAlarm))
     }
@@ -143,6 +201,10 @@ impl<'a, R: Wait + Clock> Wire for MemorySocket<'a, R> {
 
     fn receive(&mut self, buffer: &mut [u8; 64]) -> Result<Option<usize>, WireFailed> {
         self.called()?;
+        if self.comes == Comes::Noise {
+            buffer[0] = 0;
+            return Ok(Some(1));
+        }
         let Some(mailbox) = self.boxes.get(self.own) else {
             return Ok(None);
         };
@@ -178,11 +240,16 @@ impl<'a, R: Wait + Clock> Socket for MemorySocket<'a, R> {
     }
 
     fn set_peer(&mut self, v: OfficeId, at: SocketAddr) {
-        self.peers[v.index()] = usize::from(at.port()).saturating_sub(1);
+        if self.comes != Comes::Nothing {
+            self.peers[v.index()] = usize::from(at.port()).saturating_sub(1);
+        }
     }
 
     fn poll(&mut self, most: u64) -> Result<(), WireFailed> {
-        if most > 0 {
+        if let Some(mailbox) = self.boxes.get(self.own) {
+            mailbox.waited.fetch_add(most, Ordering::SeqCst);
+        }
+        if most > 0 && self.comes != Comes::Nothing {
             sleep(self.rt, Duration::from_millis(1));
         } else {
             yield_now();

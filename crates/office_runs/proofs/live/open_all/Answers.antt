@@ -17,11 +17,11 @@ loop-k-preserved g c =
           (ap (map opened_key) c.in_ok-push_back.ensures.items ∙ map-append opened_key c.loop-k.offices.items (c.in_ok-office.office ∷ []));
     }
 
-pub returns-clause-keys : goal.returns-clause-keys
-returns-clause-keys g c =
+pub returns : goal.returns
+returns g c =
     let left : length c.loop-k.sockets.items + c.loop-k.k ≡ length c.args.plan.now.offices = c.loop-k.invariant.left in
     let end : c.offices-k-end.result ≡ length c.args.plan.now.offices = c.offices-k-end.ensures.count in
     let test = c.loop-k-test.false in
     let all : c.loop-k.k ≡ length c.args.plan.now.offices = omega (arith, left, end, test) in
     let of : ℕ → Key = λ me. (c.args.plan.now, me) in
-    c.loop-k.invariant.keys ∙ ap (λ n. map of (range_with_len 0 n)) all
+    record { keys = c.loop-k.invariant.keys ∙ ap (λ n. map of (range_with_len 0 n)) all }

@@ -45,7 +45,7 @@ returns-in_err-ran-clause-judged g c =
     (plan_taken files c.new-standard.result c.args.plan.now c.read_plan.new.standard c.in_ok-plan.plan c.in_ok-plan.ensures.meaning)
     (at_next IsOfRun files c.read_plan.new.standard c.read_programs.new.standard c.args.sessions.now [] (record nothing { plan = Some c.in_ok-plan.plan }) (record nothing { plan = Some c.in_ok-plan.plan; programs = Some c.in_ok-programs.programs.items }) inputs.Sessions [] (NoRun c.in_err-ran.field-0.0)
     (sessions_taken files c.read_plan.new.standard c.args.sessions.now c.read_programs.new.standard c.in_ok-plan.plan c.in_ok-programs.programs.items c.in_ok-programs.ensures.meaning)
-    (texts.at_end IsOfRun files c.read_programs.new.standard (record nothing { plan = Some c.in_ok-plan.plan; programs = Some c.in_ok-programs.programs.items }) (NoRun c.in_err-ran.field-0.0) (inr (inl c.in_err-ran.ensures.untold))))))
+    (texts.at_end IsOfRun files c.read_programs.new.standard (record nothing { plan = Some c.in_ok-plan.plan; programs = Some c.in_ok-programs.programs.items }) (NoRun c.in_err-ran.field-0.0) (inr (inl tt))))))
 
 pub returns-clause-judged : goal.returns-clause-judged
 returns-clause-judged g c =
