@@ -45,7 +45,7 @@ class Journals:
     def __init__(self, entries, times):
         self.entries, self.times = entries, times
         self.lines = [[], []]
-        self.made, self.taken, self.tickets = [0, 0], [0, 0], [0, 0]
+        self.made, self.taken, self.tickets, self.waiting = [0, 0], [0, 0], [0, 0], [0, 0]
 
     def put(self, at, line, times=1):
         self.lines[at].extend(["0 " + line] * times)
@@ -54,18 +54,21 @@ class Journals:
         return f"4450010{kind}{RUN:08x}{sender:02x}{1 - sender:02x}{number:016x}{self.taken[sender]:016x}{body}"
 
     def message(self, sender, body):
-        """A message is made and comes; where frames come again, a count alone follows."""
+        """A message is made and comes, and acknowledges those that came; where frames come again, a count alone follows."""
         to = 1 - sender
         self.made[sender] += 1
+        self.waiting[sender] += 1
         frame = self.frame(1, sender, self.made[sender], body)
-        self.put(sender, f"send o{to} 1 = frame {frame}", self.times)
+        self.put(sender, f"send o{to} {self.waiting[sender]} = frame {frame}", self.times)
         self.put(to, f"took {frame} = taken")
         self.put(to, f"took {frame} = repeat", self.times - 1)
         self.taken[to] += 1
+        self.waiting[to] = 0
         if self.times > 1:
             count = self.frame(2, to, 0)
             self.put(to, f"send o{sender} 0 = frame {count}", self.times)
             self.put(sender, f"took {count} = acked", self.times)
+            self.waiting[sender] = 0
 
     def session(self, me, old, new):
         """An office gets the bottle from the other, and sets the record."""
