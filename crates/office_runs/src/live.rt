@@ -45,7 +45,7 @@ struct Crew<S: Socket, A: Wakes> {
 }
 
 /// Runs the sessions, each at its office: every office has a socket of this machine's own, a thread that turns it, and one that
-/// submits its sessions in their order. The run ends when all have finished, or an office has had 100,000 turns.
+/// submits its sessions in their order. The run ends when all have finished, or every office has had its 100,000 turns.
 /// Where the `journals` are wanted, their texts are told too, in the plan's order.
 ///
 /// # Errors
