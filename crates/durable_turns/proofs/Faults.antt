@@ -32,7 +32,7 @@ lacks s why (inr memory) is = let none : refusal.Memory ≡ refusal.JournalFull 
 full : (tells : Bool) (tag : ℕ) (k : Key) (last : Times) (now : ℕ) (p : DeskPass) (a b : Account) (q : DeskPass) (then : Times) → Stage tells tag k last now p a pump.JournalFull b q then → most_entries ≤ length q.seen
 full tells tag k last now p a b q then (WhileHearing heard times) = heard.fault.1
 full tells tag k last now p a b q then (AtRules mid received took refused heard why rules fault wire times) = lacks (office_with k q.seen) why.refusal rules.1.done.ends.1 fault
-full tells tag k last now p a b q then (WhileTelling mid ruled received took refused done heard rules made told due_once counts remembers) = told.fault.1
+full tells tag k last now p a b q then (WhileTelling mid ruled received took refused done heard rules made told acked known due_once counts remembers) = told.fault.1
 
 broke : (tells : Bool) (tag : ℕ) (k : Key) (last : Times) (now : ℕ) (p : DeskPass) (a : Account) (f : PumpFault) (b : Account) (q : DeskPass) (then : Times) (failed : Bool) (x y : Account) → Stage tells tag k last now p a f b q then → failed ≡ false → y.failures ≡ x.failures →
     BreaksOff failed q.seen x y (told_as f)

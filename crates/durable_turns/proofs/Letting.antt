@@ -37,7 +37,7 @@ turned_begins tells tag k last now p a t b q then x =
 pub stage_begins : (tells : Bool) (tag : ℕ) (k : Key) (last : Times) (now : ℕ) (p : DeskPass) (a : Account) (f : PumpFault) (b : Account) (q : DeskPass) (then : Times) → Stage tells tag k last now p a f b q then → Begins p q
 stage_begins tells tag k last now p a f b q then (WhileHearing heard times) = hears_begins tag k p q heard.heard heard.hears
 stage_begins tells tag k last now p a f b q then (AtRules mid received took refused heard why rules fault wire times) = begins_both p mid q (hears_begins tag k p mid heard.heard heard.hearing.hears) (does_begins _ k mid q rules)
-stage_begins tells tag k last now p a f b q then (WhileTelling mid ruled received took refused done heard rules made told due_once counts remembers) =
+stage_begins tells tag k last now p a f b q then (WhileTelling mid ruled received took refused done heard rules made told acked known due_once counts remembers) =
     begins_both p mid q (hears_begins tag k p mid heard.heard heard.hearing.hears) (begins_both mid ruled q (does_begins _ k mid ruled rules) (sends_begins tag k ruled q made told.sends))
 
 -- ---- what stands
@@ -132,6 +132,8 @@ on_wire tells tag k last now p t before mail m then a b c out clear is_mail fetc
   made = x.made;
   told = record { sends = x.told.sends; mine = x.told.mine; failures = failures ∙ fetches.gives.0; wire = wire };
   sent = x.sent;
+  acked = x.acked;
+  known = x.known;
   all_due = x.all_due;
   due_once = x.due_once;
   counts = x.counts;

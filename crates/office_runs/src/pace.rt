@@ -3,7 +3,7 @@
 ghost use Rattle.std.specs.Prelude.{◌≡◌, ◌≤◌, [], ◌∷◌};
 ghost use Rattle.office_runs.specs.Rounds.{counted, counts, is_void, longest_wait};
 
-use socket_pump::{MOST_DATAGRAMS, MOST_RULES, RESEND_AFTER, Turn};
+use socket_pump::{MOST_DATAGRAMS, MOST_RULES, SHORTEST_RESEND, Turn};
 use std::rt::Clock;
 use std::time::Instant;
 
@@ -52,7 +52,7 @@ pub(crate) struct Pace {
     now: u64,
     /// There may be more to do at once.
     busy: bool,
-    /// When the first message is sent again that was sent since the last resend.
+    /// When the first message may be sent again that was sent since the last resend.
     due: u64,
     /// When it was last told how far the run is.
     told: u64,
@@ -96,7 +96,7 @@ impl Pace {
         let came = turn.taken.saturating_add(turn.refused);
         self.busy = came >= MOST_DATAGRAMS || turn.rules >= MOST_RULES;
         if turn.sent > 0 && self.due <= self.now {
-            self.due = self.now.saturating_add(RESEND_AFTER);
+            self.due = self.now.saturating_add(SHORTEST_RESEND);
         }
     }
 

@@ -1,8 +1,9 @@
 -- Nothing is remembered at first.
 use Rattle.std.proofs.Common.{◌≡◌, ℕ, zero, suc, get_or, replicate, eqb, cond, Bool, true, false, Option, None, refl}
+use Rattle.socket_pump.specs.declared.last.LastSend.{LastSend}
 use Rattle.socket_pump.specs.Last.{no_slot, read_slot}
 
-empty_slot : (b : Bool) (m : Option ℕ) → cond b m m ≡ m
+empty_slot : (b : Bool) (m : Option LastSend) → cond b m m ≡ m
 empty_slot true m = refl
 empty_slot false m = refl
 

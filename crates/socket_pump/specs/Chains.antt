@@ -11,6 +11,7 @@ use Rattle.site_core.specs.declared.reply.Refusal.{Refusal}
 use Rattle.site_core.specs.declared.reply.Refusal.TheVariants.{Memory, JournalFull}
 use Rattle.site_core.specs.Journals.{Site, noted, Receives}
 use Rattle.locked_office.specs.Calls.{Key, DeskPass, Does}
+use Rattle.socket_pump.specs.declared.last.LastSend.{LastSend}
 use Rattle.socket_pump.specs.Last.{IsDue}
 
 -- a datagram, and what the office answered to it
@@ -106,7 +107,7 @@ abbrev pub Sent : ℕ → ℕ → List Made → Type 0
 Sent v n [] = ⊥
 Sent v n (m ∷ ms) = ((m.to ≡ v) × (m.frame.number ≡ n)) ⊎ Sent v n ms
 
--- each brings a count alone, or a message that was due now, and none comes again
-abbrev pub DueOnce : (ℕ → ℕ → Option ℕ) → ℕ → List Made → Type 0
-DueOnce last now [] = Unit {0}
-DueOnce last now (m ∷ ms) = ((m.frame.number ≡ 0) ⊎ IsDue (last m.to m.frame.number) now) × (Sent m.to m.frame.number ms → ⊥) × DueOnce last now ms
+-- each brings a count alone, or a message that was due now, where each neighbour was known to have taken so many; and none comes again
+abbrev pub DueOnce : (ℕ → ℕ → Option LastSend) → (ℕ → ℕ) → ℕ → List Made → Type 0
+DueOnce last acked now [] = Unit {0}
+DueOnce last acked now (m ∷ ms) = ((m.frame.number ≡ 0) ⊎ IsDue (last m.to m.frame.number) (acked m.to) now) × (Sent m.to m.frame.number ms → ⊥) × DueOnce last acked now ms

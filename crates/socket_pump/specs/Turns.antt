@@ -8,16 +8,18 @@ use Rattle.locked_office.specs.declared.advance.Stopped.{Stopped}
 use Rattle.locked_office.specs.Calls.{Key, DeskPass, Does, office_with}
 use Rattle.locked_office.specs.Advance.{Advances}
 use Rattle.locked_office.specs.Sends.{WaitsFor}
+use Rattle.site_core.specs.Growing.{link_at}
+use Rattle.socket_pump.specs.declared.last.LastSend.{LastSend}
 use Rattle.socket_pump.specs.declared.pump.Turn.{Turn}
 use Rattle.socket_pump.specs.declared.pump.PumpFault.{PumpFault}
 use Rattle.socket_pump.specs.declared.pump.PumpFault.TheVariants.{WireFailed, Memory, JournalFull}
 use Rattle.socket_pump.specs.Wires.{Account, risen}
-use Rattle.socket_pump.specs.Last.{IsDue}
+use Rattle.socket_pump.specs.Last.{IsDue, sent_now}
 use Rattle.socket_pump.specs.Chains.{Heard, Made, Hears, taken, AllCount, AreTooks, Brought, answers, Sends, sent_entry, datagram, Sent, DueOnce}
 
--- when the message of each neighbour and number was last sent
+-- when the message of each neighbour and number was last sent, and how long it then pauses
 abbrev pub Times : Type 0
-Times = ℕ → ℕ → Option ℕ
+Times = ℕ → ℕ → Option LastSend
 
 -- ---- datagrams
 
@@ -80,9 +82,20 @@ pub record BrokeHearing (tells : Bool) (tag : ℕ) (k : Key) (p : DeskPass) (a :
 
 -- ---- messages
 
--- When each message was last sent, after these were sent now: of those that wait still. Of one that waits at the end alone, and wasn't sent, nothing is said.
-pub record Remembers (k : Key) (last then : Times) (now : ℕ) (p q : DeskPass) (made : List Made) : Type 0 where
-  pub sent : (v n : ℕ) → WaitsFor (office_with k q.seen) v n → Sent v n made → then v n ≡ Some now
+-- how many messages v is known to have taken, at the end of what the pass has seen
+abbrev pub acked_at : Key → DeskPass → ℕ → ℕ
+acked_at k p v = (link_at k.0 k.1 p.seen v).sending.acked
+
+-- how many v was known to have taken at some time from p to q; and each neighbour
+abbrev pub IsKnown : Key → DeskPass → DeskPass → ℕ → ℕ → Type 0
+IsKnown k p q v acked = (acked_at k p v ≤ acked) × (acked ≤ acked_at k q v)
+
+abbrev pub AreKnown : Key → DeskPass → DeskPass → (ℕ → ℕ) → Type 0
+AreKnown k p q acked = (v : ℕ) → IsKnown k p q v (acked v)
+
+-- What is remembered of each message, after these were sent now: of those that wait still. Of one that waits at the end alone, and wasn't sent, nothing is said.
+pub record Remembers (k : Key) (last then : Times) (acked : ℕ → ℕ) (now : ℕ) (p q : DeskPass) (made : List Made) : Type 0 where
+  pub sent : (v n : ℕ) → WaitsFor (office_with k q.seen) v n → Sent v n made → then v n ≡ Some (sent_now (last v n) (acked v) now)
   pub others : (v n : ℕ) → WaitsFor (office_with k p.seen) v n → WaitsFor (office_with k q.seen) v n → (Sent v n made → ⊥) → then v n ≡ last v n
 
 -- frames were made, and went out
@@ -93,8 +106,8 @@ pub record Told (tells : Bool) (tag : ℕ) (k : Key) (p : DeskPass) (a : Account
   pub wire : tells ≡ true → b ≡ record a { accepted = a.accepted ++ map datagram made }
 
 -- each message to v that waited at p, waits still at q and was due is among them
-abbrev pub SentTo : Key → Times → ℕ → DeskPass → DeskPass → List Made → ℕ → Type 0
-SentTo k last now p q made v = (n : ℕ) → WaitsFor (office_with k p.seen) v n → WaitsFor (office_with k q.seen) v n → IsDue (last v n) now → Sent v n made
+abbrev pub SentTo : Key → Times → (ℕ → ℕ) → ℕ → DeskPass → DeskPass → List Made → ℕ → Type 0
+SentTo k last acked now p q made v = (n : ℕ) → WaitsFor (office_with k p.seen) v n → WaitsFor (office_with k q.seen) v n → IsDue (last v n) (acked v) now → Sent v n made
 
 -- a message to v is among them
 abbrev pub GotMessage : ℕ → List Made → Type 0
@@ -125,7 +138,7 @@ pub record BrokeTelling (tells : Bool) (tag : ℕ) (k : Key) (p : DeskPass) (a :
 
 -- ---- a turn
 
--- Datagrams, 32 or fewer and then none; rules, at most 64, and fewer only where none is next; messages, all that are due and no other; and a count to each who brought a message and got none.
+-- Datagrams, 32 or fewer and then none; rules, at most 64, and fewer only where none is next; messages, all that are due and no other, by how many each neighbour was known to have taken when the turn came to it; and a count to each who brought a message and got none.
 pub record Turned (tells : Bool) (tag : ℕ) (k : Key) (last : Times) (now : ℕ) (p : DeskPass) (a : Account) (t : Turn) (b : Account) (q : DeskPass) (then : Times) : Type 0 where
   pub mid : DeskPass
   pub ruled : DeskPass
@@ -135,10 +148,12 @@ pub record Turned (tells : Bool) (tag : ℕ) (k : Key) (last : Times) (now : ℕ
   pub made : List Made
   pub told : Told tells tag k ruled received b q made
   pub sent : length made ≡ t.sent
-  pub all_due : (v : ℕ) → SentTo k last now ruled q made v
-  pub due_once : DueOnce last now made
+  pub acked : ℕ → ℕ
+  pub known : AreKnown k ruled q acked
+  pub all_due : (v : ℕ) → SentTo k last acked now ruled q made v
+  pub due_once : DueOnce last acked now made
   pub counts : CountsGo heard.heard made
-  pub remembers : Remembers k last then now ruled q made
+  pub remembers : Remembers k last then acked now ruled q made
 
 -- where a turn broke off: while it heard, at the rules, or while it told
 pub data Stage (tells : Bool) (tag : ℕ) (k : Key) (last : Times) (now : ℕ) (p : DeskPass) (a : Account) (f : PumpFault) (b : Account) (q : DeskPass) (then : Times) : Type 0 where
@@ -146,4 +161,4 @@ pub data Stage (tells : Bool) (tag : ℕ) (k : Key) (last : Times) (now : ℕ) (
   AtRules : (mid : DeskPass) (received : Account) (took refused : ℕ) (heard : HeardAll tells tag k p a took refused received mid) (why : Stopped) (rules : Does (λ s s'. Advances tag 64 (Err why) s s') k mid q)
       (fault : IsFaultOf why.refusal f) (wire : b ≡ received) (times : (v n : ℕ) → then v n ≡ last v n) → Stage tells tag k last now p a f b q then
   WhileTelling : (mid ruled : DeskPass) (received : Account) (took refused done : ℕ) (heard : HeardAll tells tag k p a took refused received mid) (rules : Does (λ s s'. Advances tag 64 (Ok done) s s') k mid ruled)
-      (made : List Made) (told : BrokeTelling tells tag k ruled received f b q made) (due_once : DueOnce last now made) (counts : CountsBroke heard.heard made) (remembers : Remembers k last then now ruled q made) → Stage tells tag k last now p a f b q then
+      (made : List Made) (told : BrokeTelling tells tag k ruled received f b q made) (acked : ℕ → ℕ) (known : AreKnown k ruled q acked) (due_once : DueOnce last acked now made) (counts : CountsBroke heard.heard made) (remembers : Remembers k last then acked now ruled q made) → Stage tells tag k last now p a f b q then

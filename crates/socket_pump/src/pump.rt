@@ -11,7 +11,7 @@ ghost use Rattle.socket_pump.specs.Last.{last_of};
 ghost use Rattle.socket_pump.specs.Chains.{Made};
 ghost use Rattle.socket_pump.specs.Turns.{Turned, Stage, BrokeHearing, IsFaultOf, Told, BrokeTelling};
 ghost use Rattle.socket_pump.specs.refinement.Counts.{Acknowledges, AcknowledgesOnly};
-ghost use Rattle.socket_pump.specs.refinement.Stages.{HeardOne, HeardFrom, BrokeOne, Judged, frame_in, SpokeOf, SpokeTo, SpokeToAll, Broken, BrokenWith, AreCounts, AreFor, AreOf};
+ghost use Rattle.socket_pump.specs.refinement.Stages.{HeardOne, HeardFrom, BrokeOne, Judged, frame_in, SpokeOf, SpokeTo, SpokeToAll, BrokenOf, BrokenTo, BrokenToAll, AreCounts, AreFor};
 
 use crate::last::Lasts;
 use crate::senders::Senders;
@@ -90,8 +90,12 @@ impl Pump {
     }
 
     /// Takes in what came on the wire, at most 32 datagrams; does the rules that come next, at most 64; sends each message that
-    /// waits and wasn't sent in the last 50 milliseconds; and sends a count to each neighbour whose message came in this turn
-    /// and who got none. `now` is in milliseconds, from any beginning, and of the same clock in each turn.
+    /// waits and is due; and sends a count to each neighbour whose message came in this turn and who got none. `now` is in
+    /// milliseconds, from any beginning, and of the same clock in each turn.
+    ///
+    /// A message is due where it is new, and again when its pause is over: 50 milliseconds after it was first sent, and after
+    /// each further time twice as long as before, at most 5 seconds. Once its neighbour is known to have taken a message more,
+    /// the pause is 50 milliseconds again.
     ///
     /// # Errors
     /// `WireFailed` where a call of the wire failed, `JournalFull` and `Memory` where the office had no room for an entry. What
@@ -158,7 +162,7 @@ impl Pump {
         ensures few { IfOk result (λ sent. sent ≤ 288) }
         ensures told { MatchResult result
             (λ sent. SpokeToAll W.tells pass.old.tag desk.now.key (last_of self.old.lasts) (last_of self.new.lasts) now pass.old (W.account wire.old) senders.old sent (W.account wire.new) pass.new senders.new)
-            (λ f. Broken W.tells pass.old.tag desk.now.key (last_of self.old.lasts) (last_of self.new.lasts) now pass.old (W.account wire.old) f (W.account wire.new) pass.new) }
+            (λ f. BrokenToAll W.tells pass.old.tag desk.now.key (last_of self.old.lasts) (last_of self.new.lasts) now pass.old (W.account wire.old) f (W.account wire.new) pass.new) }
     {
         links_only_grow();
         if !desk.some_waits(rt, pass) {
@@ -235,15 +239,16 @@ fn tell_one<R: Wait, W: Wire>(
     ensures others { (u i : ℕ) → (u ≡ v → ⊥) → last_of last.new u i ≡ last_of last.old u i }
     ensures told { MatchResult result
         (λ sent. SpokeTo W.tells pass.old.tag desk.now.key (last_of last.old) (last_of last.new) now pass.old (W.account wire.old) sent (W.account wire.new) pass.new v)
-        (λ f. BrokenWith (AreFor v) W.tells pass.old.tag desk.now.key (last_of last.old) (last_of last.new) now pass.old (W.account wire.old) f (W.account wire.new) pass.new) }
+        (λ f. BrokenTo W.tells pass.old.tag desk.now.key (last_of last.old) (last_of last.new) now pass.old (W.account wire.old) f (W.account wire.new) pass.new v) }
 {
     links_only_grow();
     let Ok((first, count)) = desk.waiting(rt, pass, v) else {
         return Ok(0);
     };
+    let acked = first - 1;
     let mut sent = 0;
     for number in first..first + count as u64 {
-        let more = match tell_message(rt, last, wire, desk, pass, v, number, now) {
+        let more = match tell_message(rt, last, wire, desk, pass, v, number, acked, now) {
             Ok(more) => more,
             Err(fault) => return Err(fault),
         };
@@ -252,7 +257,7 @@ fn tell_one<R: Wait, W: Wire>(
     Ok(sent)
 }
 
-// One message, if it is due and still waits: how many frames were made.
+// One message, if it is due, where its neighbour is known to have taken so many, and still waits: how many frames were made.
 fn tell_message<R: Wait, W: Wire>(
     rt: &R,
     last: &mut Lasts,
@@ -261,6 +266,7 @@ fn tell_message<R: Wait, W: Wire>(
     pass: &mut Pass<Office>,
     v: OfficeId,
     number: u64,
+    acked: u64,
     now: u64,
 ) -> Result<u32, PumpFault>
     requires of { IsOf desk.now pass.old }
@@ -270,11 +276,11 @@ fn tell_message<R: Wait, W: Wire>(
     ensures few { IfOk result (λ sent. sent ≤ 1) }
     ensures others { (u i : ℕ) → ((u ≡ v) × (i % 18 ≡ number % 18) → ⊥) → last_of last.new u i ≡ last_of last.old u i }
     ensures told { MatchResult result
-        (λ sent. SpokeOf W.tells pass.old.tag desk.now.key (last_of last.old) (last_of last.new) now pass.old (W.account wire.old) sent (W.account wire.new) pass.new v number)
-        (λ f. BrokenWith (AreOf v number) W.tells pass.old.tag desk.now.key (last_of last.old) (last_of last.new) now pass.old (W.account wire.old) f (W.account wire.new) pass.new) }
+        (λ sent. SpokeOf W.tells pass.old.tag desk.now.key (last_of last.old) (last_of last.new) acked now pass.old (W.account wire.old) sent (W.account wire.new) pass.new v number)
+        (λ f. BrokenOf W.tells pass.old.tag desk.now.key (last_of last.old) (last_of last.new) acked now pass.old (W.account wire.old) f (W.account wire.new) pass.new v number) }
 {
     links_only_grow();
-    if !last.is_due(v, number, now) {
+    if !last.is_due(v, number, acked, now) {
         return Ok(0);
     }
     let frame = match desk.send_number(rt, pass, v, number) {
@@ -282,7 +288,7 @@ fn tell_message<R: Wait, W: Wire>(
         Ok(None) => return Ok(0),
         Err(refusal) => return Err(fault_of(refusal)),
     };
-    last.put(v, number, now);
+    last.put(v, number, acked, now);
     match put_out(wire, v, &frame) {
         Ok(()) => Ok(1),
         Err(WireFailed) => Err(PumpFault::WireFailed),

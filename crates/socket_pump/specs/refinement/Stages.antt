@@ -13,7 +13,7 @@ use Rattle.socket_pump.specs.Wires.{Account}
 use Rattle.socket_pump.specs.Last.{IsDue}
 use Rattle.socket_pump.specs.Chains.{Heard, Made, one_taken, taken, Counts, Sent, DueOnce}
 use Rattle.socket_pump.specs.refinement.Counts.{Owes, Spares}
-use Rattle.socket_pump.specs.Turns.{Times, Hearing, HeardAll, BrokeHearing, IsFaultOf, Remembers, Told, SentTo, BrokeTelling}
+use Rattle.socket_pump.specs.Turns.{Times, Hearing, HeardAll, BrokeHearing, IsFaultOf, IsKnown, AreKnown, Remembers, Told, SentTo, BrokeTelling}
 
 abbrev pub one_if : Bool → ℕ
 one_if true = 1
@@ -59,32 +59,41 @@ abbrev pub AreMessages : List Made → Type 0
 AreMessages made = (v n : ℕ) → Sent v n made → 0 < n
 
 -- so many messages were sent
-pub record Spoke (tells : Bool) (tag : ℕ) (k : Key) (last then : Times) (now : ℕ) (p : DeskPass) (a : Account) (sent : ℕ) (b : Account) (q : DeskPass) (made : List Made) : Type 0 where
+pub record Spoke (tells : Bool) (tag : ℕ) (k : Key) (last then : Times) (acked : ℕ → ℕ) (now : ℕ) (p : DeskPass) (a : Account) (sent : ℕ) (b : Account) (q : DeskPass) (made : List Made) : Type 0 where
   pub told : Told tells tag k p a b q made
   pub count : length made ≡ sent
-  pub due_once : DueOnce last now made
-  pub remembers : Remembers k last then now p q made
+  pub due_once : DueOnce last acked now made
+  pub remembers : Remembers k last then acked now p q made
   pub messages : AreMessages made
   pub used : AreUsed k q made
 
--- one message, to one neighbour, and to all
-abbrev pub SpokeOf : Bool → ℕ → Key → Times → Times → ℕ → DeskPass → Account → ℕ → Account → DeskPass → ℕ → ℕ → Type 0
-SpokeOf tells tag k last then now p a sent b q v n =
-    (made : List Made) × Spoke tells tag k last then now p a sent b q made × AreOf v n made × (WaitsFor (office_with k q.seen) v n → IsDue (last v n) now → Sent v n made)
+-- one message to one neighbour, which was known to have taken so many
+abbrev pub SpokeOf : Bool → ℕ → Key → Times → Times → ℕ → ℕ → DeskPass → Account → ℕ → Account → DeskPass → ℕ → ℕ → Type 0
+SpokeOf tells tag k last then acked now p a sent b q v n =
+    (made : List Made) × Spoke tells tag k last then (λ u. acked) now p a sent b q made × AreOf v n made × (WaitsFor (office_with k q.seen) v n → IsDue (last v n) acked now → Sent v n made)
 
+-- all to one, and to all
 abbrev pub SpokeTo : Bool → ℕ → Key → Times → Times → ℕ → DeskPass → Account → ℕ → Account → DeskPass → ℕ → Type 0
-SpokeTo tells tag k last then now p a sent b q v = (made : List Made) × Spoke tells tag k last then now p a sent b q made × AreFor v made × SentTo k last now p q made v
+SpokeTo tells tag k last then now p a sent b q v =
+    (acked : ℕ) × IsKnown k p q v acked × (made : List Made) × Spoke tells tag k last then (λ u. acked) now p a sent b q made × AreFor v made × SentTo k last (λ u. acked) now p q made v
 
 abbrev pub SpokeToAll : Bool → ℕ → Key → Times → Times → ℕ → DeskPass → Account → List Bool → ℕ → Account → DeskPass → List Bool → Type 0
-SpokeToAll tells tag k last then now p a s sent b q t = (made : List Made) × Spoke tells tag k last then now p a sent b q made × ((v : ℕ) → SentTo k last now p q made v) × Spares s made t
+SpokeToAll tells tag k last then now p a s sent b q t =
+    (acked : ℕ → ℕ) × AreKnown k p q acked × (made : List Made) × Spoke tells tag k last then acked now p a sent b q made × ((v : ℕ) → SentTo k last acked now p q made v) × Spares s made t
 
 -- some messages went out, and then a fault
-abbrev pub Broken : Bool → ℕ → Key → Times → Times → ℕ → DeskPass → Account → PumpFault → Account → DeskPass → Type 0
-Broken tells tag k last then now p a f b q = (made : List Made) × BrokeTelling tells tag k p a f b q made × DueOnce last now made × Remembers k last then now p q made × AreMessages made
+abbrev pub Broken : Bool → ℕ → Key → Times → Times → (ℕ → ℕ) → ℕ → DeskPass → Account → PumpFault → Account → DeskPass → List Made → Type 0
+Broken tells tag k last then acked now p a f b q made = BrokeTelling tells tag k p a f b q made × DueOnce last acked now made × Remembers k last then acked now p q made × AreMessages made
 
--- the same, where all were such
-abbrev pub BrokenWith : (List Made → Type 0) → Bool → ℕ → Key → Times → Times → ℕ → DeskPass → Account → PumpFault → Account → DeskPass → Type 0
-BrokenWith such tells tag k last then now p a f b q = (made : List Made) × BrokeTelling tells tag k p a f b q made × DueOnce last now made × Remembers k last then now p q made × AreMessages made × such made
+-- the same, where all were of one message, to one neighbour, and to any
+abbrev pub BrokenOf : Bool → ℕ → Key → Times → Times → ℕ → ℕ → DeskPass → Account → PumpFault → Account → DeskPass → ℕ → ℕ → Type 0
+BrokenOf tells tag k last then acked now p a f b q v n = (made : List Made) × Broken tells tag k last then (λ u. acked) now p a f b q made × AreOf v n made
+
+abbrev pub BrokenTo : Bool → ℕ → Key → Times → Times → ℕ → DeskPass → Account → PumpFault → Account → DeskPass → ℕ → Type 0
+BrokenTo tells tag k last then now p a f b q v = (acked : ℕ) × IsKnown k p q v acked × (made : List Made) × Broken tells tag k last then (λ u. acked) now p a f b q made × AreFor v made
+
+abbrev pub BrokenToAll : Bool → ℕ → Key → Times → Times → ℕ → DeskPass → Account → PumpFault → Account → DeskPass → Type 0
+BrokenToAll tells tag k last then now p a f b q = (acked : ℕ → ℕ) × AreKnown k p q acked × (made : List Made) × Broken tells tag k last then acked now p a f b q made
 
 -- frames with a count alone, one at most for each office
 abbrev pub AreCounts : List Made → Type 0

@@ -5,7 +5,7 @@ use Rattle.locked_office.specs.Calls.{Key}
 use Rattle.socket_pump.specs.declared.last.Lasts.{Lasts}
 use Rattle.socket_pump.specs.Last.{PumpView, last_of}
 use Rattle.socket_pump.specs.refinement.Counts.{Gets}
-use Rattle.socket_pump.specs.refinement.Stages.{SpokeTo, BrokenWith, AreFor}
+use Rattle.socket_pump.specs.refinement.Stages.{SpokeTo, BrokenTo}
 use Rattle.office_map.proofs.RecordEnds.{near_within}
 use Rattle.socket_pump.proofs.Near.{near_as}
 use Rattle.socket_pump.proofs.Speaking.{looked, silent_to_all, SpokeBelow, below_starts, below_on, below_past, below_broke, spoken_to_all}
@@ -22,7 +22,7 @@ loop-k-init g c =
       stays = c.some_waits.ensures.stays;
       few = omega arith;
       below = subst (λ (l : Lasts). SpokeBelow g.W.Wire.tells p.tag c.args.desk.now.key (last_of c.args.self.now.lasts) (last_of l) c.args.now p a c.args.senders.now 0 a c.some_waits.new.pass c.args.senders.now 0) same
-          (below_starts g.W.Wire.tells p.tag c.args.desk.now.key (last_of c.args.self.now.lasts) c.args.now p c.some_waits.new.pass a c.args.senders.now (looked c.args.desk.now.key p c.some_waits.new.pass c.requires.idle c.some_waits.ensures.looked));
+          (below_starts c.links_only_grow.ensures g.W.Wire.tells p.tag c.args.desk.now.key (last_of c.args.self.now.lasts) c.args.now p c.some_waits.new.pass a c.args.senders.now (looked c.args.desk.now.key p c.some_waits.new.pass c.requires.idle c.some_waits.ensures.looked));
     }
 
 pub returns-in-Err-clause-told : goal.returns-in-Err-clause-told
@@ -32,8 +32,8 @@ returns-in-Err-clause-told g c =
     let p = c.args.pass.now in
     below_broke c.links_only_grow.ensures g.W.Wire.tells p.tag k (last_of c.args.self.now.lasts) (last_of l.self-inside.last) (last_of c.tell_one.new.last) c.args.now p l.pass c.tell_one.new.pass
     (g.W.Wire.account c.args.wire.now) (g.W.Wire.account l.wire) (g.W.Wire.account c.tell_one.new.wire) c.args.senders.now l.senders l.sent l.k c.in-Err.fault l.invariant.below
-    (subst (λ (t : ℕ). BrokenWith (AreFor l.k) g.W.Wire.tells t k (last_of l.self-inside.last) (last_of c.tell_one.new.last) c.args.now l.pass (g.W.Wire.account l.wire) c.in-Err.fault (g.W.Wire.account c.tell_one.new.wire) c.tell_one.new.pass) l.invariant.stays.1
-    (subst (λ (v : ℕ). BrokenWith (AreFor v) g.W.Wire.tells l.pass.tag k (last_of l.self-inside.last) (last_of c.tell_one.new.last) c.args.now l.pass (g.W.Wire.account l.wire) c.in-Err.fault (g.W.Wire.account c.tell_one.new.wire) c.tell_one.new.pass) c.new-v.ensures c.in-Err.ensures.told))
+    (subst (λ (t : ℕ). BrokenTo g.W.Wire.tells t k (last_of l.self-inside.last) (last_of c.tell_one.new.last) c.args.now l.pass (g.W.Wire.account l.wire) c.in-Err.fault (g.W.Wire.account c.tell_one.new.wire) c.tell_one.new.pass l.k) l.invariant.stays.1
+    (subst (λ (v : ℕ). BrokenTo g.W.Wire.tells l.pass.tag k (last_of l.self-inside.last) (last_of c.tell_one.new.last) c.args.now l.pass (g.W.Wire.account l.wire) c.in-Err.fault (g.W.Wire.account c.tell_one.new.wire) c.tell_one.new.pass v) c.new-v.ensures c.in-Err.ensures.told))
 
 pub loop-k-preserved-then-not-are_neighbours : goal.loop-k-preserved-then-not-are_neighbours
 loop-k-preserved-then-not-are_neighbours g c =
@@ -81,5 +81,5 @@ returns-clause-told g c =
 
 pub returns-then-not-some_waits-clause-told : goal.returns-then-not-some_waits-clause-told
 returns-then-not-some_waits-clause-told g c =
-    silent_to_all g.W.Wire.tells c.args.pass.now.tag c.args.desk.now.key (last_of c.args.self.now.lasts) c.args.now c.args.pass.now c.some_waits.new.pass (g.W.Wire.account c.args.wire.now) c.args.senders.now c.requires.idle c.some_waits.ensures.looked
+    silent_to_all c.links_only_grow.ensures g.W.Wire.tells c.args.pass.now.tag c.args.desk.now.key (last_of c.args.self.now.lasts) c.args.now c.args.pass.now c.some_waits.new.pass (g.W.Wire.account c.args.wire.now) c.args.senders.now c.requires.idle c.some_waits.ensures.looked
     (λ some. let yes = c.some_waits.ensures.waits.1 some in absurd cc)

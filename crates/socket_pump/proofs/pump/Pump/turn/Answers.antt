@@ -8,7 +8,7 @@ use Rattle.socket_pump.specs.Chains.{Made}
 use Rattle.socket_pump.specs.Turns.{Told, BrokeTelling}
 use Rattle.socket_pump.specs.Turns.{AtRules, WhileTelling}
 use Rattle.socket_pump.specs.refinement.Counts.{Acknowledges, AcknowledgesOnly}
-use Rattle.socket_pump.specs.refinement.Stages.{Broken, AreCounts}
+use Rattle.socket_pump.specs.refinement.Stages.{BrokenToAll, AreCounts}
 use Rattle.socket_pump.proofs.Owing.{brought_near}
 use Rattle.socket_pump.proofs.Turning.{rules_with, spoke_with, counts_after, fault_after}
 use Rattle.socket_pump.proofs.pump.Pump.turn.Goals as goal
@@ -21,9 +21,9 @@ returns-in-Err-advance-clause-turned g c =
 pub returns-in-Err-tell-clause-turned : goal.returns-in-Err-tell-clause-turned
 returns-in-Err-tell-clause-turned g c =
     let rules = rules_with c.hear.new.pass.tag c.args.pass.now.tag c.args.desk.now.key (Ok c.in-Ok-advance.rules) c.hear.new.pass c.advance.new.pass c.hear.ensures.stays.1 c.in-Ok-advance.ensures.advanced in
-    let told = subst (λ (t : ℕ). Broken g.W.Wire.tells t c.args.desk.now.key (last_of c.args.self.now.lasts) (last_of c.tell.new.self.lasts) c.args.now c.advance.new.pass (g.W.Wire.account c.hear.new.wire) c.in-Err-tell.fault (g.W.Wire.account c.tell.new.wire) c.tell.new.pass)
+    let told = subst (λ (t : ℕ). BrokenToAll g.W.Wire.tells t c.args.desk.now.key (last_of c.args.self.now.lasts) (last_of c.tell.new.self.lasts) c.args.now c.advance.new.pass (g.W.Wire.account c.hear.new.wire) c.in-Err-tell.fault (g.W.Wire.account c.tell.new.wire) c.tell.new.pass)
     (c.advance.ensures.stays.1 ∙ c.hear.ensures.stays.1) c.in-Err-tell.ensures.told in
-    WhileTelling c.hear.new.pass c.advance.new.pass (g.W.Wire.account c.hear.new.wire) c.in-Ok.counts.0 c.in-Ok.counts.1 c.in-Ok-advance.rules c.in-Ok.ensures.heard.0 rules told.0 told.1 told.2 (λ v x. absurd (omega (arith, told.4 v 0 x))) told.3
+    WhileTelling c.hear.new.pass c.advance.new.pass (g.W.Wire.account c.hear.new.wire) c.in-Ok.counts.0 c.in-Ok.counts.1 c.in-Ok-advance.rules c.in-Ok.ensures.heard.0 rules told.2 told.3.0 told.0 told.1 told.3.1 (λ v x. absurd (omega (arith, told.3.3 v 0 x))) told.3.2
 
 pub returns-in-Err-acknowledge-clause-turned : goal.returns-in-Err-acknowledge-clause-turned
 returns-in-Err-acknowledge-clause-turned g c =
@@ -40,7 +40,7 @@ returns-in-Err-acknowledge-clause-turned g c =
     let within : (v : ℕ) → are_neighbours k.0 k.1 v ≡ true → v < 16 = λ v near. omega (arith, near_within k.0 k.1 v ok near, ok.offices_fit) in
     let all = fault_after c.links_only_grow.ensures g.W.Wire.tells c.args.pass.now.tag k (last_of c.args.self.now.lasts) (last_of c.tell.new.self.lasts) c.args.now heard.heard c.none-senders.result c.hear.new.senders c.tell.new.senders c.advance.new.pass c.tell.new.pass c.acknowledge.new.pass (g.W.Wire.account c.hear.new.wire)
     (g.W.Wire.account c.tell.new.wire) (g.W.Wire.account c.acknowledge.new.wire) c.in-Ok-tell.sent c.in-Err-acknowledge.fault told.0 c.none-senders.ensures c.in-Ok.ensures.heard.1 within spoke told.1 told.2 told.3 in
-    WhileTelling c.hear.new.pass c.advance.new.pass (g.W.Wire.account c.hear.new.wire) c.in-Ok.counts.0 c.in-Ok.counts.1 c.in-Ok-advance.rules c.in-Ok.ensures.heard.0 rules all.made all.told all.due_once all.counts_broke all.remembers
+    WhileTelling c.hear.new.pass c.advance.new.pass (g.W.Wire.account c.hear.new.wire) c.in-Ok.counts.0 c.in-Ok.counts.1 c.in-Ok-advance.rules c.in-Ok.ensures.heard.0 rules all.made all.told all.acked all.known all.due_once all.counts_broke all.remembers
 
 pub returns-clause-turned : goal.returns-clause-turned
 returns-clause-turned g c =
@@ -67,6 +67,8 @@ returns-clause-turned g c =
       made = all.made;
       told = all.told;
       sent = all.counted;
+      acked = all.acked;
+      known = all.known;
       all_due = all.all_due;
       due_once = all.due_once;
       counts = all.counts_go;
