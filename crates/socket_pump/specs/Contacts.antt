@@ -1,5 +1,5 @@
 -- What is known of the ways to neighbours.
-use Rattle.std.specs.Prelude.{◌≡◌, ℕ, ℤ, ◌<◌, true, false, List, get_or, take, Option, Some, None, IsSome, Result, Ok, Err}
+use Rattle.std.specs.Prelude.{◌≡◌, ℕ, ℤ, ◌<◌, List, get_or, take, Option, Some, None, IsSome, Result, Ok, Err}
 use Rattle.std.specs.declared.net.socket_addr.SocketAddr.{SocketAddr}
 use Rattle.frame_codec.specs.Frame.{Fields}
 use Rattle.frame_codec.specs.Version01.{Spells}
@@ -8,7 +8,7 @@ use Rattle.socket_pump.specs.Wires.{risen}
 
 -- nothing went, nothing was lost, nothing came
 abbrev pub no_contact : Contact
-no_contact = record { went = 0; lost = 0; cause = None; heard = false }
+no_contact = record { went = 0; lost = 0; cause = None; heard = 0 }
 
 -- what is known of v
 abbrev pub contact_with : List Contact → ℕ → Contact
@@ -35,9 +35,9 @@ CountsTry before v after = (outcome : Result (Unit {0}) (Option ℤ)) × Changes
 abbrev pub IsFrameOf : ℕ → List ℕ → Type 0
 IsFrameOf v bytes = (f : Fields) × Spells bytes f × (f.from ≡ v)
 
--- who sent them is heard from now on, and nothing else changed
+-- who sent them was heard once more, and nothing else changed
 abbrev pub Hears : List Contact → List ℕ → List Contact → Type 0
-Hears before bytes after = (v : ℕ) → v < 16 → (IsFrameOf v bytes → contact_with after v ≡ record (contact_with before v) { heard = true }) × ((IsFrameOf v bytes → ⊥) → contact_with after v ≡ contact_with before v)
+Hears before bytes after = (v : ℕ) → v < 16 → (IsFrameOf v bytes → contact_with after v ≡ record (contact_with before v) { heard = risen (contact_with before v).heard }) × ((IsFrameOf v bytes → ⊥) → contact_with after v ≡ contact_with before v)
 
 -- ---- a wire over UDP
 
@@ -63,7 +63,7 @@ pub record Finds (before : UdpView) (v : ℕ) (at : SocketAddr) (after : UdpView
   pub others : (u : ℕ) → (u ≡ v → ⊥) → address_of after.peers u ≡ address_of before.peers u
 
 module _ {E : Type 0} where
-  -- what `receive` answered into that buffer: who sent what came is heard; it may fail
+  -- what `receive` answered into that buffer: who sent what came was heard once more; it may fail
   abbrev pub ComesIn : UdpView → Result (Option ℕ) E → List ℕ → UdpView → Type 0
   ComesIn before (Ok (Some n)) buffer after = (after ≡ record before { contacts = after.contacts }) × Hears before.contacts (take n buffer) after.contacts
   ComesIn before (Ok None) buffer after = after ≡ before

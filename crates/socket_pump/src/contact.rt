@@ -2,6 +2,7 @@
 
 ghost use Rattle.std.specs.Prelude.{◌≡◌, ◌<◌, ℕ, true};
 ghost use Rattle.socket_pump.specs.Contacts.{no_contact, contact_with, tried, Changes, Hears};
+ghost use Rattle.socket_pump.specs.Wires.{risen};
 
 use frame_codec::decode;
 use office_map::OfficeId;
@@ -16,8 +17,8 @@ pub struct Contact {
     pub lost: u64,
     /// Why it didn't take the last of those: the system's number, of which `io::Error::from_raw_os_error` has the words.
     pub cause: Option<i32>,
-    /// Whether a datagram came that reads as a frame of it, of whatever run.
-    pub heard: bool,
+    /// How many datagrams came that read as a frame of it, of whatever run.
+    pub heard: u64,
 }
 
 impl Contact {
@@ -29,7 +30,7 @@ impl Contact {
             went: 0,
             lost: 0,
             cause: None,
-            heard: false,
+            heard: 0,
         }
     }
 
@@ -92,14 +93,15 @@ impl Contacts {
         self.contacts[v.index()] = contact;
     }
 
-    // It was heard.
+    // It was heard once more.
     fn hear(&mut self, v: OfficeId)
         requires { v < 16 }
-        ensures { Changes self.old v (record (contact_with self.old v) { heard = true }) self.new }
+        ensures { Changes self.old v (record (contact_with self.old v) { heard = risen (contact_with self.old v).heard }) self.new }
     {
+        let contact = self.of(v);
         let contact = Contact {
-            heard: true,
-            ..self.of(v)
+            heard: contact.heard.saturating_add(1),
+            ..contact
         };
         self.contacts[v.index()] = contact;
     }
