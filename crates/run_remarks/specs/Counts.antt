@@ -1,0 +1,26 @@
+-- How many sessions are named of those that are left, and of which neighbours is told.
+use Rattle.std.specs.Prelude.{ℕ, ◌+◌, ◌-◌, ◌^◌, min, Bool, ◌==◌, ◌&&◌, ◌||◌, nat_lt}
+use Rattle.socket_pump.specs.declared.contact.Contact.{Contact}
+
+-- how many sessions are named, and how many more are left
+pub record Counts : Type 0 where
+  pub named : ℕ
+  pub more : ℕ
+
+abbrev pub most_named : ℕ
+most_named = 10
+
+abbrev pub nobody : Counts
+nobody = record { named = 0; more = 0 }
+
+-- n more are left: they are named as long as no more than the most are, and the others are counted, up to the top of the count's type
+abbrev pub with_left : ℕ → Counts → Counts
+with_left n c = record { named = min (c.named + n) most_named; more = min (c.more + (c.named + n - most_named)) (2 ^ 64 - 1) }
+
+-- the system took no frame for it, and some were lost
+abbrev pub is_unreached : Contact → Bool
+is_unreached c = (c.went == 0) && nat_lt 0 c.lost
+
+-- or nothing ever came from it
+abbrev pub is_unmet : Contact → Bool
+is_unmet c = is_unreached c || (c.heard == 0)
