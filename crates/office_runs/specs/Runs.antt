@@ -33,6 +33,10 @@ runs_report p sites n = flat_map (outcome_line p) (all_finished sites) ++ unfini
 abbrev pub key_of : Site → Key
 key_of s = (s.plan, s.me)
 
+-- nothing is said for people where all sessions finished and no fault ended the run
+abbrev pub IsQuiet : Ran → Type 0
+IsQuiet ran = ran.unfinished ≡ 0 → ran.fault ≡ None → string_bytes ran.remarks ≡ []
+
 -- the text of an office's journal
 abbrev pub text_of : Site → List ℕ
 text_of s = journal_text s.plan s.me s.entries

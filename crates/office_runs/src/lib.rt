@@ -5,10 +5,11 @@
 //! - [`live::live`]: all offices of a plan, each with a thread that turns it and one that submits its sessions.
 //! - [`Binds`], [`Socket`], [`Wakes`]: what both need of a network. [`UdpSockets`] is UDP; tests have sockets in memory.
 //! - [`Gate`]: is called before each turn, so that a test can hold an office.
-//! - [`Watch`]: is told once a second how far a run is.
+//! - [`Watch`]: is told once a second how far a run is, and of neighbours that were never reached or heard.
 //!
 //! What is told of a run is what its offices' journals tell (clause `tells`, `specs/Runs.antt`), with a [`RunFault`] where it ended
-//! before its time. Nothing is told only where a run can't begin, or for want of memory ([`OpeningFault`]). How often a turn comes,
+//! before its time. What is said for people besides ([`Ran`]) is nothing where all sessions finished and no fault ended the run
+//! (clause `quiet`). Nothing is told only where a run can't begin, or for want of memory ([`OpeningFault`]). How often a turn comes,
 //! and that a datagram arrives, is no promise.
 #![tactic(auto)]
 
@@ -18,6 +19,7 @@ mod client;
 mod fault;
 mod finished;
 mod gate;
+mod hearing;
 pub mod live;
 mod opened;
 mod opening;

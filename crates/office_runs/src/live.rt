@@ -6,7 +6,7 @@ ghost use Rattle.own_lock.specs.Passes.{IsOf};
 ghost use Rattle.locked_office.specs.Calls.{Stays};
 ghost use Rattle.run_reports.specs.Report.{outcome_line};
 ghost use Rattle.site_core.specs.Journals.{IsLegal, Site};
-ghost use Rattle.office_runs.specs.Runs.{TellsOffices, TellsJournals, finished_of, key_of};
+ghost use Rattle.office_runs.specs.Runs.{IsQuiet, TellsOffices, TellsJournals, finished_of, key_of};
 ghost use Rattle.office_runs.specs.refinement.Opening.{opened_key};
 ghost use Rattle.office_runs.specs.refinement.Reports.{AddsJournal};
 
@@ -68,6 +68,7 @@ where
     G: Gate + Sync,
     W: Watch + Sync,
     ensures tells { IfOk result (TellsJournals plan.now (range_with_len 0 (length plan.now.offices)) (length programs.now) journals) }
+    ensures quiet { IfOk result IsQuiet }
 {
     let (offices, crews) = open_all(rt, alloc, plan, around.binds)?;
     let shared = Shared::new(programs.len() as u64);
@@ -281,6 +282,7 @@ fn told<R: Wait>(
 ) -> Result<Ran, AllocError>
     ensures tells { IfOk result (TellsOffices plan.now (map opened_key offices.items) sessions journals) }
     ensures fault { IfOk result (λ r. r.fault ≡ fault) }
+    ensures quiet { IfOk result IsQuiet }
 {
     let mut report = Report::new(alloc, journals);
     let mut left = sessions;

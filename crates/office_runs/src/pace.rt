@@ -91,6 +91,11 @@ impl Pace {
         self.now
     }
 
+    /// The time of the last turn.
+    pub(crate) fn now(&self) -> u64 {
+        self.now
+    }
+
     /// The turn of this time did this. Where it took as many datagrams or rules as one may, there may be more.
     pub(crate) fn note(&mut self, turn: &Turn) {
         let came = turn.taken.saturating_add(turn.refused);

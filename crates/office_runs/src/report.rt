@@ -5,26 +5,29 @@ ghost use Rattle.std.specs.List.{flat_map};
 ghost use Rattle.std.specs.String.{string_bytes};
 ghost use Rattle.run_reports.specs.Report.{outcome_line};
 ghost use Rattle.run_reports.specs.WorldReport.{unfinished_line};
-ghost use Rattle.office_runs.specs.Runs.{count_of, finished_of};
+ghost use Rattle.office_runs.specs.Runs.{IsQuiet, count_of, finished_of};
 ghost use Rattle.office_runs.specs.refinement.Reports.{AddsJournal, none_told};
 
 use crate::fault::RunFault;
 use crate::finished::add_lines;
 use office_map::{OfficeId, Plan};
+use run_remarks::{Remarks, Way};
 use run_reports::world::add_unfinished;
 use session_language::Program;
 use site_core::Office;
 use std::alloc::{AllocError, Global};
 use std::marker::Model;
 
-/// What came of a run: what is printed of it, how many sessions haven't finished, and why it ended before its time, if it did; and
-/// the texts of the journals of the offices that ran, where these are wanted.
+/// What came of a run: what is printed of it, how many sessions haven't finished, and why it ended before its time, if it did; the
+/// texts of the journals of the offices that ran, where these are wanted; and what is said for people of the sessions that are left
+/// and of neighbours that were never reached or heard.
 #[derive(Drop)]
 pub struct Ran {
     pub text: String,
     pub unfinished: usize,
     pub fault: Option<RunFault>,
     pub journals: Vec<String>,
+    pub remarks: String,
 }
 
 /// What is told of offices so far, one after the other. Contracts see the texts.
@@ -34,6 +37,10 @@ pub(crate) struct Report {
     text: String,
     wanted: bool,
     journals: Vec<String>,
+    remarks: Remarks,
+    /// How many sessions of the office that is told next are the run's, and the ways to its neighbours.
+    sessions: u32,
+    ways: Vec<Way>,
 }
 
 impl Model for Report {
@@ -56,7 +63,18 @@ impl Report {
             text: String::new(alloc),
             wanted,
             journals: Vec::new(alloc),
+            remarks: Remarks::new(alloc),
+            sessions: 0,
+            ways: Vec::new(alloc),
         }
+    }
+
+    /// So many sessions of the office that is told next are the run's, and these are the ways to its neighbours.
+    pub(crate) fn expect(&mut self, sessions: usize, ways: Vec<Way>)
+        ensures { self.new ≡ self.old }
+    {
+        self.sessions = u32::try_from(sessions).unwrap_or(u32::MAX);
+        self.ways = ways;
     }
 
     /// The sessions of an office that finished are told, by ticket, and how many they are; and its journal, where it is wanted.
@@ -68,8 +86,15 @@ impl Report {
         ensures journal { OnOk result (AddsJournal self.old.wanted office.now self.old.texts self.new.texts) }
         ensures wanted { self.new.wanted ≡ self.old.wanted }
     {
+        self.add_remarks(office)?;
         self.add_journal(office)?;
         add_lines(&mut self.text, plan, office.outcomes())
+    }
+
+    fn add_remarks(&mut self, office: &Office) -> Result<(), AllocError>
+        ensures { self.new ≡ self.old }
+    {
+        self.remarks.add(office, self.sessions, &self.ways)
     }
 
     fn add_journal(&mut self, office: &Office) -> Result<(), AllocError>
@@ -102,19 +127,28 @@ pub(crate) fn with_unfinished(
     ensures unfinished { IfOk result (λ r. r.unfinished ≡ unfinished) }
     ensures fault { IfOk result (λ r. r.fault ≡ fault) }
     ensures journals { IfOk result (λ r. map string_bytes r.journals.items ≡ report.texts) }
+    ensures quiet { IfOk result IsQuiet }
 {
     let Report {
-        alloc: _,
+        alloc,
         mut text,
         wanted: _,
         journals,
+        remarks,
+        ..
     } = report;
     add_unfinished(&mut text, unfinished)?;
+    let remarks = if unfinished > 0 || fault.is_some() {
+        remarks.text()?
+    } else {
+        String::new(alloc)
+    };
     Ok(Ran {
         text,
         unfinished,
         fault,
         journals,
+        remarks,
     })
 }
 

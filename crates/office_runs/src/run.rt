@@ -8,7 +8,7 @@ ghost use Rattle.site_core.specs.Journals.{IsLegal};
 ghost use Rattle.locked_office.specs.Calls.{Stays, Looks, office_with};
 ghost use Rattle.socket_pump.specs.Last.{last_of};
 ghost use Rattle.office_runs.specs.Rounds.{Goes, of_office};
-ghost use Rattle.office_runs.specs.Runs.{TellsCourse, TellsJournals, HasJournals, count_of, finished_of, runs_report};
+ghost use Rattle.office_runs.specs.Runs.{IsQuiet, TellsCourse, TellsJournals, HasJournals, count_of, finished_of, runs_report};
 ghost use Rattle.office_runs.specs.refinement.Standings.{standing};
 
 use crate::address::address;
@@ -27,6 +27,7 @@ use crate::watch::Watch;
 use locked_office::Desk;
 use office_map::{OfficeId, Plan};
 use own_lock::Pass;
+use run_remarks::Way;
 use session_language::Program;
 use site_core::Office;
 use socket_pump::Pump;
@@ -58,6 +59,7 @@ pub fn run_office<R: Wait + Clock, B: Binds, G: Gate, W: Watch>(
     requires { me < length plan.now.offices }
     ensures tells { IfOk result (TellsJournals plan.now (me ∷ []) (count_of programs.now me) journals) }
     ensures ran { IfOk result (TellsCourse B.Socket.tells plan.now me programs.now turns journals) }
+    ensures quiet { IfOk result IsQuiet }
 {
     let mut station = station(rt, alloc, plan, me, around.binds)?;
     let (desk, passes) = open_desk(alloc, plan, me, 1)?;
@@ -70,6 +72,7 @@ pub fn run_office<R: Wait + Clock, B: Binds, G: Gate, W: Watch>(
         &mut station,
         &desk,
         &mut pass,
+        plan,
         me,
         programs,
         turns,
@@ -78,6 +81,7 @@ pub fn run_office<R: Wait + Clock, B: Binds, G: Gate, W: Watch>(
         &shared,
     )
     .err();
+    let ways = station.ways(alloc)?;
     let ran = told(
         rt,
         alloc,
@@ -85,6 +89,7 @@ pub fn run_office<R: Wait + Clock, B: Binds, G: Gate, W: Watch>(
         &desk,
         &mut pass,
         count_of(programs, me),
+        ways,
         journals,
         fault,
     )?;
@@ -107,20 +112,21 @@ fn station<R: Clock, B: Binds>(
         let nowhere = SocketAddr::from((Ipv4Addr::UNSPECIFIED, 0));
         return Err(OpeningFault::BindFailed(nowhere, ErrorKind::InvalidInput));
     };
-    let mut socket = match binds.bind(at) {
+    let socket = match binds.bind(at) {
         Ok((socket, _)) => socket,
         Err(error) => return Err(OpeningFault::BindFailed(at, error.kind())),
     };
+    let pump = Pump::open(alloc, plan, me)?;
+    let Ok(start) = Instant::now(rt) else {
+        return Err(OpeningFault::NoClock);
+    };
+    let mut station = Station::new(pump, socket, start);
     for v in plan.neighbours(me) {
         if let Some(at) = address(plan, *v) {
-            socket.set_peer(*v, at);
+            station.set_peer(*v, at);
         }
     }
-    let pump = Pump::open(alloc, plan, me)?;
-    match Instant::now(rt) {
-        Ok(start) => Ok(Station::new(pump, socket, start)),
-        Err(_) => Err(OpeningFault::NoClock),
-    }
+    Ok(station)
 }
 
 /// The turns, each after those sessions are submitted that the office takes.
@@ -129,6 +135,7 @@ fn take_turns<R: Wait + Clock, S: Socket, G: Gate, W: Watch>(
     station: &mut Station<S>,
     desk: &Desk,
     pass: &mut Pass<Office>,
+    plan: &Plan,
     me: OfficeId,
     programs: &[Program],
     turns: u64,
@@ -158,7 +165,7 @@ fn take_turns<R: Wait + Clock, S: Socket, G: Gate, W: Watch>(
             Ok(turn) => turn,
             Err(fault) => return Err(fault),
         };
-        station.tell(true, watch, shared);
+        station.tell_alone(plan, me, watch, shared);
         count += turn.counted(turns);
     }
     unreachable!()
@@ -172,6 +179,7 @@ fn told<R: Wait>(
     desk: &Desk,
     pass: &mut Pass<Office>,
     sessions: usize,
+    ways: Vec<Way>,
     journals: bool,
     fault: Option<RunFault>,
 ) -> Result<Ran, AllocError>
@@ -183,8 +191,10 @@ fn told<R: Wait>(
     ensures text { IfOk result (λ r. string_bytes r.text ≡ runs_report plan.now (office_with desk.now.key pass.new.seen ∷ []) r.unfinished) }
     ensures left { IfOk result (λ r. r.unfinished ≡ sessions - length (finished_of (office_with desk.now.key pass.new.seen))) }
     ensures journals { IfOk result (λ r. HasJournals journals (office_with desk.now.key pass.new.seen ∷ []) (map string_bytes r.journals.items)) }
+    ensures quiet { IfOk result IsQuiet }
 {
     let mut report = Report::new(alloc, journals);
+    report.expect(sessions, ways);
     let finished = add_sessions(rt, desk, pass, plan, &mut report)?;
     Ok(with_unfinished(report, sessions.saturating_sub(finished), fault)?)
 }

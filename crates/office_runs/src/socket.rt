@@ -4,7 +4,7 @@ ghost use Rattle.std.specs.Prelude.{◌≡◌, ◌<◌, OnOk, OnErr};
 ghost use Rattle.office_runs.specs.Rounds.{failed};
 
 use office_map::OfficeId;
-use socket_pump::{Wire, WireFailed};
+use socket_pump::{Contact, Wire, WireFailed};
 use std::io;
 use std::net::SocketAddr;
 
@@ -20,6 +20,10 @@ pub trait Socket: Wire + Drop {
     fn set_peer(&mut self, v: OfficeId, at: SocketAddr)
         requires { v < 16 }
         ensures { Self.account self.new ≡ Self.account self.old };
+
+    /// What is known of the way to a neighbour, and from it.
+    fn contact(&self, v: OfficeId) -> Contact
+        requires { v < 16 };
 
     /// Waits for a datagram, or until it is woken, so many milliseconds at most. That it failed is counted, as of the other calls.
     fn poll(&mut self, most: u64) -> Result<(), WireFailed>

@@ -2,7 +2,7 @@
 
 use crate::socket::{Binds, Socket, Wakes};
 use office_map::OfficeId;
-use socket_pump::{UdpWire, WireFailed};
+use socket_pump::{Contact, UdpWire, WireFailed};
 use std::alloc::Global;
 use std::io;
 use std::net::{Net, SocketAddr};
@@ -39,6 +39,10 @@ impl Socket for UdpWire {
 
     fn set_peer(&mut self, v: OfficeId, at: SocketAddr) {
         UdpWire::set_peer(self, v, at);
+    }
+
+    fn contact(&self, v: OfficeId) -> Contact {
+        UdpWire::contact(self, v)
     }
 
     fn poll(&mut self, most: u64) -> Result<(), WireFailed> {

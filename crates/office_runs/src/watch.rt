@@ -1,5 +1,7 @@
 //! How far a run is, for people.
 
+use run_remarks::Unmet;
+
 /// How many of a run's sessions finished, of how many, and how many datagrams came, went and were refused.
 #[derive(Clone, Copy, Debug, PartialEq, Eq)]
 pub struct Progress {
@@ -13,6 +15,9 @@ pub struct Progress {
 /// Who looks on. It is told about once a second while a run goes on.
 pub trait Watch {
     fn tell(&self, progress: Progress);
+
+    /// A neighbour was never reached or heard yet.
+    fn tell_of(&self, unmet: &Unmet<'_>);
 }
 
 /// Nobody.
@@ -21,4 +26,6 @@ pub struct Quiet;
 
 impl Watch for Quiet {
     fn tell(&self, _progress: Progress) {}
+
+    fn tell_of(&self, _unmet: &Unmet<'_>) {}
 }

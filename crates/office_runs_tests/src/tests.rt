@@ -7,6 +7,7 @@ use office_runs::{
     Around, Binds, Gate, Open, OpeningFault, Progress, Quiet, Ran, RunFault, UdpSockets, Watch,
     without_address,
 };
+use run_remarks::Unmet;
 use session_language::{Program, read_sessions};
 use std::alloc::Global;
 use std::io::ErrorKind;
@@ -79,13 +80,14 @@ fn three_offices_finish_on_threads(rt: HostRuntime) -> Result<(), Fail> {
     Ok(())
 }
 
-/// Whether nothing is left, no fault and no journal is told, and the lines begin so.
+/// Whether nothing is left, no fault, no journal and no remark is told, and the lines begin so.
 fn is_told(ran: Result<Ran, OpeningFault>, lines: &[&str]) -> bool {
     match ran {
         Ok(ran) => {
             ran.unfinished == 0
                 && ran.fault.is_none()
                 && ran.journals.is_empty()
+                && ran.remarks.is_empty()
                 && begins(ran.text.as_str(), lines)
         }
         Err(_) => false,
@@ -267,19 +269,84 @@ fn a_socket_that_fails_ends_the_run(rt: HostRuntime) -> Result<(), Fail> {
     Ok(())
 }
 
-/// Whether it ended by a failing socket, and the lines begin so.
+/// Whether it ended by a failing socket, the lines begin so, and it is said of the neighbour that it was never heard.
 fn is_broken(ran: Result<Ran, OpeningFault>, lines: &[&str]) -> bool {
     match ran {
-        Ok(ran) => ran.fault == Some(RunFault::WireFailed) && begins(ran.text.as_str(), lines),
+        Ok(ran) => {
+            ran.fault == Some(RunFault::WireFailed)
+                && begins(ran.text.as_str(), lines)
+                && ran
+                    .remarks
+                    .as_str()
+                    .ends_with("drink: a never heard b at 127.0.0.1:2\n")
+        }
         Err(_) => false,
     }
 }
 
-/// How often it was told how far a run is, and how many sessions it had finished at last.
+/// Three offices that have addresses. The first shares a record with each of the others, and has none of them.
+const STAR: &str =
+    "plan 1 run 5\noffice a 127.0.0.1:1\noffice b 127.0.0.1:2\noffice c 127.0.0.1:3\npair a b fork a\npair a c fork a\nrecord x a b 1 at b\nrecord z a c 2 at c\n";
+
+const STAR_SESSIONS: &str =
+    "session a\ngive 1\nend\nsession b\ngive 2\nend\nsession a\nset x = read z\nend\nsession a\ngive read x\nend\n";
+
+/// What is said of the first office of the star, of which these are the first three sessions, where no neighbour is there: nothing
+/// ever comes, and there is no route to the third one.
+#[test]
+fn people_are_told_what_a_run_left(rt: HostRuntime) -> Result<(), Fail> {
+    let alloc = rt.alloc();
+    let boxes = Mailbox::some(alloc)?;
+    let binds = MemorySockets::without_route(&rt, alloc, &boxes, 2);
+    let around = Around {
+        binds: &binds,
+        gate: &Open,
+        watch: &Quiet,
+    };
+    let ran = star_with(&rt, alloc, &around)?;
+    assert_eq!(rt;
+        said(&ran),
+        "drink: a.2 waits for x from b, which was never heard; and for z from c, which was never heard\ndrink: a.3 waits for a.2\ndrink: a never heard b at 127.0.0.1:2\ndrink: a never reached c at 127.0.0.1:3: Network is unreachable (os error 101)\n"
+    );
+    Ok(())
+}
+
+/// What a run of 50 turns of the star's first office answers.
+fn star_with<R: Wait + Clock, B: Binds, G: Gate, W: Watch>(
+    rt: &R,
+    alloc: Global,
+    around: &Around<'_, B, G, W>,
+) -> Result<Result<Ran, OpeningFault>, Fail> {
+    let plan = plan(alloc, STAR)?;
+    let programs = programs(alloc, &plan, STAR_SESSIONS)?;
+    if plan.offices() == 0 {
+        return Err(Fail::from("an office"));
+    }
+    Ok(run_office(
+        rt,
+        alloc,
+        &plan,
+        OfficeId::new(0),
+        &programs,
+        50,
+        false,
+        around,
+    ))
+}
+
+fn said(ran: &Result<Ran, OpeningFault>) -> &str {
+    match ran {
+        Ok(ran) => ran.remarks.as_str(),
+        Err(_) => "no run",
+    }
+}
+
+/// How often it was told how far a run is, how many sessions it had finished at last, and how often it was told of a neighbour.
 #[derive(Drop)]
 struct Told {
     times: AtomicU64,
     finished: AtomicU64,
+    neighbours: AtomicU64,
 }
 
 impl Watch for Told {
@@ -287,18 +354,25 @@ impl Watch for Told {
         self.times.fetch_add(1, Ordering::SeqCst);
         self.finished.store(progress.finished, Ordering::SeqCst);
     }
+
+    fn tell_of(&self, _unmet: &Unmet<'_>) {
+        self.neighbours.fetch_add(1, Ordering::SeqCst);
+    }
 }
 
-/// A run of more than a second tells once or twice how far it is.
+/// A run of more than a second tells once or twice how far it is, and each time of the neighbour that was never heard.
 #[test]
 fn who_looks_on_is_told(rt: HostRuntime) -> Result<(), Fail> {
     let told = Told {
         times: AtomicU64::new(0),
         finished: AtomicU64::new(0),
+        neighbours: AtomicU64::new(0),
     };
     let ran = alone(&rt, rt.alloc(), 1_200, false, u64::MAX, &told)?;
     assert!(rt; ran.is_ok_and(|ran| ran.fault.is_none()));
-    assert!(rt; told.times.load(Ordering::SeqCst) > 0);
+    let times = told.times.load(Ordering::SeqCst);
+    assert!(rt; times > 0);
+    assert_eq!(rt; told.neighbours.load(Ordering::SeqCst), times);
     assert_eq!(rt; told.finished.load(Ordering::SeqCst), 1);
     Ok(())
 }

@@ -6,7 +6,7 @@ use drink_commands::program::answer;
 use office_map::OfficeId;
 use office_runs::{Around, Binds, Gate, Open, Quiet, Socket, Wakes};
 use output_files::InMemory;
-use socket_pump::{MemoryWire, Wire, WireFailed};
+use socket_pump::{Contact, MemoryWire, Wire, WireFailed};
 use std::alloc::Global;
 use std::io;
 use std::io::{ErrorKind, Write};
@@ -80,6 +80,10 @@ impl Socket for DeafSocket {
     }
 
     fn set_peer(&mut self, _v: OfficeId, _at: SocketAddr) {}
+
+    fn contact(&self, _v: OfficeId) -> Contact {
+        Contact::none()
+    }
 
     fn poll(&mut self, _most: u64) -> Result<(), WireFailed> {
         Ok(())

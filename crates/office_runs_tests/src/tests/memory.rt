@@ -2,9 +2,10 @@
 
 ghost use Rattle.std.specs.Prelude.{◌≡◌, OnOk, OnErr};
 
+use frame_codec::decode;
 use office_map::OfficeId;
 use office_runs::{Binds, Socket, Wakes};
-use socket_pump::{Datagram, Wire, WireFailed};
+use socket_pump::{Contact, Datagram, Wire, WireFailed};
 use std::alloc::{AllocError, Global};
 use std::collections::VecDeque;
 use std::io;
@@ -50,7 +51,7 @@ pub(crate) enum Comes {
 }
 
 /// What binds them. The one with this number, from 0, is refused, and of each the call of `receive` or `send` with that number
-/// fails, from 0.
+/// fails, from 0. A frame for the office with the number `lost` is lost, and said to be so for want of a route.
 #[derive(Drop)]
 pub(crate) struct MemorySockets<'a, R: Wait + Clock> {
     rt: &'a R,
@@ -60,6 +61,7 @@ pub(crate) struct MemorySockets<'a, R: Wait + Clock> {
     refused: u64,
     fails_at: u64,
     comes: Comes,
+    lost: u8,
 }
 
 impl<'a, R: Wait + Clock> MemorySockets<'a, R> {
@@ -78,6 +80,7 @@ impl<'a, R: Wait + Clock> MemorySockets<'a, R> {
             refused,
             fails_at,
             comes: Comes::Frames,
+            lost: u8::MAX,
         }
     }
 
@@ -96,6 +99,26 @@ impl<'a, R: Wait + Clock> MemorySockets<'a, R> {
             refused: u64::MAX,
             fails_at: u64::MAX,
             comes,
+            lost: u8::MAX,
+        }
+    }
+
+    /// None is refused and none fails, and there is no route to this office.
+    pub(crate) fn without_route(
+        rt: &'a R,
+        alloc: Global,
+        boxes: &'a [Mailbox],
+        lost: u8,
+    ) -> MemorySockets<'a, R> {
+        MemorySockets {
+            rt,
+            alloc,
+            boxes,
+            bound: AtomicU64::new(0),
+            refused: u64::MAX,
+            fails_at: u64::MAX,
+            comes: Comes::Frames,
+            lost,
         }
     }
 }
@@ -112,6 +135,8 @@ pub(crate) struct MemorySocket<'a, R: Wait + Clock> {
     fails_at: u64,
     failures: u64,
     comes: Comes,
+    lost: u8,
+    contacts: [Contact; 16],
     end: End<'a>,
 }
 
@@ -165,6 +190,8 @@ impl<'a, R: Wait + Clock> Binds for MemorySockets<'a, R> {
             fails_at: self.fails_at,
             failures: 0,
             comes: self.comes,
+            lost: self.lost,
+            contacts: [Contact::none(); 16],
             end: End {
                 mailbox: self.boxes.get(own),
             },
@@ -188,6 +215,33 @@ impl<'a, R: Wait + Clock> MemorySocket<'a, R> {
         }
         self.failures = self.failures.saturating_add(1);
         Err(WireFailed)
+    }
+
+    fn hear(&mut self, bytes: &[u8])
+        ensures { self.new.failures ≡ self.old.failures }
+    {
+        if let Ok(frame) = decode(bytes) {
+            if let Some(contact) = self.contacts.get_mut(usize::from(frame.from())) {
+                contact.heard = contact.heard.saturating_add(1);
+            }
+        }
+    }
+
+    fn count_lost(&mut self, to: OfficeId)
+        ensures { self.new.failures ≡ self.old.failures }
+    {
+        if let Some(contact) = self.contacts.get_mut(to.index()) {
+            contact.lost = contact.lost.saturating_add(1);
+            contact.cause = Some(101);
+        }
+    }
+
+    fn count_gone(&mut self, to: OfficeId)
+        ensures { self.new.failures ≡ self.old.failures }
+    {
+        if let Some(contact) = self.contacts.get_mut(to.index()) {
+            contact.went = contact.went.saturating_add(1);
+        }
     }
 }
 
@@ -214,11 +268,17 @@ impl<'a, R: Wait + Clock> Wire for MemorySocket<'a, R> {
         };
         let count = datagram.bytes().len().min(64);
         buffer[..count].copy_from_slice(&datagram.bytes()[..count]);
+        self.hear(&buffer[..count]);
         Ok(Some(count))
     }
 
     fn send(&mut self, to: OfficeId, bytes: &[u8]) -> Result<(), WireFailed> {
         self.called()?;
+        if to.number() == self.lost {
+            self.count_lost(to);
+            return Ok(());
+        }
+        self.count_gone(to);
         let peer = self.peers.get(to.index()).copied().unwrap_or(usize::MAX);
         let Some(mailbox) = self.boxes.get(peer) else {
             return Ok(());
@@ -243,6 +303,10 @@ impl<'a, R: Wait + Clock> Socket for MemorySocket<'a, R> {
         if self.comes != Comes::Nothing {
             self.peers[v.index()] = usize::from(at.port()).saturating_sub(1);
         }
+    }
+
+    fn contact(&self, v: OfficeId) -> Contact {
+        self.contacts[v.index()]
     }
 
     fn poll(&mut self, most: u64) -> Result<(), WireFailed> {

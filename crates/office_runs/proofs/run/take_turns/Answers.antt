@@ -1,4 +1,4 @@
-use Rattle.std.proofs.Common.{◌≡◌, ◌+◌, ◌<◌, ◌≤◌, drop, sym, ap, subst, ◌∙◌, arith}
+use Rattle.std.proofs.Common.{◌+◌, ◌<◌, ◌≤◌, drop, sym, ap, subst, ◌∙◌, arith}
 use Rattle.socket_pump.specs.Last.{PumpView, last_of}
 use Rattle.office_runs.specs.Rounds.{Standing, of_office}
 use Rattle.office_runs.specs.refinement.Standings.{standing}
@@ -35,8 +35,8 @@ loop-preserved g c =
     c.loop.invariant.stays.1 (c.submit_some.ensures.stays.1 ∙ c.loop.invariant.stays.1) below c.counted-count.ensures.counted c.loop.invariant.made c.in-Ok.ensures.fills c.in-Ok-turn.ensures.turns in
     record {
       stays = (c.turn.ensures.stays.0, c.turn.ensures.stays.1 ∙ (c.submit_some.ensures.stays.1 ∙ c.loop.invariant.stays.1), c.turn.ensures.stays.2);
-      key = c.loop.invariant.key ∙ (sym c.turn.ensures.key ∙ sym (ap (λ (p : PumpView). p.key) c.tell.ensures.pump));
+      key = c.loop.invariant.key ∙ (sym c.turn.ensures.key ∙ sym (ap (λ (p : PumpView). p.key) c.tell_alone.ensures.pump));
       few = omega (arith, below, one);
-      made = subst (λ (p : PumpView). Made g.S.Wire.tells tag k c.args.turns (c.loop.count + c.counted-count.result) begin (standing c.turn.new.pass (g.S.Wire.account c.tell.new.self.socket) (last_of p.lasts)) own left) (sym c.tell.ensures.pump)
-          (subst (λ s. Made g.S.Wire.tells tag k c.args.turns (c.loop.count + c.counted-count.result) begin (standing c.turn.new.pass (g.S.Wire.account s) (last_of c.turn.new.self.pump.lasts)) own left) (sym c.tell.ensures.socket) round);
+      made = subst (λ (p : PumpView). Made g.S.Wire.tells tag k c.args.turns (c.loop.count + c.counted-count.result) begin (standing c.turn.new.pass (g.S.Wire.account c.tell_alone.new.self.socket) (last_of p.lasts)) own left) (sym c.tell_alone.ensures.pump)
+          (subst (λ s. Made g.S.Wire.tells tag k c.args.turns (c.loop.count + c.counted-count.result) begin (standing c.turn.new.pass (g.S.Wire.account s) (last_of c.turn.new.self.pump.lasts)) own left) (sym c.tell_alone.ensures.socket) round);
     }
