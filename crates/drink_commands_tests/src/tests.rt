@@ -109,6 +109,18 @@ impl<'a> Sources for Memory<'a> {
         }
     }
 
+    fn find(&self, name: &str) -> io::Result<Option<Reading<'a>>> {
+        match self.open(name) {
+            Ok(file) => Ok(Some(file)),
+            Err(error) if error.kind() == ErrorKind::NotFound => Ok(None),
+            Err(error) => Err(error),
+        }
+    }
+
+    fn is_read_from(&self, word: &str, name: &str) -> bool {
+        word == name
+    }
+
     fn standard(&self) -> Reading<'a> {
         self.reading(self.standard)
     }

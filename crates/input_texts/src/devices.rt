@@ -5,6 +5,7 @@ ghost use Rattle.std.specs.Prelude.{None};
 use crate::failure::failure_kind;
 use crate::sources::Sources;
 use std::io::{Error, ErrorKind, Input, Read};
+use std::os::unix::fs::MetadataExt;
 use std::rt::Files;
 use std::{fs, io};
 
@@ -49,11 +50,40 @@ impl<R: Files + Input> Sources for Devices<'_, R> {
         })
     }
 
+    fn find(&self, name: &str) -> io::Result<Option<Device<R::File>>> {
+        match fs::metadata(self.rt, name) {
+            Ok(found) if found.is_file() => Ok(Some(self.open(name)?)),
+            Ok(_) => Ok(None),
+            Err(error) if error.kind() == ErrorKind::NotFound => Ok(None),
+            Err(error) => Err(error),
+        }
+    }
+
+    fn is_read_from(&self, word: &str, name: &str) -> bool {
+        if word == "-" {
+            return is_one_file(self.rt, STANDARD_INPUT, name);
+        }
+        word == name || is_one_file(self.rt, word, name)
+    }
+
     fn standard(&self) -> Device<R::Reader> {
         Device {
             reader: self.rt.reader(),
             failed: self.failed,
         }
+    }
+}
+
+/// The name of what is the standard input.
+const STANDARD_INPUT: &str = "/dev/stdin";
+
+/// Whether two names are of one file of a disk.
+fn is_one_file<R: Files>(rt: &R, one: &str, other: &str) -> bool {
+    match (fs::metadata(rt, one), fs::metadata(rt, other)) {
+        (Ok(one), Ok(other)) => {
+            one.is_file() && one.dev() == other.dev() && one.ino() == other.ino()
+        }
+        _ => false,
     }
 }
 

@@ -3,6 +3,7 @@
 //!
 //! - [`text`] reads the next word's text (clause `text`), and of a text past a limit one byte more than the limit (clause
 //!   `bounded`): which text a word has is in `specs/Words.antt`, and where a text is cut in `specs/Cut.antt`.
+//! - [`beginning`] reads the first bytes of a file that may be there (clause `bytes`), and says where none is (clause `nowhere`).
 //! - [`Sources`] is what a program reads from. A program's own has [`Devices`], of which nothing is known; [`Texts`] are in
 //!   memory and say what they have, and then the clauses speak of these bytes.
 //!
@@ -25,5 +26,5 @@ pub use devices::{Device, Devices};
 pub use failure::failure_kind;
 pub use fault::InputFault;
 pub use sources::Sources;
-pub use standard_input::{StandardInput, text};
+pub use standard_input::{StandardInput, beginning, text};
 pub use texts::Texts;

@@ -1,6 +1,7 @@
 //! What a program reads from.
 
-ghost use Rattle.std.specs.Prelude.{◌≡◌, ℕ, List, Option, IfOk};
+ghost use Rattle.std.specs.Prelude.{◌≡◌, ℕ, List, Option, None, IfNone, IfOk, IfSome, false, true};
+ghost use Rattle.input_texts.specs.Words.{is_dash};
 
 use std::io;
 use std::io::Read;
@@ -19,6 +20,17 @@ pub trait Sources {
     /// Opens the file of that name.
     fn open(&self, name: &str) -> io::Result<Self::File>
         ensures { IfOk result (λ f. Self.File.remaining f ≡ file_text self.now name.now) };
+
+    /// Opens the file of that name, where one is there. What is no file of a disk, as a pipe or a terminal, is none, and isn't opened.
+    fn find(&self, name: &str) -> io::Result<Option<Self::File>>
+        ensures text { IfOk result (λ found. IfSome found (λ f. Self.File.remaining f ≡ file_text self.now name.now)) }
+        ensures nowhere { IfOk result (λ found. IfNone found (file_text self.now name.now ≡ None)) };
+
+    /// Whether the text of a word is read from the file of that name: the word may be another name of it, or - where the standard input
+    /// is that file.
+    fn is_read_from(&self, word: &str, name: &str) -> bool
+        ensures same { is_dash word.now ≡ false → word.now ≡ name.now → result ≡ true }
+        ensures text { result ≡ true → is_dash word.now ≡ false → file_text self.now word.now ≡ file_text self.now name.now };
 
     /// The standard input. It is asked for once.
     fn standard(&self) -> Self::Standard

@@ -1,6 +1,6 @@
 //! The standard input of a command, which may stand for several texts.
 
-ghost use Rattle.std.specs.Prelude.{◌≡◌, ◌<◌, ◌≤◌, ◌^◌, ◌+◌, suc, Option, List, ℕ, [], Some, IfOk, OnOk, length, map, codes};
+ghost use Rattle.std.specs.Prelude.{◌≡◌, ◌<◌, ◌≤◌, ◌^◌, ◌+◌, suc, Option, List, ℕ, [], None, Some, IfNone, IfOk, IfSome, OnOk, length, map, codes, take};
 ghost use Rattle.std.specs.List.{count_by};
 ghost use Rattle.input_texts.specs.Cut.{IsCut};
 ghost use Rattle.input_texts.specs.Words.{Unread, HasText, IsReadUpTo, is_dash, unread};
@@ -177,5 +177,32 @@ fn file_text<S: Sources>(
         Ok(mut file) => fill(&mut file, &mut bytes, limit + 1)?,
         Err(e) => return Err(InputFault::Failed(e.kind())),
     }
+    Ok(bytes)
+}
+
+/// The first bytes of the file of that name, so many at most, where one is there.
+pub fn beginning<S: Sources>(
+    alloc: Global,
+    sources: &S,
+    name: &str,
+    most: usize,
+) -> Result<Option<Vec<u8>>, InputFault>
+    ensures bytes { IfOk result (λ found. IfSome found (λ v. (text : List ℕ) → S.file_text sources.now name.now ≡ Some text → v.items ≡ take most text)) }
+    ensures nowhere { IfOk result (λ found. IfNone found (S.file_text sources.now name.now ≡ None)) }
+{
+    match sources.find(name) {
+        Ok(Some(file)) => Ok(Some(first_bytes(alloc, file, most)?)),
+        Ok(None) => Ok(None),
+        Err(e) => Err(InputFault::Failed(e.kind())),
+    }
+}
+
+/// The first bytes that a reader gives.
+fn first_bytes<R: Read + Drop>(alloc: Global, reader: R, most: usize) -> Result<Vec<u8>, InputFault>
+    ensures { IfOk result (λ v. (text : List ℕ) → R.remaining reader ≡ Some text → v.items ≡ take most text) }
+{
+    let mut file = reader;
+    let mut bytes = Vec::new(alloc);
+    fill(&mut file, &mut bytes, most)?;
     Ok(bytes)
 }

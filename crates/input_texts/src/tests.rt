@@ -2,7 +2,7 @@ use crate::cut::cut;
 use crate::devices::Devices;
 use crate::fault::InputFault;
 use crate::sources::Sources;
-use crate::standard_input::{StandardInput, text};
+use crate::standard_input::{StandardInput, beginning, text};
 use crate::texts::Texts;
 use std::alloc::Global;
 use std::io;
@@ -60,6 +60,17 @@ impl<'a> Sources for Memory<'a> {
             "s" => Ok(self.slow(self.sessions)),
             _ => Err(io::Error::from(ErrorKind::NotFound)),
         }
+    }
+
+    fn find(&self, name: &str) -> io::Result<Option<Slow<'a>>> {
+        match self.open(name) {
+            Ok(file) => Ok(Some(file)),
+            Err(_) => Ok(None),
+        }
+    }
+
+    fn is_read_from(&self, word: &str, name: &str) -> bool {
+        word == name
     }
 
     fn standard(&self) -> Slow<'a> {
@@ -240,5 +251,67 @@ fn devices_are_opened_by_name(rt: HostRuntime) {
     for (name, expected) in rows {
         let found = text(alloc, &devices, &mut input, name, 9);
         assert_eq!(rt; found.map(|text| text.len()), expected);
+    }
+}
+
+/// Names, and how many of the first nine bytes are found there: of what is no file of a disk none.
+static FOUND: [(&str, Result<Option<usize>, InputFault>); 6] = [
+    ("/dev/null", Ok(None)),
+    ("/dev/zero", Ok(None)),
+    (".", Ok(None)),
+    ("no_such_file", Ok(None)),
+    ("no_such_folder/file", Ok(None)),
+    ("/proc/self/status", Ok(Some(9))),
+];
+
+#[test]
+fn a_file_of_a_disk_is_found(rt: HostRuntime) {
+    let devices = Devices::new(&rt);
+    for (name, expected) in &FOUND {
+        let found = beginning(rt.alloc(), &devices, name, 9);
+        let length = found.map(|found| found.map(|bytes| bytes.len()));
+        assert_eq!(rt; length, *expected);
+    }
+}
+
+/// A word, a name, and whether the word's text is read from the file of that name.
+static ONE: [(&str, &str, bool); 8] = [
+    ("no_such_file", "no_such_file", true),
+    ("no_such_file", "./no_such_file", false),
+    ("/proc/version", "/proc/../proc/version", true),
+    ("/proc/version", "/proc/uptime", false),
+    ("/proc/version", "no_such_file", false),
+    (".", "./.", false),
+    ("-", "-", false),
+    ("-", "/proc/version", false),
+];
+
+#[test]
+fn a_file_may_have_several_names(rt: HostRuntime) {
+    let devices = Devices::new(&rt);
+    for (word, name, expected) in &ONE {
+        assert_eq!(rt; devices.is_read_from(word, name), *expected);
+    }
+}
+
+#[test]
+fn the_first_bytes_are_found_in_memory(rt: HostRuntime) {
+    let texts = Texts {
+        files: &[("p", b"plan"), ("s", b"sessions")],
+        standard: b"",
+    };
+    for (name, most, expected) in [
+        ("p", 9, Some("plan")),
+        ("s", 3, Some("ses")),
+        ("x", 9, None),
+    ] {
+        let Ok(found) = beginning(rt.alloc(), &texts, name, most) else {
+            assert!(rt; false);
+            return;
+        };
+        assert_eq!(rt;
+            found.as_deref(),
+            expected.map(|text: &str| text.as_bytes())
+        );
     }
 }

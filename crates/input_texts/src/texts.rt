@@ -1,5 +1,8 @@
 //! Texts in memory.
 
+ghost use Rattle.std.specs.Prelude.{◌≡◌, map, option_map};
+ghost use Rattle.input_texts.specs.Words.{text_named};
+
 use crate::sources::Sources;
 use std::io;
 use std::io::ErrorKind;
@@ -9,6 +12,20 @@ use std::io::ErrorKind;
 pub struct Texts<'a> {
     pub files: &'a [(&'a str, &'a [u8])],
     pub standard: &'a [u8],
+}
+
+impl<'a> Texts<'a> {
+    /// The text of the first file of that name.
+    fn text_named(&self, name: &str) -> Option<&'a [u8]>
+        ensures { option_map (λ text. text.now) result ≡ text_named name.now (map (λ f. (f.0.now, f.1.now)) self.now.files.now) }
+    {
+        for (file, text) in self.files {
+            if *file == name {
+                return Some(*text);
+            }
+        }
+        None
+    }
 }
 
 impl<'a> Sources for Texts<'a> {
@@ -24,12 +41,19 @@ impl<'a> Sources for Texts<'a> {
     ghost standard_text = { λ s. Some s.standard.now };
 
     fn open(&self, name: &str) -> io::Result<&'a [u8]> {
-        for (file, text) in self.files {
-            if *file == name {
-                return Ok(*text);
-            }
+        self.text_named(name)
+            .ok_or(io::Error::from(ErrorKind::NotFound))
+    }
+
+    fn find(&self, name: &str) -> io::Result<Option<&'a [u8]>> {
+        Ok(self.text_named(name))
+    }
+
+    fn is_read_from(&self, word: &str, name: &str) -> bool {
+        if word == "-" {
+            return false;
         }
-        Err(io::Error::from(ErrorKind::NotFound))
+        word == name
     }
 
     fn standard(&self) -> &'a [u8] {

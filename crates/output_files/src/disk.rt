@@ -4,7 +4,8 @@ ghost use Rattle.std.specs.Prelude.{None, OnOk};
 ghost use Rattle.std.specs.Io.KnownBytes.{Appends};
 
 use crate::targets::Targets;
-use std::io::Write;
+use std::fs::{File, OpenOptions};
+use std::io::{Error, ErrorKind, Write};
 use std::rt::Files;
 use std::{fs, io};
 
@@ -22,6 +23,25 @@ impl<'a, R: Files> Disk<'a, R> {
 
 impl<R: Files> Targets for Disk<'_, R> {
     ghost written = { λ _. None };
+
+    fn has_folder(&self, name: &str) -> io::Result<bool> {
+        if is_folder(self.rt, name) {
+            return Ok(true);
+        }
+        fs::create_dir(self.rt, name)?;
+        fs::remove_dir(self.rt, name)?;
+        Ok(false)
+    }
+
+    fn try_file(&self, name: &str) -> io::Result<()> {
+        match fs::metadata(self.rt, name) {
+            Ok(found) if found.is_file() => open_to_write(self.rt, name),
+            Ok(found) if found.is_dir() => Err(Error::from(ErrorKind::IsADirectory)),
+            Ok(_) => Ok(()),
+            Err(error) if error.kind() == ErrorKind::NotFound => make_and_remove(self.rt, name),
+            Err(error) => Err(error),
+        }
+    }
 
     fn make_folder(&mut self, name: &str) -> io::Result<()> {
         match fs::create_dir(self.rt, name) {
@@ -42,6 +62,21 @@ fn is_folder<R: Files>(rt: &R, name: &str) -> bool {
     match fs::metadata(rt, name) {
         Ok(found) => found.is_dir(),
         Err(_) => false,
+    }
+}
+
+/// A file that is there is opened, and keeps what it has.
+fn open_to_write<R: Files>(rt: &R, name: &str) -> io::Result<()> {
+    let _file = OpenOptions::new().write(true).open(rt, name)?;
+    Ok(())
+}
+
+/// A file that isn't there is made, and is gone then. One that was made meanwhile, or to which a name leads on, isn't touched.
+fn make_and_remove<R: Files>(rt: &R, name: &str) -> io::Result<()> {
+    match File::create_new(rt, name) {
+        Ok(_file) => fs::remove_file(rt, name),
+        Err(error) if error.kind() == ErrorKind::AlreadyExists => Ok(()),
+        Err(error) => Err(error),
     }
 }
 

@@ -56,6 +56,7 @@ pub struct InMemory {
     folders: Vec<String>,
     calls: usize,
     fails: Option<(usize, ErrorKind)>,
+    locked: Option<(String, ErrorKind)>,
 }
 
 impl Model for InMemory {
@@ -77,6 +78,7 @@ impl InMemory {
             folders: Vec::new(alloc),
             calls: 0,
             fails: None,
+            locked: None,
         }
     }
 
@@ -85,6 +87,14 @@ impl InMemory {
         ensures { self.new ≡ self.old }
     {
         self.fails = Some((call, kind));
+    }
+
+    /// The file or folder of that name can't be written or made from now on, for this.
+    pub fn lock(&mut self, name: &str, kind: ErrorKind) -> Result<(), AllocError>
+        ensures { self.new ≡ self.old }
+    {
+        self.locked = Some((String::from_str(self.alloc, name)?, kind));
+        Ok(())
     }
 
     /// The files that were written, the first first, each as often as it was.
@@ -111,11 +121,16 @@ impl InMemory {
         }
     }
 
-    // Whether the folder of a file of that name is there.
-    fn has_place(&self, name: &str) -> bool {
-        let Some((folder, _)) = name.rsplit_once('/') else {
-            return true;
-        };
+    // Why that name can't be written or made, if it can't.
+    fn lock_of(&self, name: &str) -> Option<ErrorKind> {
+        match &self.locked {
+            Some((locked, kind)) if locked.as_str() == name => Some(*kind),
+            _ => None,
+        }
+    }
+
+    // Whether this folder was made.
+    fn was_made(&self, folder: &str) -> bool {
         for made in self.folders.as_slice() {
             if made.as_str() == folder {
                 return true;
@@ -123,12 +138,38 @@ impl InMemory {
         }
         false
     }
+
+    // Whether the folder of a file of that name is there.
+    fn has_place(&self, name: &str) -> bool {
+        match name.rsplit_once('/') {
+            Some((folder, _)) => self.was_made(folder),
+            None => true,
+        }
+    }
 }
 
 impl Targets for InMemory {
     ghost written = { λ m. Some m };
 
+    fn has_folder(&self, name: &str) -> io::Result<bool> {
+        match self.lock_of(name) {
+            Some(kind) => Err(Error::from(kind)),
+            None => Ok(self.was_made(name)),
+        }
+    }
+
+    fn try_file(&self, name: &str) -> io::Result<()> {
+        match self.lock_of(name) {
+            Some(kind) => Err(Error::from(kind)),
+            None if !self.has_place(name) => Err(Error::from(ErrorKind::NotFound)),
+            None => Ok(()),
+        }
+    }
+
     fn make_folder(&mut self, name: &str) -> io::Result<()> {
+        if let Some(kind) = self.lock_of(name) {
+            return Err(Error::from(kind));
+        }
         if let Some(kind) = self.failure() {
             return Err(Error::from(kind));
         }
@@ -138,6 +179,9 @@ impl Targets for InMemory {
     }
 
     fn write_file(&mut self, name: &str, text: &[u8]) -> io::Result<()> {
+        if let Some(kind) = self.lock_of(name) {
+            return Err(Error::from(kind));
+        }
         if let Some(kind) = self.failure() {
             return Err(Error::from(kind));
         }

@@ -11,6 +11,13 @@ pub trait Targets {
     // is known.
     ghost written: { Self → Option (List (List ℕ × List ℕ)) };
 
+    /// Whether a folder of that name is there; where none is, one could be made now, or it is told why not. Nothing is changed.
+    fn has_folder(&self, name: &str) -> io::Result<bool>;
+
+    /// The file of that name could be written now, or it is told why not. What it has stays, and where none is there, none is after it.
+    /// What is no file of a disk, as a pipe or a terminal, isn't tried.
+    fn try_file(&self, name: &str) -> io::Result<()>;
+
     /// There is a folder of that name from now on: it is made, in a folder that is there, or it was there. A file of that name
     /// is none.
     fn make_folder(&mut self, name: &str) -> io::Result<()>

@@ -169,3 +169,68 @@ fn a_full_device_is_told(rt: HostRuntime) {
     let exists = Err(ErrorKind::AlreadyExists);
     assert_eq!(rt; ask(&mut disk, "/dev/null", None), exists);
 }
+
+/// What is tried on a disk below a folder of the test, and how it answers: a folder where the first word says so. There is `one`, a file.
+static TRIED: [(bool, &str, Result<bool, ErrorKind>); 10] = [
+    (true, "", Ok(true)),
+    (true, "/new", Ok(false)),
+    (true, "/one", Err(ErrorKind::AlreadyExists)),
+    (true, "/no/new", Err(ErrorKind::NotFound)),
+    (false, "", Err(ErrorKind::IsADirectory)),
+    (false, "/one", Ok(true)),
+    (false, "/two", Ok(true)),
+    (false, "/no/two", Err(ErrorKind::NotFound)),
+    (false, "/one/two", Err(ErrorKind::NotADirectory)),
+    (false, "/e\0f", Err(ErrorKind::InvalidInput)),
+];
+
+#[test]
+fn a_try_leaves_a_disk_as_it_is(rt: HostRuntime) -> Result<(), Fail> {
+    let alloc = rt.alloc();
+    let folder = format!(in alloc; "output_files_tries_{}", process::id(rt.process()))?;
+    let mut disk = Disk::new(&rt);
+    assert_eq!(rt; ask(&mut disk, &folder, None), Ok(()));
+    let one = format!(in alloc; "{folder}/one")?;
+    assert_eq!(rt; ask(&mut disk, &one, Some("text\n")), Ok(()));
+    for (is_folder, name, expected) in TRIED.iter() {
+        let name = format!(in alloc; "{folder}{name}")?;
+        assert_eq!(rt; tried(&disk, *is_folder, &name), *expected);
+    }
+    let text = fs::read_to_string(&rt, one.as_str());
+    let removed = fs::remove_file(&rt, one.as_str());
+    // A folder is removed only where it is empty.
+    let emptied = fs::remove_dir(&rt, folder.as_str());
+    assert_eq!(rt; text?.as_str(), "text\n");
+    assert!(rt; removed.is_ok());
+    assert!(rt; emptied.is_ok());
+    Ok(())
+}
+
+/// Whether a folder is there, or a file could be written.
+fn tried<T: Targets>(target: &T, is_folder: bool, name: &str) -> Result<bool, ErrorKind> {
+    let answer = if is_folder {
+        target.has_folder(name)
+    } else {
+        target.try_file(name).map(|()| true)
+    };
+    answer.map_err(|e| e.kind())
+}
+
+#[test]
+fn what_is_locked_fails(rt: HostRuntime) -> Result<(), AllocError> {
+    let mut memory = InMemory::new(rt.alloc());
+    assert_eq!(rt; tried(&memory, true, "d"), Ok(false));
+    assert_eq!(rt; tried(&memory, false, "d/one"), Err(ErrorKind::NotFound));
+    assert_eq!(rt; ask(&mut memory, "d", None), Ok(()));
+    assert_eq!(rt; tried(&memory, true, "d"), Ok(true));
+    assert_eq!(rt; tried(&memory, false, "d/one"), Ok(true));
+    let full = ErrorKind::StorageFull;
+    memory.lock("d/one", full)?;
+    assert_eq!(rt; tried(&memory, false, "d/one"), Err(full));
+    assert_eq!(rt; ask(&mut memory, "d/one", Some("text")), Err(full));
+    assert_eq!(rt; ask(&mut memory, "d/two", Some("text")), Ok(()));
+    memory.lock("e", full)?;
+    assert_eq!(rt; tried(&memory, true, "e"), Err(full));
+    assert_eq!(rt; ask(&mut memory, "e", None), Err(full));
+    Ok(())
+}

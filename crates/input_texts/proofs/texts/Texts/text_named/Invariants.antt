@@ -1,6 +1,6 @@
 use Rattle.std.proofs.Common.{◌≡◌, map, drop}
 use Rattle.input_texts.specs.Words.{text_named}
-use Rattle.input_texts.proofs.texts.TextsSources.open.Given as goal
+use Rattle.input_texts.proofs.texts.Texts.text_named.Given as goal
 
 -- none of the files before this one has the name
 abbrev pub invariant-loop-file : goal.invariant-loop-file
