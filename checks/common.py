@@ -84,6 +84,11 @@ class Check:
         except OSError:
             return b""
 
+    def forget(self, name):
+        """No file of this name is there any more."""
+        if os.path.lexists(os.path.join(self.work, name)):
+            os.remove(os.path.join(self.work, name))
+
     def say(self, name, wrong=None):
         self.passed, self.failed = self.passed + (not wrong), self.failed + bool(wrong)
         print(f"FAILED {name}: {wrong}" if wrong else f"ok     {name}", flush=True)

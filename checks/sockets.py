@@ -170,6 +170,7 @@ def interrupted(check):
 def beside(check, turns, journal, value=0, repeats=1, **how):
     """How the office a ran beside a neighbour that this script plays, which answers its question with this value; all that the
     neighbour got, and what it would write down."""
+    check.forget(journal)
     with Door() as b:
         check.files({"shared.txt": at_ports(SHARED, (*free_ports(1), b.port)), "moves.txt": MOVES})
         run = started(check, f"run shared.txt a moves.txt --turns {turns} --journal {journal}", **how)

@@ -362,7 +362,7 @@ const OWN_SESSIONS: &str =
 
 const TURNS: &str = "How many turns the office has: 1 to 100000";
 
-const OWN_JOURNAL: &str = "A file for the office's journal";
+const OWN_JOURNAL: &str = "A file for the office's journal; - is refused";
 
 const JOURNALS: &str = "A folder for the offices' journals, NAME.journal, made if it isn't there";
 
@@ -383,6 +383,9 @@ const RUNS: &str =
     "Where PLAN and SESSIONS are both -, the standard input is cut at its first line that is exactly ---:
 up to it stands the text of the plan. Each text counts its lines from 1. A file whose name is - is
 written ./- instead.
+
+A file for a journal is looked at before anything is run: it has to be one that can be written, no
+input, and without a journal of the same office and run.
 
 Exit status: 0 where all sessions finished; 1 where some are left, where an input is refused or
 can't be read, where a socket, a thread or the clock can't be had, where something can't be written,

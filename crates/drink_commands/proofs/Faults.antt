@@ -9,7 +9,7 @@ use Rattle.drink_commands.specs.declared.input.Input.{Input}
 use Rattle.drink_commands.specs.declared.input.Input.TheVariants as inputs
 use Rattle.drink_commands.specs.declared.fault.Why.{Why}
 use Rattle.drink_commands.specs.declared.fault.Fault.{Fault}
-use Rattle.drink_commands.specs.declared.fault.Fault.TheVariants.{Memory, ReadFailed, Refused, NoSuchOffice, NoAddress, NoJournal, NoRun, CutShort, WriteFailed, FileFailed}
+use Rattle.drink_commands.specs.declared.fault.Fault.TheVariants.{Memory, ReadFailed, Refused, NoSuchOffice, NoAddress, NoJournal, NoPlace, NoRun, CutShort, WriteFailed, FileFailed}
 use Rattle.drink_commands.specs.Fault.{IsAmong, IsFaultAt, IsWriteFault, refused_input}
 use Rattle.drink_commands.specs.Plans.{IsAcceptedAs}
 use Rattle.drink_commands.specs.Texts.{Accepts, IsJudgedOr, Judges, Known, Refuses, nothing}
@@ -21,6 +21,7 @@ weaker input P Q (Refused why remark) k (e, h) = (e, k why h)
 weaker input P Q (NoSuchOffice offices) k h = h
 weaker input P Q (NoAddress office) k h = h
 weaker input P Q (NoJournal office) k h = h
+weaker input P Q (NoPlace name why) k h = h
 weaker input P Q (NoRun cause) k h = h
 weaker input P Q (CutShort cause) k h = h
 weaker input P Q (WriteFailed cause) k h = h
@@ -34,6 +35,7 @@ among asked input P (Refused why remark) at (e, h) = subst (Contains asked) (sym
 among asked input P (NoSuchOffice offices) at h = h
 among asked input P (NoAddress office) at h = h
 among asked input P (NoJournal office) at h = h
+among asked input P (NoPlace name why) at h = h
 among asked input P (NoRun cause) at h = h
 among asked input P (CutShort cause) at h = h
 among asked input P (WriteFailed cause) at h = tt
@@ -49,6 +51,7 @@ among_more input asked (Refused why remark) h = contains_more input asked (refus
 among_more input asked (NoSuchOffice offices) h = h
 among_more input asked (NoAddress office) h = h
 among_more input asked (NoJournal office) h = h
+among_more input asked (NoPlace name why) h = h
 among_more input asked (NoRun cause) h = h
 among_more input asked (CutShort cause) h = h
 among_more input asked (WriteFailed cause) h = tt
@@ -62,6 +65,7 @@ no_input (Refused why remark) h = absurd h
 no_input (NoSuchOffice offices) h = h
 no_input (NoAddress office) h = h
 no_input (NoJournal office) h = h
+no_input (NoPlace name why) h = h
 no_input (NoRun cause) h = h
 no_input (CutShort cause) h = h
 no_input (WriteFailed cause) h = tt

@@ -2,14 +2,14 @@
 use Rattle.std.proofs.Common.{◌≡◌, ◌+◌, ◌<◌, ◌≤◌, ℕ, Bool, true, false, List, [], ◌∷◌, ◌++◌, length, map, take, get_or, Option, None, Some, Result, Ok, Err, IfOk, OnOk, refl, sym, subst, ap, ◌∙◌, append_assoc, arith}
 use Rattle.std.specs.List.{range_with_len}
 use Rattle.std.specs.String.{string_bytes}
-use Rattle.std.proofs.lemmas.List.{append-nil, length-map, take_more, map_more}
+use Rattle.std.proofs.lemmas.List.{append-nil, length-map, map_more}
 use Rattle.std.proofs.lemmas.List.FromFn.{length-range_with_len, map-range_with_len_more}
 use Rattle.output_files.specs.Written.{AddsFiles, KeepsFiles}
 use Rattle.office_map.specs.PlanValue.{PlanValue}
 use Rattle.locked_office.specs.Calls.{Key}
 use Rattle.office_runs.specs.Runs.{HasJournals, TellsJournals, key_of, text_of}
 use Rattle.office_runs.specs.declared.report.Ran.{Ran}
-use Rattle.drink_commands.specs.Journals.{File, WritesFiles, file_name, files_of}
+use Rattle.drink_commands.specs.Journals.{File, file_name, files_of}
 
 pub keeps : (files : Option (List File)) → KeepsFiles files files
 keeps None = tt

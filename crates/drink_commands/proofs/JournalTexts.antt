@@ -9,7 +9,7 @@ use Rattle.journal_audit.specs.Findings.{TellsWoven, TellsUnwoven}
 use Rattle.drink_commands.specs.declared.input.Input.{Input}
 use Rattle.drink_commands.specs.declared.input.Input.TheVariants as inputs
 use Rattle.drink_commands.specs.declared.fault.Fault.{Fault}
-use Rattle.drink_commands.specs.declared.fault.Fault.TheVariants.{Memory, ReadFailed, Refused, NoSuchOffice, NoAddress, NoJournal, NoRun, CutShort, WriteFailed, FileFailed}
+use Rattle.drink_commands.specs.declared.fault.Fault.TheVariants.{Memory, ReadFailed, Refused, NoSuchOffice, NoAddress, NoJournal, NoPlace, NoRun, CutShort, WriteFailed, FileFailed}
 use Rattle.drink_commands.specs.Audit.{Tells, IsJudgedAudit, JudgesJournals, SaysAfter, IsLacking, journal_inputs}
 use Rattle.drink_commands.specs.Fault.{IsAmong, IsFaultAt, IsNoJournal}
 use Rattle.drink_commands.specs.Texts.{Refuses, nothing}
@@ -156,6 +156,7 @@ module _ (files : List ℕ → Option (List ℕ)) (p : PlanValue) where
   named_after a texts [] (NoSuchOffice offices) h lacks = absurd h
   named_after a texts [] (NoAddress office) h lacks = absurd h
   named_after a texts [] (NoRun cause) h lacks = absurd h
+  named_after a texts [] (NoPlace name why) h lacks = absurd h
   named_after a texts [] (CutShort cause) h lacks = absurd h
   named_after a texts [] (WriteFailed cause) h lacks = absurd h
   named_after a texts [] (FileFailed name cause) h lacks = absurd h
@@ -166,6 +167,7 @@ module _ (files : List ℕ → Option (List ℕ)) (p : PlanValue) where
   named_after a texts (x ∷ xs) (NoSuchOffice offices) h lacks = absurd h
   named_after a texts (x ∷ xs) (NoAddress office) h lacks = absurd h
   named_after a texts (x ∷ xs) (NoRun cause) h lacks = absurd h
+  named_after a texts (x ∷ xs) (NoPlace name why) h lacks = absurd h
   named_after a texts (x ∷ xs) (CutShort cause) h lacks = absurd h
   named_after a texts (x ∷ xs) (WriteFailed cause) h lacks = absurd h
   named_after a texts (x ∷ xs) (FileFailed name cause) h lacks = absurd h
@@ -221,6 +223,7 @@ module _ (files : List ℕ → Option (List ℕ)) where
   is_no_journal p texts (NoSuchOffice offices) h = h
   is_no_journal p texts (NoAddress office) h = h
   is_no_journal p texts (NoRun cause) h = h
+  is_no_journal p texts (NoPlace name why) h = h
   is_no_journal p texts (CutShort cause) h = h
   is_no_journal p texts (WriteFailed cause) h = h
   is_no_journal p texts (FileFailed name cause) h = h

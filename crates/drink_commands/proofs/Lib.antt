@@ -5,3 +5,4 @@ pub mod Reported
 pub mod Running
 pub mod JournalTexts
 pub mod JournalFiles
+pub mod Obstacles

@@ -1,5 +1,5 @@
 -- What a command wrote is what its texts mean.
-use Rattle.std.proofs.Common.{◌≡◌, ℕ, Bool, List, [], ◌∷◌, length, map, get_or, Option, Some, is_some, sym, subst, ap, ◌∙◌}
+use Rattle.std.proofs.Common.{◌≡◌, ℕ, Bool, List, [], ◌∷◌, length, map, get_or, Option, Some, is_some, IfSome, sym, subst, ap, ◌∙◌}
 use Rattle.std.specs.List.{range_with_len}
 use Rattle.std.specs.String.{string_bytes}
 use Rattle.std.specs.Io.KnownBytes.{Appends}
@@ -16,7 +16,9 @@ use Rattle.drink_commands.specs.Random.{TellsRun}
 use Rattle.office_runs.specs.Runs.{TellsCourse, TellsJournals}
 use Rattle.office_runs.specs.declared.report.Ran.{Ran}
 use Rattle.drink_commands.specs.Journals.{File, WritesFiles, files_of, files_of_world}
-use Rattle.drink_commands.specs.Run.{IsReached, WritesOffice, WritesOffices}
+use Rattle.drink_commands.specs.Places.{IsIn, IsObstacle}
+use Rattle.drink_commands.specs.Run.{IsReached, RefusesFile, RefusesFolder, WritesOffice, WritesOffices}
+use Rattle.drink_commands.specs.declared.fault.Obstacle.{Obstacle}
 use Rattle.drink_commands.specs.Simulation.{Simulates}
 use Rattle.drink_commands.proofs.Faults.{TakesPlan, TakesScript, TakesSessions}
 
@@ -78,12 +80,12 @@ simulated files u v w x a b c a_text b_text c_text p programs acts run folder ol
 
 -- ---- offices that run
 
-pub ran_office : (tells : Bool) (files : List ℕ → Option (List ℕ)) (u v w : Unread) (a word b a_text b_text : List ℕ) (p : PlanValue) (me : ℕ) (programs seen : List ProgramValue)
+pub ran_office : (tells : Bool) (Free : PlanValue → ℕ → List ℕ → Type 0) (files : List ℕ → Option (List ℕ)) (u v w : Unread) (a word b a_text b_text : List ℕ) (p : PlanValue) (me : ℕ) (programs seen : List ProgramValue)
     (turns : ℕ) (file : Option (List ℕ)) (run : Ran) (old new : Option (List ℕ)) (kept left : Option (List File)) → TakesPlan files u a v p → office_named p word ≡ Some me → IsReached p me → TakesSessions files v b w p programs
-    → HaveTexts files u (a ∷ b ∷ []) (a_text ∷ b_text ∷ []) → seen ≡ programs → TellsCourse tells p me seen turns (is_some file) run → Appends old new (string_bytes run.text)
+    → HaveTexts files u (a ∷ b ∷ []) (a_text ∷ b_text ∷ []) → seen ≡ programs → IfSome file (Free p me) → TellsCourse tells p me seen turns (is_some file) run → Appends old new (string_bytes run.text)
     → WritesFiles file (λ place. map (λ text. (place, string_bytes text)) run.journals.items) kept left
-    → WritesOffice tells a_text word b_text turns file run old new kept left
-ran_office tells files u v w a word b a_text b_text p me programs seen turns file run old new kept left plan e reached sessions (after, has, (next, has_next, more)) same told written journal =
+    → WritesOffice tells Free a_text word b_text turns file run old new kept left
+ran_office tells Free files u v w a word b a_text b_text p me programs seen turns file run old new kept left plan e reached sessions (after, has, (next, has_next, more)) same free told written journal =
     let it = plan a_text after has in
     record {
       p = p;
@@ -93,25 +95,43 @@ ran_office tells files u v w a word b a_text b_text p me programs seen turns fil
       is_office = e;
       is_reached = reached;
       are_sessions = (sessions b_text next (subst (λ s. HasText files s b b_text next) (sym it.1) has_next)).0;
+      free = free;
       told = subst (λ ps. TellsCourse tells p me ps turns (is_some file) run) same told;
       written = written;
       journal = journal;
     }
 
-pub ran_offices : (files : List ℕ → Option (List ℕ)) (u v w : Unread) (a b a_text b_text : List ℕ) (p : PlanValue) (programs seen : List ProgramValue)
+pub ran_offices : (Free : PlanValue → ℕ → List ℕ → Type 0) (files : List ℕ → Option (List ℕ)) (u v w : Unread) (a b a_text b_text : List ℕ) (p : PlanValue) (programs seen : List ProgramValue)
     (folder : Option (List ℕ)) (run : Ran) (old new : Option (List ℕ)) (kept left : Option (List File)) → TakesPlan files u a v p → TakesSessions files v b w p programs
-    → HaveTexts files u (a ∷ b ∷ []) (a_text ∷ b_text ∷ []) → seen ≡ programs
+    → HaveTexts files u (a ∷ b ∷ []) (a_text ∷ b_text ∷ []) → seen ≡ programs → IfSome folder (Free p (length p.offices))
     → TellsJournals p (range_with_len 0 (length p.offices)) (length seen) (is_some folder) run → Appends old new (string_bytes run.text)
     → WritesFiles folder (λ place. files_of place p (λ a. get_or (map string_bytes run.journals.items) a []) (length run.journals.items)) kept left
-    → WritesOffices a_text b_text folder run old new kept left
-ran_offices files u v w a b a_text b_text p programs seen folder run old new kept left plan sessions (after, has, (next, has_next, more)) same told written journals =
+    → WritesOffices Free a_text b_text folder run old new kept left
+ran_offices Free files u v w a b a_text b_text p programs seen folder run old new kept left plan sessions (after, has, (next, has_next, more)) same free told written journals =
     let it = plan a_text after has in
     record {
       p = p;
       programs = programs;
       is_plan = it.0;
       are_sessions = (sessions b_text next (subst (λ s. HasText files s b b_text next) (sym it.1) has_next)).0;
+      free = free;
       told = subst (λ ps. TellsJournals p (range_with_len 0 (length p.offices)) (length ps) (is_some folder) run) same told;
       written = written;
       journals = journals;
     }
+
+-- ---- where journals have no place
+
+pub file_refused : (files : List ℕ → Option (List ℕ)) (standard : Option (List ℕ)) (u v : Unread) (a word b : List ℕ) (p : PlanValue) (me : ℕ) (file : Option (List ℕ))
+    → u ≡ unread standard (a ∷ b ∷ []) → TakesPlan files u a v p → office_named p word ≡ Some me
+    → (name : List ℕ) (why : Obstacle) → (file ≡ Some name) × IsObstacle files a b p why me name → RefusesFile files standard a word b file name why
+file_refused files standard u v a word b p me file e plan named name why found a_text b_text known =
+    let (after, has, more) = started u standard files (a ∷ b ∷ []) (a_text ∷ b_text ∷ []) e known in
+    (p, me, (plan a_text after has).0, named, found.0, found.1)
+
+pub folder_refused : (files : List ℕ → Option (List ℕ)) (standard : Option (List ℕ)) (u v : Unread) (a b : List ℕ) (p : PlanValue) (folder : Option (List ℕ))
+    → u ≡ unread standard (a ∷ b ∷ []) → TakesPlan files u a v p
+    → (name : List ℕ) (why : Obstacle) → IfSome folder (λ place. IsIn files a b p place name why) → RefusesFolder files standard a b folder name why
+folder_refused files standard u v a b p folder e plan name why found a_text b_text known =
+    let (after, has, more) = started u standard files (a ∷ b ∷ []) (a_text ∷ b_text ∷ []) e known in
+    (p, (plan a_text after has).0, found)

@@ -1,110 +1,145 @@
 -- What a fault of `run` says, and what it leaves.
 use Rattle.std.proofs.Common.{Bor, is_some, ◌≡◌, ◌⊎◌, ◌≤◌, ℕ, zero, suc, List, [], ◌∷◌, take, Option, Some, None, Result, Ok, Err, refl, sym, subst, arith, inl, inr, IfErr, IfOk}
 use Rattle.std.specs.Option.{option_copied}
+use Rattle.std.specs.String.{string_bytes}
 use Rattle.input_texts.specs.Words.{HaveTexts, HasText, Unread, unread}
 use Rattle.office_map.specs.PlanValue.{PlanValue, office_named}
 use Rattle.office_runs.specs.declared.fault.RunFault.{RunFault}
 use Rattle.drink_commands.specs.declared.input.Input.{Input}
 use Rattle.drink_commands.specs.declared.input.Input.TheVariants as inputs
+use Rattle.drink_commands.specs.declared.fault.Obstacle.{Obstacle}
 use Rattle.drink_commands.specs.declared.fault.Why.{Why}
 use Rattle.drink_commands.specs.declared.fault.Fault.{Fault}
-use Rattle.drink_commands.specs.declared.fault.Fault.TheVariants.{Memory, ReadFailed, Refused, NoSuchOffice, NoAddress, NoJournal, NoRun, CutShort, WriteFailed, FileFailed}
-use Rattle.drink_commands.specs.Fault.{IsAmong, IsFaultAt, IsOfRun}
+use Rattle.drink_commands.specs.declared.fault.Fault.TheVariants.{Memory, ReadFailed, Refused, NoSuchOffice, NoAddress, NoJournal, NoPlace, NoRun, CutShort, WriteFailed, FileFailed}
+use Rattle.drink_commands.specs.Fault.{IsAmong, IsFaultAt, IsOfRun, IsPlaceFault}
 use Rattle.drink_commands.specs.Texts.{Judges, NoOther, Refuses, nothing}
 use Rattle.drink_commands.specs.Status.{status_of}
-use Rattle.drink_commands.specs.Run.{IsJudgedRun, IsNoOffice, IsOfOffice, IsReached, IsUnreached, JudgesRun, Leaves, SaysOf, status_with}
+use Rattle.drink_commands.specs.Run.{IsJudgedRun, IsNoOffice, IsOfOffice, IsReached, IsUnreached, JudgesRun, Leaves, NoObstacle, SaysOf, status_with}
 use Rattle.drink_commands.proofs.Faults.{SaysTexts, TakesPlan, among, among_more, weaker}
 
 -- ---- what a fault leaves
 
 -- a fault at an input
-pub at_input : (U : Type 0) (S : RunFault → Type 0) (input : Input) (P : Why → Type 0) (f : Fault) → IsFaultAt input P f → U → Leaves U S f
-at_input U S input P Memory h u = u
-at_input U S input P (ReadFailed failed cause) h u = u
-at_input U S input P (Refused why remark) h u = u
-at_input U S input P (NoSuchOffice offices) h u = u
-at_input U S input P (NoAddress office) h u = u
-at_input U S input P (NoJournal office) h u = u
-at_input U S input P (NoRun cause) h u = u
-at_input U S input P (CutShort cause) h u = absurd h
-at_input U S input P (WriteFailed cause) h u = tt
-at_input U S input P (FileFailed name cause) h u = tt
+pub at_input : (U : Type 0) (F : List ℕ → Obstacle → Type 0) (S : RunFault → Type 0) (input : Input) (P : Why → Type 0) (f : Fault) → IsFaultAt input P f → U → Leaves U F S f
+at_input U F S input P Memory h u = u
+at_input U F S input P (ReadFailed failed cause) h u = u
+at_input U F S input P (Refused why remark) h u = u
+at_input U F S input P (NoSuchOffice offices) h u = u
+at_input U F S input P (NoAddress office) h u = u
+at_input U F S input P (NoJournal office) h u = u
+at_input U F S input P (NoPlace name why) h u = absurd h
+at_input U F S input P (NoRun cause) h u = u
+at_input U F S input P (CutShort cause) h u = absurd h
+at_input U F S input P (WriteFailed cause) h u = tt
+at_input U F S input P (FileFailed name cause) h u = tt
 
-no_office : (U : Type 0) (S : RunFault → Type 0) (f : Fault) → IsNoOffice f → U → Leaves U S f
-no_office U S Memory h u = u
-no_office U S (ReadFailed failed cause) h u = u
-no_office U S (Refused why remark) h u = u
-no_office U S (NoSuchOffice offices) h u = u
-no_office U S (NoAddress office) h u = u
-no_office U S (NoJournal office) h u = u
-no_office U S (NoRun cause) h u = u
-no_office U S (CutShort cause) h u = absurd h
-no_office U S (WriteFailed cause) h u = tt
-no_office U S (FileFailed name cause) h u = tt
+no_office : (U : Type 0) (F : List ℕ → Obstacle → Type 0) (S : RunFault → Type 0) (f : Fault) → IsNoOffice f → U → Leaves U F S f
+no_office U F S Memory h u = u
+no_office U F S (ReadFailed failed cause) h u = u
+no_office U F S (Refused why remark) h u = u
+no_office U F S (NoSuchOffice offices) h u = u
+no_office U F S (NoAddress office) h u = u
+no_office U F S (NoJournal office) h u = u
+no_office U F S (NoPlace name why) h u = absurd h
+no_office U F S (NoRun cause) h u = u
+no_office U F S (CutShort cause) h u = absurd h
+no_office U F S (WriteFailed cause) h u = tt
+no_office U F S (FileFailed name cause) h u = tt
 
-unreached : (U : Type 0) (S : RunFault → Type 0) (p : PlanValue) (v : ℕ) (f : Fault) → IsUnreached p v f → U → Leaves U S f
-unreached U S p v Memory h u = u
-unreached U S p v (ReadFailed failed cause) h u = u
-unreached U S p v (Refused why remark) h u = u
-unreached U S p v (NoSuchOffice offices) h u = u
-unreached U S p v (NoAddress office) h u = u
-unreached U S p v (NoJournal office) h u = u
-unreached U S p v (NoRun cause) h u = u
-unreached U S p v (CutShort cause) h u = absurd h
-unreached U S p v (WriteFailed cause) h u = tt
-unreached U S p v (FileFailed name cause) h u = tt
+unreached : (U : Type 0) (F : List ℕ → Obstacle → Type 0) (S : RunFault → Type 0) (p : PlanValue) (v : ℕ) (f : Fault) → IsUnreached p v f → U → Leaves U F S f
+unreached U F S p v Memory h u = u
+unreached U F S p v (ReadFailed failed cause) h u = u
+unreached U F S p v (Refused why remark) h u = u
+unreached U F S p v (NoSuchOffice offices) h u = u
+unreached U F S p v (NoAddress office) h u = u
+unreached U F S p v (NoJournal office) h u = u
+unreached U F S p v (NoPlace name why) h u = absurd h
+unreached U F S p v (NoRun cause) h u = u
+unreached U F S p v (CutShort cause) h u = absurd h
+unreached U F S p v (WriteFailed cause) h u = tt
+unreached U F S p v (FileFailed name cause) h u = tt
 
 -- a fault at the office that is asked for
-pub at_office : (U : Type 0) (S : RunFault → Type 0) (p : PlanValue) (o : Option ℕ) (f : Fault) → SaysOf p NoOther o f → U → Leaves U S f
-at_office U S p None f h u = no_office U S f h u
-at_office U S p (Some me) f (inl (v, e, h)) u = unreached U S p v f h u
-at_office U S p (Some me) f (inr (reached, h)) u = absurd h
+pub at_office : (U : Type 0) (F : List ℕ → Obstacle → Type 0) (S : RunFault → Type 0) (p : PlanValue) (o : Option ℕ) (f : Fault) → SaysOf p NoOther o f → U → Leaves U F S f
+at_office U F S p None f h u = no_office U F S f h u
+at_office U F S p (Some me) f (inl (v, e, h)) u = unreached U F S p v f h u
+at_office U F S p (Some me) f (inr (reached, h)) u = absurd h
 
 -- a run that was cut short, or the writing that failed
-pub at_end : (U : Type 0) (S T : RunFault → Type 0) (f : Fault) → Leaves ⊥ S f → ((cause : RunFault) → S cause → T cause) → Leaves U T f
-at_end U S T Memory h k = absurd h
-at_end U S T (ReadFailed failed cause) h k = absurd h
-at_end U S T (Refused why remark) h k = absurd h
-at_end U S T (NoSuchOffice offices) h k = absurd h
-at_end U S T (NoAddress office) h k = absurd h
-at_end U S T (NoJournal office) h k = absurd h
-at_end U S T (NoRun cause) h k = absurd h
-at_end U S T (CutShort cause) h k = k cause h
-at_end U S T (WriteFailed cause) h k = tt
-at_end U S T (FileFailed name cause) h k = tt
+pub at_end : (U : Type 0) (F : List ℕ → Obstacle → Type 0) (S T : RunFault → Type 0) (f : Fault) → Leaves ⊥ NoObstacle S f → ((cause : RunFault) → S cause → T cause) → Leaves U F T f
+at_end U F S T Memory h k = absurd h
+at_end U F S T (ReadFailed failed cause) h k = absurd h
+at_end U F S T (Refused why remark) h k = absurd h
+at_end U F S T (NoSuchOffice offices) h k = absurd h
+at_end U F S T (NoAddress office) h k = absurd h
+at_end U F S T (NoJournal office) h k = absurd h
+at_end U F S T (NoPlace name why) h k = absurd (h.0)
+at_end U F S T (NoRun cause) h k = absurd h
+at_end U F S T (CutShort cause) h k = k cause h
+at_end U F S T (WriteFailed cause) h k = tt
+at_end U F S T (FileFailed name cause) h k = tt
 
-pub is_end : (S : RunFault → Type 0) (f : Fault) → Leaves ⊥ S f → IsAmong [] f ⊎ IsOfRun f
+pub is_end : (S : RunFault → Type 0) (f : Fault) → Leaves ⊥ NoObstacle S f → IsAmong [] f ⊎ IsOfRun f
 is_end S Memory h = absurd h
 is_end S (ReadFailed failed cause) h = absurd h
 is_end S (Refused why remark) h = absurd h
 is_end S (NoSuchOffice offices) h = absurd h
 is_end S (NoAddress office) h = absurd h
 is_end S (NoJournal office) h = absurd h
+is_end S (NoPlace name why) h = absurd (h.0)
 is_end S (NoRun cause) h = absurd h
-is_end S (CutShort cause) h = inr (inr tt)
+is_end S (CutShort cause) h = inr (inr (inl tt))
 is_end S (WriteFailed cause) h = inl tt
 is_end S (FileFailed name cause) h = inl tt
 
+-- the journals have no place
+pub at_place : (U : Type 0) (E F : List ℕ → Obstacle → Type 0) (S : RunFault → Type 0) (f : Fault) → IsPlaceFault E f → U → ((name : List ℕ) (why : Obstacle) → E name why → F name why)
+    → Leaves U F S f
+at_place U E F S Memory h u k = u
+at_place U E F S (ReadFailed failed cause) h u k = absurd h
+at_place U E F S (Refused why remark) h u k = absurd h
+at_place U E F S (NoSuchOffice offices) h u k = absurd h
+at_place U E F S (NoAddress office) h u k = absurd h
+at_place U E F S (NoJournal office) h u k = absurd h
+at_place U E F S (NoPlace name why) h u k = (u, k (string_bytes name) why h)
+at_place U E F S (NoRun cause) h u k = absurd h
+at_place U E F S (CutShort cause) h u k = absurd h
+at_place U E F S (WriteFailed cause) h u k = absurd h
+at_place U E F S (FileFailed name cause) h u k = absurd h
+
+pub is_place : (E : List ℕ → Obstacle → Type 0) (f : Fault) → IsPlaceFault E f → IsAmong [] f ⊎ IsOfRun f
+is_place E Memory h = inl tt
+is_place E (ReadFailed failed cause) h = absurd h
+is_place E (Refused why remark) h = absurd h
+is_place E (NoSuchOffice offices) h = absurd h
+is_place E (NoAddress office) h = absurd h
+is_place E (NoJournal office) h = absurd h
+is_place E (NoPlace name why) h = inr (inr (inr tt))
+is_place E (NoRun cause) h = absurd h
+is_place E (CutShort cause) h = absurd h
+is_place E (WriteFailed cause) h = absurd h
+is_place E (FileFailed name cause) h = absurd h
+
 -- ---- what a fault says
 
+none : {A : Type 0} → ⊥ ⊎ (⊥ ⊎ ⊥) → A
+none (inl h) = absurd h
+none (inr (inl h)) = absurd h
+none (inr (inr h)) = absurd h
+
 of_run : (f : Fault) → IsOfRun f → IsOfOffice f
-of_run Memory (inl h) = h
-of_run Memory (inr h) = h
-of_run (ReadFailed failed cause) (inl h) = h
-of_run (ReadFailed failed cause) (inr h) = h
-of_run (Refused why remark) (inl h) = h
-of_run (Refused why remark) (inr h) = h
+of_run Memory h = none h
+of_run (ReadFailed failed cause) h = none h
+of_run (Refused why remark) h = none h
 of_run (NoSuchOffice offices) h = tt
 of_run (NoAddress office) h = tt
-of_run (NoJournal office) (inl h) = h
-of_run (NoJournal office) (inr h) = h
+of_run (NoJournal office) h = none h
+of_run (NoPlace name why) h = tt
 of_run (NoRun cause) (inl h) = h
-of_run (NoRun cause) (inr h) = absurd h
+of_run (NoRun cause) (inr h) = none (inr h)
 of_run (CutShort cause) h = tt
-of_run (WriteFailed cause) (inl h) = h
-of_run (FileFailed name cause) (inl h) = h
-of_run (WriteFailed cause) (inr h) = h
-of_run (FileFailed name cause) (inr h) = h
+of_run (WriteFailed cause) h = none h
+of_run (FileFailed name cause) h = none h
 
 module _ (asked : List Input) where
   named : (f : Fault) → IsNoOffice f → IsAmong asked f ⊎ IsOfOffice f
@@ -114,6 +149,7 @@ module _ (asked : List Input) where
   named (NoSuchOffice offices) h = inr tt
   named (NoAddress office) h = inr tt
   named (NoJournal office) h = inr h
+  named (NoPlace name why) h = absurd h
   named (NoRun cause) h = absurd h
   named (CutShort cause) h = inr tt
   named (WriteFailed cause) h = inl tt
@@ -126,6 +162,7 @@ module _ (asked : List Input) where
   met p v (NoSuchOffice offices) h = inr tt
   met p v (NoAddress office) h = inr tt
   met p v (NoJournal office) h = inr h
+  met p v (NoPlace name why) h = absurd h
   met p v (NoRun cause) h = absurd h
   met p v (CutShort cause) h = inr tt
   met p v (WriteFailed cause) h = inl tt

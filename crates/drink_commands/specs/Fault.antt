@@ -1,11 +1,13 @@
 -- What a fault says.
-use Rattle.std.specs.Prelude.{◌≡◌, ◌⊎◌, List, Contains, Option, Some, None}
+use Rattle.std.specs.Prelude.{◌≡◌, ◌⊎◌, ℕ, List, Contains, Option, Some, None}
+use Rattle.std.specs.String.{string_bytes}
 use Rattle.drink_commands.specs.declared.input.Input.{Input}
 use Rattle.drink_commands.specs.declared.input.Input.TheVariants as inputs
 use Rattle.drink_commands.specs.declared.fault.Why.{Why}
 use Rattle.drink_commands.specs.declared.fault.Why.TheVariants.{Plan, Ring, Sessions, Script, Journal, Twice}
+use Rattle.drink_commands.specs.declared.fault.Obstacle.{Obstacle}
 use Rattle.drink_commands.specs.declared.fault.Fault.{Fault}
-use Rattle.drink_commands.specs.declared.fault.Fault.TheVariants.{Memory, ReadFailed, Refused, NoSuchOffice, NoAddress, NoJournal, NoRun, CutShort, WriteFailed, FileFailed}
+use Rattle.drink_commands.specs.declared.fault.Fault.TheVariants.{Memory, ReadFailed, Refused, NoSuchOffice, NoAddress, NoJournal, NoPlace, NoRun, CutShort, WriteFailed, FileFailed}
 
 -- the input whose text is refused so
 abbrev pub refused_input : Why → Input
@@ -24,6 +26,7 @@ input_of (Refused why remark) = Some (refused_input why)
 input_of (NoSuchOffice offices) = None
 input_of (NoAddress office) = Some inputs.Plan
 input_of (NoJournal office) = None
+input_of (NoPlace name why) = None
 input_of (NoRun cause) = None
 input_of (CutShort cause) = None
 input_of (WriteFailed cause) = None
@@ -65,6 +68,16 @@ abbrev pub IsCutShort : Fault → Type 0
 IsCutShort (CutShort cause) = Unit {0}
 IsCutShort _ = ⊥
 
--- nothing is told of a run, or it was cut short
+-- a file or folder can't take what a run leaves, and what P says of its name and of why; or memory ran out
+abbrev pub IsPlaceFault : (List ℕ → Obstacle → Type 0) → Fault → Type 0
+IsPlaceFault P Memory = Unit {0}
+IsPlaceFault P (NoPlace name why) = P (string_bytes name) why
+IsPlaceFault P _ = ⊥
+
+abbrev pub IsNoPlace : Fault → Type 0
+IsNoPlace (NoPlace name why) = Unit {0}
+IsNoPlace _ = ⊥
+
+-- nothing is told of a run, or it was cut short; or what it leaves has no place
 abbrev pub IsOfRun : Fault → Type 0
-IsOfRun f = IsNoRun f ⊎ IsCutShort f
+IsOfRun f = IsNoRun f ⊎ (IsCutShort f ⊎ IsNoPlace f)

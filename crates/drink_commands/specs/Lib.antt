@@ -3,6 +3,7 @@ pub mod Input
 pub mod Fault
 pub mod Texts
 pub mod Journals
+pub mod Places
 pub mod Requests
 pub mod Status
 pub mod Serial

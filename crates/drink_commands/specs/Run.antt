@@ -1,5 +1,5 @@
 -- What the commands `run` and `live` write, and what their faults say.
-use Rattle.std.specs.Prelude.{◌≡◌, ◌⊎◌, ◌<◌, ℕ, Bool, zero, suc, List, [], ◌∷◌, true, false, length, map, take, get_or, Option, Some, None, is_some, Ok}
+use Rattle.std.specs.Prelude.{◌≡◌, ◌⊎◌, ◌<◌, ℕ, Bool, zero, suc, List, [], ◌∷◌, true, false, length, map, take, get_or, Option, Some, None, is_some, IfSome, Ok}
 use Rattle.std.specs.List.{range_with_len}
 use Rattle.std.specs.String.{string_bytes}
 use Rattle.std.specs.Io.KnownBytes.{Appends}
@@ -12,12 +12,14 @@ use Rattle.office_runs.specs.Runs.{TellsCourse, TellsJournals}
 use Rattle.office_runs.specs.declared.report.Ran.{Ran}
 use Rattle.office_runs.specs.declared.fault.RunFault.{RunFault}
 use Rattle.drink_commands.specs.Journals.{File, WritesFiles, files_of}
+use Rattle.drink_commands.specs.Places.{AreFree, IsFree, IsIn, IsObstacle}
 use Rattle.drink_commands.specs.Plans.{IsAcceptedAs}
 use Rattle.drink_commands.specs.Fault.{IsAmong, IsFaultAt, IsOfRun}
 use Rattle.drink_commands.specs.Texts.{Judges, Refuses, nothing}
 use Rattle.drink_commands.specs.declared.input.Input.TheVariants as inputs
+use Rattle.drink_commands.specs.declared.fault.Obstacle.{Obstacle}
 use Rattle.drink_commands.specs.declared.fault.Fault.{Fault}
-use Rattle.drink_commands.specs.declared.fault.Fault.TheVariants.{Memory, NoSuchOffice, NoAddress, NoRun, CutShort, WriteFailed, FileFailed}
+use Rattle.drink_commands.specs.declared.fault.Fault.TheVariants.{Memory, NoSuchOffice, NoAddress, NoPlace, NoRun, CutShort, WriteFailed, FileFailed}
 
 -- ---- how it ended
 
@@ -44,8 +46,8 @@ IsReached p me = (v : ℕ) → v < length p.offices → is_without p me v ≡ fa
 
 -- The two texts mean a plan and sessions under it, and the word names an office of the plan, which has an address, as its
 -- neighbours have. What is told of so many turns of that office with its sessions among those was written after what the writer held,
--- and its journal, where a word names a file for it, to that file.
-pub record WritesOffice (tells : Bool) (plan word sessions : List ℕ) (turns : ℕ) (file : Option (List ℕ)) (ran : Ran) (old new : Option (List ℕ)) (kept left : Option (List File)) : Type 0 where
+-- and its journal, where a word names a file for it, to that file; and that one was free to take it, as Free says.
+pub record WritesOffice (tells : Bool) (Free : PlanValue → ℕ → List ℕ → Type 0) (plan word sessions : List ℕ) (turns : ℕ) (file : Option (List ℕ)) (ran : Ran) (old new : Option (List ℕ)) (kept left : Option (List File)) : Type 0 where
   pub p : PlanValue
   pub me : ℕ
   pub programs : List ProgramValue
@@ -53,17 +55,20 @@ pub record WritesOffice (tells : Bool) (plan word sessions : List ℕ) (turns : 
   pub is_office : office_named p word ≡ Some me
   pub is_reached : IsReached p me
   pub are_sessions : sessions_of p sessions ≡ Ok programs
+  pub free : IfSome file (Free p me)
   pub told : TellsCourse tells p me programs turns (is_some file) ran
   pub written : Appends old new (string_bytes ran.text)
   pub journal : WritesFiles file (λ place. map (λ text. (place, string_bytes text)) ran.journals.items) kept left
 
 -- The two texts mean a plan and sessions under it. What is told of a run of all the plan's offices with those sessions was written after
--- what the writer held, and their journals, where a word names a folder for them, to a file each.
-pub record WritesOffices (plan sessions : List ℕ) (folder : Option (List ℕ)) (ran : Ran) (old new : Option (List ℕ)) (kept left : Option (List File)) : Type 0 where
+-- what the writer held, and their journals, where a word names a folder for them, to a file each; and that folder was free to take them,
+-- as Free says.
+pub record WritesOffices (Free : PlanValue → ℕ → List ℕ → Type 0) (plan sessions : List ℕ) (folder : Option (List ℕ)) (ran : Ran) (old new : Option (List ℕ)) (kept left : Option (List File)) : Type 0 where
   pub p : PlanValue
   pub programs : List ProgramValue
   pub is_plan : IsAcceptedAs plan p
   pub are_sessions : sessions_of p sessions ≡ Ok programs
+  pub free : IfSome folder (Free p (length p.offices))
   pub told : TellsJournals p (range_with_len 0 (length p.offices)) (length programs) (is_some folder) ran
   pub written : Appends old new (string_bytes ran.text)
   pub journals : WritesFiles folder (λ place. files_of place p (λ a. get_or (map string_bytes ran.journals.items) a []) (length ran.journals.items)) kept left
@@ -72,12 +77,12 @@ pub record WritesOffices (plan sessions : List ℕ) (folder : Option (List ℕ))
 abbrev pub RunsOffice : Bool → (List ℕ → Option (List ℕ)) → Option (List ℕ) → (plan word sessions : List ℕ) → ℕ → Option (List ℕ) → (Ran → Type 0) → Option (List ℕ) → Option (List ℕ) → Option (List File) → Option (List File) → Type 0
 RunsOffice tells files standard plan word sessions turns file P old new kept left = (plan_text sessions_text : List ℕ)
     → StandFor files standard (plan ∷ sessions ∷ []) (plan_text ∷ sessions_text ∷ [])
-    → (ran : Ran) × P ran × WritesOffice tells plan_text word sessions_text turns file ran old new kept left
+    → (ran : Ran) × P ran × WritesOffice tells (IsFree files plan sessions) plan_text word sessions_text turns file ran old new kept left
 
 abbrev pub RunsOffices : (List ℕ → Option (List ℕ)) → Option (List ℕ) → (plan sessions : List ℕ) → Option (List ℕ) → (Ran → Type 0) → Option (List ℕ) → Option (List ℕ) → Option (List File) → Option (List File) → Type 0
 RunsOffices files standard plan sessions folder P old new kept left = (plan_text sessions_text : List ℕ)
     → StandFor files standard (plan ∷ sessions ∷ []) (plan_text ∷ sessions_text ∷ [])
-    → (ran : Ran) × P ran × WritesOffices plan_text sessions_text folder ran old new kept left
+    → (ran : Ran) × P ran × WritesOffices (AreFree files plan sessions) plan_text sessions_text folder ran old new kept left
 
 -- ---- what a fault says
 
@@ -103,10 +108,11 @@ abbrev pub SaysOf : PlanValue → (Fault → Type 0) → Option ℕ → Fault �
 SaysOf p P None f = IsNoOffice f
 SaysOf p P (Some me) f = ((v : ℕ) × IsFirstWithout p me v × IsUnreached p v f) ⊎ (IsReached p me × P f)
 
--- an office can't be run, or nothing is told of its run, or it was cut short
+-- an office can't be run, or nothing is told of its run, or it was cut short, or its journal has no place
 abbrev pub IsOfOffice : Fault → Type 0
 IsOfOffice (NoSuchOffice offices) = Unit {0}
 IsOfOffice (NoAddress office) = Unit {0}
+IsOfOffice (NoPlace name why) = Unit {0}
 IsOfOffice (NoRun cause) = Unit {0}
 IsOfOffice (CutShort cause) = Unit {0}
 IsOfOffice _ = ⊥
@@ -123,12 +129,31 @@ abbrev pub IsJudgedRun : (List ℕ → Option (List ℕ)) → Option (List ℕ) 
 IsJudgedRun files standard plan word sessions f = (texts : List (List ℕ)) (n : ℕ) → HaveFirstTexts files standard (plan ∷ sessions ∷ []) texts n
     → JudgesRun word (take n texts) f
 
+-- ---- where the journals go
+
+-- With the texts that the words stand for, a file of this name is meant for the journal of that office, and may not take it for this.
+abbrev pub RefusesFile : (List ℕ → Option (List ℕ)) → Option (List ℕ) → (plan word sessions : List ℕ) → Option (List ℕ) → List ℕ → Obstacle → Type 0
+RefusesFile files standard plan word sessions file name why = (plan_text sessions_text : List ℕ)
+    → StandFor files standard (plan ∷ sessions ∷ []) (plan_text ∷ sessions_text ∷ [])
+    → (p : PlanValue) × (me : ℕ) × IsAcceptedAs plan_text p × (office_named p word ≡ Some me) × (file ≡ Some name) × IsObstacle files plan sessions p why me name
+
+-- a folder is meant for the journals of all offices, and may not take them for this, of a file in it or of itself
+abbrev pub RefusesFolder : (List ℕ → Option (List ℕ)) → Option (List ℕ) → (plan sessions : List ℕ) → Option (List ℕ) → List ℕ → Obstacle → Type 0
+RefusesFolder files standard plan sessions folder name why = (plan_text sessions_text : List ℕ)
+    → StandFor files standard (plan ∷ sessions ∷ []) (plan_text ∷ sessions_text ∷ [])
+    → (p : PlanValue) × IsAcceptedAs plan_text p × IfSome folder (λ place. IsIn files plan sessions p place name why)
+
 -- ---- what stands where a run fails
 
 -- What a fault of a run leaves: what stands, where it was cut short; nobody knows what, where the writing failed; and otherwise nothing
--- was written.
-abbrev pub Leaves : Type 0 → (RunFault → Type 0) → Fault → Type 0
-Leaves Unwritten Stands (WriteFailed cause) = Unit {0}
-Leaves Unwritten Stands (FileFailed name cause) = Unit {0}
-Leaves Unwritten Stands (CutShort cause) = Stands cause
-Leaves Unwritten Stands _ = Unwritten
+-- was written. Where the journals have no place, this was found.
+abbrev pub Leaves : Type 0 → (List ℕ → Obstacle → Type 0) → (RunFault → Type 0) → Fault → Type 0
+Leaves Unwritten Found Stands (WriteFailed cause) = Unit {0}
+Leaves Unwritten Found Stands (FileFailed name cause) = Unit {0}
+Leaves Unwritten Found Stands (CutShort cause) = Stands cause
+Leaves Unwritten Found Stands (NoPlace name why) = Unwritten × Found (string_bytes name) why
+Leaves Unwritten Found Stands _ = Unwritten
+
+-- of a run that has begun
+abbrev pub NoObstacle : List ℕ → Obstacle → Type 0
+NoObstacle name why = ⊥

@@ -3,7 +3,7 @@
 ghost use Rattle.std.specs.Prelude.{◌≡◌, IfErr, IfOk, OnOk};
 ghost use Rattle.std.specs.Io.KnownBytes.{Appends};
 ghost use Rattle.drink_commands.specs.Fault.{IsWriteFault};
-ghost use Rattle.drink_commands.specs.Run.{EndsWith, IsCutBy, Leaves, status_with};
+ghost use Rattle.drink_commands.specs.Run.{EndsWith, IsCutBy, Leaves, NoObstacle, status_with};
 
 use crate::fault::Fault;
 use input_texts::failure_kind;
@@ -39,7 +39,7 @@ pub(crate) fn write_whole<W: Write>(out: &mut W, text: &str) -> Result<(), Fault
 /// Why a run was cut short, where it was. Otherwise it is the exit status.
 pub(crate) fn ended(ran: &Ran) -> Result<u8, Fault>
     ensures done { IfOk result (λ status. EndsWith status ran.now) }
-    ensures cut { IfErr result (Leaves ⊥ (λ cause. IsCutBy cause ran.now)) }
+    ensures cut { IfErr result (Leaves ⊥ NoObstacle (λ cause. IsCutBy cause ran.now)) }
 {
     match ran.fault {
         Some(fault) => Err(Fault::CutShort(fault)),

@@ -63,6 +63,19 @@ pub struct Remark {
     pub text: String,
 }
 
+/// Why the file or folder of a name can't take journals that a run leaves.
+#[derive(Clone, Copy, Debug, PartialEq, Eq)]
+pub enum Obstacle {
+    /// It can't be written or made.
+    Failed(ErrorKind),
+    /// What it has can't be read.
+    Unread(ErrorKind),
+    /// It is an input of the run.
+    AnInput,
+    /// It has a journal of the same office and run.
+    AJournal,
+}
+
 /// Why a command fails. Its text doesn't name the input: the user has a name for it, and [`Fault::input`] says which input
 /// is meant.
 #[derive(Debug, Drop, PartialEq, Eq)]
@@ -78,6 +91,8 @@ pub enum Fault {
     NoAddress(String),
     /// No journal is of the office of this name.
     NoJournal(String),
+    /// The file or folder of this name can't take what a run leaves. It hasn't begun, and nothing was written.
+    NoPlace(String, Obstacle),
     /// A run can't begin, or there is no memory to tell of it. Nothing was written.
     NoRun(OpeningFault),
     /// A run ended before its time. What stands was written.
@@ -97,6 +112,7 @@ impl Fault {
             Fault::Memory
             | Fault::NoSuchOffice(_)
             | Fault::NoJournal(_)
+            | Fault::NoPlace(_, _)
             | Fault::NoRun(_)
             | Fault::CutShort(_)
             | Fault::WriteFailed(_)
@@ -162,6 +178,7 @@ impl fmt::Display for Fault {
                     "J2 JournalHeader: no journal is of the office `{office}`, and an audit takes one of each office of the plan"
                 )
             }
+            Fault::NoPlace(_, why) => write_obstacle(f, *why),
             Fault::NoRun(fault) => write_opening_fault(f, *fault),
             Fault::CutShort(fault) => {
                 write_run_fault(f, *fault)?;
@@ -199,6 +216,38 @@ fn write_line<W: fmt::Write>(
         write!(f, " (line {whole} of the standard input)")?;
     }
     write!(f, ": ")
+}
+
+/// Why a file or folder can't take what a run leaves.
+fn write_obstacle<W: fmt::Write>(f: &mut fmt::Formatter<W>, why: Obstacle) -> fmt::Result {
+    match why {
+        Obstacle::Failed(kind) => {
+            let cause = file_cause(kind);
+            write!(
+                f,
+                "X5 WriteFailed: it cannot be written: {cause}; nothing was run"
+            )
+        }
+        Obstacle::Unread(kind) => {
+            let cause = read_cause(kind);
+            write!(
+                f,
+                "X5 WriteFailed: what it has cannot be read: {cause}; nothing was run"
+            )
+        }
+        Obstacle::AnInput => {
+            write!(
+                f,
+                "X5 WriteFailed: it is an input, and the journal would take its place; nothing was run"
+            )
+        }
+        Obstacle::AJournal => {
+            write!(
+                f,
+                "X5 WriteFailed: it has a journal of this office and this run, and a second start would do its sessions twice; give the plan another run number; nothing was run"
+            )
+        }
+    }
 }
 
 /// Why a run can't begin.

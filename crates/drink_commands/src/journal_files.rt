@@ -151,7 +151,7 @@ fn write_file<T: Targets>(targets: &mut T, name: String, text: &str) -> Result<(
 }
 
 /// FOLDER/NAME.journal
-fn file_name(
+pub(crate) fn file_name(
     alloc: Global,
     folder: &str,
     plan: &Plan,

@@ -10,6 +10,7 @@
 //! - [`commands::run::run`] is `drink run`. It writes what a legal journal of the office tells that its words name, and answers
 //!   whether sessions are left (clause `runs`). Its faults say what the texts are, and OFFICE and the addresses under the plan,
 //!   before the sessions (clause `judged`); nothing is written at one but what stands where the run was cut short (clause `leaves`).
+//!   Where its journal goes is looked at before anything is run.
 //! - [`commands::live::run`] is `drink live`, with the same clauses, of all offices.
 //! - [`telling::Telling`] says on a terminal how far a run is.
 //! - [`program::perform`] carries a request out, from the texts that its words stand for (clause `done`); [`program::answer`]
@@ -28,6 +29,7 @@ pub mod fault;
 pub mod input;
 mod journal_files;
 pub mod journals;
+mod places;
 pub mod program;
 pub mod telling;
 pub mod texts;

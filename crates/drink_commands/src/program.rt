@@ -102,6 +102,9 @@ where
     }
     match command_line(alloc, words) {
         Ok(request) => {
+            if has_dash(&request) {
+                return Exit::saying(MISUSED, no_dash(alloc));
+            }
             let result = perform(rt, alloc, &request, sources, around, targets, out);
             Exit {
                 status: status(&result),
@@ -110,6 +113,25 @@ where
         }
         Err(error) => misused(alloc, &error, out),
     }
+}
+
+/// Whether a request names `-` for the file of a journal. That is the standard input elsewhere, and no file.
+fn has_dash(request: &Request<'_>) -> bool {
+    match request {
+        Request::Run {
+            journal: Some(file),
+            ..
+        } => *file == "-",
+        _ => false,
+    }
+}
+
+/// What is said of such a request.
+fn no_dash(alloc: Global) -> Result<String, AllocError> {
+    String::from_str(
+        alloc,
+        "drink: --journal takes a file, and - is none: a file whose name is - is written ./- instead\n",
+    )
 }
 
 /// Carries a request out. The answer is the exit status.
@@ -202,7 +224,7 @@ fn said(alloc: Global, request: &Request, answer: &Result<u8, Fault>) -> Said {
 fn named<'a>(request: &'a Request<'_>, fault: &'a Fault) -> Option<&'a str> {
     match (request, fault) {
         (Request::Run { office, .. }, Fault::NoSuchOffice(_)) => Some(*office),
-        (_, Fault::FileFailed(name, _)) => Some(name.as_str()),
+        (_, Fault::FileFailed(name, _) | Fault::NoPlace(name, _)) => Some(name.as_str()),
         _ => match fault.input() {
             Some(input) => Some(word_of(request, input)),
             None => None,

@@ -15,6 +15,7 @@ mod devices;
 mod ear;
 mod exits;
 mod journals;
+mod places;
 mod random;
 mod running;
 mod scripts;

@@ -6,13 +6,14 @@ ghost use Rattle.std.specs.String.{string_bytes};
 ghost use Rattle.std.specs.Io.KnownBytes.{Appends};
 ghost use Rattle.drink_commands.specs.Fault.{IsOfRun};
 ghost use Rattle.drink_commands.specs.Journals.{WritesFiles, files_of};
-ghost use Rattle.drink_commands.specs.Run.{EndsWith, IsCutBy, Leaves, RunsOffices};
+ghost use Rattle.drink_commands.specs.Run.{EndsWith, IsCutBy, Leaves, NoObstacle, RefusesFolder, RunsOffices};
 ghost use Rattle.drink_commands.specs.Texts.{IsJudgedOr};
 
 use crate::commands::{ended, write_whole};
 use crate::fault::Fault;
 use crate::input::Input;
 use crate::journal_files::write_texts;
+use crate::places::look_at_folder;
 use crate::texts::{read_plan, read_programs};
 use input_texts::{Sources, StandardInput};
 use office_map::Plan;
@@ -27,8 +28,10 @@ use std::thread::Threads;
 
 /// Runs the sessions on all offices of a plan, each on threads and at a socket of this machine's own, and writes what those that
 /// finished did, by office and ticket, and how many haven't. Each input is read and judged before the next one is read, and
-/// nothing is run or written before both are judged. Where a folder is named for them, the offices' journals are written then, each to
-/// its file. Where the run is cut short, what stands is written. The answer is the exit status: 1 where sessions are left.
+/// nothing is run or written before both are judged. Where a folder is named for the offices' journals, it has to be there or such that
+/// it can be made, and their files in it such that they can be written, none of them an input or with a journal of its office and this
+/// run. The journals are written to them after the run. Where the run is cut short, what stands is written. The answer is the exit
+/// status: 1 where sessions are left.
 pub fn run<R, S, B, G, V, T, W>(
     rt: &R,
     alloc: Global,
@@ -55,13 +58,17 @@ where
     ensures status { IfOk result (λ status. status ≤ 1) }
 
     ensures judged { IfErr result (IsJudgedOr IsOfRun (S.file_text sources.now) (S.standard_text sources.now) (plan.now ∷ sessions.now ∷ []) (Input.Plan ∷ Input.Sessions ∷ [])) }
-    ensures leaves { IfErr result (Leaves ((out.new ≡ out.old) × (targets.new ≡ targets.old)) (λ cause. RunsOffices (S.file_text sources.now) (S.standard_text sources.now) plan.now sessions.now (option_copied journals.entry)
+    ensures leaves { IfErr result (Leaves ((out.new ≡ out.old) × (targets.new ≡ targets.old)) (RefusesFolder (S.file_text sources.now) (S.standard_text sources.now) plan.now sessions.now (option_copied journals.entry)) (λ cause. RunsOffices (S.file_text sources.now) (S.standard_text sources.now) plan.now sessions.now (option_copied journals.entry)
         (IsCutBy cause) (W.contents out.old) (W.contents out.new) (T.written targets.old) (T.written targets.new))) }
 {
+    let plan_word = plan;
     let words = [plan, sessions];
     let mut standard = StandardInput::new(alloc, sources.standard(), &words);
     let plan = read_plan(alloc, sources, &mut standard, plan)?;
     let programs = read_programs(alloc, sources, &mut standard, sessions, &plan)?;
+    look_at_folder(
+        alloc, sources, targets, plan_word, sessions, &plan, journals,
+    )?;
     let ran = live(rt, alloc, &plan, &programs, journals.is_some(), around)?;
     write_ran(alloc, out, targets, journals, &plan, &ran)
 }
@@ -79,7 +86,7 @@ fn write_ran<T: Targets, W: Write>(
     requires { length ran.now.journals.items ≤ length plan.now.offices }
     ensures done { IfOk result (λ status. EndsWith status ran.now × Appends (W.contents out.old) (W.contents out.new) (string_bytes ran.now.text)
         × WritesFiles (option_copied journals.entry) (λ place. files_of place plan.now (λ a. get_or (map string_bytes ran.now.journals.items) a []) (length ran.now.journals.items)) (T.written targets.old) (T.written targets.new)) }
-    ensures leaves { IfErr result (Leaves ⊥ (λ cause. IsCutBy cause ran.now × Appends (W.contents out.old) (W.contents out.new) (string_bytes ran.now.text)
+    ensures leaves { IfErr result (Leaves ⊥ NoObstacle (λ cause. IsCutBy cause ran.now × Appends (W.contents out.old) (W.contents out.new) (string_bytes ran.now.text)
         × WritesFiles (option_copied journals.entry) (λ place. files_of place plan.now (λ a. get_or (map string_bytes ran.now.journals.items) a []) (length ran.now.journals.items)) (T.written targets.old) (T.written targets.new))) }
 {
     write_whole(out, &ran.text)?;

@@ -6,12 +6,13 @@ ghost use Rattle.std.specs.String.{string_bytes};
 ghost use Rattle.std.specs.Io.KnownBytes.{Appends};
 ghost use Rattle.office_map.specs.PlanValue.{office_named};
 ghost use Rattle.drink_commands.specs.Journals.{WritesFiles};
-ghost use Rattle.drink_commands.specs.Run.{EndsWith, IsCutBy, IsJudgedRun, IsReached, Leaves, RunsOffice, SaysOf};
+ghost use Rattle.drink_commands.specs.Run.{EndsWith, IsCutBy, IsJudgedRun, IsReached, Leaves, NoObstacle, RefusesFile, RunsOffice, SaysOf};
 ghost use Rattle.drink_commands.specs.Texts.{NoOther};
 
 use crate::commands::{ended, write_whole};
 use crate::fault::Fault;
 use crate::journal_files::write_each;
+use crate::places::look_at_file;
 use crate::texts::{read_plan, read_programs};
 use input_texts::{Sources, StandardInput};
 use office_map::{OfficeId, Plan};
@@ -25,9 +26,9 @@ use std::sync::Wait;
 
 /// Runs an office of a plan at its address for so many turns, with those of the sessions that are its own, and writes what those
 /// that finished did, and how many haven't. The plan is read and judged first; then an office of it has to have that name, and
-/// it and its neighbours an address; then the sessions are read and judged. Nothing is run or written before. Where a file is named
-/// for it, the office's journal is written then. Where the run is cut short, what stands is written. The answer is the exit status: 1
-/// where sessions are left.
+/// it and its neighbours an address; then the sessions are read and judged. Where a file is named for the office's journal, it has to be
+/// one that can be written, no input, and without a journal of this office and run. Nothing is run or written before. Then that journal
+/// is written to it. Where the run is cut short, what stands is written. The answer is the exit status: 1 where sessions are left.
 pub fn run<R, S, B, G, V, T, W>(
     rt: &R,
     alloc: Global,
@@ -54,14 +55,18 @@ where
     ensures status { IfOk result (λ status. status ≤ 1) }
 
     ensures judged { IfErr result (IsJudgedRun (S.file_text sources.now) (S.standard_text sources.now) plan.now office.now sessions.now) }
-    ensures leaves { IfErr result (Leaves ((out.new ≡ out.old) × (targets.new ≡ targets.old)) (λ cause. RunsOffice B.Socket.tells (S.file_text sources.now) (S.standard_text sources.now) plan.now office.now sessions.now turns (option_copied journal.entry)
+    ensures leaves { IfErr result (Leaves ((out.new ≡ out.old) × (targets.new ≡ targets.old)) (RefusesFile (S.file_text sources.now) (S.standard_text sources.now) plan.now office.now sessions.now (option_copied journal.entry)) (λ cause. RunsOffice B.Socket.tells (S.file_text sources.now) (S.standard_text sources.now) plan.now office.now sessions.now turns (option_copied journal.entry)
         (IsCutBy cause) (W.contents out.old) (W.contents out.new) (T.written targets.old) (T.written targets.new))) }
 {
+    let plan_word = plan;
     let words = [plan, sessions];
     let mut standard = StandardInput::new(alloc, sources.standard(), &words);
     let plan = read_plan(alloc, sources, &mut standard, plan)?;
     let me = office_to_run(alloc, &plan, office)?;
     let programs = read_programs(alloc, sources, &mut standard, sessions, &plan)?;
+    look_at_file(
+        alloc, sources, targets, plan_word, sessions, &plan, me, journal,
+    )?;
     let ran = run_office(
         rt,
         alloc,
@@ -86,7 +91,7 @@ fn write_ran<T: Targets, W: Write>(
 ) -> Result<u8, Fault>
     ensures done { IfOk result (λ status. EndsWith status ran.now × Appends (W.contents out.old) (W.contents out.new) (string_bytes ran.now.text)
         × WritesFiles (option_copied journal.entry) (λ place. map (λ text. (place, string_bytes text)) ran.now.journals.items) (T.written targets.old) (T.written targets.new)) }
-    ensures leaves { IfErr result (Leaves ⊥ (λ cause. IsCutBy cause ran.now × Appends (W.contents out.old) (W.contents out.new) (string_bytes ran.now.text)
+    ensures leaves { IfErr result (Leaves ⊥ NoObstacle (λ cause. IsCutBy cause ran.now × Appends (W.contents out.old) (W.contents out.new) (string_bytes ran.now.text)
         × WritesFiles (option_copied journal.entry) (λ place. map (λ text. (place, string_bytes text)) ran.now.journals.items) (T.written targets.old) (T.written targets.new))) }
 {
     write_whole(out, &ran.text)?;

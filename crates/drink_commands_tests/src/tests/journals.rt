@@ -91,7 +91,7 @@ fn a_file_that_fails_is_told_after_the_report(rt: HostRuntime) {
 }
 
 /// Words after `drink`, the files that they leave, and what is said on the standard error.
-static NAMED: [(&[&str], &[&str], &str); 3] = [
+static NAMED: [(&[&str], &[&str], &str); 2] = [
     (
         &[
             "drink",
@@ -108,21 +108,6 @@ static NAMED: [(&[&str], &[&str], &str); 3] = [
         "",
     ),
     (&["drink", "run", "p", "a", "s", "--turns", "1"], &[], ""),
-    (
-        &[
-            "drink",
-            "run",
-            "p",
-            "a",
-            "s",
-            "--turns",
-            "1",
-            "--journal",
-            "no\n/j",
-        ],
-        &[],
-        "drink: no\\u{a}/j: X5 WriteFailed: it cannot be written: a folder of its path is not there\n",
-    ),
 ];
 
 /// An office that is left to itself drinks before it would be hungry, where its session needs no bottle; and it works in pieces of

@@ -66,7 +66,7 @@ where
 }
 
 /// A plan, sessions, the words after `drink`, and what they are answered where nothing comes from other offices.
-static RUNS: [(&str, &str, &[&str], (u8, &str, &str)); 14] = [
+static RUNS: [(&str, &str, &[&str], (u8, &str, &str)); 15] = [
     (
         TWO,
         GIVES,
@@ -98,6 +98,17 @@ static RUNS: [(&str, &str, &[&str], (u8, &str, &str)); 14] = [
         "session a\ngive 1\nend\nsession a\ngive read x\nend\nsession b\ngive read x\nend\n",
         &["drink", "run", "p", "a", "s", "--turns", "20"],
         (1, "a.1 done reads - writes - gives 1\nunfinished 1\n", ""),
+    ),
+    // What can't be read may be a journal of this run.
+    (
+        TWO,
+        GIVES,
+        &["drink", "run", "p", "a", "s", "--journal", "locked"],
+        (
+            1,
+            "",
+            "drink: locked: X5 WriteFailed: what it has cannot be read: permission denied; nothing was run\n",
+        ),
     ),
     // OFFICE before the addresses, those before the sessions.
     (

@@ -1,4 +1,4 @@
-use Rattle.std.proofs.Common.{◌≡◌, ◌∙◌, rules}
+use Rattle.std.proofs.Common.{◌≡◌, rules}
 use Rattle.std.specs.String.{string_bytes}
 use Rattle.drink_commands.specs.Journals.{file_name, text_at}
 use Rattle.drink_commands.proofs.JournalFiles.{adds_both, named_is}

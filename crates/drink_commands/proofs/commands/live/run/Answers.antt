@@ -1,16 +1,18 @@
 use Rattle.std.specs.List.{range_with_len}
 use Rattle.std.specs.Option.{option_copied}
 use Rattle.office_runs.specs.Runs.{TellsJournals}
-use Rattle.std.proofs.Common.{◌∙◌, [], ◌∷◌, Some, inl, inr, length, refl, subst, sym, ◌≤◌, rules}
+use Rattle.std.proofs.Common.{◌∙◌, [], ◌∷◌, IfSome, Some, inl, inr, length, refl, subst, sym, ◌≤◌, rules}
 use Rattle.std.proofs.lemmas.Result.{err_from_is_err_and}
 use Rattle.drink_commands.specs.Fault.{IsOfRun}
+use Rattle.drink_commands.specs.Places.{AreFree, IsIn}
+use Rattle.drink_commands.specs.Run.{RefusesFolder}
 use Rattle.drink_commands.specs.Texts.{nothing}
 use Rattle.drink_commands.specs.declared.input.Input.TheVariants as inputs
 use Rattle.drink_commands.specs.declared.fault.Fault.TheVariants.{NoRun}
 use Rattle.drink_commands.proofs.Faults as texts
 use Rattle.drink_commands.proofs.Faults.{at_first, at_next, judged, plan_taken, sessions_taken}
-use Rattle.drink_commands.proofs.Reported.{ran_offices, started}
-use Rattle.drink_commands.proofs.Running.{at_end, at_input, err_more, is_end, is_some_copied, ok_more, one_at_most}
+use Rattle.drink_commands.proofs.Reported.{folder_refused, ran_offices, started}
+use Rattle.drink_commands.proofs.Running.{at_end, at_input, at_place, err_more, is_end, is_place, is_some_copied, ok_more, one_at_most}
 use Rattle.drink_commands.proofs.JournalFiles.{few_journals}
 use Rattle.drink_commands.proofs.commands.live.run.Goals as goal
 
@@ -34,6 +36,18 @@ returns-in_err-programs-clause-judged g c =
     (at_next IsOfRun files c.new-standard.result c.read_plan.new.standard c.args.plan.now (c.args.sessions.now ∷ []) nothing (record nothing { plan = Some c.in_ok-plan.plan }) inputs.Plan (inputs.Sessions ∷ []) c.in_err-programs.field-0.0
     (plan_taken files c.new-standard.result c.args.plan.now c.read_plan.new.standard c.in_ok-plan.plan c.in_ok-plan.ensures.meaning)
     (at_first IsOfRun files c.read_plan.new.standard c.args.sessions.now [] (record nothing { plan = Some c.in_ok-plan.plan }) inputs.Sessions [] c.in_err-programs.field-0.0 c.in_err-programs.ensures.fault)))
+
+pub returns-in_err-look_at_folder-clause-judged : goal.returns-in_err-look_at_folder-clause-judged
+returns-in_err-look_at_folder-clause-judged g c =
+    let e = err_from_is_err_and c.from_residual-in_err-look_at_folder.result c.from_residual-in_err-look_at_folder.ensures.1 in
+    let files = g.S.Sources.file_text c.args.sources.now in
+    rw (e.1, e.2)
+    (judged IsOfRun files (g.S.Sources.standard_text c.args.sources.now) c.new-standard.result (c.args.plan.now ∷ c.args.sessions.now ∷ []) (inputs.Plan ∷ inputs.Sessions ∷ []) c.in_err-look_at_folder.field-0.0 (search rules)
+    (at_next IsOfRun files c.new-standard.result c.read_plan.new.standard c.args.plan.now (c.args.sessions.now ∷ []) nothing (record nothing { plan = Some c.in_ok-plan.plan }) inputs.Plan (inputs.Sessions ∷ []) c.in_err-look_at_folder.field-0.0
+    (plan_taken files c.new-standard.result c.args.plan.now c.read_plan.new.standard c.in_ok-plan.plan c.in_ok-plan.ensures.meaning)
+    (at_next IsOfRun files c.read_plan.new.standard c.read_programs.new.standard c.args.sessions.now [] (record nothing { plan = Some c.in_ok-plan.plan }) (record nothing { plan = Some c.in_ok-plan.plan; programs = Some c.in_ok-programs.programs.items }) inputs.Sessions [] c.in_err-look_at_folder.field-0.0
+    (sessions_taken files c.read_plan.new.standard c.args.sessions.now c.read_programs.new.standard c.in_ok-plan.plan c.in_ok-programs.programs.items c.in_ok-programs.ensures.meaning)
+    (texts.at_end IsOfRun files c.read_programs.new.standard (record nothing { plan = Some c.in_ok-plan.plan; programs = Some c.in_ok-programs.programs.items }) c.in_err-look_at_folder.field-0.0 (is_place (λ name why. IfSome (option_copied c.args.journals) (λ place. IsIn files c.args.plan.now c.args.sessions.now c.in_ok-plan.plan place name why)) c.in_err-look_at_folder.field-0.0 c.in_err-look_at_folder.ensures.fault)))))
 
 pub returns-in_err-ran-clause-judged : goal.returns-in_err-ran-clause-judged
 returns-in_err-ran-clause-judged g c =
@@ -64,9 +78,9 @@ returns-clause-runs g c =
     ok_more c.write_ran.result _ _ (λ status h. λ plan_text sessions_text known. (
       c.in_ok-ran.ran,
       h.0,
-      (ran_offices files c.new-standard.result c.read_plan.new.standard c.read_programs.new.standard c.args.plan.now c.args.sessions.now plan_text sessions_text c.in_ok-plan.plan c.in_ok-programs.programs.items c.deref.result.now (option_copied c.args.journals) c.in_ok-ran.ran (g.W.Write.contents c.args.out.now) (g.W.Write.contents c.write_ran.new.out) (g.T.Targets.written c.args.targets.now) (g.T.Targets.written c.write_ran.new.targets)
+      (ran_offices (AreFree files c.args.plan.now c.args.sessions.now) files c.new-standard.result c.read_plan.new.standard c.read_programs.new.standard c.args.plan.now c.args.sessions.now plan_text sessions_text c.in_ok-plan.plan c.in_ok-programs.programs.items c.deref.result.now (option_copied c.args.journals) c.in_ok-ran.ran (g.W.Write.contents c.args.out.now) (g.W.Write.contents c.write_ran.new.out) (g.T.Targets.written c.args.targets.now) (g.T.Targets.written c.write_ran.new.targets)
           c.in_ok-plan.ensures.meaning c.in_ok-programs.ensures.meaning
-          (started c.new-standard.result (g.S.Sources.standard_text c.args.sources.now) files (c.args.plan.now ∷ c.args.sessions.now ∷ []) (plan_text ∷ sessions_text ∷ []) (search rules) known) c.deref.ensures.value (subst (λ wanted. TellsJournals c.in_ok-plan.plan (range_with_len 0 (length c.in_ok-plan.plan.offices)) (length c.deref.result.now) wanted c.in_ok-ran.ran) (c.is_some.ensures ∙ is_some_copied c.args.journals) c.in_ok-ran.ensures.tells) h.1 h.2),
+          (started c.new-standard.result (g.S.Sources.standard_text c.args.sources.now) files (c.args.plan.now ∷ c.args.sessions.now ∷ []) (plan_text ∷ sessions_text ∷ []) (search rules) known) c.deref.ensures.value c.in_ok-look_at_folder.ensures.free (subst (λ wanted. TellsJournals c.in_ok-plan.plan (range_with_len 0 (length c.in_ok-plan.plan.offices)) (length c.deref.result.now) wanted c.in_ok-ran.ran) (c.is_some.ensures ∙ is_some_copied c.args.journals) c.in_ok-ran.ensures.tells) h.1 h.2),
     )) c.write_ran.ensures.done
 
 pub returns-clause-status : goal.returns-clause-status
@@ -75,12 +89,18 @@ returns-clause-status g c = ok_more c.write_ran.result _ _ (λ status h. subst (
 pub returns-in_err-plan-clause-leaves : goal.returns-in_err-plan-clause-leaves
 returns-in_err-plan-clause-leaves g c =
     let e = err_from_is_err_and c.from_residual.result c.from_residual.ensures.1 in
-    rw (e.1, e.2) (at_input _ _ inputs.Plan _ c.in_err-plan.field-0.0 c.in_err-plan.ensures.fault (refl, refl))
+    rw (e.1, e.2) (at_input _ (RefusesFolder (g.S.Sources.file_text c.args.sources.now) (g.S.Sources.standard_text c.args.sources.now) c.args.plan.now c.args.sessions.now (option_copied c.args.journals)) _ inputs.Plan _ c.in_err-plan.field-0.0 c.in_err-plan.ensures.fault (refl, refl))
 
 pub returns-in_err-programs-clause-leaves : goal.returns-in_err-programs-clause-leaves
 returns-in_err-programs-clause-leaves g c =
     let e = err_from_is_err_and c.from_residual-in_err-programs.result c.from_residual-in_err-programs.ensures.1 in
-    rw (e.1, e.2) (at_input _ _ inputs.Sessions _ c.in_err-programs.field-0.0 c.in_err-programs.ensures.fault (refl, refl))
+    rw (e.1, e.2) (at_input _ (RefusesFolder (g.S.Sources.file_text c.args.sources.now) (g.S.Sources.standard_text c.args.sources.now) c.args.plan.now c.args.sessions.now (option_copied c.args.journals)) _ inputs.Sessions _ c.in_err-programs.field-0.0 c.in_err-programs.ensures.fault (refl, refl))
+
+pub returns-in_err-look_at_folder-clause-leaves : goal.returns-in_err-look_at_folder-clause-leaves
+returns-in_err-look_at_folder-clause-leaves g c =
+    let e = err_from_is_err_and c.from_residual-in_err-look_at_folder.result c.from_residual-in_err-look_at_folder.ensures.1 in
+    rw (e.1, e.2) (at_place _ _ _ _ c.in_err-look_at_folder.field-0.0 c.in_err-look_at_folder.ensures.fault (refl, refl)
+    (folder_refused (g.S.Sources.file_text c.args.sources.now) (g.S.Sources.standard_text c.args.sources.now) c.new-standard.result c.read_plan.new.standard c.args.plan.now c.args.sessions.now c.in_ok-plan.plan (option_copied c.args.journals) (search rules) c.in_ok-plan.ensures.meaning))
 
 pub returns-in_err-ran-clause-leaves : goal.returns-in_err-ran-clause-leaves
 returns-in_err-ran-clause-leaves g c =
@@ -90,10 +110,10 @@ returns-in_err-ran-clause-leaves g c =
 pub returns-clause-leaves : goal.returns-clause-leaves
 returns-clause-leaves g c =
     let files = g.S.Sources.file_text c.args.sources.now in
-    err_more c.write_ran.result _ _ (λ f h. at_end _ _ _ f h (λ cause h. λ plan_text sessions_text known. (
+    err_more c.write_ran.result _ _ (λ f h. at_end _ (RefusesFolder (g.S.Sources.file_text c.args.sources.now) (g.S.Sources.standard_text c.args.sources.now) c.args.plan.now c.args.sessions.now (option_copied c.args.journals)) _ _ f h (λ cause h. λ plan_text sessions_text known. (
       c.in_ok-ran.ran,
       h.0,
-      (ran_offices files c.new-standard.result c.read_plan.new.standard c.read_programs.new.standard c.args.plan.now c.args.sessions.now plan_text sessions_text c.in_ok-plan.plan c.in_ok-programs.programs.items c.deref.result.now (option_copied c.args.journals) c.in_ok-ran.ran (g.W.Write.contents c.args.out.now) (g.W.Write.contents c.write_ran.new.out) (g.T.Targets.written c.args.targets.now) (g.T.Targets.written c.write_ran.new.targets)
+      (ran_offices (AreFree files c.args.plan.now c.args.sessions.now) files c.new-standard.result c.read_plan.new.standard c.read_programs.new.standard c.args.plan.now c.args.sessions.now plan_text sessions_text c.in_ok-plan.plan c.in_ok-programs.programs.items c.deref.result.now (option_copied c.args.journals) c.in_ok-ran.ran (g.W.Write.contents c.args.out.now) (g.W.Write.contents c.write_ran.new.out) (g.T.Targets.written c.args.targets.now) (g.T.Targets.written c.write_ran.new.targets)
           c.in_ok-plan.ensures.meaning c.in_ok-programs.ensures.meaning
-          (started c.new-standard.result (g.S.Sources.standard_text c.args.sources.now) files (c.args.plan.now ∷ c.args.sessions.now ∷ []) (plan_text ∷ sessions_text ∷ []) (search rules) known) c.deref.ensures.value (subst (λ wanted. TellsJournals c.in_ok-plan.plan (range_with_len 0 (length c.in_ok-plan.plan.offices)) (length c.deref.result.now) wanted c.in_ok-ran.ran) (c.is_some.ensures ∙ is_some_copied c.args.journals) c.in_ok-ran.ensures.tells) h.1 h.2),
+          (started c.new-standard.result (g.S.Sources.standard_text c.args.sources.now) files (c.args.plan.now ∷ c.args.sessions.now ∷ []) (plan_text ∷ sessions_text ∷ []) (search rules) known) c.deref.ensures.value c.in_ok-look_at_folder.ensures.free (subst (λ wanted. TellsJournals c.in_ok-plan.plan (range_with_len 0 (length c.in_ok-plan.plan.offices)) (length c.deref.result.now) wanted c.in_ok-ran.ran) (c.is_some.ensures ∙ is_some_copied c.args.journals) c.in_ok-ran.ensures.tells) h.1 h.2),
     ))) c.write_ran.ensures.leaves

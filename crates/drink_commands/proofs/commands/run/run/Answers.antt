@@ -1,15 +1,17 @@
 use Rattle.std.specs.Option.{option_copied}
 use Rattle.office_runs.specs.Runs.{TellsCourse}
-use Rattle.std.proofs.Common.{◌∙◌, [], ◌∷◌, Some, inl, inr, refl, subst, sym, ◌≤◌, rules}
+use Rattle.std.proofs.Common.{◌≡◌, ◌∙◌, [], ◌∷◌, Some, inl, inr, refl, subst, sym, ◌≤◌, rules}
 use Rattle.std.proofs.lemmas.Result.{err_from_is_err_and}
 use Rattle.drink_commands.specs.Fault.{IsOfRun}
+use Rattle.drink_commands.specs.Places.{IsFree, IsObstacle}
+use Rattle.drink_commands.specs.Run.{RefusesFile}
 use Rattle.drink_commands.specs.Texts.{nothing}
 use Rattle.drink_commands.specs.declared.input.Input.TheVariants as inputs
 use Rattle.drink_commands.specs.declared.fault.Fault.TheVariants.{NoRun}
 use Rattle.drink_commands.proofs.Faults as texts
 use Rattle.drink_commands.proofs.Faults.{at_first, at_next, sessions_taken}
-use Rattle.drink_commands.proofs.Reported.{ran_office, started}
-use Rattle.drink_commands.proofs.Running.{at_end, at_input, at_later, at_office, at_plan, at_word, err_more, is_end, judged, is_some_copied, ok_more, one_at_most}
+use Rattle.drink_commands.proofs.Reported.{file_refused, ran_office, started}
+use Rattle.drink_commands.proofs.Running.{at_end, at_input, at_later, at_office, at_place, at_plan, at_word, err_more, is_end, is_place, judged, is_some_copied, ok_more, one_at_most}
 use Rattle.drink_commands.proofs.commands.run.run.Goals as goal
 
 pub returns-in_err-plan-clause-judged : goal.returns-in_err-plan-clause-judged
@@ -36,6 +38,17 @@ returns-in_err-programs-clause-judged g c =
     (judged files c.args.office.now (g.S.Sources.standard_text c.args.sources.now) c.new-standard.result c.args.plan.now c.args.sessions.now c.in_err-programs.field-0.0 (search rules)
     (at_later files c.args.office.now c.new-standard.result c.read_plan.new.standard c.args.plan.now c.args.sessions.now c.in_ok-plan.plan c.in_ok-me.me c.in_err-programs.field-0.0 c.in_ok-plan.ensures.meaning c.in_ok-me.ensures.office c.in_ok-me.ensures.reached
     (at_first IsOfRun files c.read_plan.new.standard c.args.sessions.now [] (record nothing { plan = Some c.in_ok-plan.plan }) inputs.Sessions [] c.in_err-programs.field-0.0 c.in_err-programs.ensures.fault)))
+
+pub returns-in_err-look_at_file-clause-judged : goal.returns-in_err-look_at_file-clause-judged
+returns-in_err-look_at_file-clause-judged g c =
+    let e = err_from_is_err_and c.from_residual-in_err-look_at_file.result c.from_residual-in_err-look_at_file.ensures.1 in
+    let files = g.S.Sources.file_text c.args.sources.now in
+    rw (e.1, e.2)
+    (judged files c.args.office.now (g.S.Sources.standard_text c.args.sources.now) c.new-standard.result c.args.plan.now c.args.sessions.now c.in_err-look_at_file.field-0.0 (search rules)
+    (at_later files c.args.office.now c.new-standard.result c.read_plan.new.standard c.args.plan.now c.args.sessions.now c.in_ok-plan.plan c.in_ok-me.me c.in_err-look_at_file.field-0.0 c.in_ok-plan.ensures.meaning c.in_ok-me.ensures.office c.in_ok-me.ensures.reached
+    (at_next IsOfRun files c.read_plan.new.standard c.read_programs.new.standard c.args.sessions.now [] (record nothing { plan = Some c.in_ok-plan.plan }) (record nothing { plan = Some c.in_ok-plan.plan; programs = Some c.in_ok-programs.programs.items }) inputs.Sessions [] c.in_err-look_at_file.field-0.0
+    (sessions_taken files c.read_plan.new.standard c.args.sessions.now c.read_programs.new.standard c.in_ok-plan.plan c.in_ok-programs.programs.items c.in_ok-programs.ensures.meaning)
+    (texts.at_end IsOfRun files c.read_programs.new.standard (record nothing { plan = Some c.in_ok-plan.plan; programs = Some c.in_ok-programs.programs.items }) c.in_err-look_at_file.field-0.0 (is_place (λ name why. (option_copied c.args.journal ≡ Some name) × IsObstacle files c.args.plan.now c.args.sessions.now c.in_ok-plan.plan why c.in_ok-me.me name) c.in_err-look_at_file.field-0.0 c.in_err-look_at_file.ensures.fault)))))
 
 pub returns-in_err-ran-clause-judged : goal.returns-in_err-ran-clause-judged
 returns-in_err-ran-clause-judged g c =
@@ -64,9 +77,9 @@ returns-clause-runs g c =
     ok_more c.write_ran.result _ _ (λ status h. λ plan_text sessions_text known. (
       c.in_ok-ran.ran,
       h.0,
-      (ran_office g.B.Socket.Wire.tells files c.new-standard.result c.read_plan.new.standard c.read_programs.new.standard c.args.plan.now c.args.office.now c.args.sessions.now plan_text sessions_text c.in_ok-plan.plan c.in_ok-me.me c.in_ok-programs.programs.items c.deref.result.now c.args.turns (option_copied c.args.journal) c.in_ok-ran.ran (g.W.Write.contents c.args.out.now) (g.W.Write.contents c.write_ran.new.out) (g.T.Targets.written c.args.targets.now) (g.T.Targets.written c.write_ran.new.targets)
+      (ran_office g.B.Socket.Wire.tells (IsFree files c.args.plan.now c.args.sessions.now) files c.new-standard.result c.read_plan.new.standard c.read_programs.new.standard c.args.plan.now c.args.office.now c.args.sessions.now plan_text sessions_text c.in_ok-plan.plan c.in_ok-me.me c.in_ok-programs.programs.items c.deref.result.now c.args.turns (option_copied c.args.journal) c.in_ok-ran.ran (g.W.Write.contents c.args.out.now) (g.W.Write.contents c.write_ran.new.out) (g.T.Targets.written c.args.targets.now) (g.T.Targets.written c.write_ran.new.targets)
           c.in_ok-plan.ensures.meaning c.in_ok-me.ensures.office c.in_ok-me.ensures.reached c.in_ok-programs.ensures.meaning
-          (started c.new-standard.result (g.S.Sources.standard_text c.args.sources.now) files (c.args.plan.now ∷ c.args.sessions.now ∷ []) (plan_text ∷ sessions_text ∷ []) (search rules) known) c.deref.ensures.value (subst (λ wanted. TellsCourse g.B.Socket.Wire.tells c.in_ok-plan.plan c.in_ok-me.me c.deref.result.now c.args.turns wanted c.in_ok-ran.ran) (c.is_some.ensures ∙ is_some_copied c.args.journal) c.in_ok-ran.ensures.ran) h.1 h.2),
+          (started c.new-standard.result (g.S.Sources.standard_text c.args.sources.now) files (c.args.plan.now ∷ c.args.sessions.now ∷ []) (plan_text ∷ sessions_text ∷ []) (search rules) known) c.deref.ensures.value c.in_ok-look_at_file.ensures.free (subst (λ wanted. TellsCourse g.B.Socket.Wire.tells c.in_ok-plan.plan c.in_ok-me.me c.deref.result.now c.args.turns wanted c.in_ok-ran.ran) (c.is_some.ensures ∙ is_some_copied c.args.journal) c.in_ok-ran.ensures.ran) h.1 h.2),
     )) c.write_ran.ensures.done
 
 pub returns-clause-status : goal.returns-clause-status
@@ -75,17 +88,23 @@ returns-clause-status g c = ok_more c.write_ran.result _ _ (λ status h. subst (
 pub returns-in_err-plan-clause-leaves : goal.returns-in_err-plan-clause-leaves
 returns-in_err-plan-clause-leaves g c =
     let e = err_from_is_err_and c.from_residual.result c.from_residual.ensures.1 in
-    rw (e.1, e.2) (at_input _ _ inputs.Plan _ c.in_err-plan.field-0.0 c.in_err-plan.ensures.fault (refl, refl))
+    rw (e.1, e.2) (at_input _ (RefusesFile (g.S.Sources.file_text c.args.sources.now) (g.S.Sources.standard_text c.args.sources.now) c.args.plan.now c.args.office.now c.args.sessions.now (option_copied c.args.journal)) _ inputs.Plan _ c.in_err-plan.field-0.0 c.in_err-plan.ensures.fault (refl, refl))
 
 pub returns-in_err-me-clause-leaves : goal.returns-in_err-me-clause-leaves
 returns-in_err-me-clause-leaves g c =
     let e = err_from_is_err_and c.from_residual-in_err-me.result c.from_residual-in_err-me.ensures.1 in
-    rw (e.1, e.2) (at_office _ _ c.in_ok-plan.plan _ c.in_err-me.field-0.0 c.in_err-me.ensures.fault (refl, refl))
+    rw (e.1, e.2) (at_office _ (RefusesFile (g.S.Sources.file_text c.args.sources.now) (g.S.Sources.standard_text c.args.sources.now) c.args.plan.now c.args.office.now c.args.sessions.now (option_copied c.args.journal)) _ c.in_ok-plan.plan _ c.in_err-me.field-0.0 c.in_err-me.ensures.fault (refl, refl))
 
 pub returns-in_err-programs-clause-leaves : goal.returns-in_err-programs-clause-leaves
 returns-in_err-programs-clause-leaves g c =
     let e = err_from_is_err_and c.from_residual-in_err-programs.result c.from_residual-in_err-programs.ensures.1 in
-    rw (e.1, e.2) (at_input _ _ inputs.Sessions _ c.in_err-programs.field-0.0 c.in_err-programs.ensures.fault (refl, refl))
+    rw (e.1, e.2) (at_input _ (RefusesFile (g.S.Sources.file_text c.args.sources.now) (g.S.Sources.standard_text c.args.sources.now) c.args.plan.now c.args.office.now c.args.sessions.now (option_copied c.args.journal)) _ inputs.Sessions _ c.in_err-programs.field-0.0 c.in_err-programs.ensures.fault (refl, refl))
+
+pub returns-in_err-look_at_file-clause-leaves : goal.returns-in_err-look_at_file-clause-leaves
+returns-in_err-look_at_file-clause-leaves g c =
+    let e = err_from_is_err_and c.from_residual-in_err-look_at_file.result c.from_residual-in_err-look_at_file.ensures.1 in
+    rw (e.1, e.2) (at_place _ _ _ _ c.in_err-look_at_file.field-0.0 c.in_err-look_at_file.ensures.fault (refl, refl)
+    (file_refused (g.S.Sources.file_text c.args.sources.now) (g.S.Sources.standard_text c.args.sources.now) c.new-standard.result c.read_plan.new.standard c.args.plan.now c.args.office.now c.args.sessions.now c.in_ok-plan.plan c.in_ok-me.me (option_copied c.args.journal) (search rules) c.in_ok-plan.ensures.meaning c.in_ok-me.ensures.office))
 
 pub returns-in_err-ran-clause-leaves : goal.returns-in_err-ran-clause-leaves
 returns-in_err-ran-clause-leaves g c =
@@ -95,10 +114,10 @@ returns-in_err-ran-clause-leaves g c =
 pub returns-clause-leaves : goal.returns-clause-leaves
 returns-clause-leaves g c =
     let files = g.S.Sources.file_text c.args.sources.now in
-    err_more c.write_ran.result _ _ (λ f h. at_end _ _ _ f h (λ cause h. λ plan_text sessions_text known. (
+    err_more c.write_ran.result _ _ (λ f h. at_end _ (RefusesFile (g.S.Sources.file_text c.args.sources.now) (g.S.Sources.standard_text c.args.sources.now) c.args.plan.now c.args.office.now c.args.sessions.now (option_copied c.args.journal)) _ _ f h (λ cause h. λ plan_text sessions_text known. (
       c.in_ok-ran.ran,
       h.0,
-      (ran_office g.B.Socket.Wire.tells files c.new-standard.result c.read_plan.new.standard c.read_programs.new.standard c.args.plan.now c.args.office.now c.args.sessions.now plan_text sessions_text c.in_ok-plan.plan c.in_ok-me.me c.in_ok-programs.programs.items c.deref.result.now c.args.turns (option_copied c.args.journal) c.in_ok-ran.ran (g.W.Write.contents c.args.out.now) (g.W.Write.contents c.write_ran.new.out) (g.T.Targets.written c.args.targets.now) (g.T.Targets.written c.write_ran.new.targets)
+      (ran_office g.B.Socket.Wire.tells (IsFree files c.args.plan.now c.args.sessions.now) files c.new-standard.result c.read_plan.new.standard c.read_programs.new.standard c.args.plan.now c.args.office.now c.args.sessions.now plan_text sessions_text c.in_ok-plan.plan c.in_ok-me.me c.in_ok-programs.programs.items c.deref.result.now c.args.turns (option_copied c.args.journal) c.in_ok-ran.ran (g.W.Write.contents c.args.out.now) (g.W.Write.contents c.write_ran.new.out) (g.T.Targets.written c.args.targets.now) (g.T.Targets.written c.write_ran.new.targets)
           c.in_ok-plan.ensures.meaning c.in_ok-me.ensures.office c.in_ok-me.ensures.reached c.in_ok-programs.ensures.meaning
-          (started c.new-standard.result (g.S.Sources.standard_text c.args.sources.now) files (c.args.plan.now ∷ c.args.sessions.now ∷ []) (plan_text ∷ sessions_text ∷ []) (search rules) known) c.deref.ensures.value (subst (λ wanted. TellsCourse g.B.Socket.Wire.tells c.in_ok-plan.plan c.in_ok-me.me c.deref.result.now c.args.turns wanted c.in_ok-ran.ran) (c.is_some.ensures ∙ is_some_copied c.args.journal) c.in_ok-ran.ensures.ran) h.1 h.2),
+          (started c.new-standard.result (g.S.Sources.standard_text c.args.sources.now) files (c.args.plan.now ∷ c.args.sessions.now ∷ []) (plan_text ∷ sessions_text ∷ []) (search rules) known) c.deref.ensures.value c.in_ok-look_at_file.ensures.free (subst (λ wanted. TellsCourse g.B.Socket.Wire.tells c.in_ok-plan.plan c.in_ok-me.me c.deref.result.now c.args.turns wanted c.in_ok-ran.ran) (c.is_some.ensures ∙ is_some_copied c.args.journal) c.in_ok-ran.ensures.ran) h.1 h.2),
     ))) c.write_ran.ensures.leaves

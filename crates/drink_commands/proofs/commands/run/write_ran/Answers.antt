@@ -1,8 +1,9 @@
-use Rattle.std.proofs.Common.{◌≡◌, ◌∷◌, [], get_or, length, map, rules, subst}
+use Rattle.std.proofs.Common.{◌≡◌, map, rules, subst}
 use Rattle.std.specs.Option.{option_copied}
 use Rattle.std.specs.String.{string_bytes}
 use Rattle.std.specs.Io.KnownBytes.{Appends}
-use Rattle.drink_commands.specs.Journals.{WritesFiles, files_of}
+use Rattle.drink_commands.specs.Journals.{WritesFiles}
+use Rattle.drink_commands.specs.Run.{NoObstacle}
 use Rattle.drink_commands.proofs.Running.{at_end, err_more, ok_more}
 use Rattle.drink_commands.proofs.commands.run.write_ran.Goals as goal
 
@@ -18,4 +19,4 @@ returns-clause-leaves g c =
     let text : c.deref.result.now ≡ string_bytes c.args.ran.now.text = search rules in
     let written = subst (Appends (g.W.Write.contents c.args.out.now) (g.W.Write.contents c.write_whole.new.out)) text c.in_ok-write_whole.ensures.written in
     let files = subst (λ xs. WritesFiles (option_copied c.args.journal) (λ place. map (λ text. (place, string_bytes text)) xs) (g.T.Targets.written c.args.targets.now) (g.T.Targets.written c.write_each.new.targets)) c.deref-2.ensures.value c.in_ok-write_each.ensures.written in
-    err_more c.ended.result _ _ (λ f h. at_end _ _ _ f h (λ cause k. (k, written, files))) c.ended.ensures.cut
+    err_more c.ended.result _ _ (λ f h. at_end ⊥ NoObstacle _ _ f h (λ cause k. (k, written, files))) c.ended.ensures.cut
