@@ -1,5 +1,5 @@
 """Offices on sockets: single ones, with a neighbour that this script plays, on a terminal, and those that the manual prints."""
-import os, pty, re, select, shutil, signal, socket, subprocess
+import os, pty, re, select, shutil, signal, socket, subprocess, termios, time
 
 from common import ASK_BOTTLE, BOTTLE, HOST, PLAN, SECONDS, TOP, Ran, at_ports, frame, free_ports
 
@@ -75,6 +75,7 @@ def runs(check):
     check.wants("live: plan.txt", check.run("live plan.txt own.txt"), 0, answer, b"")
     check.wants("live: a session at each end", check.run("live plan.txt both.txt"), 0, answer.replace(b"unfinished", b"b.1 done reads x=5 writes - gives 5\nunfinished"), b"")
     told_on_a_terminal(check)
+    terminals_that_take_nothing(check)
     interrupted(check)
     answered(check)
     broken(check)
@@ -154,6 +155,32 @@ def told_on_a_terminal(check):
     check.wants("run: told on a terminal: what came and was refused", ran, 1, b"unfinished 1\n", rf"{last}\Z")
     told = re.search(rf"{last}\Z", ran.err.decode(errors="replace"))
     check.say("run: told on a terminal: what went", None if told and went // 2 <= int(told[1]) <= went else f"{went} came of them; {ran}")
+
+
+def terminals_that_take_nothing(check):
+    """A terminal that is stopped, as by Ctrl-S, and one that is full: neither holds an office up, or is other than before for its other
+    writers."""
+    for what, make in (("stopped", lambda terminal: termios.tcflow(terminal, termios.TCOOFF)), ("full", fill)):
+        theirs, ours = pty.openpty()
+        make(ours)
+        check.wants(f"run: a terminal that is {what}", check.run("run ports.txt b fetches.txt --turns 500", stderr=ours), 1, b"unfinished 1\n", b"")
+        check.equal(f"run: a terminal that is {what}: others wait for it", os.get_blocking(ours), True)
+        if what == "stopped":
+            check.equal("run: a terminal that is stopped: what it shows", select.select([theirs], [], [], 0)[0], [])
+        os.close(theirs)
+        os.close(ours)
+
+
+def fill(terminal):
+    """Writes to a terminal until it takes no more, after a while too: it passes on what it took."""
+    again = os.open(os.ttyname(terminal), os.O_WRONLY | os.O_NONBLOCK | os.O_NOCTTY)
+    for _ in range(50):
+        try:
+            while True:
+                os.write(again, b"x")
+        except BlockingIOError:
+            time.sleep(0.01)
+    os.close(again)
 
 
 def interrupted(check):

@@ -12,7 +12,7 @@
 //!   before the sessions (clause `judged`); nothing is written at one but what stands where the run was cut short (clause `leaves`).
 //!   Where its journal goes is looked at before anything is run.
 //! - [`commands::live::run`] is `drink live`, with the same clauses, of all offices.
-//! - [`telling::Telling`] says on a terminal how far a run is.
+//! - [`telling::Telling`] says on a terminal how far a run is, and never waits for it.
 //! - [`program::perform`] carries a request out, from the texts that its words stand for (clause `done`); [`program::answer`]
 //!   does what the words of a command line ask for, with status 0 only where that was done (clause `done`), and [`run`]
 //!   hands it the files, the standard input and the output that the program was started with.

@@ -11,7 +11,7 @@ use crate::commands::{audit, live, random, run, serial, sim};
 use crate::exit::{Exit, FAILED, MISUSED, Said};
 use crate::fault::Fault;
 use crate::input::Input;
-use crate::telling::Telling;
+use crate::telling::{Telling, opened};
 use clap::error::ErrorKind;
 use command_words::command_line::{Request, command_line, help};
 use input_texts::{Devices, Sources};
@@ -22,22 +22,29 @@ use std::alloc::{AllocError, Global};
 use std::io;
 use std::io::{IsTerminal, Write};
 use std::net::Net;
+use std::os::fd::AsRawFd;
 use std::rt::{Clock, Env, Files};
 use std::sync::Wait;
 use std::thread::Threads;
 
 /// Does what the command line asks for, and answers the exit status: 0, 1 where the command fails or leaves sessions, and 2 where
-/// the command line is at fault. How far a run of offices is goes to the standard error, while that is a terminal.
+/// the command line is at fault. How far a run of offices is goes to the standard error, while that is a terminal and takes it at once.
 pub fn run<R, E>(rt: &R, error: &E) -> u8
 where
     R: AllocGlobal + Env + Files + std::io::Input + Print + Eprint,
     R: Threads + Wait + Clock + Net + Sync,
+    R::File: AsRawFd,
     E: IsTerminal,
 {
     let devices = Devices::new(rt);
     let mut disk = Disk::new(rt);
     let binds = UdpSockets::new(rt, rt.alloc());
-    let watch = Telling::new(rt, error.is_terminal());
+    let screen = if error.is_terminal() {
+        opened(rt).ok()
+    } else {
+        None
+    };
+    let watch = Telling::new(rt.alloc(), screen.as_ref().map(|it| it.as_raw_fd()));
     let around = Around {
         binds: &binds,
         gate: &Open,

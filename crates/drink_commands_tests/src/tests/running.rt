@@ -1,9 +1,9 @@
-use crate::tests::ear::Ear;
+use crate::tests::ear::Board;
 use crate::tests::sockets::{Deaf, Shut};
 use crate::tests::{MOVE, Memory, PLAN, strings};
 use drink_commands::exit::Exit;
 use drink_commands::program::answer;
-use drink_commands::telling::Telling;
+use drink_commands::telling::show;
 use office_runs::{Around, Binds, Gate, Open, Progress, Quiet, UdpSockets, Watch};
 use output_files::InMemory;
 use std::alloc::Global;
@@ -332,22 +332,29 @@ fn live_finishes_three_sessions(rt: HostRuntime) -> Result<(), Fail> {
     Ok(())
 }
 
-/// A terminal is told how far a run is, and nothing else is.
+/// How many bytes a screen takes, 20 at a time, how many are shown then, and how often it is asked.
+static TAKEN: [(usize, usize, u32); 4] = [(1000, 80, 4), (30, 30, 3), (1, 1, 2), (0, 0, 1)];
+
+/// What a screen doesn't take at once is left out.
 #[test]
-fn a_terminal_is_told_how_far_a_run_is(rt: HostRuntime) {
-    for (is_terminal, times) in [(true, 1), (false, 0)] {
-        let ear = Ear::new(
-            rt.alloc(),
+fn a_screen_is_told_how_far_a_run_is(rt: HostRuntime) {
+    for (room, shown, calls) in &TAKEN {
+        let mut board = Board::new(
             "drink: 12 of 40 sessions finished; 310 datagrams came, 305 went, 7 were refused\n",
+            *room,
         );
-        let telling = Telling::new(&ear, is_terminal);
-        telling.tell(Progress {
-            finished: 12,
-            sessions: 40,
-            came: 310,
-            went: 305,
-            refused: 7,
-        });
-        ear.heard(&rt, times);
+        let told = show(
+            rt.alloc(),
+            &mut board,
+            Progress {
+                finished: 12,
+                sessions: 40,
+                came: 310,
+                went: 305,
+                refused: 7,
+            },
+        );
+        assert_eq!(rt; told.is_ok(), *shown == 80);
+        assert_eq!(rt; (board.shown, board.calls), (*shown, *calls));
     }
 }
