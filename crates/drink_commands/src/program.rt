@@ -28,7 +28,8 @@ use std::sync::Wait;
 use std::thread::Threads;
 
 /// Does what the command line asks for, and answers the exit status: 0, 1 where the command fails or leaves sessions, and 2 where
-/// the command line is at fault. How far a run of offices is goes to the standard error, while that is a terminal and takes it at once.
+/// the command line is at fault. How far a run of offices is goes to the standard error, while that is a terminal and takes it at once;
+/// and there goes, whatever it is, what one left.
 pub fn run<R, E>(rt: &R, error: &E) -> u8
 where
     R: AllocGlobal + Env + Files + std::io::Input + Print + Eprint,
@@ -44,7 +45,7 @@ where
     } else {
         None
     };
-    let watch = Telling::new(rt.alloc(), screen.as_ref().map(|it| it.as_raw_fd()));
+    let watch = Telling::new(rt, rt.alloc(), screen.as_ref().map(|it| it.as_raw_fd()));
     let around = Around {
         binds: &binds,
         gate: &Open,

@@ -1,6 +1,7 @@
 //! How far a run of offices is, for people.
 
 use office_runs::{Progress, Watch};
+use run_remarks::Unmet;
 use std::alloc::{AllocError, Global};
 use std::fs::OpenOptions;
 use std::io;
@@ -8,24 +9,38 @@ use std::io::{Error, ErrorKind, Write};
 use std::os::fd::{AsRawFd, RawFd};
 use std::rt::Files;
 
-/// Says a line of it on a screen, where there is one, as far as that takes it at once: an office doesn't wait for a terminal.
+/// Says a line of it on a screen, where there is one, as far as that takes it at once: an office doesn't wait for a terminal. What is
+/// said at the end goes to the standard error, whatever that is, and waits for it.
 #[derive(Drop)]
-pub struct Telling {
+pub struct Telling<'a, R> {
+    rt: &'a R,
     alloc: Global,
     /// Its descriptor, which is open as long as this is there.
     screen: Option<RawFd>,
 }
 
-impl Telling {
-    pub(crate) fn new(alloc: Global, screen: Option<RawFd>) -> Telling {
-        Telling { alloc, screen }
+impl<'a, R> Telling<'a, R> {
+    pub fn new(rt: &'a R, alloc: Global, screen: Option<RawFd>) -> Telling<'a, R> {
+        Telling { rt, alloc, screen }
     }
 }
 
-impl Watch for Telling {
+impl<'a, R: Eprint> Watch for Telling<'a, R> {
     fn tell(&self, progress: Progress) {
         if let Some(fd) = self.screen {
             let _ = show(self.alloc, &mut Screen { fd }, progress);
+        }
+    }
+
+    fn tell_of(&self, unmet: &Unmet<'_>) {
+        if let Some(fd) = self.screen {
+            let _ = show_unmet(self.alloc, &mut Screen { fd }, unmet);
+        }
+    }
+
+    fn end(&self, remarks: &str) {
+        if !remarks.is_empty() {
+            let _ = eprint!(self.rt; "{remarks}");
         }
     }
 }
@@ -69,6 +84,12 @@ impl Write for Screen {
 /// A line goes out, up to where the screen refuses it.
 pub fn show<W: Write>(alloc: Global, screen: &mut W, progress: Progress) -> io::Result<()> {
     let line = line(alloc, progress)?;
+    screen.write_all(line.as_bytes())
+}
+
+/// A line of a neighbour goes out, as far.
+pub fn show_unmet<W: Write>(alloc: Global, screen: &mut W, unmet: &Unmet<'_>) -> io::Result<()> {
+    let line = format!(in alloc; "drink: {unmet}\n")?;
     screen.write_all(line.as_bytes())
 }
 

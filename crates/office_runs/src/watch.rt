@@ -18,6 +18,9 @@ pub trait Watch {
 
     /// A neighbour was never reached or heard yet.
     fn tell_of(&self, unmet: &Unmet<'_>);
+
+    /// What is said of a run that has ended: of what it left, or nothing.
+    fn end(&self, _remarks: &str) {}
 }
 
 /// Nobody.

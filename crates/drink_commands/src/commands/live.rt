@@ -30,8 +30,8 @@ use std::thread::Threads;
 /// finished did, by office and ticket, and how many haven't. Each input is read and judged before the next one is read, and
 /// nothing is run or written before both are judged. Where a folder is named for the offices' journals, it has to be there or such that
 /// it can be made, and their files in it such that they can be written, none of them an input or with a journal of its office and this
-/// run. The journals are written to them after the run. Where the run is cut short, what stands is written. The answer is the exit
-/// status: 1 where sessions are left.
+/// run. The journals are written to them after the run, and the watch is told what was left. Where the run is cut short, what stands is
+/// written. The answer is the exit status: 1 where sessions are left.
 pub fn run<R, S, B, G, V, T, W>(
     rt: &R,
     alloc: Global,
@@ -70,7 +70,9 @@ where
         alloc, sources, targets, plan_word, sessions, &plan, journals,
     )?;
     let ran = live(rt, alloc, &plan, &programs, journals.is_some(), around)?;
-    write_ran(alloc, out, targets, journals, &plan, &ran)
+    let answer = write_ran(alloc, out, targets, journals, &plan, &ran);
+    around.watch.end(&ran.remarks);
+    answer
 }
 
 /// What came of a run is written, and the journals that it leaves; then, where it was cut short, why is the answer. Otherwise it is the

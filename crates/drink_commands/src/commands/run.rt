@@ -28,7 +28,8 @@ use std::sync::Wait;
 /// that finished did, and how many haven't. The plan is read and judged first; then an office of it has to have that name, and
 /// it and its neighbours an address; then the sessions are read and judged. Where a file is named for the office's journal, it has to be
 /// one that can be written, no input, and without a journal of this office and run. Nothing is run or written before. Then that journal
-/// is written to it. Where the run is cut short, what stands is written. The answer is the exit status: 1 where sessions are left.
+/// is written to it, and the watch is told what was left. Where the run is cut short, what stands is written. The answer is the exit
+/// status: 1 where sessions are left.
 pub fn run<R, S, B, G, V, T, W>(
     rt: &R,
     alloc: Global,
@@ -77,7 +78,9 @@ where
         journal.is_some(),
         around,
     )?;
-    write_ran(alloc, out, targets, journal, &ran)
+    let answer = write_ran(alloc, out, targets, journal, &ran);
+    around.watch.end(&ran.remarks);
+    answer
 }
 
 /// What came of a run is written, and the journal that it leaves; then, where it was cut short, why is the answer. Otherwise it is the

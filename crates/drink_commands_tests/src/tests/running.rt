@@ -1,9 +1,9 @@
-use crate::tests::ear::Board;
+use crate::tests::ear::{Board, Ear};
 use crate::tests::sockets::{Deaf, Shut};
 use crate::tests::{MOVE, Memory, PLAN, strings};
 use drink_commands::exit::Exit;
 use drink_commands::program::answer;
-use drink_commands::telling::show;
+use drink_commands::telling::{Telling, show};
 use office_runs::{Around, Binds, Gate, Open, Progress, Quiet, UdpSockets, Watch};
 use output_files::InMemory;
 use std::alloc::Global;
@@ -356,5 +356,16 @@ fn a_screen_is_told_how_far_a_run_is(rt: HostRuntime) {
         );
         assert_eq!(rt; told.is_ok(), *shown == 80);
         assert_eq!(rt; (board.shown, board.calls), (*shown, *calls));
+    }
+}
+
+/// What is said of a run that has ended goes to the standard error; where there is nothing to say, nothing does.
+#[test]
+fn what_a_run_left_is_said(rt: HostRuntime) {
+    let remarks = "drink: a.1 waits for x from b, which was never heard\n";
+    for (said, times) in [(remarks, 1), ("", 0)] {
+        let ear = Ear::new(rt.alloc(), said);
+        Telling::new(&ear, rt.alloc(), None).end(said);
+        ear.heard(&rt, times);
     }
 }
