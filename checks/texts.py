@@ -186,12 +186,15 @@ def torn(check):
 
 
 def full(check):
-    """An office has a million events, the last of which is a session: a step of `settle` there is refused, and all before it stands."""
+    """An office has a million events, the last of which is a session: a step of `settle` there is refused, and all before it stands.
+    An audit reads its journal whole."""
     script = b"send a b 0\n" + b"deliver 1\n" * (MOST_EVENTS - 1) + b"submit 1\nsettle 9\ndeliver 1\n"
     check.files({"theirs.txt": b"session b\ngive 1\nend\n", "full.txt": script})
     made = frame(1, 0, 1, 0, 0).hex().encode()
     wanted = b"frame 1 %s\n" % made + b"acked\n" * (MOST_EVENTS - 1) + b"ticket 1\n" + b"refused O4 JournalFull\n" * 2 + b"unfinished 1\nvalue x 5\n"
-    check.wants("full: an office that accepted a million events", check.run("sim plan.txt theirs.txt full.txt"), 0, wanted, b"")
+    check.wants("full: an office that accepted a million events", check.run("sim plan.txt theirs.txt full.txt --journals full"), 0, wanted, b"")
+    check.equal("full: how many lines its journal has", check.bytes_of("full/b.journal").count(b"\n"), MOST_EVENTS + 1)
+    check.wants("full: an audit of its journal", check.run("audit plan.txt full/a.journal full/b.journal"), 0, b"unfinished 1\nvalue x 5\n", b"")
 
 
 def named(check):
