@@ -61,7 +61,14 @@ def runs(check):
     check.wants("run: a session that needs nobody", check.run("run ports.txt a own.txt --turns 5"), 0, answer, b"")
     check.wants("run: on the standard input", check.run("run - a - --turns 5", plan + b"---\n" + own), 0, answer, b"")
     check.wants("run: another office's session", check.run("run ports.txt a fetches.txt --turns 1"), 0, b"unfinished 0\n", b"")
-    check.wants("run: a neighbour that never starts", check.run("run ports.txt b fetches.txt --turns 100"), 1, left, b"")
+    unheard = rf"drink: b never heard a at 127\.0\.0\.1:{one}\n"
+    check.wants("run: a neighbour that never starts", check.run("run ports.txt b fetches.txt --turns 100"), 1, left, rf"\Adrink: b\.1 waits for x from a, which was never heard\n{unheard}\Z")
+    check.files({"many.txt": fetches * 13})
+    waits = "".join(rf"drink: b\.{it} waits for b\.{it - 1}\n" for it in range(2, 11))
+    check.wants("run: more sessions than are named", check.run("run ports.txt b many.txt --turns 5"), 1, b"unfinished 13\n", rf"\Adrink: b\.1 waits for x from a, which was never heard\n{waits}drink: and 3 more sessions are left\n{unheard}\Z")
+    check.files({"ports.txt": plan.replace(b"a %s:%d" % (HOST.encode(), one), b"a %s:0" % HOST.encode())})
+    check.wants("run: a neighbour that can't be reached", check.run("run ports.txt b fetches.txt --turns 5"), 1, left, r"\Adrink: b\.1 [^\n]*\ndrink: b never reached a at 127\.0\.0\.1:0: [^\n]*Invalid argument[^\n]*\n\Z")
+    check.files({"ports.txt": plan})
     for words in ("run ports.txt a own.txt --turns 5", "live plan.txt own.txt"):
         check.wants(f"{words} > /dev/full", check.shell(f"./drink {words} > /dev/full"), 1, b"", r"\Adrink: X5 WriteFailed: [^\n]*\n\Z")
         check.wants(f"{words} 2>&-", check.shell(f"./drink {words} 2>&-"), 0, answer, b"")
@@ -151,9 +158,10 @@ def told_on_a_terminal(check):
     count, refused = len(REFUSED + TAKEN_BY_B), len(REFUSED)
     line = r"drink: 0 of 1 sessions finished; \d+ datagrams came, [1-9]\d* went, \d+ were refused\n"
     last = rf"drink: 0 of 1 sessions finished; {count} datagrams came, (\d+) went, {refused} were refused\n"
-    check.wants("run: told on a terminal, each second", ran, 1, b"unfinished 1\n", rf"\A({line})+\Z")
-    check.wants("run: told on a terminal: what came and was refused", ran, 1, b"unfinished 1\n", rf"{last}\Z")
-    told = re.search(rf"{last}\Z", ran.err.decode(errors="replace"))
+    end = r"drink: b\.1 waits for x from a, silent for [1-9]\d* seconds?\n"
+    check.wants("run: told on a terminal, each second", ran, 1, b"unfinished 1\n", rf"\A({line})+{end}\Z")
+    check.wants("run: told on a terminal: what came and was refused", ran, 1, b"unfinished 1\n", rf"{last}{end}\Z")
+    told = re.search(rf"{last}{end}\Z", ran.err.decode(errors="replace"))
     check.say("run: told on a terminal: what went", None if told and went // 2 <= int(told[1]) <= went else f"{went} came of them; {ran}")
 
 
@@ -163,7 +171,7 @@ def terminals_that_take_nothing(check):
     for what, make in (("stopped", lambda terminal: termios.tcflow(terminal, termios.TCOOFF)), ("full", fill)):
         theirs, ours = pty.openpty()
         make(ours)
-        check.wants(f"run: a terminal that is {what}", check.run("run ports.txt b fetches.txt --turns 500", stderr=ours), 1, b"unfinished 1\n", b"")
+        check.wants(f"run: a terminal that is {what}", check.run("run ports.txt a own.txt --turns 500", stderr=ours), 0, b"a.1 done reads x=5 writes - gives 5\nunfinished 0\n", b"")
         check.equal(f"run: a terminal that is {what}: others wait for it", os.get_blocking(ours), True)
         if what == "stopped":
             check.equal("run: a terminal that is stopped: what it shows", select.select([theirs], [], [], 0)[0], [])
@@ -234,7 +242,7 @@ def broken(check):
     for call in BROKEN_ONCE:
         breaks(check, f"run: call {call} of a socket fails", call, call, (0, MOVED + b"unfinished 0\n", b""))
     for call, out in zip(BROKEN_FROM, (b"unfinished 1\n", MOVED + b"unfinished 0\n")):
-        breaks(check, f"run: all calls of a socket fail from the {call}th on", call, ALL, (1, out, r"\Adrink: U1 WireFailed: [^\n]*\n\Z"))
+        breaks(check, f"run: all calls of a socket fail from the {call}th on", call, ALL, (1, out, r"\A(drink: a(\.1 waits| never) [^\n]*\n)*drink: U1 WireFailed: [^\n]*\n\Z"))
 
 
 def breaks(check, name, first, last, wanted):
