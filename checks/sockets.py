@@ -241,8 +241,9 @@ def broken(check):
     check.wants("run: calls that can fail", check.shell("cc -O2 -shared -fPIC -o breaks.so breaks.c -ldl"), 0, b"", b"")
     for call in BROKEN_ONCE:
         breaks(check, f"run: call {call} of a socket fails", call, call, (0, MOVED + b"unfinished 0\n", b""))
-    for call, out in zip(BROKEN_FROM, (b"unfinished 1\n", MOVED + b"unfinished 0\n")):
-        breaks(check, f"run: all calls of a socket fail from the {call}th on", call, ALL, (1, out, r"\A(drink: a(\.1 waits| never) [^\n]*\n)*drink: U1 WireFailed: [^\n]*\n\Z"))
+    alone = r"drink: a\.1 waits for y from b, which was never heard\ndrink: a never heard b at 127\.0\.0\.1:\d+\n"
+    for call, out, left in zip(BROKEN_FROM, (b"unfinished 1\n", MOVED + b"unfinished 0\n"), (alone, "")):
+        breaks(check, f"run: all calls of a socket fail from the {call}th on", call, ALL, (1, out, rf"\A{left}drink: U1 WireFailed: [^\n]*\n\Z"))
 
 
 def breaks(check, name, first, last, wanted):
