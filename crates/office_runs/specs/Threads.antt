@@ -1,5 +1,5 @@
 -- What the threads of an office do: one turns it, and one submits its sessions.
-use Rattle.std.specs.Prelude.{◌≡◌, ◌<◌, ◌×◌, ℕ, zero, suc, Bool, List, [], ◌++◌, map, All, Option, None, Some}
+use Rattle.std.specs.Prelude.{◌≡◌, ◌<◌, ℕ, zero, suc, Bool, List, [], ◌++◌, map, All, Option, None, Some}
 use Rattle.session_meaning.specs.ProgramValue.{ProgramValue}
 use Rattle.site_core.specs.declared.event.Event.TheVariants.{Submit}
 use Rattle.site_core.specs.declared.event.Entry.{Entry}
