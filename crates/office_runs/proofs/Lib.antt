@@ -1,2 +1,6 @@
+mod Beginnings
+mod Finishing
 mod Rounds
 mod Telling
+mod Writers
+mod Written

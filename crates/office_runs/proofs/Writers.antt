@@ -1,0 +1,75 @@
+-- Who wrote what is told of an office, by what its passes show that met.
+use Rattle.std.proofs.Common.{◌≡◌, ℕ, ◌+◌, ◌<◌, ◌≤◌, List, [], ◌∷◌, ◌++◌, length, get_or, take, drop, map, sym, ap, subst, ◌∙◌, append_assoc, arith, length-append, take-append-drop, ⊎_elim}
+use Rattle.std.specs.Prelude.{All}
+use Rattle.std.specs.List.{range_with_len}
+use Rattle.std.proofs.lemmas.Bool.{cases_lt}
+use Rattle.std.proofs.lemmas.List.{get_or_append_left}
+use Rattle.std.proofs.lemmas.List.Elements.{All-cons, All-nil}
+use mathlib.Core.List.{IsPrefix}
+use Rattle.own_lock.specs.Entries.{tagged}
+use Rattle.own_lock.specs.Passes.{LockView, fresh_pass}
+use Rattle.office_map.specs.PlanValue.{PlanValue}
+use Rattle.session_meaning.specs.ProgramValue.{ProgramValue}
+use Rattle.site_core.specs.declared.event.Event.TheVariants.{Submit}
+use Rattle.site_core.specs.declared.event.Entry.{Entry}
+use Rattle.site_core.specs.Offices.{Office}
+use Rattle.site_core.specs.Journals.{Site, AreAccepted, IsLegal, after}
+use Rattle.locked_office.specs.Calls.{Key, DeskPass, Looks, office_with, tag_of}
+use Rattle.office_runs.specs.Threads.{IsNoSubmit, IsWrittenBy}
+use Rattle.office_runs.proofs.Beginnings.{begins_all, map_begins, none_before, tagged_begins, tags_below}
+use Rattle.office_runs.proofs.Written.{looks_adds_nothing}
+
+all_before : (P : Entry → Type 0) (xs ys : List Entry) → IsPrefix xs ys → All P ys → All P xs
+all_before P xs ys p all i d lt =
+    let within : i < length ys = omega (arith, lt, length-append xs p.0, ap length p.1) in
+    subst P (ap (λ (l : List Entry). get_or l i d) (sym p.1) ∙ get_or_append_left xs p.0 d i lt) (all i d within)
+
+accepted_tags : (plan : PlanValue) (me : ℕ) (o : Office) (es : List Entry) → AreAccepted plan me o es → All (λ (e : Entry). e.tag < 16) es
+accepted_tags plan me o [] accepted = All-nil (λ (e : Entry). e.tag < 16)
+accepted_tags plan me o (x ∷ xs) (answered, tag, rest) = All-cons (λ (e : Entry). e.tag < 16) x xs tag (accepted_tags plan me (after plan me o x.event) xs rest)
+
+-- where the passes with the tags from 2 on have no entry of their own
+pub told_tags : (s : Site) (seen : List Entry) → IsLegal s → IsPrefix s.entries seen → ((t : ℕ) → 2 ≤ t → t < 15 → tagged tag_of t s.entries ≡ []) → tagged tag_of 15 seen ≡ [] → All (λ (e : Entry). e.tag < 2) s.entries
+told_tags s seen legal begins rest own = tags_below tag_of 2 16 s.entries (accepted_tags s.plan s.me _ s.entries legal.accepted) (λ t more less. ⊎_elim
+    (λ lt. rest t more lt)
+    (λ ge. let last : 15 ≡ t = omega (arith, less, ge) in subst (λ (x : ℕ). tagged tag_of x s.entries ≡ []) last (none_before tag_of 15 s.entries seen begins own))
+    (cases_lt t 15))
+
+-- a pass that did nothing was met, and before it those with greater tags
+pub one_met : (desk : LockView Key) (at most : ℕ) (pass : DeskPass) (first seen : List Entry) → pass ≡ fresh_pass desk tag_of [] at → IsPrefix first seen → tagged tag_of pass.tag seen ≡ pass.mine →
+    ((t : ℕ) → at < t → t < most → tagged tag_of t first ≡ []) → (t : ℕ) → at ≤ t → t < most → tagged tag_of t first ≡ []
+one_met desk at most pass first seen is begins mine others t more less =
+    let none : tagged tag_of at seen ≡ [] = subst (λ (p : DeskPass). tagged tag_of p.tag seen ≡ p.mine) is mine in
+    ⊎_elim (λ gt. others t gt less) (λ le. let same : at ≡ t = omega (arith, le, more) in subst (λ (x : ℕ). tagged tag_of x first ≡ []) same (none_before tag_of at first seen begins none)) (cases_lt at t)
+
+-- what a pass that only looked had seen, when all others have met it
+pub all_met : (desk : LockView Key) (k : Key) (own looked rested worked submitted worker client : DeskPass) (rest : List DeskPass) → own ≡ fresh_pass desk tag_of [] 15 → rest ≡ map (fresh_pass desk tag_of []) (range_with_len 2 13) →
+    Looks k own looked → looked.tag ≡ own.tag → rested.tag ≡ looked.tag → rested.mine ≡ looked.mine → IsPrefix looked.seen rested.seen → ((t : ℕ) → 2 ≤ t → t < 2 + length rest → tagged tag_of t looked.seen ≡ []) →
+    IsPrefix rested.seen worked.seen → tagged tag_of rested.tag worked.seen ≡ rested.mine → worker.tag ≡ 0 → tagged tag_of worker.tag worked.seen ≡ worker.mine → IsPrefix worked.seen submitted.seen → client.tag ≡ 1 → tagged tag_of client.tag submitted.seen ≡ client.mine →
+    All (λ (e : Entry). e.tag < 2) looked.seen × IsPrefix (tagged tag_of 0 looked.seen) worker.mine × IsPrefix (tagged tag_of 1 looked.seen) client.mine
+all_met desk k own looked rested worked submitted worker client rest fresh others looks tag still mine seen none later own_mine first first_mine last second second_mine =
+    let to_worked : IsPrefix looked.seen worked.seen = begins_all looked.seen rested.seen worked.seen seen later in
+    let to_submitted : IsPrefix looked.seen submitted.seen = begins_all looked.seen worked.seen submitted.seen to_worked last in
+    let count : length rest ≡ 13 = ap length others in
+    let is_last : rested.tag ≡ 15 = still ∙ tag ∙ ap (λ (p : DeskPass). p.tag) fresh in
+    let empty : rested.mine ≡ [] = mine ∙ looks_adds_nothing k own looked looks ∙ ap (λ (p : DeskPass). p.mine) fresh in
+    let own_none : tagged tag_of 15 worked.seen ≡ [] = subst (λ (t : ℕ). tagged tag_of t worked.seen ≡ []) is_last (own_mine ∙ empty) in
+    let turned : tagged tag_of 0 worked.seen ≡ worker.mine = subst (λ (t : ℕ). tagged tag_of t worked.seen ≡ worker.mine) first first_mine in
+    let given : tagged tag_of 1 submitted.seen ≡ client.mine = subst (λ (t : ℕ). tagged tag_of t submitted.seen ≡ client.mine) second second_mine in (
+      told_tags (office_with k looked.seen) worked.seen looks.1.legal to_worked (λ t more less. none t more (omega (arith, less, count))) own_none,
+      subst (IsPrefix (tagged tag_of 0 looked.seen)) turned (tagged_begins tag_of 0 looked.seen worked.seen to_worked),
+      subst (IsPrefix (tagged tag_of 1 looked.seen)) given (tagged_begins tag_of 1 looked.seen submitted.seen to_submitted),
+    )
+
+pub written_by : (sessions : List ProgramValue) (s : Site) (worker client : List Entry) → All (λ (e : Entry). e.tag < 2) s.entries → IsPrefix (tagged tag_of 0 s.entries) worker → IsPrefix (tagged tag_of 1 s.entries) client → All IsNoSubmit worker →
+    (given left : List ProgramValue) × (given ++ left ≡ sessions) × (map (λ (e : Entry). e.event) client ≡ map Submit given) → IsWrittenBy sessions s
+written_by sessions s worker client tags turns submits none (given, left, are, all) =
+    let own : List Entry = tagged tag_of 1 s.entries in
+    record {
+      tags = tags;
+      turns = all_before IsNoSubmit (tagged tag_of 0 s.entries) worker turns none;
+      given = take (length own) given;
+      left = drop (length own) given ++ left;
+      are = sym (append_assoc (take (length own) given) (drop (length own) given) left) ∙ ap (λ (l : List ProgramValue). l ++ left) (take-append-drop (length own) given) ∙ are;
+      submits = map_begins (λ (e : Entry). e.event) Submit own submits.0 client given submits.1 all;
+    }
