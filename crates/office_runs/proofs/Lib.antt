@@ -1,4 +1,5 @@
 mod Beginnings
+mod Dealing
 mod Finishing
 mod Rounds
 mod Telling

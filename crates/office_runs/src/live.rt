@@ -14,7 +14,7 @@ use crate::around::Around;
 use crate::fault::RunFault;
 use crate::finished::add_sessions;
 use crate::gate::Gate;
-use crate::opened::{Opened, last, open_desk};
+use crate::opened::{Opened, open_shared};
 use crate::opening::OpeningFault;
 use crate::report::{Ran, Report, with_unfinished};
 use crate::shared::Shared;
@@ -242,32 +242,24 @@ fn open_one<R: Clock, S: Socket, A: Wakes>(
         return Err(OpeningFault::NoClock);
     };
     let pump = Pump::open(alloc, plan, me)?;
-    let (desk, mut passes) = open_desk(alloc, plan, me, 3)?;
-    let (Some(own), Some(client), Some(worker)) = (
-        last(&desk, &mut passes),
-        last(&desk, &mut passes),
-        last(&desk, &mut passes),
-    ) else {
-        return Err(OpeningFault::Memory);
-    };
-    let desk = Arc::new(alloc, desk)?;
+    let (office, turns, submits) = open_shared(alloc, plan, me)?;
     let crew = Crew {
         worker: Worker {
             me,
-            desk: Arc::clone(&desk)?,
-            pass: worker,
+            desk: Arc::clone(&office.desk)?,
+            pass: turns,
             pump,
             socket,
             start,
         },
         client: Client {
             me,
-            desk: Arc::clone(&desk)?,
-            pass: client,
+            desk: Arc::clone(&office.desk)?,
+            pass: submits,
             alarm,
         },
     };
-    Ok((Opened { desk, pass: own }, crew))
+    Ok((office, crew))
 }
 
 /// What came of it.
@@ -311,6 +303,10 @@ fn add_office<R: Wait>(
         × (report.new.lines ≡ report.old.lines ++ flat_map (outcome_line plan.now) (finished_of s)) × AddsJournal report.old.wanted s report.old.texts report.new.texts) }
     ensures wanted { report.new.wanted ≡ report.old.wanted }
 {
-    let Opened { desk, mut pass } = office;
-    add_sessions(rt, &desk, &mut pass, plan, report)
+    let Opened {
+        desk,
+        mut own,
+        rest: _,
+    } = office;
+    add_sessions(rt, &desk, &mut own, plan, report)
 }
