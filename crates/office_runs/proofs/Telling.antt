@@ -1,11 +1,15 @@
 -- What is told of one office, and of one more.
-use Rattle.std.proofs.Common.{◌≡◌, ℕ, ◌+◌, ◌-◌, List, [], ◌∷◌, ◌++◌, length, map, Bool, true, false, Option, None, refl, sym, ap, subst, ◌∙◌, append_assoc, arith}
+use Rattle.std.proofs.Common.{◌≡◌, ℕ, ◌+◌, ◌-◌, ◌<◌, List, [], ◌∷◌, ◌++◌, length, map, Bool, true, false, Option, None, Result, Ok, Err, refl, sym, ap, subst, ◌∙◌, append_assoc, arith}
+use Rattle.std.specs.Prelude.{All, IfOk, OnOk}
 use Rattle.std.specs.List.{flat_map}
+use mathlib.Core.List.{IsPrefix}
 use Rattle.std.specs.String.{string_bytes}
 use Rattle.std.proofs.lemmas.List.Elements.{All-append, All-cons, All-nil}
 use Rattle.office_map.specs.PlanValue.{PlanValue}
 use Rattle.session_meaning.specs.ProgramValue.{ProgramValue}
-use Rattle.locked_office.specs.Calls.{Key, DeskPass, Looks, office_with}
+use Rattle.own_lock.specs.Entries.{tagged}
+use Rattle.locked_office.specs.Calls.{Key, DeskPass, Looks, office_with, tag_of}
+use Rattle.run_reports.specs.Report.{outcome_line}
 use Rattle.office_runs.specs.declared.fault.RunFault.{RunFault}
 use Rattle.office_runs.specs.declared.report.Ran.{Ran}
 use Rattle.office_runs.specs.Rounds.{Standing, Goes, of_office}
@@ -19,7 +23,7 @@ use Rattle.journal_texts.specs.JournalText.{IsJournal}
 use Rattle.journal_texts.specs.Written.{journal_text}
 use Rattle.office_runs.specs.Runs.{all_finished, count_of, finished_of, key_of, runs_report, text_of, HasJournals, IsReadBack, TellsCourse, TellsJournals}
 use Rattle.office_runs.specs.refinement.Opening.{opened_key}
-use Rattle.office_runs.specs.refinement.Reports.{AddsJournal}
+use Rattle.office_runs.specs.refinement.Reports.{Told, AddsJournal, AddsOffice}
 
 pub finished_more : (sites : List Site) (s : Site) → all_finished (sites ++ s ∷ []) ≡ all_finished sites ++ finished_of s
 finished_more sites s = flat_map-append finished_of sites (s ∷ []) ∙ ap (λ l. all_finished sites ++ l) (append-nil (finished_of s))
@@ -102,3 +106,21 @@ tells_run tells p me programs turns wanted ran k a b q sessions fault key all be
   told = subst (λ (x : Key). string_bytes ran.text ≡ runs_report p (office_with x q.seen ∷ []) ran.unfinished) key told;
   journals = subst (λ (x : Key). HasJournals wanted (office_with x q.seen ∷ []) (map string_bytes ran.journals.items)) key journals;
 }
+
+-- ---- of who wrote it
+
+pub adds_office : {E : Type 0} (p : PlanValue) (k : Key) (worker client : List Entry) (before after : Told) (s : Site) (result : Result ℕ E) → key_of s ≡ k → IsLegal s →
+    OnOk result (after.lines ≡ before.lines ++ flat_map (outcome_line p) (finished_of s)) → IfOk result (λ n. n ≡ length (finished_of s)) → OnOk result (AddsJournal before.wanted s before.texts after.texts) →
+    All (λ (e : Entry). e.tag < 2) s.entries → IsPrefix (tagged tag_of 0 s.entries) worker → IsPrefix (tagged tag_of 1 s.entries) client → IfOk result (AddsOffice p k worker client before after)
+adds_office p k worker client before after s (Ok n) key legal lines count journal tags turns submits = record {
+  site = s;
+  key = key;
+  legal = legal;
+  count = count;
+  lines = lines;
+  journal = journal;
+  tags = tags;
+  turns = turns;
+  submits = submits;
+}
+adds_office p k worker client before after s (Err e) key legal lines count journal tags turns submits = tt

@@ -21,6 +21,7 @@ mod finished;
 mod gate;
 mod hearing;
 pub mod live;
+mod met;
 mod opened;
 mod opening;
 mod pace;
