@@ -1,6 +1,9 @@
 mod Beginnings
+mod Courses
 mod Dealing
+mod Ends
 mod Finishing
+mod Lists
 mod Rounds
 mod Telling
 mod Writers

@@ -1,5 +1,5 @@
 -- What is told of one office, and of one more.
-use Rattle.std.proofs.Common.{◌≡◌, ℕ, ◌+◌, ◌-◌, ◌<◌, List, [], ◌∷◌, ◌++◌, length, map, Bool, true, false, Option, None, Result, Ok, Err, refl, sym, ap, subst, ◌∙◌, append_assoc, arith}
+use Rattle.std.proofs.Common.{◌≡◌, ℕ, ◌+◌, ◌-◌, ◌<◌, List, [], ◌∷◌, ◌++◌, length, map, Bool, true, false, Option, None, Result, Ok, Err, refl, sym, ap, subst, ◌∙◌, arith}
 use Rattle.std.specs.Prelude.{All, IfOk, OnOk}
 use Rattle.std.specs.List.{flat_map}
 use mathlib.Core.List.{IsPrefix}
@@ -17,22 +17,14 @@ use Rattle.std.proofs.lemmas.List.{append-nil, map-append, length-append}
 use Rattle.std.proofs.lemmas.List.Concat.{flat_map-append}
 use Rattle.session_meaning.specs.declared.ending.Outcome.{Outcome}
 use Rattle.site_core.specs.Journals.{Site, IsLegal}
-use Rattle.office_runs.specs.declared.opened.Opened.{Opened}
 use Rattle.site_core.specs.declared.event.Entry.{Entry}
 use Rattle.journal_texts.specs.JournalText.{IsJournal}
 use Rattle.journal_texts.specs.Written.{journal_text}
 use Rattle.office_runs.specs.Runs.{all_finished, count_of, finished_of, key_of, runs_report, text_of, HasJournals, IsReadBack, TellsCourse, TellsJournals}
-use Rattle.office_runs.specs.refinement.Opening.{opened_key}
 use Rattle.office_runs.specs.refinement.Reports.{Told, AddsJournal, AddsOffice}
 
 pub finished_more : (sites : List Site) (s : Site) → all_finished (sites ++ s ∷ []) ≡ all_finished sites ++ finished_of s
 finished_more sites s = flat_map-append finished_of sites (s ∷ []) ∙ ap (λ l. all_finished sites ++ l) (append-nil (finished_of s))
-
-pub keys_more : (sites : List Site) (s : Site) (o : Opened) (before rest all : List Opened) → before ≡ o ∷ rest → key_of s ≡ opened_key o → map key_of sites ++ map opened_key before ≡ map opened_key all →
-    map key_of (sites ++ s ∷ []) ++ map opened_key rest ≡ map opened_key all
-keys_more sites s o before rest all split key h =
-    ap (λ l. l ++ map opened_key rest) (map-append key_of sites (s ∷ [])) ∙ append_assoc (map key_of sites) (key_of s ∷ []) (map opened_key rest) ∙ ap (λ x. map key_of sites ++ (x ∷ map opened_key rest)) key
-    ∙ ap (λ l. map key_of sites ++ map opened_key l) (sym split) ∙ h
 
 pub left_more : (sites : List Site) (s : Site) (sessions left next n : ℕ) → left ≡ sessions - length (all_finished sites) → next ≡ left - n → n ≡ length (finished_of s) → next ≡ sessions - length (all_finished (sites ++ s ∷ []))
 left_more sites s sessions left next n before after count =

@@ -98,7 +98,7 @@ turned tells tag k last now p a t b q later h quiet =
 broken : (tells : Bool) (tag : ℕ) (k : Key) (last : Times) (now : ℕ) (p : DeskPass) (a : Account) (f : PumpFault) (b : Account) (q : DeskPass) (later : Times) → Stage tells tag k last now p a f b q later → Quiet p → Quiet q
 broken tells tag k last now p a f b q later (WhileHearing heard times) quiet = quiet_more p q heard.tooks heard.mine (all_took tag heard.heard heard.tooks heard.are) quiet
 broken tells tag k last now p a f b q later (AtRules mid received n m heard why rules fault wire times) quiet = advanced tag 64 (Err why) k mid q rules (heard_all tells tag k p a n m received mid heard quiet)
-broken tells tag k last now p a f b q later (WhileTelling mid ruled received n m done heard rules made told due_once counts remembers) quiet =
+broken tells tag k last now p a f b q later (WhileTelling mid ruled received n m done heard rules made told acked known due_once counts remembers) quiet =
     quiet_more ruled q (map (sent_entry tag) made) told.mine (all_sent tag made) (advanced tag 64 (Ok done) k mid ruled rules (heard_all tells tag k p a n m received mid heard quiet))
 
 turns : (tells : Bool) (tag : ℕ) (k : Key) (t : TimedTurn) (a b : Standing) → Turns tells tag k t a b → Quiet a.pass → Quiet b.pass

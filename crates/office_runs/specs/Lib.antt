@@ -1,4 +1,5 @@
 pub mod Addresses
+pub mod Courses
 pub mod Rounds
 pub mod Runs
 pub mod Threads

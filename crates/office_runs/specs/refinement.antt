@@ -2,3 +2,4 @@
 pub mod Standings
 pub mod Opening
 pub mod Reports
+pub mod Ends

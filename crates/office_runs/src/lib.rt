@@ -8,14 +8,17 @@
 //! - [`Watch`]: is told once a second how far a run is, and of neighbours that were never reached or heard.
 //!
 //! What is told of a run is what its offices' journals tell (clause `tells`, `specs/Runs.antt`), with a [`RunFault`] where it ended
-//! before its time. What is said for people besides ([`Ran`]) is nothing where all sessions finished and no fault ended the run
-//! (clause `quiet`). Nothing is told only where a run can't begin, or for want of memory ([`OpeningFault`]). How often a turn comes,
-//! and that a datagram arrives, is no promise.
+//! before its time. These journals came of rounds of the one office (`ran`, `specs/Rounds.antt`), or of what the threads of each did
+//! (`courses`, `specs/Courses.antt`). What is said for people besides ([`Ran`]) is nothing where all sessions finished and no fault
+//! ended the run (clause `quiet`). Nothing is told only where a run can't begin, or for want of memory ([`OpeningFault`]). How often a
+//! turn comes, and that a datagram arrives, is no promise.
 #![tactic(auto)]
 
 mod address;
 mod around;
 mod client;
+mod closing;
+mod crew;
 mod fault;
 mod finished;
 mod gate;
@@ -30,6 +33,7 @@ pub mod run;
 mod shared;
 mod socket;
 mod station;
+mod task;
 mod threads;
 mod udp;
 mod watch;

@@ -1,32 +1,23 @@
 //! All offices of a plan, on threads.
 
-ghost use Rattle.std.specs.Prelude.{◌≡◌, ◌<◌, ◌+◌, ◌++◌, ◌∷◌, [], false, length, map, IfOk, IfSome, IfNone};
-ghost use Rattle.std.specs.List.{flat_map, range_with_len};
-ghost use Rattle.own_lock.specs.Passes.{IsOf};
-ghost use Rattle.locked_office.specs.Calls.{Stays};
-ghost use Rattle.run_reports.specs.Report.{outcome_line};
-ghost use Rattle.site_core.specs.Journals.{IsLegal, Site};
-ghost use Rattle.office_runs.specs.Runs.{IsQuiet, TellsOffices, TellsJournals, finished_of, key_of};
-ghost use Rattle.office_runs.specs.refinement.Opening.{opened_key};
-ghost use Rattle.office_runs.specs.refinement.Reports.{AddsJournal};
+ghost use Rattle.std.specs.Prelude.{◌≡◌, ◌<◌, ◌+◌, length, IfOk, IfSome, IfNone};
+ghost use Rattle.std.specs.List.{range_with_len};
+ghost use Rattle.office_runs.specs.Runs.{IsQuiet, TellsJournals};
+ghost use Rattle.office_runs.specs.Courses.{TellsCourses, offices_of};
 
 use crate::around::Around;
-use crate::fault::RunFault;
-use crate::finished::add_sessions;
+use crate::closing::tell_all;
+use crate::crew::{Crew, run_all};
 use crate::gate::Gate;
-use crate::opened::{Opened, open_shared};
+use crate::opened::open_shared;
 use crate::opening::OpeningFault;
-use crate::report::{Ran, Report, with_unfinished};
+use crate::report::Ran;
 use crate::shared::Shared;
 use crate::socket::{Binds, Socket, Wakes};
 use crate::threads::{Client, Worker};
 use crate::watch::Watch;
-use locked_office::laws::{a_desk_crosses_threads, threads_share_a_desk};
 use office_map::{OfficeId, Plan};
-use own_lock::Pass;
 use session_language::Program;
-use site_core::Office;
-use site_core::laws::an_office_crosses_threads;
 use socket_pump::Pump;
 use std::alloc::{AllocError, Global};
 use std::collections::VecDeque;
@@ -36,13 +27,6 @@ use std::sync::{Arc, Wait};
 use std::thread;
 use std::thread::{Scope, Threads};
 use std::time::Instant;
-
-/// Who works for an office.
-#[derive(Drop)]
-struct Crew<S: Socket, A: Wakes> {
-    worker: Worker<S>,
-    client: Client<A>,
-}
 
 /// Runs the sessions, each at its office: every office has a socket of this machine's own, a thread that turns it, and one that
 /// submits its sessions in their order. The run ends when all have finished, or every office has had its 100,000 turns.
@@ -68,93 +52,79 @@ where
     G: Gate + Sync,
     W: Watch + Sync,
     ensures tells { IfOk result (TellsJournals plan.now (range_with_len 0 (length plan.now.offices)) (length programs.now) journals) }
+    ensures courses { IfOk result (TellsCourses B.Socket.tells plan.now programs.now journals) }
     ensures quiet { IfOk result IsQuiet }
 {
-    let (offices, crews) = open_all(rt, alloc, plan, around.binds)?;
+    let crews = open_all(rt, alloc, plan, around.binds)?;
     let shared = Shared::new(programs.len() as u64);
-    start_all(rt, crews, programs, around.gate, around.watch, &shared);
-    let fault = shared.fault(rt);
-    let ran = told(rt, alloc, plan, offices, programs.len(), journals, fault)?;
+    let (gate, watch) = (around.gate, around.watch);
+    let ran = run_scoped(
+        rt, alloc, plan, crews, programs, journals, gate, watch, &shared,
+    )?;
     Ok(ran)
 }
 
-/// Starts two threads for each office, and waits until all have ended.
-fn start_all<'x, R, S, A, G, W>(
-    rt: &'x R,
+/// Runs the offices on threads of a scope of their own.
+fn run_scoped<R, S, A, G, W>(
+    rt: &R,
+    alloc: Global,
+    plan: &Plan,
     crews: Vec<Crew<S, A>>,
-    programs: &'x [Program],
-    gate: &'x G,
-    watch: &'x W,
-    shared: &'x Shared,
-)
+    programs: &[Program],
+    journals: bool,
+    gate: &G,
+    watch: &W,
+    shared: &Shared,
+) -> Result<Ran, AllocError>
 where
     R: Threads + Wait + Clock + Sync,
     S: Socket + Send,
     A: Wakes + Send,
     G: Gate + Sync,
     W: Watch + Sync,
+    ensures told { IfOk result (λ ran. crews.items ≡ offices_of plan.now → TellsCourses S.tells plan.now programs.now journals ran) }
+    ensures quiet { IfOk result IsQuiet }
 {
-    thread::scope(thread::scope_env(), rt, |scope| {
-        start_crews(scope, rt, crews, programs, gate, watch, shared)
-    });
+    thread::scope(
+        thread::scope_env(),
+        rt,
+        |scope| -> Result<Ran, AllocError>
+            ensures told { IfOk result (λ ran. crews.items ≡ offices_of plan.entry.now → TellsCourses S.tells plan.entry.now programs.entry.now journals ran) }
+            ensures quiet { IfOk result IsQuiet }
+        {
+            run_and_tell(
+                scope, rt, alloc, plan, crews, programs, journals, gate, watch, shared,
+            )
+        },
+    )
 }
 
-/// Starts the threads of one office after another, up to the first that can't be started: then the run is told to end.
-fn start_crews<'x, E, R, S, A, G, W>(
+/// Runs the offices, and tells what came of it when all their threads have ended.
+fn run_and_tell<'x, E, R, S, A, G, W>(
     scope: &Scope<'x, E>,
     rt: &'x R,
+    alloc: Global,
+    plan: &Plan,
     crews: Vec<Crew<S, A>>,
     programs: &'x [Program],
+    journals: bool,
     gate: &'x G,
     watch: &'x W,
     shared: &'x Shared,
-)
+) -> Result<Ran, AllocError>
 where
     R: Threads + Wait + Clock + Sync,
     S: Socket + Send + 'x,
     A: Wakes + Send + 'x,
     G: Gate + Sync,
     W: Watch + Sync,
+    ensures told { IfOk result (λ ran. crews.items ≡ offices_of plan.now → TellsCourses S.tells plan.now programs.now journals ran) }
+    ensures quiet { IfOk result IsQuiet }
 {
-    for crew in crews {
-        if !start_crew(scope, rt, crew, programs, gate, watch, shared) {
-            shared.fail(rt, RunFault::NoThread);
-            return;
-        }
-    }
+    let ended = run_all(scope, rt, alloc, crews, programs, gate, watch, shared)?;
+    let first = shared.fault(rt);
+    tell_all(rt, alloc, plan, ended, programs, journals, first)
 }
-
-/// Whether both threads of an office could be started.
-fn start_crew<'x, E, R, S, A, G, W>(
-    scope: &Scope<'x, E>,
-    rt: &'x R,
-    crew: Crew<S, A>,
-    programs: &'x [Program],
-    gate: &'x G,
-    watch: &'x W,
-    shared: &'x Shared,
-) -> bool
-where
-    R: Threads + Wait + Clock + Sync,
-    S: Socket + Send + 'x,
-    A: Wakes + Send + 'x,
-    G: Gate + Sync,
-    W: Watch + Sync,
-{
-    an_office_crosses_threads();
-    threads_share_a_desk();
-    a_desk_crosses_threads();
-    let Crew { worker, client } = crew;
-    let turns = move || worker.work(rt, gate, watch, shared);
-    if !gate.may_start() || scope.spawn(turns).is_err() {
-        return false;
-    }
-    let submits = move || client.submit(rt, programs, shared);
-    gate.may_start() && scope.spawn(submits).is_ok()
-}
-
-/// The offices, and who works for each.
-type AllOpened<S, A> = (VecDeque<Opened>, Vec<Crew<S, A>>);
 
 /// All offices of the plan, each with a socket that knows where the others' are.
 fn open_all<R: Clock, B: Binds>(
@@ -162,22 +132,20 @@ fn open_all<R: Clock, B: Binds>(
     alloc: Global,
     plan: &Plan,
     binds: &B,
-) -> Result<AllOpened<B::Socket, B::Alarm>, OpeningFault>
-    ensures keys { IfOk result (λ r. map opened_key r.0.items ≡ map (λ me. (plan.now, me)) (range_with_len 0 (length plan.now.offices))) }
+) -> Result<Vec<Crew<B::Socket, B::Alarm>>, OpeningFault>
+    ensures keys { IfOk result (λ r. r.items ≡ offices_of plan.now) }
 {
     let (mut sockets, places) = bind_all(alloc, binds, plan.offices())?;
-    let mut offices = VecDeque::new(alloc);
     let mut crews = Vec::new(alloc);
     for k in 0..plan.offices() {
         let Some((socket, alarm)) = first_socket(&mut sockets) else {
             unreachable!()
         };
         let me = OfficeId::new(k as u8);
-        let (office, crew) = open_one(rt, alloc, plan, me, socket, alarm, &places)?;
-        offices.push_back(office)?;
+        let crew = open_one(rt, alloc, plan, me, socket, alarm, &places)?;
         crews.push(crew)?;
     }
-    Ok((offices, crews))
+    Ok(crews)
 }
 
 /// Sockets with what wakes who waits at them, and where they are.
@@ -229,9 +197,9 @@ fn open_one<R: Clock, S: Socket, A: Wakes>(
     mut socket: S,
     alarm: A,
     places: &[SocketAddr],
-) -> Result<(Opened, Crew<S, A>), OpeningFault>
+) -> Result<Crew<S, A>, OpeningFault>
     requires { me < length plan.now.offices }
-    ensures key { IfOk result (λ r. opened_key r.0 ≡ (plan.now, me)) }
+    ensures key { IfOk result (λ crew. crew ≡ (plan.now, me)) }
 {
     for v in plan.neighbours(me) {
         if let Some(at) = places.get(v.index()) {
@@ -242,71 +210,24 @@ fn open_one<R: Clock, S: Socket, A: Wakes>(
         return Err(OpeningFault::NoClock);
     };
     let pump = Pump::open(alloc, plan, me)?;
-    let (office, turns, submits) = open_shared(alloc, plan, me)?;
-    let crew = Crew {
-        worker: Worker {
-            me,
-            desk: Arc::clone(&office.desk)?,
-            pass: turns,
-            pump,
-            socket,
-            start,
-        },
-        client: Client {
-            me,
-            desk: Arc::clone(&office.desk)?,
-            pass: submits,
-            alarm,
-        },
+    let (office, worker, client) = open_shared(alloc, plan, me)?;
+    let worker = Worker {
+        me,
+        desk: Arc::clone(&office.desk)?,
+        pass: worker,
+        pump,
+        socket,
+        start,
     };
-    Ok((office, crew))
-}
-
-/// What came of it.
-fn told<R: Wait>(
-    rt: &R,
-    alloc: Global,
-    plan: &Plan,
-    mut offices: VecDeque<Opened>,
-    sessions: usize,
-    journals: bool,
-    fault: Option<RunFault>,
-) -> Result<Ran, AllocError>
-    ensures tells { IfOk result (TellsOffices plan.now (map opened_key offices.items) sessions journals) }
-    ensures fault { IfOk result (λ r. r.fault ≡ fault) }
-    ensures quiet { IfOk result IsQuiet }
-{
-    let mut report = Report::new(alloc, journals);
-    let mut left = sessions;
-    while let Some(office) = first_office(&mut offices) {
-        let count = add_office(rt, plan, office, &mut report)?;
-        left = left.saturating_sub(count);
-    }
-    Ok(with_unfinished(report, left, fault)?)
-}
-
-fn first_office(offices: &mut VecDeque<Opened>) -> Option<Opened>
-    ensures some { IfSome result (λ o. offices.old.items ≡ o ∷ offices.new.items) }
-    ensures none { IfNone result (offices.old.items ≡ []) }
-{
-    offices.pop_front()
-}
-
-/// The sessions of an office that finished are told, and how many they are; and its journal, where it is wanted.
-fn add_office<R: Wait>(
-    rt: &R,
-    plan: &Plan,
-    office: Opened,
-    report: &mut Report,
-) -> Result<usize, AllocError>
-    ensures told { IfOk result (λ n. (s : Site) × (key_of s ≡ opened_key office) × IsLegal s × (n ≡ length (finished_of s))
-        × (report.new.lines ≡ report.old.lines ++ flat_map (outcome_line plan.now) (finished_of s)) × AddsJournal report.old.wanted s report.old.texts report.new.texts) }
-    ensures wanted { report.new.wanted ≡ report.old.wanted }
-{
-    let Opened {
-        desk,
-        mut own,
-        rest: _,
-    } = office;
-    add_sessions(rt, &desk, &mut own, plan, report)
+    let client = Client {
+        me,
+        desk: Arc::clone(&office.desk)?,
+        pass: client,
+        alarm,
+    };
+    Ok(Crew {
+        office,
+        worker,
+        client,
+    })
 }

@@ -165,7 +165,7 @@ impl Gate for NoThreadAt {
     }
 }
 
-/// Whichever thread can't be started, the run ends with that, and says what stands.
+/// Whichever thread can't be started, the run ends with that, and says what stands: the journals of all offices.
 #[test]
 fn a_thread_that_cannot_be_started_is_told(rt: HostRuntime) -> Result<(), Fail> {
     for refused in 0..6 {
@@ -173,13 +173,17 @@ fn a_thread_that_cannot_be_started_is_told(rt: HostRuntime) -> Result<(), Fail> 
             asked: AtomicU64::new(0),
             refused,
         };
-        let ran = live_in_memory(&rt, rt.alloc(), ROW, ROW_SESSIONS, false, u64::MAX, &gate)?;
-        assert_eq!(rt; ran.map(|ran| ran.fault), Ok(Some(RunFault::NoThread)));
+        let ran = live_in_memory(&rt, rt.alloc(), ROW, ROW_SESSIONS, true, u64::MAX, &gate)?;
+        assert_eq!(rt;
+            ran.map(|ran| (ran.fault, ran.journals.len())),
+            Ok((Some(RunFault::NoThread), 3)),
+            "thread {refused}"
+        );
     }
     Ok(())
 }
 
-/// Says no to the second office's first thread, once the first office's socket is gone.
+/// Says no to the second office's first thread, once who submits the first one's sessions has ended.
 #[derive(Drop)]
 struct NoThreadAfter<'a> {
     asked: AtomicU64,
@@ -206,12 +210,17 @@ impl<'a> Gate for NoThreadAfter<'a> {
     }
 }
 
-/// Of two faults the one that came first is told: here a socket fails, and its thread is over before another can't be started.
+/// Of two faults the one that came first is told: here a socket fails, and then a thread can't be started. The office has more
+/// sessions than it takes where nobody turns it, so who submits them ends only when the first fault is known.
 #[test]
 fn the_first_fault_is_told(rt: HostRuntime) -> Result<(), Fail> {
     let alloc = rt.alloc();
     let plan = plan(alloc, ROW)?;
-    let programs = programs(alloc, &plan, ROW_SESSIONS)?;
+    let mut text = String::new(alloc);
+    for _ in 0..65 {
+        text.push_str(GIVE)?;
+    }
+    let programs = programs(alloc, &plan, text.as_str())?;
     let boxes = Mailbox::some(alloc)?;
     let binds = MemorySockets::new(&rt, alloc, &boxes, u64::MAX, 0);
     let gate = NoThreadAfter {

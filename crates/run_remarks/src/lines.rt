@@ -53,7 +53,10 @@ fn add_records(
             text.push_str("; and for ")?;
         }
         is_first = false;
-        add_from(text, plan, v, silence_of(ways, v), shared.as_slice())?;
+        add_from(text, plan, v, shared.as_slice())?;
+        if let Some(way) = ways.iter().find(|way| way.to == v) {
+            add_silence(text, way.silent)?;
+        }
     }
     Ok(())
 }
@@ -74,12 +77,11 @@ fn shared_with(
     Ok(shared)
 }
 
-/// These records, whom they come from, and for how long that one was silent.
+/// These records, and whom they come from.
 fn add_from(
     text: &mut String,
     plan: &Plan,
     v: OfficeId,
-    silent: Option<u64>,
     records: &[RecordId],
 ) -> Result<(), AllocError> {
     for i in 0..records.len() {
@@ -90,22 +92,17 @@ fn add_from(
         text.push_str(record_name(plan, records[i]))?;
     }
     let neighbour = office_name(plan, v);
-    write!(text, " from {neighbour}, ")?;
-    add_silence(text, silent)
+    write!(text, " from {neighbour}")
 }
 
-fn silence_of(ways: &[Way], v: OfficeId) -> Option<u64> {
-    ways.iter().find(|way| way.to == v)?.silent
-}
-
-/// For how long it was silent.
+/// For how long that one was silent.
 fn add_silence(text: &mut String, silent: Option<u64>) -> Result<(), AllocError> {
     let Some(milliseconds) = silent else {
-        return text.push_str("which was never heard");
+        return text.push_str(", which was never heard");
     };
     match milliseconds / 1000 {
-        0 => text.push_str("which was heard less than a second ago"),
-        1 => text.push_str("silent for 1 second"),
-        seconds => write!(text, "silent for {seconds} seconds"),
+        0 => text.push_str(", which was heard less than a second ago"),
+        1 => text.push_str(", silent for 1 second"),
+        seconds => write!(text, ", silent for {seconds} seconds"),
     }
 }

@@ -16,7 +16,8 @@ use std::sync::{Mutex, Wait};
 use std::thread::{sleep, yield_now};
 use std::time::Duration;
 
-/// The datagrams that came to a socket and weren't received, how long it was to wait, in milliseconds, and whether it is gone.
+/// The datagrams that came to a socket and weren't received, how long it was to wait, in milliseconds, and whether its alarm is
+/// gone.
 #[derive(Drop)]
 pub(crate) struct Mailbox {
     came: Mutex<VecDeque<Datagram>>,
@@ -137,15 +138,14 @@ pub(crate) struct MemorySocket<'a, R: Wait + Clock> {
     comes: Comes,
     lost: u8,
     contacts: [Contact; 16],
-    end: End<'a>,
 }
 
-/// Says at its mailbox that a socket is gone.
-struct End<'a> {
+/// Nobody sleeps at a socket in memory. It says at the mailbox when it is gone, and who submits the office's sessions with it.
+pub(crate) struct Alarm<'a> {
     mailbox: Option<&'a Mailbox>,
 }
 
-impl<'a> Drop for End<'a> {
+impl<'a> Drop for Alarm<'a> {
     fn drop(self) {
         let Self { mailbox } = self;
         if let Some(mailbox) = mailbox {
@@ -154,20 +154,16 @@ impl<'a> Drop for End<'a> {
     }
 }
 
-/// Nobody sleeps at a socket in memory.
-#[derive(Clone, Copy, Drop)]
-pub(crate) struct NoAlarm;
-
-impl Wakes for NoAlarm {
+impl<'a> Wakes for Alarm<'a> {
     fn wake(&self) {}
 }
 
 impl<'a, R: Wait + Clock> Binds for MemorySockets<'a, R> {
     type Socket = MemorySocket<'a, R>;
 
-    type Alarm = NoAlarm;
+    type Alarm = Alarm<'a>;
 
-    fn bind(&self, at: SocketAddr) -> io::Result<(MemorySocket<'a, R>, NoAlarm)> {
+    fn bind(&self, at: SocketAddr) -> io::Result<(MemorySocket<'a, R>, Alarm<'a>)> {
         if !at.ip().is_loopback() {
             return Err(io::Error::from(io::ErrorKind::AddrNotAvailable));
         }
@@ -192,11 +188,11 @@ impl<'a, R: Wait + Clock> Binds for MemorySockets<'a, R> {
             comes: self.comes,
             lost: self.lost,
             contacts: [Contact::none(); 16],
-            end: End {
-                mailbox: self.boxes.get(own),
-            },
         };
-        Ok((socket, NoAlarm))
+        let alarm = Alarm {
+            mailbox: self.boxes.get(own),
+        };
+        Ok((socket, alarm))
     }
 }
 

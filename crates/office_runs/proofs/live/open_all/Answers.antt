@@ -1,9 +1,7 @@
-use Rattle.std.proofs.Common.{◌≡◌, ℕ, ◌+◌, [], ◌∷◌, length, map, ap, ◌∙◌, arith}
+use Rattle.std.proofs.Common.{◌≡◌, ℕ, ◌+◌, length, map, ap, ◌∙◌, arith}
 use Rattle.std.specs.List.{range_with_len}
-use Rattle.std.proofs.lemmas.List.{map-append}
 use Rattle.bottle_values.proofs.Lists.{mapped_more}
 use Rattle.locked_office.specs.Calls.{Key}
-use Rattle.office_runs.specs.refinement.Opening.{opened_key}
 use Rattle.office_runs.proofs.live.open_all.Goals as goal
 
 pub loop-k-preserved : goal.loop-k-preserved
@@ -13,8 +11,7 @@ loop-k-preserved g c =
     let of : ℕ → Key = λ me. (c.args.plan.now, me) in
     record {
       left = omega (arith, fewer, left);
-      keys = mapped_more of c.loop-k.k c.new-me.result (map opened_key c.loop-k.offices.items) (map opened_key c.push_back.new.self.items) (opened_key c.in_ok-office.office) c.new-me.ensures c.loop-k.invariant.keys c.in_ok-office.ensures.key
-          (ap (map opened_key) c.in_ok-push_back.ensures.items ∙ map-append opened_key c.loop-k.offices.items (c.in_ok-office.office ∷ []));
+      keys = mapped_more of c.loop-k.k c.new-me.result c.loop-k.crews.items c.push.new.self.items c.in_ok-crew.crew c.new-me.ensures c.loop-k.invariant.keys c.in_ok-crew.ensures.key c.in_ok-push.ensures.items;
     }
 
 pub returns : goal.returns
