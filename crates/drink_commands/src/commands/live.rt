@@ -70,18 +70,17 @@ where
         alloc, sources, targets, plan_word, sessions, &plan, journals,
     )?;
     let ran = live(rt, alloc, &plan, &programs, journals.is_some(), around)?;
-    let answer = write_ran(alloc, out, targets, journals, &plan, &ran);
-    around.watch.end(&ran.remarks);
-    answer
+    write_ran(alloc, out, targets, journals, around.watch, &plan, &ran)
 }
 
-/// What came of a run is written, and the journals that it leaves; then, where it was cut short, why is the answer. Otherwise it is the
-/// exit status.
-fn write_ran<T: Targets, W: Write>(
+/// What came of a run is written, and the journals that it leaves, and the watch is told what was left; then, where it was cut short,
+/// why is the answer. Otherwise it is the exit status.
+fn write_ran<T: Targets, W: Write, V: Watch>(
     alloc: Global,
     out: &mut W,
     targets: &mut T,
     journals: Option<&str>,
+    watch: &V,
     plan: &Plan,
     ran: &Ran,
 ) -> Result<u8, Fault>
@@ -93,5 +92,6 @@ fn write_ran<T: Targets, W: Write>(
 {
     write_whole(out, &ran.text)?;
     write_texts(alloc, targets, journals, plan, &ran.journals)?;
+    watch.end(&ran.remarks);
     ended(ran)
 }

@@ -78,18 +78,17 @@ where
         journal.is_some(),
         around,
     )?;
-    let answer = write_ran(alloc, out, targets, journal, &ran);
-    around.watch.end(&ran.remarks);
-    answer
+    write_ran(alloc, out, targets, journal, around.watch, &ran)
 }
 
-/// What came of a run is written, and the journal that it leaves; then, where it was cut short, why is the answer. Otherwise it is the
-/// exit status.
-fn write_ran<T: Targets, W: Write>(
+/// What came of a run is written, and the journal that it leaves, and the watch is told what was left; then, where it was cut short,
+/// why is the answer. Otherwise it is the exit status.
+fn write_ran<T: Targets, W: Write, V: Watch>(
     alloc: Global,
     out: &mut W,
     targets: &mut T,
     journal: Option<&str>,
+    watch: &V,
     ran: &Ran,
 ) -> Result<u8, Fault>
     ensures done { IfOk result (λ status. EndsWith status ran.now × Appends (W.contents out.old) (W.contents out.new) (string_bytes ran.now.text)
@@ -99,6 +98,7 @@ fn write_ran<T: Targets, W: Write>(
 {
     write_whole(out, &ran.text)?;
     write_each(alloc, targets, journal, &ran.journals)?;
+    watch.end(&ran.remarks);
     ended(ran)
 }
 
