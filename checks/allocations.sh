@@ -109,7 +109,7 @@ did_nothing() {
 
 # Whether a run was cut short, told what stands, and wrote down what was done.
 was_cut_short() {
-    [ "${1-}" = run ] && [ "$status" -eq 1 ] && cmp -s "$work/err" "$work/cut" && stands || return 1
+    [ "${1-}" = run ] && [ "$status" -eq 1 ] && tail -n 1 "$work/err" | cmp -s - "$work/cut" && says_what_is_left && stands || return 1
     for file in "$work/left"/*; do
         [ ! -e "$file" ] || head -n "$(wc -l < "$file")" "$work/left.wanted/${file##*/}" | cmp -s - "$file" || return 1
     done
@@ -134,6 +134,11 @@ has_all_files() {
 # Whether this line, and no other, went to the standard error.
 says() {
     [ "$(wc -l < "$work/err")" -eq 1 ] && grep -qx "$1" "$work/err"
+}
+
+# Whether nothing but what a run left went to the standard error before its last line.
+says_what_is_left() {
+    ! sed '$d' "$work/err" | grep -qv '^drink: desk1[. ]'
 }
 
 # Whether what was written is what stands of a run: some of its sessions, and how many are left.

@@ -66,9 +66,6 @@ def runs(check):
     check.files({"many.txt": fetches * 13})
     waits = "".join(rf"drink: b\.{it} waits for b\.{it - 1}\n" for it in range(2, 11))
     check.wants("run: more sessions than are named", check.run("run ports.txt b many.txt --turns 5"), 1, b"unfinished 13\n", rf"\Adrink: b\.1 waits for x from a, which was never heard\n{waits}drink: and 3 more sessions are left\n{unheard}\Z")
-    check.files({"ports.txt": plan.replace(b"a %s:%d" % (HOST.encode(), one), b"a %s:0" % HOST.encode())})
-    check.wants("run: a neighbour that can't be reached", check.run("run ports.txt b fetches.txt --turns 5"), 1, left, r"\Adrink: b\.1 [^\n]*\ndrink: b never reached a at 127\.0\.0\.1:0: [^\n]*Invalid argument[^\n]*\n\Z")
-    check.files({"ports.txt": plan})
     for words in ("run ports.txt a own.txt --turns 5", "live plan.txt own.txt"):
         check.wants(f"{words} > /dev/full", check.shell(f"./drink {words} > /dev/full"), 1, b"", r"\Adrink: X5 WriteFailed: [^\n]*\n\Z")
         check.wants(f"{words} 2>&-", check.shell(f"./drink {words} 2>&-"), 0, answer, b"")
