@@ -1,8 +1,10 @@
 //! A store in a file of the operating system.
 
-ghost use Rattle.std.specs.Prelude.{◌≡◌, None, false, OnOk};
+ghost use Rattle.std.specs.Prelude.{◌≡◌, None, Some, true, false, OnOk, OnErr};
 ghost use Rattle.std.specs.Io.KnownBytes.{Appends};
+ghost use Rattle.journal_stores.specs.Stores.{Stands, Keeps, IsFound, Finds};
 
+use crate::record::Record;
 use crate::store::{Store, StoreFailed};
 use std::fs::{File, OpenFile, TryLockError};
 use std::io;
@@ -21,58 +23,89 @@ impl StoreFile for File {
     }
 }
 
-/// A file that this handle holds, and to which bytes are appended and synced. What it has isn't known. Contracts see whether an
-/// append failed.
+/// What an append to a file waits for, and so which losses the appended bytes outlast.
+#[derive(Clone, Copy, Debug, PartialEq, Eq)]
+pub enum Sync {
+    /// The disk has the bytes: they are found after a loss of the process, and of the machine.
+    Data,
+    /// The system has the bytes: they are found after a loss of the process. After one of the machine some or all of what was
+    /// appended since the store was opened may be missing.
+    Nothing,
+}
+
+/// A file that this handle holds, and to which bytes are appended and synced. Contracts see what was kept of it and each append
+/// that was answered by an `Ok` since, in order; what was written to the file, where its type tells; and whether an append failed.
+/// What a start finds there isn't known.
 #[derive(Drop)]
 pub struct FileStore<F: StoreFile> {
     file: F,
+    sync: Sync,
+    stood: Record,
     has_failed: bool,
 }
 
 impl<F: StoreFile> Model for FileStore<F> {
-    ghost use Rattle.std.specs.Prelude.{Bool};
+    ghost use Rattle.journal_stores.specs.Stores.{Filed};
 
-    ghost Value = { Bool };
+    ghost Value = { Filed };
 
-    ghost view = { λ s. s.has_failed };
+    ghost view = { λ s. record { stood = s.stood.bytes; written = F.contents s.file; failed = s.has_failed } };
 }
 
 impl<F: StoreFile> FileStore<F> {
-    // A store in that file, which is held and synced.
-    pub(crate) fn over(file: F) -> FileStore<F>
-        ensures { result ≡ false }
+    // A store in that file, which is held and synced, and has these bytes.
+    pub(crate) fn over(file: F, sync: Sync, bytes: &[u8]) -> FileStore<F>
+        ensures stood { result.stood ≡ bytes.now }
+        ensures usable { result.failed ≡ false }
     {
+        let mut stood = Record::new();
+        stood.add(bytes);
         FileStore {
             file,
+            sync,
+            stood,
             has_failed: false,
         }
     }
 }
 
 impl<F: StoreFile> Store for FileStore<F> {
-    ghost stood = { λ _. None };
+    ghost stood = { λ s. Some s.stood };
 
     ghost found = { λ _. None };
 
-    ghost failed = { λ s. s };
+    ghost failed = { λ s. s.failed };
 
     fn has_failed(&self) -> bool {
         self.has_failed
     }
 
-    fn append(&mut self, bytes: &[u8]) -> Result<(), StoreFailed> {
-        let Ok(()) = write_and_sync(&mut self.file, bytes) else {
+    fn append(&mut self, bytes: &[u8]) -> Result<(), StoreFailed>
+        requires { self.old.failed ≡ false }
+        ensures stands { OnOk result (Stands (Some self.old.stood) bytes.now (Some self.new.stood)) }
+        ensures keeps { OnErr result (Keeps (Some self.old.stood) (Some self.new.stood)) }
+        ensures written { OnOk result (Appends self.old.written self.new.written bytes.now) }
+        ensures whole { OnOk result (IsFound (Some self.new.stood) None) }
+        ensures finds { OnErr result (Finds (Some self.old.stood) bytes.now None) }
+        ensures usable { OnOk result (self.new.failed ≡ false) }
+        ensures broken { OnErr result (self.new.failed ≡ true) }
+    {
+        let Ok(()) = write_and_sync(&mut self.file, bytes, self.sync) else {
             self.has_failed = true;
             return Err(StoreFailed);
         };
+        self.stood.add(bytes);
         Ok(())
     }
 }
 
-// All of the bytes are written, and then synced.
-fn write_and_sync<F: Write + OpenFile>(file: &mut F, bytes: &[u8]) -> io::Result<()>
+// All of the bytes are written, and then synced where that is asked for.
+fn write_and_sync<F: Write + OpenFile>(file: &mut F, bytes: &[u8], sync: Sync) -> io::Result<()>
     ensures whole { OnOk result (Appends (F.contents file.old) (F.contents file.new) bytes.now) }
 {
     file.write_all(bytes)?;
-    file.sync_data()
+    match sync {
+        Sync::Data => file.sync_data(),
+        Sync::Nothing => Ok(()),
+    }
 }

@@ -1,10 +1,11 @@
 //! How a store in a file is made, and how it is found again.
 
-ghost use Rattle.std.specs.Prelude.{◌≡◌, ◌≤◌, length, false, IfOk};
+ghost use Rattle.std.specs.Prelude.{◌≡◌, ◌≤◌, [], length, take, false, IfOk, IfSome};
 
-use crate::file::{FileStore, StoreFile};
+use crate::file::{FileStore, StoreFile, Sync};
 use std::alloc::Global;
 use std::fs::{OpenOptions, TryLockError};
+use std::io::Read;
 use std::marker::Model;
 use std::path::Path;
 use std::rt::Files;
@@ -36,12 +37,17 @@ impl<F: StoreFile> FileStore<F> {
     ///
     /// # Errors
     /// `InUse`, or what the system answers. Then a file may be there, with nothing in it.
-    pub fn create<R: Files<File = F>>(files: &R, name: &str) -> Result<FileStore<F>, OpenFault>
-        ensures { IfOk result (λ s. s ≡ false) }
+    pub fn create<R: Files<File = F>>(
+        files: &R,
+        name: &str,
+        sync: Sync,
+    ) -> Result<FileStore<F>, OpenFault>
+        ensures stood { IfOk result (λ s. s.stood ≡ []) }
+        ensures usable { IfOk result (λ s. s.failed ≡ false) }
     {
         let mut how = OpenOptions::new();
         how.read(true).append(true).create_new(true);
-        Ok(FileStore::over(hold(files, &how, name)?))
+        Ok(FileStore::over(hold(files, &how, name)?, sync, &[]))
     }
 }
 
@@ -73,8 +79,7 @@ impl<F: StoreFile> FoundStore<F> {
         let mut how = OpenOptions::new();
         how.read(true).append(true);
         let mut file = hold(files, &how, name)?;
-        let mut bytes = Vec::new(alloc);
-        file.read_to_end(&mut bytes)?;
+        let bytes = read_whole(&mut file, alloc)?;
         Ok(FoundStore { file, bytes })
     }
 
@@ -89,16 +94,26 @@ impl<F: StoreFile> FoundStore<F> {
     ///
     /// # Errors
     /// What the system answers.
-    pub fn go_on(self, kept: usize) -> io::Result<FileStore<F>>
+    pub fn go_on(self, kept: usize, sync: Sync) -> io::Result<FileStore<F>>
         requires { kept ≤ length self }
-        ensures { IfOk result (λ s. s ≡ false) }
+        ensures stood { IfOk result (λ s. s.stood ≡ take kept self) }
+        ensures usable { IfOk result (λ s. s.failed ≡ false) }
     {
         if kept < self.bytes.len() {
             self.file.set_len(kept as u64)?;
             self.file.sync_all()?;
         }
-        Ok(FileStore::over(self.file))
+        Ok(FileStore::over(self.file, sync, &self.bytes[..kept]))
     }
+}
+
+// All that the file has.
+fn read_whole<F: Read>(file: &mut F, alloc: Global) -> io::Result<Vec<u8>>
+    ensures { IfOk result (λ bytes. IfSome (F.remaining file.old) (λ all. bytes.items ≡ all)) }
+{
+    let mut bytes = Vec::new(alloc);
+    file.read_to_end(&mut bytes)?;
+    Ok(bytes)
 }
 
 // The file of that name is held; what it has, and its name in its folder, stands.

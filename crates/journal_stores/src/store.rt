@@ -1,7 +1,7 @@
 //! A store of bytes.
 
 ghost use Rattle.std.specs.Prelude.{◌≡◌, ℕ, List, Option, OnOk, OnErr, true, false, Bool};
-ghost use Rattle.journal_stores.specs.Stores.{Stands, Keeps, Finds};
+ghost use Rattle.journal_stores.specs.Stores.{Stands, Keeps, IsFound, Finds};
 
 use thiserror::Error;
 
@@ -33,7 +33,7 @@ pub trait Store {
         requires { failed self.old ≡ false }
         ensures stands { OnOk result (Stands (stood self.old) bytes.now (stood self.new)) }
         ensures keeps { OnErr result (Keeps (stood self.old) (stood self.new)) }
-        ensures whole { OnOk result (found self.new ≡ stood self.new) }
+        ensures whole { OnOk result (IsFound (stood self.new) (found self.new)) }
         ensures finds { OnErr result (Finds (stood self.old) bytes.now (found self.new)) }
         ensures usable { OnOk result (failed self.new ≡ false) }
         ensures broken { OnErr result (failed self.new ≡ true) };

@@ -4,7 +4,7 @@
 
 ghost use Rattle.std.specs.Prelude.{◌≤◌, length};
 
-use journal_stores::{FileStore, FoundStore, OpenFault, Store, StoreFailed};
+use journal_stores::{FileStore, FoundStore, OpenFault, Store, StoreFailed, Sync};
 use std::fs::File;
 use std::io;
 use std::process::ExitCode;
@@ -42,7 +42,7 @@ fn run(rt: &HostRuntime) -> Result<(), Fault> {
     }
     let name = words[2].as_str();
     match words[1].as_str() {
-        "create" => append_lines(rt, FileStore::<File>::create(rt, name)?, 0),
+        "create" => append_lines(rt, FileStore::<File>::create(rt, name, Sync::Data)?, 0),
         "go_on" => go_on(rt, name),
         _ => Err(Fault::Usage),
     }
@@ -53,7 +53,7 @@ fn go_on(rt: &HostRuntime, name: &str) -> Result<(), Fault> {
     let count = found.bytes().len();
     let kept = whole_lines(found.bytes());
     println!(rt; "found {count}")?;
-    append_lines(rt, found.go_on(kept)?, kept)
+    append_lines(rt, found.go_on(kept, Sync::Data)?, kept)
 }
 
 /// How many of the bytes are whole lines.

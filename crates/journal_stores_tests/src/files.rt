@@ -1,5 +1,5 @@
 use crate::noted::{NotedFile, NotedFiles, Notes};
-use journal_stores::{FileStore, FoundStore, OpenFault, Store};
+use journal_stores::{FileStore, FoundStore, OpenFault, Store, Sync};
 use std::alloc::Global;
 use std::fs::File;
 use std::io::ErrorKind;
@@ -28,8 +28,8 @@ fn is_in_use<T: Drop>(answer: Result<T, OpenFault>) -> bool {
 fn goes_on<R: AllocGlobal + Files<File = File> + Abort>(rt: &R, name: &str) -> Result<(), Fail> {
     let none = kind_of(FoundStore::<File>::open(rt, rt.alloc(), name));
     assert_eq!(rt; none, Some(ErrorKind::NotFound));
-    let mut store = FileStore::<File>::create(rt, name)?;
-    let twice = kind_of(FileStore::<File>::create(rt, name));
+    let mut store = FileStore::<File>::create(rt, name, Sync::Data)?;
+    let twice = kind_of(FileStore::<File>::create(rt, name, Sync::Data));
     assert_eq!(rt; twice, Some(ErrorKind::AlreadyExists));
     assert!(rt; is_in_use(FoundStore::<File>::open(rt, rt.alloc(), name)));
     store.append(b"one\n")?;
@@ -38,7 +38,7 @@ fn goes_on<R: AllocGlobal + Files<File = File> + Abort>(rt: &R, name: &str) -> R
     let found = FoundStore::<File>::open(rt, rt.alloc(), name)?;
     assert_eq!(rt; found.bytes(), b"one\ntwo\nthr".as_slice());
     assert!(rt; is_in_use(FoundStore::<File>::open(rt, rt.alloc(), name)));
-    let mut store = found.go_on(8)?;
+    let mut store = found.go_on(8, Sync::Nothing)?;
     store.append(b"four\n")?;
     assert!(rt; !store.has_failed());
     drop(store);
@@ -57,12 +57,36 @@ fn a_file_goes_on(rt: HostRuntime) -> Result<(), Fail> {
     Ok(())
 }
 
-/// What a store that is made asks for, and then what each of two appends asks for.
-static MADE: &str = "open hold sync folder sync write sync_data write sync_data ";
+/// A store that is made, or found with ten bytes of which eight are kept: what it asks for, and then what each of two appends
+/// asks for.
+struct Calls {
+    is_found: bool,
+    sync: Sync,
+    wanted: &'static str,
+}
 
-/// The same of one that is found with ten bytes, of which eight are kept.
-static FOUND: &str =
-    "open hold sync folder sync read read cut sync write sync_data write sync_data ";
+static CALLS: [Calls; 4] = [
+    Calls {
+        is_found: false,
+        sync: Sync::Data,
+        wanted: "open hold sync folder sync write sync_data write sync_data ",
+    },
+    Calls {
+        is_found: false,
+        sync: Sync::Nothing,
+        wanted: "open hold sync folder sync write write ",
+    },
+    Calls {
+        is_found: true,
+        sync: Sync::Data,
+        wanted: "open hold sync folder sync read read cut sync write sync_data write sync_data ",
+    },
+    Calls {
+        is_found: true,
+        sync: Sync::Nothing,
+        wanted: "open hold sync folder sync read read cut sync write write ",
+    },
+];
 
 fn append_two(mut store: FileStore<NotedFile<'_>>) -> Result<(), OpenFault> {
     for part in [b"one\n".as_slice(), b"two\n"] {
@@ -73,37 +97,51 @@ fn append_two(mut store: FileStore<NotedFile<'_>>) -> Result<(), OpenFault> {
     Ok(())
 }
 
-fn make(files: &NotedFiles<'_>) -> Result<(), OpenFault> {
-    append_two(FileStore::create(files, "store")?)
+fn make(files: &NotedFiles<'_>, sync: Sync) -> Result<(), OpenFault> {
+    append_two(FileStore::create(files, "store", sync)?)
 }
 
-fn find(files: &NotedFiles<'_>, alloc: Global) -> Result<(), OpenFault> {
+fn find(files: &NotedFiles<'_>, alloc: Global, sync: Sync) -> Result<(), OpenFault> {
     let found = FoundStore::open(files, alloc, "store")?;
     let kept = found.bytes().len().min(8);
-    append_two(found.go_on(kept)?)
+    append_two(found.go_on(kept, sync)?)
 }
 
-/// Where a call fails, none comes after it.
+/// The call with that number fails, and none comes after it.
+fn stops_at<R: AllocGlobal + Abort>(
+    rt: &R,
+    calls: &Calls,
+    fails: usize,
+    count: usize,
+) -> Result<(), Fail> {
+    let notes = Notes::new(String::new(rt.alloc()), fails);
+    let files = NotedFiles {
+        notes: &notes,
+        bytes: b"one\ntwo\nth",
+    };
+    let went = if calls.is_found {
+        find(&files, rt.alloc(), calls.sync)
+    } else {
+        make(&files, calls.sync)
+    };
+    assert_eq!(rt; went.is_ok(), fails == count);
+    let Ok(words) = notes.words.try_borrow() else {
+        return Err(Fail::from("the notes are in use"));
+    };
+    assert!(rt; calls.wanted.starts_with(words.as_str()));
+    assert_eq!(rt;
+        words.as_str().split(' ').count(),
+        count.min(fails.saturating_add(1)).saturating_add(1)
+    );
+    Ok(())
+}
+
 #[test]
 fn each_call_comes_in_its_order(rt: HostRuntime) -> Result<(), Fail> {
-    for (is_found, wanted, count) in [(false, MADE, 9), (true, FOUND, 13)] {
-        for fails in 0..count + 1 {
-            let notes = Notes::new(String::new(rt.alloc()), fails);
-            let files = NotedFiles {
-                notes: &notes,
-                bytes: b"one\ntwo\nth",
-            };
-            let went = if is_found {
-                find(&files, rt.alloc())
-            } else {
-                make(&files)
-            };
-            assert_eq!(rt; went.is_ok(), fails == count);
-            let Ok(words) = notes.words.try_borrow() else {
-                return Err(Fail::from("the notes are in use"));
-            };
-            assert!(rt; wanted.starts_with(words.as_str()));
-            assert_eq!(rt; words.as_str().split(' ').count(), count.min(fails + 1) + 1);
+    for calls in &CALLS {
+        let count = calls.wanted.split(' ').count().saturating_sub(1);
+        for fails in 0..=count {
+            stops_at(&rt, calls, fails, count)?;
         }
     }
     Ok(())
