@@ -15,7 +15,7 @@ ghost use Rattle.journal_texts.specs.refinement.WrittenValues.{HasText, FrameRea
 use crate::laws::written_is_read;
 use frame_codec::Frame;
 use office_map::{OfficeId, Plan};
-use run_words::digits::{digits, frame_digits};
+use run_words::digits::{add_frame_digits, digits};
 use run_words::replies::add_reply;
 use run_words::rules::add_rule;
 use run_words::words::office_name;
@@ -45,7 +45,7 @@ pub fn text(
 }
 
 /// The lines of an office's entries from that place on, from 0, are added: a text of the entries before them becomes the text
-/// of the journal.
+/// of the journal. But for sessions they take no memory but the text's.
 pub fn add_lines(
     alloc: Global,
     text: &mut String,
@@ -87,7 +87,7 @@ fn add_entry(alloc: Global, text: &mut String, plan: &Plan, entry: &Entry) -> Re
     write!(text, "{tag} ")?;
     add_event(alloc, text, plan, &entry.event)?;
     text.push_str(" = ")?;
-    add_reply(alloc, text, None, &entry.reply)?;
+    add_reply(text, None, &entry.reply)?;
     text.push_str("\n")?;
     Ok(())
 }
@@ -104,7 +104,7 @@ fn add_event(alloc: Global, text: &mut String, plan: &Plan, event: &Event) -> Re
             add_rule(text, plan, *rule)
         }
         Event::Send(v, i) => add_send(text, plan, *v, *i),
-        Event::Took(frame) => add_frame(alloc, text, "took ", frame),
+        Event::Took(frame) => add_frame(text, "took ", frame),
         Event::Withdraw(ticket) => add_ticket(text, "withdraw ", *ticket),
     }
 }
@@ -134,13 +134,12 @@ fn add_send(text: &mut String, plan: &Plan, v: OfficeId, i: usize) -> Result<(),
 }
 
 /// A frame's bytes as digits, after a word.
-fn add_frame(alloc: Global, text: &mut String, word: &str, frame: &Frame) -> Result<(), AllocError>
+fn add_frame(text: &mut String, word: &str, frame: &Frame) -> Result<(), AllocError>
     ensures words { OnOk result (string_bytes text.new ≡ string_bytes text.old ++ (word.now ++ frame_digits frame.now)) }
     ensures reads_back { OnOk result (FrameReadsBack frame.now) }
 {
-    let digits = frame_digits(alloc, frame)?;
     text.push_str(word)?;
-    text.push_str(digits.as_str())
+    add_frame_digits(text, frame)
 }
 
 /// A ticket, after a word.

@@ -1,6 +1,6 @@
 //! Bytes as digits.
 
-ghost use Rattle.std.specs.Prelude.{◌≡◌, ◌*◌, ◌≤◌, ◌<◌, length, Some, IfOk, option_map};
+ghost use Rattle.std.specs.Prelude.{◌≡◌, ◌*◌, ◌≤◌, ◌<◌, ◌++◌, length, Some, IfOk, OnOk, option_map};
 ghost use Rattle.std.specs.List.{list_all};
 ghost use Rattle.std.specs.String.{string_bytes};
 ghost use Rattle.hex.specs.Hex.{is_hex_digit};
@@ -41,14 +41,31 @@ pub fn bytes(alloc: Global, word: &[u8]) -> Result<Option<Vec<u8>>, AllocError>
     }
 }
 
-/// A frame's bytes as digits.
-pub fn frame_digits(alloc: Global, frame: &Frame) -> Result<String, AllocError>
-    ensures digits { IfOk result (λ text. string_bytes text ≡ frame_digits frame.now) }
-    ensures reads_back { IfOk result (λ text. IsFrameWord (string_bytes text) (said.Spelled frame.now)) }
+/// A frame's bytes are added as digits. Takes no memory but the text's.
+pub fn add_frame_digits(text: &mut String, frame: &Frame) -> Result<(), AllocError>
+    ensures digits { OnOk result (string_bytes text.new ≡ string_bytes text.old ++ frame_digits frame.now) }
+    ensures reads_back { IsFrameWord (frame_digits frame.now) (said.Spelled frame.now) }
 {
     let mut bytes = [0; MAX_LENGTH];
     let length = encode(frame, &mut bytes);
-    digits(alloc, &bytes[..length])
+    add_digits(text, &bytes[..length])
+}
+
+/// Bytes are added as digits, no more of them than a frame can have.
+fn add_digits(text: &mut String, bytes: &[u8]) -> Result<(), AllocError>
+    requires { length bytes.now ≤ MAX_LENGTH }
+    ensures digits { OnOk result (string_bytes text.new ≡ string_bytes text.old ++ digits_of bytes.now) }
+    ensures reads_back { bytes_in (digits_of bytes.now) ≡ Some bytes.now }
+{
+    let mut room = [0; 2 * MAX_LENGTH];
+    let digits = &mut room[..2 * bytes.len()];
+    let Ok(()) = hex::encode_to_slice(bytes, digits) else {
+        unreachable!()
+    };
+    match str::from_utf8(digits) {
+        Ok(digits) => text.push_str(digits),
+        Err(_) => unreachable!(),
+    }
 }
 
 /// What a word says where a frame stands. Takes no memory.

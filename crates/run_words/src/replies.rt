@@ -3,30 +3,27 @@
 ghost use Rattle.std.specs.Prelude.{◌≡◌, ◌<◌, ◌^◌, ◌++◌, OnOk, Some, None};
 ghost use Rattle.std.specs.String.{string_bytes};
 ghost use Rattle.site_core.specs.declared.reply.Reply.TheVariants as replies;
+ghost use Rattle.run_words.specs.Digits.{frame_digits, IsFrameWord};
+ghost use Rattle.run_words.specs.declared.digits.FrameWord.TheVariants as said;
 ghost use Rattle.run_words.specs.Words.{line_of_words};
 ghost use Rattle.run_words.specs.Replies.{frame_words, reply_words, arrival_named, ReplyReadsBack};
 
-use crate::digits::frame_digits;
+use crate::digits::add_frame_digits;
 use crate::words::is;
 use frame_codec::Frame;
 use site_core::Reply;
-use std::alloc::{AllocError, Global};
+use std::alloc::AllocError;
 
 /// A reply's words are added, with a space between. A frame is told by its digits, and before them by its number among those
 /// that were sent, where one is given. Where memory runs out, a part of them may be added.
-pub fn add_reply(
-    alloc: Global,
-    text: &mut String,
-    number: Option<usize>,
-    reply: &Reply,
-) -> Result<(), AllocError>
+pub fn add_reply(text: &mut String, number: Option<usize>, reply: &Reply) -> Result<(), AllocError>
     ensures words { OnOk result (string_bytes text.new ≡ string_bytes text.old ++ line_of_words (reply_words number reply.now)) }
     ensures reads_back { OnOk result (ReplyReadsBack reply.now) }
 {
     match reply {
         Reply::Ticket(ticket) => add_ticket(text, number, *ticket),
         Reply::Done => text.push_str("done"),
-        Reply::Frame(frame) => add_frame(alloc, text, number, frame),
+        Reply::Frame(frame) => add_frame(text, number, frame),
         Reply::Acked => text.push_str("acked"),
         Reply::Taken => text.push_str("taken"),
         Reply::Repeat => text.push_str("repeat"),
@@ -42,40 +39,30 @@ fn add_ticket(text: &mut String, number: Option<usize>, ticket: u32) -> Result<(
     write!(text, "ticket {ticket}")
 }
 
-fn add_frame(
-    alloc: Global,
-    text: &mut String,
-    number: Option<usize>,
-    frame: &Frame,
-) -> Result<(), AllocError>
+fn add_frame(text: &mut String, number: Option<usize>, frame: &Frame) -> Result<(), AllocError>
     ensures words { OnOk result (string_bytes text.new ≡ string_bytes text.old ++ line_of_words (reply_words number (replies.Frame frame.now))) }
     ensures reads_back { OnOk result (ReplyReadsBack (replies.Frame frame.now)) }
 {
-    let digits = frame_digits(alloc, frame)?;
-    add_digits(text, number, digits.as_str())
-}
-
-fn add_digits(text: &mut String, number: Option<usize>, digits: &str) -> Result<(), AllocError>
-    ensures { OnOk result (string_bytes text.new ≡ string_bytes text.old ++ line_of_words (frame_words number digits.now)) }
-{
     match number {
-        None => add_unnumbered(text, digits),
-        Some(k) => add_numbered(text, k, digits),
+        None => add_unnumbered(text, frame),
+        Some(k) => add_numbered(text, k, frame),
     }
 }
 
-fn add_unnumbered(text: &mut String, digits: &str) -> Result<(), AllocError>
-    ensures { OnOk result (string_bytes text.new ≡ string_bytes text.old ++ line_of_words (frame_words None digits.now)) }
+fn add_unnumbered(text: &mut String, frame: &Frame) -> Result<(), AllocError>
+    ensures words { OnOk result (string_bytes text.new ≡ string_bytes text.old ++ line_of_words (frame_words None (frame_digits frame.now))) }
+    ensures reads_back { OnOk result (IsFrameWord (frame_digits frame.now) (said.Spelled frame.now)) }
 {
     text.push_str("frame ")?;
-    text.push_str(digits)
+    add_frame_digits(text, frame)
 }
 
-fn add_numbered(text: &mut String, number: usize, digits: &str) -> Result<(), AllocError>
-    ensures { OnOk result (string_bytes text.new ≡ string_bytes text.old ++ line_of_words (frame_words (Some number) digits.now)) }
+fn add_numbered(text: &mut String, number: usize, frame: &Frame) -> Result<(), AllocError>
+    ensures words { OnOk result (string_bytes text.new ≡ string_bytes text.old ++ line_of_words (frame_words (Some number) (frame_digits frame.now))) }
+    ensures reads_back { OnOk result (IsFrameWord (frame_digits frame.now) (said.Spelled frame.now)) }
 {
     write!(text, "frame {number} ")?;
-    text.push_str(digits)
+    add_frame_digits(text, frame)
 }
 
 /// What a frame that came was.

@@ -50,7 +50,7 @@ pub fn simulate(
     let mut world = World::open(alloc, plan.copy(alloc)?)?;
     let mut text = String::new(alloc);
     for event in events {
-        add_event(alloc, &mut text, &mut world, programs, *event)?;
+        add_event(&mut text, &mut world, programs, *event)?;
     }
     add_world(&mut text, &world, world.unfinished())?;
     is_serial(&world);
@@ -66,7 +66,6 @@ fn is_serial(world: &World)
 
 /// An event happens in the world, and its line is added.
 fn add_event(
-    alloc: Global,
     text: &mut String,
     world: &mut World,
     programs: &[Program],
@@ -78,7 +77,7 @@ fn add_event(
     match happen(world, programs, event) {
         None => Ok(()),
         Some(Err(WorldRefusal::Office(site_core::Refusal::Memory))) => Err(AllocError),
-        Some(said) => add_said(alloc, text, world.frames(), said),
+        Some(said) => add_said(text, world.frames(), said),
     }
 }
 
@@ -192,7 +191,6 @@ fn send_and_deliver(
 
 /// The line of what is said, where so many frames were sent.
 fn add_said(
-    alloc: Global,
     text: &mut String,
     frames: usize,
     said: Result<Said, WorldRefusal>,
@@ -200,7 +198,7 @@ fn add_said(
     ensures { OnOk result (string_bytes text.new ≡ string_bytes text.old ++ said_line frames said) }
 {
     match said {
-        Ok(Said::Replied(reply)) => add_reply(alloc, text, Some(frames), &reply)?,
+        Ok(Said::Replied(reply)) => add_reply(text, Some(frames), &reply)?,
         Ok(Said::Rules(n)) => write!(text, "rules {n}")?,
         Ok(Said::Settled(n)) => write!(text, "settled {n} finished")?,
         Ok(Said::Open(n)) => write!(text, "settled {n} open")?,
