@@ -15,11 +15,11 @@ use Rattle.site_core.specs.Tickets.{SessionsGoInOrder}
 use Rattle.locked_office.specs.Calls.{Key, DeskPass, tag_of}
 use Rattle.run_reports.specs.Report.{outcome_line}
 use Rattle.run_reports.specs.WorldReport.{unfinished_line}
-use Rattle.office_runs.specs.declared.fault.RunFault.{RunFault}
-use Rattle.office_runs.specs.declared.fault.RunFault.TheVariants.{NoThread}
+use Rattle.office_stations.specs.declared.fault.RunFault.{RunFault}
+use Rattle.office_stations.specs.declared.fault.RunFault.TheVariants.{NoThread}
 use Rattle.office_runs.specs.declared.report.Ran.{Ran}
 use Rattle.office_runs.specs.Runs.{all_finished, key_of, HasJournals, TellsJournals}
-use Rattle.office_runs.specs.Rounds.{of_office}
+use Rattle.office_stations.specs.Rounds.{of_office}
 use Rattle.office_runs.specs.Threads.{Worked, Submitted, IsWrittenBy}
 use Rattle.office_runs.specs.Courses.{most_turns, Course, site_of, faults_of, IsCourse, IsToldOf, TellsCourses, offices_of}
 use Rattle.office_runs.specs.refinement.Reports.{Told, none_told, AddsOffice}

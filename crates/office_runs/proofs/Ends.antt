@@ -4,12 +4,12 @@ use Rattle.session_meaning.specs.ProgramValue.{ProgramValue}
 use Rattle.locked_office.specs.Calls.{Key, DeskPass}
 use Rattle.socket_pump.specs.Wires.{Account}
 use Rattle.socket_pump.specs.Turns.{Times}
-use Rattle.office_runs.specs.declared.fault.RunFault.{RunFault}
-use Rattle.office_runs.specs.declared.pace.TimedTurn.{TimedTurn}
-use Rattle.office_runs.specs.Rounds.{Standing, Fills, StopsFilling, Turns, BreaksOff, counted}
+use Rattle.office_stations.specs.declared.fault.RunFault.{RunFault}
+use Rattle.office_stations.specs.declared.pace.TimedTurn.{TimedTurn}
+use Rattle.office_stations.specs.Rounds.{Standing, Fills, StopsFilling, Turns, BreaksOff, counted}
 use Rattle.office_runs.specs.Threads.{Worked, FillsTimes, Submitted}
-use Rattle.office_runs.specs.refinement.Standings.{standing}
-use Rattle.office_runs.proofs.Rounds.{Made, one_round}
+use Rattle.office_stations.specs.refinement.Standings.{standing}
+use Rattle.office_stations.proofs.Rounds.{Made, one_round}
 
 -- ---- who turns it
 

@@ -25,8 +25,9 @@ use Rattle.site_core.specs.Journals.{Site, next_or, after, run_of, office_of}
 use Rattle.site_core.specs.Tickets.{Rise, SessionsGoInOrder, current_tickets}
 use Rattle.site_core.proofs.Withdrawing.{either_withdrawn, after_withdrawal}
 use Rattle.locked_office.specs.Calls.{Key, tag_of}
-use Rattle.office_runs.specs.Rounds.{of_office}
-use Rattle.office_runs.specs.Runs.{finished_of, all_finished, key_of}
+use Rattle.office_stations.specs.Rounds.{of_office}
+use Rattle.office_stations.specs.Sessions.{finished_of}
+use Rattle.office_runs.specs.Runs.{all_finished, key_of}
 use Rattle.office_runs.specs.Threads.{IsNoSubmit, IsWrittenBy}
 
 -- ---- tickets

@@ -4,7 +4,6 @@ mod Dealing
 mod Ends
 mod Finishing
 mod Lists
-mod Rounds
 mod Telling
 mod Writers
 mod Written

@@ -10,9 +10,9 @@ use Rattle.session_meaning.specs.ProgramValue.{ProgramValue}
 use Rattle.own_lock.specs.Entries.{tagged}
 use Rattle.locked_office.specs.Calls.{Key, DeskPass, Looks, office_with, tag_of}
 use Rattle.run_reports.specs.Report.{outcome_line}
-use Rattle.office_runs.specs.declared.fault.RunFault.{RunFault}
+use Rattle.office_stations.specs.declared.fault.RunFault.{RunFault}
 use Rattle.office_runs.specs.declared.report.Ran.{Ran}
-use Rattle.office_runs.specs.Rounds.{Standing, Goes, of_office}
+use Rattle.office_stations.specs.Rounds.{Standing, Goes, of_office}
 use Rattle.std.proofs.lemmas.List.{append-nil, map-append, length-append}
 use Rattle.std.proofs.lemmas.List.Concat.{flat_map-append}
 use Rattle.session_meaning.specs.declared.ending.Outcome.{Outcome}
@@ -20,7 +20,8 @@ use Rattle.site_core.specs.Journals.{Site, IsLegal}
 use Rattle.site_core.specs.declared.event.Entry.{Entry}
 use Rattle.journal_texts.specs.JournalText.{IsJournal}
 use Rattle.journal_texts.specs.Written.{journal_text}
-use Rattle.office_runs.specs.Runs.{all_finished, count_of, finished_of, key_of, runs_report, text_of, HasJournals, IsReadBack, TellsCourse, TellsJournals}
+use Rattle.office_stations.specs.Sessions.{count_of, finished_of}
+use Rattle.office_runs.specs.Runs.{all_finished, key_of, runs_report, text_of, HasJournals, IsReadBack, TellsCourse, TellsJournals}
 use Rattle.office_runs.specs.refinement.Reports.{Told, AddsJournal, AddsOffice}
 
 pub finished_more : (sites : List Site) (s : Site) → all_finished (sites ++ s ∷ []) ≡ all_finished sites ++ finished_of s

@@ -20,9 +20,9 @@ use Rattle.socket_pump.specs.declared.pump.PumpFault.{PumpFault}
 use Rattle.socket_pump.specs.Wires.{Account}
 use Rattle.socket_pump.specs.Chains.{Heard, Made, IsTook, AreTooks, sent_entry}
 use Rattle.socket_pump.specs.Turns.{Times, HeardAll, Turned, Stage, WhileHearing, AtRules, WhileTelling}
-use Rattle.office_runs.specs.declared.fault.RunFault.{RunFault}
-use Rattle.office_runs.specs.declared.pace.TimedTurn.{TimedTurn}
-use Rattle.office_runs.specs.Rounds.{Standing, with_pass, Takes, TakesAll, TakesNoMore, Refuses, Fills, StopsFilling, Turns, BreaksOff, Rounds}
+use Rattle.office_stations.specs.declared.fault.RunFault.{RunFault}
+use Rattle.office_stations.specs.declared.pace.TimedTurn.{TimedTurn}
+use Rattle.office_stations.specs.Rounds.{Standing, with_pass, Takes, TakesAll, TakesNoMore, Refuses, Fills, StopsFilling, Turns, BreaksOff, Rounds}
 use Rattle.office_runs.specs.Threads.{FillsTimes, Submitted, Worked, IsNoSubmit}
 use Rattle.office_runs.proofs.Beginnings.{nothing_before, nothing_behind}
 

@@ -8,10 +8,10 @@ use Rattle.session_meaning.specs.ProgramValue.{ProgramValue}
 use Rattle.own_lock.specs.Entries.{tagged}
 use Rattle.site_core.specs.Journals.{Site, IsLegal}
 use Rattle.locked_office.specs.Calls.{Key, DeskPass, tag_of}
-use Rattle.office_runs.specs.declared.fault.RunFault.{RunFault}
-use Rattle.office_runs.specs.declared.fault.RunFault.TheVariants.{NoThread}
+use Rattle.office_stations.specs.declared.fault.RunFault.{RunFault}
+use Rattle.office_stations.specs.declared.fault.RunFault.TheVariants.{NoThread}
 use Rattle.office_runs.specs.declared.report.Ran.{Ran}
-use Rattle.office_runs.specs.Rounds.{Standing, of_office}
+use Rattle.office_stations.specs.Rounds.{Standing, of_office}
 use Rattle.office_runs.specs.Runs.{all_finished, key_of, runs_report, HasJournals}
 use Rattle.office_runs.specs.Threads.{Worked, Submitted, IsWrittenBy}
 

@@ -1,26 +1,19 @@
 -- What is told of offices that ran.
-use Rattle.std.specs.Prelude.{◌≡◌, ◌-◌, ◌==◌, ℕ, Bool, true, false, None, List, [], ◌∷◌, ◌++◌, length, map, All}
-use Rattle.std.specs.List.{flat_map, count_by}
+use Rattle.std.specs.Prelude.{◌≡◌, ◌-◌, ℕ, Bool, true, false, None, List, [], ◌∷◌, ◌++◌, length, map, All}
+use Rattle.std.specs.List.{flat_map}
 use Rattle.std.specs.String.{string_bytes}
 use Rattle.office_map.specs.PlanValue.{PlanValue}
 use Rattle.session_meaning.specs.ProgramValue.{ProgramValue}
 use Rattle.session_meaning.specs.declared.ending.Outcome.{Outcome}
-use Rattle.site_core.specs.Journals.{Site, IsLegal, office_of}
+use Rattle.site_core.specs.Journals.{Site, IsLegal}
 use Rattle.locked_office.specs.Calls.{Key, DeskPass, Looks, office_with}
 use Rattle.run_reports.specs.Report.{outcome_line}
 use Rattle.run_reports.specs.WorldReport.{unfinished_line}
 use Rattle.journal_texts.specs.JournalText.{IsJournal}
 use Rattle.journal_texts.specs.Written.{journal_text}
-use Rattle.office_runs.specs.Rounds.{Standing, Goes, of_office}
+use Rattle.office_stations.specs.Rounds.{Standing, Goes, of_office}
+use Rattle.office_stations.specs.Sessions.{count_of, finished_of}
 use Rattle.office_runs.specs.declared.report.Ran.{Ran}
-
--- how many of the sessions are of an office
-abbrev pub count_of : List ProgramValue → ℕ → ℕ
-count_of programs me = count_by (λ (p : ProgramValue). p.office == me) programs
-
--- the sessions of an office that have finished at the end of its journal, by ticket
-abbrev pub finished_of : Site → List Outcome
-finished_of s = (office_of s).agenda.outcomes
 
 -- those of several offices, one office after the other
 abbrev pub all_finished : List Site → List Outcome

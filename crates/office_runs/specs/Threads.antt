@@ -6,9 +6,9 @@ use Rattle.site_core.specs.declared.event.Entry.{Entry}
 use Rattle.site_core.specs.Journals.{Site}
 use Rattle.own_lock.specs.Entries.{tagged}
 use Rattle.locked_office.specs.Calls.{Key, DeskPass, tag_of}
-use Rattle.office_runs.specs.declared.fault.RunFault.{RunFault}
-use Rattle.office_runs.specs.declared.pace.TimedTurn.{TimedTurn}
-use Rattle.office_runs.specs.Rounds.{Standing, Fills, StopsFilling, BreaksOff, counted, IsLastBegun, Rounds}
+use Rattle.office_stations.specs.declared.fault.RunFault.{RunFault}
+use Rattle.office_stations.specs.declared.pace.TimedTurn.{TimedTurn}
+use Rattle.office_stations.specs.Rounds.{Standing, Fills, StopsFilling, BreaksOff, counted, IsLastBegun, Rounds}
 
 -- ---- how each ended
 

@@ -1,5 +1,4 @@
 -- What ties the code to the definitions beside this folder.
-pub mod Standings
 pub mod Opening
 pub mod Reports
 pub mod Ends

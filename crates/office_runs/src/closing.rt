@@ -2,18 +2,17 @@
 
 ghost use Rattle.std.specs.Prelude.{◌≡◌, ◌⊎◌, None, Some, map, All, IfOk, IfSome, IfNone};
 ghost use Rattle.run_reports.specs.Report.{outcome_line};
-ghost use Rattle.office_runs.specs.declared.fault.RunFault.TheVariants.{NoThread};
+ghost use Rattle.office_stations.specs.declared.fault.RunFault.TheVariants.{NoThread};
 ghost use Rattle.office_runs.specs.Runs.{IsQuiet};
 ghost use Rattle.office_runs.specs.Courses.{TellsCourses, offices_of};
 ghost use Rattle.office_runs.specs.refinement.Ends.{TellsEnd, key_of_end, programs_of_end};
 
 use crate::crew::Ended;
-use crate::fault::RunFault;
 use crate::met::add_office;
-use crate::report::{Ran, Report, count_of, with_unfinished};
-use crate::socket::Socket;
+use crate::report::{Ran, Report, with_unfinished};
 use crate::threads::{ClientEnd, WorkerEnd};
 use office_map::{OfficeId, Plan};
+use office_stations::{RunFault, Socket, count_of};
 use session_language::Program;
 use site_core::laws::{sessions_go_in_order, steps_add_their_entry};
 use std::alloc::{AllocError, Global};
@@ -83,7 +82,8 @@ fn earlier_of(first: Option<RunFault>, a: Option<RunFault>, b: Option<RunFault>)
     }
 }
 
-/// The same as below, of an office that has so many of the run's sessions, with what people are told of those that are left.
+/// The same as below, of an office that has so many of the run's sessions, with what people are told of those that are left, and of
+/// its neighbours.
 fn remark_end<R: Wait, S: Socket>(
     rt: &R,
     alloc: Global,
@@ -95,7 +95,8 @@ fn remark_end<R: Wait, S: Socket>(
     ensures told { IfOk result (λ n. TellsEnd S.tells (outcome_line plan.now) end.entry n report.old report.new) }
     ensures wanted { report.new.wanted ≡ report.old.wanted }
 {
-    report.expect(own, Vec::new(alloc));
+    let ways = end.ways(alloc)?;
+    report.expect(own, ways);
     add_end(rt, plan, end, report)
 }
 
@@ -120,6 +121,7 @@ fn add_end<R: Wait, S: Socket>(
     let WorkerEnd {
         pass: worker,
         fault: _,
+        ways: _,
     } = worker;
     let ClientEnd {
         pass: client,

@@ -4,15 +4,13 @@ ghost use Rattle.std.specs.Prelude.{◌≡◌, ◌<◌, ◌≤◌, ◌∷◌, �
 ghost use Rattle.std.specs.Arc.{arc_value};
 ghost use Rattle.office_runs.specs.refinement.Ends.{duty_of, with_programs};
 
-use crate::fault::RunFault;
-use crate::gate::Gate;
 use crate::opened::Opened;
-use crate::shared::Shared;
-use crate::socket::{Socket, Wakes};
 use crate::task::{Task, start};
 use crate::threads::{Client, ClientEnd, SubmitsAt, TurnsAt, Worker, WorkerEnd};
-use crate::watch::Watch;
 use locked_office::laws::{a_desk_crosses_threads, threads_share_a_desk};
+use office_map::Plan;
+use office_stations::{Gate, RunFault, Shared, Socket, Wakes, Watch};
+use run_remarks::Way;
 use session_language::Program;
 use site_core::laws::an_office_crosses_threads;
 use std::alloc::{AllocError, Global};
@@ -103,6 +101,11 @@ impl<S: Socket> Ended<'_, S> {
         self.worker.fault
     }
 
+    /// What is known of the ways to its neighbours, as who turned it knew it at its end.
+    pub(crate) fn ways(&self, alloc: Global) -> Result<Vec<Way>, AllocError> {
+        self.worker.ways.to_vec(alloc)
+    }
+
     /// The fault that ended the submitting of its sessions, if one did.
     pub(crate) fn stopped(&self) -> Option<RunFault>
         ensures { result ≡ self.now.stopped }
@@ -116,6 +119,7 @@ pub(crate) fn run_all<'x, E, R, S, A, G, W>(
     scope: &Scope<'x, E>,
     rt: &'x R,
     alloc: Global,
+    plan: &'x Plan,
     crews: Vec<Crew<S, A>>,
     programs: &'x [Program],
     gate: &'x G,
@@ -131,7 +135,7 @@ where
     ensures { IfOk result (λ r. map duty_of r.items ≡ map (with_programs programs.entry.now) crews.items) }
 {
     let ended = Vec::with_capacity(alloc, crews.len())?;
-    let running = start_all(scope, rt, alloc, crews, programs, gate, watch, shared)?;
+    let running = start_all(scope, rt, alloc, plan, crews, programs, gate, watch, shared)?;
     Ok(join_all(rt, running, ended))
 }
 
@@ -140,6 +144,7 @@ fn start_all<'x, E, R, S, A, G, W>(
     scope: &Scope<'x, E>,
     rt: &'x R,
     alloc: Global,
+    plan: &'x Plan,
     crews: Vec<Crew<S, A>>,
     programs: &'x [Program],
     gate: &'x G,
@@ -156,7 +161,7 @@ where
 {
     let mut running = Vec::with_capacity(alloc, crews.len())?;
     for crew in crews {
-        let one = start_crew(scope, rt, crew, programs, gate, watch, shared);
+        let one = start_crew(scope, rt, plan, crew, programs, gate, watch, shared);
         put(&mut running, one);
     }
     Ok(running)
@@ -166,6 +171,7 @@ where
 fn start_crew<'x, E, R, S, A, G, W>(
     scope: &Scope<'x, E>,
     rt: &'x R,
+    plan: &'x Plan,
     crew: Crew<S, A>,
     programs: &'x [Program],
     gate: &'x G,
@@ -188,7 +194,7 @@ where
     Running {
         office,
         programs,
-        worker: start_worker(scope, rt, worker, gate, watch, shared),
+        worker: start_worker(scope, rt, plan, worker, gate, watch, shared),
         client: start_client(scope, rt, client, programs, gate, shared),
     }
 }
@@ -196,6 +202,7 @@ where
 fn start_worker<'x, E, R, S, G, W>(
     scope: &Scope<'x, E>,
     rt: &'x R,
+    plan: &'x Plan,
     worker: Worker<S>,
     gate: &'x G,
     watch: &'x W,
@@ -215,7 +222,7 @@ where
         desk: Snapshot::of(&*worker.desk),
         socket: PhantomData,
     };
-    let work = move || worker.work(rt, gate, watch, shared);
+    let work = move || worker.work(rt, plan, gate, watch, shared);
     start(scope, rt, gate, shared, promise, work)
 }
 

@@ -2,35 +2,19 @@
 
 ghost use Rattle.std.specs.Prelude.{◌≡◌, ◌<◌, ◌++◌, false, length, IfOk, OnOk};
 ghost use Rattle.std.specs.List.{flat_map};
-ghost use Rattle.std.specs.String.{string_bytes};
 ghost use Rattle.own_lock.specs.Passes.{IsOf};
 ghost use Rattle.locked_office.specs.Calls.{Stays, Looks, office_with};
 ghost use Rattle.run_reports.specs.Report.{outcome_line};
-ghost use Rattle.office_runs.specs.Runs.{finished_of};
+ghost use Rattle.office_stations.specs.Sessions.{finished_of};
 ghost use Rattle.office_runs.specs.refinement.Reports.{AddsJournal};
 
 use crate::report::Report;
 use locked_office::Desk;
 use office_map::Plan;
 use own_lock::Pass;
-use run_reports::report::add_outcome;
-use session_language::Outcome;
 use site_core::Office;
 use std::alloc::AllocError;
 use std::sync::Wait;
-
-/// How many sessions of an office have finished.
-pub(crate) fn count_finished<R: Wait>(rt: &R, desk: &Desk, pass: &mut Pass<Office>) -> usize
-    requires of { IsOf desk.now pass.old }
-    requires idle { pass.old.holds ≡ false }
-    ensures stays { Stays desk.now pass.old pass.new }
-    ensures looked { Looks desk.now.key pass.old pass.new }
-{
-    let held = desk.lock().take(rt, pass);
-    let count = held.get().outcomes().len();
-    desk.lock().give(pass, held);
-    count
-}
 
 /// The sessions of an office that finished are told, by ticket, and how many they are; and its journal, where it is wanted. Both
 /// are of one moment. Where memory runs out, some may be told.
@@ -55,19 +39,4 @@ pub(crate) fn add_sessions<R: Wait>(
     let added = report.add(plan, held.get());
     desk.lock().give(pass, held);
     added
-}
-
-/// The lines of these sessions are added, and how many they are is told. Where memory runs out, some may be.
-pub(crate) fn add_lines(
-    text: &mut String,
-    plan: &Plan,
-    outcomes: &[Outcome],
-) -> Result<usize, AllocError>
-    ensures lines { OnOk result (string_bytes text.new ≡ string_bytes text.old ++ flat_map (outcome_line plan.now) outcomes.now) }
-    ensures count { IfOk result (λ n. n ≡ length outcomes.now) }
-{
-    for outcome in outcomes {
-        add_outcome(text, plan, outcome)?;
-    }
-    Ok(outcomes.len())
 }

@@ -5,18 +5,13 @@ ghost use Rattle.std.specs.List.{range_with_len};
 ghost use Rattle.office_runs.specs.Runs.{IsQuiet, TellsJournals};
 ghost use Rattle.office_runs.specs.Courses.{TellsCourses, offices_of};
 
-use crate::around::Around;
 use crate::closing::tell_all;
 use crate::crew::{Crew, run_all};
-use crate::gate::Gate;
 use crate::opened::open_shared;
-use crate::opening::OpeningFault;
 use crate::report::Ran;
-use crate::shared::Shared;
-use crate::socket::{Binds, Socket, Wakes};
 use crate::threads::{Client, Worker};
-use crate::watch::Watch;
 use office_map::{OfficeId, Plan};
+use office_stations::{Around, Binds, Gate, Hearing, OpeningFault, Shared, Socket, Wakes, Watch};
 use session_language::Program;
 use socket_pump::Pump;
 use std::alloc::{AllocError, Global};
@@ -104,7 +99,7 @@ fn run_and_tell<'x, E, R, S, A, G, W>(
     scope: &Scope<'x, E>,
     rt: &'x R,
     alloc: Global,
-    plan: &Plan,
+    plan: &'x Plan,
     crews: Vec<Crew<S, A>>,
     programs: &'x [Program],
     journals: bool,
@@ -121,7 +116,7 @@ where
     ensures told { IfOk result (λ ran. crews.items ≡ offices_of plan.now → TellsCourses S.tells plan.now programs.now journals ran) }
     ensures quiet { IfOk result IsQuiet }
 {
-    let ended = run_all(scope, rt, alloc, crews, programs, gate, watch, shared)?;
+    let ended = run_all(scope, rt, alloc, plan, crews, programs, gate, watch, shared)?;
     let first = shared.fault(rt);
     tell_all(rt, alloc, plan, ended, programs, journals, first)
 }
@@ -201,9 +196,11 @@ fn open_one<R: Clock, S: Socket, A: Wakes>(
     requires { me < length plan.now.offices }
     ensures key { IfOk result (λ crew. crew ≡ (plan.now, me)) }
 {
+    let mut hearing = Hearing::none();
     for v in plan.neighbours(me) {
         if let Some(at) = places.get(v.index()) {
             socket.set_peer(*v, *at);
+            hearing.set_place(*v, *at);
         }
     }
     let Ok(start) = Instant::now(rt) else {
@@ -217,6 +214,7 @@ fn open_one<R: Clock, S: Socket, A: Wakes>(
         pass: worker,
         pump,
         socket,
+        hearing,
         start,
     };
     let client = Client {

@@ -5,15 +5,14 @@ ghost use Rattle.std.specs.List.{flat_map};
 ghost use Rattle.std.specs.String.{string_bytes};
 ghost use Rattle.run_reports.specs.Report.{outcome_line};
 ghost use Rattle.run_reports.specs.WorldReport.{unfinished_line};
-ghost use Rattle.office_runs.specs.Runs.{IsQuiet, count_of, finished_of};
+ghost use Rattle.office_stations.specs.Sessions.{finished_of};
+ghost use Rattle.office_runs.specs.Runs.{IsQuiet};
 ghost use Rattle.office_runs.specs.refinement.Reports.{AddsJournal, none_told};
 
-use crate::fault::RunFault;
-use crate::finished::add_lines;
-use office_map::{OfficeId, Plan};
+use office_map::Plan;
+use office_stations::{RunFault, add_lines};
 use run_remarks::{Remarks, Way};
 use run_reports::world::add_unfinished;
-use session_language::Program;
 use site_core::Office;
 use std::alloc::{AllocError, Global};
 use std::marker::Model;
@@ -150,14 +149,4 @@ pub(crate) fn with_unfinished(
         journals,
         remarks,
     })
-}
-
-/// How many of the sessions are of this office.
-pub(crate) fn count_of(programs: &[Program], me: OfficeId) -> usize
-    ensures { result ≡ count_of programs.now me }
-{
-    programs
-        .iter()
-        .filter(|program| program.office() == me)
-        .count()
 }

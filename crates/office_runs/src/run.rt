@@ -7,36 +7,27 @@ ghost use Rattle.own_lock.specs.Passes.{IsOf};
 ghost use Rattle.site_core.specs.Journals.{IsLegal};
 ghost use Rattle.locked_office.specs.Calls.{Stays, Looks, office_with};
 ghost use Rattle.socket_pump.specs.Last.{last_of};
-ghost use Rattle.office_runs.specs.Rounds.{Goes, of_office};
-ghost use Rattle.office_runs.specs.Runs.{IsQuiet, TellsCourse, TellsJournals, HasJournals, count_of, finished_of, runs_report};
-ghost use Rattle.office_runs.specs.refinement.Standings.{standing};
+ghost use Rattle.office_stations.specs.Rounds.{Goes, of_office};
+ghost use Rattle.office_stations.specs.Sessions.{count_of, finished_of};
+ghost use Rattle.office_runs.specs.Runs.{IsQuiet, TellsCourse, TellsJournals, HasJournals, runs_report};
+ghost use Rattle.office_stations.specs.refinement.Standings.{standing};
 
-use crate::address::address;
-use crate::around::Around;
-use crate::client::submit_some;
-use crate::fault::RunFault;
 use crate::finished::add_sessions;
-use crate::gate::Gate;
 use crate::opened::{only, open_desk};
-use crate::opening::OpeningFault;
-use crate::report::{Ran, Report, count_of, with_unfinished};
-use crate::shared::Shared;
-use crate::socket::{Binds, Socket};
-use crate::station::Station;
-use crate::watch::Watch;
+use crate::report::{Ran, Report, with_unfinished};
 use locked_office::Desk;
 use office_map::{OfficeId, Plan};
+use office_stations::{
+    Around, Binds, Gate, OpeningFault, RunFault, Shared, Socket, Station, Watch, at_address,
+    count_of, submit_some,
+};
 use own_lock::Pass;
 use run_remarks::Way;
 use session_language::Program;
 use site_core::Office;
-use socket_pump::Pump;
 use std::alloc::{AllocError, Global};
-use std::io::ErrorKind;
-use std::net::{Ipv4Addr, SocketAddr};
 use std::rt::Clock;
 use std::sync::Wait;
-use std::time::Instant;
 
 /// An office at its plan's address, which turns so often. Those of the sessions that are its own are submitted as it takes
 /// them. It takes all its turns, since neighbours may need it after its own sessions have finished. A turn that brought refused
@@ -61,7 +52,7 @@ pub fn run_office<R: Wait + Clock, B: Binds, G: Gate, W: Watch>(
     ensures ran { IfOk result (TellsCourse B.Socket.tells plan.now me programs.now turns journals) }
     ensures quiet { IfOk result IsQuiet }
 {
-    let mut station = station(rt, alloc, plan, me, around.binds)?;
+    let mut station = at_address(rt, alloc, plan, me, around.binds)?;
     let (desk, passes) = open_desk(alloc, plan, me, 1)?;
     let Some(mut pass) = only(&desk, passes) else {
         return Err(OpeningFault::Memory);
@@ -94,39 +85,6 @@ pub fn run_office<R: Wait + Clock, B: Binds, G: Gate, W: Watch>(
         fault,
     )?;
     Ok(ran)
-}
-
-/// What turns the office: a pump, and a socket at the plan's address that knows those of its neighbours.
-fn station<R: Clock, B: Binds>(
-    rt: &R,
-    alloc: Global,
-    plan: &Plan,
-    me: OfficeId,
-    binds: &B,
-) -> Result<Station<B::Socket>, OpeningFault>
-    requires { me < length plan.now.offices }
-    ensures key { IfOk result (λ s. s.pump.key ≡ (plan.now, me)) }
-    ensures last { IfOk result (λ s. (v n : ℕ) → last_of s.pump.lasts v n ≡ None) }
-{
-    let Some(at) = address(plan, me) else {
-        let nowhere = SocketAddr::from((Ipv4Addr::UNSPECIFIED, 0));
-        return Err(OpeningFault::BindFailed(nowhere, ErrorKind::InvalidInput));
-    };
-    let socket = match binds.bind(at) {
-        Ok((socket, _)) => socket,
-        Err(error) => return Err(OpeningFault::BindFailed(at, error.kind())),
-    };
-    let pump = Pump::open(alloc, plan, me)?;
-    let Ok(start) = Instant::now(rt) else {
-        return Err(OpeningFault::NoClock);
-    };
-    let mut station = Station::new(pump, socket, start);
-    for v in plan.neighbours(me) {
-        if let Some(at) = address(plan, *v) {
-            station.set_peer(*v, at);
-        }
-    }
-    Ok(station)
 }
 
 /// The turns, each after those sessions are submitted that the office takes.

@@ -2,9 +2,7 @@
 
 ghost use Rattle.std.specs.Prelude.{◌≡◌, IfOk, IfErr};
 
-use crate::fault::RunFault;
-use crate::gate::Gate;
-use crate::shared::Shared;
+use office_stations::{Gate, RunFault, Shared};
 use std::marker::Model;
 use std::snapshot::Snapshot;
 use std::sync::Wait;

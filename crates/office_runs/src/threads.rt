@@ -5,21 +5,17 @@ ghost use Rattle.std.specs.Arc.{arc_value};
 ghost use Rattle.own_lock.specs.Passes.{IsOf, fresh_pass};
 ghost use Rattle.locked_office.specs.Calls.{Stays, tag_of};
 ghost use Rattle.socket_pump.specs.Last.{last_of};
-ghost use Rattle.office_runs.specs.Rounds.{of_office};
+ghost use Rattle.office_stations.specs.Rounds.{of_office};
 ghost use Rattle.office_runs.specs.Threads.{Worked, Submitted};
 ghost use Rattle.office_runs.specs.Courses.{most_turns};
-ghost use Rattle.office_runs.specs.refinement.Standings.{standing};
+ghost use Rattle.office_stations.specs.refinement.Standings.{standing};
 ghost use Rattle.office_runs.specs.refinement.Ends.{HasWorked, HasSubmitted};
 
-use crate::client::submit_some;
-use crate::fault::RunFault;
-use crate::gate::Gate;
-use crate::shared::Shared;
-use crate::socket::{Socket, Wakes};
-use crate::station::Station;
-use crate::watch::Watch;
 use locked_office::Desk;
-use office_map::OfficeId;
+use office_map::{OfficeId, Plan};
+use office_stations::{
+    Gate, Hearing, RunFault, Shared, Socket, Station, Wakes, Watch, Ways, submit_some,
+};
 use own_lock::Pass;
 use session_language::Program;
 use site_core::Office;
@@ -45,6 +41,8 @@ pub(crate) struct Worker<S: Socket> {
     pub(crate) pass: Pass<Office>,
     pub(crate) pump: Pump,
     pub(crate) socket: S,
+    /// Where its neighbours are.
+    pub(crate) hearing: Hearing,
     /// From when on its turns are timed.
     pub(crate) start: Instant,
     ghost key: { (arc_value desk).key ≡ pump.key },
@@ -52,11 +50,12 @@ pub(crate) struct Worker<S: Socket> {
     ghost never: { (v n : ℕ) → last_of pump.lasts v n ≡ None },
 }
 
-/// How that ended.
+/// How that ended, and what is known of the ways to the neighbours.
 #[derive(Drop)]
 pub(crate) struct WorkerEnd {
     pub(crate) pass: Pass<Office>,
     pub(crate) fault: Option<RunFault>,
+    pub(crate) ways: Ways,
 }
 
 /// What is promised of this, at a desk and with a socket of this type.
@@ -108,6 +107,7 @@ impl<S: Socket> Worker<S> {
     pub(crate) fn work<R: Wait + Clock, G: Gate, W: Watch>(
         self,
         rt: &R,
+        plan: &Plan,
         gate: &G,
         watch: &W,
         shared: &Shared,
@@ -120,17 +120,30 @@ impl<S: Socket> Worker<S> {
             mut pass,
             pump,
             socket,
+            hearing,
             start,
         } = self;
-        let mut station = Station::new(pump, socket, start);
-        let fault = turn_all(rt, me, &desk, &mut pass, &mut station, gate, watch, shared);
+        let mut station = Station::with_hearing(pump, socket, hearing, start);
+        let fault = turn_all(
+            rt,
+            plan,
+            me,
+            &desk,
+            &mut pass,
+            &mut station,
+            gate,
+            watch,
+            shared,
+        );
         shared.end(me);
-        WorkerEnd { pass, fault }
+        let ways = station.known_ways();
+        WorkerEnd { pass, fault, ways }
     }
 }
 
 fn turn_all<R: Wait + Clock, S: Socket, G: Gate, W: Watch>(
     rt: &R,
+    plan: &Plan,
     me: OfficeId,
     desk: &Desk,
     pass: &mut Pass<Office>,
@@ -161,7 +174,7 @@ fn turn_all<R: Wait + Clock, S: Socket, G: Gate, W: Watch>(
                 return Some(fault);
             }
         };
-        station.tell(leads, watch, shared);
+        station.tell(plan, me, leads, watch, shared);
         count += turn.counted(MOST_TURNS);
     }
     unreachable!()

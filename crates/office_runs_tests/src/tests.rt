@@ -1,10 +1,11 @@
 use crate::tests::memory::{Comes, Mailbox, MemorySockets};
 use journal_texts::read_journal;
 use office_map::{OfficeId, Plan};
+use office_runs::Ran;
 use office_runs::live::live;
 use office_runs::run::run_office;
-use office_runs::{
-    Around, Binds, Gate, Open, OpeningFault, Progress, Quiet, Ran, RunFault, UdpSockets, Watch,
+use office_stations::{
+    Around, Binds, Gate, Open, OpeningFault, Progress, Quiet, RunFault, UdpSockets, Watch,
     without_address,
 };
 use run_remarks::Unmet;
@@ -26,6 +27,10 @@ const ROW: &str =
 
 const ROW_SESSIONS: &str =
     "session a\nrepeat 3\nset r = read r * 2\nend\ngive read r\nend\nsession c\nset s = read s + 5\ngive read s\nend\nsession b\nset r = read r + read s\nset s = 0\ngive read r\nend\n";
+
+/// Each office of the row needs what it has, but for the second, which needs what the third one has.
+const ONE_ASKS: &str =
+    "session a\ngive 1\nend\nsession c\ngive 2\nend\nsession b\ngive read s\nend\n";
 
 /// Two offices that have addresses and share nothing.
 const APART: &str = "plan 1 run 3\noffice a 127.0.0.1:1\noffice b 127.0.0.1:2\npair a b fork a\n";
@@ -320,6 +325,37 @@ fn people_are_told_what_a_run_left(rt: HostRuntime) -> Result<(), Fail> {
     Ok(())
 }
 
+/// What is said of offices on threads where there is no route to the third one, and a call of their sockets fails in the end.
+#[test]
+fn people_are_told_whom_offices_on_threads_never_met(rt: HostRuntime) -> Result<(), Fail> {
+    let ran = live_without_route(&rt, rt.alloc(), 600, &Quiet)?;
+    assert_eq!(rt;
+        said(&ran),
+        "drink: b.1 waits for s from c, which was never heard\ndrink: a never heard b at 127.0.0.1:2\ndrink: b never heard a at 127.0.0.1:1\ndrink: b never reached c at 127.0.0.1:3: Network is unreachable (os error 101)\ndrink: c never heard b at 127.0.0.1:2\n"
+    );
+    Ok(())
+}
+
+/// What a run of the row's offices on threads answers, where there is no route to the third one, and a call of each socket fails.
+fn live_without_route<R: Threads + Wait + Clock + Sync, W: Watch + Sync>(
+    rt: &R,
+    alloc: Global,
+    fails_at: u64,
+    watch: &W,
+) -> Result<Result<Ran, OpeningFault>, Fail> {
+    let plan = plan(alloc, ROW)?;
+    let programs = programs(alloc, &plan, ONE_ASKS)?;
+    let boxes = Mailbox::some(alloc)?;
+    let mut binds = MemorySockets::without_route(rt, alloc, &boxes, 2);
+    binds.fail_at(fails_at);
+    let around = Around {
+        binds: &binds,
+        gate: &Open,
+        watch,
+    };
+    Ok(live(rt, alloc, &plan, &programs, false, &around))
+}
+
 /// What a run of 50 turns of the star's first office answers.
 fn star_with<R: Wait + Clock, B: Binds, G: Gate, W: Watch>(
     rt: &R,
@@ -383,6 +419,25 @@ fn who_looks_on_is_told(rt: HostRuntime) -> Result<(), Fail> {
     assert!(rt; times > 0);
     assert_eq!(rt; told.neighbours.load(Ordering::SeqCst), times);
     assert_eq!(rt; told.finished.load(Ordering::SeqCst), 1);
+    Ok(())
+}
+
+/// So does a run of offices on threads, by each of whose offices the neighbours are told that it didn't meet.
+#[test]
+fn who_looks_on_at_threads_is_told(rt: HostRuntime) -> Result<(), Fail> {
+    let told = Told {
+        times: AtomicU64::new(0),
+        finished: AtomicU64::new(0),
+        neighbours: AtomicU64::new(0),
+    };
+    let ran = live_without_route(&rt, rt.alloc(), 2_500, &told)?;
+    assert_eq!(rt;
+        ran.map(|ran| (ran.unfinished, ran.fault)),
+        Ok((1, Some(RunFault::WireFailed)))
+    );
+    assert!(rt; told.times.load(Ordering::SeqCst) > 0);
+    assert!(rt; told.neighbours.load(Ordering::SeqCst) > 0);
+    assert_eq!(rt; told.finished.load(Ordering::SeqCst), 2);
     Ok(())
 }
 

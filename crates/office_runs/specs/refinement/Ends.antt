@@ -5,9 +5,10 @@ use Rattle.session_meaning.specs.ProgramValue.{ProgramValue}
 use Rattle.session_meaning.specs.declared.ending.Outcome.{Outcome}
 use Rattle.own_lock.specs.Passes.{LockView}
 use Rattle.locked_office.specs.Calls.{Key, DeskPass}
-use Rattle.office_runs.specs.declared.fault.RunFault.{RunFault}
-use Rattle.office_runs.specs.Rounds.{Standing, of_office}
-use Rattle.office_runs.specs.Runs.{finished_of, key_of}
+use Rattle.office_stations.specs.declared.fault.RunFault.{RunFault}
+use Rattle.office_stations.specs.Rounds.{Standing, of_office}
+use Rattle.office_stations.specs.Sessions.{finished_of}
+use Rattle.office_runs.specs.Runs.{key_of}
 use Rattle.office_runs.specs.refinement.Opening.{IsFor}
 use Rattle.office_runs.specs.refinement.Reports.{Told, AddsJournal}
 use Rattle.office_runs.specs.Threads.{Worked, Submitted}

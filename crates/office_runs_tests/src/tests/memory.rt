@@ -4,7 +4,7 @@ ghost use Rattle.std.specs.Prelude.{◌≡◌, OnOk, OnErr};
 
 use frame_codec::decode;
 use office_map::OfficeId;
-use office_runs::{Binds, Socket, Wakes};
+use office_stations::{Binds, Socket, Waits, Wakes};
 use socket_pump::{Contact, Datagram, Wire, WireFailed};
 use std::alloc::{AllocError, Global};
 use std::collections::VecDeque;
@@ -85,6 +85,11 @@ impl<'a, R: Wait + Clock> MemorySockets<'a, R> {
         }
     }
 
+    /// Of each the call of `receive` or `send` with that number fails, from 0.
+    pub(crate) fn fail_at(&mut self, call: u64) {
+        self.fails_at = call;
+    }
+
     /// None is refused and none fails, and that comes to them.
     pub(crate) fn to_which(
         rt: &'a R,
@@ -135,6 +140,7 @@ pub(crate) struct MemorySocket<'a, R: Wait + Clock> {
     calls: u64,
     fails_at: u64,
     failures: u64,
+    waits: Waits,
     comes: Comes,
     lost: u8,
     contacts: [Contact; 16],
@@ -185,6 +191,7 @@ impl<'a, R: Wait + Clock> Binds for MemorySockets<'a, R> {
             calls: 0,
             fails_at: self.fails_at,
             failures: 0,
+            waits: Waits::none(),
             comes: self.comes,
             lost: self.lost,
             contacts: [Contact::none(); 16],
@@ -290,6 +297,8 @@ impl<'a, R: Wait + Clock> Wire for MemorySocket<'a, R> {
 }
 
 impl<'a, R: Wait + Clock> Socket for MemorySocket<'a, R> {
+    ghost waits = { λ s. s.waits };
+
     fn address(&self) -> io::Result<SocketAddr> {
         let port = u16::try_from(self.own).unwrap_or(0).wrapping_add(1);
         Ok(SocketAddr::from((Ipv4Addr::LOCALHOST, port)))
@@ -306,6 +315,7 @@ impl<'a, R: Wait + Clock> Socket for MemorySocket<'a, R> {
     }
 
     fn poll(&mut self, most: u64) -> Result<(), WireFailed> {
+        self.waits = self.waits.and(most);
         if let Some(mailbox) = self.boxes.get(self.own) {
             mailbox.waited.fetch_add(most, Ordering::SeqCst);
         }

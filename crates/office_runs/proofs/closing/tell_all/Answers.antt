@@ -1,7 +1,7 @@
 use Rattle.std.proofs.Common.{rules, ◌≡◌, ◌⊎◌, Option, None, Some, IfNone, IfSome, length, refl, sym, subst, ◌∙◌}
 use Rattle.std.proofs.lemmas.List.{nil_from_length}
 use Rattle.std.specs.Vec.Iter.{into_iter_items}
-use Rattle.office_runs.specs.declared.fault.RunFault.{RunFault}
+use Rattle.office_stations.specs.declared.fault.RunFault.{RunFault}
 use Rattle.office_runs.proofs.Courses.{ToldSoFar, none_so_far, one_more_told, all_told}
 use Rattle.office_runs.proofs.Lists.{one_taken}
 use Rattle.office_runs.proofs.closing.tell_all.Goals as goal

@@ -2,8 +2,8 @@ use Rattle.std.proofs.Common.{ap, ◌∙◌}
 use Rattle.std.specs.Result.{result_err}
 use Rattle.locked_office.specs.Calls.{DeskPass}
 use Rattle.socket_pump.specs.Last.{last_of}
-use Rattle.office_runs.specs.Runs.{count_of}
-use Rattle.office_runs.specs.refinement.Standings.{standing}
+use Rattle.office_stations.specs.Sessions.{count_of}
+use Rattle.office_stations.specs.refinement.Standings.{standing}
 use Rattle.office_runs.proofs.Telling.{tells_run, tells_runs}
 use Rattle.office_runs.proofs.run.run_office.Goals as goal
 

@@ -1,5 +1,5 @@
 use Rattle.std.proofs.Common.{◌∙◌, drop}
-use Rattle.office_runs.specs.Rounds.{of_office}
+use Rattle.office_stations.specs.Rounds.{of_office}
 use Rattle.office_runs.proofs.Ends.{one_filled}
 use Rattle.office_runs.proofs.threads.submit_all.Goals as goal
 

@@ -1,6 +1,6 @@
 use Rattle.std.proofs.Common.{drop}
 use Rattle.locked_office.specs.Calls.{Stays}
-use Rattle.office_runs.specs.Rounds.{of_office}
+use Rattle.office_stations.specs.Rounds.{of_office}
 use Rattle.office_runs.proofs.Ends.{Filled}
 use Rattle.office_runs.proofs.threads.submit_all.Given as goal
 

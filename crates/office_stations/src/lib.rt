@@ -1,0 +1,46 @@
+//! An office at a socket: what it takes to turn it, and what it is told by who looks on.
+//!
+//! - [`Station`]: its pump and its socket, which wait and turn, and know when the neighbours were last heard; [`at_address`] binds one
+//!   at the plan's address. Before a turn it waits once, as long at most as its [`Pace`] says (`specs/Waits.antt`). What it knows of
+//!   its neighbours, [`Hearing`] and [`Ways`], may be handed from thread to thread.
+//! - [`submit_some`] submits the sessions of a list that are the office's, as it takes them. So a run is rounds of sessions and turns
+//!   (`specs/Rounds.antt`), of which those count that [`TimedTurn`] says.
+//! - [`Binds`], [`Socket`], [`Wakes`]: what is needed of a network. [`UdpSockets`] is UDP; tests have sockets in memory.
+//! - [`Gate`]: is called before each turn, so that a test can hold an office.
+//! - [`Watch`]: is told once a second how far a run is, and of neighbours that were never reached or heard; [`Shared`] is what
+//!   several offices know of that.
+//!
+//! How often a turn comes, and that a datagram arrives, is no promise.
+#![tactic(auto)]
+
+mod address;
+mod around;
+mod client;
+mod fault;
+mod gate;
+mod hearing;
+mod opening;
+mod pace;
+mod sessions;
+mod shared;
+mod socket;
+mod station;
+mod udp;
+mod waits;
+mod watch;
+
+pub use crate::address::without_address;
+pub use crate::around::Around;
+pub use crate::client::submit_some;
+pub use crate::fault::RunFault;
+pub use crate::gate::{Gate, Open};
+pub use crate::hearing::{Hearing, Ways};
+pub use crate::opening::OpeningFault;
+pub use crate::pace::{Pace, TimedTurn};
+pub use crate::sessions::{add_lines, count_finished, count_of};
+pub use crate::shared::Shared;
+pub use crate::socket::{Binds, Socket, Wakes};
+pub use crate::station::{Station, at_address};
+pub use crate::udp::{UdpSocket, UdpSockets};
+pub use crate::waits::Waits;
+pub use crate::watch::{Progress, Quiet, Watch};
