@@ -13,7 +13,8 @@ use Rattle.socket_pump.specs.Turns.{Times, Stage, WhileHearing, AtRules, WhileTe
 use Rattle.durable_turns.specs.declared.fault.TurnFault.{TurnFault}
 use Rattle.durable_turns.specs.declared.fault.TurnFault.TheVariants.{WireFailed, StoreFailed, JournalFull, Memory}
 use Rattle.durable_turns.specs.Letting.{BreaksOff}
-use Rattle.durable_turns.specs.refinement.Faults.{told_as, BreaksStanding}
+use Rattle.durable_turns.specs.Breaking.{told_as}
+use Rattle.durable_turns.specs.refinement.Faults.{BreaksStanding}
 
 pub wire_failed : (failed : Bool) (es : List Entry) (a b : Account) (f : TurnFault) → f ≡ WireFailed → failed ≡ false → BreaksOff failed es a b f
 wire_failed failed es a b f is usable = subst (BreaksOff failed es a b) (sym is) usable

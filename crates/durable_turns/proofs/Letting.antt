@@ -3,7 +3,7 @@ use Rattle.std.proofs.Common.{◌≡◌, ℕ, zero, suc, ◌≤◌, Bool, true, 
 use Rattle.std.specs.Prelude.{All, slice_get}
 use mathlib.Core.List.{IsPrefix}
 use Rattle.std.proofs.lemmas.List.{take-append-le, take_all, take-append-drop}
-use Rattle.std.proofs.lemmas.List.Elements.{All-nil, All-cons, All-take}
+use Rattle.std.proofs.lemmas.List.Elements.{All-nil, All-cons, All-head, All-tail, All-take}
 use Rattle.std.proofs.lemmas.List.Concat.{flat_map-append}
 use Rattle.std.proofs.lemmas.Option.{slice_get_within}
 use Rattle.office_map.specs.PlanValue.{PlanValue}
@@ -11,7 +11,7 @@ use Rattle.site_core.specs.declared.event.Entry.{Entry}
 use Rattle.site_core.specs.Journals.{Site}
 use Rattle.locked_office.specs.Calls.{Key, DeskPass, Does, Looks}
 use Rattle.site_core.specs.Journals.{Receives}
-use Rattle.journal_stores.specs.Stores.{Stands, Finds}
+use Rattle.journal_stores.specs.Stores.{Stands, IsFound, Finds}
 use Rattle.journal_texts.specs.Written.{header_line, lines_of, entry_line, journal_text}
 use Rattle.socket_pump.specs.declared.pump.Turn.{Turn}
 use Rattle.socket_pump.specs.declared.pump.PumpFault.{PumpFault}
@@ -19,7 +19,7 @@ use Rattle.socket_pump.specs.Wires.{Account}
 use Rattle.socket_pump.specs.Chains.{Heard, Made, Hears, MakesFrame, Sends, sent_entry, datagram, answers}
 use Rattle.socket_pump.specs.Turns.{Times, Turned, Stage, WhileHearing, AtRules, WhileTelling}
 use Rattle.socket_pump.proofs.Telling.{Begins, begins_both, does_begins, sees_begins, sends_begins}
-use Rattle.durable_turns.specs.Letting.{StoreHas, FindsText, IsOfStanding, LetsOut, Posts, Turns}
+use Rattle.durable_turns.specs.Letting.{key_of, StoreHas, FindsText, IsOfStanding, LetsOut, Posts, Turns}
 use Rattle.durable_turns.specs.refinement.Mailed.{Mailed, IsMail, fresh, account_of, Fetches}
 use Rattle.durable_turns.proofs.Mailing.{heard_is_fetched}
 
@@ -42,7 +42,7 @@ stage_begins tells tag k last now p a f b q then (WhileTelling mid ruled receive
 
 -- ---- what stands
 
-has_on : (o : Option (List ℕ)) (k : Key) (old entries : List Entry) (n : ℕ) → n ≤ length old → IsPrefix old entries → StoreHas o k old n → StoreHas o k entries n
+pub has_on : (o : Option (List ℕ)) (k : Key) (old entries : List Entry) (n : ℕ) → n ≤ length old → IsPrefix old entries → StoreHas o k old n → StoreHas o k entries n
 has_on None k old entries n le b h = tt
 has_on (Some bytes) k old entries n le b h = h ∙ ap (journal_text k.0 k.1) (sym (take-append-le n old b.0 le) ∙ ap (take n) b.1)
 
@@ -83,6 +83,14 @@ all_there tag k p q z (m ∷ ms) s b =
     let here = there_on tag s.0 z m on (one_there tag k p s.0 m s.1) in
     let one : IsOfStanding tag z.seen (length z.seen) (datagram m) = (m, refl, here.0, slice_get_within z.seen here.0 (sent_entry tag m) here.1, here.1) in
     All-cons (IsOfStanding tag z.seen (length z.seen)) (datagram m) (map datagram ms) one (all_there tag k s.0 q z ms s.2 b)
+
+-- what is of an entry that stands stays so while the journal goes on and more of it stands
+pub standing_on : (tag : ℕ) (es fs : List Entry) (n m : ℕ) (out : List (ℕ × List ℕ)) → n ≤ m → IsPrefix es fs → All (IsOfStanding tag es n) out → All (IsOfStanding tag fs m) out
+standing_on tag es fs n m [] le p h = All-nil (IsOfStanding tag fs m)
+standing_on tag es fs n m (d ∷ ds) le p h =
+    let one : IsOfStanding tag es n d = All-head (IsOfStanding tag es n) d ds h in
+    let here : IsOfStanding tag fs m d = (one.0, one.1, one.2, omega (arith, one.3, le), ap (λ l. slice_get l one.2) (sym p.1) ∙ get_on es p.0 one.2 (sent_entry tag one.0) one.4) in
+    All-cons (IsOfStanding tag fs m) d ds here (standing_on tag es fs n m ds le p (All-tail (IsOfStanding tag es n) d ds h))
 
 -- what the mail accepted are the frames that were made
 mail_is : (tag : ℕ) (k : Key) (last : Times) (now : ℕ) (p : DeskPass) (t : Turn) (a b : Account) (q : DeskPass) (then : Times) → a.accepted ≡ [] → (x : Turned true tag k last now p a t b q then) → b.accepted ≡ map datagram x.made
@@ -179,23 +187,29 @@ has_all (Some bytes) new k es n m text h is stands all =
 pub kept : (o new : Option (List ℕ)) (k : Key) (es : List Entry) (n : ℕ) → StoreHas o k es n → new ≡ o → StoreHas new k es n
 kept o new k es n h same = subst (λ x. StoreHas x k es n) (sym same) h
 
-pub stood_all : (o new : Option (List ℕ)) (k : Key) (old es entries : List Entry) (n m : ℕ) (plan : PlanValue) (me : ℕ) (before text : List ℕ) → StoreHas o k old n → n ≤ length old → IsPrefix old entries → es ≡ entries → (plan, me) ≡ k →
-    before ≡ [] → text ≡ before ++ lines_of plan (drop n entries) → m ≡ length entries → Stands o text new → StoreHas new k es m
-stood_all o new k old es entries n m plan me before text has le begins same key none is all stands =
-    let later : StoreHas o k entries n = has_on o k old entries n le begins has in
-    let lines : text ≡ lines_of k.0 (drop n entries) = is ∙ ap (λ l. l ++ lines_of plan (drop n entries)) none ∙ ap (λ (x : Key). lines_of x.0 (drop n entries)) key in
-    subst (λ l. StoreHas new k l m) (sym same) (has_all o new k entries n m text later lines stands all)
+-- of an office that a pass took
+pub has_taken : (o : Option (List ℕ)) (k : Key) (old : List Entry) (s : Site) (n : ℕ) → n ≤ length old → IsPrefix old s.entries → key_of s ≡ k → StoreHas o k old n → StoreHas o (key_of s) s.entries n
+has_taken o k old s n le begins key h = subst (λ (x : Key). StoreHas o x s.entries n) (sym key) (has_on o k old s.entries n le begins h)
+
+pub has_given : (o : Option (List ℕ)) (k : Key) (s : Site) (es : List Entry) (n : ℕ) → key_of s ≡ k → es ≡ s.entries → StoreHas o (key_of s) s.entries n → StoreHas o k es n
+has_given o k s es n key same h = subst (λ l. StoreHas o k l n) (sym same) (subst (λ (x : Key). StoreHas o x s.entries n) key h)
+
+pub finds_given : (o found : Option (List ℕ)) (k : Key) (s : Site) (es : List Entry) → key_of s ≡ k → es ≡ s.entries → FindsText o found (key_of s) s.entries → FindsText o found k es
+finds_given o found k s es key same h = subst (λ l. FindsText o found k l) (sym same) (subst (λ (x : Key). FindsText o found x s.entries) key h)
+
+pub stood_all : (o new : Option (List ℕ)) (s : Site) (plan : PlanValue) (n m : ℕ) (before text : List ℕ) → StoreHas o (key_of s) s.entries n → plan ≡ s.plan → before ≡ [] → text ≡ before ++ lines_of plan (drop n s.entries) → m ≡ length s.entries → Stands o text new →
+    StoreHas new (key_of s) s.entries m
+stood_all o new s plan n m before text has same none is all stands =
+    has_all o new (key_of s) s.entries n m text has (is ∙ ap (λ l. l ++ lines_of plan (drop n s.entries)) none ∙ ap (λ (x : PlanValue). lines_of x (drop n s.entries)) same) stands all
 
 -- ---- what a start finds
 
-pub finds : (o found : Option (List ℕ)) (k : Key) (es : List Entry) (n : ℕ) → StoreHas o k es n → found ≡ o → FindsText o found k es
+pub finds : (o found : Option (List ℕ)) (k : Key) (es : List Entry) (n : ℕ) → StoreHas o k es n → IsFound o found → FindsText o found k es
 finds None found k es n h same = tt
-finds (Some bytes) found k es n h same =
+finds (Some bytes) None k es n h same = tt
+finds (Some bytes) (Some found) k es n h same =
     subst (λ x. FindsText (Some bytes) x k es) (sym same)
     (lines_of k.0 (drop n es), sym (whole k es n) ∙ ap (λ l. l ++ lines_of k.0 (drop n es)) (sym h))
-
-pub found_still : (o found : Option (List ℕ)) (k : Key) (old es entries : List Entry) (n : ℕ) → StoreHas o k old n → n ≤ length old → IsPrefix old entries → es ≡ entries → found ≡ o → FindsText o found k es
-found_still o found k old es entries n has le begins same is = subst (λ l. FindsText o found k l) (sym same) (finds o found k entries n (has_on o k old entries n le begins has) is)
 
 torn : (o found : Option (List ℕ)) (k : Key) (es : List Entry) (n : ℕ) (text : List ℕ) → StoreHas o k es n → text ≡ lines_of k.0 (drop n es) → Finds o text found → FindsText o found k es
 torn None found k es n text h is f = tt
@@ -203,9 +217,6 @@ torn (Some bytes) None k es n text h is f = tt
 torn (Some bytes) (Some found) k es n text h is f =
     (f.rest, sym (whole k es n) ∙ ap (λ l. l ++ lines_of k.0 (drop n es)) (sym h) ∙ ap (λ l. bytes ++ l) (sym is ∙ f.begins) ∙ sym (append_assoc bytes f.part f.rest) ∙ ap (λ l. l ++ f.rest) (sym f.after))
 
-pub torn_later : (o new found : Option (List ℕ)) (k : Key) (old es entries : List Entry) (n : ℕ) (plan : PlanValue) (me : ℕ) (before text : List ℕ) → StoreHas o k old n → n ≤ length old → IsPrefix old entries → es ≡ entries → (plan, me) ≡ k → before ≡ [] →
-    text ≡ before ++ lines_of plan (drop n entries) → Finds o text found → new ≡ o → FindsText new found k es
-torn_later o new found k old es entries n plan me before text has le begins same key none is f kept =
-    let later : StoreHas o k entries n = has_on o k old entries n le begins has in
-    let lines : text ≡ lines_of k.0 (drop n entries) = is ∙ ap (λ l. l ++ lines_of plan (drop n entries)) none ∙ ap (λ (x : Key). lines_of x.0 (drop n entries)) key in
-    subst (λ y. FindsText y found k es) (sym kept) (subst (λ l. FindsText o found k l) (sym same) (torn o found k entries n text later lines f))
+pub torn_later : (o new found : Option (List ℕ)) (s : Site) (n : ℕ) (before text : List ℕ) → StoreHas o (key_of s) s.entries n → before ≡ [] → text ≡ before ++ lines_of s.plan (drop n s.entries) → Finds o text found → new ≡ o → FindsText new found (key_of s) s.entries
+torn_later o new found s n before text has none is f kept =
+    subst (λ y. FindsText y found (key_of s) s.entries) (sym kept) (torn o found (key_of s) s.entries n text has (is ∙ ap (λ l. l ++ lines_of s.plan (drop n s.entries)) none) f)

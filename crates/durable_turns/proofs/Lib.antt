@@ -1,3 +1,3 @@
-mod Letting
+pub mod Letting
 mod Mailing
 mod Faults

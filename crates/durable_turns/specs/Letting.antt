@@ -2,6 +2,7 @@
 use Rattle.std.specs.Prelude.{◌≡◌, ◌<◌, ◌≤◌, ℕ, Bool, true, false, List, ◌++◌, length, take, slice_get, All, Option, Some, None}
 use Rattle.site_core.specs.declared.event.Entry.{Entry}
 use Rattle.site_core.specs.Limits.{most_entries}
+use Rattle.site_core.specs.Journals.{Site}
 use Rattle.locked_office.specs.Calls.{Key, DeskPass, Looks}
 use Rattle.journal_texts.specs.Written.{journal_text}
 use Rattle.socket_pump.specs.declared.pump.Turn.{Turn}
@@ -10,6 +11,9 @@ use Rattle.socket_pump.specs.Chains.{Made, sent_entry, datagram}
 use Rattle.socket_pump.specs.Turns.{Times, Turned}
 use Rattle.durable_turns.specs.declared.fault.TurnFault.{TurnFault}
 use Rattle.durable_turns.specs.declared.fault.TurnFault.TheVariants.{WireFailed, StoreFailed, JournalFull, Memory}
+
+abbrev pub key_of : Site → Key
+key_of s = (s.plan, s.me)
 
 -- the bytes that stand, where they are known, are the text of the journal's first n entries
 abbrev pub StoreHas : Option (List ℕ) → Key → List Entry → ℕ → Type 0

@@ -1,7 +1,7 @@
 //! Why a turn breaks off.
 
 ghost use Rattle.std.specs.Prelude.{◌≡◌};
-ghost use Rattle.durable_turns.specs.refinement.Faults.{told_as};
+ghost use Rattle.durable_turns.specs.Breaking.{told_as};
 
 use socket_pump::PumpFault;
 

@@ -4,7 +4,8 @@
 //!   into the [`Mail`], has the pump turn between the office and the mail, appends the entries that are new to the store, and then
 //!   posts the frames that were made. Whatever the answer is, the store has the text of the journal's first entries (`has`), and
 //!   each datagram that left is of a frame whose entry is among these (`lets_out`): a loss at any moment is a turn whose calls
-//!   fail from then on. What a start may find after a failed append is a beginning of the journal's text (`found`).
+//!   fail from then on. What a start may find after a failed append is a beginning of the journal's text (`found`). At a fault
+//!   nothing was done at the office but what a pump does (`broke`, definitions in `specs/Breaking.antt`).
 #![tactic(auto)]
 
 mod fault;
@@ -16,4 +17,5 @@ mod turning;
 
 pub use crate::fault::TurnFault;
 pub use crate::mail::Mail;
+pub use crate::standing::stand_office;
 pub use crate::turning::turn;

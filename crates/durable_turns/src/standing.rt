@@ -4,8 +4,9 @@ ghost use Rattle.std.specs.Prelude.{◌≡◌, ◌≤◌, ◌++◌, false, lengt
 ghost use Rattle.std.specs.String.{string_bytes};
 ghost use Rattle.own_lock.specs.Passes.{IsOf};
 ghost use Rattle.locked_office.specs.Calls.{Stays, Looks};
+ghost use Rattle.journal_stores.specs.Stores.{IsFound};
 ghost use Rattle.journal_texts.specs.Written.{lines_of};
-ghost use Rattle.durable_turns.specs.Letting.{StoreHas, FindsText};
+ghost use Rattle.durable_turns.specs.Letting.{StoreHas, FindsText, key_of};
 ghost use Rattle.durable_turns.specs.refinement.Faults.{BreaksStanding};
 
 use crate::fault::TurnFault;
@@ -38,14 +39,34 @@ pub(crate) fn stand<R: Wait, S: Store>(
     ensures same { OnErr result (stood.new ≡ stood.old) }
     ensures usable { OnOk result (S.failed store.new ≡ false) }
     ensures fault { IfErr result (BreaksStanding (S.failed store.new)) }
-    ensures whole { OnOk result (S.found store.old ≡ S.stood store.old → S.found store.new ≡ S.stood store.new) }
-    ensures found { OnErr result (S.found store.old ≡ S.stood store.old → FindsText (S.stood store.new) (S.found store.new) desk.now.key pass.new.seen) }
+    ensures whole { OnOk result (IsFound (S.stood store.old) (S.found store.old) → IsFound (S.stood store.new) (S.found store.new)) }
+    ensures found { OnErr result (IsFound (S.stood store.old) (S.found store.old) → FindsText (S.stood store.new) (S.found store.new) desk.now.key pass.new.seen) }
+{
+    let held = desk.lock().take(rt, pass);
+    let stands = stand_office(alloc, held.get(), store, stood);
+    desk.lock().give(pass, held);
+    stands
+}
+
+/// All entries of an office stand from now on. Where none is new, nothing is appended.
+pub fn stand_office<S: Store>(
+    alloc: Global,
+    office: &Office,
+    store: &mut S,
+    stood: &mut usize,
+) -> Result<(), TurnFault>
+    requires usable { S.failed store.old ≡ false }
+    requires has { StoreHas (S.stood store.old) (key_of office.now) office.now.entries stood.old }
+    ensures has { StoreHas (S.stood store.new) (key_of office.now) office.now.entries stood.new }
+    ensures all { OnOk result (stood.new ≡ length office.now.entries) }
+    ensures same { OnErr result (stood.new ≡ stood.old) }
+    ensures usable { OnOk result (S.failed store.new ≡ false) }
+    ensures fault { IfErr result (BreaksStanding (S.failed store.new)) }
+    ensures whole { OnOk result (IsFound (S.stood store.old) (S.found store.old) → IsFound (S.stood store.new) (S.found store.new)) }
+    ensures found { OnErr result (IsFound (S.stood store.old) (S.found store.old) → FindsText (S.stood store.new) (S.found store.new) (key_of office.now) office.now.entries) }
 {
     let mut text = String::new(alloc);
-    let held = desk.lock().take(rt, pass);
-    let written = lines_since(alloc, &mut text, held.get(), *stood);
-    desk.lock().give(pass, held);
-    let count = match written {
+    let count = match lines_since(alloc, &mut text, office, *stood) {
         Ok(count) => count,
         Err(_) => return Err(TurnFault::Memory),
     };

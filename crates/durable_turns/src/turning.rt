@@ -1,9 +1,12 @@
 //! A turn.
 
-ghost use Rattle.std.specs.Prelude.{◌≡◌, ◌≤◌, false, true, length, OnOk, OnErr, IfErr, IfOk};
+ghost use Rattle.std.specs.Prelude.{◌≡◌, ◌≤◌, ◌⊎◌, false, true, length, OnOk, OnErr, IfErr, IfOk};
+ghost use mathlib.Core.List.{IsPrefix};
 ghost use Rattle.own_lock.specs.Passes.{IsOf};
 ghost use Rattle.locked_office.specs.Calls.{Stays};
+ghost use Rattle.journal_stores.specs.Stores.{IsFound};
 ghost use Rattle.socket_pump.specs.Last.{last_of};
+ghost use Rattle.durable_turns.specs.Breaking.{BrokeAt};
 ghost use Rattle.durable_turns.specs.Letting.{StoreHas, FindsText, LetsOut, Turns, BreaksOff};
 
 use crate::fault::TurnFault;
@@ -47,13 +50,16 @@ pub fn turn<R: Wait, W: Wire, S: Store>(
     ensures stays { Stays desk.now pass.old pass.new }
     ensures has { StoreHas (S.stood store.new) desk.now.key pass.new.seen stood.new }
     ensures within { stood.new ≤ length pass.new.seen }
+    ensures grows { IsPrefix pass.old.seen pass.new.seen }
+    ensures steps { (stood.new ≡ stood.old) ⊎ (stood.new ≡ length pass.new.seen) }
     ensures lets_out { LetsOut W.tells pass.old.tag (W.account wire.old) (W.account wire.new) pass.new.seen stood.new }
     ensures all { OnOk result (stood.new ≡ length pass.new.seen) }
     ensures usable { OnOk result (S.failed store.new ≡ false) }
     ensures fault { IfErr result (BreaksOff (S.failed store.new) pass.new.seen (W.account wire.old) (W.account wire.new)) }
+    ensures broke { IfErr result (λ f. BrokeAt pass.old.tag desk.now.key (last_of pump.old.lasts) now pass.old f pass.new (last_of pump.new.lasts)) }
     ensures turned { IfOk result (λ t. Turns W.tells pass.old.tag desk.now.key (last_of pump.old.lasts) now pass.old (W.account wire.old) t (W.account wire.new) pass.new (last_of pump.new.lasts)) }
-    ensures whole { OnOk result (S.found store.old ≡ S.stood store.old → S.found store.new ≡ S.stood store.new) }
-    ensures found { OnErr result (S.found store.old ≡ S.stood store.old → FindsText (S.stood store.new) (S.found store.new) desk.now.key pass.new.seen) }
+    ensures whole { OnOk result (IsFound (S.stood store.old) (S.found store.old) → IsFound (S.stood store.new) (S.found store.new)) }
+    ensures found { OnErr result (IsFound (S.stood store.old) (S.found store.old) → FindsText (S.stood store.new) (S.found store.new) desk.now.key pass.new.seen) }
 {
     match fetch(wire, mail) {
         Ok(()) => {}

@@ -1,4 +1,4 @@
-mod LegalBeginnings
+pub mod LegalBeginnings
 mod Parts
 mod Kept
 mod Restarts

@@ -1,10 +1,10 @@
-//! Offices whose stores fail are lost, and opened again from what is found.
+//! Offices whose stores or wires fail are lost, and opened again from what is found.
 
 use crate::tests::{Both, PAIR, Side, carry, open_both, open_side, programs, turn, value_after};
 use durable_turns::TurnFault;
 use journal_stores::MemoryStore;
 use journal_weave::{GivenJournal, weave};
-use office_map::Plan;
+use office_map::{OfficeId, Plan};
 use session_language::Program;
 use site_core::{Entry, Event, Rule};
 use socket_pump::MemoryWire;
@@ -28,18 +28,18 @@ const NONE: Losses = Losses {
 };
 
 /// What a start finds.
-fn found(alloc: Global, store: &MemoryStore) -> Result<Vec<u8>, AllocError> {
+fn found_in(alloc: Global, store: &MemoryStore) -> Result<Vec<u8>, AllocError> {
     let mut bytes = Vec::new(alloc);
     bytes.extend_from_slice(store.bytes())?;
     bytes.extend_from_slice(store.torn())?;
     Ok(bytes)
 }
 
-/// An office is lost with all that doesn't stand, and opened again. Its store soon fails again, until half a second is over.
+/// An office is lost with all that doesn't stand, and opened again. Its store soon fails again, until a quarter of a second is over.
 fn lose(alloc: Global, plan: &Plan, side: &mut Box<Side>, now: u64) -> Result<(), Fail> {
-    let found = found(alloc, &side.store)?;
+    let found = found_in(alloc, &side.store)?;
     *side = open_side(alloc, plan, side.me, &found)?;
-    if now < 500 {
+    if now < 250 {
         let call = 1 + (now / 50 % 3) as usize;
         side.store.fail_at(call, (now / 7 % 90) as usize);
     }
@@ -63,7 +63,7 @@ fn tell<R: Wait>(rt: &R, side: &mut Side, losses: &mut Losses) -> Result<(), Fai
     Ok(())
 }
 
-/// A turn, after which an office whose store failed is lost. What left comes to the other, whatever the turn's answer is.
+/// A turn, after which an office whose store or wire failed is lost. What left comes to the other, whatever the turn's answer is.
 fn step<R: Wait>(
     rt: &R,
     alloc: Global,
@@ -77,7 +77,7 @@ fn step<R: Wait>(
     carry(side, other)?;
     match turned {
         Ok(_) => tell(rt, side, losses),
-        Err(TurnFault::StoreFailed) => {
+        Err(TurnFault::StoreFailed | TurnFault::WireFailed) => {
             if losses.count == 0 {
                 losses.torn = side.store.torn().len();
             }
@@ -88,7 +88,7 @@ fn step<R: Wait>(
     }
 }
 
-/// Twelve turns of each office, and more until both sessions ended: what is told of each.
+/// Six turns of each office, and more until both sessions ended: what is told of each.
 fn go_on<R: Wait>(
     rt: &R,
     alloc: Global,
@@ -102,7 +102,7 @@ fn go_on<R: Wait>(
     let mut a = NONE;
     let mut b = NONE;
     for round in 0..60u64 {
-        if round >= 12 && a.told.is_some() && b.told.is_some() {
+        if round >= 6 && a.told.is_some() && b.told.is_some() {
             break;
         }
         submit_once(rt, &mut both.a, first);
@@ -173,47 +173,77 @@ fn is_one_world<R: Abort>(
     Ok(())
 }
 
-/// Whose store fails first.
+/// What every run begins with.
+#[derive(Drop)]
+struct Inputs {
+    plan: Plan,
+    programs: Vec<Program>,
+}
+
+fn read_inputs(alloc: Global) -> Result<Inputs, Fail> {
+    let plan = Plan::read(alloc, PAIR.as_bytes())?;
+    let programs = programs(alloc, &plan)?;
+    Ok(Inputs { plan, programs })
+}
+
+/// Who is lost first.
 #[derive(Clone, Copy)]
 enum Who {
     A,
     B,
 }
 
-/// That office's store fails at this append, of which so many bytes are found: both sessions finish, one after the other, and
-/// the journals are those of one world.
-fn lost_at<R: Wait + Abort>(
+/// By what: its store fails at this append, of which so many bytes are found; or its wire at this call.
+#[derive(Clone, Copy)]
+enum By {
+    Store(usize, usize),
+    Wire(u64),
+}
+
+fn fail(side: &mut Side, by: By) {
+    match by {
+        By::Store(call, found) => side.store.fail_at(call, found),
+        By::Wire(call) => side.wire.fail_at(call),
+    }
+}
+
+/// That office is lost so: both sessions finish, one after the other, and the journals are those of one world.
+fn lost_by<R: Wait + Abort>(
     rt: &R,
     alloc: Global,
+    given: &Inputs,
     who: Who,
-    call: usize,
-    found: usize,
+    by: By,
 ) -> Result<Losses, Fail> {
-    let plan = Plan::read(alloc, PAIR.as_bytes())?;
-    let programs = programs(alloc, &plan)?;
-    let mut both = open_both(alloc, &plan)?;
+    let mut both = open_both(alloc, &given.plan)?;
     match who {
-        Who::A => both.a.store.fail_at(call, found),
-        Who::B => both.b.store.fail_at(call, found),
+        Who::A => fail(&mut both.a, by),
+        Who::B => fail(&mut both.b, by),
     }
-    let (a, b) = go_on(rt, alloc, &plan, &mut both, &programs)?;
+    let (a, b) = go_on(rt, alloc, &given.plan, &mut both, &given.programs)?;
     let told = (a.told, b.told);
     assert!(rt; told == (Some(70), Some(71)) || told == (Some(71), Some(101)));
     let journals = journals(rt, alloc, &mut both)?;
-    is_one_world(rt, alloc, &plan, &journals)?;
+    is_one_world(rt, alloc, &given.plan, &journals)?;
     Ok(match who {
         Who::A => a,
         Who::B => b,
     })
 }
 
-/// Every seventh beginning of the bytes of that append is found. How often offices were lost.
-fn each_part<R: Wait + Abort>(rt: &R, alloc: Global, who: Who, call: usize) -> Result<u32, Fail> {
+/// Each beginning of the bytes of that append is found, in a run of its own. How often offices were lost.
+fn each_part<R: Wait + Abort>(
+    rt: &R,
+    alloc: Global,
+    given: &Inputs,
+    who: Who,
+    call: usize,
+) -> Result<u32, Fail> {
     let mut lost: u32 = 0;
-    for seventh in 0..1000 {
-        let losses = lost_at(rt, alloc, who, call, seventh * 7)?;
+    for found in 0..10_000 {
+        let losses = lost_by(rt, alloc, given, who, By::Store(call, found))?;
         lost = lost.saturating_add(losses.count);
-        if losses.torn < seventh * 7 || losses.count == 0 {
+        if losses.torn < found || losses.count == 0 {
             return Ok(lost);
         }
     }
@@ -222,24 +252,67 @@ fn each_part<R: Wait + Abort>(rt: &R, alloc: Global, who: Who, call: usize) -> R
 
 /// Each of its appends fails, in a run of its own, up to one that isn't made. How many were made.
 fn each_append<R: Wait + Abort>(rt: &R, alloc: Global, who: Who) -> Result<usize, Fail> {
+    let given = read_inputs(alloc)?;
     for call in 1..100 {
-        if each_part(rt, alloc, who, call)? == 0 {
+        if each_part(rt, alloc, &given, who, call)? == 0 {
             return Ok(call - 1);
         }
     }
     Err(Fail::from("fewer appends"))
 }
 
+/// Each call of its wire fails, in a run of its own, up to one that isn't made: what was appended stands, and of its frames none or
+/// some left. How many were made.
+fn each_call<R: Wait + Abort>(rt: &R, alloc: Global, who: Who) -> Result<u64, Fail> {
+    let given = read_inputs(alloc)?;
+    for call in 0..1000 {
+        if lost_by(rt, alloc, &given, who, By::Wire(call))?.count == 0 {
+            return Ok(call);
+        }
+    }
+    Err(Fail::from("fewer calls"))
+}
+
 #[test]
-fn the_first_is_lost(rt: HostRuntime) -> Result<(), Fail> {
+fn the_first_is_lost_at_each_append(rt: HostRuntime) -> Result<(), Fail> {
     let appends = each_append(&rt, rt.alloc(), Who::A)?;
     assert!(rt; appends > 1);
     Ok(())
 }
 
 #[test]
-fn the_second_is_lost(rt: HostRuntime) -> Result<(), Fail> {
+fn the_second_is_lost_at_each_append(rt: HostRuntime) -> Result<(), Fail> {
     let appends = each_append(&rt, rt.alloc(), Who::B)?;
     assert!(rt; appends > 1);
+    Ok(())
+}
+
+#[test]
+fn each_is_lost_at_each_call_of_its_wire(rt: HostRuntime) -> Result<(), Fail> {
+    for who in [Who::A, Who::B] {
+        let calls = each_call(&rt, rt.alloc(), who)?;
+        assert!(rt; calls > 1);
+    }
+    Ok(())
+}
+
+/// The first line of the first office's journal.
+const FIRST_LINE: &str = "journal 1 run 42 office a\n";
+
+/// What an office has in its store that is opened from this.
+fn started(alloc: Global, plan: &Plan, found: &[u8]) -> Result<(Vec<u8>, usize), Fail> {
+    let side = open_side(alloc, plan, OfficeId::new(0), found)?;
+    Ok((found_in(alloc, &side.store)?, side.stood))
+}
+
+/// An office of which not even the first line stands has done nothing, as one of which no more stands.
+#[test]
+fn a_first_line_is_torn(rt: HostRuntime) -> Result<(), Fail> {
+    let plan = Plan::read(rt.alloc(), PAIR.as_bytes())?;
+    for count in 0..=FIRST_LINE.len() {
+        let (bytes, stood) = started(rt.alloc(), &plan, &FIRST_LINE.as_bytes()[..count])?;
+        assert_eq!(rt; bytes.as_slice(), FIRST_LINE.as_bytes());
+        assert_eq!(rt; stood, 0);
+    }
     Ok(())
 }

@@ -1,6 +1,7 @@
-use Rattle.std.proofs.Common.{◌≡◌, ℕ, true, sym, subst, ◌≤◌, length}
+use Rattle.std.proofs.Common.{◌≡◌, ℕ, true, [], refl, sym, subst, ◌≤◌, length, append-nil, inl, inr}
 use Rattle.socket_pump.specs.Last.{last_of}
 use Rattle.socket_pump.proofs.Telling.{begins_both, does_begins}
+use Rattle.durable_turns.specs.Breaking.{BeforePump, InPump, AfterPump}
 use Rattle.durable_turns.specs.refinement.Mailed.{account_of}
 use Rattle.durable_turns.proofs.Letting.{turned_begins, stage_begins, has_later, within_later, finds, posted, turns}
 use Rattle.durable_turns.proofs.Faults.{wire_failed, pump_broke, standing_broke}
@@ -79,3 +80,58 @@ returns-in-Err-stand-clause-fault g c =
 pub returns-in-Err-post-clause-fault : goal.returns-in-Err-post-clause-fault
 returns-in-Err-post-clause-fault g c =
     wire_failed (g.S.Store.failed c.stand.new.store) c.stand.new.pass.seen (g.W.Wire.account c.args.wire.now) (g.W.Wire.account c.post.new.wire) c.in-Err-post.fault c.in-Err-post.ensures.fault c.in-Ok-stand.ensures.usable
+
+pub returns-in-Err-clause-steps : goal.returns-in-Err-clause-steps
+returns-in-Err-clause-steps g c = inl refl
+
+pub returns-in-Err-turn-clause-steps : goal.returns-in-Err-turn-clause-steps
+returns-in-Err-turn-clause-steps g c = inl refl
+
+pub returns-in-Err-stand-clause-steps : goal.returns-in-Err-stand-clause-steps
+returns-in-Err-stand-clause-steps g c = inl c.in-Err-stand.ensures.same
+
+pub returns-in-Ok-post-clause-steps : goal.returns-in-Ok-post-clause-steps
+returns-in-Ok-post-clause-steps g c = inr c.in-Ok-stand.ensures.all
+
+pub returns-in-Err-post-clause-steps : goal.returns-in-Err-post-clause-steps
+returns-in-Err-post-clause-steps g c = inr c.in-Ok-stand.ensures.all
+
+pub returns-in-Err-clause-grows : goal.returns-in-Err-clause-grows
+returns-in-Err-clause-grows g c = ([], append-nil c.args.pass.now.seen)
+
+pub returns-in-Err-turn-clause-grows : goal.returns-in-Err-turn-clause-grows
+returns-in-Err-turn-clause-grows g c =
+    let b = stage_begins true c.args.pass.now.tag c.args.desk.now.key (last_of c.args.pump.now.lasts) c.args.now c.args.pass.now (account_of c.fetch.new.mail) c.in-Err-turn.fault (account_of c.turn.new.wire) c.turn.new.pass (last_of c.turn.new.self.lasts) c.in-Err-turn.ensures.turned in
+    (b.0, sym b.1)
+
+pub returns-in-Err-stand-clause-grows : goal.returns-in-Err-stand-clause-grows
+returns-in-Err-stand-clause-grows g c =
+    let b = turned_begins true c.args.pass.now.tag c.args.desk.now.key (last_of c.args.pump.now.lasts) c.args.now c.args.pass.now (account_of c.fetch.new.mail) c.in-Ok-turn.turn (account_of c.turn.new.wire) c.turn.new.pass (last_of c.turn.new.self.lasts) c.in-Ok-turn.ensures.turned in
+    let on = begins_both c.args.pass.now c.turn.new.pass c.stand.new.pass b (does_begins _ c.args.desk.now.key c.turn.new.pass c.stand.new.pass c.stand.ensures.looked) in
+    (on.0, sym on.1)
+
+pub returns-in-Ok-post-clause-grows : goal.returns-in-Ok-post-clause-grows
+returns-in-Ok-post-clause-grows g c =
+    let b = turned_begins true c.args.pass.now.tag c.args.desk.now.key (last_of c.args.pump.now.lasts) c.args.now c.args.pass.now (account_of c.fetch.new.mail) c.in-Ok-turn.turn (account_of c.turn.new.wire) c.turn.new.pass (last_of c.turn.new.self.lasts) c.in-Ok-turn.ensures.turned in
+    let on = begins_both c.args.pass.now c.turn.new.pass c.stand.new.pass b (does_begins _ c.args.desk.now.key c.turn.new.pass c.stand.new.pass c.stand.ensures.looked) in
+    (on.0, sym on.1)
+
+pub returns-in-Err-post-clause-grows : goal.returns-in-Err-post-clause-grows
+returns-in-Err-post-clause-grows g c =
+    let b = turned_begins true c.args.pass.now.tag c.args.desk.now.key (last_of c.args.pump.now.lasts) c.args.now c.args.pass.now (account_of c.fetch.new.mail) c.in-Ok-turn.turn (account_of c.turn.new.wire) c.turn.new.pass (last_of c.turn.new.self.lasts) c.in-Ok-turn.ensures.turned in
+    let on = begins_both c.args.pass.now c.turn.new.pass c.stand.new.pass b (does_begins _ c.args.desk.now.key c.turn.new.pass c.stand.new.pass c.stand.ensures.looked) in
+    (on.0, sym on.1)
+
+pub returns-in-Err-clause-broke : goal.returns-in-Err-clause-broke
+returns-in-Err-clause-broke g c = BeforePump c.in-Err.ensures.fault refl (λ v n. refl)
+
+pub returns-in-Err-turn-clause-broke : goal.returns-in-Err-turn-clause-broke
+returns-in-Err-turn-clause-broke g c = InPump c.in-Err-turn.fault c.of_pump.ensures (account_of c.fetch.new.mail) (account_of c.turn.new.wire) c.in-Err-turn.ensures.turned
+
+pub returns-in-Err-stand-clause-broke : goal.returns-in-Err-stand-clause-broke
+returns-in-Err-stand-clause-broke g c =
+    AfterPump c.in-Ok-turn.turn (account_of c.fetch.new.mail) (account_of c.turn.new.wire) (record { mid = c.turn.new.pass; turned = c.in-Ok-turn.ensures.turned; looked = c.stand.ensures.looked })
+
+pub returns-in-Err-post-clause-broke : goal.returns-in-Err-post-clause-broke
+returns-in-Err-post-clause-broke g c =
+    AfterPump c.in-Ok-turn.turn (account_of c.fetch.new.mail) (account_of c.turn.new.wire) (record { mid = c.turn.new.pass; turned = c.in-Ok-turn.ensures.turned; looked = c.stand.ensures.looked })
