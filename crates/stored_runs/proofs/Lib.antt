@@ -1,0 +1,9 @@
+mod Reading
+mod Submitting
+mod Outcomes
+mod Growing
+mod Told
+mod Running
+mod Beginning
+mod Ending
+mod Goes

@@ -1,0 +1,25 @@
+//! An office that keeps its journal in a store, and goes on from there: killed at whatever moment, it loses nothing that it told.
+//!
+//! - [`resumed`] makes the office of what was found in its store, and says which of a run's sessions are left
+//!   (`specs/Keeping.antt`): those that it submitted begin its own of the list. Where the store hasn't its journal, it names the line.
+//! - [`run_stored`] turns it at a station (clause `goes_on`, definitions in `specs/Runs.antt`): whatever ends the run, the store has
+//!   the text of the journal's first entries, each datagram that left is of one of them, and what is told as finished finished by
+//!   them. It is told as soon as it stands.
+//!
+//! What the offices of a network that are lost and go on so have done is one world (`office_restarts`).
+#![tactic(auto)]
+
+mod books;
+mod ended;
+mod fault;
+mod keeping;
+mod lines;
+mod run;
+mod submits;
+mod telling;
+mod turning;
+
+pub use crate::ended::Ended;
+pub use crate::fault::{KeptFault, LineFault, StoredFault};
+pub use crate::keeping::{Kept, resumed};
+pub use crate::run::run_stored;
