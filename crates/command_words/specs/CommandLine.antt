@@ -1,11 +1,16 @@
 -- What a command line asks for: the commands that there are, in the terms of the crate that reads them.
-use Rattle.std.specs.Prelude.{◌≡◌, ◌<◌, ◌^◌, ℕ, List, [], ◌∷◌, true, false, map, Option, Some, option_map, option_and_then, unwrap_or, codes}
+use Rattle.std.specs.Prelude.{◌≡◌, ◌<◌, ◌^◌, ◌||◌, ℕ, Bool, List, [], ◌∷◌, true, false, map, Option, Some, None, is_some, option_map, option_and_then, unwrap_or, if◌then◌else◌, codes}
 use Rattle.std.specs.Str.{bytes_eq}
 use Rattle.std.specs.Str.Parse.{IsNumeral, without_leading_plus, digits_value}
-use Rattle.clap.specs.Words.{App, Row, Rule, Text, all_of, first_of, new_app, new_rule, subcommand_of, with_rule, with_subcommand}
+use Rattle.clap.specs.Kinds.{or_else}
+use Rattle.clap.specs.Words.{App, Kinds, Row, Rule, Text, all_of, fault_of, first_of, new_app, new_rule, subcommand_of, with_rule, with_subcommand}
+use Rattle.clap.specs.declared.builder.action.ArgAction.TheVariants.{SetTrue}
 use Rattle.clap.specs.declared.builder.value_parser.ValueParser.TheVariants as parsers
+use Rattle.clap.specs.declared.error.kind.ErrorKind.TheVariants as kinds
+use Rattle.journal_stores.specs.declared.file.Sync.{Sync}
+use Rattle.journal_stores.specs.declared.file.Sync.TheVariants as syncs
 use Rattle.command_words.specs.declared.command_line.Request.{Request}
-use Rattle.command_words.specs.declared.command_line.Request.TheVariants.{Serial, Sim, Random, Run, Live, Audit}
+use Rattle.command_words.specs.declared.command_line.Request.TheVariants.{Serial, Sim, Random, Run, RunStored, Live, Audit}
 
 -- a word that must be there
 abbrev pub required : Text → Rule
@@ -27,6 +32,10 @@ optional id least most usual = record (new_rule id) { long = Some id; value_name
 abbrev pub path : Text → Rule
 path id = record (new_rule id) { long = Some id; value_names = 1 }
 
+-- --ID, which need not be there
+abbrev pub flag : Text → Rule
+flag id = record (new_rule id) { long = Some id; action = Some SetTrue }
+
 -- serial PLAN SESSIONS
 abbrev pub serial_command : App
 serial_command = with_rule (with_rule (new_app (codes "serial")) (required (codes "PLAN"))) (required (codes "SESSIONS"))
@@ -45,12 +54,15 @@ random_words = with_rule (with_rule (new_app (codes "random")) (required (codes 
 abbrev pub random_command : App
 random_command = with_rule (with_rule (with_rule random_words (numbered (codes "seed") 0 18446744073709551615)) (numbered (codes "loss") 0 100)) (numbered (codes "steps") 1 1000000)
 
--- run PLAN OFFICE SESSIONS [--turns N] [--journal FILE]
+-- run PLAN OFFICE SESSIONS [--turns N] [--journal FILE] [--store FILE] [--sync WHEN] [--new]
 abbrev pub run_words : App
 run_words = with_rule (with_rule (with_rule (new_app (codes "run")) (required (codes "PLAN"))) (required (codes "OFFICE"))) (required (codes "SESSIONS"))
 
+abbrev pub run_without_store : App
+run_without_store = with_rule (with_rule run_words (optional (codes "turns") 1 100000 (codes "2000"))) (path (codes "journal"))
+
 abbrev pub run_command : App
-run_command = with_rule (with_rule run_words (optional (codes "turns") 1 100000 (codes "2000"))) (path (codes "journal"))
+run_command = with_rule (with_rule (with_rule run_without_store (path (codes "store"))) (path (codes "sync"))) (flag (codes "new"))
 
 -- live PLAN SESSIONS [--journals DIR]
 abbrev pub live_command : App
@@ -82,6 +94,28 @@ word_of id rows = unwrap_or (given id rows) (codes "-")
 abbrev pub words_of : Text → Option (List Row) → List Text
 words_of id rows = unwrap_or (option_and_then (all_of id) rows) []
 
+-- whether a flag is there
+abbrev pub has_flag : Text → Option (List Row) → Bool
+has_flag id rows = bytes_eq (word_of id rows) (codes "true")
+
+-- what the word after --sync means; without one it is data
+abbrev pub sync_meant : Option Text → Option Sync
+sync_meant None = Some syncs.Data
+sync_meant (Some word) = if bytes_eq word (codes "data") then Some syncs.Data else (if bytes_eq word (codes "none") then Some syncs.Nothing else None)
+
+-- What the rules of `run` let through and is refused all the same: another word after --sync; --sync or --new without a store; a store
+-- and a file for the journal.
+abbrev pub run_faults : Option (List Row) → Kinds
+run_faults rows =
+    if is_some (sync_meant (given (codes "sync") rows)) then
+    (if is_some (given (codes "store") rows) then (if is_some (given (codes "journal") rows) then kinds.ArgumentConflict ∷ [] else [])
+    else (if is_some (given (codes "sync") rows) || has_flag (codes "new") rows then kinds.MissingRequiredArgument ∷ [] else []))
+    else kinds.InvalidValue ∷ []
+
+-- the same of a command of this name
+abbrev pub store_faults : Text → Option (List Row) → Kinds
+store_faults name rows = if bytes_eq name (codes "run") then run_faults rows else []
+
 -- the arguments of the command that the words name
 abbrev pub arguments_of : List Text → Option (List Row)
 arguments_of words = option_map (λ p. p.1) (subcommand_of program words)
@@ -110,6 +144,12 @@ Requests name rows (Run plan office sessions turns journal) =
     (bytes_eq name (codes "run") ≡ true) × (plan.now ≡ word_of (codes "PLAN") rows) × (office.now ≡ word_of (codes "OFFICE") rows)
     × (sessions.now ≡ word_of (codes "SESSIONS") rows) × IsNumber (word_of (codes "turns") rows) turns
     × (option_map (λ file. file.now) journal ≡ given (codes "journal") rows)
+    × (given (codes "store") rows ≡ None) × (given (codes "sync") rows ≡ None) × (has_flag (codes "new") rows ≡ false)
+Requests name rows (RunStored plan office sessions turns store sync new) =
+    (bytes_eq name (codes "run") ≡ true) × (plan.now ≡ word_of (codes "PLAN") rows) × (office.now ≡ word_of (codes "OFFICE") rows)
+    × (sessions.now ≡ word_of (codes "SESSIONS") rows) × IsNumber (word_of (codes "turns") rows) turns
+    × (given (codes "store") rows ≡ Some store.now) × (given (codes "journal") rows ≡ None)
+    × (sync_meant (given (codes "sync") rows) ≡ Some sync) × (has_flag (codes "new") rows ≡ new)
 Requests name rows (Live plan sessions journals) =
     (bytes_eq name (codes "live") ≡ true) × (plan.now ≡ word_of (codes "PLAN") rows) × (sessions.now ≡ word_of (codes "SESSIONS") rows)
     × (option_map (λ folder. folder.now) journals ≡ given (codes "journals") rows)
@@ -120,3 +160,7 @@ Requests name rows (Audit plan journals) =
 -- the words ask for this
 abbrev pub Asks : List Text → Request → Type 0
 Asks words request = Requests (command_of words) (arguments_of words) request
+
+-- the kinds of error that the words may have: those of the first step that fails
+abbrev pub faults_of : List Text → Kinds
+faults_of words = or_else (fault_of program words) (store_faults (command_of words) (arguments_of words))

@@ -1,14 +1,16 @@
 //! The words of a command line.
 
-ghost use Rattle.std.specs.Prelude.{◌≡◌, IfErr, IfOk, Some, codes, false, map, option_map};
+ghost use Rattle.std.specs.Prelude.{◌≡◌, ◌⊎◌, IfOk, Some, codes, false, map, option_map};
+ghost use Rattle.std.specs.Str.{bytes_eq};
 ghost use Rattle.std.specs.String.{string_bytes};
-ghost use Rattle.clap.specs.Words.{App, FailsBy, app_of, fault_of, found_of, kind_of, rows_of, rule_of, with_subcommand};
+ghost use Rattle.clap.specs.Words.{App, FailsBy, app_of, found_of, kind_of, rows_of, rule_of, with_subcommand};
 ghost use Rattle.clap.specs.declared.builder.command.Command.TheViews.{out-Command as fields_of};
-ghost use Rattle.command_words.specs.CommandLine.{Asks, IsNumber, Requests, audit_command, given, live_command, numbered, optional, path, program, random_command, required, run_command, serial_command, several, sim_command, word_of, words_of};
+ghost use Rattle.command_words.specs.CommandLine.{Asks, IsNumber, Requests, audit_command, faults_of, flag, given, has_flag, live_command, numbered, optional, path, program, random_command, required, run_command, run_without_store, serial_command, several, sim_command, store_faults, sync_meant, word_of, words_of};
 
 use clap::builder::ValueParser;
 use clap::error::ErrorKind;
-use clap::{Arg, ArgMatches, Command, Error};
+use clap::{Arg, ArgAction, ArgMatches, Command, Error};
+use journal_stores::Sync;
 use std::alloc::{AllocError, Global};
 
 /// What a command line asks for.
@@ -42,6 +44,16 @@ pub enum Request<'a> {
         turns: u64,
         journal: Option<&'a str>,
     },
+    /// The same, where the office keeps its journal in a store and goes on from what it has. The store is made, or has to be there.
+    RunStored {
+        plan: &'a str,
+        office: &'a str,
+        sessions: &'a str,
+        turns: u64,
+        store: &'a str,
+        sync: Sync,
+        new: bool,
+    },
     /// All offices of a plan, on this machine. A folder, where one is named, is for their journals.
     Live {
         plan: &'a str,
@@ -61,7 +73,7 @@ pub fn command_line<'a>(alloc: Global, words: &'a [String]) -> Result<Request<'a
     ensures request { IfOk result (Asks (map string_bytes words.entry.now)) }
 
     // Memory may run out in place of each.
-    ensures faults { FailsBy (fault_of program (map string_bytes words.entry.now)) result }
+    ensures faults { FailsBy (faults_of (map string_bytes words.entry.now)) result }
 {
     let matches = program(alloc)?.try_get_matches_from(words)?;
     match matches.subcommand() {
@@ -87,8 +99,11 @@ pub fn help(alloc: Global) -> Result<String, AllocError> {
 /// What the command of this name asks for, with what was found of its words.
 fn requested<'a>(alloc: Global, name: &str, found: &ArgMatches<'a>) -> Result<Request<'a>, Error>
     ensures request { IfOk result (Requests name.now (Some (rows_of (found_of found.now)))) }
-    ensures memory { IfErr result (λ error. kind_of error ≡ ErrorKind.OutOfMemory) }
+    ensures faults { FailsBy (store_faults name.now (Some (rows_of (found_of found.now)))) result }
 {
+    if name == "run" {
+        return run_requested(alloc, found);
+    }
     let plan = word(found, "PLAN");
     if name == "audit" {
         let journals = words(alloc, found, "JOURNAL")?;
@@ -112,15 +127,6 @@ fn requested<'a>(alloc: Global, name: &str, found: &ArgMatches<'a>) -> Result<Re
             steps: number(found, "steps"),
         });
     }
-    if name == "run" {
-        return Ok(Request::Run {
-            plan,
-            office: word(found, "OFFICE"),
-            sessions,
-            turns: number(found, "turns"),
-            journal: given(found, "journal"),
-        });
-    }
     if name == "live" {
         let journals = given(found, "journals");
         return Ok(Request::Live {
@@ -130,6 +136,75 @@ fn requested<'a>(alloc: Global, name: &str, found: &ArgMatches<'a>) -> Result<Re
         });
     }
     Ok(Request::Serial { plan, sessions })
+}
+
+/// What `run` asks for. A store is a journal already, and what is said of one needs it.
+fn run_requested<'a>(alloc: Global, found: &ArgMatches<'a>) -> Result<Request<'a>, Error>
+    ensures request { IfOk result (Requests (codes "run") (Some (rows_of (found_of found.now)))) }
+    ensures faults { FailsBy (store_faults (codes "run") (Some (rows_of (found_of found.now)))) result }
+{
+    let plan = word(found, "PLAN");
+    let office = word(found, "OFFICE");
+    let sessions = word(found, "SESSIONS");
+    let turns = number(found, "turns");
+    let journal = given(found, "journal");
+    let new = has_flag(found, "new");
+    let Some(sync) = sync_meant(given(found, "sync")) else {
+        return Err(refused(alloc, ErrorKind::InvalidValue, OTHER_SYNC));
+    };
+    let Some(store) = given(found, "store") else {
+        if given(found, "sync").is_some() || new {
+            return Err(refused(alloc, ErrorKind::MissingRequiredArgument, NO_STORE));
+        }
+        return Ok(Request::Run {
+            plan,
+            office,
+            sessions,
+            turns,
+            journal,
+        });
+    };
+    if journal.is_some() {
+        return Err(refused(alloc, ErrorKind::ArgumentConflict, TWO_JOURNALS));
+    }
+    Ok(Request::RunStored {
+        plan,
+        office,
+        sessions,
+        turns,
+        store,
+        sync,
+        new,
+    })
+}
+
+/// What the word after `--sync` means, if anything. Without one it is the disk.
+fn sync_meant(word: Option<&str>) -> Option<Sync>
+    ensures { result ≡ sync_meant (option_map (λ word. word.now) word.entry) }
+{
+    match word {
+        None => Some(Sync::Data),
+        Some(word) if word == "data" => Some(Sync::Data),
+        Some(word) if word == "none" => Some(Sync::Nothing),
+        Some(_) => None,
+    }
+}
+
+/// The error of `run` for words that its rules let through.
+fn refused(alloc: Global, kind: ErrorKind, message: &str) -> Error
+    ensures { (kind_of result ≡ kind) ⊎ (kind_of result ≡ ErrorKind.OutOfMemory) }
+{
+    match run_error(alloc, kind, message) {
+        Ok(error) => error,
+        Err(AllocError) => Error::from(AllocError),
+    }
+}
+
+fn run_error(alloc: Global, kind: ErrorKind, message: &str) -> Result<Error, AllocError>
+    ensures { IfOk result (λ error. kind_of error ≡ kind) }
+{
+    let mut command = run(alloc)?.bin_name("drink run")?;
+    command.error(kind, message)
 }
 
 /// The number that a word says. Its range was looked at when the words were read.
@@ -154,6 +229,13 @@ fn given<'a>(matches: &ArgMatches<'a>, id: &str) -> Option<&'a str>
     ensures { option_map (λ word. word.now) result ≡ given id.now (Some (rows_of (found_of matches.now))) }
 {
     matches.get_str(id)
+}
+
+/// Whether a flag is there.
+fn has_flag(matches: &ArgMatches<'_>, id: &str) -> bool
+    ensures { result ≡ has_flag id.now (Some (rows_of (found_of matches.now))) }
+{
+    word(matches, id) == "true"
 }
 
 /// All words of an argument that may have several.
@@ -238,9 +320,20 @@ fn run<'a>(alloc: Global) -> Result<Command<'a>, AllocError>
     ensures command { IfOk result (λ c. app_of c ≡ run_command) }
     ensures local { IfOk result (λ c. (fields_of c).has_globals ≡ false) }
 {
+    run_without_store(alloc)?
+        .arg(path(alloc, "store", STORE, "FILE"))?
+        .arg(path(alloc, "sync", SYNC, "WHEN"))?
+        .arg(flag(alloc, "new", NEW))
+}
+
+/// `run` but for what is said of a store.
+fn run_without_store<'a>(alloc: Global) -> Result<Command<'a>, AllocError>
+    ensures command { IfOk result (λ c. app_of c ≡ run_without_store) }
+    ensures local { IfOk result (λ c. (fields_of c).has_globals ≡ false) }
+{
     Command::new(alloc, "run")
         .about("Runs one office of a plan at its address, and prints what its sessions did")
-        .after_help(RUNS)
+        .after_help(OWN_RUNS)
         .arg(required(alloc, "PLAN", PLAN))?
         .arg(required(alloc, "OFFICE", OFFICE))?
         .arg(required(alloc, "SESSIONS", OWN_SESSIONS))?
@@ -328,6 +421,17 @@ fn path<'a>(alloc: Global, id: &'a str, help: &'a str, shown: &'a str) -> Arg<'a
     Arg::new(alloc, id).help(help).long(id).value_name(shown)
 }
 
+/// An option without a word, that need not be there.
+fn flag<'a>(alloc: Global, id: &'a str, help: &'a str) -> Arg<'a>
+    ensures rule { rule_of result ≡ flag id.now }
+    ensures no_global { result.global ≡ false }
+{
+    Arg::new(alloc, id)
+        .help(help)
+        .long(id)
+        .action(ArgAction::SetTrue)
+}
+
 const VERSION: &str = "0.1";
 
 /// The most deliveries of a hundred that may be lost.
@@ -364,6 +468,12 @@ const TURNS: &str = "How many turns the office has: 1 to 100000";
 
 const OWN_JOURNAL: &str = "A file for the office's journal; - is refused";
 
+const STORE: &str = "A file for the office's journal, from which it goes on; - is refused";
+
+const SYNC: &str = "data: kept once the disk has it (the usual); none: once the system has it";
+
+const NEW: &str = "Makes the store, which must not be there; without this it must be there";
+
 const JOURNALS: &str = "A folder for the offices' journals, NAME.journal, made if it isn't there";
 
 const JOURNAL: &str =
@@ -378,7 +488,7 @@ A file whose name is - is written ./- instead.
 Exit status: 0 where it was done; 1 where an input is refused or can't be read, where something
 can't be written, or where memory runs out; 2 where the command line is at fault.";
 
-/// What stands below the help of a command that runs offices.
+/// What stands below the help of `live`.
 const RUNS: &str =
     "Where PLAN and SESSIONS are both -, the standard input is cut at its first line that is exactly ---:
 up to it stands the text of the plan. Each text counts its lines from 1. A file whose name is - is
@@ -390,6 +500,24 @@ input, and without a journal of the same office and run.
 Exit status: 0 where all sessions finished; 1 where some are left, where an input is refused or
 can't be read, where a socket, a thread or the clock can't be had, where something can't be written,
 or where memory runs out; 2 where the command line is at fault.";
+
+/// What stands below the help of `run`.
+const OWN_RUNS: &str =
+    "Where PLAN and SESSIONS are both -, the standard input is cut at its first line that is exactly ---:
+up to it stands the text of the plan. Each text counts its lines from 1. A file whose name is - is
+written ./- instead.
+
+A file for a journal is looked at before anything is run: it has to be one that can be written, no
+input, and without a journal of the same office and run.
+
+With a store an office that ended, or was killed, goes on from what it kept: how many of its
+sessions had finished is said first, and what they did, and then what each does that finishes, once
+that is kept. Then --journal isn't taken, since the store is the journal; --sync and --new go with a
+store alone.
+
+Exit status: 0 where all sessions finished; 1 where some are left, where an input or a store is
+refused or can't be read, where a socket, a thread or the clock can't be had, where something can't
+be written, or where memory runs out; 2 where the command line is at fault.";
 
 /// What stands below the help of `audit`.
 const AUDITS: &str =
@@ -403,6 +531,14 @@ counted from 1: unwoven OFFICE ENTRY.
 Exit status: 0 where the journals are of one run; 1 where they aren't, where an input is refused or
 can't be read, where the output can't be written, or where memory runs out; 2 where the command line
 is at fault.";
+
+/// What is wrong with words of `run` about a store.
+const OTHER_SYNC: &str = "--sync takes data or none";
+
+const NO_STORE: &str = "--sync and --new go with --store, and there is none";
+
+const TWO_JOURNALS: &str =
+    "--store goes without --journal: the store is the office's journal already";
 
 /// What stands below the help of the program.
 const STATUSES: &str =

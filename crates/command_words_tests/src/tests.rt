@@ -1,5 +1,6 @@
 use clap::error::ErrorKind;
 use command_words::command_line::{Request, command_line};
+use journal_stores::Sync;
 use std::alloc::{AllocError, Global};
 use std::process::Abort;
 use std::test::Fail;
@@ -233,6 +234,187 @@ fn reads_the_words_of_run(rt: HostRuntime) -> Result<(), Fail> {
     }
     Ok(())
 }
+
+/// The words of `run` with a store: how many turns there are, when an entry is kept, and whether the store is made.
+static STORED: [(&[&str], u64, &str, Sync, bool); 7] = [
+    (
+        &["drink", "run", "p", "a", "s", "--store", "f"],
+        2_000,
+        "f",
+        Sync::Data,
+        false,
+    ),
+    (
+        &["drink", "run", "p", "a", "s", "--store", "f", "--new"],
+        2_000,
+        "f",
+        Sync::Data,
+        true,
+    ),
+    (
+        &[
+            "drink",
+            "run",
+            "--new",
+            "--sync",
+            "data",
+            "--store=f",
+            "p",
+            "a",
+            "s",
+        ],
+        2_000,
+        "f",
+        Sync::Data,
+        true,
+    ),
+    (
+        &[
+            "drink", "run", "p", "a", "s", "--sync", "none", "--turns", "7", "--store", "d/f",
+        ],
+        7,
+        "d/f",
+        Sync::Nothing,
+        false,
+    ),
+    (
+        &["drink", "run", "p", "--store", "p", "a", "--sync=none", "s"],
+        2_000,
+        "p",
+        Sync::Nothing,
+        false,
+    ),
+    (
+        &["drink", "run", "p", "a", "s", "--store", "-"],
+        2_000,
+        "-",
+        Sync::Data,
+        false,
+    ),
+    (
+        &["drink", "run", "p", "a", "s", "--store=--new"],
+        2_000,
+        "--new",
+        Sync::Data,
+        false,
+    ),
+];
+
+#[test]
+fn reads_the_words_of_run_with_a_store(rt: HostRuntime) -> Result<(), Fail> {
+    for (words, turns, store, sync, new) in &STORED {
+        let words = strings(rt.alloc(), *words)?;
+        let request = command_line(rt.alloc(), words.as_slice())?;
+        let expected = Request::RunStored {
+            plan: "p",
+            office: "a",
+            sessions: "s",
+            turns: *turns,
+            store: *store,
+            sync: *sync,
+            new: *new,
+        };
+        assert_eq!(rt; request, expected);
+    }
+    Ok(())
+}
+
+/// Words about a store that don't go together, or mean nothing, and what is said of them.
+static UNSTORED: [(&[&str], ErrorKind, &str); 11] = [
+    (
+        &["--store", "f", "--journal", "j"],
+        ErrorKind::ArgumentConflict,
+        "error: --store goes without --journal: the store is the office's journal already\n\nUsage: drink run [OPTIONS] <PLAN> <OFFICE> <SESSIONS>\n\nFor more information, try '--help'.\n",
+    ),
+    (
+        &["--journal", "f", "--new", "--store", "f"],
+        ErrorKind::ArgumentConflict,
+        "error: --store goes without --journal: ",
+    ),
+    (
+        &["--new"],
+        ErrorKind::MissingRequiredArgument,
+        "error: --sync and --new go with --store, and there is none\n\nUsage: drink run [OPTIONS] <PLAN> <OFFICE> <SESSIONS>\n",
+    ),
+    (
+        &["--sync", "data"],
+        ErrorKind::MissingRequiredArgument,
+        "error: --sync and --new go with --store, and there is none\n",
+    ),
+    (
+        &["--sync", "none", "--journal", "j"],
+        ErrorKind::MissingRequiredArgument,
+        "error: --sync and --new go with --store, and there is none\n",
+    ),
+    (
+        &["--store", "f", "--sync", "Data"],
+        ErrorKind::InvalidValue,
+        "error: --sync takes data or none\n\nUsage: drink run [OPTIONS] <PLAN> <OFFICE> <SESSIONS>\n",
+    ),
+    (
+        &["--store", "f", "--sync="],
+        ErrorKind::InvalidValue,
+        "error: --sync takes data or none\n",
+    ),
+    (
+        &["--sync", "all"],
+        ErrorKind::InvalidValue,
+        "error: --sync takes data or none\n",
+    ),
+    (
+        &["--store", "f", "--store", "f"],
+        ErrorKind::ArgumentConflict,
+        "error: ",
+    ),
+    (
+        &["--store", "f", "--new=true"],
+        ErrorKind::TooManyValues,
+        "error: ",
+    ),
+    (&["--store"], ErrorKind::InvalidValue, "error: "),
+];
+
+#[test]
+fn other_words_about_a_store_are_a_fault(rt: HostRuntime) -> Result<(), Fail> {
+    for (more, kind, said) in &UNSTORED {
+        let mut words = strings(rt.alloc(), &["drink", "run", "p", "a", "s"])?;
+        for word in *more {
+            words.push(String::from_str(rt.alloc(), *word)?)?;
+        }
+        let Err(error) = command_line(rt.alloc(), words.as_slice()) else {
+            return Err(Fail::from("accepted"));
+        };
+        let text = error.to_string(rt.alloc())?;
+        assert_eq!(rt; error.kind(), *kind);
+        assert_eq!(rt; error.exit_code(), 2);
+        assert!(rt; text.starts_with(*said), "of {words:?}: {text}");
+    }
+    is_fault(&rt, &["drink", "live", "p", "s", "--store", "f"])
+}
+
+/// What the help of `run` says of a store.
+#[test]
+fn helps_with_a_store(rt: HostRuntime) -> Result<(), Fail> {
+    let words = strings(rt.alloc(), &["drink", "run", "--help"])?;
+    let Err(error) = command_line(rt.alloc(), words.as_slice()) else {
+        return Err(Fail::from("accepted"));
+    };
+    let text = error.to_string(rt.alloc())?;
+    for part in &RUN_HELP {
+        assert!(rt; text.contains(*part), "no {part} in {text}");
+    }
+    Ok(())
+}
+
+static RUN_HELP: [&str; 7] = [
+    "Usage: drink run [OPTIONS] <PLAN> <OFFICE> <SESSIONS>\n",
+    "  --journal <FILE>  A file for the office's journal; - is refused\n",
+    "  --store <FILE>    A file for the office's journal, from which it goes on; - is refused\n",
+    "  --sync <WHEN>     data: kept once the disk has it (the usual); none: once the system has it\n",
+    "  --new             Makes the store, which must not be there; without this it must be there\n",
+    "\nWith a store an office that ended, or was killed, goes on from what it kept",
+    "\nExit status: 0 where all sessions finished; 1 where some are left, where an input or a store is\n",
+];
 
 /// The words of `live`, with a folder for journals or none.
 static LIVES: [(&[&str], Option<&str>); 3] = [

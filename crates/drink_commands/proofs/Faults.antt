@@ -9,7 +9,7 @@ use Rattle.drink_commands.specs.declared.input.Input.{Input}
 use Rattle.drink_commands.specs.declared.input.Input.TheVariants as inputs
 use Rattle.drink_commands.specs.declared.fault.Why.{Why}
 use Rattle.drink_commands.specs.declared.fault.Fault.{Fault}
-use Rattle.drink_commands.specs.declared.fault.Fault.TheVariants.{Memory, ReadFailed, Refused, NoSuchOffice, NoAddress, NoJournal, NoPlace, NoRun, CutShort, WriteFailed, FileFailed}
+use Rattle.drink_commands.specs.declared.fault.Fault.TheVariants.{Memory, ReadFailed, Refused, NoSuchOffice, NoAddress, NoJournal, NoPlace, NoRun, CutShort, WriteFailed, FileFailed, NoStore, StoreFailed, OtherSessions}
 use Rattle.drink_commands.specs.Fault.{IsAmong, IsFaultAt, IsWriteFault, refused_input}
 use Rattle.drink_commands.specs.Plans.{IsAcceptedAs}
 use Rattle.drink_commands.specs.Texts.{Accepts, IsJudgedOr, Judges, Known, Refuses, nothing}
@@ -26,6 +26,9 @@ weaker input P Q (NoRun cause) k h = h
 weaker input P Q (CutShort cause) k h = h
 weaker input P Q (WriteFailed cause) k h = h
 weaker input P Q (FileFailed name cause) k h = h
+weaker input P Q (NoStore why) k h = h
+weaker input P Q StoreFailed k h = h
+weaker input P Q (OtherSessions ticket) k h = h
 
 -- a fault at an input of these
 pub among : (asked : List Input) (input : Input) (P : Why → Type 0) (f : Fault) → Contains asked input → IsFaultAt input P f → IsAmong asked f
@@ -40,6 +43,9 @@ among asked input P (NoRun cause) at h = h
 among asked input P (CutShort cause) at h = h
 among asked input P (WriteFailed cause) at h = tt
 among asked input P (FileFailed name cause) at h = tt
+among asked input P (NoStore why) at h = h
+among asked input P StoreFailed at h = h
+among asked input P (OtherSessions ticket) at h = h
 
 contains_more : (input : Input) (asked : List Input) (x : Input) → Contains asked x → Contains (input ∷ asked) x
 contains_more input asked x (k, lt, e) = (suc k, omega (arith, lt), e)
@@ -56,6 +62,9 @@ among_more input asked (NoRun cause) h = h
 among_more input asked (CutShort cause) h = h
 among_more input asked (WriteFailed cause) h = tt
 among_more input asked (FileFailed name cause) h = tt
+among_more input asked (NoStore why) h = h
+among_more input asked StoreFailed h = h
+among_more input asked (OtherSessions ticket) h = h
 
 -- the writing failed, and no input is at fault
 pub no_input : (f : Fault) → IsWriteFault f → IsAmong [] f
@@ -70,6 +79,9 @@ no_input (NoRun cause) h = h
 no_input (CutShort cause) h = h
 no_input (WriteFailed cause) h = tt
 no_input (FileFailed name cause) h = tt
+no_input (NoStore why) h = h
+no_input StoreFailed h = h
+no_input (OtherSessions ticket) h = h
 
 at_input : (P : Fault → Type 0) (known : Known) (asked : List Input) (f : Fault) → Judges P known asked [] f → IsAmong asked f ⊎ P f
 at_input P known [] f h = h

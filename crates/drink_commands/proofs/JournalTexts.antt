@@ -9,7 +9,7 @@ use Rattle.journal_audit.specs.Findings.{TellsWoven, TellsUnwoven}
 use Rattle.drink_commands.specs.declared.input.Input.{Input}
 use Rattle.drink_commands.specs.declared.input.Input.TheVariants as inputs
 use Rattle.drink_commands.specs.declared.fault.Fault.{Fault}
-use Rattle.drink_commands.specs.declared.fault.Fault.TheVariants.{Memory, ReadFailed, Refused, NoSuchOffice, NoAddress, NoJournal, NoPlace, NoRun, CutShort, WriteFailed, FileFailed}
+use Rattle.drink_commands.specs.declared.fault.Fault.TheVariants.{Memory, ReadFailed, Refused, NoSuchOffice, NoAddress, NoJournal, NoPlace, NoRun, CutShort, WriteFailed, FileFailed, NoStore, StoreFailed, OtherSessions}
 use Rattle.drink_commands.specs.Audit.{Tells, IsJudgedAudit, JudgesJournals, SaysAfter, IsLacking, journal_inputs}
 use Rattle.drink_commands.specs.Fault.{IsAmong, IsFaultAt, IsNoJournal}
 use Rattle.drink_commands.specs.Texts.{Refuses, nothing}
@@ -160,6 +160,9 @@ module _ (files : List ℕ → Option (List ℕ)) (p : PlanValue) where
   named_after a texts [] (CutShort cause) h lacks = absurd h
   named_after a texts [] (WriteFailed cause) h lacks = absurd h
   named_after a texts [] (FileFailed name cause) h lacks = absurd h
+  named_after a texts [] (NoStore why) h lacks = absurd h
+  named_after a texts [] StoreFailed h lacks = absurd h
+  named_after a texts [] (OtherSessions ticket) h lacks = absurd h
   named_after a texts (x ∷ xs) Memory h lacks = inl tt
   named_after a texts (x ∷ xs) (NoJournal name) h lacks = inr tt
   named_after a texts (x ∷ xs) (ReadFailed input cause) h lacks = absurd h
@@ -171,6 +174,9 @@ module _ (files : List ℕ → Option (List ℕ)) (p : PlanValue) where
   named_after a texts (x ∷ xs) (CutShort cause) h lacks = absurd h
   named_after a texts (x ∷ xs) (WriteFailed cause) h lacks = absurd h
   named_after a texts (x ∷ xs) (FileFailed name cause) h lacks = absurd h
+  named_after a texts (x ∷ xs) (NoStore why) h lacks = absurd h
+  named_after a texts (x ∷ xs) StoreFailed h lacks = absurd h
+  named_after a texts (x ∷ xs) (OtherSessions ticket) h lacks = absurd h
 
   is_nought : (place count : ℕ) → journal_inputs place count ≡ [] → count ≡ 0
   is_nought place zero e = refl
@@ -227,6 +233,9 @@ module _ (files : List ℕ → Option (List ℕ)) where
   is_no_journal p texts (CutShort cause) h = h
   is_no_journal p texts (WriteFailed cause) h = h
   is_no_journal p texts (FileFailed name cause) h = h
+  is_no_journal p texts (NoStore why) h = h
+  is_no_journal p texts StoreFailed h = h
+  is_no_journal p texts (OtherSessions ticket) h = h
 
   after_plan : (p : PlanValue) (asked : List Input) (f : Fault) → SaysAfter p [] asked f → IsAmong (inputs.Plan ∷ asked) f ⊎ IsNoJournal f
   after_plan p [] f (inl h) = inl (among_more inputs.Plan [] f h)

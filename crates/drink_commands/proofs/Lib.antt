@@ -3,6 +3,7 @@ pub mod Limits
 pub mod Faults
 pub mod Reported
 pub mod Running
+pub mod Storing
 pub mod JournalTexts
 pub mod JournalFiles
 pub mod Obstacles

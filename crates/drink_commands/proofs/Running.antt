@@ -4,17 +4,17 @@ use Rattle.std.specs.Option.{option_copied}
 use Rattle.std.specs.String.{string_bytes}
 use Rattle.input_texts.specs.Words.{HaveTexts, HasText, Unread, unread}
 use Rattle.office_map.specs.PlanValue.{PlanValue, office_named}
-use Rattle.office_runs.specs.declared.fault.RunFault.{RunFault}
+use Rattle.office_stations.specs.declared.fault.RunFault.{RunFault}
 use Rattle.drink_commands.specs.declared.input.Input.{Input}
 use Rattle.drink_commands.specs.declared.input.Input.TheVariants as inputs
 use Rattle.drink_commands.specs.declared.fault.Obstacle.{Obstacle}
 use Rattle.drink_commands.specs.declared.fault.Why.{Why}
 use Rattle.drink_commands.specs.declared.fault.Fault.{Fault}
-use Rattle.drink_commands.specs.declared.fault.Fault.TheVariants.{Memory, ReadFailed, Refused, NoSuchOffice, NoAddress, NoJournal, NoPlace, NoRun, CutShort, WriteFailed, FileFailed}
+use Rattle.drink_commands.specs.declared.fault.Fault.TheVariants.{Memory, ReadFailed, Refused, NoSuchOffice, NoAddress, NoJournal, NoPlace, NoRun, CutShort, WriteFailed, FileFailed, NoStore, StoreFailed, OtherSessions}
 use Rattle.drink_commands.specs.Fault.{IsAmong, IsFaultAt, IsOfRun, IsPlaceFault}
 use Rattle.drink_commands.specs.Texts.{Judges, NoOther, Refuses, nothing}
 use Rattle.drink_commands.specs.Status.{status_of}
-use Rattle.drink_commands.specs.Run.{IsJudgedRun, IsNoOffice, IsOfOffice, IsReached, IsUnreached, JudgesRun, Leaves, NoObstacle, SaysOf, status_with}
+use Rattle.drink_commands.specs.Run.{IsJudgedOffice, IsNoOffice, IsOfOffice, IsReached, IsUnreached, JudgesOffice, Leaves, NoObstacle, SaysOf, status_with}
 use Rattle.drink_commands.proofs.Faults.{SaysTexts, TakesPlan, among, among_more, weaker}
 
 -- ---- what a fault leaves
@@ -32,6 +32,9 @@ at_input U F S input P (NoRun cause) h u = u
 at_input U F S input P (CutShort cause) h u = absurd h
 at_input U F S input P (WriteFailed cause) h u = tt
 at_input U F S input P (FileFailed name cause) h u = tt
+at_input U F S input P (NoStore why) h u = u
+at_input U F S input P StoreFailed h u = u
+at_input U F S input P (OtherSessions ticket) h u = u
 
 no_office : (U : Type 0) (F : List ℕ → Obstacle → Type 0) (S : RunFault → Type 0) (f : Fault) → IsNoOffice f → U → Leaves U F S f
 no_office U F S Memory h u = u
@@ -45,6 +48,9 @@ no_office U F S (NoRun cause) h u = u
 no_office U F S (CutShort cause) h u = absurd h
 no_office U F S (WriteFailed cause) h u = tt
 no_office U F S (FileFailed name cause) h u = tt
+no_office U F S (NoStore why) h u = u
+no_office U F S StoreFailed h u = u
+no_office U F S (OtherSessions ticket) h u = u
 
 unreached : (U : Type 0) (F : List ℕ → Obstacle → Type 0) (S : RunFault → Type 0) (p : PlanValue) (v : ℕ) (f : Fault) → IsUnreached p v f → U → Leaves U F S f
 unreached U F S p v Memory h u = u
@@ -58,6 +64,9 @@ unreached U F S p v (NoRun cause) h u = u
 unreached U F S p v (CutShort cause) h u = absurd h
 unreached U F S p v (WriteFailed cause) h u = tt
 unreached U F S p v (FileFailed name cause) h u = tt
+unreached U F S p v (NoStore why) h u = u
+unreached U F S p v StoreFailed h u = u
+unreached U F S p v (OtherSessions ticket) h u = u
 
 -- a fault at the office that is asked for
 pub at_office : (U : Type 0) (F : List ℕ → Obstacle → Type 0) (S : RunFault → Type 0) (p : PlanValue) (o : Option ℕ) (f : Fault) → SaysOf p NoOther o f → U → Leaves U F S f
@@ -78,6 +87,9 @@ at_end U F S T (NoRun cause) h k = absurd h
 at_end U F S T (CutShort cause) h k = k cause h
 at_end U F S T (WriteFailed cause) h k = tt
 at_end U F S T (FileFailed name cause) h k = tt
+at_end U F S T (NoStore why) h k = absurd h
+at_end U F S T StoreFailed h k = absurd h
+at_end U F S T (OtherSessions ticket) h k = absurd h
 
 pub is_end : (S : RunFault → Type 0) (f : Fault) → Leaves ⊥ NoObstacle S f → IsAmong [] f ⊎ IsOfRun f
 is_end S Memory h = absurd h
@@ -91,6 +103,9 @@ is_end S (NoRun cause) h = absurd h
 is_end S (CutShort cause) h = inr (inr (inl tt))
 is_end S (WriteFailed cause) h = inl tt
 is_end S (FileFailed name cause) h = inl tt
+is_end S (NoStore why) h = absurd h
+is_end S StoreFailed h = absurd h
+is_end S (OtherSessions ticket) h = absurd h
 
 -- the journals have no place
 pub at_place : (U : Type 0) (E F : List ℕ → Obstacle → Type 0) (S : RunFault → Type 0) (f : Fault) → IsPlaceFault E f → U → ((name : List ℕ) (why : Obstacle) → E name why → F name why)
@@ -106,6 +121,9 @@ at_place U E F S (NoRun cause) h u k = absurd h
 at_place U E F S (CutShort cause) h u k = absurd h
 at_place U E F S (WriteFailed cause) h u k = absurd h
 at_place U E F S (FileFailed name cause) h u k = absurd h
+at_place U E F S (NoStore why) h u k = absurd h
+at_place U E F S StoreFailed h u k = absurd h
+at_place U E F S (OtherSessions ticket) h u k = absurd h
 
 pub is_place : (E : List ℕ → Obstacle → Type 0) (f : Fault) → IsPlaceFault E f → IsAmong [] f ⊎ IsOfRun f
 is_place E Memory h = inl tt
@@ -119,56 +137,46 @@ is_place E (NoRun cause) h = absurd h
 is_place E (CutShort cause) h = absurd h
 is_place E (WriteFailed cause) h = absurd h
 is_place E (FileFailed name cause) h = absurd h
+is_place E (NoStore why) h = absurd h
+is_place E StoreFailed h = absurd h
+is_place E (OtherSessions ticket) h = absurd h
 
 -- ---- what a fault says
 
-none : {A : Type 0} → ⊥ ⊎ (⊥ ⊎ ⊥) → A
-none (inl h) = absurd h
-none (inr (inl h)) = absurd h
-none (inr (inr h)) = absurd h
-
-of_run : (f : Fault) → IsOfRun f → IsOfOffice f
-of_run Memory h = none h
-of_run (ReadFailed failed cause) h = none h
-of_run (Refused why remark) h = none h
-of_run (NoSuchOffice offices) h = tt
-of_run (NoAddress office) h = tt
-of_run (NoJournal office) h = none h
-of_run (NoPlace name why) h = tt
-of_run (NoRun cause) (inl h) = h
-of_run (NoRun cause) (inr h) = none (inr h)
-of_run (CutShort cause) h = tt
-of_run (WriteFailed cause) h = none h
-of_run (FileFailed name cause) h = none h
-
-module _ (asked : List Input) where
-  named : (f : Fault) → IsNoOffice f → IsAmong asked f ⊎ IsOfOffice f
+module _ (P : Fault → Type 0) (asked : List Input) where
+  named : (f : Fault) → IsNoOffice f → IsAmong asked f ⊎ (IsOfOffice f ⊎ P f)
   named Memory h = inl tt
-  named (ReadFailed failed cause) h = inr h
-  named (Refused why remark) h = inr h
-  named (NoSuchOffice offices) h = inr tt
-  named (NoAddress office) h = inr tt
-  named (NoJournal office) h = inr h
+  named (ReadFailed failed cause) h = absurd h
+  named (Refused why remark) h = absurd h
+  named (NoSuchOffice offices) h = inr (inl tt)
+  named (NoAddress office) h = absurd h
+  named (NoJournal office) h = absurd h
   named (NoPlace name why) h = absurd h
   named (NoRun cause) h = absurd h
-  named (CutShort cause) h = inr tt
-  named (WriteFailed cause) h = inl tt
-  named (FileFailed name cause) h = inl tt
+  named (CutShort cause) h = absurd h
+  named (WriteFailed cause) h = absurd h
+  named (FileFailed name cause) h = absurd h
+  named (NoStore why) h = absurd h
+  named StoreFailed h = absurd h
+  named (OtherSessions ticket) h = absurd h
 
-  met : (p : PlanValue) (v : ℕ) (f : Fault) → IsUnreached p v f → IsAmong asked f ⊎ IsOfOffice f
+  met : (p : PlanValue) (v : ℕ) (f : Fault) → IsUnreached p v f → IsAmong asked f ⊎ (IsOfOffice f ⊎ P f)
   met p v Memory h = inl tt
-  met p v (ReadFailed failed cause) h = inr h
-  met p v (Refused why remark) h = inr h
-  met p v (NoSuchOffice offices) h = inr tt
-  met p v (NoAddress office) h = inr tt
-  met p v (NoJournal office) h = inr h
+  met p v (ReadFailed failed cause) h = absurd h
+  met p v (Refused why remark) h = absurd h
+  met p v (NoSuchOffice offices) h = absurd h
+  met p v (NoAddress office) h = inr (inl tt)
+  met p v (NoJournal office) h = absurd h
   met p v (NoPlace name why) h = absurd h
   met p v (NoRun cause) h = absurd h
-  met p v (CutShort cause) h = inr tt
-  met p v (WriteFailed cause) h = inl tt
-  met p v (FileFailed name cause) h = inl tt
+  met p v (CutShort cause) h = absurd h
+  met p v (WriteFailed cause) h = absurd h
+  met p v (FileFailed name cause) h = absurd h
+  met p v (NoStore why) h = absurd h
+  met p v StoreFailed h = absurd h
+  met p v (OtherSessions ticket) h = absurd h
 
-  asked_for : (p : PlanValue) (o : Option ℕ) (f : Fault) → SaysOf p NoOther o f → IsAmong asked f ⊎ IsOfOffice f
+  asked_for : (p : PlanValue) (o : Option ℕ) (f : Fault) → SaysOf p NoOther o f → IsAmong asked f ⊎ (IsOfOffice f ⊎ P f)
   asked_for p None f h = named f h
   asked_for p (Some me) f (inl (v, e, h)) = met p v f h
   asked_for p (Some me) f (inr (reached, h)) = absurd h
@@ -178,10 +186,11 @@ says_more p P None f h = h
 says_more p P (Some me) f (inl h) = inl h
 says_more p P (Some me) f (inr (reached, h)) = absurd h
 
-module _ (files : List ℕ → Option (List ℕ)) (word : List ℕ) where
+-- P holds of the faults that come besides
+module _ (P : Fault → Type 0) (files : List ℕ → Option (List ℕ)) (word : List ℕ) where
   -- a fault says what is so of the texts of these words, whichever are known
   abbrev pub SaysRun : Unread → List (List ℕ) → Fault → Type 0
-  SaysRun u words f = (texts : List (List ℕ)) (n : ℕ) → HaveTexts files u (take n words) (take n texts) → JudgesRun word (take n texts) f
+  SaysRun u words f = (texts : List (List ℕ)) (n : ℕ) → HaveTexts files u (take n words) (take n texts) → JudgesOffice P word (take n texts) f
 
   -- at the plan
   pub at_plan : (u : Unread) (a b : List ℕ) (f : Fault)
@@ -194,18 +203,18 @@ module _ (files : List ℕ → Option (List ℕ)) (word : List ℕ) where
   -- at OFFICE
   pub at_word : (u v : Unread) (a b : List ℕ) (p : PlanValue) (f : Fault) → TakesPlan files u a v p → SaysOf p NoOther (office_named p word) f
       → SaysRun u (a ∷ b ∷ []) f
-  at_word u v a b p f taken h texts zero has = asked_for (inputs.Plan ∷ inputs.Sessions ∷ []) p (office_named p word) f h
+  at_word u v a b p f taken h texts zero has = asked_for P (inputs.Plan ∷ inputs.Sessions ∷ []) p (office_named p word) f h
   at_word u v a b p f taken h [] (suc n) has = absurd has
   at_word u v a b p f taken h (text ∷ texts) (suc n) (after, has, more) =
       inr (p, (taken text after has).0, says_more p _ (office_named p word) f h)
 
-  later_first : (f : Fault) → IsAmong (inputs.Sessions ∷ []) f ⊎ IsOfRun f → IsAmong (inputs.Plan ∷ inputs.Sessions ∷ []) f ⊎ IsOfOffice f
+  later_first : (f : Fault) → IsAmong (inputs.Sessions ∷ []) f ⊎ P f → IsAmong (inputs.Plan ∷ inputs.Sessions ∷ []) f ⊎ (IsOfOffice f ⊎ P f)
   later_first f (inl h) = inl (among_more inputs.Plan (inputs.Sessions ∷ []) f h)
-  later_first f (inr h) = inr (of_run f h)
+  later_first f (inr h) = inr (inr h)
 
   -- at the sessions, or later
   pub at_later : (u v : Unread) (a b : List ℕ) (p : PlanValue) (me : ℕ) (f : Fault) → TakesPlan files u a v p → office_named p word ≡ Some me → IsReached p me
-      → SaysTexts IsOfRun files v (b ∷ []) (record nothing { plan = Some p }) (inputs.Sessions ∷ []) f
+      → SaysTexts P files v (b ∷ []) (record nothing { plan = Some p }) (inputs.Sessions ∷ []) f
       → SaysRun u (a ∷ b ∷ []) f
   at_later u v a b p me f taken e reached later texts zero has = later_first f (later [] 0 tt)
   at_later u v a b p me f taken e reached later [] (suc n) has = absurd has
@@ -213,10 +222,10 @@ module _ (files : List ℕ → Option (List ℕ)) (word : List ℕ) where
       let it = taken text after has in
       let rest = later texts n (subst (λ s. HaveTexts files s (take n (b ∷ [])) (take n texts)) (sym it.1) more) in
       let known = record nothing { plan = Some p } in
-      inr (p, it.0, subst (λ o. SaysOf p (Judges IsOfRun known (inputs.Sessions ∷ []) (take n texts)) o f) (sym e) (inr (reached, rest)))
+      inr (p, it.0, subst (λ o. SaysOf p (Judges P known (inputs.Sessions ∷ []) (take n texts)) o f) (sym e) (inr (reached, rest)))
 
   pub judged : (standard : Option (List ℕ)) (u : Unread) (a b : List ℕ) (f : Fault) → u ≡ unread standard (a ∷ b ∷ [])
-      → SaysRun u (a ∷ b ∷ []) f → IsJudgedRun files standard a word b f
+      → SaysRun u (a ∷ b ∷ []) f → IsJudgedOffice P files standard a word b f
   judged standard u a b f e says texts n known =
       says texts n (subst (λ s. HaveTexts files s (take n (a ∷ b ∷ [])) (take n texts)) (sym e) known.1)
 

@@ -7,7 +7,7 @@ use Rattle.drink_commands.specs.declared.fault.Why.{Why}
 use Rattle.drink_commands.specs.declared.fault.Why.TheVariants.{Plan, Ring, Sessions, Script, Journal, Twice}
 use Rattle.drink_commands.specs.declared.fault.Obstacle.{Obstacle}
 use Rattle.drink_commands.specs.declared.fault.Fault.{Fault}
-use Rattle.drink_commands.specs.declared.fault.Fault.TheVariants.{Memory, ReadFailed, Refused, NoSuchOffice, NoAddress, NoJournal, NoPlace, NoRun, CutShort, WriteFailed, FileFailed}
+use Rattle.drink_commands.specs.declared.fault.Fault.TheVariants.{Memory, ReadFailed, Refused, NoSuchOffice, NoAddress, NoJournal, NoPlace, NoRun, CutShort, WriteFailed, FileFailed, NoStore, StoreFailed, OtherSessions}
 
 -- the input whose text is refused so
 abbrev pub refused_input : Why → Input
@@ -31,6 +31,9 @@ input_of (NoRun cause) = None
 input_of (CutShort cause) = None
 input_of (WriteFailed cause) = None
 input_of (FileFailed name cause) = None
+input_of (NoStore why) = None
+input_of StoreFailed = None
+input_of (OtherSessions ticket) = Some inputs.Sessions
 
 -- an input wasn't read, or its text is refused for a reason of which P holds, or memory ran out
 abbrev pub IsFaultAt : Input → (Why → Type 0) → Fault → Type 0
@@ -78,6 +81,17 @@ abbrev pub IsNoPlace : Fault → Type 0
 IsNoPlace (NoPlace name why) = Unit {0}
 IsNoPlace _ = ⊥
 
+-- the store of an office can't be had, or isn't gone on from, or an append to it failed
+abbrev pub IsOfStore : Fault → Type 0
+IsOfStore (NoStore why) = Unit {0}
+IsOfStore StoreFailed = Unit {0}
+IsOfStore (OtherSessions ticket) = Unit {0}
+IsOfStore _ = ⊥
+
 -- nothing is told of a run, or it was cut short; or what it leaves has no place
 abbrev pub IsOfRun : Fault → Type 0
 IsOfRun f = IsNoRun f ⊎ (IsCutShort f ⊎ IsNoPlace f)
+
+-- the same of a run with a store
+abbrev pub IsOfStoredRun : Fault → Type 0
+IsOfStoredRun f = IsOfRun f ⊎ IsOfStore f

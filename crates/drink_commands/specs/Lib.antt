@@ -11,4 +11,5 @@ pub mod Simulation
 pub mod Random
 pub mod Audit
 pub mod Run
+pub mod Stored
 pub mod refinement

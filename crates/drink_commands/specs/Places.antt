@@ -29,6 +29,10 @@ IsOther word name = is_dash word ≡ false → name ≢ word
 abbrev pub HasTextOf : (List ℕ → Option (List ℕ)) → List ℕ → List ℕ → Type 0
 HasTextOf files word name = is_dash word ≡ false → files word ≡ files name
 
+-- the file of that name is told to have the text of one of two inputs
+abbrev pub IsAnInput : (List ℕ → Option (List ℕ)) → (one other file : List ℕ) → List ℕ → Obstacle → Type 0
+IsAnInput files one other file name why = (name ≡ file) × (why ≡ AnInput) × (HasTextOf files one file ⊎ HasTextOf files other file)
+
 -- The texts of files by name, as far as they are known; and the words of a run's two inputs.
 module _ (files : List ℕ → Option (List ℕ)) (one other : List ℕ) (p : PlanValue) where
   -- the file of this name may take the journal of that office: it is none of the inputs, and has no journal of this office and run

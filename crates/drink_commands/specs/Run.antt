@@ -7,10 +7,10 @@ use Rattle.input_texts.specs.Words.{HaveFirstTexts, StandFor}
 use Rattle.office_map.specs.PlanValue.{PlanValue, office_named, office_name_of}
 use Rattle.session_meaning.specs.ProgramValue.{ProgramValue}
 use Rattle.session_language.specs.Reading.{sessions_of}
-use Rattle.office_runs.specs.Addresses.{is_without}
+use Rattle.office_stations.specs.Addresses.{is_without}
 use Rattle.office_runs.specs.Runs.{TellsCourse, TellsJournals}
 use Rattle.office_runs.specs.declared.report.Ran.{Ran}
-use Rattle.office_runs.specs.declared.fault.RunFault.{RunFault}
+use Rattle.office_stations.specs.declared.fault.RunFault.{RunFault}
 use Rattle.drink_commands.specs.Journals.{File, WritesFiles, files_of}
 use Rattle.drink_commands.specs.Places.{AreFree, IsFree, IsIn, IsObstacle}
 use Rattle.drink_commands.specs.Plans.{IsAcceptedAs}
@@ -19,7 +19,7 @@ use Rattle.drink_commands.specs.Texts.{Judges, Refuses, nothing}
 use Rattle.drink_commands.specs.declared.input.Input.TheVariants as inputs
 use Rattle.drink_commands.specs.declared.fault.Obstacle.{Obstacle}
 use Rattle.drink_commands.specs.declared.fault.Fault.{Fault}
-use Rattle.drink_commands.specs.declared.fault.Fault.TheVariants.{Memory, NoSuchOffice, NoAddress, NoPlace, NoRun, CutShort, WriteFailed, FileFailed}
+use Rattle.drink_commands.specs.declared.fault.Fault.TheVariants.{Memory, NoSuchOffice, NoAddress, NoPlace, CutShort, WriteFailed, FileFailed}
 
 -- ---- how it ended
 
@@ -108,26 +108,27 @@ abbrev pub SaysOf : PlanValue → (Fault → Type 0) → Option ℕ → Fault �
 SaysOf p P None f = IsNoOffice f
 SaysOf p P (Some me) f = ((v : ℕ) × IsFirstWithout p me v × IsUnreached p v f) ⊎ (IsReached p me × P f)
 
--- an office can't be run, or nothing is told of its run, or it was cut short, or its journal has no place
+-- an office can't be run
 abbrev pub IsOfOffice : Fault → Type 0
 IsOfOffice (NoSuchOffice offices) = Unit {0}
 IsOfOffice (NoAddress office) = Unit {0}
-IsOfOffice (NoPlace name why) = Unit {0}
-IsOfOffice (NoRun cause) = Unit {0}
-IsOfOffice (CutShort cause) = Unit {0}
 IsOfOffice _ = ⊥
 
 -- What a fault of `run` says of the texts of its words, of which the first are given. The plan is judged first. Under it OFFICE is
--- looked up, and the addresses are looked at, before anything is said of the sessions. Other faults come where all that is as it has to be.
-abbrev pub JudgesRun : List ℕ → List (List ℕ) → Fault → Type 0
-JudgesRun word [] f = IsAmong (inputs.Plan ∷ inputs.Sessions ∷ []) f ⊎ IsOfOffice f
-JudgesRun word (text ∷ texts) f =
+-- looked up, and the addresses are looked at, before anything is said of the sessions. Other faults, of which P holds, come where all that
+-- is as it has to be.
+abbrev pub JudgesOffice : (Fault → Type 0) → List ℕ → List (List ℕ) → Fault → Type 0
+JudgesOffice P word [] f = IsAmong (inputs.Plan ∷ inputs.Sessions ∷ []) f ⊎ (IsOfOffice f ⊎ P f)
+JudgesOffice P word (text ∷ texts) f =
     IsFaultAt inputs.Plan (Refuses nothing text) f
-    ⊎ ((p : PlanValue) × IsAcceptedAs text p × SaysOf p (Judges IsOfRun (record nothing { plan = Some p }) (inputs.Sessions ∷ []) texts) (office_named p word) f)
+    ⊎ ((p : PlanValue) × IsAcceptedAs text p × SaysOf p (Judges P (record nothing { plan = Some p }) (inputs.Sessions ∷ []) texts) (office_named p word) f)
+
+abbrev pub IsJudgedOffice : (Fault → Type 0) → (List ℕ → Option (List ℕ)) → Option (List ℕ) → (plan word sessions : List ℕ) → Fault → Type 0
+IsJudgedOffice P files standard plan word sessions f = (texts : List (List ℕ)) (n : ℕ) → HaveFirstTexts files standard (plan ∷ sessions ∷ []) texts n
+    → JudgesOffice P word (take n texts) f
 
 abbrev pub IsJudgedRun : (List ℕ → Option (List ℕ)) → Option (List ℕ) → (plan word sessions : List ℕ) → Fault → Type 0
-IsJudgedRun files standard plan word sessions f = (texts : List (List ℕ)) (n : ℕ) → HaveFirstTexts files standard (plan ∷ sessions ∷ []) texts n
-    → JudgesRun word (take n texts) f
+IsJudgedRun = IsJudgedOffice IsOfRun
 
 -- ---- where the journals go
 

@@ -1,9 +1,9 @@
 -- Exit statuses.
 use Rattle.std.specs.Prelude.{◌≡◌, ◌⊎◌, ℕ, Bool, List, Option, Result, Ok, Err}
-use Rattle.clap.specs.Words.{IsAmong, fault_of}
+use Rattle.clap.specs.Words.{IsAmong}
 use Rattle.clap.specs.declared.error.kind.ErrorKind.{ErrorKind}
 use Rattle.clap.specs.declared.error.kind.ErrorKind.TheVariants.{DisplayHelp, DisplayVersion}
-use Rattle.command_words.specs.CommandLine.{Asks, program}
+use Rattle.command_words.specs.CommandLine.{Asks, faults_of}
 use Rattle.drink_commands.specs.Journals.{File}
 use Rattle.drink_commands.specs.Requests.{IsDone}
 use Rattle.command_words.specs.declared.command_line.Request.{Request}
@@ -19,7 +19,7 @@ abbrev pub IsShown : ErrorKind → Type 0
 IsShown kind = (kind ≡ DisplayHelp) ⊎ (kind ≡ DisplayVersion)
 
 -- The words ask for something that was done, or for help or the version.
-abbrev pub IsAnswered : Bool → (List ℕ → Option (List ℕ)) → Option (List ℕ) → List (List ℕ) → Option (List ℕ) → Option (List ℕ) → Option (List File) → Option (List File) → Type 0
-IsAnswered tells files standard words old new kept left =
-    ((request : Request) × Asks words request × IsDone tells files standard request 0 old new kept left)
-    ⊎ ((kind : ErrorKind) × IsShown kind × IsAmong kind (fault_of program words))
+abbrev pub IsAnswered : Bool → (List ℕ → Option (List ℕ)) → Option (List ℕ) → (List ℕ → Option (List ℕ)) → List (List ℕ) → Option (List ℕ) → Option (List ℕ) → Option (List File) → Option (List File) → Type 0
+IsAnswered tells files standard stores words old new kept left =
+    ((request : Request) × Asks words request × IsDone tells files standard stores request 0 old new kept left)
+    ⊎ ((kind : ErrorKind) × IsShown kind × IsAmong kind (faults_of words))

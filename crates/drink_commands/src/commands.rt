@@ -16,6 +16,7 @@ pub mod random;
 pub mod run;
 pub mod serial;
 pub mod sim;
+pub mod stored;
 
 /// The exit status of a command that did what it was asked for.
 pub(crate) const DONE: u8 = 0;
@@ -47,7 +48,7 @@ pub(crate) fn ended(ran: &Ran) -> Result<u8, Fault>
     }
 }
 
-fn status_with(left: usize) -> u8
+pub(crate) fn status_with(left: usize) -> u8
     ensures { result ≡ status_with left }
 {
     if left == 0 { DONE } else { LEFT }

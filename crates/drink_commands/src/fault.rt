@@ -7,13 +7,14 @@ ghost use Rattle.drink_commands.specs.Fault.{input_of, refused_input};
 use crate::input::Input;
 use journal_texts::JournalRefusal;
 use office_map::{PlanRefusal, Ring};
-use office_runs::{OpeningFault, RunFault};
+use office_stations::{OpeningFault, RunFault};
 use script_runs::ScriptRefusal;
 use session_language::SessionRefusal;
 use std::alloc::{AllocError, AllocFailed};
 use std::error::Error;
 use std::fmt;
 use std::io::ErrorKind;
+use stored_runs::LineFault;
 
 /// Why the text of an input is refused.
 #[derive(Debug, Drop, PartialEq, Eq)]
@@ -76,6 +77,22 @@ pub enum Obstacle {
     AJournal,
 }
 
+/// Why an office doesn't get its store, or doesn't go on from it.
+#[derive(Debug, Drop, PartialEq, Eq)]
+pub enum StoreRefusal {
+    /// It can't be opened, read or cut off.
+    Failed(ErrorKind),
+    /// Another process has it.
+    InUse,
+    /// It isn't there, and was to be.
+    Missing,
+    /// It is there, and was to be made.
+    There,
+    /// The line of this number, from 1, is none of the office's journal of this run, and why; or 0, where no line says anything. The
+    /// text is what people are told of it.
+    Faulty(u64, LineFault, String),
+}
+
 /// Why a command fails. Its text doesn't name the input: the user has a name for it, and [`Fault::input`] says which input
 /// is meant.
 #[derive(Debug, Drop, PartialEq, Eq)]
@@ -101,6 +118,13 @@ pub enum Fault {
     WriteFailed(ErrorKind),
     /// The file or folder of this name can't be written or made. What was to be printed is.
     FileFailed(String, ErrorKind),
+    /// The office's store can't be had, or isn't gone on from. The run hasn't begun, and nothing was written.
+    NoStore(StoreRefusal),
+    /// It isn't sure that what was appended to the office's store is kept, and the run ended with it. What was kept before is printed.
+    StoreFailed,
+    /// The sessions that the office's store has don't begin the office's here: that with this ticket is the first that differs. The run
+    /// hasn't begun, and nothing was written.
+    OtherSessions(usize),
 }
 
 impl Fault {
@@ -116,10 +140,13 @@ impl Fault {
             | Fault::NoRun(_)
             | Fault::CutShort(_)
             | Fault::WriteFailed(_)
-            | Fault::FileFailed(_, _) => None,
+            | Fault::FileFailed(_, _)
+            | Fault::NoStore(_)
+            | Fault::StoreFailed => None,
             Fault::ReadFailed(input, _) => Some(*input),
             Fault::Refused(why, _) => Some(why.input()),
             Fault::NoAddress(_) => Some(Input::Plan),
+            Fault::OtherSessions(_) => Some(Input::Sessions),
         }
     }
 }
@@ -195,6 +222,19 @@ impl fmt::Display for Fault {
                 let cause = file_cause(*kind);
                 write!(f, "X5 WriteFailed: it cannot be written: {cause}")
             }
+            Fault::NoStore(why) => write_store_refusal(f, why),
+            Fault::StoreFailed => {
+                write!(
+                    f,
+                    "U4 StoreFailed: what the office did can't be kept in it; the run ended with it, and what was kept before is printed, from which a new start goes on"
+                )
+            }
+            Fault::OtherSessions(ticket) => {
+                write!(
+                    f,
+                    "X7 OtherSessions: the office's session {ticket} is another than the one to which its store gave ticket {ticket}, and a start goes on with the same sessions, and maybe more after them; nothing was run"
+                )
+            }
         }
     }
 }
@@ -248,6 +288,33 @@ fn write_obstacle<W: fmt::Write>(f: &mut fmt::Formatter<W>, why: Obstacle) -> fm
             )
         }
     }
+}
+
+/// Why an office doesn't go on from its store.
+fn write_store_refusal<W: fmt::Write>(
+    f: &mut fmt::Formatter<W>,
+    why: &StoreRefusal,
+) -> fmt::Result {
+    match why {
+        StoreRefusal::Failed(kind) => {
+            let cause = file_cause(*kind);
+            write!(
+                f,
+                "U4 StoreFailed: it cannot be opened, read or cut off: {cause}"
+            )?;
+        }
+        StoreRefusal::InUse => write!(f, "U6 StoreInUse: another process has it")?,
+        StoreRefusal::Missing => write!(f, "U7 NoStore: it is not there, and --new makes one")?,
+        StoreRefusal::There => write!(
+            f,
+            "U8 StoreThere: it is there, and --new makes one that is not; without --new the office goes on from it"
+        )?,
+        StoreRefusal::Faulty(line, _, text) => {
+            write_line(f, (*line).max(1), 0)?;
+            write!(f, "U5 StoreFaulty: {text}")?;
+        }
+    }
+    write!(f, "; nothing was run")
 }
 
 /// Why a run can't begin.

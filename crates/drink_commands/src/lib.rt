@@ -11,6 +11,9 @@
 //!   whether sessions are left (clause `runs`). Its faults say what the texts are, and OFFICE and the addresses under the plan,
 //!   before the sessions (clause `judged`); nothing is written at one but what stands where the run was cut short (clause `leaves`).
 //!   Where its journal goes is looked at before anything is run.
+//! - [`commands::stored::run`] is `drink run` with a store. The office goes on from what its store has, and what is written is what
+//!   `stored_runs` promises (clause `runs`). Its faults say what the texts are, as those of `run` (clause `judged`), and what the store has
+//!   that isn't gone on from; then nothing is written, and the store is as it was (clause `leaves`).
 //! - [`commands::live::run`] is `drink live`, with the same clauses, of all offices.
 //! - [`telling::Telling`] says on a terminal how far a run is, and never waits for it.
 //! - [`program::perform`] carries a request out, from the texts that its words stand for (clause `done`); [`program::answer`]
@@ -31,6 +34,7 @@ mod journal_files;
 pub mod journals;
 mod places;
 pub mod program;
+pub mod stores;
 pub mod telling;
 pub mod texts;
 

@@ -6,7 +6,7 @@ ghost use Rattle.std.specs.Str.{bytes_eq};
 ghost use Rattle.journal_texts.specs.Written.{header_line};
 ghost use Rattle.drink_commands.specs.Fault.{IsPlaceFault};
 ghost use Rattle.drink_commands.specs.Journals.{file_name};
-ghost use Rattle.drink_commands.specs.Places.{AreFree, HasTextOf, IsFailed, IsFree, IsIn, IsObstacle, IsOther, IsUnheld};
+ghost use Rattle.drink_commands.specs.Places.{AreFree, HasTextOf, IsAnInput, IsFailed, IsFree, IsIn, IsObstacle, IsOther, IsUnheld};
 ghost use Rattle.drink_commands.specs.declared.fault.Obstacle.TheVariants as obstacles;
 
 use crate::fault::{Fault, Obstacle};
@@ -111,6 +111,24 @@ fn look_at<S: Sources, T: Targets>(
         Some(why) => Err(no_place(alloc, name, why)),
         None => Ok(()),
     }
+}
+
+/// The file of this name is no input.
+pub(crate) fn refuse_input<S: Sources>(
+    alloc: Global,
+    sources: &S,
+    one: &str,
+    other: &str,
+    name: &str,
+) -> Result<(), Fault>
+    ensures no_plan { IfOk result (λ _. IsOther one.now name.now) }
+    ensures no_sessions { IfOk result (λ _. IsOther other.now name.now) }
+    ensures fault { IfErr result (IsPlaceFault (IsAnInput (S.file_text sources.now) one.now other.now name.now)) }
+{
+    if is_input(sources, one, other, name) {
+        return Err(no_place(alloc, name, Obstacle::AnInput));
+    }
+    Ok(())
 }
 
 /// Whether an input is read from the file of this name.

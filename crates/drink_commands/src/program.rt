@@ -7,15 +7,17 @@ ghost use Rattle.drink_commands.specs.Requests.{IsDone, IsJudgedFor, IsStatusOf,
 ghost use Rattle.drink_commands.specs.Status.{IsAnswered, IsShown, status_of};
 
 use crate::commands;
-use crate::commands::{audit, live, random, run, serial, sim};
+use crate::commands::{audit, live, random, run, serial, sim, stored};
 use crate::exit::{Exit, FAILED, MISUSED, Said};
 use crate::fault::Fault;
 use crate::input::Input;
+use crate::stores::{StoreFiles, Stores};
 use crate::telling::{Telling, opened};
 use clap::error::ErrorKind;
 use command_words::command_line::{Request, command_line, help};
 use input_texts::{Devices, Sources};
-use office_runs::{Around, Binds, Gate, Open, UdpSockets, Watch};
+use journal_stores::StoreFile;
+use office_stations::{Around, Binds, Gate, Open, UdpSockets, Watch};
 use output_files::{Disk, Targets};
 use random_runs::Schedule;
 use std::alloc::{AllocError, Global};
@@ -34,11 +36,12 @@ pub fn run<R, E>(rt: &R, error: &E) -> u8
 where
     R: AllocGlobal + Env + Files + std::io::Input + Print + Eprint,
     R: Threads + Wait + Clock + Net + Sync,
-    R::File: AsRawFd,
+    R::File: AsRawFd + StoreFile,
     E: IsTerminal,
 {
     let devices = Devices::new(rt);
     let mut disk = Disk::new(rt);
+    let mut stores = StoreFiles::new(rt);
     let binds = UdpSockets::new(rt, rt.alloc());
     let screen = if error.is_terminal() {
         opened(rt).ok()
@@ -59,6 +62,7 @@ where
             &devices,
             &around,
             &mut disk,
+            &mut stores,
             &mut io::writer(rt),
         ),
         Err(exit) => exit,
@@ -83,13 +87,14 @@ pub fn words<R: AllocGlobal + Env>(rt: &R) -> Result<Vec<String>, Exit> {
 
 /// Does what these words ask for. The first of them is the program's name. The status is 0 only where what they ask for was
 /// done, without sessions that a run of offices leaves, or help or the version went out; and nothing is written where it is 2.
-pub fn answer<R, S, B, G, V, T, W>(
+pub fn answer<R, S, B, G, V, T, K, W>(
     rt: &R,
     alloc: Global,
     words: &[String],
     sources: &S,
     around: &Around<'_, B, G, V>,
     targets: &mut T,
+    stores: &mut K,
     out: &mut W,
 ) -> Exit
 where
@@ -101,9 +106,10 @@ where
     G: Gate + Sync,
     V: Watch + Sync,
     T: Targets,
+    K: Stores,
     W: Write,
-    ensures done { result.status ≡ 0 → IsAnswered B.Socket.tells (S.file_text sources.now) (S.standard_text sources.now) (map string_bytes words.now) (W.contents out.old) (W.contents out.new) (T.written targets.old) (T.written targets.new) }
-    ensures unwritten { result.status ≡ 2 → (out.new ≡ out.old) × (targets.new ≡ targets.old) }
+    ensures done { result.status ≡ 0 → IsAnswered B.Socket.tells (S.file_text sources.now) (S.standard_text sources.now) (K.has stores.old) (map string_bytes words.now) (W.contents out.old) (W.contents out.new) (T.written targets.old) (T.written targets.new) }
+    ensures unwritten { result.status ≡ 2 → (out.new ≡ out.old) × (targets.new ≡ targets.old) × (stores.new ≡ stores.old) }
 {
     if words.len() < 2 {
         return Exit::saying(MISUSED, help(alloc));
@@ -111,9 +117,9 @@ where
     match command_line(alloc, words) {
         Ok(request) => {
             if has_dash(&request) {
-                return Exit::saying(MISUSED, no_dash(alloc));
+                return Exit::saying(MISUSED, no_dash(alloc, &request));
             }
-            let result = perform(rt, alloc, &request, sources, around, targets, out);
+            let result = perform(rt, alloc, &request, sources, around, targets, stores, out);
             Exit {
                 status: status(&result),
                 said: said(alloc, &request, &result),
@@ -123,33 +129,38 @@ where
     }
 }
 
-/// Whether a request names `-` for the file of a journal. That is the standard input elsewhere, and no file.
+/// Whether a request names `-` for the file of a journal or a store. That is the standard input elsewhere, and no file.
 fn has_dash(request: &Request<'_>) -> bool {
     match request {
         Request::Run {
             journal: Some(file),
             ..
         } => *file == "-",
+        Request::RunStored { store, .. } => *store == "-",
         _ => false,
     }
 }
 
 /// What is said of such a request.
-fn no_dash(alloc: Global) -> Result<String, AllocError> {
-    String::from_str(
-        alloc,
-        "drink: --journal takes a file, and - is none: a file whose name is - is written ./- instead\n",
+fn no_dash(alloc: Global, request: &Request<'_>) -> Result<String, AllocError> {
+    let option = match request {
+        Request::RunStored { .. } => "--store",
+        _ => "--journal",
+    };
+    format!(in alloc;
+        "drink: {option} takes a file, and - is none: a file whose name is - is written ./- instead\n"
     )
 }
 
 /// Carries a request out. The answer is the exit status.
-pub fn perform<R, S, B, G, V, T, W>(
+pub fn perform<R, S, B, G, V, T, K, W>(
     rt: &R,
     alloc: Global,
     request: &Request,
     sources: &S,
     around: &Around<'_, B, G, V>,
     targets: &mut T,
+    stores: &mut K,
     out: &mut W,
 ) -> Result<u8, Fault>
 where
@@ -161,8 +172,9 @@ where
     G: Gate + Sync,
     V: Watch + Sync,
     T: Targets,
+    K: Stores,
     W: Write,
-    ensures done { IfOk result (λ status. IsDone B.Socket.tells (S.file_text sources.now) (S.standard_text sources.now) request.now status (W.contents out.old) (W.contents out.new) (T.written targets.old) (T.written targets.new)) }
+    ensures done { IfOk result (λ status. IsDone B.Socket.tells (S.file_text sources.now) (S.standard_text sources.now) (K.has stores.old) request.now status (W.contents out.old) (W.contents out.new) (T.written targets.old) (T.written targets.new)) }
     ensures status { IfOk result (IsStatusOf request.now) }
     ensures judged { IfErr result (IsJudgedFor (S.file_text sources.now) (S.standard_text sources.now) request.now) }
 {
@@ -199,6 +211,18 @@ where
         } => run::run(
             rt, alloc, sources, plan, office, sessions, *turns, *journal, around, targets, out,
         ),
+        Request::RunStored {
+            plan,
+            office,
+            sessions,
+            turns,
+            store,
+            sync,
+            new,
+        } => stored::run(
+            rt, alloc, sources, plan, office, sessions, *turns, store, *sync, *new, around, stores,
+            out,
+        ),
         Request::Live {
             plan,
             sessions,
@@ -231,7 +255,9 @@ fn said(alloc: Global, request: &Request, answer: &Result<u8, Fault>) -> Said {
 /// The word of a request that a fault is about, or the file, if it is about one.
 fn named<'a>(request: &'a Request<'_>, fault: &'a Fault) -> Option<&'a str> {
     match (request, fault) {
-        (Request::Run { office, .. }, Fault::NoSuchOffice(_)) => Some(*office),
+        (Request::Run { office, .. } | Request::RunStored { office, .. }, Fault::NoSuchOffice(_)) =>
+            Some(*office),
+        (Request::RunStored { store, .. }, Fault::NoStore(_) | Fault::StoreFailed) => Some(*store),
         (_, Fault::FileFailed(name, _) | Fault::NoPlace(name, _)) => Some(name.as_str()),
         _ => match fault.input() {
             Some(input) => Some(word_of(request, input)),
@@ -292,6 +318,7 @@ fn word_of<'a>(request: &Request<'a>, input: Input) -> &'a str
         Request::Serial { plan, sessions }
         | Request::Random { plan, sessions, .. }
         | Request::Run { plan, sessions, .. }
+        | Request::RunStored { plan, sessions, .. }
         | Request::Live { plan, sessions, .. } => match input {
             Input::Plan => plan,
             Input::Sessions => sessions,

@@ -1,6 +1,6 @@
 //! How far a run of offices is, for people.
 
-use office_runs::{Progress, Watch};
+use office_stations::{Progress, Watch};
 use run_remarks::Unmet;
 use std::alloc::{AllocError, Global};
 use std::fs::OpenOptions;

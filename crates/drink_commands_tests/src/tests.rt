@@ -20,7 +20,9 @@ mod random;
 mod running;
 mod scripts;
 mod shell;
+mod shelves;
 mod sockets;
+mod stored;
 
 pub fn strings(alloc: Global, words: &[&str]) -> Result<Vec<String>, AllocError> {
     let mut strings = Vec::new(alloc);

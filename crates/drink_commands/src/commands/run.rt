@@ -16,8 +16,9 @@ use crate::places::look_at_file;
 use crate::texts::{read_plan, read_programs};
 use input_texts::{Sources, StandardInput};
 use office_map::{OfficeId, Plan};
+use office_runs::Ran;
 use office_runs::run::run_office;
-use office_runs::{Around, Binds, Gate, Ran, Watch, without_address};
+use office_stations::{Around, Binds, Gate, Watch, without_address};
 use output_files::Targets;
 use std::alloc::{AllocError, Global};
 use std::io::Write;
@@ -103,7 +104,7 @@ fn write_ran<T: Targets, W: Write, V: Watch>(
 }
 
 /// The office that a word names. It and its neighbours have addresses.
-fn office_to_run(alloc: Global, plan: &Plan, word: &str) -> Result<OfficeId, Fault>
+pub(crate) fn office_to_run(alloc: Global, plan: &Plan, word: &str) -> Result<OfficeId, Fault>
     ensures office { IfOk result (λ me. office_named plan.now word.now ≡ Some me) }
     ensures reached { IfOk result (IsReached plan.now) }
     ensures fault { IfErr result (SaysOf plan.now NoOther (office_named plan.now word.now)) }

@@ -1,10 +1,11 @@
 use crate::tests::audits::{OF_A, OF_B};
+use crate::tests::shelves::NoStores;
 use crate::tests::sockets::Deaf;
 use crate::tests::{MOVE, Memory, PLAN, strings};
 use drink_commands::commands::sim;
 use drink_commands::fault::Fault;
 use drink_commands::program::answer;
-use office_runs::{Around, Open, Quiet};
+use office_stations::{Around, Open, Quiet};
 use output_files::InMemory;
 use std::io::ErrorKind;
 use std::process::Abort;
@@ -138,6 +139,7 @@ fn an_office_leaves_its_journal(rt: HostRuntime) -> Result<(), Fail> {
             &memory,
             &around,
             &mut files,
+            &mut NoStores,
             &mut out,
         );
         assert_eq!(rt; exit.said.text(), *said);

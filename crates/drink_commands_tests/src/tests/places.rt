@@ -1,8 +1,9 @@
+use crate::tests::shelves::NoStores;
 use crate::tests::sockets::Deaf;
 use crate::tests::strings;
 use drink_commands::program::answer;
 use input_texts::Texts;
-use office_runs::{Around, Open, Quiet};
+use office_stations::{Around, Open, Quiet};
 use output_files::{InMemory, Targets};
 use std::alloc::{AllocError, Global};
 use std::io::ErrorKind;
@@ -130,6 +131,7 @@ fn answered(
         &sources,
         &around,
         &mut files,
+        &mut NoStores,
         &mut out,
     );
     let written = out.len().saturating_add(files.files().len());

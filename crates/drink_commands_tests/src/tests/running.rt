@@ -1,10 +1,11 @@
 use crate::tests::ear::{Board, Ear};
+use crate::tests::shelves::NoStores;
 use crate::tests::sockets::{Deaf, Shut};
 use crate::tests::{MOVE, Memory, PLAN, strings};
 use drink_commands::exit::Exit;
 use drink_commands::program::answer;
 use drink_commands::telling::{Telling, show};
-use office_runs::{Around, Binds, Gate, Open, Progress, Quiet, UdpSockets, Watch};
+use office_stations::{Around, Binds, Gate, Open, Progress, Quiet, UdpSockets, Watch};
 use output_files::InMemory;
 use std::alloc::Global;
 use std::io::ErrorKind;
@@ -56,6 +57,7 @@ where
         memory,
         around,
         &mut InMemory::new(rt.alloc()),
+        &mut NoStores,
         &mut out,
     );
     let (status, printed, said) = expected;
@@ -312,6 +314,7 @@ fn live_finishes_three_sessions(rt: HostRuntime) -> Result<(), Fail> {
         &memory,
         &around,
         &mut InMemory::new(rt.alloc()),
+        &mut NoStores,
         &mut out,
     );
     assert_eq!(rt; exit.said.text(), "");

@@ -1,10 +1,11 @@
 //! What a run of offices has around it, in memory.
 
 use crate::tests::Memory;
+use crate::tests::shelves::NoStores;
 use drink_commands::exit::Exit;
 use drink_commands::program::answer;
 use office_map::OfficeId;
-use office_runs::{Around, Binds, Gate, Open, Quiet, Socket, Wakes};
+use office_stations::{Around, Binds, Gate, Open, Quiet, Socket, Waits, Wakes};
 use output_files::InMemory;
 use socket_pump::{Contact, MemoryWire, Wire, WireFailed};
 use std::alloc::Global;
@@ -48,7 +49,8 @@ impl Binds for Deaf {
         if let Some(call) = self.fails_at {
             wire.fail_at(call);
         }
-        Ok((DeafSocket { wire, at }, Bell))
+        let waits = Waits::none();
+        Ok((DeafSocket { wire, at, waits }, Bell))
     }
 }
 
@@ -56,6 +58,7 @@ impl Binds for Deaf {
 pub struct DeafSocket {
     wire: MemoryWire,
     at: SocketAddr,
+    waits: Waits,
 }
 
 impl Wire for DeafSocket {
@@ -75,6 +78,8 @@ impl Wire for DeafSocket {
 }
 
 impl Socket for DeafSocket {
+    ghost waits = { λ s. s.waits };
+
     fn address(&self) -> io::Result<SocketAddr> {
         Ok(self.at)
     }
@@ -85,7 +90,8 @@ impl Socket for DeafSocket {
         Contact::none()
     }
 
-    fn poll(&mut self, _most: u64) -> Result<(), WireFailed> {
+    fn poll(&mut self, most: u64) -> Result<(), WireFailed> {
+        self.waits = self.waits.and(most);
         Ok(())
     }
 }
@@ -129,6 +135,7 @@ pub fn answered<W: Write>(
         memory,
         &around,
         &mut InMemory::new(rt.alloc()),
+        &mut NoStores,
         out,
     )
 }

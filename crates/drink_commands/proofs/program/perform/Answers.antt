@@ -33,6 +33,13 @@ returns-in-Run g c = record {
   judged = rw c.in-Run.is c.run-in-Run.ensures.judged;
 }
 
+pub returns-in-RunStored : goal.returns-in-RunStored
+returns-in-RunStored g c = record {
+  done = rw c.in-RunStored.is (ok_more c.run-in-RunStored.result _ _ (λ status h. (keeps _, h)) c.run-in-RunStored.ensures.runs);
+  status = rw c.in-RunStored.is c.run-in-RunStored.ensures.status;
+  judged = rw c.in-RunStored.is c.run-in-RunStored.ensures.judged;
+}
+
 pub returns-in-Live : goal.returns-in-Live
 returns-in-Live g c = record {
   done = rw c.in-Live.is c.run-in-Live.ensures.runs;

@@ -19,24 +19,24 @@ returns-in_err-plan-clause-judged g c =
     let e = err_from_is_err_and c.from_residual.result c.from_residual.ensures.1 in
     let files = g.S.Sources.file_text c.args.sources.now in
     rw (e.1, e.2)
-    (judged files c.args.office.now (g.S.Sources.standard_text c.args.sources.now) c.new-standard.result c.args.plan.now c.args.sessions.now c.in_err-plan.field-0.0 (search rules)
-    (at_plan files c.args.office.now c.new-standard.result c.args.plan.now c.args.sessions.now c.in_err-plan.field-0.0 c.in_err-plan.ensures.fault))
+    (judged IsOfRun files c.args.office.now (g.S.Sources.standard_text c.args.sources.now) c.new-standard.result c.args.plan.now c.args.sessions.now c.in_err-plan.field-0.0 (search rules)
+    (at_plan IsOfRun files c.args.office.now c.new-standard.result c.args.plan.now c.args.sessions.now c.in_err-plan.field-0.0 c.in_err-plan.ensures.fault))
 
 pub returns-in_err-me-clause-judged : goal.returns-in_err-me-clause-judged
 returns-in_err-me-clause-judged g c =
     let e = err_from_is_err_and c.from_residual-in_err-me.result c.from_residual-in_err-me.ensures.1 in
     let files = g.S.Sources.file_text c.args.sources.now in
     rw (e.1, e.2)
-    (judged files c.args.office.now (g.S.Sources.standard_text c.args.sources.now) c.new-standard.result c.args.plan.now c.args.sessions.now c.in_err-me.field-0.0 (search rules)
-    (at_word files c.args.office.now c.new-standard.result c.read_plan.new.standard c.args.plan.now c.args.sessions.now c.in_ok-plan.plan c.in_err-me.field-0.0 c.in_ok-plan.ensures.meaning c.in_err-me.ensures.fault))
+    (judged IsOfRun files c.args.office.now (g.S.Sources.standard_text c.args.sources.now) c.new-standard.result c.args.plan.now c.args.sessions.now c.in_err-me.field-0.0 (search rules)
+    (at_word IsOfRun files c.args.office.now c.new-standard.result c.read_plan.new.standard c.args.plan.now c.args.sessions.now c.in_ok-plan.plan c.in_err-me.field-0.0 c.in_ok-plan.ensures.meaning c.in_err-me.ensures.fault))
 
 pub returns-in_err-programs-clause-judged : goal.returns-in_err-programs-clause-judged
 returns-in_err-programs-clause-judged g c =
     let e = err_from_is_err_and c.from_residual-in_err-programs.result c.from_residual-in_err-programs.ensures.1 in
     let files = g.S.Sources.file_text c.args.sources.now in
     rw (e.1, e.2)
-    (judged files c.args.office.now (g.S.Sources.standard_text c.args.sources.now) c.new-standard.result c.args.plan.now c.args.sessions.now c.in_err-programs.field-0.0 (search rules)
-    (at_later files c.args.office.now c.new-standard.result c.read_plan.new.standard c.args.plan.now c.args.sessions.now c.in_ok-plan.plan c.in_ok-me.me c.in_err-programs.field-0.0 c.in_ok-plan.ensures.meaning c.in_ok-me.ensures.office c.in_ok-me.ensures.reached
+    (judged IsOfRun files c.args.office.now (g.S.Sources.standard_text c.args.sources.now) c.new-standard.result c.args.plan.now c.args.sessions.now c.in_err-programs.field-0.0 (search rules)
+    (at_later IsOfRun files c.args.office.now c.new-standard.result c.read_plan.new.standard c.args.plan.now c.args.sessions.now c.in_ok-plan.plan c.in_ok-me.me c.in_err-programs.field-0.0 c.in_ok-plan.ensures.meaning c.in_ok-me.ensures.office c.in_ok-me.ensures.reached
     (at_first IsOfRun files c.read_plan.new.standard c.args.sessions.now [] (record nothing { plan = Some c.in_ok-plan.plan }) inputs.Sessions [] c.in_err-programs.field-0.0 c.in_err-programs.ensures.fault)))
 
 pub returns-in_err-look_at_file-clause-judged : goal.returns-in_err-look_at_file-clause-judged
@@ -44,8 +44,8 @@ returns-in_err-look_at_file-clause-judged g c =
     let e = err_from_is_err_and c.from_residual-in_err-look_at_file.result c.from_residual-in_err-look_at_file.ensures.1 in
     let files = g.S.Sources.file_text c.args.sources.now in
     rw (e.1, e.2)
-    (judged files c.args.office.now (g.S.Sources.standard_text c.args.sources.now) c.new-standard.result c.args.plan.now c.args.sessions.now c.in_err-look_at_file.field-0.0 (search rules)
-    (at_later files c.args.office.now c.new-standard.result c.read_plan.new.standard c.args.plan.now c.args.sessions.now c.in_ok-plan.plan c.in_ok-me.me c.in_err-look_at_file.field-0.0 c.in_ok-plan.ensures.meaning c.in_ok-me.ensures.office c.in_ok-me.ensures.reached
+    (judged IsOfRun files c.args.office.now (g.S.Sources.standard_text c.args.sources.now) c.new-standard.result c.args.plan.now c.args.sessions.now c.in_err-look_at_file.field-0.0 (search rules)
+    (at_later IsOfRun files c.args.office.now c.new-standard.result c.read_plan.new.standard c.args.plan.now c.args.sessions.now c.in_ok-plan.plan c.in_ok-me.me c.in_err-look_at_file.field-0.0 c.in_ok-plan.ensures.meaning c.in_ok-me.ensures.office c.in_ok-me.ensures.reached
     (at_next IsOfRun files c.read_plan.new.standard c.read_programs.new.standard c.args.sessions.now [] (record nothing { plan = Some c.in_ok-plan.plan }) (record nothing { plan = Some c.in_ok-plan.plan; programs = Some c.in_ok-programs.programs.items }) inputs.Sessions [] c.in_err-look_at_file.field-0.0
     (sessions_taken files c.read_plan.new.standard c.args.sessions.now c.read_programs.new.standard c.in_ok-plan.plan c.in_ok-programs.programs.items c.in_ok-programs.ensures.meaning)
     (texts.at_end IsOfRun files c.read_programs.new.standard (record nothing { plan = Some c.in_ok-plan.plan; programs = Some c.in_ok-programs.programs.items }) c.in_err-look_at_file.field-0.0 (is_place (λ name why. (option_copied c.args.journal ≡ Some name) × IsObstacle files c.args.plan.now c.args.sessions.now c.in_ok-plan.plan why c.in_ok-me.me name) c.in_err-look_at_file.field-0.0 c.in_err-look_at_file.ensures.fault)))))
@@ -55,8 +55,8 @@ returns-in_err-ran-clause-judged g c =
     let e = err_from_is_err_and c.from_residual-in_err-ran.result c.from_residual-in_err-ran.ensures.1 in
     let files = g.S.Sources.file_text c.args.sources.now in
     rw (e.1, e.2)
-    (judged files c.args.office.now (g.S.Sources.standard_text c.args.sources.now) c.new-standard.result c.args.plan.now c.args.sessions.now (NoRun c.in_err-ran.field-0.0) (search rules)
-    (at_later files c.args.office.now c.new-standard.result c.read_plan.new.standard c.args.plan.now c.args.sessions.now c.in_ok-plan.plan c.in_ok-me.me (NoRun c.in_err-ran.field-0.0) c.in_ok-plan.ensures.meaning c.in_ok-me.ensures.office c.in_ok-me.ensures.reached
+    (judged IsOfRun files c.args.office.now (g.S.Sources.standard_text c.args.sources.now) c.new-standard.result c.args.plan.now c.args.sessions.now (NoRun c.in_err-ran.field-0.0) (search rules)
+    (at_later IsOfRun files c.args.office.now c.new-standard.result c.read_plan.new.standard c.args.plan.now c.args.sessions.now c.in_ok-plan.plan c.in_ok-me.me (NoRun c.in_err-ran.field-0.0) c.in_ok-plan.ensures.meaning c.in_ok-me.ensures.office c.in_ok-me.ensures.reached
     (at_next IsOfRun files c.read_plan.new.standard c.read_programs.new.standard c.args.sessions.now [] (record nothing { plan = Some c.in_ok-plan.plan }) (record nothing { plan = Some c.in_ok-plan.plan; programs = Some c.in_ok-programs.programs.items }) inputs.Sessions [] (NoRun c.in_err-ran.field-0.0)
     (sessions_taken files c.read_plan.new.standard c.args.sessions.now c.read_programs.new.standard c.in_ok-plan.plan c.in_ok-programs.programs.items c.in_ok-programs.ensures.meaning)
     (texts.at_end IsOfRun files c.read_programs.new.standard (record nothing { plan = Some c.in_ok-plan.plan; programs = Some c.in_ok-programs.programs.items }) (NoRun c.in_err-ran.field-0.0) (inr (inl tt))))))
@@ -65,8 +65,8 @@ pub returns-clause-judged : goal.returns-clause-judged
 returns-clause-judged g c =
     let files = g.S.Sources.file_text c.args.sources.now in
     err_more c.write_ran.result _ _ (λ f h.
-    (judged files c.args.office.now (g.S.Sources.standard_text c.args.sources.now) c.new-standard.result c.args.plan.now c.args.sessions.now f (search rules)
-    (at_later files c.args.office.now c.new-standard.result c.read_plan.new.standard c.args.plan.now c.args.sessions.now c.in_ok-plan.plan c.in_ok-me.me f c.in_ok-plan.ensures.meaning c.in_ok-me.ensures.office c.in_ok-me.ensures.reached
+    (judged IsOfRun files c.args.office.now (g.S.Sources.standard_text c.args.sources.now) c.new-standard.result c.args.plan.now c.args.sessions.now f (search rules)
+    (at_later IsOfRun files c.args.office.now c.new-standard.result c.read_plan.new.standard c.args.plan.now c.args.sessions.now c.in_ok-plan.plan c.in_ok-me.me f c.in_ok-plan.ensures.meaning c.in_ok-me.ensures.office c.in_ok-me.ensures.reached
     (at_next IsOfRun files c.read_plan.new.standard c.read_programs.new.standard c.args.sessions.now [] (record nothing { plan = Some c.in_ok-plan.plan }) (record nothing { plan = Some c.in_ok-plan.plan; programs = Some c.in_ok-programs.programs.items }) inputs.Sessions [] f
     (sessions_taken files c.read_plan.new.standard c.args.sessions.now c.read_programs.new.standard c.in_ok-plan.plan c.in_ok-programs.programs.items c.in_ok-programs.ensures.meaning)
     (texts.at_end IsOfRun files c.read_programs.new.standard (record nothing { plan = Some c.in_ok-plan.plan; programs = Some c.in_ok-programs.programs.items }) f (is_end _ f h)))))) c.write_ran.ensures.leaves

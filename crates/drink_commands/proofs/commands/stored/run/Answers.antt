@@ -1,0 +1,148 @@
+use Rattle.std.proofs.Common.{[], Some, inl, inr, refl, subst, sym, ◌≤◌, rules}
+use Rattle.std.proofs.lemmas.Result.{err_from_is_err_and}
+use Rattle.drink_commands.specs.Fault.{IsOfStoredRun}
+use Rattle.drink_commands.specs.Places.{IsAnInput}
+use Rattle.drink_commands.specs.Stored.{IsEndedBy, IsNotHeld, RefusesStore, RunsStored}
+use Rattle.stored_runs.specs.declared.fault.StoredFault.{StoredFault}
+use Rattle.drink_commands.specs.declared.input.Input.TheVariants as inputs
+use Rattle.drink_commands.specs.declared.fault.Fault.TheVariants.{NoRun}
+use Rattle.drink_commands.specs.Texts.{nothing}
+use Rattle.drink_commands.proofs.Faults.{at_first}
+use Rattle.drink_commands.proofs.Running.{at_later, at_plan, at_word, err_more, judged, ok_more, one_at_most}
+use Rattle.drink_commands.proofs.Storing.{at_end, at_office, at_place, at_store, is_end, is_place, is_store, later, not_held, went_on}
+use Rattle.drink_commands.proofs.commands.stored.run.Goals as goal
+
+pub returns-in_err-plan-clause-judged : goal.returns-in_err-plan-clause-judged
+returns-in_err-plan-clause-judged g c =
+    let e = err_from_is_err_and c.from_residual.result c.from_residual.ensures.1 in
+    rw (e.1, e.2)
+    (judged IsOfStoredRun (g.S.Sources.file_text c.args.sources.now) c.args.office.now (g.S.Sources.standard_text c.args.sources.now) c.new-standard.result c.args.plan.now c.args.sessions.now c.in_err-plan.field-0.0 (search rules)
+    (at_plan IsOfStoredRun (g.S.Sources.file_text c.args.sources.now) c.args.office.now c.new-standard.result c.args.plan.now c.args.sessions.now c.in_err-plan.field-0.0 c.in_err-plan.ensures.fault))
+
+pub returns-in_err-me-clause-judged : goal.returns-in_err-me-clause-judged
+returns-in_err-me-clause-judged g c =
+    let e = err_from_is_err_and c.from_residual-in_err-me.result c.from_residual-in_err-me.ensures.1 in
+    rw (e.1, e.2)
+    (judged IsOfStoredRun (g.S.Sources.file_text c.args.sources.now) c.args.office.now (g.S.Sources.standard_text c.args.sources.now) c.new-standard.result c.args.plan.now c.args.sessions.now c.in_err-me.field-0.0 (search rules)
+    (at_word IsOfStoredRun (g.S.Sources.file_text c.args.sources.now) c.args.office.now c.new-standard.result c.read_plan.new.standard c.args.plan.now c.args.sessions.now c.in_ok-plan.plan c.in_err-me.field-0.0 c.in_ok-plan.ensures.meaning c.in_err-me.ensures.fault))
+
+pub returns-in_err-programs-clause-judged : goal.returns-in_err-programs-clause-judged
+returns-in_err-programs-clause-judged g c =
+    let e = err_from_is_err_and c.from_residual-in_err-programs.result c.from_residual-in_err-programs.ensures.1 in
+    rw (e.1, e.2)
+    (judged IsOfStoredRun (g.S.Sources.file_text c.args.sources.now) c.args.office.now (g.S.Sources.standard_text c.args.sources.now) c.new-standard.result c.args.plan.now c.args.sessions.now c.in_err-programs.field-0.0 (search rules)
+    (at_later IsOfStoredRun (g.S.Sources.file_text c.args.sources.now) c.args.office.now c.new-standard.result c.read_plan.new.standard c.args.plan.now c.args.sessions.now c.in_ok-plan.plan c.in_ok-me.me c.in_err-programs.field-0.0 c.in_ok-plan.ensures.meaning c.in_ok-me.ensures.office c.in_ok-me.ensures.reached
+    (at_first IsOfStoredRun (g.S.Sources.file_text c.args.sources.now) c.read_plan.new.standard c.args.sessions.now [] (record nothing { plan = Some c.in_ok-plan.plan }) inputs.Sessions [] c.in_err-programs.field-0.0 c.in_err-programs.ensures.fault)))
+
+pub returns-in_err-refuse_input-clause-judged : goal.returns-in_err-refuse_input-clause-judged
+returns-in_err-refuse_input-clause-judged g c =
+    let e = err_from_is_err_and c.from_residual-in_err-refuse_input.result c.from_residual-in_err-refuse_input.ensures.1 in
+    rw (e.1, e.2)
+    (later (g.S.Sources.file_text c.args.sources.now) (g.S.Sources.standard_text c.args.sources.now) c.new-standard.result c.read_plan.new.standard c.read_programs.new.standard c.args.plan.now c.args.office.now c.args.sessions.now c.in_ok-plan.plan c.in_ok-me.me c.in_ok-programs.programs.items c.in_err-refuse_input.field-0.0 (search rules)
+    c.in_ok-plan.ensures.meaning c.in_ok-me.ensures.office c.in_ok-me.ensures.reached c.in_ok-programs.ensures.meaning (is_place (IsAnInput (g.S.Sources.file_text c.args.sources.now) c.args.plan.now c.args.sessions.now c.args.store.now) c.in_err-refuse_input.field-0.0 c.in_err-refuse_input.ensures.fault))
+
+pub returns-in_err-station-clause-judged : goal.returns-in_err-station-clause-judged
+returns-in_err-station-clause-judged g c =
+    let e = err_from_is_err_and c.from_residual-in_err-station.result c.from_residual-in_err-station.ensures.1 in
+    rw (e.1, e.2)
+    (later (g.S.Sources.file_text c.args.sources.now) (g.S.Sources.standard_text c.args.sources.now) c.new-standard.result c.read_plan.new.standard c.read_programs.new.standard c.args.plan.now c.args.office.now c.args.sessions.now c.in_ok-plan.plan c.in_ok-me.me c.in_ok-programs.programs.items (NoRun c.in_err-station.field-0.0) (search rules)
+    c.in_ok-plan.ensures.meaning c.in_ok-me.ensures.office c.in_ok-me.ensures.reached c.in_ok-programs.ensures.meaning (inr (inl (inl tt))))
+
+pub returns-in_err-kept-clause-judged : goal.returns-in_err-kept-clause-judged
+returns-in_err-kept-clause-judged g c =
+    let e = err_from_is_err_and c.from_residual-in_err-kept.result c.from_residual-in_err-kept.ensures.1 in
+    rw (e.1, e.2)
+    (later (g.S.Sources.file_text c.args.sources.now) (g.S.Sources.standard_text c.args.sources.now) c.new-standard.result c.read_plan.new.standard c.read_programs.new.standard c.args.plan.now c.args.office.now c.args.sessions.now c.in_ok-plan.plan c.in_ok-me.me c.in_ok-programs.programs.items c.in_err-kept.field-0.0 (search rules)
+    c.in_ok-plan.ensures.meaning c.in_ok-me.ensures.office c.in_ok-me.ensures.reached c.in_ok-programs.ensures.meaning (is_store _ c.args.is_new (IsNotHeld (g.K.Stores.has c.args.stores.now c.args.store.now) c.args.is_new c.in_ok-plan.plan c.in_ok-me.me c.deref.result.now) c.in_err-kept.field-0.0 c.in_err-kept.ensures.fault))
+
+pub returns-in_err-ended-clause-judged : goal.returns-in_err-ended-clause-judged
+returns-in_err-ended-clause-judged g c =
+    let e = err_from_is_err_and c.from_residual-in_err-ended.result c.from_residual-in_err-ended.ensures.1 in
+    rw (e.1, e.2)
+    (later (g.S.Sources.file_text c.args.sources.now) (g.S.Sources.standard_text c.args.sources.now) c.new-standard.result c.read_plan.new.standard c.read_programs.new.standard c.args.plan.now c.args.office.now c.args.sessions.now c.in_ok-plan.plan c.in_ok-me.me c.in_ok-programs.programs.items (NoRun c.in_err-ended.field-0.0) (search rules)
+    c.in_ok-plan.ensures.meaning c.in_ok-me.ensures.office c.in_ok-me.ensures.reached c.in_ok-programs.ensures.meaning (inr (inl (inl tt))))
+
+pub returns-clause-judged : goal.returns-clause-judged
+returns-clause-judged g c =
+    err_more c.end-2.result _ _ (λ f h. later (g.S.Sources.file_text c.args.sources.now) (g.S.Sources.standard_text c.args.sources.now) c.new-standard.result c.read_plan.new.standard c.read_programs.new.standard c.args.plan.now c.args.office.now c.args.sessions.now c.in_ok-plan.plan c.in_ok-me.me c.in_ok-programs.programs.items f (search rules)
+    c.in_ok-plan.ensures.meaning c.in_ok-me.ensures.office c.in_ok-me.ensures.reached c.in_ok-programs.ensures.meaning (is_end c.in_ok-ended.ended f h)) c.end-2.ensures.cut
+
+pub returns-in_err-me-clause-leaves : goal.returns-in_err-me-clause-leaves
+returns-in_err-me-clause-leaves g c =
+    let e = err_from_is_err_and c.from_residual-in_err-me.result c.from_residual-in_err-me.ensures.1 in
+    let files = g.S.Sources.file_text c.args.sources.now in
+    let standard = g.S.Sources.standard_text c.args.sources.now in
+    let has = g.K.Stores.has c.args.stores.now c.args.store.now in
+    let Input = IsAnInput files c.args.plan.now c.args.sessions.now c.args.store.now in
+    let Not = RefusesStore files standard has c.args.is_new c.args.plan.now c.args.office.now c.args.sessions.now in
+    let Stands : StoredFault → Type 0 = λ cause. RunsStored g.B.Socket.Wire.tells files standard has c.args.is_new c.args.plan.now c.args.office.now c.args.sessions.now c.args.store.now c.args.turns (IsEndedBy cause) (g.W.Write.contents c.args.out.now) (g.W.Write.contents c.args.out.now) in
+    rw (e.1, e.2) (at_office _ _ Input c.args.is_new Not Stands c.in_ok-plan.plan _ c.in_err-me.field-0.0 c.in_err-me.ensures.fault refl)
+
+pub returns-in_err-refuse_input-clause-leaves : goal.returns-in_err-refuse_input-clause-leaves
+returns-in_err-refuse_input-clause-leaves g c =
+    let e = err_from_is_err_and c.from_residual-in_err-refuse_input.result c.from_residual-in_err-refuse_input.ensures.1 in
+    let files = g.S.Sources.file_text c.args.sources.now in
+    let standard = g.S.Sources.standard_text c.args.sources.now in
+    let has = g.K.Stores.has c.args.stores.now c.args.store.now in
+    let Input = IsAnInput files c.args.plan.now c.args.sessions.now c.args.store.now in
+    let Not = RefusesStore files standard has c.args.is_new c.args.plan.now c.args.office.now c.args.sessions.now in
+    let Stands : StoredFault → Type 0 = λ cause. RunsStored g.B.Socket.Wire.tells files standard has c.args.is_new c.args.plan.now c.args.office.now c.args.sessions.now c.args.store.now c.args.turns (IsEndedBy cause) (g.W.Write.contents c.args.out.now) (g.W.Write.contents c.args.out.now) in
+    rw (e.1, e.2) (at_place _ _ Input c.args.is_new Not Stands c.in_err-refuse_input.field-0.0 c.in_err-refuse_input.ensures.fault refl refl)
+
+pub returns-in_err-kept-clause-leaves : goal.returns-in_err-kept-clause-leaves
+returns-in_err-kept-clause-leaves g c =
+    let e = err_from_is_err_and c.from_residual-in_err-kept.result c.from_residual-in_err-kept.ensures.1 in
+    let files = g.S.Sources.file_text c.args.sources.now in
+    let standard = g.S.Sources.standard_text c.args.sources.now in
+    let has = g.K.Stores.has c.args.stores.now c.args.store.now in
+    let Input = IsAnInput files c.args.plan.now c.args.sessions.now c.args.store.now in
+    let Not = RefusesStore files standard has c.args.is_new c.args.plan.now c.args.office.now c.args.sessions.now in
+    let Stands : StoredFault → Type 0 = λ cause. RunsStored g.B.Socket.Wire.tells files standard has c.args.is_new c.args.plan.now c.args.office.now c.args.sessions.now c.args.store.now c.args.turns (IsEndedBy cause) (g.W.Write.contents c.args.out.now) (g.W.Write.contents c.args.out.now) in
+    rw (e.1, e.2) (at_store _ _ Input c.args.is_new Not Stands (IsNotHeld has c.args.is_new c.in_ok-plan.plan c.in_ok-me.me c.deref.result.now)
+    (not_held files standard c.new-standard.result c.read_plan.new.standard c.read_programs.new.standard c.args.plan.now c.args.office.now c.args.sessions.now c.in_ok-plan.plan c.in_ok-me.me c.in_ok-programs.programs.items c.deref.result.now (search rules)
+    c.in_ok-plan.ensures.meaning c.in_ok-me.ensures.office c.in_ok-programs.ensures.meaning c.deref.ensures.value has c.args.is_new) c.in_err-kept.field-0.0 c.in_err-kept.ensures.fault refl)
+
+pub returns-in_err-ended-clause-leaves : goal.returns-in_err-ended-clause-leaves
+returns-in_err-ended-clause-leaves g c =
+    let e = err_from_is_err_and c.from_residual-in_err-ended.result c.from_residual-in_err-ended.ensures.1 in
+    rw (e.1, e.2) c.in_err-ended.ensures.unwritten
+
+pub returns-clause-runs : goal.returns-clause-runs
+returns-clause-runs g c =
+    let files = g.S.Sources.file_text c.args.sources.now in
+    let standard = g.S.Sources.standard_text c.args.sources.now in
+    let has = g.K.Stores.has c.args.stores.now c.args.store.now in
+    ok_more c.end-2.result _ _ (λ status h. (
+      c.in_ok-refuse_input.ensures.no_plan,
+      c.in_ok-refuse_input.ensures.no_sessions,
+      λ a_text b_text known. (
+        c.in_ok-ended.ended,
+        h,
+        went_on files standard c.new-standard.result c.read_plan.new.standard c.read_programs.new.standard c.args.plan.now c.args.office.now c.args.sessions.now c.in_ok-plan.plan c.in_ok-me.me c.in_ok-programs.programs.items c.deref.result.now (search rules)
+            c.in_ok-plan.ensures.meaning c.in_ok-me.ensures.office c.in_ok-programs.ensures.meaning c.deref.ensures.value g.B.Socket.Wire.tells has c.args.is_new c.args.turns c.in_ok-kept.kept _ _ _ c.in_ok-ended.ended _ _ c.deref-2.result.now
+            c.deref-2.ensures.value c.in_ok-me.ensures.reached c.in_ok-kept.ensures.kept c.in_ok-ended.ensures.goes_on a_text b_text known,
+      ),
+    )) c.end-2.ensures.done
+
+pub returns-clause-status : goal.returns-clause-status
+returns-clause-status g c = ok_more c.end-2.result _ _ (λ status h. subst (λ n. n ≤ 1) (sym h.1) (one_at_most c.in_ok-ended.ended.unfinished)) c.end-2.ensures.done
+
+pub returns-clause-leaves : goal.returns-clause-leaves
+returns-clause-leaves g c =
+    let files = g.S.Sources.file_text c.args.sources.now in
+    let standard = g.S.Sources.standard_text c.args.sources.now in
+    let has = g.K.Stores.has c.args.stores.now c.args.store.now in
+    let Input = IsAnInput files c.args.plan.now c.args.sessions.now c.args.store.now in
+    let Not = RefusesStore files standard has c.args.is_new c.args.plan.now c.args.office.now c.args.sessions.now in
+    let Stands : StoredFault → Type 0 = λ cause. RunsStored g.B.Socket.Wire.tells files standard has c.args.is_new c.args.plan.now c.args.office.now c.args.sessions.now c.args.store.now c.args.turns (IsEndedBy cause) (g.W.Write.contents c.args.out.now) (g.W.Write.contents c.run_stored.new.out) in
+    err_more c.end-2.result _ _ (λ f h. at_end _ _ Input c.args.is_new Not Stands c.in_ok-ended.ended f h (λ cause by. (
+      c.in_ok-refuse_input.ensures.no_plan,
+      c.in_ok-refuse_input.ensures.no_sessions,
+      λ a_text b_text known. (
+        c.in_ok-ended.ended,
+        by,
+        went_on files standard c.new-standard.result c.read_plan.new.standard c.read_programs.new.standard c.args.plan.now c.args.office.now c.args.sessions.now c.in_ok-plan.plan c.in_ok-me.me c.in_ok-programs.programs.items c.deref.result.now (search rules)
+            c.in_ok-plan.ensures.meaning c.in_ok-me.ensures.office c.in_ok-programs.ensures.meaning c.deref.ensures.value g.B.Socket.Wire.tells has c.args.is_new c.args.turns c.in_ok-kept.kept _ _ _ c.in_ok-ended.ended _ _ c.deref-2.result.now
+            c.deref-2.ensures.value c.in_ok-me.ensures.reached c.in_ok-kept.ensures.kept c.in_ok-ended.ensures.goes_on a_text b_text known,
+      ),
+    ))) c.end-2.ensures.cut
