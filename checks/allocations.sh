@@ -3,7 +3,7 @@
 # has to say that memory ran out and nothing else, with status 1 and nothing written, or to end as a run that is refused
 # nothing. An office that runs may be cut short besides: then it prints what stands, and says so; and where its socket lacked
 # memory, it names the address. Where journals are written to files, a file that lacks memory may be told after all was printed, and
-# each file that is there is whole. It fails where one doesn't, and where a run has no allocation that could be refused. It needs a
+# each file that is there is whole. A store is as it was where nothing was done, or made and empty. It fails where one doesn't, and where a run has no allocation that could be refused. It needs a
 # program that is built, and a C compiler. checks/program calls it.
 #
 #   sh checks/allocations.sh [PROGRAM]        PROGRAM is crates/drink/out/drink where it is left out
@@ -55,7 +55,8 @@ __attribute__((constructor)) static void begin(void) {
 C
 cc -O2 -shared -fPIC -o "$work/refuse.so" "$work/refuse.c" -ldl
 
-# NAME WORDS..: the program on these words, with the standard input of $work/in. Files that it writes are those in $work/left.
+# NAME WORDS..: the program on these words, with the standard input of $work/in. Files that it writes are those in $work/left; where
+# `seed` is a file, a store that has the same is there before.
 row() {
     name=$1
     shift
@@ -63,6 +64,10 @@ row() {
     case "$*" in
     *"$work/left"*) writes=yes ;;
     *) writes=no ;;
+    esac
+    case "$*" in
+    *--store*) stored=yes ;;
+    *) stored=no ;;
     esac
     forget
     "$program" "$@" < "$work/in" > "$work/out.wanted" 2> "$work/err.wanted" || wanted=$?
@@ -81,7 +86,7 @@ row() {
             :
         elif was_cut_short "$@" || lacked_a_file; then
             cut=$((cut + 1))
-        elif [ "$status" -eq "$wanted" ] && cmp -s "$work/out" "$work/out.wanted" && cmp -s "$work/err" "$work/err.wanted" && has_all_files; then
+        elif [ "$status" -eq "$wanted" ] && cmp -s "$work/out" "$work/out.wanted" && { cmp -s "$work/err" "$work/err.wanted" || says_no_remarks; } && has_all_files; then
             answered=$((answered + 1))
         else
             echo "checks/allocations.sh: $name, allocation $n: status $status, files $(ls "$work/left")" >&2
@@ -99,12 +104,14 @@ row() {
 # No file of a run before is left.
 forget() {
     [ "$writes" = no ] || rm -f "$work/left"/*
+    [ -z "$seed" ] || cp "$seed" "$work/left/store"
 }
 
 # Whether nothing was written, for want of memory or of a socket.
 did_nothing() {
     [ "$status" -eq 1 ] && [ ! -s "$work/out" ] && has_no_files || return 1
-    cmp -s "$work/err" "$work/memory" || { [ "${1-}" = run ] && says "drink: U2 BindFailed: no socket can have the address [0-9.:]*: out of memory"; }
+    cmp -s "$work/err" "$work/memory" || { [ "${1-}" = run ] && says "drink: U2 BindFailed: no socket can have the address [0-9.:]*: out of memory"; } ||
+        { [ "$stored" = yes ] && says "drink: .*: U4 StoreFailed: .*: out of memory; nothing was run"; }
 }
 
 # Whether a run was cut short, told what stands, and wrote down what was done.
@@ -124,11 +131,20 @@ lacked_a_file() {
 }
 
 has_no_files() {
-    [ "$writes" = no ] || [ -z "$(ls "$work/left")" ]
+    if [ -n "$seed" ]; then
+        cmp -s "$seed" "$work/left/store"
+    else
+        [ "$writes" = no ] || [ -z "$(ls "$work/left")" ] || { [ "$(ls "$work/left")" = store ] && [ ! -s "$work/left/store" ]; }
+    fi
 }
 
 has_all_files() {
     [ "$writes" = no ] || diff -r "$work/left" "$work/left.wanted" > "$work/differs"
+}
+
+# With a store all was written as it stood, and what is said of the sessions that are left, which no claim rests on, may lack memory.
+says_no_remarks() {
+    [ "$stored" = yes ] && [ ! -s "$work/err" ]
 }
 
 # Whether this line, and no other, went to the standard error.
@@ -141,15 +157,17 @@ says_what_is_left() {
     ! sed '$d' "$work/err" | grep -qv '^drink: desk1[. ]'
 }
 
-# Whether what was written is what stands of a run: some of its sessions, and how many are left.
+# Whether what was written is what stands of a run: some of its sessions, and how many are left. With a store they were written as they
+# stood, and the line of how many are left may be what lacked memory.
 stands() {
     grep -v '^unfinished ' "$work/out" > "$work/out.sessions" || true
-    head -n "$(wc -l < "$work/out.sessions")" "$work/out.wanted" | cmp -s - "$work/out.sessions" && tail -n 1 "$work/out" | grep -q '^unfinished [0-9][0-9]*$'
+    head -n "$(wc -l < "$work/out.sessions")" "$work/out.wanted" | cmp -s - "$work/out.sessions" && { [ "$stored" = yes ] || tail -n 1 "$work/out" | grep -q '^unfinished [0-9][0-9]*$'; }
 }
 
 echo "drink: out of memory" > "$work/memory"
 echo "drink: out of memory; the run ended with it, and what was done before is printed" > "$work/cut"
 failed=0
+seed=
 mkdir "$work/left"
 examples=$top/examples
 echo "| Run | Allocations | Out of memory, nothing written | Out of memory, what stands written | Right answer all the same |"
@@ -168,6 +186,15 @@ printf 'session desk1\nset places = read places - 1\ngive 1\nend\n' > "$work/own
 { cat "$work/own"; printf 'session desk1\ngive read keys\nend\n'; } > "$work/sessions"
 row "run, two_desks, alone" run "$work/desks" desk1 "$work/sessions" --turns 3
 row "run, its journal" run "$work/desks" desk1 "$work/own" --turns 3 --journal "$work/left/desk1.journal"
+row "run, a store that is made" run "$work/desks" desk1 "$work/sessions" --turns 3 --store "$work/left/store" --new
+"$program" run "$work/desks" desk1 "$work/own" --turns 3 --store "$work/seed" --new > "$work/out"
+seed=$work/seed
+row "run, a store that is there" run "$work/desks" desk1 "$work/sessions" --turns 3 --store "$work/left/store"
+row "run, a store of other sessions" run "$work/desks" desk1 /dev/null --turns 3 --store "$work/left/store"
+sed 's/start/eat/' "$work/seed" > "$work/faulty"
+seed=$work/faulty
+row "run, a faulty store" run "$work/desks" desk1 "$work/sessions" --turns 3 --store "$work/left/store"
+seed=
 row "sim, journals" sim "$stock/plan.txt" "$stock/sessions.txt" "$stock/script.txt" --journals "$work/left"
 safe=$examples/till_and_safe
 row "audit, till_and_safe" audit "$safe/plan.txt" "$safe/till.journal" "$safe/safe.journal"

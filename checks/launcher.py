@@ -39,7 +39,8 @@ UNPROVED = r"\Adrink: nothing of this run is proved"
 ANSWERED = {
     1: ("--help", "--version", "serial --help", "live --help", "audit --help"),
     2: ("", "seriel a b", "serial a", "sim a b", "sim a b c d", "random a b", "random a b --seed 1 --loss 2", "run a b", "run a b c --turns",
-        "run a b c --turns 1 --turns 2", "run a b c --loss 1", "live a", "live a b --turns 1", "live a b --journal j", "audit a", "audit a b --turns 1"),
+        "run a b c --turns 1 --turns 2", "run a b c --loss 1", "run a b c --new", "run a b c --sync none", "run a b c --store s --journal j", "run a b c --store", "run a b c --store s --new x",
+        "run a b c --store s --new=x", "run a b c --store s --new --new", "live a b --store s", "live a", "live a b --turns 1", "live a b --journal j", "audit a", "audit a b --turns 1"),
 }
 
 # Words after --unproved, and those that rt gets in their place, HERE being the folder of the call.
@@ -52,6 +53,8 @@ HANDED = [
     (["run", "--turns=5", "plan.txt", "a", "s"], ["run", "--turns=5", "HERE/plan.txt", "a", "HERE/s"]),
     (["run", "plan.txt", "a", "s", "--journal", "j"], ["run", "HERE/plan.txt", "a", "HERE/s", "--journal", "HERE/j"]),
     (["run", "--journal=a file", "p", "a", "s"], ["run", "--journal=HERE/a file", "HERE/p", "a", "HERE/s"]),
+    (["run", "p", "a", "s", "--store", "j", "--new"], ["run", "HERE/p", "a", "HERE/s", "--store", "HERE/j", "--new"]),
+    (["run", "--new", "p", "a", "s", "--sync", "none", "--store=a file"], ["run", "--new", "HERE/p", "a", "HERE/s", "--sync", "none", "--store=HERE/a file"]),
     (["run", "-", "a", "/s", "--journal=/j"], ["run", "-", "a", "/s", "--journal=/j"]),
     (["live", "plan.txt", "s"], ["live", "HERE/plan.txt", "HERE/s"]),
     (["live", "plan.txt", "s", "--journals=d"], ["live", "HERE/plan.txt", "HERE/s", "--journals=HERE/d"]),

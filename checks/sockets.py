@@ -22,8 +22,9 @@ REFUSED = [b"", b"D", b"x" * 26, b"DP" + bytes(1000), frame(2, A, B, 0, 0), fram
 TAKEN_BY_B = [frame(1, A, B, 0, 0), frame(1, A, B, 0, 0)]
 
 # Fails the calls that take or send a datagram from one of them to another, by their numbers: before the session has ended there are
-# some six, and the three hundredth comes long after it.
-BROKEN_ONCE, BROKEN_FROM, ALL = (1, 2, 3, 4, 5, 6), (1, 300), 2**31 - 1
+# some six, and the three hundredth comes long after it; two offices on threads have some 400 in a second. And loses what an office
+# sends, which stands there with the ninth byte of its frames.
+BROKEN_ONCE, BROKEN_FROM, BROKEN_LATE, ALL = (1, 2, 3, 4, 5, 6), (1, 300), 1600, 2**31 - 1
 BREAKS = rb"""
 #define _GNU_SOURCE
 #include <dlfcn.h>
@@ -34,9 +35,13 @@ BREAKS = rb"""
 static int fails(void) {
     static long count;
     const char *first = getenv("BROKEN_FIRST"), *last = getenv("BROKEN_LAST");
+    long call = __atomic_add_fetch(&count, 1, __ATOMIC_SEQ_CST);
     errno = EIO;
-    ++count;
-    return first && last && atol(first) <= count && count <= atol(last);
+    return first && last && atol(first) <= call && call <= atol(last);
+}
+static int is_lost(const unsigned char *bytes, size_t size) {
+    const char *office = getenv("LOST_FROM");
+    return office && size > 8 && bytes[8] == atol(office);
 }
 ssize_t recvfrom(int s, void *to, size_t size, int flags, struct sockaddr *at, socklen_t *length) {
     static ssize_t (*next)(int, void *, size_t, int, struct sockaddr *, socklen_t *);
@@ -46,7 +51,7 @@ ssize_t recvfrom(int s, void *to, size_t size, int flags, struct sockaddr *at, s
 ssize_t sendto(int s, const void *from, size_t size, int flags, const struct sockaddr *at, socklen_t length) {
     static ssize_t (*next)(int, const void *, size_t, int, const struct sockaddr *, socklen_t);
     if (!next) next = dlsym(RTLD_NEXT, "sendto");
-    return fails() ? -1 : next(s, from, size, flags, at, length);
+    return fails() ? -1 : is_lost(from, size) ? (ssize_t)size : next(s, from, size, flags, at, length);
 }
 """
 
@@ -239,12 +244,38 @@ def broken(check):
     alone = r"drink: a\.1 waits for y from b, which was never heard\ndrink: a never heard b at 127\.0\.0\.1:\d+\n"
     for call, out, left in zip(BROKEN_FROM, (b"unfinished 1\n", MOVED + b"unfinished 0\n"), (alone, "")):
         breaks(check, f"run: all calls of a socket fail from the {call}th on", call, ALL, (1, out, rf"\A{left}drink: U1 WireFailed: [^\n]*\n\Z"))
+    unheard(check)
+
+
+def unheard(check):
+    """Offices on threads, of which one is never heard, until all calls of their sockets fail: they tell so, on a terminal each second
+    too."""
+    env = {**broken_calls(check, BROKEN_LATE, ALL), "LOST_FROM": str(A)}
+    never = r"drink: b never heard a at 127\.0\.0\.1:\d+\n"
+    end = rf"drink: b\.1 waits for x from a, which was never heard\n{never}drink: U1 WireFailed: [^\n]*\n\Z"
+    words = "live shared.txt fetches.txt"
+    check.wants("live: an office that is never heard", check.run(words, env=env), 1, b"unfinished 1\n", rf"\A{end}")
+    theirs, ours = pty.openpty()
+    run = started(check, words, stderr=ours, env=env)
+    os.close(ours)
+    told = b"".join(iter(lambda: read_on(theirs), b"")).replace(b"\r", b"")
+    os.close(theirs)
+    ran = ended(run)
+    ran.err = told
+    line = r"drink: 0 of 1 sessions finished; \d+ datagrams came, \d+ went, 0 were refused\n"
+    check.wants("live: an office that is never heard, on a terminal", ran, 1, b"unfinished 1\n", rf"\A({line}|{never})+{end}")
+    for what, wanted in (("how far it is", line), ("who was never heard", never)):
+        check.wants(f"live: told on a terminal, each second: {what}", ran, 1, b"unfinished 1\n", rf"(?s){wanted}.*{wanted}.*{end}")
+
+
+def broken_calls(check, first, last):
+    """What a process is started with whose calls of these numbers fail."""
+    return {**os.environ, "LD_PRELOAD": os.path.join(check.work, "breaks.so"), "BROKEN_FIRST": str(first), "BROKEN_LAST": str(last)}
 
 
 def breaks(check, name, first, last, wanted):
     """How a run ends in which these calls fail, and an audit of what it leaves."""
-    env = {**os.environ, "LD_PRELOAD": os.path.join(check.work, "breaks.so"), "BROKEN_FIRST": str(first), "BROKEN_LAST": str(last)}
-    ran, _, theirs = beside(check, FEWER_TURNS, "broken.journal", env=env)
+    ran, _, theirs = beside(check, FEWER_TURNS, "broken.journal", env=broken_calls(check, first, last))
     check.wants(name, ran, *wanted)
     check.files({"theirs.journal": theirs})
     values = VALUES if MOVED in ran.out else b"value x 100\nvalue y 0\n"
@@ -265,7 +296,7 @@ def two_terminals(check):
     prints of the journals that they leave, whichever of them came first."""
     with open(os.path.join(TOP, "docs/manual.md"), encoding="utf-8") as file:
         found = blocks(file.read())
-    given = [(block.strip(), found[at + 1][0]) for at, (block, _, after) in enumerate(found) if "drink run " in block and after.strip() == "prints"]
+    given = [(block.strip(), found[at + 1][0]) for at, (block, _, after) in enumerate(found) if "drink run " in block and "--store" not in block and after.strip() == "prints"]
     check.say(f"docs/manual.md: offices side by side: {len(given)}", None if len(given) == 2 else "two are wanted")
     room = os.path.join(check.work, "room")
     shutil.copytree(os.path.join(TOP, "examples"), os.path.join(room, "examples"))
@@ -279,7 +310,7 @@ def two_terminals(check):
     running = [subprocess.Popen(["/bin/sh", "-c", f"exec {block} --turns {FEWER_TURNS}"], cwd=room, stdout=subprocess.PIPE, stderr=subprocess.PIPE) for block, _ in given]
     for (block, wanted), it in zip(given, running):
         check.wants(f"docs/manual.md: {block}", ended(it), 0, wanted.encode(), b"")
-    audits = [(block.strip(), found[at + 1][0]) for at, (block, _, _) in enumerate(found) if is_after_a_run(block)]
+    audits = [(block.strip(), found[at + 1][0]) for at, (block, _, _) in enumerate(found) if is_after_a_run(block) and ".store" not in block]
     check.say(f"docs/manual.md: audits of offices side by side: {len(audits)}", None if len(audits) == 1 else "one is wanted")
     for block, wanted in audits:
         one, other, *rest = wanted.splitlines(keepends=True)
@@ -294,5 +325,5 @@ def blocks(text):
 
 
 def is_after_a_run(block):
-    """Whether the block takes journals that a run before it has written."""
-    return "./drink audit" in block and re.search(r" \w+\.journal", block) is not None
+    """Whether the block takes journals or stores that a run before it has written."""
+    return "./drink audit" in block and re.search(r" \w+\.(journal|store)", block) is not None

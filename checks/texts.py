@@ -286,15 +286,21 @@ def helps(check):
     """Help has the words, the options, the numbers and the exit statuses that the manual and the definitions have, and the program
     keeps to them."""
     manual, definitions = read("docs/manual.md"), read("crates/command_words/specs/CommandLine.antt")
-    headings = dict(re.findall(r"(?m)^## `(\w+) (.*)`$", manual))
+    headings = {}
+    for command, form in re.findall(r"(?m)^##+ `(\w+) (.*)`$", manual):
+        headings[command] = f"{headings.get(command, '')} {form}"
     shown = {it: check.run(f"{it} --help").out.decode() for it in headings}
     whole = check.run("--help").out.decode()
     check.equal("help: the commands", re.findall(r"(?m)^  (\w+) ", whole.split("Commands:")[-1].split("Options:")[0]), [*headings, *(["help"] if "  help " in whole else [])])
     for command, form in headings.items():
-        words, options = re.findall("[A-Z]+", re.sub(r"--\w+ \w+", "", form)), re.findall(r"--(\w+) (\w+)", form)
+        # A value that has one of several words, as in data|none, has another name in help.
+        values = dict(re.findall(r"--(\w+)(?: ([\w|]+))?", form))
+        names = {it: name for it, name in re.findall(r"(?m)^ +--(\w+)(?: <(\w+)>)?", shown[command])}
+        options = {it: names.get(it) if "|" in value else value for it, value in values.items()}
+        words = list(dict.fromkeys(re.findall("[A-Z]+", re.sub(r"--\w+ [\w|]+", "", form))))
         usage = shown[command].split("Usage: ")[-1].splitlines()[0]
         check.equal(f"help: the words of {command}", re.findall(r"<([A-Z]+)>", re.sub(r"--\w+ <\w+>", "", usage)), words)
-        check.equal(f"help: the options of {command}", sorted(re.findall(r"(?m)^ +--(\w+) <(\w+)>", shown[command])), sorted(options))
+        check.equal(f"help: the options of {command}", names, options)
     ranges(check, manual, definitions, "".join(shown.values()))
     for name, text in {"": whole, **shown}.items():
         told = re.findall(r"\b(\d) where", text.split("Exit status:")[-1]) if "Exit status:" in text else []

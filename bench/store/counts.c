@@ -1,0 +1,104 @@
+/* Counts calls of a program that is started with this before its C library, into the file that COUNTS names: other processes can
+ * read them while it runs. */
+#define _GNU_SOURCE
+#include <dlfcn.h>
+#include <fcntl.h>
+#include <poll.h>
+#include <stdint.h>
+#include <stdlib.h>
+#include <sys/epoll.h>
+#include <sys/mman.h>
+#include <sys/socket.h>
+#include <sys/stat.h>
+#include <time.h>
+#include <unistd.h>
+
+/* In this order ring.py reads them. Times are nanoseconds of a clock that all processes share. */
+struct counts {
+    uint64_t begun, data_sent_last, datagrams_sent, datagrams_come, appends, appended_bytes, syncs, waits, allocations;
+};
+
+static struct counts none, *counts = &none;
+
+static uint64_t now(void) {
+    struct timespec at;
+    clock_gettime(CLOCK_MONOTONIC, &at);
+    return at.tv_sec * 1000000000ull + at.tv_nsec;
+}
+
+__attribute__((constructor)) static void begin(void) {
+    const char *name = getenv("COUNTS");
+    int file = name ? open(name, O_RDWR | O_CREAT, 0600) : -1;
+    if (file < 0 || ftruncate(file, sizeof *counts)) return;
+    void *at = mmap(NULL, sizeof *counts, PROT_READ | PROT_WRITE, MAP_SHARED, file, 0);
+    close(file);
+    if (at == MAP_FAILED) return;
+    counts = at;
+    counts->begun = now();
+}
+
+#define NEXT(call) \
+    static __typeof__(&call) next; \
+    if (!next) next = (__typeof__(&call))dlsym(RTLD_NEXT, #call)
+
+ssize_t sendto(int s, const void *from, size_t size, int flags, const struct sockaddr *at, socklen_t length) {
+    NEXT(sendto);
+    counts->datagrams_sent++;
+    if (size > 26) counts->data_sent_last = now();
+    return next(s, from, size, flags, at, length);
+}
+ssize_t recvfrom(int s, void *to, size_t size, int flags, struct sockaddr *at, socklen_t *length) {
+    NEXT(recvfrom);
+    ssize_t got = next(s, to, size, flags, at, length);
+    counts->datagrams_come += got >= 0;
+    return got;
+}
+/* An append is a write to a file on a disk. */
+ssize_t write(int file, const void *from, size_t size) {
+    NEXT(write);
+    static signed char kinds[256];
+    if (file >= 3 && file < 256) {
+        struct stat is;
+        if (!kinds[file]) kinds[file] = !fstat(file, &is) && S_ISREG(is.st_mode) ? 1 : -1;
+        if (kinds[file] == 1) {
+            counts->appends++;
+            counts->appended_bytes += size;
+        }
+    }
+    return next(file, from, size);
+}
+int fdatasync(int file) {
+    NEXT(fdatasync);
+    counts->syncs++;
+    return next(file);
+}
+int epoll_wait(int at, struct epoll_event *events, int most, int wait) {
+    NEXT(epoll_wait);
+    counts->waits++;
+    return next(at, events, most, wait);
+}
+int poll(struct pollfd *files, nfds_t count, int wait) {
+    NEXT(poll);
+    counts->waits++;
+    return next(files, count, wait);
+}
+void *malloc(size_t size) {
+    NEXT(malloc);
+    counts->allocations++;
+    return next(size);
+}
+void *realloc(void *old, size_t size) {
+    NEXT(realloc);
+    counts->allocations++;
+    return next(old, size);
+}
+void *aligned_alloc(size_t align, size_t size) {
+    NEXT(aligned_alloc);
+    counts->allocations++;
+    return next(align, size);
+}
+int posix_memalign(void **to, size_t align, size_t size) {
+    NEXT(posix_memalign);
+    counts->allocations++;
+    return next(to, align, size);
+}

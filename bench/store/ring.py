@@ -1,0 +1,177 @@
+#!/usr/bin/env python3
+"""Sessions a second of four offices in a ring, each a process, without a store and with one, beside SQLite.
+
+usage: ring.py PROGRAM COUNTS.SO FOLDER
+
+Each office has a record with each of its neighbours; each session adds 1 to one of them, every second one to both. Of a run the time is
+taken from the start of the last process to the last message of a session. All has to finish. FOLDER has what a run makes, so it says
+how fast a disk is.
+"""
+import os, socket, sqlite3, statistics, struct, subprocess, sys, time
+
+OFFICES, EACH, RUNS = ("o0", "o1", "o2", "o3"), 1024, 5
+NAMES = ("begun", "data_sent_last", "datagrams_sent", "datagrams_come", "appends", "appended_bytes", "syncs", "waits", "allocations")
+WAYS = {"without": [], "none": ["--sync", "none"], "data": ["--sync", "data"]}
+# A run is over when no message was sent for so many seconds; then an office takes so many turns more.
+QUIET, LATER = 0.5, 100
+# So many rounds of sessions, one at each office, are SQLite's transactions.
+ROUNDS = 128
+HOST = "127.0.0.1"
+
+
+def plan(ports):
+    lines = ["plan 1 run 9", *(f"office {it} {HOST}:{port}" for it, port in zip(OFFICES, ports))]
+    for a, b in PAIRS:
+        lines += [f"pair o{a} o{b} fork o{a}", f"record r{a}{b} o{a} o{b} 0 at o{a}"]
+    return "\n".join((*lines, ""))
+
+
+PAIRS = ((0, 1), (1, 2), (2, 3), (0, 3))
+
+
+def records(office, k):
+    """The records of an office's k-th session, from 0."""
+    own = [f"r{a}{b}" for a, b in PAIRS if office in (a, b)]
+    return own if k % 2 else [own[k // 2 % 2]]
+
+
+def sessions(office):
+    sets = lambda k: "".join(f"set {it} = read {it} + 1\n" for it in records(office, k))
+    return "".join(f"session o{office}\n{sets(k)}end\n" for k in range(EACH))
+
+
+class Office:
+    """A process of an office, with its counts."""
+
+    def __init__(self, at, words):
+        self.counts_file = at
+        if os.path.exists(at):
+            os.remove(at)
+        env = {**os.environ, "LD_PRELOAD": LIBRARY, "COUNTS": at}
+        self.process = subprocess.Popen(words, stdin=subprocess.DEVNULL, stdout=subprocess.PIPE, stderr=subprocess.PIPE, env=env)
+
+    def counts(self):
+        try:
+            with open(self.counts_file, "rb") as file:
+                return dict(zip(NAMES, struct.unpack(f"{len(NAMES)}Q", file.read())))
+        except (FileNotFoundError, struct.error):
+            return dict.fromkeys(NAMES, 0)
+
+
+def free_ports(count):
+    held = [socket.socket(socket.AF_INET, socket.SOCK_DGRAM) for _ in range(count)]
+    for it in held:
+        it.bind((HOST, 0))
+    ports = [it.getsockname()[1] for it in held]
+    for it in held:
+        it.close()
+    return ports
+
+
+def write(name, text):
+    path = os.path.join(FOLDER, name)
+    with open(path, "w", encoding="ascii") as file:
+        file.write(text)
+    return path
+
+
+def remove(name):
+    path = os.path.join(FOLDER, name)
+    if os.path.exists(path):
+        os.remove(path)
+    return path
+
+
+def started(way, turns):
+    """The offices of a ring, started."""
+    at, offices = write("plan", plan(free_ports(len(OFFICES)))), []
+    for k, it in enumerate(OFFICES):
+        words = [PROGRAM, "run", at, it, write(f"{it}.sessions", sessions(k)), "--turns", str(turns)]
+        words += ["--store", remove(f"{it}.store"), "--new", *WAYS[way]] if WAYS[way] else []
+        offices.append(Office(os.path.join(FOLDER, f"{it}.counts"), words))
+    return offices
+
+
+def ran(way, turns):
+    """The counts of the offices in a run, and its seconds."""
+    offices = started(way, turns)
+    outs = [it.process.communicate() for it in offices]
+    for it, (out, err) in zip(offices, outs):
+        if it.process.returncode or not out.endswith(b"unfinished 0\n"):
+            sys.exit(f"ring.py: {way}, {turns} turns: status {it.process.returncode}, {out[-60:]!r}, {err!r}")
+    counts = [it.counts() for it in offices]
+    return counts, (max(it["data_sent_last"] for it in counts) - max(it["begun"] for it in counts)) / 1e9
+
+
+def turns_of(way):
+    """Twice as many turns as an office takes until no message is sent any more, and some more."""
+    offices = started(way, 100_000)
+    try:
+        last = 0
+        while not last or time.monotonic_ns() - last < QUIET * 1e9:
+            time.sleep(0.05)
+            if any(it.process.poll() is not None for it in offices):
+                sys.exit(f"ring.py: {way}: an office ended after 100000 turns or before")
+            counts = [it.counts() for it in offices]
+            last = max(it["data_sent_last"] for it in counts)
+    finally:
+        for it in offices:
+            it.process.kill()
+            it.process.communicate()
+    return min(100_000, 2 * max(it["waits"] for it in counts) + LATER)
+
+
+def sqlite(mode):
+    """The seconds of the same reads and writes, a transaction for each session: of some rounds, and as many times that as there are more."""
+    at = remove("sqlite")
+    for more in ("-wal", "-shm", "-journal"):
+        remove(f"sqlite{more}")
+    base = sqlite3.connect(at, isolation_level=None)
+    base.execute(f"PRAGMA journal_mode = {mode}")
+    base.execute("PRAGMA synchronous = FULL")
+    base.execute("CREATE TABLE records (name TEXT PRIMARY KEY, value INTEGER) WITHOUT ROWID")
+    base.executemany("INSERT INTO records VALUES (?, 0)", [(f"r{a}{b}",) for a, b in PAIRS])
+    began = time.monotonic()
+    for k in range(ROUNDS):
+        for office in range(len(OFFICES)):
+            base.execute("BEGIN IMMEDIATE")
+            for it in records(office, k):
+                (value,) = base.execute("SELECT value FROM records WHERE name = ?", (it,)).fetchone()
+                base.execute("UPDATE records SET value = ? WHERE name = ?", (value + 1, it))
+            base.execute("COMMIT")
+    seconds = time.monotonic() - began
+    total = base.execute("SELECT sum(value) FROM records").fetchone()[0]
+    base.close()
+    if total != len(OFFICES) * ROUNDS * 3 // 2:
+        sys.exit(f"ring.py: SQLite: {total}")
+    return seconds * EACH / ROUNDS
+
+
+def main():
+    turns = {it: turns_of(it) for it in WAYS}
+    runs = {it: [] for it in (*WAYS, "WAL", "DELETE")}
+    for _ in range(RUNS):
+        for way in WAYS:
+            runs[way].append(ran(way, turns[way]))
+        for mode in ("WAL", "DELETE"):
+            runs[mode].append(([], sqlite(mode)))
+    count = len(OFFICES) * EACH
+    rate = lambda way: count / statistics.median(seconds for _, seconds in runs[way])
+    print("| Store | Sessions a second | By those without | Turns | Appends | Syncs | Bytes appended |")
+    print("|---|---|---|---|---|---|---|")
+    for way in WAYS:
+        all_counts = [counts for counts, _ in runs[way]]
+        sums = {name: statistics.median(sum(it[name] for it in counts) for counts in all_counts) for name in NAMES}
+        print(f"| {way} | {rate(way):.0f} | {rate(way) / rate('without'):.2f} | {sums['waits']:.0f} | {sums['appends']:.0f} | {sums['syncs']:.0f} | {sums['appended_bytes']:.0f} |")
+        for counts in all_counts:
+            for it in counts:
+                if way == "data" and it["syncs"] != it["appends"]:
+                    sys.exit(f"ring.py: {it['syncs']} syncs, and {it['appends']} appends")
+                if way == "none" and it["syncs"]:
+                    sys.exit(f"ring.py: {it['syncs']} syncs, where none are asked for")
+    for mode in ("WAL", "DELETE"):
+        print(f"| SQLite, journal mode {mode} | {rate(mode):.0f} | {rate(mode) / rate('without'):.2f} | | | | |")
+
+
+PROGRAM, LIBRARY, FOLDER = sys.argv[1:]
+main()
