@@ -1,5 +1,6 @@
 /* Counts calls of a program that is started with this before its C library, into the file that COUNTS names: other processes can
- * read them while it runs. */
+ * read them while it runs. Where START names a file, the first wait is held up until as many programs as OFFICES says have come to
+ * theirs, which they count in that file. */
 #define _GNU_SOURCE
 #include <dlfcn.h>
 #include <fcntl.h>
@@ -13,9 +14,10 @@
 #include <time.h>
 #include <unistd.h>
 
-/* In this order ring.py reads them. Times are nanoseconds of a clock that all processes share. */
+/* In this order ring.py reads them. Times are nanoseconds of a clock that all processes share: when the first wait began, when the
+ * last one that may take no time at all did, which an office asks for where it has more to do, and when the last message was sent. */
 struct counts {
-    uint64_t begun, data_sent_last, datagrams_sent, datagrams_come, appends, appended_bytes, syncs, waits, allocations;
+    uint64_t begun, worked_last, data_sent_last, datagrams_sent, datagrams_come, appends, appended_bytes, syncs, waits, allocations;
 };
 
 static struct counts none, *counts = &none;
@@ -26,15 +28,30 @@ static uint64_t now(void) {
     return at.tv_sec * 1000000000ull + at.tv_nsec;
 }
 
-__attribute__((constructor)) static void begin(void) {
-    const char *name = getenv("COUNTS");
+static void *shared(const char *name, size_t size) {
     int file = name ? open(name, O_RDWR | O_CREAT, 0600) : -1;
-    if (file < 0 || ftruncate(file, sizeof *counts)) return;
-    void *at = mmap(NULL, sizeof *counts, PROT_READ | PROT_WRITE, MAP_SHARED, file, 0);
+    if (file < 0 || ftruncate(file, size)) return NULL;
+    void *at = mmap(NULL, size, PROT_READ | PROT_WRITE, MAP_SHARED, file, 0);
     close(file);
-    if (at == MAP_FAILED) return;
-    counts = at;
-    counts->begun = now();
+    return at == MAP_FAILED ? NULL : at;
+}
+
+__attribute__((constructor)) static void begin(void) {
+    void *at = shared(getenv("COUNTS"), sizeof *counts);
+    if (at) counts = at;
+}
+
+static void wait_begins(int most) {
+    if (!counts->waits++) {
+        _Atomic uint64_t *there = shared(getenv("START"), sizeof *there);
+        if (there) {
+            uint64_t all = strtoull(getenv("OFFICES"), NULL, 10);
+            ++*there;
+            while (*there < all) usleep(100);
+        }
+        counts->begun = now();
+    }
+    if (!most) counts->worked_last = now();
 }
 
 #define NEXT(call) \
@@ -74,12 +91,12 @@ int fdatasync(int file) {
 }
 int epoll_wait(int at, struct epoll_event *events, int most, int wait) {
     NEXT(epoll_wait);
-    counts->waits++;
+    wait_begins(wait);
     return next(at, events, most, wait);
 }
 int poll(struct pollfd *files, nfds_t count, int wait) {
     NEXT(poll);
-    counts->waits++;
+    wait_begins(wait);
     return next(files, count, wait);
 }
 void *malloc(size_t size) {

@@ -17,7 +17,7 @@ FEWER, MORE, MOST = 200, 1200, 32
 COUNT = struct.pack(">2sBBIBBQQ", b"DP", 1, 2, RUN, 1, 0, 0, 0)
 PLAN = "plan 1 run {run}\noffice a {host}:{own}\noffice b {host}:{other}\npair a b fork a\nrecord r a b 0 at a\n"
 # Where these counts stand in the file.
-COME, WAITS, ALLOCATIONS = 3, 7, 8
+COME, WAITS, ALLOCATIONS = 4, 8, 9
 
 
 class Neighbour:
@@ -85,9 +85,9 @@ def allocations(way, burst, count):
     def counts():
         try:
             with open(at, "rb") as file:
-                return struct.unpack("9Q", file.read())
+                return struct.unpack("10Q", file.read())
         except (FileNotFoundError, struct.error):
-            return (0,) * 9
+            return (0,) * 10
 
     def reached(which, count):
         end = time.monotonic() + 60

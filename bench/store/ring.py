@@ -3,14 +3,14 @@
 
 usage: ring.py PROGRAM COUNTS.SO FOLDER
 
-Each office has a record with each of its neighbours; each session adds 1 to one of them, every second one to both. Of a run the time is
-taken from the start of the last process to the last message of a session. All has to finish. FOLDER has what a run makes, so it says
-how fast a disk is.
+Each office has a record with each of its neighbours; each session adds 1 to one of them, every second one to both. All offices of a run
+begin their first turn together (counts.c); its time is taken from there to the last wait of an office that had more to do. All has to
+finish. FOLDER has what a run makes, so it says how fast a disk is.
 """
 import os, socket, sqlite3, statistics, struct, subprocess, sys, time
 
 OFFICES, EACH, RUNS = ("o0", "o1", "o2", "o3"), 1024, 5
-NAMES = ("begun", "data_sent_last", "datagrams_sent", "datagrams_come", "appends", "appended_bytes", "syncs", "waits", "allocations")
+NAMES = ("begun", "worked_last", "data_sent_last", "datagrams_sent", "datagrams_come", "appends", "appended_bytes", "syncs", "waits", "allocations")
 WAYS = {"without": [], "none": ["--sync", "none"], "data": ["--sync", "data"]}
 # A run is over when no message was sent for so many seconds; then an office takes so many turns more.
 QUIET, LATER = 0.5, 100
@@ -47,7 +47,7 @@ class Office:
         self.counts_file = at
         if os.path.exists(at):
             os.remove(at)
-        env = {**os.environ, "LD_PRELOAD": LIBRARY, "COUNTS": at}
+        env = {**os.environ, "LD_PRELOAD": LIBRARY, "COUNTS": at, "START": os.path.join(FOLDER, "start"), "OFFICES": str(len(OFFICES))}
         self.process = subprocess.Popen(words, stdin=subprocess.DEVNULL, stdout=subprocess.PIPE, stderr=subprocess.PIPE, env=env)
 
     def counts(self):
@@ -85,6 +85,7 @@ def remove(name):
 def started(way, turns):
     """The offices of a ring, started."""
     at, offices = write("plan", plan(free_ports(len(OFFICES)))), []
+    remove("start")
     for k, it in enumerate(OFFICES):
         words = [PROGRAM, "run", at, it, write(f"{it}.sessions", sessions(k)), "--turns", str(turns)]
         words += ["--store", remove(f"{it}.store"), "--new", *WAYS[way]] if WAYS[way] else []
@@ -100,7 +101,7 @@ def ran(way, turns):
         if it.process.returncode or not out.endswith(b"unfinished 0\n"):
             sys.exit(f"ring.py: {way}, {turns} turns: status {it.process.returncode}, {out[-60:]!r}, {err!r}")
     counts = [it.counts() for it in offices]
-    return counts, (max(it["data_sent_last"] for it in counts) - max(it["begun"] for it in counts)) / 1e9
+    return counts, (max(it["worked_last"] for it in counts) - max(it["begun"] for it in counts)) / 1e9
 
 
 def turns_of(way):
