@@ -12,8 +12,8 @@ import os, socket, sqlite3, statistics, struct, subprocess, sys, time
 OFFICES, EACH, RUNS = ("o0", "o1", "o2", "o3"), 1024, 5
 NAMES = ("begun", "worked_last", "data_sent_last", "datagrams_sent", "datagrams_come", "appends", "appended_bytes", "syncs", "waits", "allocations")
 WAYS = {"without": [], "none": ["--sync", "none"], "data": ["--sync", "data"]}
-# A run is over when no message was sent for so many seconds; then an office takes so many turns more.
-QUIET, LATER = 0.5, 100
+# A run is over when no message was sent for so many seconds. Others may take longer: so many times as many turns, and some more.
+QUIET, TIMES, LATER = 1.0, 3, 200
 # So many rounds of sessions, one at each office, are SQLite's transactions.
 ROUNDS = 128
 HOST = "127.0.0.1"
@@ -105,7 +105,7 @@ def ran(way, turns):
 
 
 def turns_of(way):
-    """Twice as many turns as an office takes until no message is sent any more, and some more."""
+    """More turns than an office takes until no message is sent any more."""
     offices = started(way, 100_000)
     try:
         last = 0
@@ -119,7 +119,7 @@ def turns_of(way):
         for it in offices:
             it.process.kill()
             it.process.communicate()
-    return min(100_000, 2 * max(it["waits"] for it in counts) + LATER)
+    return min(100_000, TIMES * max(it["waits"] for it in counts) + LATER)
 
 
 def sqlite(mode):

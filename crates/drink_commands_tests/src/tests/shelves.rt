@@ -50,22 +50,25 @@ impl Found for Nothing {
 
 /// Takes nothing.
 #[derive(Drop)]
-pub struct Never;
+pub struct Never {
+    has_failed: bool,
+}
 
 impl Store for Never {
-    ghost use Rattle.std.specs.Prelude.{None, true};
+    ghost use Rattle.std.specs.Prelude.{None};
 
     ghost stood = { λ _. None };
 
     ghost found = { λ _. None };
 
-    ghost failed = { λ _. true };
+    ghost failed = { λ s. s.has_failed };
 
     fn has_failed(&self) -> bool {
-        true
+        self.has_failed
     }
 
     fn append(&mut self, _bytes: &[u8]) -> Result<(), StoreFailed> {
+        self.has_failed = true;
         Err(StoreFailed)
     }
 }

@@ -359,7 +359,7 @@ fn fails_once(
         binds,
         &mut shelf,
     )?;
-    let has_failed = bottom.appends.get() == call + 1 && said.as_str() == BROKE;
+    let has_failed = call.checked_add(1) == Some(bottom.appends.get()) && said.as_str() == BROKE;
     assert!(rt;
         has_failed || said.as_str() == "" && bottom.appends.get() <= call,
         "{said}"
