@@ -13,7 +13,7 @@ OFFICES, EACH, RUNS = ("o0", "o1", "o2", "o3"), 1024, 5
 NAMES = ("begun", "worked_last", "data_sent_last", "datagrams_sent", "datagrams_come", "appends", "appended_bytes", "syncs", "waits", "allocations")
 WAYS = {"without": [], "none": ["--sync", "none"], "data": ["--sync", "data"]}
 # A run is over when no message was sent for so many seconds. Others may take longer: so many times as many turns, and some more.
-QUIET, TIMES, LATER = 1.0, 3, 200
+QUIET, TIMES, LATER, MOST = 1.0, 3, 200, 100_000
 # So many rounds of sessions, one at each office, are SQLite's transactions.
 ROUNDS = 128
 HOST = "127.0.0.1"
@@ -94,32 +94,35 @@ def started(way, turns):
 
 
 def ran(way, turns):
-    """The counts of the offices in a run, and its seconds."""
+    """The counts of the offices in a run, and its seconds. How often bottles go to and fro differs from run to run: where these turns
+    end before all sessions have, it is run again with twice as many."""
     offices = started(way, turns)
     outs = [it.process.communicate() for it in offices]
     for it, (out, err) in zip(offices, outs):
-        if it.process.returncode or not out.endswith(b"unfinished 0\n"):
+        if it.process.returncode not in (0, 1) or b"\nunfinished " not in out or turns == MOST and it.process.returncode:
             sys.exit(f"ring.py: {way}, {turns} turns: status {it.process.returncode}, {out[-60:]!r}, {err!r}")
+    if any(it.process.returncode for it in offices):
+        return ran(way, min(MOST, 2 * turns))
     counts = [it.counts() for it in offices]
     return counts, (max(it["worked_last"] for it in counts) - max(it["begun"] for it in counts)) / 1e9
 
 
 def turns_of(way):
     """More turns than an office takes until no message is sent any more."""
-    offices = started(way, 100_000)
+    offices = started(way, MOST)
     try:
         last = 0
         while not last or time.monotonic_ns() - last < QUIET * 1e9:
             time.sleep(0.05)
             if any(it.process.poll() is not None for it in offices):
-                sys.exit(f"ring.py: {way}: an office ended after 100000 turns or before")
+                sys.exit(f"ring.py: {way}: an office ended after {MOST} turns or before")
             counts = [it.counts() for it in offices]
             last = max(it["data_sent_last"] for it in counts)
     finally:
         for it in offices:
             it.process.kill()
             it.process.communicate()
-    return min(100_000, TIMES * max(it["waits"] for it in counts) + LATER)
+    return min(MOST, TIMES * max(it["waits"] for it in counts) + LATER)
 
 
 def sqlite(mode):
