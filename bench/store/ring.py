@@ -95,7 +95,7 @@ def started(way, turns):
 
 def ran(way, turns):
     """The counts of the offices in a run, and its seconds. How often bottles go to and fro differs from run to run: where these turns
-    end before all sessions have, it is run again with twice as many."""
+    end before all sessions have, it is run again with twice as many, and the first one is left out: so long runs are counted too rarely."""
     offices = started(way, turns)
     outs = [it.process.communicate() for it in offices]
     for it, (out, err) in zip(offices, outs):
