@@ -1,1 +1,1 @@
-pub mod BitSets
+mod BitSets

@@ -7,9 +7,11 @@ use Rattle.bit_masks.specs.declared.mask16.Mask16.{Mask16}
 abbrev pub has_bit : ℕ → ℕ → Bool
 has_bit n i = bit_at n i == 1
 
+-- whether a set of numbers below 16 has this one
 abbrev pub is_in16 : Mask16 → ℕ → Bool
 is_in16 m i = has_bit m.bits i
 
+-- whether a set of numbers below 128 has this one
 abbrev pub is_in128 : Mask128 → ℕ → Bool
 is_in128 m i = has_bit m.bits i
 
@@ -17,6 +19,7 @@ is_in128 m i = has_bit m.bits i
 abbrev pub size16 : Mask16 → ℕ
 size16 m = m.bits
 
+-- the same of a set of numbers below 128
 abbrev pub size128 : Mask128 → ℕ
 size128 m = m.bits
 

@@ -4,6 +4,10 @@
 //! mask has. `first` finds the least by the word's trailing zeros: no loop, and no table.
 //!
 //! No call takes memory.
+//!
+//! Two masks of one word each, and no set of any size: 16 offices and an office's 128 records at most fit one word, so
+//! lemmas over the width serve both, and no proof has cases by word. A number that is too great changes nothing, so
+//! that no caller has a condition to meet.
 #![tactic(auto)]
 
 mod mask128;

@@ -6,7 +6,7 @@ ghost use Rattle.bit_masks.specs.Sets.{IsLeast};
 ghost use Rattle.bit_masks.specs.Sets.{is_in128, size128};
 
 /// Numbers below 128, each a bit of one word.
-#[derive(Clone, Copy, Debug, PartialEq, Eq)]
+#[derive(Clone, Copy, PartialEq, Eq)]
 pub struct Mask128 {
     bits: u128,
 }

@@ -6,7 +6,7 @@ ghost use Rattle.bit_masks.specs.Sets.{IsLeast};
 ghost use Rattle.bit_masks.specs.Sets.{is_in16, size16};
 
 /// Numbers below 16, each a bit of one word.
-#[derive(Clone, Copy, Debug, PartialEq, Eq)]
+#[derive(Clone, Copy, PartialEq, Eq)]
 pub struct Mask16 {
     bits: u16,
 }

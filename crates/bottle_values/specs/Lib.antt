@@ -3,6 +3,8 @@ pub mod Operations
 pub mod Bytes
 pub mod Printed
 pub mod Lists
+pub mod ListLaws
 pub mod Maps
+pub mod MapLaws
 pub mod Memory
 pub mod refinement

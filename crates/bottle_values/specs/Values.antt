@@ -1,6 +1,7 @@
 -- What a value is.
 use Rattle.std.specs.Prelude.{ℤ}
 
+-- a value as contracts see it, which is a number
 pub data Value : Type 0 where
   Number : (z : ℤ) → Value
 

@@ -16,7 +16,7 @@ use Rattle.session_meaning.specs.declared.ending.Ending.{Ending}
 use Rattle.session_meaning.specs.declared.ending.Outcome.{Outcome}
 use Rattle.session_meaning.specs.Needs.{needs_of}
 use Rattle.session_meaning.specs.Meaning.{alone}
-use Rattle.session_language.specs.Program.{fits}
+use Rattle.session_programs.specs.Program.{fits}
 use Rattle.serial_replay.specs.Serial.{start_map, ending_on, map_after, outcomes_after, map_of}
 use Rattle.carried_days.specs.Days.{with_values, endings, next_day, CarriedStartsWith, DaysAreOneRun}
 

@@ -8,7 +8,7 @@ use Rattle.std.proofs.lemmas.Grind.{common_steps}
 use Rattle.std.proofs.lemmas.Slice.Eq.{bytes_eq-Decides}
 use Rattle.std.proofs.lemmas.Str.{IsUtf8-from_ascii}
 use Rattle.office_map.specs.Address.{is_dot, is_colon, is_host, is_host_and_port, is_address, is_address_byte, is_socket}
-use Rattle.text_lines.proofs.FirstLine.{some_parts}
+use Rattle.text_lines.specs.TextLaws.{some_parts}
 
 more_than_four : (a b c d : List ℕ) (parts : List (List ℕ)) → 0 < length parts → false ≡ is_host (a ∷ b ∷ c ∷ d ∷ parts)
 more_than_four a b c d [] h = absurd (omega arith)

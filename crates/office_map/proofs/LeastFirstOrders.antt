@@ -11,19 +11,17 @@ use Rattle.std.proofs.lemmas.List.Recursion.{is_count_by}
 use Rattle.office_map.specs.declared.entries.PairEntry.{PairEntry}
 use Rattle.office_map.specs.PlanValue.{PlanValue, fork_end}
 use Rattle.office_map.specs.Consistency.{IsConsistent}
+use Rattle.office_map.specs.OrderLaws.{occurrences_of_some}
 use Rattle.office_map.specs.Precedence.{preceding_end, starts_before, comes_before, occurrences, IsNext, IsLeastFirst}
 use Rattle.office_map.proofs.ListBounds.{length_by_key}
 use Rattle.bottle_values.specs.Lists.{is_among, num}
+use Rattle.bottle_values.specs.ListLaws.{num_one}
 use Rattle.office_map.specs.refinement.OrderSearch.{awaits}
 
 -- ---- how often an office stands in a list
 num_or : (b : Bool) (n : ℕ) → num b + n ≡ cond b (1 + n) n
 num_or true n = refl
 num_or false n = omega arith
-
-pub num_one : (b : Bool) → num b ≤ 1
-num_one true = omega arith
-num_one false = omega arith
 
 occurrences_counts : (a : ℕ) (xs : List ℕ) → occurrences a xs ≡ count_by (λ x. x == a) xs
 occurrences_counts a xs = is_count_by (occurrences a) (λ x. x == a) refl (λ x ys. num_or (x == a) (occurrences a ys)) xs
@@ -43,14 +41,6 @@ none_more false c n h e = omega (arith, h e)
 pub occurrences_of_none : (a : ℕ) (xs : List ℕ) → is_among xs a ≡ false → occurrences a xs ≡ 0
 occurrences_of_none a [] h = refl
 occurrences_of_none a (x ∷ xs) h = none_more (x == a) (is_among xs a) (occurrences a xs) (occurrences_of_none a xs) h
-
-some_more : (b c : Bool) (n : ℕ) → (c ≡ true → 1 ≤ n) → (b || c) ≡ true → 1 ≤ num b + n
-some_more true c n h e = omega arith
-some_more false c n h e = omega (arith, h e)
-
-pub occurrences_of_some : (a : ℕ) (xs : List ℕ) → is_among xs a ≡ true → 1 ≤ occurrences a xs
-occurrences_of_some a [] h = (cc)
-occurrences_of_some a (x ∷ xs) h = some_more (x == a) (is_among xs a) (occurrences a xs) (occurrences_of_some a xs) h
 
 not_among : (a : ℕ) (xs : List ℕ) → occurrences a xs ≡ 0 → is_among xs a ≡ false
 not_among a xs h = false_from_ne_true (is_among xs a) (λ e. absurd (omega (arith, h, occurrences_of_some a xs e)))

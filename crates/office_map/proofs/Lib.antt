@@ -1,14 +1,13 @@
-pub mod FirstFault
-pub mod AsciiAddresses
-pub mod ListBounds
-pub mod FilteredRanges
-pub mod FirstPosition
-pub mod AcceptedPlans
-pub mod ConsistencyKept
-pub mod LeastFirstOrders
-pub mod Rings
-pub mod OrderOrRing
-pub mod RecordCountsKept
-pub mod RecordEnds
-pub mod OwnRecords
-pub mod RefusedLines
+mod FirstFault
+mod AsciiAddresses
+mod ListBounds
+mod FilteredRanges
+mod FirstPosition
+mod AcceptedPlans
+mod ConsistencyKept
+mod LeastFirstOrders
+mod Rings
+mod OrderOrRing
+mod RecordCountsKept
+mod OwnRecords
+mod RefusedLines

@@ -1,14 +1,16 @@
 -- Circles and rings of offices.
-use Rattle.std.proofs.Common.{◌≡◌, ℕ, zero, suc, ◌+◌, ◌<◌, ◌≤◌, Bool, true, false, ◌&&◌, ◌||◌, cond, List, [], ◌∷◌, ◌++◌, length, get_or, take, drop, refl, sym, ap, ◌∙◌, subst, arith, ⊎_elim, length-append}
+use Rattle.std.proofs.Common.{◌≡◌, ℕ, zero, suc, ◌+◌, ◌<◌, ◌≤◌, true, false, List, [], ◌∷◌, ◌++◌, length, get_or, take, drop, refl, sym, ap, ◌∙◌, subst, arith, ⊎_elim, length-append}
 use Rattle.std.specs.Prelude.{◌==◌, nat_lt, map}
 use Rattle.std.specs.List.{All}
-use Rattle.std.proofs.lemmas.Bool.{ne_eqb, and_parts, or_cases, cases_eq}
+use Rattle.std.proofs.lemmas.Bool.{ne_eqb, cases_eq}
 use Rattle.std.proofs.lemmas.List.{take-append-drop, get_or-drop, length-take-le, map-append, take_more}
 use Rattle.std.proofs.lemmas.List.Elements.{All-append, All-take, All-drop}
 use Rattle.office_map.specs.PlanValue.{PlanValue}
-use Rattle.office_map.specs.Precedence.{starts_before, comes_before, occurrences, first_or, LeadTo, IsCircle, IsRing, IsOrder}
-use Rattle.office_map.proofs.LeastFirstOrders.{num_one, few, occurrences_append, occurrences_of_some, occurrences_of_none}
+use Rattle.office_map.specs.OrderLaws.{placed_before}
+use Rattle.office_map.specs.Precedence.{starts_before, occurrences, place, first_or, LeadTo, IsCircle, IsRing, IsOrder}
+use Rattle.office_map.proofs.LeastFirstOrders.{few, occurrences_append, occurrences_of_none}
 use Rattle.bottle_values.specs.Lists.{is_among, num}
+use Rattle.bottle_values.specs.ListLaws.{num_one}
 
 -- ---- a way from an office to one that precedes it, and on, whose last step is written first
 abbrev pub Follows : PlanValue → ℕ → List ℕ → Type 0
@@ -128,42 +130,6 @@ mapped_more f g xs ys i x y same lt read alike =
     ap (map f) (take_more xs i x lt) ∙ map-append f (take i xs) (get_or xs i x ∷ []) ∙ ap (λ l. l ++ f (get_or xs i x) ∷ []) same ∙ ap (λ z. map g ys ++ z ∷ []) (ap f (sym read) ∙ alike) ∙ sym (map-append g ys (y ∷ []))
 
 -- ---- an order has no ring
--- the place of the first such office
-abbrev pub place : ℕ → List ℕ → ℕ
-place u [] = 0
-place u (x ∷ xs) = cond (x == u) 0 (1 + place u xs)
-
-behind : (xs : List ℕ) (u v : ℕ) → comes_before xs u v ≡ true → is_among xs v ≡ true
-behind [] u v h = (cc)
-behind (x ∷ xs) u v h = ⊎_elim
-    (λ e. or_right' (x == v) (is_among xs v) (and_parts (x == u) (is_among xs v) e).1)
-    (λ e. or_right' (x == v) (is_among xs v) (behind xs u v e))
-    (or_cases (x == u && is_among xs v) (comes_before xs u v) h)
-  where
-    or_right' : (b c : Bool) → c ≡ true → (b || c) ≡ true
-    or_right' true c e = refl
-    or_right' false c e = e
-
-pub placed_before : (xs : List ℕ) (u v : ℕ) → ((a : ℕ) → occurrences a xs ≤ 1) → comes_before xs u v ≡ true → place u xs < place v xs
-placed_before [] u v once h = (cc)
-placed_before (x ∷ xs) u v once h =
-    let here : is_among xs v ≡ true = ⊎_elim (λ e. (and_parts (x == u) (is_among xs v) e).1) (λ e. behind xs u v e) (or_cases (x == u && is_among xs v) (comes_before xs u v) h) in
-    let apart : (x == v) ≡ false = not_first (x == v) (once v) (occurrences_of_some v xs here) in
-    steps (x == u) (x == v) apart (λ e. placed_before xs u v (λ a. omega (arith, once a)) (⊎_elim (λ s. absurd (both (x == u) (and_parts (x == u) (is_among xs v) s).0 e)) (λ s. s) (or_cases (x == u && is_among xs v) (comes_before xs u v) h)))
-  where
-    not_first : (b : Bool) → num b + occurrences v xs ≤ 1 → 1 ≤ occurrences v xs → b ≡ false
-    not_first true most some = absurd (omega (arith, most, some))
-    not_first false most some = refl
-
-    both : (b : Bool) → b ≡ true → b ≡ false → ⊥
-    both true e f = (cc)
-    both false e f = (cc)
-
-    steps : (b c : Bool) → c ≡ false → (b ≡ false → place u xs < place v xs) → cond b 0 (1 + place u xs) < cond c 0 (1 + place v xs)
-    steps true false e f = omega arith
-    steps false false e f = omega (arith, f refl)
-    steps b true e f = (cc)
-
 earlier_place : (p : PlanValue) (order : List ℕ) → IsOrder p order → (u v : ℕ) → starts_before p u v ≡ true → place u order < place v order
 earlier_place p order is u v h = placed_before order u v (λ a. omega (arith, is.once a, num_one (nat_lt a (length p.offices)))) (is.earlier u v h)
 

@@ -12,7 +12,9 @@ use Rattle.text_lines.specs.Text.{is_name}
 use Rattle.std.specs.Prelude.{List}
 use Rattle.office_map.specs.Limits.{most_offices, most_pair_records}
 
--- The tables agree with one another, and no limit is passed.
+-- The tables agree with one another, and no limit is passed. Offices and records have names, each its own, and no two
+-- offices one address; a pair or a record joins two different declared offices, no two offices have two pairs, and a
+-- record lies between neighbours.
 pub record IsConsistent (p : PlanValue) : Type 0 where
   pub offices_fit : length p.offices ≤ most_offices
   pub offices_are_named : All (λ (o : OfficeEntry). IsTrue (is_name o.name)) p.offices
@@ -26,15 +28,16 @@ pub record IsConsistent (p : PlanValue) : Type 0 where
   pub records_have_pairs : All (λ (r : RecordEntry). IsTrue (are_neighbours p r.first r.second)) p.records
   pub records_fit : (a b : ℕ) → records_between p a b ≤ most_pair_records
 
--- The lines of a plan without a fault give consistent tables with two offices; a refusal names a line of the text,
--- or 0.
+-- consistent tables with two offices at least
 abbrev pub IsComplete : PlanValue → Type 0
 IsComplete p = IsConsistent p × (2 ≤ length p.offices)
 
+-- lines without a fault mean a complete plan, and a refusal names a line of the text, or 0
 abbrev pub ReadsCompletePlans : Type 0
 ReadsCompletePlans = (text : List ℕ) → MatchResult (plan_of text) IsComplete (λ (f : PlanRefusal). IsLineOf text f.line)
 
--- What holds of every plan that is accepted: it is complete, and precedence has no ring at the start.
+-- What holds of every plan that is accepted: it is complete, and it has an order, so precedence has no ring at the
+-- start.
 pub record IsAccepted (p : PlanValue) : Type 0 where
   pub consistent : IsConsistent p
   pub two_offices : 2 ≤ length p.offices

@@ -7,3 +7,6 @@ pub mod Consistency
 pub mod OrderOrRing
 pub mod refinement
 pub mod RefusedLines
+pub mod NeighbourLaws
+pub mod OrderLaws
+pub mod StatementLaws

@@ -173,14 +173,15 @@ abbrev pub HasRing : rings.Ring → Result PlanValue PlanRefusal → Type 0
 HasRing r (Ok p) = IsNamedRing p r
 HasRing r (Err f) = ⊥
 
--- what reading a plan answers, where its lines mean this: their plan, which has no ring; their first fault; or a ring
+-- What reading a plan answers, where its lines mean this: their plan, which has an order; their first refusal; or a
+-- ring of that plan. Of `Memory` nothing is said.
 abbrev pub Answers : Result PlanValue PlanFault → Result PlanValue PlanRefusal → Type 0
 Answers (Ok p) read = (read ≡ Ok p) × HasOrder p
 Answers (Err Memory) read = Unit {0}
 Answers (Err (Refused r)) read = read ≡ Err r
 Answers (Err (Ring r)) read = HasRing r read
 
--- a fact of a refusal of a line
+-- a fact of a refusal that has a line
 abbrev pub IfRefused : (PlanRefusal → Type 0) → PlanFault → Type 0
 IfRefused P Memory = Unit {0}
 IfRefused P (Refused r) = P r
@@ -201,10 +202,11 @@ pub record IsFirstFault (p : PlanValue) (lines : List (ℕ × List ℕ)) (f : Pl
   pub accepted : Lead p before reached
   pub refused : read_line reached line ≡ Err f
 
--- reading the lines is this, and nothing else
+-- Reading the lines is this, and nothing else: a text is refused exactly where its lines before the fault are accepted
+-- and that line isn't.
 abbrev pub ReadsInOrder : Type 0
 ReadsInOrder = (p : PlanValue) (lines : List (ℕ × List ℕ)) → MatchResult (read_lines p lines) (Lead p lines) (IsFirstFault p lines)
 
--- no line, or a line of the text
+-- the line is 0, which is none, or one of the text's
 abbrev pub IsLineOf : List ℕ → ℕ → Type 0
 IsLineOf text n = (n ≡ 0) ⊎ ((1 ≤ n) × (n ≤ length (lines text)))

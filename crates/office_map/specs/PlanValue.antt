@@ -9,26 +9,30 @@ use Rattle.office_map.specs.declared.entries.OfficeEntry.{OfficeEntry}
 use Rattle.office_map.specs.declared.entries.PairEntry.{PairEntry}
 use Rattle.office_map.specs.declared.entries.RecordEntry.{RecordEntry}
 
+-- the run's number, and the offices, pairs and records in the order of their lines
 pub record PlanValue : Type 0 where
   pub run : ℕ
   pub offices : List OfficeEntry
   pub pairs : List PairEntry
   pub records : List RecordEntry
 
--- the office with this name
+-- the number of the office with this name
 abbrev pub office_named : PlanValue → List ℕ → Option ℕ
 office_named p name = position (λ (o : OfficeEntry). bytes_eq o.name name) p.offices
 
--- the record with this name
+-- the number of the record with this name
 abbrev pub record_named : PlanValue → List ℕ → Option ℕ
 record_named p name = position (λ (r : RecordEntry). bytes_eq r.name name) p.records
 
+-- the name that stands on an office's line
 abbrev pub office_name_of : PlanValue → ℕ → Option (List ℕ)
 office_name_of p o = option_map (λ (e : OfficeEntry). e.name) (slice_get p.offices o)
 
+-- the address that stands there
 abbrev pub address_of : PlanValue → ℕ → Option (List ℕ)
 address_of p o = option_map (λ (e : OfficeEntry). e.address) (slice_get p.offices o)
 
+-- the name that stands on a record's line
 abbrev pub record_name_of : PlanValue → ℕ → Option (List ℕ)
 record_name_of p r = option_map (λ (e : RecordEntry). e.name) (slice_get p.records r)
 
@@ -36,6 +40,7 @@ record_name_of p r = option_map (λ (e : RecordEntry). e.name) (slice_get p.reco
 abbrev pub joins : ℕ → ℕ → PairEntry → Bool
 joins a b pair = (pair.first == a && pair.second == b) || (pair.first == b && pair.second == a)
 
+-- some pair joins these two
 abbrev pub are_neighbours : PlanValue → ℕ → ℕ → Bool
 are_neighbours p a b = list_any (joins a b) p.pairs
 
@@ -47,6 +52,7 @@ neighbours_of p a = filter (are_neighbours p a) (range_with_len 0 (length p.offi
 abbrev pub fork_end : PairEntry → ℕ
 fork_end pair = if pair.fork_at_first then pair.first else pair.second
 
+-- the end of the pair of these two at which its fork starts
 abbrev pub fork_end_of : PlanValue → ℕ → ℕ → Option ℕ
 fork_end_of p a b = option_map fork_end (find (joins a b) p.pairs)
 
@@ -93,6 +99,7 @@ fork_starts_at p a b x = option_map_or (λ e. e == x) (fork_end_of p a b) false
 abbrev pub start_end : RecordEntry → ℕ
 start_end r = if r.starts_at_first then r.first else r.second
 
+-- the end of a record at which its bottle starts
 abbrev pub start_end_of : PlanValue → ℕ → Option ℕ
 start_end_of p r = option_map start_end (slice_get p.records r)
 
@@ -100,7 +107,7 @@ start_end_of p r = option_map start_end (slice_get p.records r)
 abbrev pub bottle_starts_at : PlanValue → ℕ → ℕ → Bool
 bottle_starts_at p r x = option_map_or (λ e. start_end e == x) (slice_get p.records r) false
 
--- the records' values at the start, in order
+-- the values with which the records' bottles start, in order
 abbrev pub start_values : PlanValue → List Value
 start_values p = map (λ (e : RecordEntry). e.value) p.records
 

@@ -28,6 +28,11 @@ abbrev pub occurrences : ℕ → List ℕ → ℕ
 occurrences a [] = 0
 occurrences a (x ∷ xs) = num (x == a) + occurrences a xs
 
+-- where it stands first, or the length
+abbrev pub place : ℕ → List ℕ → ℕ
+place u [] = 0
+place u (x ∷ xs) = if x == u then 0 else 1 + place u xs
+
 -- ---- orders
 
 -- all offices, each once, in which one that precedes another comes earlier
@@ -46,12 +51,13 @@ pub record IsNext (p : PlanValue) (placed : List ℕ) (v : ℕ) : Type 0 where
   pub may_come : MayCome p placed v
   pub least : (w : ℕ) → w < v → MayCome p placed w → ⊥
 
--- an order in which at each place, where several may come, the least one stands
+-- an order in which at each place stands the least of the offices that may come: that aren't placed yet, while all that
+-- precede them are
 pub record IsLeastFirst (p : PlanValue) (order : List ℕ) : Type 0 where
   pub is_order : IsOrder p order
   pub next : (k d : ℕ) → k < length order → IsNext p (take k order) (get_or order k d)
 
--- precedence has no ring at the start
+-- there is an order: precedence has no ring at the start
 pub record HasOrder (p : PlanValue) : Type 0 where
   pub order : List ℕ
   pub is : IsOrder p order
@@ -91,6 +97,6 @@ pub record IsNamedRing (p : PlanValue) (r : Ring) : Type 0 where
 abbrev pub AnOrderHasNoRing : Type 0
 AnOrderHasNoRing = (p : PlanValue) (order ring : List ℕ) → IsOrder p order → IsRing p ring → ⊥
 
--- there is one order that is least first
+-- there is one order that is least first: no two lists are
 abbrev pub OneOrderIsLeastFirst : Type 0
 OneOrderIsLeastFirst = (p : PlanValue) (a b : List ℕ) → IsLeastFirst p a → IsLeastFirst p b → a ≡ b

@@ -25,7 +25,8 @@ pub record IsReadTo (text : List ℕ) (p : PlanValue) : Type 0 where
   pub header : read_header first ≡ Ok empty
   pub accepted : Lead empty others p
 
--- Line 0 is told of a text that is too long, has no line that says something, or declares too few offices.
+-- Line 0 is told only of a text that is too long, has no line that says something, or declares too few offices. Every
+-- other refusal is of the header, or of the first faulty line after it: a line that says something.
 pub data IsRefusedAs (text : List ℕ) : PlanRefusal → Type 0 where
   too_long : most_text < length text → IsRefusedAs text (record { rule = Limit; line = 0 })
   without_lines : length text ≤ most_text → statements text ≡ [] → IsRefusedAs text (record { rule = Header; line = 0 })
@@ -41,5 +42,6 @@ pub record IsReadAs (text : List ℕ) (p : PlanValue) : Type 0 where
   pub read : IsReadTo text p
   pub offices : 2 ≤ length p.offices
 
+-- a text is refused so, or else it is accepted
 abbrev pub RefusesALine : Type 0
 RefusesALine = (text : List ℕ) → MatchResult (plan_of text) (IsReadAs text) (IsRefusedAs text)

@@ -35,7 +35,13 @@ pub struct PlanRefusal {
     pub line: u64,
 }
 
+/// The rule that a ring breaks, which no line does.
+pub const RING_RULE: &str = "P8 Ring";
+
 /// Why there is no plan.
+///
+/// A ring is no rule of a line: `PlanRule` has the codes that come with a line. What the lines mean (`plan_of`) is told
+/// without it, and `Answers` says what reading makes of both.
 #[derive(Debug, Drop, Error)]
 pub enum PlanFault {
     #[error("out of memory")]
@@ -44,7 +50,7 @@ pub enum PlanFault {
     #[error("{0}")]
     Refused(PlanRefusal),
     /// No line is at fault, but the forks start so that some offices precede one another in a ring.
-    #[error("P8 Ring: {0} (each precedes the next, and the last the first)")]
+    #[error("{rule}: {0} (each precedes the next, and the last the first)", rule = RING_RULE)]
     Ring(Ring),
 }
 

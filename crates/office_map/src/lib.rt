@@ -1,6 +1,27 @@
 //! Plans: the offices of a broker, which of them are neighbours, and the records that a
 //! pair of neighbours shares.
 //!
+//! A caller:
+//!
+//! ```
+//! use office_map::{Plan, PlanFault, RecordId};
+//! use std::alloc::Global;
+//!
+//! /// Where each record of a plan starts, a line each.
+//! fn starts(alloc: Global, text: &[u8]) -> Result<String, PlanFault> {
+//!     let plan = Plan::read(alloc, text)?;
+//!     let mut told = String::new(alloc);
+//!     for number in 0..plan.records() {
+//!         let record = RecordId::new(number as u16);
+//!         let name = plan.record_name(record);
+//!         let office = plan.office_name(plan.start_end(record));
+//!         let value = plan.start_value(record);
+//!         writeln!(told, "{name} starts at {office} with {value}")?;
+//!     }
+//!     Ok(told)
+//! }
+//! ```
+//!
 //! [`Plan::read`] answers the plan that a text means, the first rule that a line of it breaks,
 //! or a ring of offices that precede one another at the start (clause `meaning`). Every plan in
 //! hand is consistent (clause `consistent` of [`Plan::offices`]): a pair and a record join two
@@ -20,6 +41,9 @@
 //! - `specs/Consistency.antt`: what holds of every accepted plan.
 //! - `specs/Address.antt`: which words are addresses.
 //! - `specs/Limits.antt`: the limits; the code has its own, [`limits`].
+//!
+//! Not said: which of several rings is told; that a record is found in constant time; that a plan has the office or the
+//! record of a number in hand. `Memory` may stand in place of each answer.
 #![tactic(auto)]
 
 mod address;
@@ -40,7 +64,7 @@ mod ring;
 mod ring_search;
 mod word;
 
-pub use fault::{PlanFault, PlanRefusal, PlanRule};
+pub use fault::{PlanFault, PlanRefusal, PlanRule, RING_RULE};
 pub use ids::{OfficeId, RecordId};
 pub use plan::Plan;
 pub use ring::Ring;

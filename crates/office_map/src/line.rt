@@ -39,7 +39,7 @@ pub(crate) fn declaration_in(line: &[u8]) -> Option<Declaration<'_>>
     }
 }
 
-#[tactic(auto, using(text_lines::proofs::AsciiNames::is_named))]
+#[tactic(auto, using(text_lines::specs::TextLaws::is_named))]
 fn office<'a>(keyword: &[u8], word: &'a [u8], place: &'a [u8]) -> Option<Declaration<'a>>
     ensures { option_map seen result ≡ office_line keyword.now word.now place.now }
 {
@@ -73,7 +73,7 @@ fn pair<'a>(
     }))
 }
 
-#[tactic(auto, using(text_lines::proofs::AsciiNames::is_named))]
+#[tactic(auto, using(text_lines::specs::TextLaws::is_named))]
 fn record<'a>(
     keyword: &[u8],
     word: &'a [u8],

@@ -20,6 +20,8 @@ use std::alloc::{AllocError, Global};
 use std::marker::Model;
 
 /// How many places there are for any two offices.
+///
+/// One for two offices in either order, so that a record's line looks at one number whatever stands before it.
 const PAIR_PLACES: usize = MOST_OFFICES * MOST_OFFICES;
 
 /// Offices, pairs and records in the order of their lines.

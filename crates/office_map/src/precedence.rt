@@ -16,6 +16,10 @@ use std::alloc::Global;
 
 /// All offices, one that precedes earlier, and the least number first where several may come;
 /// or a ring, where there is no such order.
+///
+/// The order is told by what stands at each place, the least office that may come, and not by a loop; a law says that
+/// no two lists are such an order. A plan is arranged once, when it is read, and keeps its order, since that is also
+/// how a ring is found.
 pub(crate) fn order(alloc: Global, tables: &PlanEntries) -> Result<Vec<OfficeId>, PlanFault>
     ensures { MatchResult result (λ v. IsLeastFirst tables.now v.items) (λ f. Answers (Err f) (Ok tables.now)) }
 {

@@ -13,6 +13,10 @@ use crate::ring::Ring;
 use std::alloc::{AllocError, Global};
 
 /// A ring of offices that aren't placed.
+///
+/// Goes from the first office that can't be placed to one that precedes it, and on, until it comes back. Which of
+/// several rings that is isn't said. The ring's offices and their names are lists, so memory may run out before one is
+/// told.
 pub(crate) fn ring_from(
     alloc: Global,
     tables: &PlanEntries,

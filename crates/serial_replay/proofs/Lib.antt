@@ -1,4 +1,4 @@
-pub mod LoopTurns
-pub mod StackEvaluation
-pub mod ReadsInOrder
-pub mod ValueTables
+mod LoopTurns
+mod StackEvaluation
+mod ReadsInOrder
+mod ValueTables

@@ -13,7 +13,7 @@ use Rattle.bottle_values.specs.Maps.{put, reads_of, write_all}
 use Rattle.office_map.specs.PlanValue.{PlanValue, is_end, has_end, start_values}
 use Rattle.session_meaning.specs.ProgramValue.{ProgramValue}
 use Rattle.session_meaning.specs.Needs.{needs_of}
-use Rattle.session_language.specs.Program.{fits}
+use Rattle.session_programs.specs.Program.{fits}
 use Rattle.session_meaning.specs.declared.ending.Ending.{Ending}
 use Rattle.session_meaning.specs.declared.ending.Outcome.{Outcome}
 use Rattle.serial_replay.specs.Serial.{ticket_of, outcomes_after, map_of, map_after, start_map, ending_on, ListsValues}

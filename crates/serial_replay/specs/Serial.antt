@@ -29,6 +29,8 @@ abbrev pub outcomes_after : List ProgramValue → (ℕ → Value) → List Progr
 outcomes_after before m [] = []
 outcomes_after before m (p ∷ ps) = record { office = p.office; ticket = ticket_of before p; ending = ending_on p m } ∷ outcomes_after (before ++ p ∷ []) (map_after p m) ps
 
+-- The sessions one after another, each on the map that the one before left, with tickets that count each office's
+-- sessions from 1.
 abbrev pub outcomes_of : (ℕ → Value) → List ProgramValue → List Outcome
 outcomes_of = outcomes_after []
 
@@ -41,7 +43,7 @@ map_of m (p ∷ ps) = map_of (map_after p m) ps
 abbrev pub start_map : PlanValue → ℕ → Value
 start_map p r = slice_index_or (start_values p) r nought
 
--- the list has the map's values for the first n records
+-- the list has the map's values for the first n records, in order of number
 pub record ListsValues (values : List Value) (n : ℕ) (m : ℕ → Value) : Type 0 where
   pub size : length values ≡ n
   pub each : (r : ℕ) → r < n → slice_get values r ≡ Some (m r)

@@ -10,7 +10,8 @@ use crate::stop::Stop;
 use crate::walk::walk_all;
 use bottle_values::Value;
 use office_map::RecordId;
-use session_language::{End, Ending, Gives, Program, RecordValues, Variables, WorkingCopy};
+use session_meaning::{End, Ending, Gives, RecordValues, Variables, WorkingCopy};
+use session_programs::Program;
 use std::alloc::{AllocError, Global};
 
 /// What a session does alone, where these are the values of the records that it needs.

@@ -1,6 +1,6 @@
 //! What a running session has.
 
-use session_language::{Gives, Variables, WorkingCopy};
+use session_meaning::{Gives, Variables, WorkingCopy};
 
 /// A running session's copy of the records that it needs, its variables, and what it gave.
 #[derive(Drop)]

@@ -7,7 +7,7 @@ ghost use Rattle.serial_replay.specs.refinement.WalkRefinement.{environment_of};
 
 use crate::environment::Environment;
 use bottle_values::{Value, ValueFault};
-use session_language::{Expression, Node};
+use session_meaning::{Expression, Node};
 use std::alloc::AllocError;
 
 /// The value of an expression, worked out on a stack that is handed in for its memory, or why it has none.

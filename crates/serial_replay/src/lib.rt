@@ -4,6 +4,9 @@
 //! (`specs/Serial.antt`). What one session does alone is `alone`, in `session_meaning`'s `specs/Meaning.antt`.
 //! Evaluation keeps its operands on a stack of its own (`specs/refinement/PostfixEvaluation.antt`), so no expression
 //! deepens the call stack.
+//!
+//! Not said: anything of programs that don't fit the plan, or of 2^32 programs and more (`fit` and `few` are
+//! conditions).
 #![tactic(auto)]
 
 pub mod alone;

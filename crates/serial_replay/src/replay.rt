@@ -19,7 +19,7 @@ ghost use Rattle.std.proofs.Math.ListN.{set};
 ghost use Rattle.bottle_values.specs.Maps.{put, write_all};
 ghost use Rattle.bottle_values.specs.Values as bottle;
 ghost use Rattle.session_meaning.specs.Needs.{needs_of};
-ghost use Rattle.session_language.specs.Program.{fits};
+ghost use Rattle.session_programs.specs.Program.{fits};
 ghost use Rattle.serial_replay.specs.Serial.{
   outcomes_of,
   map_of,
@@ -32,12 +32,16 @@ ghost use Rattle.bottle_values.specs.Operations.{nought};
 use crate::alone::alone;
 use bottle_values::Value;
 use office_map::{OfficeId, Plan, RecordId};
-use session_language::{Ending, Outcome, Program};
+use session_meaning::{Ending, Outcome};
+use session_programs::Program;
 use std::alloc::{AllocError, Global};
 
 /// What a serial run shows: how each session ended, in order, and the value that each record has then, in order of
 /// number.
-#[derive(Debug, Drop)]
+///
+/// The meaning speaks of a map from records to values; the code has a list. `ListsValues` says that the list has the
+/// map's value at each record of the plan, and as many as there are.
+#[derive(Drop)]
 pub struct Replay {
     pub outcomes: Vec<Outcome>,
     pub values: Vec<Value>,
@@ -45,6 +49,9 @@ pub struct Replay {
 
 /// Runs sessions one after another: the first on the plan's start values, and each next one on what the one before
 /// left. Fails only where memory runs out.
+///
+/// There is a condition on how many programs there are: a ticket is a `u32`, and counts an office's programs from 1.
+/// `read_sessions` answers at most 1,024 (clause `few`), so a caller that reads a text has nothing to show.
 #[tactic(auto, using(crate::proofs::ValueTables::fits_records))]
 pub fn serial(alloc: Global, plan: &Plan, programs: &[Program]) -> Result<Replay, AllocError>
     requires fit { All (λ p. IsTrue (fits plan.now p)) programs.now }
@@ -113,6 +120,9 @@ fn write_all(values: &mut Vec<Value>, writes: &[(RecordId, Value)])
 }
 
 /// A record that the table doesn't have is left out.
+///
+/// The caller's condition says that there is none. The bound is looked at all the same, since it costs one comparison
+/// and spares every caller a proof.
 fn put(values: &mut Vec<Value>, id: RecordId, value: Value)
     ensures { (n : ℕ) (m : ℕ → bottle.Value) → ListsValues values.old.items n m → ListsValues values.new.items n (put m id value) }
 {

@@ -3,7 +3,7 @@
 ghost use Rattle.std.specs.Prelude.{◌≡◌};
 ghost use Rattle.serial_replay.specs.declared.stop.Stop.TheVariants.{Memory};
 
-use session_language::End;
+use session_meaning::End;
 use std::alloc::{AllocError, AllocFailed};
 
 /// The session has ended, or memory ran out.

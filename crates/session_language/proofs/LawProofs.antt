@@ -6,7 +6,7 @@ use Rattle.office_map.specs.PlanValue.{PlanValue}
 use Rattle.office_map.specs.PlanText.{◌>>=◌, ◌>>◌, refuse_if}
 use Rattle.text_lines.specs.Text.{lines, statements}
 use Rattle.office_map.specs.RefusedLines.{SaysSomethingAt}
-use Rattle.office_map.proofs.RefusedLines.{says_at}
+use Rattle.office_map.specs.StatementLaws.{says_at}
 use Rattle.session_language.specs.declared.fault.SessionRule.{SessionRule}
 use Rattle.session_language.specs.declared.fault.SessionRule.TheVariants.{TooLong}
 use Rattle.session_language.specs.declared.fault.SessionRefusal.{SessionRefusal}

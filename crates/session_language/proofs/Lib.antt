@@ -1,10 +1,8 @@
 pub mod Pieces
 pub mod Places
-pub mod Texts
 pub mod LawProofs
 pub mod canonical
 pub mod expressions
-pub mod session_measures
 pub mod session_reading
 pub mod LongestMatch
 pub mod LineGrammar

@@ -7,3 +7,4 @@ pub mod Lexemes
 pub mod Tokens
 pub mod RoundTrip
 pub mod NeededRecords
+pub mod SizeBound

@@ -1,6 +1,5 @@
 pub mod ParserSound
 pub mod ParserComplete
 pub mod BuilderRefinesParser
-pub mod LastNode
 pub mod CounterBounds
 pub mod PhraseLoop

@@ -10,7 +10,7 @@ use Rattle.session_language.specs.declared.keyword.Keyword.{Keyword}
 use Rattle.session_language.specs.declared.keyword.Keyword.TheVariants.{Session, Let, Set, Give, Require, If, Else, Repeat, End, Other}
 use Rattle.session_language.specs.Lexer.{Piece, AWord, ASymbol}
 use Rattle.session_language.specs.Phrase.{Phrase, phrase_at}
-use Rattle.session_language.specs.Limits.{codes_end, most_turns}
+use Rattle.session_programs.specs.Limits.{codes_end, most_turns}
 
 -- the first line of a statement, its names still text; the lines of a block follow it
 pub data Said : Type 0 where
@@ -27,6 +27,7 @@ pub data Form : Type 0 where
   Otherwise : Form
   Closes : Form
 
+-- what the first word of a line says that the line is
 abbrev pub keyword_of : List ℕ → Keyword
 keyword_of w =
     if bytes_eq w (codes "session") then Session else if bytes_eq w (codes "let") then Let else if bytes_eq w (codes "set") then Set

@@ -28,11 +28,13 @@ pub record IsFirstFault (p : PlanValue) (x : Reading) (lines : List (ℕ × List
   pub accepted : Lead p x before reached
   pub refused : at_line line.0 (take_line p reached line.1) ≡ Err f
 
--- reading the lines is this, and nothing else
+-- Reading the lines is this, and nothing else: a text is refused exactly where its lines before the fault are accepted
+-- and that line isn't.
 abbrev pub ReadsInOrder : Type 0
 ReadsInOrder = (p : PlanValue) (x : Reading) (lines : List (ℕ × List ℕ)) → MatchResult (read_lines p x lines) (Lead p x lines) (IsFirstFault p x lines)
 
--- A refusal is of the whole text (line 0), of the first faulty line, or of the end, where a session is still open.
+-- Line 0 is told only of a text that is too long, and the line after the last only where all lines are accepted and a
+-- session is still open. Every other refusal is of the first faulty line, which says something.
 pub data IsRefusedAs (p : PlanValue) (text : List ℕ) : SessionRefusal → Type 0 where
   too_long : most_text < length text → IsRefusedAs p text (record { rule = TooLong; line = 0 })
   at_a_line : (f : SessionRefusal) → length text ≤ most_text → IsFirstFault p nothing_read (statements text) f → SaysSomethingAt text f.line → IsRefusedAs p text f
@@ -44,6 +46,7 @@ pub record IsReadAs (p : PlanValue) (text : List ℕ) (ps : List ProgramValue) :
   pub short : length text ≤ most_text
   pub accepted : Lead p nothing_read (statements text) (record { done = ps; open_session = None })
 
+-- a text is refused so, or else it is accepted
 abbrev pub RefusesALine : Type 0
 RefusesALine = (p : PlanValue) (text : List ℕ) → MatchResult (sessions_of p text) (IsReadAs p text) (IsRefusedAs p text)
 
@@ -52,6 +55,7 @@ pub record IsReadBy (ts : List Token) (e : Spelled) (d : ℕ) : Type 0 where
   pub read : IsExpr ts e d → read_part ts ≡ Some (record { tree = e; depth = d })
   pub spelled : read_part ts ≡ Some (record { tree = e; depth = d }) → IsExpr ts e d
 
+-- what the reader takes is exactly what the grammar has
 abbrev pub ReadsTheGrammar : Type 0
 ReadsTheGrammar = (ts : List Token) (e : Spelled) (d : ℕ) → IsReadBy ts e d
 

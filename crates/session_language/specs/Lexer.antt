@@ -9,12 +9,14 @@ use Rattle.session_language.specs.declared.lexer.Start.{Start}
 use Rattle.session_language.specs.declared.lexer.Start.TheVariants.{Blank, Word, Sign, Other}
 use Rattle.session_language.specs.declared.lexer.Piece.TheVariants as pieces
 
+-- a word, a symbol, or a stray byte
 pub data Piece : Type 0 where
   AWord : (bytes : List ℕ) → Piece
   ASymbol : (s : Symbol) → Piece
   -- a byte that begins neither
   AStray : Piece
 
+-- a piece of code as one of these
 abbrev pub seen : code.Piece → Piece
 seen (pieces.Word bytes) = AWord bytes.now
 seen (pieces.Symbol s) = ASymbol s
@@ -69,5 +71,6 @@ pieces_in zero bs = []
 pieces_in (suc n) [] = []
 pieces_in (suc n) (b ∷ bs) = if is_blank b then pieces_in n bs else (piece_at b bs).0 ∷ pieces_in n (piece_at b bs).1
 
+-- the words, symbols and stray bytes of a line, each the longest there
 unfoldable pub pieces_of : List ℕ → List Piece
 pieces_of line = pieces_in (length line) line

@@ -7,9 +7,9 @@ pub mod Names
 pub mod Phrase
 pub mod Form
 pub mod Reading
-pub mod Text
-pub mod Program
-pub mod WellFormed
+pub use Rattle.session_programs.specs.Text
+pub use Rattle.session_programs.specs.Program
+pub use Rattle.session_programs.specs.WellFormed
 pub mod Laws
 pub mod refinement
 pub mod LongestMatch

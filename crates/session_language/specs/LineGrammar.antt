@@ -9,7 +9,7 @@ use Rattle.session_language.specs.Spelling.{ANumber, AVariable, ARecord, Token, 
 use Rattle.session_language.specs.Grammar.{IsExpr}
 use Rattle.session_language.specs.Phrase.{Phrase, expression_symbol}
 use Rattle.session_language.specs.Form.{Lets, Sets, Gives, Demands, Asks, Repeats, Form, Opens, Says, Otherwise, Closes, comparison_of, form_of}
-use Rattle.session_language.specs.Limits.{codes_end, most_turns}
+use Rattle.session_programs.specs.Limits.{codes_end, most_turns}
 
 -- the pieces of an expression, and its tokens: NUMBER, NAME, read NAME, and signs
 pub data AreTokens : List Piece → List Token → Type 0 where
@@ -44,5 +44,6 @@ pub record IsReadAs (ps : List Piece) (f : Form) : Type 0 where
   pub read : IsForm ps f → form_of ps ≡ Some f
   pub is : form_of ps ≡ Some f → IsForm ps f
 
+-- so it is with every line
 abbrev pub ReadsTheForms : Type 0
 ReadsTheForms = (ps : List Piece) (f : Form) → IsReadAs ps f

@@ -47,5 +47,6 @@ pub record IsCutBy (line : List ℕ) (ps : List Piece) : Type 0 where
   pub cut : IsCut line ps → pieces_of line ≡ ps
   pub pieces : pieces_of line ≡ ps → IsCut line ps
 
+-- the lexer cuts every line so
 abbrev pub CutsTheLongest : Type 0
 CutsTheLongest = (line : List ℕ) (ps : List Piece) → IsCutBy line ps

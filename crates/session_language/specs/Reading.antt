@@ -13,12 +13,13 @@ use Rattle.session_meaning.specs.refinement.TreeOfStatements.{block_from}
 use Rattle.session_meaning.specs.ProgramValue.{ProgramValue}
 use Rattle.session_language.specs.Names.{Scope, placed, record_of, knows_variables, knows_records}
 use Rattle.session_meaning.specs.Needs.{with_record, term_needs, test_needs}
-use Rattle.session_meaning.specs.Measures.{block_statements, block_cost, block_gives}
-use Rattle.session_language.specs.Text.{session_text, wide_words}
+use Rattle.session_meaning.specs.Measures.{block_gives}
+use Rattle.session_programs.specs.Program.{is_too_long}
 use Rattle.session_language.specs.declared.keyword.Keyword.{Keyword}
 use Rattle.session_language.specs.Lexer.{Piece, pieces_of}
 use Rattle.session_language.specs.Form.{Said, Lets, Sets, Gives, Demands, Asks, Repeats, Form, Opens, Says, Otherwise, Closes, form_of, form_after}
-use Rattle.session_language.specs.Limits.{most_depth, most_blocks, most_records, most_variables, most_statements, most_cost, most_bytes, most_gives, most_sessions, most_text}
+use Rattle.session_language.specs.Limits.{most_sessions, most_text}
+use Rattle.session_programs.specs.Limits.{most_depth, most_blocks, most_records, most_variables, most_gives}
 
 -- how an open block begins: an `if` before its `else`, or after it, with its first part, or a `repeat`
 pub data Head : Type 0 where
@@ -183,10 +184,6 @@ with_end d b outer = record { office = d.office; variables = d.variables; named 
 
 abbrev pub program_of : Draft → ProgramValue
 program_of d = record { office = d.office; variables = d.variables; body = block_from d.body }
-
--- past one of the limits of a session's length
-abbrev pub is_too_long : ProgramValue → Bool
-is_too_long p = (nat_lt most_statements (block_statements p.body) || nat_lt most_cost (block_cost p.body)) || nat_lt most_bytes (length (session_text (wide_words p.variables) p.body))
 
 -- a session that is closed, all blocks of which have ended
 abbrev pub closed : Draft → Result ProgramValue SessionRule

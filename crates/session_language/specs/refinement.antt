@@ -2,6 +2,5 @@ pub mod ResolvedStatements
 pub mod ReaderRefinement
 pub mod PostfixBuilder
 pub mod UniqueProofs
-pub mod TextSizes
 pub mod KeptDraft
 pub mod PartsRefinement

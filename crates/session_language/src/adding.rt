@@ -7,7 +7,7 @@ ghost use Rattle.session_language.specs.refinement.PartsRefinement.{parts_of, wi
 ghost use Rattle.session_language.specs.refinement.ReaderRefinement.{Stops};
 ghost use Rattle.bottle_values.specs.Memory.{UnlessMemory};
 ghost use Rattle.session_language.specs.Reading.{add, place_of, with_variable, with_line, opens_block, named_after};
-ghost use Rattle.session_language.specs.Limits.{most_variables};
+ghost use Rattle.session_programs.specs.Limits.{most_variables};
 
 use crate::fault::{SessionRule, Stop};
 use crate::limits::{MOST_BLOCKS, MOST_RECORDS, MOST_VARIABLES};

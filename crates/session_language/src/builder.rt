@@ -54,6 +54,10 @@ pub enum Stage {
 
 /// An expression so far: the open parentheses, and the nodes whose operators have come. Depths are
 /// exact up to 32, and 33 past it. With it, where variables were found last.
+///
+/// So depths are bytes. Open parentheses are kept, each with the sum and the product around it: a line with a million
+/// of them needs 19 MB, which is within what a text of its length may need, since whether they are closed again is
+/// known at its end.
 #[derive(Drop)]
 pub struct Builder {
     pub outer: Vec<Level>,
@@ -108,11 +112,7 @@ impl Builder {
     {
         self.outer.clear();
         self.nodes.clear();
-        self.stage = Stage::Wants(Level {
-            sum: Sum::Nothing,
-            product: None,
-            minuses: 0,
-        });
+        self.stage = Stage::Wants(after_sign(Sum::Nothing));
     }
 
     /// The expression ends: how deep it is. None where it may not end.

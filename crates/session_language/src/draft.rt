@@ -9,17 +9,20 @@ use crate::builder::Builder;
 use crate::fault::{SessionRule, Stop};
 use crate::keyword::Keyword;
 use crate::lexer::Pieces;
-use crate::limits::{MOST_BYTES, MOST_COST, MOST_GIVES, MOST_STATEMENTS, SHORT_EXTENT};
+use crate::limits::MOST_GIVES;
 use crate::parts::Parts;
-use crate::program::Program;
 use crate::scope::Scope;
-use crate::sizes::session_size;
 use crate::spoken::{Spoken, speak};
 use office_map::{OfficeId, Plan};
-use session_meaning::measures::{block_cost, block_extent, block_gives, block_statements};
-use std::alloc::{AllocError, Global};
+use session_meaning::measures::block_gives;
+use session_programs::{Program, are_too_long};
+use std::alloc::Global;
 
 /// A session that is open, after each of its lines.
+///
+/// What holds of a program holds of a session that is open (`IsKept`): its statements so far, in all the blocks that
+/// are open, are over the variables so far. A `let` in a block counts for every later line of the session, so the
+/// variables that are known after a block are those that are known after its last line, whether that part runs or not.
 #[derive(Drop)]
 pub(crate) struct Draft {
     pub parts: Parts,
@@ -34,12 +37,12 @@ pub(crate) enum Ended {
 }
 
 impl Draft {
-    ghost use Rattle.std.specs.Prelude.{◌≡◌, [], IfOk, vec_len};
+    ghost use Rattle.std.specs.Prelude.{◌≡◌, [], vec_len};
     ghost use Rattle.session_language.specs.refinement.ResolvedStatements.{seen_spoken};
     ghost use Rattle.session_language.specs.refinement.ReaderRefinement.{draft_of, ended_of, Stops, with_statement};
     ghost use Rattle.bottle_values.specs.Memory.{UnlessMemory};
-    ghost use Rattle.session_language.specs.Reading.{begun, add, turned_in, ended, closed, program_of, is_too_long};
-    ghost use Rattle.session_language.specs.WellFormed.{IsSpokenOver};
+    ghost use Rattle.session_language.specs.Reading.{begun, add, turned_in, ended, closed};
+    ghost use Rattle.session_language.specs.refinement.KeptDraft.{IsSpokenOver};
     ghost use Rattle.session_language.specs.Lexer.{pieces_of};
 
     /// A session with nothing in it yet.
@@ -54,6 +57,9 @@ impl Draft {
 
     /// Adds the first line of a statement, if the session stays within its limits. Where it is refused, nothing is left
     /// of the session.
+    ///
+    /// What the session needs and declares has to hold of it whenever a call returns, and nobody reads on after a
+    /// refusal.
     pub fn add(&mut self, alloc: Global, spoken: Spoken<'_>) -> Result<(), Stop>
         requires { IsSpokenOver (vec_len self.old.parts.variables) (seen_spoken spoken) }
         ensures { UnlessMemory (λ _. draft_of self.new) Stops result (add (draft_of self.old) (seen_spoken spoken.entry)) }
@@ -114,29 +120,20 @@ impl Draft {
         requires { (draft_of self).outer ≡ [] }
         ensures { UnlessMemory (λ p. p) Stops result (closed (draft_of self)) }
     {
-        if self.is_too_long(alloc)? {
+        if are_too_long(alloc, &self.parts.variables, &self.parts.statements)? {
             return Err(Stop::Refused(SessionRule::TooLong));
         }
         if block_gives(&self.parts.statements) > MOST_GIVES {
             return Err(Stop::Refused(SessionRule::TooManyGives));
         }
-        Ok(Program::of(alloc, self)?)
-    }
-
-    fn is_too_long(&self, alloc: Global) -> Result<bool, AllocError>
-        requires { (draft_of self.now).outer ≡ [] }
-        ensures { IfOk result (λ b. b ≡ is_too_long (program_of (draft_of self.now))) }
-    {
-        let statements = &self.parts.statements;
-        if block_statements(statements) > MOST_STATEMENTS {
-            return Ok(true);
-        }
-        if block_cost(statements) > MOST_COST {
-            return Ok(true);
-        }
-        if block_extent(statements) <= SHORT_EXTENT {
-            return Ok(false);
-        }
-        Ok(session_size(alloc, &self.parts.variables, statements)? > MOST_BYTES)
+        let Draft { parts } = self;
+        let Parts {
+            office,
+            variables,
+            needs,
+            outer: _,
+            statements,
+        } = parts;
+        Ok(Program::of(alloc, office, variables, needs, statements)?)
     }
 }

@@ -8,6 +8,10 @@ use crate::names::position_of;
 
 /// For names of each key, where the last one stood that was found. A place may be of another list by now: it is only
 /// where to look first.
+///
+/// There is a place for each of 64 keys. It is believed only where the name stands there, and since a session's
+/// variables differ, that is the name's place. A table that is always right would be one more thing to keep through
+/// each refusal.
 #[derive(Clone, Copy)]
 pub struct Guesses {
     last: [u8; 64],

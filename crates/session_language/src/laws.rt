@@ -1,8 +1,14 @@
 //! Laws of the definitions that the contracts cite.
 
+ghost use Rattle.std.specs.Prelude.{◌≡◌, ◌∷◌, [], Ok, IsTrue};
+ghost use Rattle.session_programs.specs.Program.{fits, text_under};
+ghost use Rattle.session_language.specs.Reading.{sessions_of};
 ghost use Rattle.session_language.specs.LongestMatch.{CutsTheLongest};
 ghost use Rattle.session_language.specs.LineGrammar.{ReadsTheForms};
 ghost use Rattle.session_language.specs.Laws.{ReadsInOrder, RefusesALine, ReadsTheGrammar, IsUnambiguous};
+
+use office_map::Plan;
+use session_programs::Program;
 
 /// Reading accepts all lines, one after the other, or stops at the first that is refused.
 pub fn reads_in_order()
@@ -34,3 +40,13 @@ pub fn reads_the_grammar()
 pub fn expressions_are_unambiguous()
     ensures { IsUnambiguous }
 {}
+
+/// A program's canonical text under a plan that it fits means that program, and nothing else.
+pub fn reads_back(program: &Program, plan: &Plan)
+    requires { IsTrue (fits plan.now program.now) }
+    ensures { sessions_of plan.now (text_under plan.now program.now) ≡ Ok (program.now ∷ []) }
+{
+    // The program is well formed, and the plan is consistent.
+    let _ = program.tree();
+    let _ = plan.offices();
+}

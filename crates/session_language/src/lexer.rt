@@ -9,7 +9,7 @@ use crate::token::{Next, Operand, Token, expression_symbol, is_read, operand_in}
 use text_lines::name;
 
 /// A symbol of the language.
-#[derive(Clone, Copy, Debug, PartialEq, Eq)]
+#[derive(Clone, Copy, PartialEq, Eq)]
 pub enum Symbol {
     Assign,
     Equal,
@@ -26,7 +26,10 @@ pub enum Symbol {
 }
 
 /// A run of letters, digits and `_`, a symbol, or a byte that begins neither.
-#[derive(Clone, Copy, Debug)]
+///
+/// A byte that begins neither is a piece too (`AStray`), and no form has one. So the lexer is total, and a faulty line
+/// needs no case of its own.
+#[derive(Clone, Copy)]
 pub enum Piece<'a> {
     Word(&'a [u8]),
     Symbol(Symbol),

@@ -31,6 +31,10 @@ pub(crate) struct OpenBlock {
 
 /// The office of a session, its variables, the records that it needs so far, the blocks that are
 /// open, the innermost last, and the statements so far of the innermost.
+///
+/// A block becomes a statement at its `end`: nothing recurs over the text, and no statement is moved again but with its
+/// whole list. A session has a tree only once it is closed, so its measures are taken then, and a limit of them is told
+/// at its closing `end`.
 #[derive(Drop)]
 pub(crate) struct Parts {
     pub office: OfficeId,

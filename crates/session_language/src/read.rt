@@ -2,7 +2,7 @@
 
 ghost use Rattle.std.specs.Prelude.{◌≡◌, ◌<◌, ◌≤◌, ◌+◌, ◌^◌, length, IfOk, IsTrue, All};
 ghost use Rattle.session_language.specs.Limits.{most_text, most_sessions};
-ghost use Rattle.session_language.specs.Program.{fits};
+ghost use Rattle.session_programs.specs.Program.{fits};
 ghost use Rattle.text_lines.specs.Text.{lines, statements_from};
 ghost use Rattle.session_language.specs.Reading.{sessions_of, read_lines, at_line, take_line};
 ghost use Rattle.session_language.specs.refinement.ReaderRefinement.{reading_of, Fails};
@@ -10,9 +10,9 @@ ghost use Rattle.bottle_values.specs.Memory.{UnlessMemory};
 
 use crate::fault::{LangFault, SessionRefusal, SessionRule, Stop};
 use crate::limits::TEXT_LIMIT;
-use crate::program::Program;
 use crate::reader::Reader;
 use office_map::Plan;
+use session_programs::Program;
 use std::alloc::Global;
 use text_lines::{Statements, first_line};
 

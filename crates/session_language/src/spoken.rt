@@ -6,7 +6,7 @@ ghost use Rattle.session_language.specs.refinement.ReaderRefinement.{Stops};
 ghost use Rattle.session_language.specs.Lexer.{pieces_of, AWord};
 ghost use Rattle.session_language.specs.Names.{scope_of};
 ghost use Rattle.session_language.specs.Names as names;
-ghost use Rattle.session_language.specs.Reading.{SpeaksDemand, SpeaksIf};
+ghost use Rattle.session_meaning.specs.refinement.TreeOfStatements.{test_of};
 ghost use Rattle.session_language.specs.Form.{phrase_alone, assigned, else_code, count_alone, comparison_of};
 ghost use Rattle.session_language.specs.refinement.ResolvedStatements.{ReadsAlone, ReadsAssigned, seen_spoken, spoken_after, judged};
 
@@ -179,24 +179,25 @@ fn speak_require<'a>(
     };
     judge(first.and(second))?;
     let right = builder.expression(alloc)?;
-    Ok(required(alloc, left, comparison, right, code)?)
+    let condition = compared(alloc, left, comparison, right)?;
+    Ok(Spoken::Require(condition, code))
 }
 
-fn required<'a>(
+/// A condition, in memory of its own.
+fn compared(
     alloc: Global,
     left: Expression,
     comparison: Comparison,
     right: Expression,
-    code: u16,
-) -> Result<Spoken<'a>, AllocError>
-    ensures { IfOk result (λ x. seen_spoken x ≡ SpeaksDemand (record { left = left; comparison = comparison; right = right }) code) }
+) -> Result<Box<Condition>, AllocError>
+    ensures { IfOk result (λ c. test_of c.value ≡ record { left = left; comparison = comparison; right = right }) }
 {
     let condition = Condition {
         left,
         comparison,
         right,
     };
-    Ok(Spoken::Require(Box::new(alloc, condition)?, code))
+    Ok(Box::new(alloc, condition)?)
 }
 
 #[tactic(auto, using(crate::proofs::session_reading::ResolveNames::is_postfix, crate::proofs::session_reading::ResolveNames::its_tree))]
@@ -222,23 +223,8 @@ fn speak_if<'a>(
     };
     judge(first.and(second))?;
     let right = builder.expression(alloc)?;
-    Ok(asked(alloc, left, comparison, right)?)
-}
-
-fn asked<'a>(
-    alloc: Global,
-    left: Expression,
-    comparison: Comparison,
-    right: Expression,
-) -> Result<Spoken<'a>, AllocError>
-    ensures { IfOk result (λ x. seen_spoken x ≡ SpeaksIf (record { left = left; comparison = comparison; right = right })) }
-{
-    let condition = Condition {
-        left,
-        comparison,
-        right,
-    };
-    Ok(Spoken::If(Box::new(alloc, condition)?))
+    let condition = compared(alloc, left, comparison, right)?;
+    Ok(Spoken::If(condition))
 }
 
 fn speak_repeat<'a>(pieces: Pieces<'a>) -> Result<Spoken<'a>, Stop>

@@ -1,12 +1,12 @@
-pub mod CodeStands
-pub mod EmittedCodeStands
-pub mod NodesOfTerm
-pub mod ClosedCode
-pub mod NearRecords
-pub mod ExpressionDepth
-pub mod RunsMeaning
-pub mod EndsAtLength
-pub mod WorkInPieces
-pub mod ProgramsHaveRoom
-pub mod InstructionCounts
-pub mod WorkPhases
+mod CodeStands
+mod EmittedCodeStands
+mod NodesOfTerm
+mod ClosedCode
+mod NearRecords
+mod ExpressionDepth
+mod RunsMeaning
+mod EndsAtLength
+mod WorkInPieces
+mod ProgramsHaveRoom
+mod InstructionCounts
+mod WorkPhases

@@ -9,6 +9,15 @@
 //!   `specs/Pieces.antt`, over the clauses `code`, `begun`, `piece` and `shown`. A caller that keeps what its work is
 //!   (`work_of`) has the same from the clauses `work`, `progress` and `ending` of each call.
 //! - What code and machine are is in `specs/refinement`: `Emission.antt` and `Instructions.antt`.
+//!
+//! An office that gives each of its sessions some instructions at a time can stop between any two of them, and that
+//! changes nothing. What a session keeps, its working copy of the records and its variables, is a type of
+//! `session_meaning`, as for `serial_replay`; neither crate knows the other, and both end as `alone` says.
+//!
+//! Not said: how long an instruction takes on a machine, and anything of a step with the code of another program. The
+//! law asks for room (`HasRoom`), which `Code::of` tells of every program (clause `room`). That a step takes no memory
+//! isn't a clause: [`Work::step`] has no allocator and no answer for want of memory, and its contract holds in every
+//! case.
 #![tactic(auto)]
 
 mod code;

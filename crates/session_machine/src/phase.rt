@@ -5,7 +5,7 @@ use crate::ended::ended;
 use crate::machine::tick_all;
 use crate::progress::Progress;
 use crate::state::State;
-use session_language::{End, Ending, RecordValues};
+use session_meaning::{End, Ending, RecordValues};
 use std::alloc::Global;
 use std::mem;
 

@@ -1,7 +1,7 @@
 //! How far work is.
 
 /// Whether a session's work goes on.
-#[derive(Clone, Copy, Debug, PartialEq, Eq)]
+#[derive(Clone, Copy, PartialEq, Eq)]
 pub enum Progress {
     Running,
     Ended,

@@ -14,11 +14,14 @@ use crate::code::Code;
 use crate::machine::opened;
 use crate::phase::Phase;
 use crate::progress::Progress;
-use session_language::{Ending, RecordValues};
+use session_meaning::{Ending, RecordValues};
 use std::alloc::{AllocError, Global};
 use std::marker::Model;
 
 /// Work on a session.
+///
+/// It is opaque to callers (`work_of`): a caller keeps the fact that its work is the program's work on these reads
+/// after so many instructions, and each call says what becomes of that.
 #[derive(Drop)]
 pub struct Work {
     alloc: Global,
@@ -50,6 +53,8 @@ impl Work {
     }
 
     /// Does n instructions of the code that the work began with, or as many as there are.
+    ///
+    /// A piece of work that ended is no error: it answers `Ended` again and changes nothing.
     pub fn step(&mut self, code: &Code, n: u32) -> Progress
         ensures piece { self.new ≡ piece code.now n self.old }
         ensures told { result ≡ progress_by (ending_in self.new) }

@@ -1,8 +1,7 @@
-pub mod TreeErasure
-pub mod PostfixSplit
-pub mod PostfixNeeds
-pub mod SortedNeeds
-pub mod EndingLaws
-pub mod WorkedExamples
-pub mod session_measures
-pub mod working_copies
+mod PostfixSplit
+mod PostfixNeeds
+mod SortedNeeds
+mod EndingLaws
+mod WorkedExamples
+mod session_measures
+mod working_copies

@@ -53,6 +53,7 @@ abbrev mutual
   block_length Nothing d = 0
   block_length (Then c rest) d = command_length c d + if_goes (command c d) (block_length rest)
 
--- of a program that begins with these reads
+-- How much a program does that begins with these reads: 1 for each node that is worked out, each statement, each turn
+-- of a `repeat` and one more after its last, and the end.
 unfoldable pub length_on : ProgramValue → List (ℕ × Value) → ℕ
 length_on p reads = block_length p.body (begun p reads) + if_goes (block p.body (begun p reads)) (λ d. 1)

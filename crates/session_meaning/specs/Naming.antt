@@ -24,6 +24,7 @@ abbrev mutual
   Names r (Choice t a b) = (TestReads r t ⊎ BlockNames r a) ⊎ BlockNames r b
   Names r (Loop n b) = BlockNames r b
 
+  -- some statement of these reads this record or sets it
   pub BlockNames : ℕ → Block → Type 0
   BlockNames r Nothing = ⊥
   BlockNames r (Then c rest) = Names r c ⊎ BlockNames r rest

@@ -4,11 +4,12 @@ use Rattle.session_meaning.specs.declared.node.Node.{Node}
 use Rattle.session_meaning.specs.declared.node.Node.TheVariants.{Literal, Variable, Read, Negate, Apply}
 use Rattle.session_meaning.specs.Tree.{Term, Constant, Var, ReadOf, Neg, Bin, Test, Command, LetVar, SetTo, GiveOf, Requires, When, Choice, Loop, Block, Nothing, Then}
 
--- one more record in a list in order
+-- a list in order with one more record in its place, unless it is there
 abbrev pub with_record : ℕ → List ℕ → List ℕ
 with_record r [] = r ∷ []
 with_record r (s ∷ rest) = if nat_lt r s then r ∷ s ∷ rest else if r == s then s ∷ rest else s ∷ with_record r rest
 
+-- and with those that an expression reads
 abbrev pub term_needs : Term → List ℕ → List ℕ
 term_needs (Constant v) rs = rs
 term_needs (Var k) rs = rs
@@ -33,6 +34,7 @@ abbrev mutual
   block_needs Nothing rs = rs
   block_needs (Then c rest) rs = block_needs rest (command_needs c rs)
 
+-- the records that statements need, one statement after another
 abbrev pub needs_of : Block → List ℕ
 needs_of b = block_needs b []
 

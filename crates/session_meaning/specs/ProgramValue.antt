@@ -3,6 +3,7 @@
 use Rattle.std.specs.Prelude.{ℕ, List}
 use Rattle.session_meaning.specs.Tree.{Block}
 
+-- the number of its office, the names of its variables, and its statements as a tree
 pub record ProgramValue : Type 0 where
   pub office : ℕ
   pub variables : List (List ℕ)

@@ -110,5 +110,6 @@ pub record IsCounted (p : ProgramValue) (reads : List (ℕ × Value)) : Type 0 w
   pub takes : Takes (length_on p reads) (start p reads) (Over (block p.body (begun p reads)))
   pub no_other : (n : ℕ) (s : Step) → Takes n (start p reads) (Over s) → n ≡ length_on p reads
 
+-- so it is of every session, whatever it reads
 abbrev pub LengthCountsSteps : Type 0
 LengthCountsSteps = (p : ProgramValue) (reads : List (ℕ × Value)) → IsCounted p reads

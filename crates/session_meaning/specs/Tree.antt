@@ -4,7 +4,8 @@ use Rattle.bottle_values.specs.Values.{Value}
 use Rattle.session_meaning.specs.declared.node.Operator.{Operator}
 use Rattle.session_meaning.specs.declared.node.Comparison.{Comparison}
 
--- an expression; a variable goes by its place in the session's list of variables
+-- An expression as a tree: a constant, a variable by its place in the session's list of variables, a record that is
+-- read, a minus, or an operator over two.
 pub data Term : Type 0 where
   Constant : (v : Value) → Term
   Var : (place : ℕ) → Term

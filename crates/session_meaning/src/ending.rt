@@ -31,7 +31,7 @@ impl End {
 }
 
 /// Values of records, in order of number. Contracts see the list.
-#[derive(Debug, Drop)]
+#[derive(Drop)]
 pub struct RecordValues {
     records: Vec<(RecordId, Value)>,
 }
@@ -89,7 +89,7 @@ impl RecordValues {
 }
 
 /// The values that a session gave, in order. Contracts see the list.
-#[derive(Debug, Drop)]
+#[derive(Drop)]
 pub struct Gives {
     values: Vec<Value>,
 }
@@ -147,7 +147,7 @@ impl Gives {
 }
 
 /// How a session ended, what it read, what it wrote, and what it gave.
-#[derive(Debug, Drop)]
+#[derive(Drop)]
 pub struct Ending {
     pub end: End,
     pub reads: RecordValues,
@@ -170,7 +170,7 @@ impl Ending {
 }
 
 /// A finished session: its office, its ticket there, and how it ended.
-#[derive(Debug, Drop)]
+#[derive(Drop)]
 pub struct Outcome {
     pub office: OfficeId,
     pub ticket: u32,

@@ -9,13 +9,19 @@ use std::alloc::{AllocError, Global};
 use std::marker::Model;
 
 /// An expression: its nodes in postfix order. Contracts see its tree.
-#[derive(Debug, Drop)]
+///
+/// A tree of boxes would deepen the call stack with the text and cost an allocation for each node. A list of nodes is
+/// read in one pass and worked out on a stack; contracts still see the tree (`Term`), through `postfix`.
+#[derive(Drop)]
 pub struct Expression {
     nodes: Nodes,
 }
 
 /// One node stands in its place, and several in memory of their own.
-#[derive(Debug, Drop)]
+///
+/// Most statements of a ledger give, set or let one value: a list for each of them would take and give back memory for
+/// 16 bytes.
+#[derive(Drop)]
 pub(crate) enum Nodes {
     One([Node; 1]),
     Several(Vec<Node>),

@@ -12,6 +12,11 @@
 //! - [`laws`]: a session writes only what it needs, tells what it read, needs just the records that it names, and takes
 //!   as many steps as its length, which is at most its cost and 1.
 //! - Expressions are kept in postfix order (`specs/refinement/Postfix.antt`); [`operands`] takes them apart.
+//!
+//! It stands below the language: what a session does alone, how long that takes and what it costs needs a tree and no
+//! text. So what works a session out, or proves something of it, stands on this crate.
+//!
+//! Not said: what one count of a length takes on a machine.
 #![tactic(auto)]
 
 mod ending;

@@ -48,7 +48,7 @@ pub fn block_cost(statements: &[Statement]) -> u32
 }
 
 #[cycle(cost)]
-#[tactic(auto, using(crate::proofs::TreeErasure::row_block_is, crate::proofs::session_measures::Saturation::capped_turns))]
+#[tactic(auto, using(crate::specs::refinement::RowLaws::row_block_is, crate::proofs::session_measures::Saturation::capped_turns))]
 fn cost(statement: &Statement) -> u32
     ensures { result ≡ min 10001 (cost (command_of statement.now)) }
 {

@@ -4,7 +4,7 @@ use bottle_values::{Value, ValueFault};
 use office_map::RecordId;
 
 /// An operator between two operands.
-#[derive(Clone, Copy, Debug, PartialEq, Eq)]
+#[derive(Clone, Copy, PartialEq, Eq)]
 pub enum Operator {
     Plus,
     Minus,
@@ -28,7 +28,7 @@ impl Operator {
 }
 
 /// A comparison of two operands.
-#[derive(Clone, Copy, Debug, PartialEq, Eq)]
+#[derive(Clone, Copy, PartialEq, Eq)]
 pub enum Comparison {
     Equal,
     NotEqual,
@@ -58,7 +58,7 @@ impl Comparison {
 }
 
 /// A part of an expression in postfix order: an operand, or an operator that follows its operands.
-#[derive(Clone, Copy, Debug, PartialEq, Eq)]
+#[derive(Clone, Copy, PartialEq, Eq)]
 pub enum Node {
     Literal(Value),
     /// A variable goes by its place in the session's list of variables.

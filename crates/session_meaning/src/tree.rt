@@ -5,7 +5,7 @@ use crate::node::Comparison;
 use office_map::RecordId;
 
 /// Two expressions that are compared.
-#[derive(Debug, Drop)]
+#[derive(Drop)]
 pub struct Condition {
     pub left: Expression,
     pub comparison: Comparison,
@@ -13,7 +13,7 @@ pub struct Condition {
 }
 
 /// A statement, with the blocks that it holds.
-#[derive(Debug, Drop)]
+#[derive(Drop)]
 pub enum Statement {
     Let(u8, Expression),
     Set(RecordId, Expression),

@@ -5,7 +5,7 @@ use std::alloc::{AllocError, Global};
 use std::marker::Model;
 
 /// The values of a session's variables, by place. Contracts see the list.
-#[derive(Debug, Drop)]
+#[derive(Drop)]
 pub struct Variables {
     values: Vec<Value>,
 }

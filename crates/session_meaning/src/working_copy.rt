@@ -9,7 +9,11 @@ use std::marker::Model;
 
 /// A session's working copy of the records that it needs, with the memory that its writes need. Contracts see the list
 /// of its slots. Where the records are in order of number, one is found by halving.
-#[derive(Debug, Drop)]
+///
+/// Where they aren't in order it is looked for one after another. So nothing is asked of the list of reads: what is
+/// said of a session holds for every list, in whatever order. The walk and the machine keep the same copy and the same
+/// variables, and share operators and comparisons; how each works an expression out is its own.
+#[derive(Drop)]
 pub struct WorkingCopy {
     slots: Vec<Slot>,
     is_sorted: bool,

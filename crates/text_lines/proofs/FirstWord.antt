@@ -7,7 +7,7 @@ use Rattle.std.proofs.lemmas.List.Splits.{slice_split-cons_yes}
 use Rattle.std.proofs.lemmas.List.Sums.{passes_at_first, position_or_len_is, fails_before_first, prefix_len-le-length}
 use Rattle.std.proofs.lemmas.Bool.{cases_lt}
 use Rattle.text_lines.specs.Text.{is_blank, words_of}
-use Rattle.text_lines.proofs.FirstLine.{cut_there, cut_nowhere}
+use Rattle.text_lines.specs.TextLaws.{cut_there, cut_nowhere}
 
 -- those of the parts that are words
 abbrev words : List (List ℕ) → List (List ℕ)

@@ -1,4 +1,4 @@
-pub mod Digits
-pub mod FirstLine
-pub mod FirstWord
-pub mod AsciiNames
+mod Digits
+mod FirstLine
+mod FirstWord
+mod AsciiNames

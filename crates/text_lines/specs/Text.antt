@@ -32,12 +32,13 @@ is_name_byte b = is_ascii_alphanumeric b || b == 95
 abbrev pub most_letters : ℕ
 most_letters = 16
 
--- a letter, then at most 15 letters, digits or _, and no keyword
+-- a NAME: a letter, then at most 15 letters, digits or _, and no keyword
 abbrev pub is_name : List ℕ → Bool
 is_name [] = false
 is_name (first ∷ rest) =
     (is_ascii_alphabetic first && nat_le (length (first ∷ rest)) most_letters) && (list_all is_name_byte (first ∷ rest) && not (is_keyword (first ∷ rest)))
 
+-- a word as a NAME, if it is one
 abbrev pub name_of : List ℕ → Option (List ℕ)
 name_of word = if is_name word then Some word else None
 
@@ -45,12 +46,12 @@ name_of word = if is_name word then Some word else None
 abbrev pub decimal : List ℕ → ℕ
 decimal = fold (λ n b. 10 * n + (b - 48)) 0
 
--- one to nineteen digits, at most the largest i64
+-- the value of a NUMBER: one to nineteen digits, at most the largest i64
 abbrev pub number_of : List ℕ → Option ℕ
 number_of word =
     if (nat_lt 0 (length word) && nat_le (length word) 19) && (list_all is_ascii_digit word && nat_lt (decimal word) (2 ^ 63)) then Some (decimal word) else None
 
--- tab, and the bytes 20 to 7E
+-- the bytes that may stand in a line: tab, and the bytes 20 to 7E
 abbrev pub is_plain : ℕ → Bool
 is_plain b = b == 9 || (nat_le 32 b && nat_le b 126)
 

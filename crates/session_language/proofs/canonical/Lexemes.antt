@@ -10,6 +10,7 @@ use Rattle.std.proofs.lemmas.Slice.Eq.{bytes_eq-Decides}
 use Rattle.std.proofs.lemmas.Fmt.{decimal_by_steps, length-decimal-le}
 use Rattle.std.proofs.lemmas.List.Sums.{fold-append}
 use Rattle.std.proofs.lemmas.List.Folds.{list_all-append}
+use Rattle.bottle_values.specs.ListLaws.{all_weaker}
 use Rattle.text_lines.specs.Text.{is_name, is_name_byte, is_plain, is_keyword, name_of, number_of, decimal}
 use Rattle.session_language.specs.Phrase.{is_read, operand_in, or_variable}
 use Rattle.session_language.specs.Spelling.{ANumber, AVariable}
@@ -18,14 +19,6 @@ use Rattle.session_language.specs.Spelling.{ANumber, AVariable}
 pub record IsWord (w : List ℕ) : Type 0 where
   pub some : 0 < length w
   pub bytes : list_all is_name_byte w ≡ true
-
-pub all_weaker : (p q : ℕ → Bool) → ((b : ℕ) → p b ≡ true → q b ≡ true) → (bs : List ℕ) → list_all p bs ≡ true → list_all q bs ≡ true
-all_weaker p q h [] all = refl
-all_weaker p q h (b ∷ bs) all =
-    let parts = and_parts (p b) (list_all p bs) all in both_true (q b) (list_all q bs) (h b parts.0) (all_weaker p q h bs parts.1)
-  where
-    both_true : (x y : Bool) → x ≡ true → y ≡ true → (x && y) ≡ true
-    both_true x y e f = ap (λ z. z && y) e ∙ f
 
 -- numbers
 digit_is : (k : ℕ) → k < 10 → is_ascii_digit (48 + k) ≡ true

@@ -8,8 +8,8 @@ use Rattle.std.specs.Fmt as fmt
 use Rattle.text_lines.specs.Text.{is_blank, is_name, is_name_byte}
 use Rattle.bottle_values.specs.Values.{Value, Number}
 use Rattle.session_meaning.specs.declared.node.Operator.TheVariants as op
-use Rattle.session_language.specs.declared.rank.Rank.{Rank}
-use Rattle.session_language.specs.declared.rank.Rank.TheVariants.{Factor, Product, Sum}
+use Rattle.session_programs.specs.declared.rank.Rank.{Rank}
+use Rattle.session_programs.specs.declared.rank.Rank.TheVariants.{Factor, Product, Sum}
 use Rattle.session_language.specs.declared.lexer.Symbol.{Symbol}
 use Rattle.session_language.specs.declared.lexer.Symbol.TheVariants as symbol
 use Rattle.session_meaning.specs.Tree.{Term, Constant, Var, ReadOf, Neg, Bin}
@@ -17,8 +17,8 @@ use Rattle.session_language.specs.Spelling.{Operand, ANumber, AVariable, ARecord
 use Rattle.session_language.specs.Lexer.{Piece, AWord, ASymbol, word_len, begins_equals, two_bytes, long_symbol, symbol_at, piece_at, pieces_of}
 use Rattle.session_language.specs.Phrase.{Run, run, stop_at, with_token, with_operand, with_record, operand_in, is_read, phrase_of, phrase_in, phrase_at}
 use Rattle.session_language.specs.Parse.{read_part}
-use Rattle.session_language.specs.Text.{Words, literal, variable_name, read_text, in_parentheses, factor_text, product_text, rank_of, term_text}
-use Rattle.session_language.specs.WellFormed.{IsLiteral, IsOver, depth}
+use Rattle.session_programs.specs.Text.{Words, literal, variable_name, read_text, in_parentheses, factor_text, product_text, rank_of, term_text}
+use Rattle.session_programs.specs.WellFormed.{IsLiteral, IsOver, depth}
 use Rattle.session_language.proofs.Pieces.{pieces_of-blank, pieces_of-piece}
 use Rattle.session_language.proofs.canonical.Lexemes.{IsWord, number_is_word, number_operand, name_bytes, name_operand, name_again}
 use Rattle.session_language.proofs.canonical.Tokens.{enclose, factor_tokens, product_tokens, tokens, said, spelled, phrase, is_spelled}

@@ -12,8 +12,8 @@ use Rattle.session_meaning.specs.Tree.{Term, Command, LetVar, SetTo, GiveOf, Req
 use Rattle.session_language.specs.Lexer.{Piece, AWord, ASymbol, pieces_of}
 use Rattle.session_language.specs.Phrase.{Phrase, run, stop_at, phrase_at}
 use Rattle.session_language.specs.Form.{Lets, Sets, Gives, Demands, Asks, Repeats, Opens, Says, Otherwise, Closes, form_of, name_alone, ends_there, phrase_alone, if_named, assigned, small_code, else_code, few_turns, count_alone, comparison_of, demand, question, compared, after_left, condition}
-use Rattle.session_language.specs.Text.{Words, variable_name, term_text, test_text, comparison_text, let_text, set_text, require_text}
-use Rattle.session_language.specs.WellFormed.{IsExpressionOver, IsTestOver, IsStatementOver}
+use Rattle.session_programs.specs.Text.{Words, variable_name, term_text, test_text, comparison_text, let_text, set_text, require_text}
+use Rattle.session_programs.specs.WellFormed.{IsExpressionOver, IsTestOver, IsStatementOver}
 use Rattle.session_language.proofs.Pieces.{pieces_of-nil, pieces_of-piece}
 use Rattle.session_language.proofs.canonical.Lexemes.{IsWord, number_is_word, number_again, name_bytes, name_again}
 use Rattle.session_language.proofs.canonical.Tokens.{phrase, tokens}

@@ -18,13 +18,13 @@ use Rattle.office_map.specs.Consistency.{IsConsistent}
 use Rattle.text_lines.specs.Text.{is_name}
 use Rattle.bottle_values.specs.Values.{Value, Number}
 use Rattle.session_meaning.specs.declared.node.Operator.TheVariants as op
-use Rattle.session_language.specs.declared.rank.Rank.{Rank}
-use Rattle.session_language.specs.declared.rank.Rank.TheVariants.{Factor, Product, Sum}
+use Rattle.session_programs.specs.declared.rank.Rank.{Rank}
+use Rattle.session_programs.specs.declared.rank.Rank.TheVariants.{Factor, Product, Sum}
 use Rattle.session_meaning.specs.Tree.{Term, Constant, Var, ReadOf, Neg, Bin}
 use Rattle.session_language.specs.Spelling.{AVariable, ARecord, Token, Leaf, Plus, Minus, Times, Open, Close}
 use Rattle.session_language.specs.Names.{Scope, variable_named, if_of_office, record_of, operand_of, placed, token_variable, token_record, knows_variables, knows_records}
-use Rattle.session_language.specs.Text.{Words, variable_name, rank_of}
-use Rattle.session_language.specs.WellFormed.{IsLiteral, IsOver}
+use Rattle.session_programs.specs.Text.{Words, variable_name, rank_of}
+use Rattle.session_programs.specs.WellFormed.{IsLiteral, IsOver}
 use Rattle.session_language.specs.Reading.{with_variable, place_of}
 use Rattle.session_language.proofs.canonical.Tokens.{enclose, factor_tokens, product_tokens, tokens, said, spelled}
 use Rattle.session_language.proofs.session_reading.ProgramsFit.{term_within}

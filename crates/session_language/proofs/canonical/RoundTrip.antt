@@ -1,5 +1,5 @@
 -- A program's canonical text means that program.
-use Rattle.std.proofs.Common.{◌≡◌, ◌<◌, ◌≤◌, ◌+◌, ◌&&◌, ℕ, List, [], ◌∷◌, ◌++◌, length, Bool, true, false, ◌||◌, nat_lt, nat_le, Some, None, option_map, unwrap_or, Result, Ok, Err, IfOk, codes, refl, sym, ap, ◌∙◌, append_assoc, arith}
+use Rattle.std.proofs.Common.{◌≡◌, ◌<◌, ◌≤◌, ◌+◌, ◌&&◌, ℕ, List, [], ◌∷◌, ◌++◌, length, Bool, true, false, ◌||◌, nat_lt, nat_le, Some, None, option_map, unwrap_or, Result, Ok, codes, refl, sym, ap, ◌∙◌, append_assoc, arith}
 use Rattle.std.specs.Prelude.{slice_get}
 use Rattle.std.specs.List.{list_all}
 use Rattle.std.specs.Option.{ok_or}
@@ -21,16 +21,17 @@ use Rattle.session_meaning.specs.ProgramValue.{ProgramValue}
 use Rattle.session_meaning.specs.refinement.TreeOfStatements.{block_from}
 use Rattle.session_meaning.specs.Needs.{test_needs, command_needs, block_needs, needs_of}
 use Rattle.session_meaning.specs.Measures.{block_statements, block_cost, block_gives}
-use Rattle.session_language.specs.Program.{fits, words_under, text_under}
-use Rattle.session_language.specs.Text.{Words, line, test_text, command_text, block_text, session_text, wide_words}
-use Rattle.session_language.specs.Reading.{Head, IfHead, ElseHead, RepeatHead, OpenBlock, Draft, Reading, program_of, is_too_long, closed, whole, Closed, begun, with_open, with_ended, take_line, take_formed, at_line, read_lines, nothing_read, all_closed, sessions_of}
-use Rattle.session_language.specs.WellFormed.{IsStatementOver, known_after, known_after_block, AreStatements, IsWellFormed}
+use Rattle.session_programs.specs.Program.{fits, words_under, text_under}
+use Rattle.session_programs.specs.Text.{Words, line, test_text, command_text, block_text, session_text, wide_words}
+use Rattle.session_language.specs.Reading.{Head, IfHead, ElseHead, RepeatHead, OpenBlock, Draft, Reading, program_of, closed, whole, Closed, begun, with_open, with_ended, take_line, take_formed, at_line, read_lines, nothing_read, all_closed, sessions_of}
+use Rattle.session_programs.specs.Program.{is_too_long}
+use Rattle.session_programs.specs.WellFormed.{IsStatementOver, known_after, known_after_block, AreStatements, IsWellFormed}
 use Rattle.session_language.proofs.canonical.NameResolution.{office_found, office_is_named}
 use Rattle.session_language.proofs.canonical.LineForms.{text_of, IsFirstOver, session_form, else_form, end_form}
 use Rattle.session_language.proofs.canonical.TextLines.{IsPlain, both_plain, name_plain, plainly, command_says, command_within, first_statement_is}
 use Rattle.session_language.proofs.canonical.NeededRecords.{with_command, with_block, block_longer}
 use Rattle.session_language.proofs.canonical.StatementRoundTrip.{own, draft, going, first_known, first_needs, first_done, opens, plain_line, line_retaken}
-use Rattle.session_language.proofs.session_measures.SizeBound.{text_is_short}
+use Rattle.session_language.proofs.canonical.SizeBound.{text_is_short}
 
 -- the statements of a block
 abbrev commands_of : Block → List Command
@@ -335,8 +336,3 @@ module _ (p : PlanValue) (ok : IsConsistent p) (x : ProgramValue) (good : IsWell
     reads_back = unfold sessions_of in
         ap (λ b. answered b (read_lines p nothing_read (statements (text_under p x)))) short
         ∙ ap (answered false) all_read
-
--- the same of a text that the code wrote
-pub read_again : {T E : Type 0} (bytes : T → List ℕ) (r : Result T E) (p : PlanValue) (x : ProgramValue) → IfOk r (λ t. bytes t ≡ text_under p x) → sessions_of p (text_under p x) ≡ Ok (x ∷ []) → IfOk r (λ t. sessions_of p (bytes t) ≡ Ok (x ∷ []))
-read_again bytes (Ok t) p x is again = ap (sessions_of p) is ∙ again
-read_again bytes (Err e) p x is again = tt

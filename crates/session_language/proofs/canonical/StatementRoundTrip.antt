@@ -11,13 +11,13 @@ use Rattle.session_language.specs.declared.fault.SessionRule.TheVariants.{Unknow
 use Rattle.session_meaning.specs.Tree.{Term, Test, Command, LetVar, SetTo, GiveOf, Requires, When, Choice, Loop}
 use Rattle.session_meaning.specs.ProgramValue.{ProgramValue}
 use Rattle.session_meaning.specs.Needs.{with_record, term_needs, test_needs}
-use Rattle.session_language.specs.Program.{words_under}
+use Rattle.session_programs.specs.Program.{words_under}
 use Rattle.session_language.specs.Lexer.{pieces_of}
 use Rattle.session_language.specs.Names.{Scope, variable_named, record_of, placed, knows_variables, knows_records}
 use Rattle.session_language.specs.Form.{Said, Lets, Sets, Gives, Demands, Asks, Repeats, Says, form_of}
-use Rattle.session_language.specs.Text.{Words, variable_name, term_text, test_text}
+use Rattle.session_programs.specs.Text.{Words, variable_name, term_text, test_text}
 use Rattle.session_language.specs.Reading.{IfHead, RepeatHead, OpenBlock, Draft, Reading, Spoken, SpeaksLet, SpeaksSet, SpeaksGive, SpeaksDemand, SpeaksIf, SpeaksRepeat, spoken_of, are_variables_known, are_records_known, is_too_deep, speak, with_variable, place_of, variables_after, named_after, with_command, with_block, with_line, with_names, opens_block, add, with_open, take_line, take_formed}
-use Rattle.session_language.specs.WellFormed.{depth, IsExpressionOver, IsTestOver, IsDeclared}
+use Rattle.session_programs.specs.WellFormed.{depth, IsExpressionOver, IsTestOver, IsDeclared}
 use Rattle.session_language.proofs.canonical.Tokens.{phrase, spelled, tokens}
 use Rattle.session_language.proofs.canonical.LexerRoundTrip.{Spells, term_spelled}
 use Rattle.session_language.proofs.canonical.NameResolution.{variable_found, let_again, let_next, record_word_is_name, record_word_found, placed_again, variables_known, records_known}

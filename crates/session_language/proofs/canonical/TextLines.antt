@@ -7,16 +7,16 @@ use Rattle.std.specs.Fmt as fmt
 use Rattle.std.specs.Str.Lines.{strip_carriage_return}
 use Rattle.std.proofs.lemmas.List.Folds.{list_all-append}
 use Rattle.text_lines.specs.Text.{is_newline, is_name, is_plain, lines, says_something, statements_from}
-use Rattle.text_lines.proofs.FirstLine.{lines_cut}
+use Rattle.text_lines.specs.TextLaws.{lines_cut}
 use Rattle.session_meaning.specs.declared.node.Operator.TheVariants as op
 use Rattle.session_meaning.specs.declared.node.Comparison.{Comparison}
 use Rattle.session_meaning.specs.declared.node.Comparison.TheVariants.{Equal, NotEqual, Less, AtMost, Greater, AtLeast}
-use Rattle.session_language.specs.declared.rank.Rank.{Rank}
-use Rattle.session_language.specs.declared.rank.Rank.TheVariants.{Factor, Product, Sum}
+use Rattle.session_programs.specs.declared.rank.Rank.{Rank}
+use Rattle.session_programs.specs.declared.rank.Rank.TheVariants.{Factor, Product, Sum}
 use Rattle.session_meaning.specs.Tree.{Term, Constant, Var, ReadOf, Neg, Bin, Test, Command, LetVar, SetTo, GiveOf, Requires, When, Choice, Loop}
 use Rattle.bottle_values.specs.Values.{Value, Number}
-use Rattle.session_language.specs.Text.{Words, literal, variable_name, in_parentheses, factor_text, product_text, rank_of, operator_text, comparison_text, term_text, test_text}
-use Rattle.session_language.specs.WellFormed.{IsLiteral, IsOver, IsTestOver}
+use Rattle.session_programs.specs.Text.{Words, literal, variable_name, in_parentheses, factor_text, product_text, rank_of, operator_text, comparison_text, term_text, test_text}
+use Rattle.session_programs.specs.WellFormed.{IsLiteral, IsOver, IsTestOver}
 use Rattle.session_language.proofs.canonical.Lexemes.{number_is_word, name_bytes, word_is_plain}
 use Rattle.session_language.proofs.session_reading.ProgramsFit.{term_within}
 use Rattle.session_language.proofs.canonical.LexerRoundTrip.{took}

@@ -2,15 +2,15 @@
 use Rattle.std.proofs.Common.{◌≤◌, ℕ, suc, List, [], ◌∷◌, ◌++◌, arith}
 use Rattle.bottle_values.specs.Values.{Value, Number}
 use Rattle.session_meaning.specs.declared.node.Operator.TheVariants as op
-use Rattle.session_language.specs.declared.rank.Rank.{Rank}
-use Rattle.session_language.specs.declared.rank.Rank.TheVariants.{Factor, Product, Sum}
+use Rattle.session_programs.specs.declared.rank.Rank.{Rank}
+use Rattle.session_programs.specs.declared.rank.Rank.TheVariants.{Factor, Product, Sum}
 use Rattle.session_meaning.specs.Tree.{Term, Constant, Var, ReadOf, Neg, Bin}
 use Rattle.session_language.specs.Spelling.{Operand, ANumber, AVariable, ARecord, Spelled, Plain, Negative, Binary, Token, Leaf, Plus, Minus, Times, Open, Close}
 use Rattle.session_language.specs.Grammar.{IsFactor, IsProduct, IsExpr, operand, negative, enclosed, one, star, alone, plus, minus}
 use Rattle.session_language.specs.Names.{Scope, placed}
 use Rattle.session_language.specs.Phrase.{Phrase}
-use Rattle.session_language.specs.Text.{Words, variable_name, magnitude, rank_of}
-use Rattle.session_language.specs.WellFormed.{factor_depth, product_depth, depth}
+use Rattle.session_programs.specs.Text.{Words, variable_name, magnitude, rank_of}
+use Rattle.session_programs.specs.WellFormed.{factor_depth, product_depth, depth}
 
 abbrev pub enclose : List Token → List Token
 enclose ts = Open ∷ (ts ++ Close ∷ [])

@@ -6,9 +6,12 @@ use Rattle.session_language.specs.declared.fault.SessionRule.TheVariants.{TooDee
 use Rattle.session_meaning.specs.Tree.{Command, LetVar, SetTo, GiveOf, Requires, Block}
 use Rattle.session_meaning.specs.ProgramValue.{ProgramValue}
 use Rattle.session_meaning.specs.refinement.TreeOfStatements.{block_from}
-use Rattle.session_language.specs.Reading.{Head, IfHead, ElseHead, RepeatHead, OpenBlock, Draft, Spoken, SpeaksLet, SpeaksSet, SpeaksGive, SpeaksDemand, SpeaksIf, SpeaksRepeat, with_variable, place_of, variables_after, named_after, with_line, with_names, opens_block, add, turned, turned_in, whole, with_end, Ended, Going, Closed, ended_in, ended, closed, begun}
-use Rattle.session_language.specs.WellFormed.{IsTestOver, IsStatementOver, IsSpokenOver, known_after, known_after_block, AreStatements, IsDeclared}
-use Rattle.session_language.specs.refinement.KeptDraft.{known_past, known_in, IsHeadOver, IsNamed, IsKept}
+use Rattle.session_meaning.specs.Needs.{block_needs, needs_of}
+use Rattle.session_meaning.specs.Measures.{block_gives}
+use Rattle.session_language.specs.Reading.{Head, IfHead, ElseHead, RepeatHead, OpenBlock, Draft, Spoken, SpeaksLet, SpeaksSet, SpeaksGive, SpeaksDemand, SpeaksIf, SpeaksRepeat, with_variable, place_of, variables_after, named_after, with_line, with_names, opens_block, add, turned, turned_in, whole, with_end, Ended, Going, Closed, ended_in, ended, closed, program_of, begun}
+use Rattle.session_programs.specs.WellFormed.{IsTestOver, IsStatementOver, known_after, known_after_block, AreStatements, IsDeclared, IsWellFormed}
+use Rattle.session_programs.specs.Program.{is_too_long}
+use Rattle.session_language.specs.refinement.KeptDraft.{IsSpokenOver, known_past, known_in, named_in, IsHeadOver, IsNamed, IsKept}
 use Rattle.session_language.proofs.session_reading.ProgramsFit.{past, and_so}
 use Rattle.session_language.proofs.session_reading.NamedRecords.{line_named, turned_named, end_named}
 use Rattle.session_language.proofs.session_reading.WellFormedness.{IsGrown, variable_kept}
@@ -220,3 +223,16 @@ declared_whole d k none =
     let P : List OpenBlock → Type 0 = λ outer. IsKept (in_block d outer) in
     let closed : IsKept (in_block d []) = subst P none k in
     record { names = closed.names; distinct = closed.distinct; statements = closed.statements; all_let = closed.all_let }
+
+-- which are those of a program
+pub named_whole : (d : Draft) → IsKept d → d.outer ≡ [] → d.named ≡ needs_of (block_from d.body)
+named_whole d k none = k.named ∙ ap (λ outer. block_needs (block_from d.body) (named_in outer)) none
+
+pub well_formed_whole : (d : Draft) → IsKept d → d.outer ≡ [] → is_too_long (program_of d) ≡ false → block_gives (block_from d.body) ≤ 64 → IsWellFormed (program_of d)
+well_formed_whole d k none short few = record {
+  declared = declared_whole d k none;
+  few_records = let P : List ℕ → Type 0 = λ rs. length rs ≤ 16 in subst P (named_whole d k none) k.few_named;
+  few_variables = k.few_variables;
+  few_gives = few;
+  short = short;
+}

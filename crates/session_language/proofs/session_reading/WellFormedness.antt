@@ -23,7 +23,8 @@ use Rattle.session_language.specs.Phrase.{Phrase}
 use Rattle.session_language.specs.Form.{Said, Lets, Sets, Gives, Demands, Asks, Repeats, said_after}
 use Rattle.session_language.specs.Reading.{Spoken, spoken_of, are_variables_known, are_records_known, is_too_deep, speak, with_variable, place_of}
 use Rattle.session_language.specs.refinement.ResolvedStatements.{spoken_after}
-use Rattle.session_language.specs.WellFormed.{IsOver, IsExpressionOver, IsSpokenOver}
+use Rattle.session_programs.specs.WellFormed.{IsOver, IsExpressionOver}
+use Rattle.session_language.specs.refinement.KeptDraft.{IsSpokenOver}
 use Rattle.session_language.proofs.session_reading.LiteralRanges.{operand_fits, token_fits, tokens_fit}
 use Rattle.session_language.proofs.canonical.Tokens.{expr_least}
 use Rattle.session_language.proofs.Places.{place_there, place_new}

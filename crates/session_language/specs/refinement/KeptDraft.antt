@@ -3,9 +3,18 @@ use Rattle.std.specs.Prelude.{◌≡◌, ◌≢◌, ◌<◌, ◌≤◌, ℕ, suc
 use Rattle.text_lines.specs.Text.{is_name}
 use Rattle.session_meaning.specs.refinement.TreeOfStatements.{block_from}
 use Rattle.session_meaning.specs.Needs.{test_needs, block_needs}
-use Rattle.session_language.specs.Reading.{Head, IfHead, ElseHead, RepeatHead, OpenBlock, Draft}
-use Rattle.session_language.specs.WellFormed.{IsTestOver, AreStatements, known_after_block}
-use Rattle.session_language.specs.Limits.{most_blocks, most_turns, most_records, most_variables}
+use Rattle.session_language.specs.Reading.{Head, IfHead, ElseHead, RepeatHead, OpenBlock, Draft, Spoken, SpeaksLet, SpeaksSet, SpeaksGive, SpeaksDemand, SpeaksIf, SpeaksRepeat}
+use Rattle.session_programs.specs.WellFormed.{IsExpressionOver, IsTestOver, AreStatements, known_after_block}
+use Rattle.session_programs.specs.Limits.{most_blocks, most_turns, codes_end, most_records, most_variables}
+
+-- what holds of the first line of a statement, whose variable is still a name, where so many variables are known
+abbrev pub IsSpokenOver : ℕ → Spoken → Type 0
+IsSpokenOver known (SpeaksLet name e) = IsTrue (is_name name) × IsExpressionOver known e
+IsSpokenOver known (SpeaksSet r e) = IsExpressionOver known e
+IsSpokenOver known (SpeaksGive e) = IsExpressionOver known e
+IsSpokenOver known (SpeaksDemand t code) = IsTestOver known t × (code < codes_end)
+IsSpokenOver known (SpeaksIf t) = IsTestOver known t
+IsSpokenOver known (SpeaksRepeat n) = n ≤ most_turns
 
 -- how many variables are known where the statements of a block go on
 abbrev pub known_past : Head → ℕ → ℕ

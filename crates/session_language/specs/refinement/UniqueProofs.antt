@@ -4,7 +4,7 @@ use Rattle.std.specs.Coded.{×_prop, Unit-prop, le_prop}
 use Rattle.std.proofs.Props.{props}
 use Rattle.bottle_values.specs.Values.{Value, Number}
 use Rattle.session_meaning.specs.Tree.{Term, Constant, Var, ReadOf, Neg, Bin, Test, Command, LetVar, SetTo, GiveOf, Requires, When, Choice, Loop, Block, Nothing, Then}
-use Rattle.session_language.specs.WellFormed.{IsUnsigned, IsLiteral, IsOver, IsExpressionOver, IsTestOver, IsStatementOver, known_after, known_after_block, AreStatements}
+use Rattle.session_programs.specs.WellFormed.{IsUnsigned, IsLiteral, IsOver, IsExpressionOver, IsTestOver, IsStatementOver, known_after, known_after_block, AreStatements}
 use Rattle.session_meaning.specs.refinement.TreeOfStatements.{block_from}
 use Rattle.session_language.specs.Reading.{Head, IfHead, ElseHead, RepeatHead, OpenBlock, Draft}
 use Rattle.session_language.specs.refinement.KeptDraft.{known_in, IsHeadOver, AreOpen, IsKept}

@@ -1,7 +1,7 @@
 use Rattle.std.proofs.Common.{◌≡◌, ◌∙◌, ap, Some, sym}
 use Rattle.std.specs.Option.{option_copied}
 use Rattle.office_map.specs.Address.{address_of_word}
-use Rattle.text_lines.proofs.AsciiNames.{text_of}
+use Rattle.text_lines.specs.TextLaws.{text_of}
 use Rattle.office_map.proofs.AsciiAddresses.{address_is_text}
 use Rattle.office_map.proofs.address.address.Goals as goal
 

@@ -1,5 +1,5 @@
 use Rattle.std.proofs.Common.{arith, ◌==◌, refl}
-use Rattle.text_lines.proofs.FirstLine.{cut_there, cut_nowhere}
+use Rattle.text_lines.specs.TextLaws.{cut_there, cut_nowhere}
 use Rattle.office_map.proofs.address.cut.Goals as goal
 
 pub returns-then-place-word : goal.returns-then-place-word

@@ -3,7 +3,7 @@ use Rattle.std.proofs.lemmas.Result.{err_from_is_err_and}
 use Rattle.session_meaning.specs.refinement.TreeOfStatements.{block_of}
 use Rattle.session_meaning.specs.Meaning.{block}
 use Rattle.session_meaning.specs.declared.tree.Statement.TheViews.{the_lemmas}
-use Rattle.session_meaning.proofs.TreeErasure.{row_block_is}
+use Rattle.session_meaning.specs.refinement.RowLaws.{row_block_is}
 use Rattle.serial_replay.specs.refinement.WalkRefinement.{environment_of}
 use Rattle.serial_replay.proofs.LoopTurns.{repeated_more, repeated_stops}
 use Rattle.serial_replay.proofs.walk.+walk.Goals as goal

@@ -1,6 +1,6 @@
 use Rattle.std.proofs.Common.{rules}
 use Rattle.session_meaning.specs.declared.tree.Statement.TheViews.{the_lemmas}
-use Rattle.session_meaning.proofs.TreeErasure.{row_block_is}
+use Rattle.session_meaning.specs.refinement.RowLaws.{row_block_is}
 use Rattle.session_language.proofs.parts.whole.Goals as goal
 
 pub returns-in-If : goal.returns-in-If

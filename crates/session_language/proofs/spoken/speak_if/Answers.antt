@@ -1,6 +1,7 @@
 use Rattle.std.proofs.Common.{◌∙◌, sym, ap, rules, Ok}
 use Rattle.session_language.specs.Names.{scope_of}
 use Rattle.session_language.specs.Lexer.{pieces_of}
+use Rattle.session_language.specs.Reading.{SpeaksIf}
 use Rattle.session_language.proofs.session_reading.ResolveNames.{question_spoken}
 use Rattle.session_language.proofs.spoken.speak_if.Goals as goal
 
@@ -13,4 +14,4 @@ returns c =
     c.in-Some-default-Some-Symbol.first c.in-Some-2.second c.phrase.new.self.nodes.items c.alone.new.builder.nodes.items
     first (search rules) (search rules) second.0 second.1 second.2 (search rules)
     c.in_ok-left.left c.in_ok-right.right c.in_ok-left.ensures c.in_ok-right.ensures
-    ∙ sym (ap (λ z. Ok z) c.in_ok-asked.ensures)
+    ∙ sym (ap (λ t. Ok (SpeaksIf t)) c.in_ok-condition.ensures)

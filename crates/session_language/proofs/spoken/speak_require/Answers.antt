@@ -1,6 +1,7 @@
 use Rattle.std.proofs.Common.{◌∙◌, sym, ap, rules, Ok}
 use Rattle.session_language.specs.Names.{scope_of}
 use Rattle.session_language.specs.Lexer.{pieces_of}
+use Rattle.session_language.specs.Reading.{SpeaksDemand}
 use Rattle.session_language.proofs.session_reading.ResolveNames.{demand_spoken}
 use Rattle.session_language.proofs.spoken.speak_require.Goals as goal
 
@@ -13,4 +14,4 @@ returns c =
     c.in-Some-default-Some-Symbol.first c.in-Some-default-Some-Word.second c.phrase.new.self.nodes.items c.phrase-2.new.self.nodes.items
     first (search rules) (search rules) second (search rules) (search rules) (search rules)
     c.in_ok-left.left c.in_ok-right.right c.in_ok-left.ensures c.in_ok-right.ensures
-    ∙ sym (ap (λ z. Ok z) c.in_ok-required.ensures)
+    ∙ sym (ap (λ t. Ok (SpeaksDemand t c.in-Some-else_code.code)) c.in_ok-condition.ensures)

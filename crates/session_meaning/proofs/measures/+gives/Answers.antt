@@ -2,7 +2,7 @@ use Rattle.std.proofs.Common.{◌≡◌, rules, arith}
 use Rattle.session_meaning.specs.Tree.{When, Choice, Loop}
 use Rattle.session_meaning.specs.refinement.TreeOfStatements.{test_of, command_of, block_of}
 use Rattle.session_meaning.specs.declared.tree.Statement.TheViews.{the_lemmas}
-use Rattle.session_meaning.proofs.TreeErasure.{row_block_is}
+use Rattle.session_meaning.specs.refinement.RowLaws.{row_block_is}
 use Rattle.session_meaning.proofs.session_measures.Saturation.{capped_gives}
 use Rattle.session_meaning.proofs.measures.+gives.Goals as goal
 

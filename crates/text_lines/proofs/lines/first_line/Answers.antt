@@ -1,5 +1,6 @@
 use Rattle.std.proofs.Common.{arith}
-use Rattle.text_lines.proofs.FirstLine.{lines_cut, lines_whole}
+use Rattle.text_lines.specs.TextLaws.{lines_cut}
+use Rattle.text_lines.proofs.FirstLine.{lines_whole}
 use Rattle.text_lines.proofs.lines.first_line.Goals as goal
 
 pub returns-then-at-text-clause-cut : goal.returns-then-at-text-clause-cut

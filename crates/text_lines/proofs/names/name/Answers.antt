@@ -1,7 +1,8 @@
 use Rattle.std.proofs.Common.{◌≡◌, ◌∙◌, ap, Some, sym}
 use Rattle.std.specs.Option.{option_copied}
 use Rattle.text_lines.specs.Text.{name_of}
-use Rattle.text_lines.proofs.AsciiNames.{name_is_text, text_of}
+use Rattle.text_lines.specs.TextLaws.{text_of}
+use Rattle.text_lines.proofs.AsciiNames.{name_is_text}
 use Rattle.text_lines.proofs.names.name.Goals as goal
 
 pub returns-then-is_name : goal.returns-then-is_name

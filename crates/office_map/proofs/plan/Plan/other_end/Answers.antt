@@ -3,7 +3,7 @@ use Rattle.std.specs.Prelude.{◌==◌}
 use Rattle.std.specs.Option.{option_map_or}
 use Rattle.std.proofs.lemmas.Bool.{cond_both}
 use Rattle.office_map.specs.PlanValue.{is_end, other_end, peer, are_neighbours}
-use Rattle.office_map.proofs.RecordEnds.{peer_near, peer_back}
+use Rattle.office_map.specs.NeighbourLaws.{peer_near, peer_back}
 use Rattle.office_map.proofs.plan.Plan.other_end.Goals as goal
 
 pub returns-clause-peer : goal.returns-clause-peer

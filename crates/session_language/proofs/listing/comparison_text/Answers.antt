@@ -1,4 +1,0 @@
-use Rattle.session_language.proofs.listing.comparison_text.Goals as goal
-
-pub returns-in-NotEqual : goal.returns-in-NotEqual
-returns-in-NotEqual c = cc

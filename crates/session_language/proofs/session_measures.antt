@@ -1,3 +1,0 @@
-pub mod SizeBound
-pub mod SizeStep
-pub mod ExtentBoundsSize

@@ -1,0 +1,4 @@
+pub mod Texts
+pub mod LastNode
+pub mod SizeStep
+pub mod ExtentBoundsSize

@@ -1,0 +1,5 @@
+pub mod Limits
+pub mod Text
+pub mod Program
+pub mod WellFormed
+pub mod refinement

@@ -1,0 +1,24 @@
+//! Programs: what a session is, once its text was read.
+//!
+//! - A [`Program`] is a session's office, the names of its variables, and its statements as a tree. [`Program::of`] makes one of
+//!   parts that are well formed, and what holds of every program is in `specs/WellFormed.antt` (clause `well_formed` of `tree`).
+//! - `needs` are the records that it reads or sets anywhere (`all`, `in_order`, `named`), `fits` says whether a plan has its office
+//!   and its records, and `text` is its canonical text under such a plan (`text_under`, in `specs/Program.antt`; clause
+//!   `canonical`).
+//! - [`are_too_long`] says whether a session of these statements would be longer than one may be. The limits are in
+//!   `specs/Limits.antt` (the code has its own, [`limits`]).
+//!
+//! It stands on `session_meaning`, which has the tree, what a session does alone, and its measures. Nothing here knows how a text
+//! is read: that is `session_language`, above, which reads the canonical text of a program as that program.
+#![tactic(auto)]
+
+pub mod limits;
+mod listing;
+mod program;
+mod rank;
+mod sizes;
+mod text;
+mod words;
+
+pub use crate::program::Program;
+pub use crate::sizes::are_too_long;

@@ -1,0 +1,172 @@
+//! A session's program.
+
+ghost use Rattle.std.specs.Prelude.{◌≡◌, ◌↔◌, ℕ, IfOk, IsTrue, Contains, map};
+ghost use Rattle.std.specs.List.Sorted.{IsStrictlyIncreasing};
+ghost use Rattle.std.specs.List.{list_all};
+ghost use Rattle.std.specs.String.{string_bytes};
+ghost use Rattle.office_map.specs.PlanValue.{is_end};
+ghost use Rattle.session_meaning.specs.refinement.TreeOfStatements.{block_of};
+ghost use Rattle.session_meaning.specs.Needs.{needs_of};
+ghost use Rattle.session_meaning.specs.Naming.{BlockNames};
+ghost use Rattle.session_programs.specs.WellFormed.{IsWellFormed};
+
+use crate::listing::session_text;
+use crate::words::{RecordNames, Words};
+use office_map::{OfficeId, Plan, RecordId};
+use session_meaning::Statement;
+use session_meaning::laws::needs_what_it_names;
+use std::alloc::{AllocError, Global};
+use std::marker::Model;
+use std::sync::Arc;
+
+/// The program of a session. Its copies share what it says, so that a copy takes no memory, and an event with a program is no
+/// larger than others.
+///
+/// A submitted program stands in the office's journal and in its queue, in a world's event and in journals that were
+/// handed in, and nothing ever changes it. So a program is one word, and its copy counts one owner more; the count is
+/// one that threads may share.
+#[derive(Drop)]
+pub struct Program {
+    said: Arc<Said>,
+}
+
+/// What a program says.
+///
+/// It keeps the places of variables and the numbers of records. Names are looked up where their line stands: they are
+/// the plan's, and the program's own list of variables.
+#[derive(Drop)]
+struct Said {
+    office: OfficeId,
+    variables: Vec<String>,
+    needs: Vec<RecordId>,
+    statements: Vec<Statement>,
+}
+
+impl Model for Program {
+    ghost use Rattle.std.specs.Prelude.{◌≡◌, map};
+    ghost use Rattle.std.specs.Arc.{arc_value};
+    ghost use Rattle.std.specs.String.{string_bytes};
+    ghost use Rattle.std.specs.Coded.{Coded, codes};
+    ghost use Rattle.session_meaning.specs.ProgramValue.{ProgramValue};
+    ghost use Rattle.session_meaning.specs.declared.node.Node.{Node};
+    ghost use Rattle.session_meaning.specs.refinement.TreeEncoding.{Mark, term_code, block_code};
+    ghost use Rattle.session_meaning.specs.refinement.TreeOfStatements.{block_of};
+    ghost use Rattle.session_meaning.specs.Needs.{needs_of};
+    ghost use Rattle.session_programs.specs.WellFormed.{IsWellFormed};
+
+    ghost Value = { ProgramValue };
+
+    ghost coded = { let nodes : Coded Node = Prim.hlevel codes in let marks : Coded Mark = Prim.hlevel (codes, term_code nodes) in Prim.hlevel (codes, block_code marks) };
+
+    ghost view = { λ p. record { office = (arc_value p.said).office; variables = map string_bytes (arc_value p.said).variables.items; body = block_of (arc_value p.said).statements.items } };
+
+    ghost invariant = { λ p. ((arc_value p.said).needs.items ≡ needs_of (block_of (arc_value p.said).statements.items)) × IsWellFormed (record { office = (arc_value p.said).office; variables = map string_bytes (arc_value p.said).variables.items; body = block_of (arc_value p.said).statements.items }) };
+}
+
+impl Program {
+    ghost use Rattle.session_programs.specs.Program.{fits, text_under};
+
+    /// The program with these parts: an office, the variables in the order in which lines first let them, the records that
+    /// the statements need, and these. No part is looked at again.
+    pub fn of(
+        alloc: Global,
+        office: OfficeId,
+        variables: Vec<String>,
+        needs: Vec<RecordId>,
+        statements: Vec<Statement>,
+    ) -> Result<Program, AllocError>
+        requires needed { needs.items ≡ needs_of (block_of statements.items) }
+        requires well_formed { IsWellFormed (record { office = office; variables = map string_bytes variables.items; body = block_of statements.items }) }
+        ensures { IfOk result (λ p. p ≡ record { office = office; variables = map string_bytes variables.items; body = block_of statements.items }) }
+    {
+        let mut statements = statements;
+        statements.shrink_to_fit();
+        let said = Said {
+            office,
+            variables,
+            needs,
+            statements,
+        };
+        Ok(Program {
+            said: Arc::new(alloc, said)?,
+        })
+    }
+
+    /// The office that the session is of.
+    pub fn office(&self) -> OfficeId
+        ensures { result ≡ self.now.office }
+    {
+        self.said.office
+    }
+
+    /// The records that it reads or sets anywhere, each once, in order of number.
+    pub fn needs(&self) -> &[RecordId]
+        ensures all { result.now ≡ needs_of self.now.body }
+        ensures in_order { IsStrictlyIncreasing result.now }
+        ensures named { (r : ℕ) → Contains result.now r ↔ BlockNames r self.now.body }
+    {
+        needs_what_it_names();
+        self.said.needs.as_slice()
+    }
+
+    /// The names of its variables, in the order in which lines first let them.
+    pub fn variables(&self) -> &[String]
+        ensures { map string_bytes result.now ≡ self.now.variables }
+    {
+        &self.said.variables
+    }
+
+    /// The statements, in order. Every program is well formed: its variables are names that lines
+    /// let before they are read, its literals have no sign, and it is within the limits.
+    pub fn tree(&self) -> &[Statement]
+        ensures body { block_of result.now ≡ self.now.body }
+        ensures well_formed { IsWellFormed self.now }
+    {
+        &self.said.statements
+    }
+
+    /// Whether its office is the plan's, and each record that it needs is of that office.
+    pub fn fits(&self, plan: &Plan) -> bool
+        ensures { result ≡ fits plan.now self.now }
+    {
+        let Said { office, needs, .. } = &*self.said;
+        if office.index() >= plan.offices() {
+            return false;
+        }
+        are_of_office(plan, needs, *office)
+    }
+
+    /// The canonical text of the session under a plan that it fits.
+    pub fn text(&self, alloc: Global, plan: &Plan) -> Result<String, AllocError>
+        requires { IsTrue (fits plan.now self.now) }
+        ensures canonical { IfOk result (λ t. string_bytes t ≡ text_under plan.now self.now) }
+    {
+        prove!(self.said.office.index() < plan.offices());
+        let words = Words {
+            office: plan.office_name(self.said.office),
+            variables: &self.said.variables,
+            records: RecordNames::Of(plan),
+        };
+        session_text(alloc, &words, &self.said.statements)
+    }
+
+    /// The same program.
+    pub fn copy(&self) -> Result<Program, AllocError>
+        ensures { IfOk result (λ p. p ≡ self.now) }
+    {
+        Ok(Program {
+            said: Arc::try_clone(&self.said)?,
+        })
+    }
+}
+
+fn are_of_office(plan: &Plan, records: &[RecordId], office: OfficeId) -> bool
+    ensures { result ≡ list_all (λ r. is_end plan.now r office) records.now }
+{
+    for id in records {
+        if !plan.has_end(*id, office) {
+            return false;
+        }
+    }
+    true
+}
