@@ -5,24 +5,21 @@ use Rattle.std.specs.List.{list_all}
 use Rattle.std.proofs.lemmas.Bool.{cond_both, and_parts}
 use Rattle.office_map.specs.PlanValue.{PlanValue, are_neighbours, fork_starts_at}
 use Rattle.office_map.specs.Consistency.{IsConsistent}
-use Rattle.office_map.proofs.RecordEnds.{neighbours_apart}
+use Rattle.office_map.specs.NeighbourLaws.{neighbours_apart}
 use Rattle.dining_core.specs.declared.phase.Phase.{Phase}
 use Rattle.dining_core.specs.declared.phase.Phase.TheVariants.{Thinking, Hungry, Eating}
 use Rattle.dining_core.specs.Diners.{Diner, ForkRule, BecomeHungry, AskFork, GiveFork, Eat, Leave, is_hungry, is_eating, may, act, with_token, with_fork}
 use Rattle.dining_core.specs.Worlds.{World, Event, Do, TokenComes, ForkComes, opening, with_way, one_more, done, does, forks_after, token_taken, fork_taken, happens, run, HasOnePlaceEach}
-use Rattle.dining_core.proofs.OnTheWay.{way_off, cases_two}
+use Rattle.dining_core.specs.WayLaws.{way_off, cases_two}
 use Rattle.dining_core.proofs.ForkPlaces.{given, each_has_one_place}
 use Rattle.dining_core.proofs.EatersForks.{both_ways, has_each}
 use Rattle.dining_core.proofs.ForkLaws.{run_more}
 use Rattle.bottle_values.specs.Lists.{num}
-use Rattle.bottle_values.proofs.Maps.{put_cases}
+use Rattle.bottle_values.specs.ListLaws.{true_of}
+use Rattle.bottle_values.specs.MapLaws.{put_cases}
 
 no_true : false ≡ true → ⊥
 no_true e = absurd cc
-
-pub true_of : (b : Bool) → 1 ≤ num b → b ≡ true
-true_of true h = refl
-true_of false h = absurd (omega (arith, h))
 
 false_of : (b : Bool) → num b ≡ 0 → b ≡ false
 false_of true h = absurd (omega (arith, h))

@@ -5,14 +5,14 @@ use Rattle.std.specs.List.{list_all}
 use Rattle.std.proofs.lemmas.Bool.{cond_both, and_parts, and_from, not-true, cases_Bool}
 use Rattle.office_map.specs.PlanValue.{PlanValue, are_neighbours}
 use Rattle.office_map.specs.Consistency.{IsConsistent}
-use Rattle.office_map.proofs.RecordEnds.{near_within, near_both}
+use Rattle.office_map.specs.NeighbourLaws.{near_within, near_both}
 use Rattle.dining_core.specs.Diners.{Diner, ForkRule, BecomeHungry, AskFork, GiveFork, Eat, Leave, is_hungry, is_eating, may, act, with_token, with_fork}
 use Rattle.dining_core.specs.Worlds.{World, Event, Do, TokenComes, ForkComes, opening, done, does, token_taken, fork_taken, happens, run, HasOnePlaceEach, HasItsForks}
 use Rattle.dining_core.proofs.ForkPlaces.{each_has_one_place, neighbours_stay}
 use Rattle.dining_core.proofs.EaterLast.{of_each}
 use Rattle.bottle_values.specs.Maps.{put}
 use Rattle.bottle_values.specs.Lists.{num}
-use Rattle.bottle_values.proofs.Maps.{put_cases}
+use Rattle.bottle_values.specs.MapLaws.{put_cases}
 
 no_true : false ≡ true → ⊥
 no_true e = absurd cc

@@ -11,13 +11,14 @@ use Rattle.office_map.specs.Precedence as plans
 use Rattle.office_map.specs.Consistency.{IsConsistent, IsAccepted}
 use Rattle.dining_core.specs.Diners.{Diner, ForkRule, BecomeHungry, AskFork, GiveFork, Eat, Leave, is_eating, may, act, with_token, with_fork}
 use Rattle.dining_core.specs.Worlds.{World, Event, Do, TokenComes, ForkComes, opening, with_way, one_more, done, does, token_taken, fork_taken, happens, run, fork_places, precedes, HasOnePlaceEach, IsOrder, HasNoRing, eats, with_last}
-use Rattle.office_map.proofs.RecordEnds.{near_within, neighbours_apart, near_both}
-use Rattle.dining_core.proofs.OnTheWay.{way_at, way_off, sent_on_way}
+use Rattle.office_map.specs.NeighbourLaws.{near_within, neighbours_apart, near_both}
+use Rattle.dining_core.specs.WayLaws.{way_at, way_off}
+use Rattle.dining_core.proofs.OnTheWay.{sent_on_way}
 use Rattle.dining_core.proofs.ForkPlaces.{given, each_has_one_place, neighbours_stay}
 use Rattle.dining_core.proofs.EaterLast.{occurrences_of_last, occurrences_of_other, counted_among, others_stay, before_last, of_each}
 use Rattle.bottle_values.specs.Maps.{put}
 use Rattle.bottle_values.specs.Lists.{num}
-use Rattle.bottle_values.proofs.Maps.{put_cases}
+use Rattle.bottle_values.specs.MapLaws.{put_cases}
 
 -- one office of a pair changed: as the one that is named first, or second, or neither
 one_changed : (P : ℕ → ℕ → Diner → Diner → Type 0) (f : ℕ → Diner) (a : ℕ) (d : Diner) →

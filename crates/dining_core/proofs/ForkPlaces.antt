@@ -9,11 +9,12 @@ use Rattle.office_map.specs.PlanValue.{PlanValue, joins, are_neighbours, neighbo
 use Rattle.office_map.specs.Consistency.{IsConsistent}
 use Rattle.dining_core.specs.Diners.{Diner, ForkRule, BecomeHungry, AskFork, GiveFork, Eat, Leave, is_hungry, is_eating, may, act, with_token, with_fork}
 use Rattle.dining_core.specs.Worlds.{World, Event, Do, TokenComes, ForkComes, opening, done, does, token_taken, fork_taken, happens, run, fork_places, token_places, HasOnePlaceEach}
-use Rattle.office_map.proofs.RecordEnds.{neighbours_apart, near_both, joins_swap, find_same}
+use Rattle.office_map.specs.NeighbourLaws.{neighbours_apart, near_both, joins_swap}
+use Rattle.bottle_values.specs.ListLaws.{find_same}
 use Rattle.dining_core.proofs.OnTheWay.{places_kept, places_sent, places_came, not_here}
 use Rattle.bottle_values.specs.Maps.{put}
 use Rattle.bottle_values.specs.Lists.{num}
-use Rattle.bottle_values.proofs.Maps.{put_cases}
+use Rattle.bottle_values.specs.MapLaws.{put_cases}
 
 -- what a fork that is given was before
 pub given : (b t h c : Bool) → (not b && (t && (h && not c))) ≡ true → (h ≡ true) × (c ≡ false)

@@ -1,10 +1,10 @@
-pub mod OpeningRefines
-pub mod TableUpdates
-pub mod OnTheWay
-pub mod ForkPlaces
-pub mod EaterLast
-pub mod ForkLaws
-pub mod EatersForks
-pub mod CleanForks
-pub mod Standstill
-pub mod MaskUpdates
+mod OpeningRefines
+mod TableUpdates
+mod OnTheWay
+mod ForkPlaces
+mod EaterLast
+mod ForkLaws
+mod EatersForks
+mod CleanForks
+mod Standstill
+mod MaskUpdates

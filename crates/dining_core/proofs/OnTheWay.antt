@@ -1,28 +1,13 @@
 -- What goes from an office to another, and the places of what they share when it is sent and when it comes.
-use Rattle.std.proofs.Common.{◌≡◌, ℕ, suc, ◌+◌, ◌≤◌, Bool, true, false, cond, refl, sym, ap, ◌∙◌, subst, arith, inl, inr, ◌⊎◌, ⊎_elim}
+use Rattle.std.proofs.Common.{◌≡◌, ℕ, suc, ◌+◌, ◌≤◌, Bool, true, false, cond, refl, sym, ap, ◌∙◌, subst, arith, ⊎_elim}
 use Rattle.std.specs.Prelude.{◌==◌, nat_lt}
 use Rattle.std.proofs.lemmas.Bool.{ne_eqb, cases_eq, lt-ltb}
 use Rattle.dining_core.specs.Diners.{Diner}
 use Rattle.dining_core.specs.Worlds.{with_way, one_more, places}
+use Rattle.dining_core.specs.WayLaws.{cases_two, way_at, way_off}
 use Rattle.bottle_values.specs.Maps.{put}
 use Rattle.bottle_values.specs.Lists.{num}
-use Rattle.bottle_values.proofs.Maps.{put_cases, put_at, put_other, put_same}
-
--- both are the same, or not
-pub cases_two : (x a y v : ℕ) → ((x ≡ a) × (y ≡ v)) ⊎ ((x ≡ a) × (y ≡ v) → ⊥)
-cases_two x a y v = ⊎_elim
-    (λ e. ⊎_elim (λ i. inl (e, i)) (λ ne. inr (λ h. ne h.1)) (cases_eq y v))
-    (λ ne. inr (λ h. ne h.0))
-    (cases_eq x a)
-
-pub way_at : {X : Type 0} (way : ℕ → ℕ → X) (a v : ℕ) (n : X) (x y : ℕ) → (x ≡ a) × (y ≡ v) → with_way way a v n x y ≡ n
-way_at way a v n x y e = ap (λ (f : ℕ → _). f y) (put_at way a (put (way a) v n) x e.0) ∙ put_at (way a) v n y e.1
-
-pub way_off : {X : Type 0} (way : ℕ → ℕ → X) (a v : ℕ) (n : X) (x y : ℕ) → ((x ≡ a) × (y ≡ v) → ⊥) → with_way way a v n x y ≡ way x y
-way_off way a v n x y ne =
-    put_cases way a (put (way a) v n) x (λ (f : ℕ → _). f y ≡ way x y)
-    (λ e. put_other (way a) v n y (λ i. ne (e, i)) ∙ ap (λ z. way z y) (sym e))
-    (λ e. refl)
+use Rattle.bottle_values.specs.MapLaws.{put_cases, put_same}
 
 -- on the way from the office that changed, and to it
 way_from : {X : Type 0} (way : ℕ → ℕ → X) (a v : ℕ) (n : X) (u : ℕ) → with_way way a v n a u ≡ cond (u == v) n (way a u)

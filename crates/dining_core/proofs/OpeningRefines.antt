@@ -1,9 +1,8 @@
 -- The table of an opening is the office that the plan seats.
 use Rattle.std.proofs.Common.{◌≡◌, ℕ, Bool, true, false, not, ◌&&◌, List, length, map, refl, sym, ap, ◌∙◌, arith, ⊎_elim}
 use Rattle.std.specs.List.{range_with_len}
-use Rattle.std.proofs.lemmas.Bool.{cases_Bool}
+use Rattle.std.proofs.lemmas.Bool.{cases_Bool, cases_lt}
 use Rattle.std.proofs.lemmas.List.{get_or_past}
-use Rattle.std.proofs.lemmas.Bool.{cases_lt}
 use Rattle.std.proofs.lemmas.List.FromFn.{length-map-range_with_len, get_or-map-range_with_len}
 use mathlib.Core.Path.{fun_ext}
 use Rattle.office_map.specs.PlanValue.{PlanValue, are_neighbours, neighbours_of, fork_starts_at}
@@ -12,7 +11,7 @@ use Rattle.dining_core.specs.declared.shared_fork.SharedFork.{SharedFork}
 use Rattle.dining_core.specs.declared.phase.Phase.TheVariants.{Thinking}
 use Rattle.dining_core.specs.Diners.{diner_at_start}
 use Rattle.dining_core.specs.refinement.Tables.{diner_of, place_at, nothing, holds, has_clean, has_token, is_held, is_clean, start_fork, start_place}
-use Rattle.office_map.proofs.RecordEnds.{near_within}
+use Rattle.office_map.specs.NeighbourLaws.{near_within}
 
 -- what is asked of a place, where it is false of none and of those that are no neighbours
 at_start : (plan : PlanValue) (a v : ℕ) (f : SharedFork → Bool) → IsConsistent plan → f nothing ≡ false → (are_neighbours plan a v ≡ false → f (start_place plan a v) ≡ false) →

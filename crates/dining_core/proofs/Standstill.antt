@@ -1,14 +1,14 @@
 -- Where all offices stand still, the thirsty wait for one of them that eats.
-use Rattle.std.proofs.Common.{◌≡◌, ℕ, zero, suc, ◌<◌, ◌≤◌, Bool, true, false, not, ◌&&◌, cond, List, [], ◌∷◌, length, refl, sym, ap, ◌∙◌, subst, arith, ⊎_elim, inl, inr, ◌⊎◌}
-use Rattle.std.specs.Prelude.{◌==◌, nat_lt, filter}
+use Rattle.std.proofs.Common.{◌≡◌, ℕ, zero, suc, ◌<◌, ◌≤◌, Bool, true, false, not, ◌&&◌, List, length, refl, ap, ◌∙◌, subst, arith, ⊎_elim, inl, inr, ◌⊎◌}
+use Rattle.std.specs.Prelude.{nat_lt}
 use Rattle.std.specs.List.{list_all, range_with_len}
-use Rattle.std.proofs.lemmas.Bool.{or_left, or_right, or_cases, cases_Bool, eq-eqb, eqb-true, and_from, not-false}
+use Rattle.std.proofs.lemmas.Bool.{or_left, cases_Bool, and_from, not-false}
 use Rattle.office_map.specs.PlanValue.{PlanValue, are_neighbours}
-use Rattle.office_map.specs.Precedence.{occurrences}
+use Rattle.office_map.specs.Precedence.{occurrences, place}
 use Rattle.office_map.specs.Consistency.{IsConsistent, IsAccepted}
-use Rattle.office_map.proofs.LeastFirstOrders.{num_one}
-use Rattle.office_map.proofs.RecordEnds.{near_both, near_within}
-use Rattle.office_map.proofs.Rings.{place, placed_before}
+use Rattle.bottle_values.specs.ListLaws.{other_false, num_one, true_of, one_fails, passed}
+use Rattle.office_map.specs.NeighbourLaws.{near_both, near_within}
+use Rattle.office_map.specs.OrderLaws.{placed_before}
 use Rattle.dining_core.specs.declared.phase.Phase.{Phase}
 use Rattle.dining_core.specs.declared.phase.Phase.TheVariants.{Thinking, Hungry, Eating}
 use Rattle.dining_core.specs.Diners.{Diner, is_thinking, is_hungry, is_eating}
@@ -16,36 +16,14 @@ use Rattle.dining_core.specs.Worlds.{World, Event, opening, run, precedes, HasOn
 use Rattle.dining_core.specs.Standstill.{IsAtRest, StandsStill, HasThirstyEater}
 use Rattle.dining_core.proofs.ForkPlaces.{each_has_one_place, neighbours_stay}
 use Rattle.dining_core.proofs.ForkLaws.{no_ring_from_plan}
-use Rattle.dining_core.proofs.CleanForks.{true_of, clean_forks_are_for_the_hungry}
+use Rattle.dining_core.proofs.CleanForks.{clean_forks_are_for_the_hungry}
 use Rattle.bottle_values.specs.Lists.{num, is_among}
-
--- both aren't, so where one is the other isn't
-pub other_false : (b c : Bool) → (b && c) ≡ false → b ≡ true → c ≡ false
-other_false true c e f = e
-other_false false c e f = absurd cc
 
 awake : (p : Phase) (thirsty : Bool) → (is_thinking p && thirsty) ≡ false → thirsty ≡ true → (is_hungry p ≡ true) ⊎ (is_eating p ≡ true)
 awake Thinking true e f = absurd cc
 awake Thinking false e f = absurd cc
 awake Hungry t e f = inl refl
 awake Eating t e f = inr refl
-
--- of a list where not all pass a test, one that doesn't
-pub one_fails : (f : ℕ → Bool) (xs : List ℕ) → list_all f xs ≡ false → (v : ℕ) × (is_among xs v ≡ true) × (f v ≡ false)
-one_fails f [] e = absurd cc
-one_fails f (x ∷ xs) e = ⊎_elim
-    (λ t. let k : (v : ℕ) × (is_among xs v ≡ true) × (f v ≡ false) = one_fails f xs (other_false (f x) (list_all f xs) e t) in (k.0, or_right (x == k.0) (is_among xs k.0) k.1, k.2))
-    (λ n. (x, or_left (x == x) (is_among xs x) (eq-eqb x x refl), n))
-    (cases_Bool (f x))
-
--- what a test lets through passes it
-pub passed : (g : ℕ → Bool) (xs : List ℕ) (v : ℕ) → is_among (filter g xs) v ≡ true → g v ≡ true
-passed g [] v e = absurd cc
-passed g (x ∷ xs) v e = go (g x) refl (passed g xs v) e
-  where
-    go : (b : Bool) → g x ≡ b → (is_among (filter g xs) v ≡ true → g v ≡ true) → is_among (cond b (x ∷ filter g xs) (filter g xs)) v ≡ true → g v ≡ true
-    go true is later e = ⊎_elim (λ s. ap g (sym (eqb-true x v s)) ∙ is) later (or_cases (x == v) (is_among (filter g xs) v) e)
-    go false is later e = later e
 
 module _ (plan : PlanValue) (es : List Event) (thirsty : ℕ → Bool) (c : IsConsistent plan) (ring : HasNoRing plan (run plan (opening plan) es)) (still : StandsStill plan (run plan (opening plan) es) thirsty) where
   abbrev w : World

@@ -6,7 +6,8 @@ use Rattle.dining_core.specs.declared.phase.Phase.{Phase}
 use Rattle.dining_core.specs.declared.phase.Phase.TheVariants.{Thinking, Hungry, Eating}
 use Rattle.bottle_values.specs.Maps.{put}
 
--- of each neighbour's fork, whether it is held here and whether it is clean, and whether its request token is held
+-- An office among its neighbours: its phase, and of each neighbour's fork whether it is held here and whether it is
+-- clean, and whether its request token is held.
 pub record Diner : Type 0 where
   pub neighbours : List ℕ
   pub phase : Phase
@@ -14,7 +15,8 @@ pub record Diner : Type 0 where
   pub clean : ℕ → Bool
   pub token : ℕ → Bool
 
--- the rules, two of them with whether the office is thirsty
+-- the rules: to be hungry, to ask for a fork, to give one, to eat, to leave; two of them with whether the office is
+-- thirsty
 pub data ForkRule : Type 0 where
   BecomeHungry : (thirsty : Bool) → ForkRule
   AskFork : (v : ℕ) → ForkRule

@@ -1,5 +1,6 @@
 pub mod Diners
 pub mod Worlds
+pub mod WayLaws
 pub mod Standstill
 pub mod FaultText
 pub mod refinement

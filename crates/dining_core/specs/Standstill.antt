@@ -5,7 +5,7 @@ use Rattle.office_map.specs.Consistency.{IsConsistent, IsAccepted}
 use Rattle.dining_core.specs.Diners.{Diner, BecomeHungry, AskFork, GiveFork, Eat, Leave, is_hungry, is_eating, may}
 use Rattle.dining_core.specs.Worlds.{World, Event, opening, run}
 
--- an office, thirsty or not, may do no rule
+-- an office, thirsty or not, may do no rule of forks
 pub record IsAtRest (plan : PlanValue) (a : ℕ) (d : Diner) (thirsty : Bool) : Type 0 where
   pub hungers : may d (BecomeHungry thirsty) ≡ false
   pub asks : (v : ℕ) → are_neighbours plan a v ≡ true → may d (AskFork v) ≡ false

@@ -76,7 +76,7 @@ fork_taken w a v (suc left) = record {
 abbrev pub does : PlanValue → World → ℕ → ForkRule → Bool
 does plan w a rule = nat_lt a (length plan.offices) && may (w.diner a) rule
 
--- what was sent comes
+-- What each event does. What comes is one of those that were sent; where none was, nothing happens.
 abbrev pub happens : PlanValue → World → Event → World
 happens plan w (Do a rule) = if does plan w a rule then done w a rule else w
 happens plan w (TokenComes a v) = token_taken w a v (w.tokens_on_way v a)
@@ -90,13 +90,15 @@ run plan w (e ∷ es) = run plan (happens plan w e) es
 abbrev pub places : (ℕ → ℕ → Bool) → (ℕ → ℕ → ℕ) → ℕ → ℕ → ℕ
 places held on_way u v = num (held u v) + (num (held v u) + (on_way u v + on_way v u))
 
+-- so their fork
 abbrev pub fork_places : World → ℕ → ℕ → ℕ
 fork_places w u v = places (λ a. (w.diner a).held) w.forks_on_way u v
 
+-- so its request token
 abbrev pub token_places : World → ℕ → ℕ → ℕ
 token_places w u v = places (λ a. (w.diner a).token) w.tokens_on_way u v
 
--- the fork of two neighbours is at one place, and so is its request token; two other offices have neither
+-- the fork of two neighbours is at one place, and so is its request token; those of two other offices are at none
 pub record HasOnePlaceEach (plan : PlanValue) (w : World) : Type 0 where
   pub fork : (u v : ℕ) → fork_places w u v ≡ num (are_neighbours plan u v)
   pub token : (u v : ℕ) → token_places w u v ≡ num (are_neighbours plan u v)
@@ -109,7 +111,7 @@ ShareNothing w u v = (fork_places w u v ≡ 0) × (token_places w u v ≡ 0)
 abbrev pub HasItsForks : Diner → Type 0
 HasItsForks d = is_eating d.phase ≡ true → list_all d.held d.neighbours ≡ true
 
--- u precedes v: u has their fork clean, or v has it dirty, or v sent it to u
+-- u precedes v: u has their fork clean, or v has it dirty and so has to give it, or v sent it to u
 abbrev pub precedes : World → ℕ → ℕ → Bool
 precedes w u v =
     ((w.diner u).held v && (w.diner u).clean v)
@@ -121,6 +123,7 @@ pub record IsOrder (plan : PlanValue) (w : World) (order : List ℕ) : Type 0 wh
   pub once : (a : ℕ) → occurrences a order ≡ num (nat_lt a (length plan.offices))
   pub earlier : (u v : ℕ) → are_neighbours plan u v ≡ true → precedes w u v ≡ true → comes_before order u v ≡ true
 
+-- there is such a list
 pub record HasNoRing (plan : PlanValue) (w : World) : Type 0 where
   pub order : List ℕ
   pub is : IsOrder plan w order
@@ -145,22 +148,24 @@ with_last a order = filter (λ x. not (x == a)) order ++ a ∷ []
 abbrev pub EachHasOnePlace : Type 0
 EachHasOnePlace = (plan : PlanValue) (events : List Event) → IsConsistent plan → HasOnePlaceEach plan (run plan (opening plan) events)
 
--- two offices that are no neighbours share nothing
+-- two offices that are no neighbours share nothing, after every list of events
 abbrev pub StrangersShareNothing : Type 0
 StrangersShareNothing = (plan : PlanValue) (events : List Event) (u v : ℕ) → are_neighbours plan u v ≡ false → ShareNothing (run plan (opening plan) events) u v
 
+-- after every list of events each office sits with its neighbours of the plan
 abbrev pub NeighboursStay : Type 0
 NeighboursStay = (plan : PlanValue) (events : List Event) (a : ℕ) → ((run plan (opening plan) events).diner a).neighbours ≡ neighbours_of plan a
 
+-- after every list of events an office that eats has the fork of each of its neighbours
 abbrev pub EatersHaveTheirForks : Type 0
 EatersHaveTheirForks = (plan : PlanValue) (events : List Event) (a : ℕ) → HasItsForks ((run plan (opening plan) events).diner a)
 
--- two neighbours never eat at once
+-- two neighbours never eat at once, whatever events there were
 abbrev pub NeighboursEatApart : Type 0
 NeighboursEatApart = (plan : PlanValue) (events : List Event) (u v : ℕ) → IsConsistent plan → are_neighbours plan u v ≡ true →
     (is_eating ((run plan (opening plan) events).diner u).phase && is_eating ((run plan (opening plan) events).diner v).phase) ≡ false
 
--- at the start the other end of a dirty fork precedes
+-- at the start an office precedes the neighbour that has their fork, which is dirty
 abbrev pub ForksStartDirty : Type 0
 ForksStartDirty = (plan : PlanValue) (u v : ℕ) → are_neighbours plan u v ≡ true → precedes (opening plan) u v ≡ fork_starts_at plan v u v
 
@@ -180,10 +185,10 @@ TheEaterComesLast = (plan : PlanValue) (w : World) (a : ℕ) (order : List ℕ) 
 abbrev pub StartsInThePlansOrder : Type 0
 StartsInThePlansOrder = (plan : PlanValue) (order : List ℕ) → plans.IsOrder plan order → IsOrder plan (opening plan) order
 
--- from every accepted plan, over every list of events, precedence has no ring
+-- from every plan that `Plan::read` accepts, over every list of events, precedence has no ring
 abbrev pub NoRingFromAnAcceptedPlan : Type 0
 NoRingFromAnAcceptedPlan = (plan : PlanValue) (events : List Event) → IsAccepted plan → HasNoRing plan (run plan (opening plan) events)
 
--- where precedence has no ring at the start, it never has one
+-- where precedence has no ring at the start, it has none after every list of events
 abbrev pub NeverARing : Type 0
 NeverARing = (plan : PlanValue) (events : List Event) → IsConsistent plan → HasNoRing plan (opening plan) → HasNoRing plan (run plan (opening plan) events)

@@ -4,6 +4,10 @@ ghost use Rattle.dining_core.specs.Worlds.{EachHasOnePlace, StrangersShareNothin
 ghost use Rattle.dining_core.specs.Standstill.{CleanForksAreForTheHungry, TheThirstyWaitForAnEater};
 
 /// After every list of events the fork of two neighbours is at one of them, or on the way, and so is its request token.
+///
+/// What is on the way is counted, by sender and receiver. The world could say whether a fork is on the way; then what a
+/// world of links is for it, where messages wait in lists, would depend on the law that there is no more than one. A
+/// count is read off a list as it is, and that it is at most 1 is a law.
 pub fn each_has_one_place()
     ensures { EachHasOnePlace }
 {}
@@ -34,6 +38,9 @@ pub fn forks_start_dirty()
 {}
 
 /// No event but eating changes who precedes whom.
+///
+/// Laws of one event ask for no more than they use: this one needs the one place of that pair's fork, and that the
+/// eater comes last the eater's own forks. So they hold of more worlds than events lead to.
 pub fn only_eating_turns()
     ensures { OnlyEatingTurns }
 {}
@@ -44,6 +51,9 @@ pub fn the_eater_comes_last()
 {}
 
 /// Where precedence has no ring at the start, no event makes one.
+///
+/// Who comes first is told by a list of offices, not by ranks. A list shows that there is no ring by itself, and an
+/// eater goes to its end; a rank would have to be chosen anew at each meal.
 pub fn never_a_ring()
     ensures { NeverARing }
 {}
@@ -65,6 +75,10 @@ pub fn clean_forks_are_for_the_hungry()
 
 /// Whichever offices are thirsty: from every plan that is accepted, after every list of events, where no office may do a
 /// rule, nothing is on the way and an office is thirsty, one that is thirsty eats.
+///
+/// A function tells which offices are thirsty, of which the law knows nothing: it is the bottles' to say, and the law
+/// holds whatever they say. The rules that no office may do are named, each with its guard, so a rule that is added
+/// changes neither the definition nor its proof.
 pub fn the_thirsty_wait_for_an_eater()
     ensures { TheThirstyWaitForAnEater }
 {}

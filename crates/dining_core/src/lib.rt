@@ -10,6 +10,15 @@
 //!   thirsty, one that is thirsty eats.
 //!
 //! No call takes memory but [`Table::open`]. It stands on `office_map` and `bottle_values`.
+//!
+//! An office precedes a neighbour when it has their fork clean, or the neighbour has it dirty, or it is on the way to
+//! the office. A fork is clean when it comes and dirty once its office ate; only a dirty fork is given away. So nothing
+//! but eating changes who precedes whom, and an office that eats comes after all its neighbours: an order of the
+//! offices in which each comes before those that it precedes stays one when the eater is put last. A plan whose offices
+//! precede one another in a ring is refused, so there is such an order at the start, and then ever after.
+//!
+//! Not said: that anyone does a rule, that a hungry office eats, that what is on the way comes; anything of a fork that
+//! comes where it is already (that it is away is a condition); how many instructions a look at a mask takes.
 #![tactic(auto)]
 
 mod fault;

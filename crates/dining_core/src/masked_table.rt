@@ -17,7 +17,12 @@ use std::marker::Model;
 
 /// A [`Table`], and of the offices below 16, as bits: which are neighbours, and whose forks, clean forks and request tokens
 /// are here.
-#[derive(Debug, Drop)]
+///
+/// Flags stand twice: the plain type keeps its contracts and proofs, each call is the plain one and a bit or a word
+/// more, and what comes next is found in a word. The masks are in the type's invariant, and no contract mentions them.
+/// To take the flags out of the places is a step of its own: `finish` and `withdraw` of a bar would gain by it, which
+/// go through all places.
+#[derive(Drop)]
 pub struct MaskedTable {
     table: Table,
     near: Mask16,

@@ -1,7 +1,7 @@
 //! How far an office is with eating.
 
 /// An office thinks, then waits for its forks, then eats.
-#[derive(Clone, Copy, Debug, PartialEq, Eq)]
+#[derive(Clone, Copy, PartialEq, Eq)]
 pub enum Phase {
     Thinking,
     Hungry,

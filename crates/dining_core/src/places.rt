@@ -10,7 +10,7 @@ use office_map::{OfficeId, Plan};
 use std::alloc::{AllocError, Global};
 
 /// What an office has of each pair as the plan starts.
-#[tactic(auto, using(bottle_values::proofs::Lists::mapped_more))]
+#[tactic(auto, using(bottle_values::specs::ListLaws::mapped_more))]
 pub fn open(alloc: Global, plan: &Plan, id: OfficeId) -> Result<Vec<SharedFork>, AllocError>
     ensures { IfOk result (λ ps. ps.items ≡ map (start_place plan.now id) (range_with_len 0 (length plan.now.offices))) }
 {

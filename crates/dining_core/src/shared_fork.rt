@@ -4,7 +4,7 @@ ghost use Rattle.std.specs.Prelude.{◌≡◌, ◌&&◌, not};
 ghost use Rattle.dining_core.specs.refinement.Tables.{is_held, is_clean, used};
 
 /// Where the fork of a pair is, as one of its offices sees it.
-#[derive(Clone, Copy, Debug, PartialEq, Eq)]
+#[derive(Clone, Copy, PartialEq, Eq)]
 pub enum Fork {
     /// It isn't here.
     Away,
@@ -39,7 +39,7 @@ impl Fork {
 }
 
 /// The fork of a pair, and whether its request token is here.
-#[derive(Clone, Copy, Debug, PartialEq, Eq)]
+#[derive(Clone, Copy, PartialEq, Eq)]
 pub struct SharedFork {
     pub fork: Fork,
     pub token: bool,

@@ -14,7 +14,11 @@ use std::alloc::{AllocError, Global};
 use std::marker::Model;
 
 /// Who of an office and its neighbours eats first: the forks that are here, and how far the office is.
-#[derive(Debug, Drop)]
+///
+/// It keeps a place for each office of the plan, not for each neighbour, so that a rule about one neighbour is one
+/// look; only `eat` goes through the neighbours. An office that is no neighbour has neither fork nor token there, so
+/// its rules are refused.
+#[derive(Drop)]
 pub struct Table {
     neighbours: Vec<OfficeId>,
     phase: Phase,

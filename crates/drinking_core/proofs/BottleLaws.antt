@@ -6,10 +6,10 @@ use Rattle.std.proofs.lemmas.Bool.{cond_both, eq-eqb, eqb-true, cases_eq, and_pa
 use Rattle.std.proofs.lemmas.Option.{slice_get_cases}
 use Rattle.bottle_values.specs.Values.{Value}
 use Rattle.bottle_values.specs.Maps.{put}
-use Rattle.bottle_values.proofs.Maps.{put_same, put_other}
+use Rattle.bottle_values.specs.MapLaws.{put_same, put_other}
 use Rattle.office_map.specs.declared.entries.RecordEntry.{RecordEntry}
-use Rattle.office_map.specs.PlanValue.{PlanValue, is_end, has_ends, lies_between, has_end, start_end, peer}
-use Rattle.office_map.proofs.RecordEnds.{has_peer, has_ends_both, between_cases}
+use Rattle.office_map.specs.PlanValue.{PlanValue, has_ends, has_end, start_end, peer}
+use Rattle.office_map.specs.NeighbourLaws.{has_peer, has_ends_both, is_first_end}
 use Rattle.dining_core.specs.Worlds.{with_way, one_more}
 use Rattle.drinking_core.specs.Drinkers.{Drinker, BottleRule, Start, AskBottle, GiveBottle, Drink, Finish, Withdraw, is_thirsty, is_drinking, holds, may, act, started, finished, with_token, with_bottle, value_after, token_end, start_bottle, start_token}
 use Rattle.drinking_core.specs.Worlds.{World, opening, Event, Do, TokenComes, BottleComes, bottle_sent, done, bottle_taken, token_taken, does, happens, run, Spot, With, Toward, is_with, is_toward, is_at_ends, IsBottleAt, IsTokenAt, HasItsSpots, finishes, HasValue}
@@ -314,17 +314,6 @@ second_is e = or_right (e.first == e.second) (e.second == e.second) (eq-eqb e.se
 of_two : (e : RecordEntry) (b : Bool) (x y : ℕ) → has_end e x ≡ true → has_end e y ≡ true → has_end e (cond b x y) ≡ true
 of_two e true x y p q = p
 of_two e false x y p q = q
-
--- each of two ends is one
-pub is_first_end : (plan : PlanValue) (r u v : ℕ) → has_ends plan r u v ≡ true → is_end plan r u ≡ true
-is_first_end plan r u v h = go (slice_get plan.records r) h
-  where
-    go : (o : Option RecordEntry) → option_map_or (lies_between u v) o false ≡ true → option_map_or (λ e. has_end e u) o false ≡ true
-    go None k = k
-    go (Some e) k = ⊎_elim
-        (λ s. or_left (e.first == u) (e.second == u) (eq-eqb e.first u s.0))
-        (λ s. or_right (e.first == u) (e.second == u) (eq-eqb e.second u s.1))
-        (between_cases e u v k)
 
 at_ends_leads : (plan : PlanValue) (w : World) (r : ℕ) → ((a : ℕ) → (w.drinker a).peer r ≡ peer plan a r) → Leads (λ s. is_at_ends plan r s ≡ true) w r
 at_ends_leads plan w r peers = record {

@@ -8,10 +8,10 @@ use Rattle.bottle_values.specs.Values.{Value}
 use Rattle.bottle_values.specs.Lists.{num}
 use Rattle.office_map.specs.PlanValue.{PlanValue, are_neighbours, is_end, has_ends, lies_between, peer}
 use Rattle.office_map.specs.Consistency.{IsConsistent}
-use Rattle.office_map.proofs.RecordEnds.{has_ends_both, peer_is, peer_apart, peer_near, has_peer, ends_are}
+use Rattle.office_map.specs.NeighbourLaws.{has_ends_both, peer_is, peer_apart, peer_near, has_peer, ends_are, is_first_end}
 use Rattle.dining_core.specs.Worlds.{places}
 use Rattle.drinking_core.specs.Worlds.{World, Event, opening, run, Spot, With, Toward, is_with, is_toward, is_at_ends, IsBottleAt, IsTokenAt, HasItsSpots, bottle_places, token_places, HasOnePlaceEach, ShareNothing, IsNowhere}
-use Rattle.drinking_core.proofs.BottleLaws.{is_first_end, each_has_its_spots}
+use Rattle.drinking_core.proofs.BottleLaws.{each_has_its_spots}
 use Rattle.drinking_core.proofs.StayingParts.{peers_run}
 use Rattle.drinking_core.proofs.UnknownRecords.{unknown_records_are_nowhere}
 

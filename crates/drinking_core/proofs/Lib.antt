@@ -1,13 +1,13 @@
-pub mod MissingCount
-pub mod BarUpdates
-pub mod OpeningRefines
-pub mod SessionUpdates
-pub mod UniqueSpot
-pub mod StayingParts
-pub mod BottleLaws
-pub mod UnknownRecords
-pub mod BottlePlaces
-pub mod DrinkersNeeds
-pub mod FreedRecords
-pub mod Standstill
-pub mod MaskUpdates
+mod MissingCount
+mod BarUpdates
+mod OpeningRefines
+mod SessionUpdates
+mod UniqueSpot
+mod StayingParts
+mod BottleLaws
+mod UnknownRecords
+mod BottlePlaces
+mod DrinkersNeeds
+mod FreedRecords
+mod Standstill
+mod MaskUpdates

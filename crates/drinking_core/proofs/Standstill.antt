@@ -6,14 +6,12 @@ use Rattle.std.proofs.Math.Bool.{and-false}
 use Rattle.std.proofs.lemmas.Bool.{and_parts, or_parts, eq-eqb, not-false}
 use Rattle.office_map.specs.PlanValue.{PlanValue, are_neighbours, is_end, has_ends, peer}
 use Rattle.office_map.specs.Consistency.{IsConsistent}
-use Rattle.office_map.proofs.RecordEnds.{peer_near, has_peer, peer_back, near_within, has_ends_both}
-use Rattle.dining_core.proofs.CleanForks.{true_of}
-use Rattle.dining_core.proofs.Standstill.{passed, one_fails, other_false}
+use Rattle.office_map.specs.NeighbourLaws.{peer_near, has_peer, peer_back, near_within, has_ends_both, is_first_end}
+use Rattle.bottle_values.specs.ListLaws.{true_of, passed, one_fails, other_false}
 use Rattle.drinking_core.specs.Drinkers.{Drinker, is_thirsty, is_drinking, is_served, holds}
 use Rattle.drinking_core.specs.Worlds.{World, Event, opening, run, HasOnePlaceEach}
 use Rattle.drinking_core.specs.Standstill.{IsAtRest, StandsStill, LacksAFork}
 use Rattle.drinking_core.proofs.BottlePlaces.{each_has_one_place}
-use Rattle.drinking_core.proofs.BottleLaws.{is_first_end}
 use Rattle.drinking_core.proofs.StayingParts.{peers_stay, records_stay}
 use Rattle.bottle_values.specs.Lists.{num, is_among}
 

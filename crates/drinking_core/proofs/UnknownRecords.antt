@@ -5,7 +5,7 @@ use Rattle.std.proofs.lemmas.Bool.{cond_both, and_parts}
 use Rattle.std.proofs.lemmas.Option.{slice_get_past}
 use Rattle.bottle_values.specs.Values.{Value}
 use Rattle.bottle_values.specs.Maps.{put}
-use Rattle.bottle_values.proofs.Maps.{put_cases}
+use Rattle.bottle_values.specs.MapLaws.{put_cases}
 use Rattle.office_map.specs.PlanValue.{PlanValue}
 use Rattle.dining_core.specs.Worlds.{with_way, one_more}
 use Rattle.drinking_core.specs.Drinkers.{Drinker, BottleRule, Start, AskBottle, GiveBottle, Drink, Finish, Withdraw, is_thirsty, is_drinking, holds, may, act, with_token, with_bottle, value_after, start_bottle, start_token}

@@ -9,8 +9,8 @@ use Rattle.drinking_core.specs.declared.phase.Phase.{Phase}
 use Rattle.drinking_core.specs.declared.phase.Phase.TheVariants.{Tranquil, Thirsty, Drinking}
 use Rattle.bottle_values.specs.Lists.{is_among}
 
--- the records of the office, and of each whether the current session needs it, the bottle with its value if it is here,
--- whether its request token is here, and the other end
+-- An office among its neighbours: how far it is with its session, and of each of its records whether the session needs
+-- it, the bottle with its value if it is here, whether its request token is here, and the other end.
 pub record Drinker : Type 0 where
   pub records : List ℕ
   pub phase : Phase
@@ -19,9 +19,9 @@ pub record Drinker : Type 0 where
   pub token : ℕ → Bool
   pub peer : ℕ → ℕ
 
--- the rules: Start with the records of the first waiting session, if one waits; GiveBottle with the neighbours whose
--- fork is held; Finish with what the session wrote, if its work has ended; Withdraw takes a session back that waits for
--- its bottles
+-- The rules: to start a session, to ask for a bottle, to give one, to drink, to finish, to withdraw a session. Start is
+-- with the records of the first waiting session, if one waits; GiveBottle with the neighbours whose fork is held;
+-- Finish with what the session wrote, if its work has ended; Withdraw takes a session back that waits for its bottles.
 pub data BottleRule : Type 0 where
   Start : (session : Option (List ℕ)) → BottleRule
   AskBottle : (r : ℕ) → BottleRule
@@ -30,21 +30,25 @@ pub data BottleRule : Type 0 where
   Finish : (writes : Option (List (ℕ × Value))) → BottleRule
   Withdraw : BottleRule
 
+-- the phase of an office without a session
 abbrev pub is_tranquil : Phase → Bool
 is_tranquil Tranquil = true
 is_tranquil Thirsty = false
 is_tranquil Drinking = false
 
+-- the phase of one whose session waits for its bottles
 abbrev pub is_thirsty : Phase → Bool
 is_thirsty Tranquil = false
 is_thirsty Thirsty = true
 is_thirsty Drinking = false
 
+-- the phase of one whose session works
 abbrev pub is_drinking : Phase → Bool
 is_drinking Tranquil = false
 is_drinking Thirsty = false
 is_drinking Drinking = true
 
+-- the record's bottle is here
 abbrev pub holds : Drinker → ℕ → Bool
 holds d r = is_some (d.bottle r)
 
@@ -61,11 +65,11 @@ may d Drink = is_thirsty d.phase && list_all (is_served d) d.records
 may d (Finish writes) = is_drinking d.phase && is_some writes
 may d Withdraw = is_thirsty d.phase
 
--- the value of a record after these writes
+-- the value of a record after these writes, of which the last counts
 abbrev pub value_after : List (ℕ × Value) → ℕ → Value → Value
 value_after writes r v = write_all writes (λ q. v) r
 
--- what it does then
+-- the office is thirsty for the records of that session
 abbrev pub started : Drinker → Option (List ℕ) → Drinker
 started d None = d
 started d (Some rs) = record d { phase = Thirsty; needed = λ r. is_among rs r }
@@ -75,6 +79,7 @@ abbrev pub finished : Drinker → Option (List (ℕ × Value)) → Drinker
 finished d None = d
 finished d (Some writes) = record d { phase = Tranquil; needed = λ r. false; bottle = λ r. option_map (value_after writes r) (d.bottle r) }
 
+-- what a rule does, where it may be done
 abbrev pub act : Drinker → BottleRule → Drinker
 act d (Start session) = started d session
 act d (AskBottle r) = record d { token = put d.token r false }

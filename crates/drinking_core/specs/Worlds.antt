@@ -79,7 +79,7 @@ bottle_taken w a v r (x ∷ later) = record {
 abbrev pub does : PlanValue → World → ℕ → BottleRule → Bool
 does plan w a rule = nat_lt a (length plan.offices) && may (w.drinker a) rule
 
--- what was sent comes
+-- What each event does. What comes is the first of those that were sent; where none was, nothing happens.
 abbrev pub happens : PlanValue → World → Event → World
 happens plan w (Do a rule) = if does plan w a rule then done w a rule else w
 happens plan w (TokenComes a v r) = token_taken w a v r (w.tokens_on_way r v a)
@@ -134,6 +134,7 @@ pub record HasItsSpots (plan : PlanValue) (w : World) (r : ℕ) : Type 0 where
 abbrev pub bottle_places : World → ℕ → ℕ → ℕ → ℕ
 bottle_places w r u v = places (λ a b. (w.drinker a).peer r == b && holds (w.drinker a) r) (λ a b. length (w.bottles_on_way r a b)) u v
 
+-- and at how many its request token is
 abbrev pub token_places : World → ℕ → ℕ → ℕ → ℕ
 token_places w r u v = places (λ a b. (w.drinker a).peer r == b && (w.drinker a).token r) (w.tokens_on_way r) u v
 
@@ -180,19 +181,23 @@ HasWhatItNeeds d = is_drinking d.phase ≡ true → list_all (is_served d) d.rec
 abbrev pub EachHasItsSpots : Type 0
 EachHasItsSpots = (plan : PlanValue) (events : List Event) (r : ℕ) → r < length plan.records → HasItsSpots plan (run plan (opening plan) events) r
 
+-- after every list of events each record's bottle and request token are at one place between its ends
 abbrev pub EachHasOnePlace : Type 0
 EachHasOnePlace = (plan : PlanValue) (events : List Event) → IsConsistent plan → HasOnePlaceEach plan (run plan (opening plan) events)
 
--- two offices that are no neighbours share nothing
+-- two offices that are no neighbours share nothing, after every list of events
 abbrev pub StrangersShareNothing : Type 0
 StrangersShareNothing = (plan : PlanValue) (events : List Event) (u v : ℕ) → IsConsistent plan → are_neighbours plan u v ≡ false → ShareNothing (run plan (opening plan) events) u v
 
+-- so it is, after every list of events, of records that the plan doesn't have
 abbrev pub UnknownRecordsAreNowhere : Type 0
 UnknownRecordsAreNowhere = (plan : PlanValue) (events : List Event) (r : ℕ) → length plan.records ≤ r → IsNowhere (run plan (opening plan) events) r
 
+-- after every list of events each office has its records of the plan
 abbrev pub RecordsStay : Type 0
 RecordsStay = (plan : PlanValue) (events : List Event) (a : ℕ) → ((run plan (opening plan) events).drinker a).records ≡ records_of plan a
 
+-- and the other end of each is that of the plan
 abbrev pub PeersStay : Type 0
 PeersStay = (plan : PlanValue) (events : List Event) (a r : ℕ) → ((run plan (opening plan) events).drinker a).peer r ≡ peer plan a r
 
@@ -200,6 +205,7 @@ PeersStay = (plan : PlanValue) (events : List Event) (a r : ℕ) → ((run plan 
 abbrev pub NoOtherSpot : Type 0
 NoOtherSpot = (w : World) (r : ℕ) (spot other : Spot) (v x : Value) → IsBottleAt w r spot v → IsBottleAt w r other x → (spot ≡ other) × (v ≡ x)
 
+-- each bottle starts at the plan's end with the plan's value
 abbrev pub BottlesStartWithTheirValues : Type 0
 BottlesStartWithTheirValues = (plan : PlanValue) (r : ℕ) (e : RecordEntry) → slice_get plan.records r ≡ Some e → IsBottleAt (opening plan) r (With (start_end e)) e.value
 
@@ -207,10 +213,11 @@ BottlesStartWithTheirValues = (plan : PlanValue) (r : ℕ) (e : RecordEntry) →
 abbrev pub ValuesStay : Type 0
 ValuesStay = (plan : PlanValue) (w : World) (e : Event) (r : ℕ) (v : Value) → finishes plan w e ≡ false → HasValue w r v → HasValue (happens plan w e) r v
 
--- where an office finishes, the bottles that it has get what was written to their records, and no bottle moves
+-- where an office finishes, the bottles that it has get what was written to their records last, and no bottle moves
 abbrev pub FinishingWrites : Type 0
 FinishingWrites = (plan : PlanValue) (w : World) (a : ℕ) (writes : List (ℕ × Value)) (r : ℕ) (spot : Spot) (v : Value) → finishes plan w (Do a (Finish (Some writes))) ≡ true → IsBottleAt w r spot v →
     IsBottleAt (happens plan w (Do a (Finish (Some writes)))) r spot (if is_with spot a then value_after writes r v else v)
 
+-- so it is after every list of events
 abbrev pub DrinkersHaveWhatTheyNeed : Type 0
 DrinkersHaveWhatTheyNeed = (plan : PlanValue) (events : List Event) (a : ℕ) → HasWhatItNeeds ((run plan (opening plan) events).drinker a)

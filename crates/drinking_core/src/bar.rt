@@ -18,7 +18,12 @@ use std::alloc::{AllocError, Global};
 use std::marker::Model;
 
 /// The bottles of an office: which are here with their values, and how far the office is with its current session.
-#[derive(Debug, Drop)]
+///
+/// It keeps a place for each record of the plan, and how many needed bottles aren't here: else the guard of `drink`
+/// would look at up to 120 records. The invariant ties that count to the places, and no contract mentions it. A bottle
+/// and its value are one thing: an office has a value only where it has the bottle, so none that is out of date can be
+/// told or sent.
+#[derive(Drop)]
 pub struct Bar {
     records: Vec<RecordId>,
     phase: Phase,
@@ -137,6 +142,10 @@ impl Bar {
     }
 
     /// A tranquil office begins with the first waiting session, which needs these records; none where no session waits.
+    ///
+    /// The records are the office's, by condition: one of others could be missing forever, since its bottle could never
+    /// come. Whether a session waits, and of `finish` whether its work has ended, is the caller's to know and part of
+    /// the guard: `None` is `NotNow`, and no check is made twice.
     pub fn start(&mut self, session: Option<&[RecordId]>) -> Result<(), NotNow>
         requires { ForSome session (λ rs. All (λ r. is_among (drinker_of self.old).records r ≡ true) rs.now) }
         ensures not_now { IsErr result ↔ (may (drinker_of self.old) (Start (option_copied session.entry)) ≡ false) }
@@ -222,6 +231,11 @@ impl Bar {
     /// A drinking office ends its session with what the session's work wrote, each record with its value; none where
     /// the work hasn't ended. Where a record is written twice, the last value counts. What is written to a record
     /// whose bottle isn't here is lost.
+    ///
+    /// A drinking office has all bottles that its session needs, so nothing of a session is lost. A write to a record
+    /// that the session doesn't need goes into its bottle, if it is here: sessions write only what they need, so a
+    /// refusal would have no case, and the caller has nothing to show. It takes a slice, as `RecordValues::as_slice`
+    /// lends it: nothing is copied.
     pub fn finish(&mut self, writes: Option<&[(RecordId, Value)]>) -> Result<(), NotNow>
         ensures not_now { IsErr result ↔ (may (drinker_of self.old) (Finish (option_copied writes.entry)) ≡ false) }
         ensures done { OnOk result (drinker_of self.new ≡ act (drinker_of self.old) (Finish (option_copied writes.entry))) }

@@ -5,12 +5,20 @@ ghost use Rattle.drinking_core.specs.Standstill.{TheThirstyLackAFork};
 
 /// After every list of events the bottle of each record is with one of its ends or on the way from one to the other,
 /// and so is the bottle's request token.
+///
+/// Where a bottle is, with its value, is told by its spot: with an office, or on the way from one to another, and
+/// nowhere else. So the laws of values need no plan and no ends. What is on the way is a list, by record, sender and
+/// receiver; that it has at most one element is a law. What comes is the first, so a world whose messages wait in order
+/// is such a world as it is.
 pub fn each_has_its_spots()
     ensures { EachHasItsSpots }
 {}
 
 /// After every list of events the bottle of a record has one place between the record's ends, and so has its request
 /// token; between two other offices neither has one.
+///
+/// Places are counted, as for forks. What an office has counts for its record's other end alone, so the count needs the
+/// plan.
 pub fn each_has_one_place()
     ensures { EachHasOnePlace }
 {}
@@ -62,6 +70,9 @@ pub fn drinkers_have_what_they_need()
 
 /// Whichever forks each office holds: after every list of events, where no office drinks or may do a rule, and nothing is
 /// on the way, a thirsty office lacks a fork.
+///
+/// Who holds which forks is told by a function, as `dining_core`'s law is told who is thirsty. So each of the two laws
+/// stands on the events of its own part alone, and joining them takes no more than handing each the other's answer.
 pub fn the_thirsty_lack_a_fork()
     ensures { TheThirstyLackAFork }
 {}

@@ -9,6 +9,15 @@
 //!   (`specs/Standstill.antt`), a thirsty office lacks a fork.
 //!
 //! No call takes memory but [`Bar::open`]. It stands on `dining_core`, `office_map` and `bottle_values`.
+//!
+//! Rules are given what they depend on and don't own: to start, the records of the first waiting session; to give a
+//! bottle, the office's own table; to finish, what the session wrote, or nothing while its work goes on. So the crate
+//! knows no programs and no queue. A rule more is a case more of `BottleRule`, `may` and `act`.
+//!
+//! Not said: that the table of `give_bottle` is the same office's, and that what `finish` is given is what the session
+//! wrote (the caller hands both in); anything of a bottle that comes where it is already (that it is away is a
+//! condition); that a thirsty office drinks; which neighbour has the fork that one lacks (it is one that keeps a
+//! bottle); how many instructions a look at a mask takes.
 #![tactic(auto)]
 
 mod bar;

@@ -20,7 +20,7 @@ use std::marker::Model;
 
 /// A [`Bar`], and of the office's own records, each at its place among them, as bits: which bottles and which request tokens
 /// are here, and which records are needed.
-#[derive(Debug, Drop)]
+#[derive(Drop)]
 pub struct MaskedBar {
     bar: Bar,
     spots: Vec<u8>,
@@ -67,6 +67,9 @@ impl MaskedBar {
     }
 
     /// The least of the office's records whose bottle may be given now.
+    ///
+    /// The guard of each bottle that is here and asked for is asked. A mask of those that a fork keeps would tie
+    /// bottles to forks; but a thirsty office that was asked for all that it needs looks at each.
     pub fn first_given(&self, table: &Table) -> Option<RecordId>
         ensures { result ≡ find (λ r. may (drinker_of self.now) (GiveBottle r (diner_of table.now).held)) (drinker_of self.now).records }
     {

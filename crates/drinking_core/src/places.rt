@@ -14,7 +14,7 @@ use office_map::{OfficeId, Plan, RecordId};
 use std::alloc::{AllocError, Global};
 
 /// What an office has of each record as the plan starts.
-#[tactic(auto, using(bottle_values::proofs::Lists::mapped_more))]
+#[tactic(auto, using(bottle_values::specs::ListLaws::mapped_more))]
 pub fn open(alloc: Global, plan: &Plan, id: OfficeId) -> Result<Vec<SharedBottle>, AllocError>
     ensures { IfOk result (λ ps. ps.items ≡ map (start_place plan.now id) (range_with_len 0 (length plan.now.records))) }
 {

@@ -9,7 +9,7 @@ use office_map::OfficeId;
 
 /// What an office has of a record: whether its session needs it, the bottle with its value if it is here, whether the
 /// bottle's request token is here, and the record's other end.
-#[derive(Clone, Copy, Debug, PartialEq, Eq)]
+#[derive(Clone, Copy, PartialEq, Eq)]
 pub struct SharedBottle {
     pub needed: bool,
     pub bottle: Option<Value>,

@@ -1,7 +1,6 @@
-pub mod BigEndian
-pub mod HeaderSpelling
-pub mod BufferWrites
-pub mod SpellingUnique
-pub mod FirstFaults
-pub mod DecodeSpells
-pub mod EncodeSpells
+mod BigEndian
+mod HeaderSpelling
+mod BufferWrites
+mod FirstFaults
+mod DecodeSpells
+mod EncodeSpells

@@ -3,6 +3,7 @@ use Rattle.std.specs.Prelude.{ℕ, List, codes}
 use Rattle.frame_codec.specs.declared.fault.FrameFault.{FrameFault}
 use Rattle.frame_codec.specs.declared.fault.FrameFault.TheVariants.{Short, Magic, Version, Kind, Number, Count, Tag, Length}
 
+-- the code and the name of what is wrong with bytes
 abbrev pub fault_text : FrameFault → List ℕ
 fault_text Short = codes "F1 Short"
 fault_text Magic = codes "F2 Magic"

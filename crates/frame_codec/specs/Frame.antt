@@ -26,7 +26,7 @@ IsMsg Fork = Unit {0}
 IsMsg (AskBottle bottle) = bottle < 2 ^ 16
 IsMsg (Bottle bottle value) = (bottle < 2 ^ 16) × IsTrue (is_value value)
 
--- each field is in its range
+-- each field is in the format's range
 pub record IsFrame (f : Fields) : Type 0 where
   pub run : f.run < 2 ^ 32
   pub from : f.from < 2 ^ 8

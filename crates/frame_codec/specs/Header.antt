@@ -8,10 +8,11 @@ use Rattle.frame_codec.specs.declared.message.Msg.{Msg}
 use Rattle.frame_codec.specs.Frame.{Fields}
 use Rattle.frame_codec.specs.Limits.{sequence_space}
 
--- the kinds
+-- the kind of a frame with a message
 abbrev pub data_kind : ℕ
 data_kind = 1
 
+-- the kind of one without
 abbrev pub ack_kind : ℕ
 ack_kind = 2
 

@@ -22,6 +22,7 @@ abbrev pub body : Option Msg → List ℕ
 body None = []
 body (Some msg) = message msg
 
+-- the bytes of a frame
 unfoldable pub spelling : Fields → List ℕ
 spelling f = header 1 (kind_of f.msg) f ++ body f.msg
 
@@ -46,7 +47,7 @@ has bytes Tag = has_tag bytes && not (nat_le 1 (slice_index bytes 26) && nat_le 
 has bytes Length = not (length bytes == (if is_data bytes then length_by_tag (slice_index bytes 26) else 26))
 has bytes fault = header_has 1 bytes fault
 
--- the first of them that applies
+-- the first fault of bytes that are no frame
 unfoldable pub first_fault : List ℕ → Option FrameFault
 first_fault bytes =
     find (has bytes) (Short ∷ Magic ∷ Version ∷ Kind ∷ Number ∷ Count ∷ Tag ∷ Length ∷ [])

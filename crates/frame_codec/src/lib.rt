@@ -13,6 +13,9 @@
 //! What stands in `frame`, `message`, `fault` and `header` holds for any version of the format, and
 //! `version_01` has what is that version's own. No call takes memory. It stands on `byteorder` and
 //! `bottle_values`.
+//!
+//! Not said: anything of other versions, but that they are refused (F3); that a frame's run and offices are those of a
+//! plan.
 #![tactic(auto)]
 
 mod fault;

@@ -13,6 +13,8 @@ pub const BOTTLE: u8 = 4;
 
 /// A message about the fork or one bottle of a pair. A bottle is named by its record's number.
 /// The default is what a place for messages holds while it has none.
+///
+/// A vector of fixed capacity has to fill its unused places. No clause speaks of the default.
 #[derive(Clone, Copy, Debug, Default, PartialEq, Eq, Hash)]
 pub enum Msg {
     /// The fork's request token.

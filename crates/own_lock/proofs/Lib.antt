@@ -1,7 +1,7 @@
-pub mod Prefixes
-pub mod TaggedEntries
-pub mod Views
-pub mod StepsKeepRule
-pub mod Dealing
-pub mod PassCalls
-pub mod WaitingTags
+mod Prefixes
+mod TaggedEntries
+mod Views
+mod StepsKeepRule
+mod Dealing
+mod PassCalls
+mod WaitingTags

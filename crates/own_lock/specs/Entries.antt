@@ -25,8 +25,10 @@ module _ {S K E : Type 0} (key : S → K) (entries : S → List E) where
   abbrev pub Extends : S → S → Type 0
   Extends older newer = (key newer ≡ key older) × IsPrefix (entries older) (entries newer)
 
+  -- every state extends itself
   abbrev pub ExtendingIsReflexive : Type 0
   ExtendingIsReflexive = (x : S) → Extends x x
 
+  -- a state that extends another extends each that this one extends
   abbrev pub ExtendingIsTransitive : Type 0
   ExtendingIsTransitive = (x y z : S) → Extends x y → Extends y z → Extends x z

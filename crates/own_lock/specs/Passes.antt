@@ -35,10 +35,11 @@ module _ {K E : Type 0} where
   abbrev pub AreIdle : LockView K → List (PassView K E) → Type 0
   AreIdle lock passes = All (λ pass. IsOf lock pass × (pass.holds ≡ false)) passes
 
-  -- the pass, which holds the state now and has seen its entries
+  -- the pass after taking: it holds the state and has seen its entries, and all else stays
   abbrev pub pass_after_take : PassView K E → List E → PassView K E
   pass_after_take pass es = record pass { holds = true; seen = es }
 
-  -- the pass, which gave a state with these entries back
+  -- the pass after giving a state with these entries back: it holds nothing, has seen them, and its own are those with
+  -- its tag
   abbrev pub pass_after_give : (E → ℕ) → PassView K E → List E → PassView K E
   pass_after_give tag_of pass es = record pass { holds = false; seen = es; mine = tagged tag_of pass.tag es }

@@ -46,7 +46,9 @@ module _ {K E : Type 0} where
   abbrev pub HoldsAt : List (SeatView K E) → ℕ → Type 0
   HoldsAt views seat = (v : SeatView K E) × (get_elem? views seat ≡ some v) × (v.holds ≡ true)
 
--- Each tag has one seat, so no two passes have one tag.
+-- At word 0 the state lies in the slot, fits, has the lock's key, and its entries are the history. At any other word
+-- one seat holds it, with one pass, which has seen the whole history. Each tag has one seat, so no two passes have one
+-- tag. What each pass has seen begins the history, and its own entries are all of its tag.
 pub record LockRule {S K E : Type 0} (tag_of : E → ℕ) (key : S → K) (entries : S → List E) (fits : S → Type 0) (k : K) (passes : ℕ) (s : State (Option S) (SeatView K E)) : Type 0 where
   pub history : List E
   pub seat_of : ℕ → ℕ

@@ -76,7 +76,7 @@ module _ {K E : Type 0} where
 
 -- ---- steps
 
--- each with the seat that takes it, and the view there
+-- the seven kinds of atomic steps, each with the seat that takes it, and the view there
 pub data Step (S K E : Type 0) : Type 0 where
   -- a load by which the first pass of a seat gets a seat of its own
   Deals : (seat : ℕ) (v : SeatView K E) → Step S K E
@@ -113,7 +113,7 @@ module _ {S K E : Type 0} (tag_of : E → ℕ) (key : S → K) (entries : S → 
   May s (Tells seat v) = IsAt s.views seat v × (v.holds ≡ false) × (v.parts ≡ the_part v ∷ second_part v ∷ [])
 
 module _ {S K E : Type 0} (tag_of : E → ℕ) (entries : S → List E) where
-  -- what it leaves
+  -- the table after a step
   abbrev pub table_after : State (Option S) (SeatView K E) → Step S K E → State (Option S) (SeatView K E)
   table_after s (Deals seat v) = record { words = s.words; homes = s.homes; views = slice_set s.views seat (without_first v) ++ first_alone v ∷ [] }
   table_after s (Takes word seat v x) = record { words = slice_set s.words 0 word; homes = slice_set s.homes 0 none; views = slice_set s.views seat (holder_view tag_of v (entries x)) }
@@ -123,6 +123,7 @@ module _ {S K E : Type 0} (tag_of : E → ℕ) (entries : S → List E) where
   table_after s (TakesIn seat v other w) = record { words = s.words; homes = s.homes; views = slice_set (slice_set s.views seat (joined_view v w)) other spent_view }
   table_after s (Tells seat v) = record { words = s.words; homes = s.homes; views = slice_set s.views seat (told_view v) }
 
+  -- the table after these steps, one after the other
   abbrev pub table_after_all : State (Option S) (SeatView K E) → List (Step S K E) → State (Option S) (SeatView K E)
   table_after_all s [] = s
   table_after_all s (step ∷ steps) = table_after_all (table_after s step) steps

@@ -6,6 +6,9 @@ use std::alloc::{AllocError, Global};
 use std::marker::Model;
 
 /// A state in a box. Contracts see the state.
+///
+/// Taking and giving an office is some 48 instructions so, where its bytes took 1,563. No definition speaks of the box,
+/// and no call but `open` takes memory.
 #[derive(Drop)]
 pub struct Boxed<S> {
     pub(crate) at: Box<S>,

@@ -8,6 +8,8 @@ use std::marker::Model;
 
 /// The state of a lock, owned by whoever took it. It can't be dropped: it is given back, by the pass
 /// that took it.
+///
+/// A body that puts an older state back can't be written: the lock is generic in its state, which it can't copy.
 pub struct Held<S> {
     boxed: Boxed<S>,
 }

@@ -21,6 +21,10 @@ pub fn steps_keep_the_rule<S: Kept>()
 {}
 
 /// From the opening on, the rule of a lock holds after every list of steps.
+///
+/// The rule is promised by the laws alone. They are statements about the definitions, and the code meets them because
+/// each call of the table asks for the rule's being kept. A call that looked at the word and said that the rule holds
+/// there would say no more: some table under the rule can always be thought up, whatever the call answers.
 pub fn the_rule_holds_throughout<S: Kept>()
     ensures { TheRuleHoldsThroughout S.tag_of S.key S.entries S.fits }
 {}

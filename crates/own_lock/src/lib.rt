@@ -19,6 +19,35 @@
 //! No call but [`OwnLock::open`] takes memory, and none but [`OwnLock::take`] waits. Nothing is said of who
 //! gets the state first: one that tries may come before the one that was woken. It stands on `atomic_table`
 //! and `crossbeam_utils`, with no `unsafe`.
+//!
+//! What three threads see of an office, each by its pass. The third one has the office at this moment:
+//!
+//! ```text
+//! the lock's word      1: a pass has the office            (2: and others may wait; 0: it lies in the slot)
+//!
+//! the history          [ e1  e2  e3  e4  e5  e6  e7  e8 ]  all that the office accepted, the oldest first
+//! tags                   0   1   1   0   2   0   1   2
+//!
+//! pass 0  has seen     [ e1  e2  e3  e4  e5  e6 ]          the journal as it was when it last had the office
+//!         its own        e1          e4      e6            all entries of its tag that there are
+//! pass 1  has seen     [ e1  e2  e3  e4  e5  e6  e7 ]
+//!         its own            e2  e3              e7
+//! pass 2  has seen     [ e1  e2  e3  e4  e5  e6  e7  e8 ]  the whole journal, for it has the office
+//!         its own                        e5          e8
+//! ```
+//!
+//! The contracts of threads speak of no moment: a pass knows a list of entries that it has seen, and the state's list
+//! never loses any. What a pass has seen begins the history, and stays so, since only a pass that has the state adds to
+//! it, and only at its end. Between two holdings of a pass entries of others may come, and none of its own: nobody else
+//! has its tag. Knowledge goes from pass to pass in two ways: by taking the state, and by `meet`, where one of them is
+//! given up.
+//!
+//! The lock is a table with one word and one slot: the word says whether the state is there, and the slot has it. The
+//! rule ties the views of all seats to one history. Seven kinds of steps change them, and each keeps the rule by a
+//! lemma of its own (`proofs/StepsKeepRule.antt`); there is no logic of memory above the table.
+//!
+//! Not said: that `take` returns, or who is next; that a pass which sleeps is woken; that `Busy`, and the `None` of
+//! `close`, come only with a holder. Tests show the last three.
 #![tactic(auto)]
 
 mod boxed;

@@ -55,12 +55,18 @@ impl<S: Kept> Model for OwnLock<S> {
 }
 
 /// Another pass holds the state. Nothing changed.
+///
+/// That somebody held the state at that moment can't be told from what the call leaves, nor of the `None` of `close`. A
+/// contract could only say that there is some table under the rule where another pass holds, and one can always be
+/// thought up.
 #[derive(Clone, Copy, Debug, PartialEq, Eq, Error)]
 #[error("Busy")]
 pub struct Busy;
 
 impl<S: Kept> OwnLock<S> {
     /// A lock round this state, and passes with the tags from 0 on, which have seen its entries.
+    ///
+    /// `idle` follows from `fresh`, but a caller that takes passes out of their list needs just that.
     ///
     /// # Errors
     /// Where memory runs out, the state is dropped.
@@ -104,6 +110,8 @@ impl<S: Kept> OwnLock<S> {
     }
 
     /// Takes the state. While another pass holds it, waits.
+    ///
+    /// It tries a while first, since most holdings are shorter than a sleep.
     pub fn take<R: Wait>(&self, rt: &R, pass: &mut Pass<S>) -> Held<S>
         requires of { IsOf self.now pass.old }
         requires idle { pass.old.holds ≡ false }

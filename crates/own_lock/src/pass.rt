@@ -12,6 +12,9 @@ use std::marker::Model;
 
 /// One of the passes that a lock was opened with. It may be handed from thread to thread. Contracts see
 /// its lock, its tag, whether it holds the state, the entries that it has seen, and its own among them.
+///
+/// One that is let go stays in the rule with what it knew, and nobody waits for it. One that is let go while it holds
+/// leaves the lock taken, and `close` answers `None`.
 #[derive(Drop)]
 pub struct Pass<S: Kept> {
     pub(crate) tag: u8,

@@ -11,6 +11,9 @@ use atomic_table::{Join, Play, Split, TableRule};
 use std::marker::PhantomData;
 
 /// The history of the lock.
+///
+/// The history and the holder are 'there is' data of the rule. While a pass holds the state, the history is what that
+/// pass has seen; otherwise it is the entries of the state in the slot. Either way the rule gives the list by name.
 pub struct History<S> {
     state: PhantomData<S>,
 }

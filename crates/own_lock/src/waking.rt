@@ -59,6 +59,10 @@ impl Waiters {
     }
 
     /// Wakes the next pass that waits after this tag, if one does.
+    ///
+    /// One pass and not all: the others would wake to find the state taken. Going round, no tag waits behind the same
+    /// others for ever. One that was woken leaves word again as it takes the state, so its own giving back wakes the
+    /// next.
     pub(crate) fn wake_after(&self, tag: u8)
         requires { tag < 16 }
     {

@@ -1,8 +1,7 @@
 -- The first rule of a list that may be done, looked for one after the other.
-use Rattle.std.proofs.Common.{◌≡◌, ℕ, zero, suc, ◌+◌, ◌<◌, Bool, true, false, cond, List, [], ◌∷◌, ◌++◌, length, map, take, get_or, Option, None, Some, refl, sym, ap, ◌∙◌, arith}
+use Rattle.std.proofs.Common.{◌≡◌, ℕ, Bool, true, false, cond, List, [], ◌∷◌, ◌++◌, map, Option, None, Some, refl, sym, ap, ◌∙◌}
 use Rattle.std.specs.Prelude.{◌&&◌, find, filter, option_map}
 use mathlib.Core.Path.{fun_ext}
-use Rattle.std.proofs.lemmas.List.{take_more, map-append}
 
 pub skipped : {A : Type 0} (p : A → Bool) (x : A) (xs : List A) → find p (x ∷ xs) ≡ None → (p x ≡ false) × (find p xs ≡ None)
 skipped p x xs e = go (p x) refl e
@@ -10,13 +9,6 @@ skipped p x xs e = go (p x) refl e
     go : (b : Bool) → p x ≡ b → cond b (Some x) (find p xs) ≡ None → (p x ≡ false) × (find p xs ≡ None)
     go true h k = absurd cc
     go false h k = (h, k)
-
-pub found_at : {A : Type 0} (p : A → Bool) (f : ℕ → A) (xs : List ℕ) (i x d : ℕ) → i < length xs → x ≡ get_or xs i d → find p (map f (take i xs)) ≡ None → p (f x) ≡ true → find p (map f xs) ≡ Some (f x)
-found_at p f [] i x d lt is none e = absurd (omega (arith, lt))
-found_at p f (y ∷ ys) zero x d lt is none e = ap (λ z. find p (f z ∷ map f ys)) (sym is) ∙ ap (λ b. cond b (Some (f x)) (find p (map f ys))) e
-found_at p f (y ∷ ys) (suc i) x d lt is none e =
-    let before = skipped p (f y) (map f (take i ys)) none in
-    ap (λ b. cond b (Some (f y)) (find p (map f ys))) before.0 ∙ found_at p f ys i x d (omega (arith, lt)) is before.1 e
 
 find_append : {A : Type 0} (p : A → Bool) (xs ys : List A) → find p xs ≡ None → find p (xs ++ ys) ≡ find p ys
 find_append p [] ys e = refl
@@ -46,26 +38,9 @@ found_before p (z ∷ xs) ys x e = go (found_before p xs ys x) (p z) refl e
 pub found_after : {A : Type 0} (p : A → Bool) (xs ys : List A) (o : Option A) → find p xs ≡ None → find p ys ≡ o → find p (xs ++ ys) ≡ o
 found_after p xs ys o e h = find_append p xs ys e ∙ h
 
-pub not_yet : {A : Type 0} (p : A → Bool) (f : ℕ → A) (xs : List ℕ) (i x d : ℕ) → i < length xs → x ≡ get_or xs i d → find p (map f (take i xs)) ≡ None → p (f x) ≡ false → find p (map f (take (i + 1) xs)) ≡ None
-not_yet p f xs i x d lt is none e =
-    ap (λ l. find p (map f l)) (take_more xs i d lt) ∙ ap (find p) (map-append f (take i xs) (get_or xs i d ∷ []))
-    ∙ find_append p (map f (take i xs)) (f (get_or xs i d) ∷ []) none
-    ∙ ap (λ b. cond b (Some (f (get_or xs i d))) None) (ap (λ z. p (f z)) (sym is) ∙ e)
-
--- where no rule of a kind may be done, none is found
-pub none_found : {A : Type 0} (p : A → Bool) (f : ℕ → A) (xs : List ℕ) → ((x : ℕ) → p (f x) ≡ false) → find p (map f xs) ≡ None
-none_found p f [] barred = refl
-none_found p f (x ∷ xs) barred = ap (λ b. cond b (Some (f x)) (find p (map f xs))) (barred x) ∙ none_found p f xs barred
-
--- a guard of three parts is false where its second part is
-pub barred : (a b c : Bool) → b ≡ false → (a && (b && c)) ≡ false
-barred true false c h = refl
-barred false false c h = refl
-barred a true c h = absurd cc
-
 -- ---- the first of those that pass a test, where the guard asks for the test
 
-pub kept_first : (q g : ℕ → Bool) (ys : List ℕ) → find (λ x. q x && g x) (filter q ys) ≡ find g (filter q ys)
+kept_first : (q g : ℕ → Bool) (ys : List ℕ) → find (λ x. q x && g x) (filter q ys) ≡ find g (filter q ys)
 kept_first q g [] = refl
 kept_first q g (y ∷ ys) = go (kept_first q g ys) (q y) refl
   where

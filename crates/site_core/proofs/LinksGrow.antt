@@ -2,7 +2,7 @@
 use Rattle.std.proofs.Common.{◌≡◌, ℕ, ◌+◌, ◌-◌, ◌≤◌, Bool, true, false, cond, List, [], ◌∷◌, ◌++◌, Option, None, Some, Ok, Err, refl, sym, subst, arith, ⊎_elim}
 use Rattle.std.proofs.lemmas.Bool.{cases_lt}
 use Rattle.std.proofs.lemmas.List.{length-drop, length-append}
-use Rattle.bottle_values.proofs.Maps.{put_cases}
+use Rattle.bottle_values.specs.MapLaws.{put_cases}
 use Rattle.frame_codec.specs.declared.message.Msg.{Msg}
 use Rattle.frame_codec.specs.declared.message.Msg.TheVariants as msg
 use Rattle.frame_codec.specs.Frame.{Fields}
@@ -21,13 +21,13 @@ use Rattle.site_core.specs.declared.event.Event.TheVariants as event
 use Rattle.site_core.specs.declared.event.Entry.{Entry}
 use Rattle.site_core.specs.declared.reply.Reply.TheVariants as reply
 use Rattle.site_core.specs.declared.reply.Refusal.TheVariants as refusal
-use Rattle.site_core.specs.Pairs.{Pairs, queued_to, sent, bottle_sends, frame_fault, after_frame, follows, after_kept, after_taking}
-use Rattle.site_core.specs.Agenda.{is_full, submitted}
+use Rattle.neighbour_pairs.specs.Pairs.{Pairs, queued_to, sent, bottle_sends, frame_fault, after_frame, follows, after_kept, after_taking}
+use Rattle.session_agenda.specs.Agenda.{is_full, submitted}
 use Rattle.site_core.specs.Offices.{Office, Answer, may, act, is_ours, framed, frame_on, unless_faulty, opened}
 use Rattle.site_core.specs.Journals.{next_or, after, run_of, office_of}
 use Rattle.site_core.specs.Growing.{Grows, LinksOnlyGrow}
-use Rattle.site_core.proofs.KeptMessages.{through_taking}
-use Rattle.site_core.proofs.Withdrawing.{either_withdrawn, after_withdrawal}
+use Rattle.neighbour_pairs.specs.PairLaws.{through_taking}
+use Rattle.site_core.specs.WithdrawalLaws.{either_withdrawn, after_withdrawal}
 
 same : (l : LinkState) → Grows l l
 same l = record { acked = omega arith; used = omega arith; taken = omega arith }

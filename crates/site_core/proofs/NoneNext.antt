@@ -9,12 +9,13 @@ use Rattle.site_core.specs.declared.rule.Rule.{Rule}
 use Rattle.site_core.specs.declared.rule.Rule.TheVariants as rule
 use Rattle.dining_core.specs.Diners as forks
 use Rattle.drinking_core.specs.Drinkers as bottles
-use Rattle.site_core.specs.Limits.{usual_piece, longest_piece}
-use Rattle.site_core.specs.Agenda.{is_working, ending_of}
+use Rattle.session_agenda.specs.Limits.{longest_piece}
+use Rattle.site_core.specs.Limits.{usual_piece}
+use Rattle.session_agenda.specs.Agenda.{is_working, ending_of}
 use Rattle.site_core.specs.Offices.{Office, may}
 use Rattle.site_core.specs.RuleOrder.{next_rule, IsAtRest, NoneNextIsAtRest}
 use Rattle.site_core.proofs.FirstRule.{skipped, none_before, none_after}
-use Rattle.site_core.proofs.PlanFacts.{among_records, among_neighbours}
+use Rattle.office_map.specs.NeighbourLaws.{among_records, among_neighbours}
 
 -- what stands between two lists
 none_at : {A : Type 0} (p : A → Bool) (xs : List A) (x : A) (ys : List A) → find p (xs ++ x ∷ ys) ≡ None → p x ≡ false

@@ -13,19 +13,19 @@ use Rattle.session_meaning.proofs.expression.Expression.TheSendSync as expressio
 use Rattle.session_meaning.proofs.tree.Condition.TheSendSync as condition
 use Rattle.session_meaning.proofs.tree.Statement.TheLaws.TheKnot.{send-Statement, sync-Statement}
 use Rattle.session_meaning.specs.contracts.tree.Statement as Statement
-use Rattle.session_language.specs.contracts.program.Program as Program
-use Rattle.session_language.specs.contracts.program.Said as Said
+use Rattle.session_programs.specs.contracts.program.Program as Program
+use Rattle.session_programs.specs.contracts.program.Said as Said
 use Rattle.session_machine.proofs.code.Code.TheSendSync as code
 use Rattle.session_machine.proofs.work.Work.TheSendSync as work
-use Rattle.site_core.specs.contracts.session.Session as Session
-use Rattle.site_core.specs.contracts.agenda.Phase as Phase
-use Rattle.site_core.specs.contracts.agenda.Agenda as Agenda
+use Rattle.session_agenda.specs.contracts.session.Session as Session
+use Rattle.session_agenda.specs.contracts.agenda.Phase as Phase
+use Rattle.session_agenda.specs.contracts.agenda.Agenda as Agenda
 use Rattle.site_core.specs.contracts.event.Event as Event
 use Rattle.site_core.specs.contracts.event.Entry as Entry
 use Rattle.site_core.specs.contracts.journal.Journal as Journal
 use Rattle.site_core.specs.contracts.office.Office as Office
-use Rattle.site_core.specs.contracts.channels.Channels as Channels
-use Rattle.site_core.specs.contracts.pairs.Pairs as Pairs
+use Rattle.neighbour_pairs.specs.contracts.channels.Channels as Channels
+use Rattle.neighbour_pairs.specs.contracts.pairs.Pairs as Pairs
 use Rattle.site_core.specs.contracts.reply.Reply as Reply
 use Rattle.site_core.specs.contracts.rule.Rule as Rule
 

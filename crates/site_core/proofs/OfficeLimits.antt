@@ -1,76 +1,40 @@
 -- What an office can have done by the end of its journal: no link used more numbers than there are entries, no more tickets
 -- were given, and the sessions that wait are of the office.
-use Rattle.std.proofs.Common.{◌≡◌, ℕ, zero, suc, ◌+◌, ◌-◌, ◌≤◌, ◌<◌, Bool, true, false, cond, List, [], ◌∷◌, ◌++◌, length, drop, Option, None, Some, Ok, Err, refl, sym, ap, subst, arith, length-append, ⊎_elim}
-use Rattle.std.specs.Prelude.{◌==◌, nat_lt, nat_le, not, All}
-use Rattle.std.proofs.lemmas.Bool.{eq-eqb, ne_eqb, cases_eq, cases_lt}
+use Rattle.std.proofs.Common.{◌≡◌, ℕ, suc, ◌+◌, ◌≤◌, Bool, true, false, cond, List, [], ◌∷◌, ◌++◌, length, Option, None, Some, Ok, Err, refl, sym, ap, subst, arith, ⊎_elim}
+use Rattle.std.specs.Prelude.{◌==◌, nat_lt, not, All}
+use Rattle.std.proofs.lemmas.Bool.{eq-eqb, ne_eqb, cases_eq}
 use Rattle.std.proofs.lemmas.Bool.Decides.{nat_tests}
 use Rattle.std.proofs.lemmas.List.Elements.{All-tail, All-cons, All-append, All-filter}
 use Rattle.bottle_values.specs.Maps.{put}
 use Rattle.frame_codec.specs.declared.message.Msg.{Msg}
 use Rattle.frame_codec.specs.Frame.{Fields}
 use Rattle.office_map.specs.PlanValue.{PlanValue, are_neighbours}
+use Rattle.window_link.specs.WindowLaws.{known_used}
 use Rattle.session_meaning.specs.ProgramValue.{ProgramValue}
 use Rattle.window_link.specs.declared.fault.LinkFault.{LinkFault}
 use Rattle.window_link.specs.declared.fault.LinkFault.TheVariants.{Stranger, AckAhead}
-use Rattle.window_link.specs.Windows.{Sending, used, acknowledged}
+use Rattle.window_link.specs.Windows.{used}
 use Rattle.window_link.specs.Links.{LinkState, fault_of, is_own, after_arrival}
 use Rattle.token_channel.specs.Channels.{link_fault_or, link_then}
 use Rattle.dining_core.specs.Diners as forks
 use Rattle.drinking_core.specs.Drinkers as bottles
-use Rattle.site_core.specs.Limits.{most_entries}
-use Rattle.site_core.specs.declared.session.Session.{Session}
+use Rattle.session_agenda.specs.declared.session.Session.{Session}
 use Rattle.site_core.specs.declared.rule.Rule.{Rule}
 use Rattle.site_core.specs.declared.rule.Rule.TheVariants as rule
 use Rattle.site_core.specs.declared.event.Event.{Event}
 use Rattle.site_core.specs.declared.event.Event.TheVariants as event
 use Rattle.site_core.specs.declared.event.Entry.{Entry}
-use Rattle.site_core.specs.declared.reply.Reply.{Reply}
 use Rattle.site_core.specs.declared.reply.Reply.TheVariants as reply
 use Rattle.site_core.specs.declared.reply.Refusal.TheVariants as refusal
 use Rattle.token_channel.specs.declared.fault.ChannelFault.{ChannelFault}
-use Rattle.site_core.specs.Pairs.{Pairs, queued_to, sent, fork_sends, bottle_sends, bottle_message, frame_fault}
-use Rattle.site_core.specs.Pairs as pairs
-use Rattle.site_core.specs.Agenda.{Agenda, submitted, started, finished}
-use Rattle.site_core.specs.Agenda as agenda
-use Rattle.site_core.specs.Offices.{Office, may, act, withdrawn, is_ours, submit, framed, frame_on, unless_faulty, answer, opened}
-use Rattle.site_core.specs.Journals.{Site, next_or, after, run_of, office_of, noted, AreAccepted, IsLegal}
-use Rattle.site_core.proofs.FramesComing.{passed}
-use Rattle.site_core.proofs.KeptMessages.{through_taking}
-use Rattle.site_core.proofs.Withdrawing.{either_withdrawn, after_withdrawal}
-
--- ---- the end of a journal
-
-run_append : (plan : PlanValue) (me : ℕ) (o : Office) (xs : List Entry) (x : Entry) → run_of plan me o (xs ++ x ∷ []) ≡ after plan me (run_of plan me o xs) x.event
-run_append plan me o [] x = refl
-run_append plan me o (y ∷ ys) x = run_append plan me (after plan me o y.event) ys x
-
-pub office_noted : (s : Site) (tag : ℕ) (e : Event) (r : Reply) → office_of (noted s tag e r) ≡ after s.plan s.me (office_of s) e
-unfolding office_of
-office_noted s tag e r = run_append s.plan s.me (opened s.plan s.me) s.entries _
-
-accepted_append : (plan : PlanValue) (me : ℕ) (o : Office) (xs : List Entry) (x : Entry) → AreAccepted plan me o xs → answer plan me (run_of plan me o xs) x.event ≡ Ok (x.reply, after plan me (run_of plan me o xs) x.event) → x.tag < 16 →
-    AreAccepted plan me o (xs ++ x ∷ [])
-accepted_append plan me o [] x h e lt = (e, lt, tt)
-accepted_append plan me o (y ∷ ys) x (fits, tag, rest) e lt = (fits, tag, accepted_append plan me (after plan me o y.event) ys x rest e lt)
-
-accepted_noted : (s : Site) (tag : ℕ) (e : Event) (r : Reply) → AreAccepted s.plan s.me (opened s.plan s.me) s.entries → answer s.plan s.me (office_of s) e ≡ Ok (r, after s.plan s.me (office_of s) e) → tag < 16 →
-    AreAccepted s.plan s.me (opened s.plan s.me) (s.entries ++ record { tag = tag; event = e; reply = r } ∷ [])
-unfolding office_of
-accepted_noted s tag e r h a lt = accepted_append s.plan s.me (opened s.plan s.me) s.entries _ h a lt
-
-one_more : (xs : List Entry) (x : Entry) → nat_le most_entries (length xs) ≡ false → length (xs ++ x ∷ []) ≤ most_entries
-one_more xs x room = let lt : length xs < most_entries = grind (arith, nat_tests, room) in omega (arith, length-append xs (x ∷ []), lt)
-
--- where there is room for an entry, the journal with an accepted one is legal
-pub legal_noted : (s : Site) (tag : ℕ) (e : Event) (r : Reply) → IsLegal s → answer s.plan s.me (office_of s) e ≡ Ok (r, after s.plan s.me (office_of s) e) → tag < 16 → nat_le most_entries (length s.entries) ≡ false → IsLegal (noted s tag e r)
-legal_noted s tag e r h a lt room = record { accepted = accepted_noted s tag e r h.accepted a lt; few = one_more s.entries _ room }
-
-pub legal_empty : (plan : PlanValue) (me : ℕ) → IsLegal (record { plan = plan; me = me; entries = [] })
-legal_empty plan me = record { accepted = tt; few = omega arith }
-
-pub office_empty : (plan : PlanValue) (me : ℕ) → office_of (record { plan = plan; me = me; entries = [] }) ≡ opened plan me
-unfolding office_of
-office_empty plan me = refl
+use Rattle.neighbour_pairs.specs.Pairs.{Pairs, sent, fork_sends, bottle_sends, frame_fault}
+use Rattle.neighbour_pairs.specs.Pairs as pairs
+use Rattle.session_agenda.specs.Agenda.{Agenda, submitted, started}
+use Rattle.session_agenda.specs.Agenda as agenda
+use Rattle.site_core.specs.Offices.{Office, may, act, withdrawn, is_ours, submit, framed, frame_on, unless_faulty, opened}
+use Rattle.site_core.specs.Journals.{Site, next_or, after, run_of, office_of}
+use Rattle.neighbour_pairs.specs.PairLaws.{passed, through_taking}
+use Rattle.site_core.specs.WithdrawalLaws.{either_withdrawn, after_withdrawal}
 
 -- ---- limits
 
@@ -101,17 +65,6 @@ after_sent n link None h = more n link h
 after_sent n link (Some x) h = after_put (n + 1) link x.0 _ (more n link h) (omega (arith, h x.0, length_one (link x.0).sending.waiting x.1))
 
 -- ---- frames
-
-length_left : (k : ℕ) (ms : List Msg) → k ≤ length ms → length (drop k ms) + k ≡ length ms
-length_left zero ms h = omega arith
-length_left (suc k) [] h = absurd (omega (arith, h))
-length_left (suc k) (m ∷ ms) h = omega (arith, length_left k ms (omega (arith, h)))
-
-pub known_used : (s : Sending) (count : ℕ) → count ≤ used s → used (acknowledged s count) ≡ used s
-known_used s count h = ⊎_elim
-    (λ lt. grind (arith, length_left (count - s.acked) s.waiting (omega (arith, h)), lt))
-    (λ ge. grind (arith, ge))
-    (cases_lt s.acked count)
 
 none_ahead : (l : LinkState) (f : Fields) → fault_of l f ≡ None → f.count ≤ used l.sending
 none_ahead l f e = go (is_own l f) (nat_lt (used l.sending) f.count) refl e

@@ -7,7 +7,7 @@ use Rattle.site_core.specs.Limits.{most_entries}
 use Rattle.site_core.specs.declared.event.Event.{Event}
 use Rattle.site_core.specs.declared.event.Event.TheVariants as event
 use Rattle.site_core.specs.declared.event.Entry.{Entry}
-use Rattle.site_core.specs.declared.session.Session.{Session}
+use Rattle.session_agenda.specs.declared.session.Session.{Session}
 use Rattle.site_core.specs.declared.reply.Reply.{Reply}
 use Rattle.site_core.specs.declared.reply.Reply.TheVariants as reply
 use Rattle.site_core.specs.declared.reply.Refusal.{Refusal}
@@ -16,16 +16,17 @@ use Rattle.frame_codec.specs.Frame.{Fields}
 use Rattle.session_meaning.specs.ProgramValue.{ProgramValue}
 use Rattle.window_link.specs.declared.arrival.Arrival.{Arrival}
 use Rattle.site_core.specs.Replies.{reply_to}
-use Rattle.site_core.specs.Pairs.{Pairs, frame_fault, arrival_of, after_taking}
-use Rattle.site_core.specs.Pairs as pairs
-use Rattle.site_core.specs.Agenda.{Agenda}
-use Rattle.site_core.specs.Agenda as agenda
+use Rattle.neighbour_pairs.specs.Pairs.{Pairs, frame_fault, arrival_of, after_taking}
+use Rattle.neighbour_pairs.specs.Pairs as pairs
+use Rattle.session_agenda.specs.Agenda.{Agenda}
+use Rattle.session_agenda.specs.Agenda as agenda
 use Rattle.site_core.specs.Offices.{Office, Answer, done_if, is_ours, frame_on, framed, unless_faulty, with_pairs, answer, opened}
 use Rattle.site_core.specs.Journals.{Site, office_of, noted, after, next_or, step, Steps, Adds, IsLegal, recorded}
-use Rattle.site_core.specs.refinement.PairsOfCode.{PairsValue, pairs_of, IsOf, HaveRoom}
-use Rattle.site_core.specs.refinement.AgendaOfCode.{AgendaValue, Means}
+use Rattle.neighbour_pairs.specs.refinement.PairsOfCode.{PairsValue, pairs_of, IsOf, HaveRoom}
+use Rattle.session_agenda.specs.refinement.AgendaOfCode.{AgendaValue, Means}
 use Rattle.site_core.specs.refinement.OfficeOfCode.{office_at, Stands, AreOurs, site_of, IsAtEnd}
-use Rattle.site_core.proofs.OfficeLimits.{within, office_noted, legal_noted, office_empty, legal_empty}
+use Rattle.site_core.specs.JournalLaws.{office_noted, legal_noted, office_empty, legal_empty}
+use Rattle.site_core.proofs.OfficeLimits.{within}
 
 stands_by : (p : PairsValue) (v : AgendaValue) (o o' : Office) → o ≡ o' → Stands p v o → Stands p v o'
 stands_by p v o o' e s = subst (Stands p v) e s

@@ -12,7 +12,7 @@ use Rattle.session_meaning.specs.declared.ending.Outcome.{Outcome}
 use Rattle.session_machine.specs.Pieces.{ending_after}
 use Rattle.drinking_core.specs.Drinkers as bottles
 use Rattle.token_channel.specs.declared.fault.ChannelFault.{ChannelFault}
-use Rattle.site_core.specs.declared.session.Session.{Session}
+use Rattle.session_agenda.specs.declared.session.Session.{Session}
 use Rattle.site_core.specs.declared.rule.Rule.{Rule}
 use Rattle.site_core.specs.declared.rule.Rule.TheVariants as rule
 use Rattle.site_core.specs.declared.event.Event.{Event}
@@ -20,14 +20,14 @@ use Rattle.site_core.specs.declared.event.Event.TheVariants as event
 use Rattle.site_core.specs.declared.event.Entry.{Entry}
 use Rattle.site_core.specs.declared.reply.Reply.TheVariants as reply
 use Rattle.site_core.specs.declared.reply.Refusal.TheVariants as refusal
-use Rattle.site_core.specs.Pairs.{frame_fault}
-use Rattle.site_core.specs.Agenda.{Agenda, Current, Idle, Gathering, Working, submitted, is_waiting, is_gathering, started, begun, worked, outcome_of, outcome_as, with_current}
-use Rattle.site_core.specs.Agenda as agenda
+use Rattle.neighbour_pairs.specs.Pairs.{frame_fault}
+use Rattle.session_agenda.specs.Agenda.{Agenda, Current, Idle, Gathering, Working, submitted, is_waiting, is_gathering, started, begun, worked, outcome_of, outcome_as, with_current}
+use Rattle.session_agenda.specs.Agenda as agenda
 use Rattle.site_core.specs.Offices.{Office, may, act, may_withdraw, withdrawn, done_if, is_ours, framed, frame_on, unless_faulty, opened}
 use Rattle.site_core.specs.Journals.{next_or, after, run_of, office_of}
 use Rattle.site_core.specs.Readers.{outcome_with}
 use Rattle.site_core.specs.Tickets.{current_tickets, Rise, GoInOrder, IsWithdrawn, WithdrawnForGood}
-use Rattle.site_core.proofs.Withdrawing.{either_withdrawn, after_withdrawal}
+use Rattle.site_core.specs.WithdrawalLaws.{either_withdrawn, after_withdrawal}
 use Rattle.site_core.proofs.SessionsInOrder.{tickets_begun, tickets_worked, in_order}
 
 record IsGone (t : ℕ) (a : Agenda) : Type 0 where

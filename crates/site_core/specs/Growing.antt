@@ -10,10 +10,12 @@ use Rattle.site_core.specs.Journals.{Site, office_of}
 abbrev pub link_to : Site → ℕ → LinkState
 link_to s v = (office_of s).pairs.link v
 
+-- the same link, of an office with these entries
 abbrev pub link_at : PlanValue → ℕ → List Entry → ℕ → LinkState
 link_at plan me es v = link_to (record { plan = plan; me = me; entries = es }) v
 
--- what is known to be taken, the numbers that were used, and what was taken
+-- of two states of a link the second knows no less: what the neighbour took, the numbers that were used, and what was
+-- taken
 pub record Grows (l l' : LinkState) : Type 0 where
   pub acked : l.sending.acked ≤ l'.sending.acked
   pub used : used l.sending ≤ used l'.sending

@@ -1,5 +1,6 @@
 -- An office as its journal tells it: the list of all that it accepted, with its replies.
-use Rattle.std.specs.Prelude.{◌≡◌, ℕ, ◌<◌, ◌≤◌, nat_le, if◌then◌else◌, List, [], ◌∷◌, ◌++◌, length, Some, Result, Ok, Err, IsOk, ◌⊎◌}
+use Rattle.std.specs.Prelude.{◌≡◌, ℕ, ◌<◌, ◌≤◌, nat_le, if◌then◌else◌, List, [], ◌∷◌, ◌++◌, length, Some, Result, Ok, Err, IsOk, IfOk, ◌⊎◌}
+use Rattle.std.specs.Result.{result_err}
 use Rattle.frame_codec.specs.Frame.{Fields}
 use Rattle.frame_codec.specs.Version01.{Spells, first_fault}
 use Rattle.frame_codec.specs.declared.fault.FrameFault.{FrameFault}
@@ -40,13 +41,15 @@ abbrev pub AreAccepted : PlanValue → ℕ → Office → List Entry → Type 0
 AreAccepted plan me o [] = Unit {0}
 AreAccepted plan me o (x ∷ xs) = (answer plan me o x.event ≡ Ok (x.reply, after plan me o x.event)) × (x.tag < 16) × AreAccepted plan me (after plan me o x.event) xs
 
--- its entries are accepted one after the other from the opening on, and there are no more of them than a journal takes
+-- Each entry has the reply that the office gives where it stands, and a tag below 16; and there are no more of them
+-- than a journal takes.
 pub record IsLegal (s : Site) : Type 0 where
   pub accepted : AreAccepted s.plan s.me (opened s.plan s.me) s.entries
   pub few : length s.entries ≤ most_entries
 
 -- ---- steps
 
+-- the journal with an event's entry
 abbrev pub noted : Site → ℕ → Event → Reply → Site
 noted s tag e r = record { plan = s.plan; me = s.me; entries = s.entries ++ record { tag = tag; event = e; reply = r } ∷ [] }
 
@@ -65,6 +68,8 @@ OrMemory s expected result s' =
     ((result ≡ Err refusal.Memory) × (s' ≡ s) × IsOk expected.0)
     ⊎ ((result ≡ expected.0) × (s' ≡ expected.1))
 
+-- An accepted event adds its entry, with its tag and reply, and a refused one nothing; a full journal takes none. Where
+-- memory ran out the event would have been accepted, and nothing changed.
 abbrev pub Steps : Site → ℕ → Event → Result Reply Refusal → Site → Type 0
 Steps s tag e result s' = OrMemory s (step s tag e) result s'
 
@@ -73,6 +78,7 @@ abbrev pub Adds : Site → ℕ → Event → Result Reply Refusal → Site → T
 Adds s tag e (Ok r) s' = s' ≡ noted s tag e r
 Adds s tag e (Err r) s' = s' ≡ s
 
+-- an accepted event adds its one entry and a refused one nothing
 abbrev pub StepsAddTheirEntry : Type 0
 StepsAddTheirEntry = (s : Site) (tag : ℕ) (e : Event) (result : Result Reply Refusal) (s' : Site) → Steps s tag e result s' → Adds s tag e result s'
 
@@ -98,3 +104,20 @@ pub record Receives (s : Site) (tag : ℕ) (bytes : List ℕ) (result : Result R
   pub frame : (f : Fields) → Spells bytes f → Steps s tag (event.Took f) result s'
   pub fault : (fault : FrameFault) → first_fault bytes ≡ Some fault → (result ≡ Err (refusal.Frame fault)) × (s' ≡ s)
   pub entry : Enters s tag bytes result s'
+
+-- ---- what was read of bytes
+
+-- a frame that was read is taken, and a fault that was found is the refusal
+abbrev pub TakesRead : Site → ℕ → Result Fields FrameFault → Result Reply Refusal → Site → Type 0
+TakesRead s tag (Ok f) result s' = Steps s tag (event.Took f) result s'
+TakesRead s tag (Err fault) result s' = (result ≡ Err (refusal.Frame fault)) × (s' ≡ s)
+
+-- the bytes are read so: as the frame that they spell, or as the first fault that applies
+pub record IsRead (bytes : List ℕ) (read : Result Fields FrameFault) : Type 0 where
+  pub found : IfOk read (Spells bytes)
+  pub only : (f : Fields) → Spells bytes f → read ≡ Ok f
+  pub fault : result_err read ≡ first_fault bytes
+
+-- what is taken of what was read is what is received of the bytes
+abbrev pub ReadIsReceived : Type 0
+ReadIsReceived = (s : Site) (tag : ℕ) (bytes : List ℕ) (read : Result Fields FrameFault) (result : Result Reply Refusal) (s' : Site) → IsRead bytes read → TakesRead s tag read result s' → Receives s tag bytes result s'

@@ -1,9 +1,11 @@
+pub use Rattle.neighbour_pairs.specs.Pairs
+pub use Rattle.session_agenda.specs.Agenda
 pub mod Limits
-pub mod Pairs
-pub mod Agenda
 pub mod Replies
 pub mod Offices
 pub mod Journals
+pub mod JournalLaws
+pub mod WithdrawalLaws
 pub mod RuleOrder
 pub mod RulesInTurn
 pub mod Readers

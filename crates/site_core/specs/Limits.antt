@@ -1,14 +1,8 @@
 -- The limits of an office.
 use Rattle.std.specs.Prelude.{ℕ}
+pub use Rattle.session_agenda.specs.Limits.{most_unfinished, longest_piece}
 
--- the most sessions that are submitted and unfinished
-abbrev pub most_unfinished : ℕ
-most_unfinished = 64
-
--- the most instructions of one piece of work, and those of a piece that is done unasked
-abbrev pub longest_piece : ℕ
-longest_piece = 1000
-
+-- the instructions of a piece that is done unasked
 abbrev pub usual_piece : ℕ
 usual_piece = 256
 

@@ -1,12 +1,11 @@
 -- An office, the guard and the effect of each of its rules, and what it answers to an event.
-use Rattle.std.specs.Prelude.{ℕ, zero, suc, ◌+◌, Bool, ◌==◌, nat_le, ◌&&◌, ◌||◌, if◌then◌else◌, length, Option, None, Some, Result, Ok, Err, unwrap_or}
+use Rattle.std.specs.Prelude.{ℕ, ◌+◌, Bool, ◌==◌, ◌&&◌, ◌||◌, if◌then◌else◌, Option, None, Some, Result, Ok, Err, unwrap_or}
 use Rattle.bottle_values.specs.Values.{Value}
 use Rattle.bottle_values.specs.Operations.{nought}
 use Rattle.frame_codec.specs.Frame.{Fields}
 use Rattle.office_map.specs.PlanValue.{PlanValue, are_neighbours, is_end}
 use Rattle.session_meaning.specs.ProgramValue.{ProgramValue}
-use Rattle.session_language.specs.Program.{fits}
-use Rattle.window_link.specs.Links.{LinkState, frame_of, ack_frame_of}
+use Rattle.session_programs.specs.Program.{fits}
 use Rattle.token_channel.specs.declared.fault.ChannelFault.{ChannelFault}
 use Rattle.dining_core.specs.Diners as forks
 use Rattle.drinking_core.specs.Drinkers.{Drinker}
@@ -20,10 +19,11 @@ use Rattle.site_core.specs.declared.reply.Reply.TheVariants as reply
 use Rattle.site_core.specs.declared.reply.Refusal.{Refusal}
 use Rattle.site_core.specs.declared.reply.Refusal.TheVariants as refusal
 use Rattle.site_core.specs.Replies.{reply_to}
-use Rattle.site_core.specs.Pairs.{Pairs, is_thirsty, after_fork_rule, after_bottle_rule, frame_fault, arrival_of, after_taking}
-use Rattle.site_core.specs.Pairs as pairs
-use Rattle.site_core.specs.Agenda.{Agenda, Idle, is_full, submitted, is_waiting, is_gathering, without_waiting, first_needs, started, begun, may_work, worked, writes_of, with_current, finished}
-use Rattle.site_core.specs.Agenda as agenda
+pub use Rattle.neighbour_pairs.specs.Pairs.{frame_on}
+use Rattle.neighbour_pairs.specs.Pairs.{Pairs, is_thirsty, after_fork_rule, after_bottle_rule, frame_fault, arrival_of, after_taking}
+use Rattle.neighbour_pairs.specs.Pairs as pairs
+use Rattle.session_agenda.specs.Agenda.{Agenda, Idle, is_full, submitted, is_waiting, is_gathering, without_waiting, first_needs, started, begun, may_work, worked, writes_of, with_current, finished}
+use Rattle.session_agenda.specs.Agenda as agenda
 
 -- what it shares with its neighbours, and its sessions
 pub record Office : Type 0 where
@@ -106,11 +106,6 @@ withdrawn o ticket =
 abbrev pub withdraw : Office → ℕ → Answer
 withdraw o ticket = done_if (may_withdraw o ticket) (withdrawn o ticket)
 
--- the frame of the i-th message that waits on a link, from 1, or one with the count alone
-abbrev pub frame_on : LinkState → ℕ → Option Fields
-frame_on l zero = Some (ack_frame_of l)
-frame_on l (suc i) = if nat_le (suc i) (length l.sending.waiting) then Some (frame_of l (suc i)) else None
-
 -- sending a frame changes nothing
 abbrev pub framed : Office → Option Fields → Answer
 framed o None = Err refusal.NotNow
@@ -126,6 +121,7 @@ unless_faulty plan me o f (Some fault) = Err (refusal.Channel fault)
 abbrev pub take : PlanValue → ℕ → Office → Fields → Answer
 take plan me o f = unless_faulty plan me o f (frame_fault plan me o.pairs f)
 
+-- the reply to an event and the office after it, or why it is refused
 abbrev pub answer : PlanValue → ℕ → Office → Event → Answer
 answer plan me o (event.Submit p) = submit plan me o p
 answer plan me o (event.Do rule) = do_rule plan me o rule

@@ -6,6 +6,7 @@ use Rattle.dining_core.specs.FaultText.{not_now_text}
 use Rattle.site_core.specs.declared.reply.Refusal.{Refusal}
 use Rattle.site_core.specs.declared.reply.Refusal.TheVariants.{Frame, Channel, NotNow, NotOurs, QueueFull, JournalFull, Memory}
 
+-- the code and the name of an office's refusal
 abbrev pub refusal_text : Refusal → List ℕ
 refusal_text (Frame fault) = frames.fault_text fault
 refusal_text (Channel fault) = channels.fault_text fault

@@ -4,6 +4,7 @@ use Rattle.window_link.specs.declared.arrival.Arrival.TheVariants as arrival
 use Rattle.site_core.specs.declared.reply.Reply.{Reply}
 use Rattle.site_core.specs.declared.reply.Reply.TheVariants as reply
 
+-- what is replied to a frame that was taken in
 abbrev pub reply_to : Arrival → Reply
 reply_to arrival.Acked = reply.Acked
 reply_to (arrival.Fresh m) = reply.Taken

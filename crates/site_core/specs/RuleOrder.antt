@@ -7,7 +7,9 @@ use Rattle.site_core.specs.declared.rule.Rule.TheVariants.{Start, Hungry, AskFor
 use Rattle.site_core.specs.Limits.{usual_piece}
 use Rattle.site_core.specs.Offices.{Office, may}
 
--- all rules that it may come to, in the order in which it looks at them
+-- All rules that an office may come to, in the order in which it looks at them: bottles and forks that are given,
+-- `finish`, work, `drink`, `eat`, `leave`, `start`, `hungry`, bottles and forks that are asked for, each with the least
+-- number first.
 abbrev pub rules_in_order : PlanValue → ℕ → List Rule
 rules_in_order plan me =
     map GiveBottle (records_of plan me)
@@ -16,7 +18,7 @@ rules_in_order plan me =
     ++ (map AskBottle (records_of plan me)
     ++ map AskFork (neighbours_of plan me))))
 
--- the first that may be done
+-- the first rule that may be done, in that order
 abbrev pub next_rule : PlanValue → ℕ → Office → Option Rule
 next_rule plan me o = find (may plan me o) (rules_in_order plan me)
 
@@ -24,6 +26,6 @@ next_rule plan me o = find (may plan me o) (rules_in_order plan me)
 abbrev pub IsAtRest : PlanValue → ℕ → Office → Type 0
 IsAtRest plan me o = (rule : Rule) → may plan me o rule ≡ false
 
--- so where none of those comes next, there is no other either
+-- So it is under a consistent plan wherever no rule comes next, though `rules_in_order` has work by one size alone.
 abbrev pub NoneNextIsAtRest : Type 0
 NoneNextIsAtRest = (plan : PlanValue) (me : ℕ) (o : Office) → IsConsistent plan → next_rule plan me o ≡ None → IsAtRest plan me o

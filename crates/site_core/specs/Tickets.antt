@@ -2,10 +2,10 @@
 use Rattle.std.specs.Prelude.{◌≡◌, ℕ, ◌<◌, ◌≤◌, true, false, List, [], ◌∷◌, ◌++◌, map, None}
 use Rattle.office_map.specs.PlanValue.{PlanValue}
 use Rattle.session_meaning.specs.declared.ending.Outcome.{Outcome}
-use Rattle.site_core.specs.declared.session.Session.{Session}
+use Rattle.session_agenda.specs.declared.session.Session.{Session}
 use Rattle.site_core.specs.declared.event.Event.TheVariants.{Withdraw}
 use Rattle.site_core.specs.declared.event.Entry.{Entry}
-use Rattle.site_core.specs.Agenda.{Agenda, Current, Idle, Gathering, Working}
+use Rattle.session_agenda.specs.Agenda.{Agenda, Current, Idle, Gathering, Working}
 use Rattle.site_core.specs.Offices.{Office, may_withdraw}
 use Rattle.site_core.specs.Journals.{Site, office_of}
 use Rattle.site_core.specs.Readers.{outcome_with}
@@ -24,11 +24,11 @@ abbrev pub Rise : ℕ → List ℕ → ℕ → Type 0
 Rise k [] n = k ≤ n
 Rise k (t ∷ ts) n = (k < t) × Rise t ts n
 
--- these rise, and are among those that were given
+-- these rise, from 1 at least to the last that was given at most
 abbrev pub GoInOrder : Agenda → Type 0
 GoInOrder a = Rise 0 (tickets_in_turn a) a.tickets
 
--- so sessions finish in the order in which they were submitted
+-- so it is at the end of every journal: sessions finish in the order in which they were submitted
 abbrev pub SessionsGoInOrder : Type 0
 SessionsGoInOrder = (s : Site) → GoInOrder (office_of s).agenda
 

@@ -1,5 +1,2 @@
-pub mod Slots
-pub mod PairsOfCode
-pub mod AgendaOfCode
 pub mod JournalOfCode
 pub mod OfficeOfCode

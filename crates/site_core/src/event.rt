@@ -9,12 +9,17 @@ use crate::reply::Reply;
 use crate::rule::Rule;
 use frame_codec::Frame;
 use office_map::OfficeId;
-use session_language::Program;
+use session_programs::Program;
 use std::alloc::AllocError;
 use window_link::Arrival;
 
 /// An event of an office.
-#[derive(Debug, Drop)]
+///
+/// A frame that comes is held as the frame, and not as its bytes: it has one spelling, so nothing is lost, an entry is
+/// smaller, and a frame is read once. Withdrawing is an event and no rule: rules are what an office does left to
+/// itself, and it never takes a session back. So the order of rules, what is enabled and what comes next know nothing
+/// of it.
+#[derive(Drop)]
 pub enum Event {
     /// A session is submitted.
     Submit(Program),
@@ -44,7 +49,7 @@ impl Event {
 }
 
 /// An event that an office accepted: who handed it in, and the reply.
-#[derive(Debug, Drop)]
+#[derive(Drop)]
 pub struct Entry {
     pub tag: u8,
     pub event: Event,

@@ -6,28 +6,30 @@ ghost use Rattle.site_core.specs.declared.event.Event.TheVariants as events;
 ghost use Rattle.office_map.specs.PlanValue.{are_neighbours, is_end, peer};
 ghost use Rattle.token_channel.specs.declared.thing.Thing.TheVariants as things;
 ghost use Rattle.token_channel.specs.Things.{count_carrying};
+ghost use Rattle.token_channel.specs.WaitingBottle.{TellsBottle};
 ghost use Rattle.site_core.specs.Limits.{most_entries};
-ghost use Rattle.site_core.specs.Agenda.{unfinished};
+ghost use Rattle.session_agenda.specs.Agenda.{unfinished};
 ghost use Rattle.site_core.specs.Offices.{may};
 ghost use Rattle.site_core.specs.RuleOrder.{next_rule, IsAtRest};
-ghost use Rattle.site_core.specs.Readers.{outcome_with, waiting_on, TellsBottle};
-ghost use Rattle.site_core.specs.Journals.{office_of, IsLegal, Steps, Receives};
+ghost use Rattle.site_core.specs.Readers.{outcome_with, waiting_on};
+ghost use Rattle.site_core.specs.Journals.{office_of, IsLegal, Steps, TakesRead, Receives};
 
-use crate::agenda::Agenda;
 use crate::event::{Entry, Event};
 use crate::journal::Journal;
-use crate::laws::{none_next_is_at_rest, sessions_go_in_order, steps_add_their_entry};
-use crate::pairs::Pairs;
+use crate::laws::{none_next_is_at_rest, sessions_go_in_order, what_is_read_is_received};
 use crate::reply::{Refusal, Reply};
 use crate::rule::Rule;
-use crate::waiting::waiting_bottle;
 use crate::{order, rules};
 use bottle_values::Value;
-use frame_codec::{Frame, decode};
+use frame_codec::{Frame, FrameFault, decode};
+use neighbour_pairs::Pairs;
 use office_map::{OfficeId, Plan, RecordId};
-use session_language::{Outcome, Program};
+use session_agenda::Agenda;
+use session_meaning::Outcome;
+use session_programs::Program;
 use std::alloc::{AllocError, Global};
 use std::marker::Model;
+use token_channel::waiting_bottle;
 
 /// An office of a plan: its pairs, its sessions, and all that it accepted.
 #[derive(Drop)]
@@ -177,7 +179,25 @@ impl Office {
         Ok(Reply::to(&arrival))
     }
 
+    /// Takes in what was read of bytes that come: a frame, or what is wrong with them.
+    ///
+    /// # Errors
+    /// What is wrong with them; else as [`Office::take`].
+    pub fn take_read(&mut self, tag: u8, read: &Result<Frame, FrameFault>) -> Result<Reply, Refusal>
+        requires { tag < 16 }
+        ensures { TakesRead self.old tag read.now result self.new }
+    {
+        match read {
+            Ok(frame) => self.take(tag, frame),
+            Err(fault) => Err(Refusal::Frame(*fault)),
+        }
+    }
+
     /// Takes in bytes that come.
+    ///
+    /// One relation of three parts tells of bytes (`Receives`): what the frame that they spell does, what is said of
+    /// bytes that are no frame, and which entry is there afterwards. So who hands in bytes needs no law to know what
+    /// was noted.
     ///
     /// # Errors
     /// What is wrong with bytes that are no frame; else as [`Office::take`].
@@ -185,11 +205,9 @@ impl Office {
         requires { tag < 16 }
         ensures { Receives self.old tag bytes.now result self.new }
     {
-        steps_add_their_entry();
-        match decode(bytes) {
-            Ok(frame) => self.take(tag, &frame),
-            Err(fault) => Err(Refusal::Frame(fault)),
-        }
+        what_is_read_is_received();
+        let read = decode(bytes);
+        self.take_read(tag, &read)
     }
 
     /// Any event.
@@ -241,6 +259,9 @@ impl Office {
     }
 
     /// How the session with that ticket ended; none where it hasn't finished, or was withdrawn.
+    ///
+    /// Tickets rise, but with gaps where sessions were withdrawn: so the ticket is looked for, by halving, and no place
+    /// is reckoned from its number.
     pub fn outcome(&self, ticket: u32) -> Option<&Outcome>
         ensures { option_copied result ≡ outcome_with (office_of self.now).agenda.outcomes ticket }
     {
@@ -294,6 +315,8 @@ impl Office {
     }
 
     /// The number and the value of the message with a record's bottle that waits for the record's other end, if one waits.
+    ///
+    /// A relation tells it: the message of that number waits, with that value; or no message waits with that bottle.
     pub fn waiting_value(&self, r: RecordId) -> Option<(u64, Value)>
         ensures told { is_end self.now.plan r self.now.me ≡ true → TellsBottle ((office_of self.now).pairs.link (peer self.now.plan self.now.me r)) r result }
         ensures once { is_end self.now.plan r self.now.me ≡ true → count_carrying (things.Bottle r) ((office_of self.now).pairs.link (peer self.now.plan self.now.me r)).sending.waiting ≤ 1 }

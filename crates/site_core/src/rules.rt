@@ -6,21 +6,22 @@ ghost use Rattle.dining_core.specs.Diners as forks;
 ghost use Rattle.drinking_core.specs.refinement.Bars.{drinker_of};
 ghost use Rattle.site_core.specs.declared.rule.Rule.TheVariants as rules;
 ghost use Rattle.site_core.specs.declared.reply.Refusal.TheVariants as refusals;
-ghost use Rattle.site_core.specs.Agenda as sessions;
+ghost use Rattle.session_agenda.specs.Agenda as sessions;
 ghost use Rattle.site_core.specs.Offices as offices;
-ghost use Rattle.site_core.specs.refinement.PairsOfCode.{pairs_of, IsOf, HaveRoom};
-ghost use Rattle.site_core.specs.refinement.AgendaOfCode.{Means};
+ghost use Rattle.neighbour_pairs.specs.refinement.PairsOfCode.{pairs_of, IsOf, HaveRoom};
+ghost use Rattle.session_agenda.specs.refinement.AgendaOfCode.{Means};
 ghost use Rattle.site_core.specs.refinement.OfficeOfCode.{office_at, Stands, AreOurs};
 
-use crate::agenda::Agenda;
-use crate::pairs::Pairs;
 use crate::reply::Refusal;
 use crate::rule::Rule;
 use bottle_values::Value;
 use dining_core::NotNow;
 use drinking_core::Bar;
+use neighbour_pairs::Pairs;
 use office_map::RecordId;
-use session_language::{Program, RecordValues};
+use session_agenda::Agenda;
+use session_meaning::RecordValues;
+use session_programs::Program;
 use std::alloc::{AllocError, Global};
 
 /// The first waiting session becomes the current one.
@@ -143,6 +144,9 @@ pub fn do_rule(
 }
 
 /// Whether a rule's guard holds.
+///
+/// Guards of a fork's and of a bottle's asking and giving say first that there is such a neighbour or record of this
+/// office. In every office that a journal leads to, the rows of forks and bottles would refuse these by themselves.
 pub fn may(pairs: &Pairs, agenda: &Agenda, rule: &Rule) -> bool
     ensures { (a : sessions.Agenda) → Means agenda.now a → result ≡ offices.may pairs.now.plan pairs.now.me (office_at pairs.now a) rule.now }
 {
@@ -171,6 +175,9 @@ pub fn may(pairs: &Pairs, agenda: &Agenda, rule: &Rule) -> bool
 }
 
 /// Whether the session with that ticket may be withdrawn.
+///
+/// Both the current session and the row of the bottles are asked. In every office that a journal leads to, a session
+/// gathers just while its office is thirsty; but that is known of whole journals, and the guard is of one office.
 pub fn may_withdraw(pairs: &Pairs, agenda: &Agenda, ticket: u32) -> bool
     ensures { (a : sessions.Agenda) → Means agenda.now a → result ≡ offices.may_withdraw (office_at pairs.now a) ticket }
 {
@@ -197,6 +204,8 @@ pub fn withdraw(pairs: &mut Pairs, agenda: &mut Agenda, ticket: u32) -> Result<(
 }
 
 /// Why an event is refused for which there is no room: its guard comes first.
+///
+/// Room for the entry is made first; where there is some, the guard is looked at once, by the rule itself.
 pub fn unless_guarded(guard: bool, refusal: Refusal) -> Refusal
     ensures { result ≡ (if guard then refusal else refusals.NotNow) }
 {

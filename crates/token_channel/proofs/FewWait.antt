@@ -16,9 +16,10 @@ use Rattle.token_channel.specs.Places.{holds, shares, waits, places_of}
 use Rattle.token_channel.specs.Channels.{ChannelState, IsApart, opened, sent, channel_fault, after_frame, after_taking, after_kept, followed, settled, follows, link_then, most_following, with_taken, next_of, left_by, is_breach, WhatIsSharedStays}
 use Rattle.token_channel.specs.Waiting.{ChannelEvent, sends, comes, after_event, after_events, FewWait}
 use Rattle.token_channel.proofs.HeldUpdates.{shares-changed, length-changed}
-use Rattle.token_channel.proofs.ThingsApart.{apart_none, apart_sent, apart_drop, apart_taken, no_breach, room}
-use Rattle.token_channel.proofs.WaitingBound.{few_places}
-use Rattle.token_channel.proofs.FrameArrival.{unbreached, follows_unbreached}
+use Rattle.token_channel.proofs.ThingsApart.{apart_none, apart_sent, apart_drop, apart_taken}
+use Rattle.token_channel.specs.ThingLaws.{no_breach, room, follows_unbreached}
+use Rattle.token_channel.specs.PlaceLaws.{few_places}
+use Rattle.token_channel.proofs.FrameArrival.{unbreached}
 
 -- ---- what is shared
 

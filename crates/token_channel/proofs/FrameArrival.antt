@@ -15,8 +15,9 @@ use Rattle.token_channel.specs.declared.thing.Thing.{Thing}
 use Rattle.token_channel.specs.declared.thing.SharedThing.{SharedThing}
 use Rattle.token_channel.specs.Things.{thing_of}
 use Rattle.token_channel.specs.Places.{holds, shares, waits}
-use Rattle.token_channel.specs.Channels.{ChannelState, with_taken, next_of, left_by, is_breach, breach_of, link_fault_or, held_after, held_with, breach_among, unless_breach, follows, WhatComesIsHeld, WhatComesWasAway, WhatFollowsIsHeld, WhatFollowsWasAway}
-use Rattle.token_channel.proofs.ThingsApart.{no_breach, held-changed}
+use Rattle.token_channel.specs.Channels.{ChannelState, with_taken, next_of, left_by, is_breach, breach_of, link_fault_or, held_after, held_with, breach_among, follows, WhatComesIsHeld, WhatComesWasAway, WhatFollowsIsHeld, WhatFollowsWasAway}
+use Rattle.token_channel.proofs.ThingsApart.{held-changed}
+use Rattle.token_channel.specs.ThingLaws.{no_breach, follows_unbreached}
 
 not_below : (taken : ℕ) → nat_le (taken + 1) taken ≡ false
 not_below taken = grind (arith, nat_tests)
@@ -119,15 +120,6 @@ came_from_away shared held l f m none fresh =
     away false b w e = absurd cc
 
 -- ---- what follows
-
--- what follows is no breach
-pub follows_unbreached : (breach : Msg → Bool) (o : Option Msg) (m : Msg) → unless_breach breach o ≡ Some m → breach m ≡ false
-follows_unbreached breach None m e = absurd cc
-follows_unbreached breach (Some n) m e = go (breach n) refl e
-  where
-    go : (b : Bool) → breach n ≡ b → cond b None (Some n) ≡ Some m → breach m ≡ false
-    go true h k = absurd cc
-    go false h k = let same : n ≡ m = cc in ap breach (sym same) ∙ h
 
 pub followed_from_away : WhatFollowsWasAway
 followed_from_away shared held l m e =

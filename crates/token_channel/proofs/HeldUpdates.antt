@@ -1,37 +1,12 @@
 -- What is held and shared, where one thing came or went.
-use Rattle.std.proofs.Common.{◌≡◌, ℕ, ◌+◌, ◌≤◌, Bool, true, false, ◌&&◌, ◌||◌, cond, List, [], ◌∷◌, ◌++◌, length, drop, zero, suc, refl, sym, ap, ◌∙◌, arith}
-use Rattle.std.proofs.lemmas.Bool.{cond_both, eqb-true, eq-eqb}
-use Rattle.frame_codec.specs.declared.message.Msg.{Msg}
+use Rattle.std.proofs.Common.{◌≡◌, ◌≤◌, Bool, true, false, ◌&&◌, ◌||◌, cond, List, [], ◌∷◌, length, refl, sym, ap, ◌∙◌, arith}
+use Rattle.std.proofs.lemmas.Bool.{cond_both}
 use Rattle.token_channel.specs.declared.thing.Thing.{Thing}
-use Rattle.token_channel.specs.declared.thing.Thing.TheVariants.{Fork as TheFork, ForkToken, Bottle as TheBottle, BottleToken}
 use Rattle.token_channel.specs.declared.thing.SharedThing.{SharedThing}
-use Rattle.token_channel.specs.Things.{same, thing_of, count_carrying}
-use Rattle.token_channel.specs.Places.{holds, shares, waits, with_held, changed}
+use Rattle.token_channel.specs.Things.{same}
+use Rattle.token_channel.specs.ThingLaws.{same_is}
+use Rattle.token_channel.specs.Places.{holds, shares, with_held, changed}
 use Rattle.bottle_values.specs.Lists.{num}
-
-pub same_self : (t : Thing) → same t t ≡ true
-same_self TheFork = refl
-same_self ForkToken = refl
-same_self (TheBottle r) = eq-eqb r r refl
-same_self (BottleToken r) = eq-eqb r r refl
-
-pub same_is : (t u : Thing) → same t u ≡ true → t ≡ u
-same_is TheFork TheFork e = refl
-same_is ForkToken ForkToken e = refl
-same_is (TheBottle r) (TheBottle q) e = ap TheBottle (eqb-true r q e)
-same_is (BottleToken r) (BottleToken q) e = ap BottleToken (eqb-true r q e)
-same_is TheFork ForkToken e = absurd cc
-same_is TheFork (TheBottle q) e = absurd cc
-same_is TheFork (BottleToken q) e = absurd cc
-same_is ForkToken TheFork e = absurd cc
-same_is ForkToken (TheBottle q) e = absurd cc
-same_is ForkToken (BottleToken q) e = absurd cc
-same_is (TheBottle r) TheFork e = absurd cc
-same_is (TheBottle r) ForkToken e = absurd cc
-same_is (TheBottle r) (BottleToken q) e = absurd cc
-same_is (BottleToken r) TheFork e = absurd cc
-same_is (BottleToken r) ForkToken e = absurd cc
-same_is (BottleToken r) (TheBottle q) e = absurd cc
 
 not_same : (t u v : Thing) → same t u ≡ true → same v u ≡ false → same t v ≡ false
 not_same t u v e n = elim_same (same t v) refl
@@ -113,26 +88,3 @@ and_first false b e = absurd cc
 pub holds_shared : (places : List SharedThing) (t : Thing) → num (holds places t) ≤ num (shares places t)
 holds_shared [] t = omega arith
 holds_shared (p ∷ places) t = num_or (same p.thing t && p.held) _ (same p.thing t) _ (and_first (same p.thing t) p.held) (holds_shared places t)
-
--- ---- counts
-
-pub num_le : (b : Bool) → num b ≤ 1
-num_le true = omega arith
-num_le false = omega arith
-
-pub count_carrying-push : (t : Thing) (ms : List Msg) (m : Msg) → count_carrying t (ms ++ m ∷ []) ≡ count_carrying t ms + num (same t (thing_of m))
-count_carrying-push t [] m = omega arith
-count_carrying-push t (x ∷ ms) m = omega (arith, count_carrying-push t ms m)
-
-pub count_carrying-drop : (t : Thing) (n : ℕ) (ms : List Msg) → count_carrying t (drop n ms) ≤ count_carrying t ms
-count_carrying-drop t zero ms = omega arith
-count_carrying-drop t (suc n) [] = omega arith
-count_carrying-drop t (suc n) (m ∷ ms) = omega (arith, count_carrying-drop t n ms)
-
-pub count_carrying-none : (t : Thing) (ms : List Msg) → waits t ms ≡ false → count_carrying t ms ≡ 0
-count_carrying-none t [] e = refl
-count_carrying-none t (m ∷ ms) e = go (same t (thing_of m)) refl e (count_carrying-none t ms)
-  where
-    go : (b : Bool) → same t (thing_of m) ≡ b → (b || waits t ms) ≡ false → (waits t ms ≡ false → count_carrying t ms ≡ 0) → num (same t (thing_of m)) + count_carrying t ms ≡ 0
-    go true h f rest = absurd cc
-    go false h f rest = omega (arith, ap num h, rest f)

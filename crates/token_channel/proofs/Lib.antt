@@ -1,6 +1,5 @@
 pub mod HeldUpdates
 pub mod ThingsApart
-pub mod WaitingBound
 pub mod FrameArrival
 pub mod StartsOnce
 pub mod Opening

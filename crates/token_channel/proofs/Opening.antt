@@ -14,7 +14,7 @@ use Rattle.token_channel.specs.Things.{same}
 use Rattle.token_channel.specs.Places.{shares, with_token, starts_at, bottle_places, places_of}
 use Rattle.token_channel.specs.Ends.{starts_here}
 use Rattle.token_channel.specs.Opening.{OpensAsThePlanStarts}
-use Rattle.token_channel.proofs.WaitingBound.{neighbours_differ, between_from_ends}
+use Rattle.token_channel.specs.PlaceLaws.{neighbours_differ, between_from_ends}
 
 -- ---- a thing with a property of whether it is held
 

@@ -11,7 +11,8 @@ use Rattle.bottle_values.specs.Lists.{num}
 use Rattle.token_channel.specs.declared.thing.Thing.{Thing}
 use Rattle.token_channel.specs.declared.thing.Thing.TheVariants.{Fork, ForkToken, Bottle, BottleToken}
 use Rattle.token_channel.specs.Ends.{is_shared}
-use Rattle.office_map.proofs.RecordEnds.{joins_swap, find_same, near_both, has_ends_both, between_cases}
+use Rattle.office_map.specs.NeighbourLaws.{joins_swap, near_both, has_ends_both, between_cases}
+use Rattle.bottle_values.specs.ListLaws.{find_same}
 
 pub shared_both : (p : PlanValue) (a b : ℕ) (t : Thing) → is_shared p a b t ≡ is_shared p b a t
 shared_both p a b Fork = near_both p a b

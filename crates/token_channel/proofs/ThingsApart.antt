@@ -4,14 +4,12 @@ use Rattle.frame_codec.specs.declared.message.Msg.{Msg}
 use Rattle.token_channel.specs.declared.thing.Thing.{Thing}
 use Rattle.token_channel.specs.declared.thing.SharedThing.{SharedThing}
 use Rattle.token_channel.specs.Things.{same, thing_of, count_carrying, hold}
-use Rattle.token_channel.specs.Places.{holds, shares, waits, changed}
-use Rattle.token_channel.proofs.HeldUpdates.{same_self, same_is, holds-changed, holds-changed_other, shares-changed, holds_shared, length-changed, num_le, count_carrying-push, count_carrying-drop, count_carrying-none}
+use Rattle.token_channel.specs.Places.{holds, shares, waits, Apart, changed}
+use Rattle.token_channel.proofs.HeldUpdates.{holds-changed, holds-changed_other, shares-changed, holds_shared, length-changed}
+use Rattle.token_channel.specs.ThingLaws.{same_self, same_is, count_carrying-push, count_carrying-drop, count_carrying-none, no_breach, room}
 use Rattle.bottle_values.specs.Lists.{num}
+use Rattle.bottle_values.specs.ListLaws.{num_one}
 use Rattle.window_link.specs.Limits.{most_waiting}
-
--- in places and waiting messages
-abbrev pub Apart : List SharedThing → List Msg → Type 0
-Apart places ms = (t : Thing) → num (holds places t) + count_carrying t ms ≤ num (shares places t)
 
 pub apart_none : (places : List SharedThing) → Apart places []
 apart_none places t = omega (arith, holds_shared places t)
@@ -37,7 +35,7 @@ apart_sent places ms m h held t =
       count_carrying-push (thing_of m) ms m,
       num_true _ (same_self (thing_of m)),
       ap num (shares-changed places (thing_of m) (thing_of m) false),
-      num_le (shares places (thing_of m)),
+      num_one (shares places (thing_of m)),
     )))
     (λ no. omega (
       arith,
@@ -63,95 +61,17 @@ apart_taken places ms t h shared none u =
     subst (λ v. num (holds (changed places t true) v) + count_carrying v ms ≤ num (shares (changed places t true) v)) (sym (same_is u t yes))
     (omega (
       arith,
-      num_le (holds (changed places t true) t),
+      num_one (holds (changed places t true) t),
       count_carrying-none t ms none,
       ap num (shares-changed places t t true),
       num_true _ shared,
     )))
     (λ no. omega (arith, h u, ap num (holds-changed_other places t u true no), ap num (shares-changed places t u true)))
 
--- ---- room
-
--- how often the places' things are carried, and how many are held
-carried : List SharedThing → List Msg → ℕ
-carried [] ms = 0
-carried (p ∷ places) ms = count_carrying p.thing ms + carried places ms
-
-held_places : List SharedThing → ℕ
-held_places [] = 0
-held_places (p ∷ places) = num p.held + held_places places
-
-num_or-le : (a b : Bool) → num (a || b) ≤ num a + num b
-num_or-le true b = omega arith
-num_or-le false b = omega arith
-
-carried-cons : (places : List SharedThing) (m : Msg) (ms : List Msg) → num (shares places (thing_of m)) + carried places ms ≤ carried places (m ∷ ms)
-unfolding carried
-carried-cons [] m ms = omega arith
-carried-cons (p ∷ places) m ms = omega (arith, carried-cons places m ms, num_or-le (same p.thing (thing_of m)) (shares places (thing_of m)))
-
--- every message carries a thing of some place
-all_carried : (places : List SharedThing) (ms : List Msg) → ((t : Thing) → count_carrying t ms ≤ num (shares places t)) → length ms ≤ carried places ms
-all_carried places [] h = omega arith
-all_carried places (m ∷ ms) h =
-    omega (
-      arith,
-      all_carried places ms (λ t. omega (arith, h t)),
-      carried-cons places m ms,
-      h (thing_of m),
-      num_true _ (same_self (thing_of m)),
-    )
-
-num_or_right : (a b : Bool) → num b ≤ num (a || b)
-num_or_right true b = num_le b
-num_or_right false b = omega arith
-
-num_held : (a b c : Bool) → a ≡ true → num b ≤ num ((a && b) || c)
-num_held true true c e = omega arith
-num_held true false c e = omega arith
-num_held false b c e = absurd cc
-
--- a place's thing is held or carried once
-carried_free : (places : List SharedThing) (ms : List Msg) → ((t : Thing) → num (holds places t) + count_carrying t ms ≤ 1) → carried places ms + held_places places ≤ length places
-unfolding carried held_places
-carried_free [] ms h = omega arith
-carried_free (p ∷ places) ms h =
-    omega (
-      arith,
-      carried_free places ms (λ t. omega (arith, h t, num_or_right (same p.thing t && p.held) (holds places t))),
-      h p.thing,
-      num_held (same p.thing p.thing) p.held (holds places p.thing) (same_self p.thing),
-    )
-
-and_le : (a b : Bool) → num (a && b) ≤ num b
-and_le true b = omega arith
-and_le false b = omega arith
-
-held_counted : (places : List SharedThing) (t : Thing) → num (holds places t) ≤ held_places places
-unfolding held_places
-held_counted [] t = omega arith
-held_counted (p ∷ places) t = omega (arith, held_counted places t, num_or-le (same p.thing t && p.held) (holds places t), and_le (same p.thing t) p.held)
-
--- where a thing is held there is room for one more message
-pub room : (places : List SharedThing) (ms : List Msg) (t : Thing) → Apart places ms → length ms + num (holds places t) ≤ length places
-room places ms t h =
-    omega (
-      arith,
-      all_carried places ms (λ u. omega (arith, h u)),
-      carried_free places ms (λ u. omega (arith, h u, num_le (shares places u))),
-      held_counted places t,
-    )
-
 -- ---- what an end keeps
 
 abbrev pub Kept : List SharedThing → List Msg → Type 0
 Kept places ms = Apart places ms × (length places ≤ most_waiting)
-
--- no breach: the thing is the pair's, and doesn't wait
-pub no_breach : (shared held waiting : Bool) → (not shared || held || waiting) ≡ false → (shared ≡ true) × (waiting ≡ false)
-no_breach true true w e = absurd cc
-no_breach true false w e = (refl, e)
-no_breach false h w e = absurd cc
 
 pub kept_dropped : (places places' : List SharedThing) (ms ms' : List Msg) (n : ℕ) → Kept places ms → ms' ≡ drop n ms → places' ≡ places → Kept places' ms'
 kept_dropped places places' ms ms' n k waiting same =

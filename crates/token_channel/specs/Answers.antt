@@ -9,7 +9,7 @@ use Rattle.token_channel.specs.declared.thing.Thing.{Thing}
 use Rattle.token_channel.specs.Channels.{ChannelState}
 use Rattle.token_channel.specs.Places.{holds, waits}
 
--- what the frame was, and where it brought a message, that one and those that follow it
+-- the answer tells what the frame was, and where it brought a message, that one and those that follow it
 abbrev pub Tells : Taken → Arrival → List Msg → Type 0
 Tells (Fresh taken) (arrival.Fresh m) following = taken.items ≡ m ∷ following
 Tells Acked arrival.Acked following = Unit {0}
@@ -26,6 +26,6 @@ brings Repeat t = false
 brings Kept t = false
 brings Early t = false
 
--- what is brought is held, and all else is as it was
+-- what the listed messages carry is held, and all else is as it was
 abbrev pub HoldsWhatIsBrought : ChannelState → Taken → ChannelState → Type 0
 HoldsWhatIsBrought before taken after = (t : Thing) → holds after.places t ≡ (brings taken t || holds before.places t)

@@ -1,8 +1,11 @@
 pub mod Things
 pub mod Places
+pub mod ThingLaws
+pub mod PlaceLaws
 pub mod Channels
 pub mod Ends
 pub mod Opening
 pub mod Waiting
+pub mod WaitingBottle
 pub mod Answers
 pub mod FaultText

@@ -12,5 +12,6 @@ pub record HasJust (c : ChannelState) (p : PlanValue) (me peer : ℕ) (t : Thing
   pub shared : shares c.places t ≡ is_shared p me peer t
   pub held : holds c.places t ≡ (is_shared p me peer t && starts_here p me peer t)
 
+-- at the opening each thing is the channel's where the plan has the two share it, and held where it starts here
 abbrev pub OpensAsThePlanStarts : Type 0
 OpensAsThePlanStarts = (p : PlanValue) (me peer : ℕ) (t : Thing) → IsConsistent p → IsTrue (are_neighbours p me peer) → HasJust (opened p me peer) p me peer t

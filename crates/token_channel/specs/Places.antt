@@ -1,5 +1,5 @@
 -- The things of a pair, each with whether it is held at one end.
-use Rattle.std.specs.Prelude.{ℕ, Bool, false, not, ◌&&◌, ◌==◌, if◌then◌else◌, List, [], ◌∷◌, ◌++◌, map, Option}
+use Rattle.std.specs.Prelude.{ℕ, ◌+◌, ◌≤◌, Bool, false, not, ◌&&◌, ◌==◌, if◌then◌else◌, List, [], ◌∷◌, ◌++◌, map, Option}
 use Rattle.std.specs.List.{list_any, flat_map}
 use Rattle.std.specs.Option.{option_map_or}
 use Rattle.frame_codec.specs.declared.message.Msg.{Msg}
@@ -7,7 +7,8 @@ use Rattle.office_map.specs.PlanValue.{PlanValue, records_of, is_end, fork_end_o
 use Rattle.token_channel.specs.declared.thing.Thing.{Thing}
 use Rattle.token_channel.specs.declared.thing.Thing.TheVariants.{Fork as TheFork, ForkToken, Bottle as TheBottle, BottleToken}
 use Rattle.token_channel.specs.declared.thing.SharedThing.{SharedThing}
-use Rattle.token_channel.specs.Things.{same, thing_of}
+use Rattle.token_channel.specs.Things.{same, thing_of, count_carrying}
+use Rattle.bottle_values.specs.Lists.{num}
 
 -- the thing is one of these, and it is held
 abbrev pub holds : List SharedThing → Thing → Bool
@@ -21,10 +22,15 @@ shares places t = list_any (λ (p : SharedThing). same p.thing t) places
 abbrev pub waits : Thing → List Msg → Bool
 waits t ms = list_any (λ m. same t (thing_of m)) ms
 
+-- each thing is held, or waits once, or neither
+abbrev pub Apart : List SharedThing → List Msg → Type 0
+Apart places ms = (t : Thing) → num (holds places t) + count_carrying t ms ≤ num (shares places t)
+
+-- a place where that thing came or went
 abbrev pub with_held : Thing → Bool → SharedThing → SharedThing
 with_held t b p = if same p.thing t then record { thing = p.thing; held = b } else p
 
--- where that thing came or went
+-- all places where that thing came or went
 abbrev pub changed : List SharedThing → Thing → Bool → List SharedThing
 changed places t b = map (with_held t b) places
 
@@ -43,6 +49,7 @@ abbrev pub bottle_places : PlanValue → ℕ → ℕ → ℕ → List SharedThin
 bottle_places p me peer r =
     if is_end p r peer then with_token (TheBottle r) (BottleToken r) (starts_at (start_end_of p r) me) else []
 
+-- what two neighbours share, and where each thing starts
 abbrev pub places_of : PlanValue → ℕ → ℕ → List SharedThing
 places_of p me peer =
     with_token TheFork ForkToken (starts_at (fork_end_of p me peer) me) ++ flat_map (bottle_places p me peer) (records_of p me)

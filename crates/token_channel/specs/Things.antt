@@ -13,6 +13,7 @@ thing_of Fork = TheFork
 thing_of (AskBottle r) = BottleToken r
 thing_of (Bottle r value) = TheBottle r
 
+-- whether two things are one
 abbrev pub same : Thing → Thing → Bool
 same TheFork TheFork = true
 same ForkToken ForkToken = true
@@ -20,7 +21,7 @@ same (TheBottle r) (TheBottle q) = r == q
 same (BottleToken r) (BottleToken q) = r == q
 same _ _ = false
 
--- how many of the messages carry it
+-- how many of the messages carry the thing
 abbrev pub count_carrying : Thing → List Msg → ℕ
 count_carrying t [] = 0
 count_carrying t (m ∷ ms) = num (same t (thing_of m)) + count_carrying t ms

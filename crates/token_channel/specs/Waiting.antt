@@ -21,6 +21,7 @@ abbrev pub after_event : ChannelState → ChannelEvent → ChannelState
 after_event c (sends m) = if holds c.places (thing_of m) && nat_lt (used c.link.sending) greatest then sent c m else c
 after_event c (comes f) = if is_some (channel_fault c f) then c else after_taking c f
 
+-- an end after these events, one after the other
 abbrev pub after_events : ChannelState → List ChannelEvent → ChannelState
 after_events c [] = c
 after_events c (e ∷ es) = after_events (after_event c e) es

@@ -1,13 +1,13 @@
 //! One end of the channel between two neighbours.
 
-ghost use Rattle.std.specs.Prelude.{◌≡◌, ◌+◌, ◌*◌, ◌<◌, ◌≤◌, ◌^◌, ◌↔◌, ◌∷◌, length, IsTrue, IsErr, IfOk, IfErr, OnOk, OnErr, None, true, false};
+ghost use Rattle.std.specs.Prelude.{◌≡◌, ◌+◌, ◌*◌, ◌<◌, ◌≤◌, ◌^◌, ◌↔◌, ◌∷◌, ◌||◌, length, IsTrue, IsErr, IfOk, IfErr, OnOk, OnErr, None, true, false};
 ghost use Rattle.std.specs.Result.{result_err};
 ghost use Rattle.office_map.specs.PlanValue.{are_neighbours, records_between};
 ghost use Rattle.window_link.specs.Windows.{used};
 ghost use Rattle.window_link.specs.Links.{frame_of, ack_frame_of, arrival_at};
 ghost use Rattle.token_channel.specs.Things.{thing_of, hold};
-ghost use Rattle.token_channel.specs.Places.{holds, shares};
-ghost use Rattle.token_channel.specs.Channels.{IsApart, opened, sent, channel_fault, after_frame, after_taking, after_kept, follows, following, followed, most_following, is_breach, next_of};
+ghost use Rattle.token_channel.specs.Places.{holds, shares, waits};
+ghost use Rattle.token_channel.specs.Channels.{IsApart, opened, sent, channel_fault, after_frame, after_taking, after_kept, follows, following, followed, settled, with_following, taken_with, most_following, is_breach, next_of};
 ghost use Rattle.token_channel.specs.Answers.{Tells, HoldsWhatIsBrought};
 ghost use Rattle.frame_codec.specs.Limits.{sequence_space};
 ghost use Rattle.window_link.specs.Limits.{greatest};
@@ -25,6 +25,9 @@ use window_link::{Arrival, Link, LinkFault, MAX_KEPT};
 
 /// One office's end of the channel to a neighbour: the link, and what is held here of the things
 /// that the two share.
+///
+/// One list has the things that the pair shares, each with whether it is held. It has at most 18, and is gone through
+/// at each call.
 #[derive(Drop)]
 pub struct Channel {
     link: Link,
@@ -146,47 +149,14 @@ impl Channel {
         ensures unchanged { OnErr result (self.new ≡ self.old) }
     {
         self.check(frame)?;
-        match self.accept(frame) {
+        let (arrival, messages) = self.accept(frame);
+        match arrival {
             Arrival::Acked => Ok(Taken::Acked),
-            Arrival::Fresh(msg) => Ok(Taken::Fresh(self.follow_all(msg))),
+            Arrival::Fresh(_) => Ok(Taken::Fresh(messages)),
             Arrival::Repeat => Ok(Taken::Repeat),
             Arrival::Kept => Ok(Taken::Kept),
             Arrival::Early => Ok(Taken::Early),
         }
-    }
-
-    fn follow_all(&mut self, first: Msg) -> ArrayVec<Msg, MAX_KEPT>
-        ensures messages { result.items ≡ first ∷ following most_following self.old }
-        ensures channel { self.new ≡ followed most_following self.old }
-    {
-        let mut taken = ArrayVec::new();
-        taken.push(first);
-        for _ in 1..MAX_KEPT {
-            match self.follow() {
-                Some(msg) => taken.push(msg),
-                None => break,
-            }
-        }
-        taken
-    }
-
-    /// Takes what is kept of the next number, so that it is held. What would be a breach is thrown out.
-    pub fn follow(&mut self) -> Option<Msg>
-        ensures follows { result ≡ follows self.old }
-        ensures channel { self.new ≡ after_kept self.old }
-    {
-        let msg = self.link.kept()?;
-        // Copies, since the borrow checker takes a message that was passed for lent.
-        let taken = msg;
-        let brought = msg;
-        if self.is_breach(self.acked(), msg) {
-            self.link.drop_kept();
-            return None;
-        }
-        let thing = Thing::of(taken);
-        places::change(&mut self.places, thing, true);
-        self.link.accept_kept();
-        Some(brought)
     }
 
     /// Whether a frame that comes can be taken in.
@@ -205,9 +175,23 @@ impl Channel {
         Ok(())
     }
 
-    /// Takes in a frame that [`Channel::check`] passes. What it brings is held; after a `Fresh` the caller goes on
-    /// with [`Channel::follow`].
-    pub fn accept(&mut self, frame: &Frame) -> Arrival
+    /// Takes in a frame that [`Channel::check`] passes, as [`Channel::take`] does: what it was, and the messages that are taken
+    /// with it. Those are none, or its own and after it what was kept, up to the first gap or breach.
+    pub fn accept(&mut self, frame: &Frame) -> (Arrival, ArrayVec<Msg, MAX_KEPT>)
+        requires { channel_fault self.old frame.now ≡ None }
+        ensures arrival { result.0 ≡ arrival_at self.old.link frame.now }
+        ensures messages { result.1.items ≡ taken_with self.old frame.now }
+        ensures channel { self.new ≡ after_taking self.old frame.now }
+        ensures held { (t : Thing) → holds self.new.places t ≡ (waits t result.1.items || holds self.old.places t) }
+    {
+        let arrival = self.arrive(frame);
+        // A copy, since the borrow checker takes an arrival that was passed for lent.
+        let told = arrival;
+        (told, self.settle(arrival))
+    }
+
+    // The frame's own message alone: what it brings is held.
+    fn arrive(&mut self, frame: &Frame) -> Arrival
         requires { channel_fault self.old frame.now ≡ None }
         ensures arrival { result ≡ arrival_at self.old.link frame.now }
         ensures taken { self.new ≡ after_frame self.old frame.now }
@@ -216,6 +200,54 @@ impl Channel {
             places::change(&mut self.places, Thing::of(msg), true);
         }
         self.link.accept(frame)
+    }
+
+    // The messages that are taken with what arrived, which is held by now: none, or that one and what follows it.
+    fn settle(&mut self, arrival: Arrival) -> ArrayVec<Msg, MAX_KEPT>
+        ensures messages { result.items ≡ with_following arrival (following most_following self.old) }
+        ensures channel { self.new ≡ settled arrival self.old }
+    {
+        match arrival {
+            Arrival::Fresh(first) => self.follow_all(first),
+            _ => ArrayVec::new(),
+        }
+    }
+
+    fn follow_all(&mut self, first: Msg) -> ArrayVec<Msg, MAX_KEPT>
+        ensures messages { result.items ≡ first ∷ following most_following self.old }
+        ensures channel { self.new ≡ followed most_following self.old }
+    {
+        let mut taken = ArrayVec::new();
+        taken.push(first);
+        for _ in 1..MAX_KEPT {
+            match self.follow() {
+                Some(msg) => taken.push(msg),
+                None => break,
+            }
+        }
+        taken
+    }
+
+    // Takes what is kept of the next number, so that it is held. What would be a breach is thrown out.
+    //
+    // Each kept message is a step of its own, and `take` is the frame's own message with at most 17 of them. What is claimed of
+    // one frame's message is so claimed of one kept message.
+    fn follow(&mut self) -> Option<Msg>
+        ensures follows { result ≡ follows self.old }
+        ensures channel { self.new ≡ after_kept self.old }
+    {
+        let msg = self.link.kept()?;
+        // Copies, since the borrow checker takes a message that was passed for lent.
+        let taken = msg;
+        let brought = msg;
+        if self.is_breach(self.acked(), msg) {
+            self.link.drop_kept();
+            return None;
+        }
+        let thing = Thing::of(taken);
+        places::change(&mut self.places, thing, true);
+        self.link.accept_kept();
+        Some(brought)
     }
 
     // The message that the frame would bring.

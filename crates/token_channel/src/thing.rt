@@ -43,7 +43,7 @@ impl Thing {
 }
 
 /// A thing of the pair, and whether it is held at this end.
-#[derive(Clone, Copy, Debug, PartialEq, Eq)]
+#[derive(Clone, Copy, PartialEq, Eq)]
 pub struct SharedThing {
     pub thing: Thing,
     pub held: bool,

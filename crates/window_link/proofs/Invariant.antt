@@ -1,8 +1,9 @@
 -- Every run keeps both ends lawful, and every frame that was made true.
-use Rattle.std.proofs.Common.{◌≡◌, ℕ, zero, suc, ◌+◌, ◌-◌, ◌<◌, ◌≤◌, max, Bool, true, false, List, [], ◌∷◌, ◌++◌, length, drop, replicate, get_or, Option, Some, None, refl, sym, ap, ◌∙◌, subst, arith, inl, inr, ◌⊎◌, ⊎_elim, append_assoc}
+use Rattle.std.proofs.Common.{◌≡◌, ℕ, zero, suc, ◌+◌, ◌-◌, ◌<◌, ◌≤◌, max, Bool, true, false, List, [], ◌∷◌, ◌++◌, length, drop, replicate, get_or, Option, Some, None, refl, sym, ap, ◌∙◌, subst, arith, ⊎_elim, append_assoc}
 use Rattle.std.specs.Prelude.{slice_get, ◌&&◌}
 use Rattle.std.proofs.lemmas.Bool.{cond_both, ltb-true}
 use Rattle.std.proofs.lemmas.List.{length-append, length-drop}
+use Rattle.bottle_values.specs.ListLaws.{get_left, get_push, get-drop}
 use Rattle.frame_codec.specs.declared.message.Msg.{Msg}
 use Rattle.window_link.specs.declared.laws.event.End.{End}
 use Rattle.window_link.specs.declared.laws.event.End.TheVariants.{Left, Right}
@@ -15,31 +16,13 @@ use Rattle.window_link.specs.declared.arrival.Arrival.TheVariants.{Acked, Fresh,
 use Rattle.window_link.specs.Windows.{arrival, kept_with}
 use Rattle.window_link.specs.Streams.{Stream, Pair, IsLawful, waiting, other, with_end, with_stream, nth, can_send, send, post, post_waiting, learned, took_next, followed, took_by, took, deliver, happens, opening, run_of, StreamsStayLawful}
 use Rattle.window_link.specs.Limits.{most_waiting, most_kept}
-use Rattle.window_link.proofs.Arrivals.{Stands, stands}
-use Rattle.window_link.proofs.KeptPlaces.{get-after, get-with}
+use Rattle.window_link.specs.WindowLaws.{Stands, stands, get-after, get-with}
 
 -- ---- lists
 
-get-append : {X : Type 0} (xs ys : List X) (k : ℕ) (x : X) → slice_get xs k ≡ Some x → slice_get (xs ++ ys) k ≡ Some x
-get-append [] ys k x e = absurd cc
-get-append (y ∷ xs) ys zero x e = e
-get-append (y ∷ xs) ys (suc k) x e = get-append xs ys k x e
-
 nth-append : {X : Type 0} (xs ys : List X) (k : ℕ) (x : X) → nth xs k ≡ Some x → nth (xs ++ ys) k ≡ Some x
 nth-append xs ys zero x e = absurd cc
-nth-append xs ys (suc k) x e = get-append xs ys k x e
-
--- what stands in a list with one more at its end
-pub get-push : {X : Type 0} (xs : List X) (x y : X) (k : ℕ) → slice_get (xs ++ x ∷ []) k ≡ Some y → (slice_get xs k ≡ Some y) ⊎ (x ≡ y)
-get-push [] x y zero e = inr cc
-get-push [] x y (suc k) e = absurd cc
-get-push (z ∷ xs) x y zero e = inl e
-get-push (z ∷ xs) x y (suc k) e = get-push xs x y k e
-
-pub get-drop : {X : Type 0} (xs : List X) (n k : ℕ) → slice_get (drop n xs) k ≡ slice_get xs (n + k)
-get-drop xs zero k = let e : k ≡ 0 + k = omega arith in ap (slice_get xs) e
-get-drop [] (suc n) k = refl
-get-drop (x ∷ xs) (suc n) k = let e : suc (n + k) ≡ suc n + k = omega arith in get-drop xs n k ∙ ap (slice_get (x ∷ xs)) e
+nth-append xs ys (suc k) x e = get_left xs ys k x e
 
 -- a waiting message is the sent one of its number
 pub nth-drop : {X : Type 0} (xs : List X) (n i : ℕ) (x : X) → nth (drop n xs) i ≡ Some x → nth xs (n + i) ≡ Some x
@@ -121,7 +104,7 @@ lawful_sent s msg h room = record {
   begins = ap (λ l. l ++ msg ∷ []) h.begins ∙ append_assoc s.taken h.ahead (msg ∷ []);
   acknowledged = h.acknowledged;
   few = omega (arith, room, length-drop s.acked s.sent, length-drop s.acked (s.sent ++ msg ∷ []), length-append s.sent (msg ∷ []));
-  kept = λ k m e. get-append s.sent (msg ∷ []) (length s.taken + k) m (h.kept k m e);
+  kept = λ k m e. get_left s.sent (msg ∷ []) (length s.taken + k) m (h.kept k m e);
 }
 
 grows_sent : (s : Stream) (msg : Msg) → Grows s (sent_more s msg)
@@ -146,7 +129,7 @@ sound_post p e number msg S placed = record {
   honest = λ k posted is. ⊎_elim
       (λ old. let h = S.honest k posted old in record { run = h.run; from = h.from; to = h.to; count = h.count; sent = h.sent })
       (λ new. subst (Honest _) new (record { run = refl; from = refl; to = refl; count = omega arith; sent = placed }))
-      (get-push p.frames _ posted k is);
+      (get_push p.frames _ posted k is);
 }
 
 sound_post_waiting : (p : Pair) (e : End) (i : ℕ) (msg : Option Msg) → Sound p → nth (waiting (p.stream e)) i ≡ msg → Sound (post_waiting p e i msg).1

@@ -4,8 +4,10 @@ use native.Mathlib.Nat.{mod-eq-sub-mod, mod-add-mod}
 use Rattle.std.proofs.lemmas.List.{same_lists, get_or_append_left, get_or-append_right, get_or-set_same, get_or-set_other, set-get_or, get_or-replicate}
 use Rattle.std.proofs.lemmas.Bool.{cases_lt, cases_eq}
 use Rattle.std.proofs.lemmas.Nat.{mod_below}
+use Rattle.bottle_values.specs.ListLaws.{get-set}
 use Rattle.frame_codec.specs.declared.message.Msg.{Msg}
 use Rattle.window_link.specs.Limits.{most_kept}
+use Rattle.window_link.specs.WindowLaws.{get-after, get-with}
 use Rattle.window_link.specs.Windows.{Receiving, next_kept, kept_or, kept_with, kept_after, keeping, advanced, without_next}
 use Rattle.window_link.specs.refinement.Places.{from_place, AreUpTo}
 
@@ -168,41 +170,6 @@ keeps_old xs first number msg old size least near full =
 
     here : get_or (from_place first xs) (number - first) None ≡ Some old
     here = get_or-from xs size first (number - first) None (omega (arith, least, near)) ∙ ap (λ x. get_or xs (x % most_kept) None) (sym at) ∙ full
-
--- ---- what is kept after a step
-
--- a place is the one that was written, or as it was
-pub get-set : {X : Type 0} (xs : List X) (i k : ℕ) (v d y : X) → get_or (set xs i v) k d ≡ y → ((k ≡ i) × (v ≡ y)) ⊎ (get_or xs k d ≡ y)
-get-set [] i k v d y e = inr e
-get-set (x ∷ xs) zero zero v d y e = inl (refl, e)
-get-set (x ∷ xs) zero (suc k) v d y e = inr e
-get-set (x ∷ xs) (suc i) zero v d y e = inr e
-get-set (x ∷ xs) (suc i) (suc k) v d y e = elim (get-set xs i k v d y e) [
-  | inl same ↦ inl (ap suc same.0, same.1)
-  | inr old ↦ inr old
-]
-
-get-push : {X : Type 0} (xs : List X) (k : ℕ) (d : X) → get_or (xs ++ d ∷ []) k d ≡ get_or xs k d
-get-push [] zero d = refl
-get-push [] (suc k) d = refl
-get-push (x ∷ xs) zero d = refl
-get-push (x ∷ xs) (suc k) d = get-push xs k d
-
-pub get-after : (ks : List (Option Msg)) (k : ℕ) → get_or (kept_after ks) k None ≡ get_or ks (suc k) None
-get-after [] zero = refl
-get-after [] (suc k) = refl
-get-after (x ∷ xs) k = get-push xs k None
-
--- what is kept of a number with a message more is what was kept, or the message
-pub get-with : (ks : List (Option Msg)) (i k : ℕ) (msg m : Msg) → get_or (kept_with ks i msg) k None ≡ Some m → (get_or ks k None ≡ Some m) ⊎ ((k ≡ i) × (msg ≡ m))
-get-with ks i k msg m e = elim (get-set ks i k (kept_or (get_or ks i None) msg) None (Some m) e) [
-  | inl here ↦ new (get_or ks i None) refl here.0 here.1
-  | inr old ↦ inl old
-]
-  where
-    new : (o : Option Msg) → get_or ks i None ≡ o → k ≡ i → kept_or o msg ≡ Some m → (get_or ks k None ≡ Some m) ⊎ ((k ≡ i) × (msg ≡ m))
-    new None is same h = inr (same, cc)
-    new (Some there) is same h = inl (ap (λ x. get_or ks x None) same ∙ is ∙ h)
 
 -- ---- how far what is kept goes
 

@@ -1,7 +1,6 @@
-pub mod Invariant
-pub mod LinksRefineStreams
-pub mod RunsExtended
-pub mod FrameDelivery
-pub mod Arrivals
-pub mod KeptPlaces
-pub mod KeptFollowing
+mod Invariant
+mod LinksRefineStreams
+mod RunsExtended
+mod FrameDelivery
+mod KeptPlaces
+mod KeptFollowing

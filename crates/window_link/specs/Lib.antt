@@ -1,4 +1,5 @@
 pub mod Windows
+pub mod WindowLaws
 pub mod Limits
 pub mod Links
 pub mod Streams

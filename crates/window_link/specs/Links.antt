@@ -9,7 +9,7 @@ use Rattle.window_link.specs.declared.fault.LinkFault.TheVariants.{Stranger, Ack
 use Rattle.window_link.specs.Windows.{Sending, Receiving, used, acknowledged, arrival, received}
 use Rattle.window_link.specs.Limits.{most_kept}
 
--- the run, the numbers of the two offices, and what goes either way
+-- one end: the run, the numbers of the two offices, and both windows
 pub record LinkState : Type 0 where
   pub run : ℕ
   pub me : ℕ
@@ -17,7 +17,7 @@ pub record LinkState : Type 0 where
   pub sending : Sending
   pub receiving : Receiving
 
--- an end that used the numbers up to `sent`, all of them acknowledged, and took `taken` messages
+-- an end where nothing waits: it used the numbers up to `sent`, all of them acknowledged, and took `taken` messages
 abbrev pub resumed : ℕ → ℕ → ℕ → ℕ → ℕ → LinkState
 resumed run me peer sent taken =
     record { run = run; me = me; peer = peer; sending = record { acked = sent; waiting = [] }; receiving = record { taken = taken; kept = replicate most_kept None } }
@@ -29,10 +29,11 @@ abbrev pub frame_with : LinkState → ℕ → Option Msg → Fields
 frame_with l number msg =
     record { run = l.run; from = l.me; to = l.peer; number = number; count = l.receiving.taken; msg = msg }
 
--- of the i-th waiting message, from 1
+-- the frame of the i-th waiting message, from 1
 abbrev pub frame_of : LinkState → ℕ → Fields
 frame_of l i = frame_with l (l.sending.acked + i) (slice_get l.sending.waiting (i - 1))
 
+-- the frame that brings a count alone
 abbrev pub ack_frame_of : LinkState → Fields
 ack_frame_of l = frame_with l 0 None
 
@@ -42,7 +43,7 @@ ack_frame_of l = frame_with l 0 None
 abbrev pub is_own : LinkState → Fields → Bool
 is_own l f = f.run == l.run && f.from == l.peer && f.to == l.me
 
--- what is wrong with it, the first that applies
+-- what an end refuses of a frame, the first that applies
 abbrev pub fault_of : LinkState → Fields → Option LinkFault
 fault_of l f =
     if not (is_own l f) then Some Stranger else if nat_lt (used l.sending) f.count then Some AckAhead else None
@@ -56,6 +57,7 @@ abbrev pub received_from : Receiving → ℕ → Option Msg → Receiving
 received_from r number None = r
 received_from r number (Some msg) = received r number msg
 
+-- what a frame brings
 abbrev pub arrival_at : LinkState → Fields → Arrival
 arrival_at l f = brings l.receiving.taken f.number f.msg
 

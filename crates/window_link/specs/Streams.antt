@@ -123,7 +123,7 @@ deliver p (Some posted) =
       with_stream (with_stream p (other posted.by) (learned back f.count)) posted.by (took out f.number f.msg),
     )
 
--- what happens, and what is answered
+-- What each event does, and what is answered. After a message that is taken, the kept ones follow up to the first gap.
 abbrev pub happens : Pair → LinkEvent → LinkReply × Pair
 happens p (Queue e msg) = send p e msg
 happens p (Make e i) = post_waiting p e i (nth (waiting (p.stream e)) i)

@@ -9,11 +9,13 @@ use Rattle.window_link.specs.Links.{LinkState, fault_of}
 use Rattle.window_link.specs.Streams.{Pair, IsLawful, waiting, other, happens, opening, run_of}
 use Rattle.window_link.specs.declared.laws.event.LinkEvent.TheVariants.{Queue, Make, Ack, Arrive}
 
+-- both ends as contracts see them, and every frame that was made
 pub record Ends : Type 0 where
   pub left : LinkState
   pub right : LinkState
   pub frames : List Posted
 
+-- the link at one end
 abbrev pub at : Ends → End → LinkState
 at t Left = t.left
 at t Right = t.right
@@ -65,11 +67,11 @@ Happens old event reply new = (names : Names) (events : List LinkEvent) → LedT
 abbrev pub Accepts : Ends → Type 0
 Accepts t = (k : ℕ) (posted : Posted) → slice_get t.frames k ≡ Some posted → fault_of (at t (other posted.by)) posted.frame ≡ None
 
--- over every list of events
+-- over every list of events, an end refuses no frame that the other made
 abbrev pub NoFrameIsRefused : Type 0
 NoFrameIsRefused = (names : Names) (events : List LinkEvent) → Accepts (ends_of (after names events))
 
--- a frame is to be made
+-- the event makes a frame, which takes memory
 abbrev pub makes_frame : LinkEvent → Bool
 makes_frame (Queue e msg) = false
 makes_frame (Make e i) = true

@@ -16,6 +16,7 @@ pub record Sending : Type 0 where
 abbrev pub used : Sending → ℕ
 used s = s.acked + length s.waiting
 
+-- one message more waits
 abbrev pub queued : Sending → Msg → Sending
 queued s msg = record { acked = s.acked; waiting = s.waiting ++ msg ∷ [] }
 
@@ -32,7 +33,8 @@ pub record Receiving : Type 0 where
   pub taken : ℕ
   pub kept : List (Option Msg)
 
--- what a message with that number is, where so many were taken
+-- What a message with that number is, where so many were taken: a repeat, the next one, one of the 17 after it, which
+-- are kept, or early.
 abbrev pub arrival : ℕ → ℕ → Msg → Arrival
 arrival taken number msg =
     if nat_le number taken then Repeat
@@ -59,11 +61,11 @@ keeping r number msg = record { taken = r.taken; kept = kept_with r.kept (number
 abbrev pub kept_after : List (Option Msg) → List (Option Msg)
 kept_after ks = drop 1 ks ++ None ∷ []
 
--- the next number was taken
+-- the window where the next number was taken
 abbrev pub advanced : Receiving → Receiving
 advanced r = record { taken = r.taken + 1; kept = kept_after r.kept }
 
--- nothing is kept of the next number
+-- the window where nothing is kept of the next number any more
 abbrev pub without_next : Receiving → Receiving
 without_next r = record { taken = r.taken; kept = set r.kept 0 None }
 
@@ -75,5 +77,6 @@ after_message r number msg Acked = r
 after_message r number msg Repeat = r
 after_message r number msg Early = r
 
+-- the window after a message with that number
 abbrev pub received : Receiving → ℕ → Msg → Receiving
 received r number msg = after_message r number msg (arrival r.taken number msg)

@@ -11,7 +11,16 @@
 //!   `specs/Two.antt`, over the streams of `specs/Streams.antt`).
 //!
 //! `sending` and `receiving` are the two windows of an end. No call of [`Link`] takes memory. It
-//! stands on `frame_codec` and `arrayvec`; `docs/architecture.md` says how links are used.
+//! stands on `frame_codec` and `arrayvec`.
+//!
+//! A frame's count is used first, whatever the frame brings; then its message is taken, where its number is the next
+//! one. One that is kept follows once those before it are taken: on a network that reorders, it isn't sent again. One
+//! further ahead is dropped. So loss, repetition and reordering end here. A link keeps two numbers, the window of those
+//! that wait, the places of those ahead, and the furthest number that was kept; neither window knows of the other.
+//!
+//! Not said: what [`Link::queue`] does where no place is free (`has_room` is a condition); that a frame was made by the
+//! peer, since a forged one that passes `check` is taken; that the caller takes what is kept; that anything arrives.
+//! The laws are of the frames that the two ends made, and start from [`Link::open`], not from [`Link::resume`].
 #![tactic(auto)]
 
 mod arrival;

@@ -123,6 +123,10 @@ impl Link {
     }
 
     /// What is wrong with a frame that comes: `Stranger` before `AckAhead`.
+    ///
+    /// `check` and `accept` are calls of their own, and `arrive` is both. A channel has to look at what a frame brings
+    /// after the link has judged it and before its count is used; so no check is made twice. Two linked ends show that
+    /// `accept` may always be called on a frame that was made for the end.
     pub fn check(&self, frame: &Frame) -> Result<(), LinkFault>
         ensures { result_err result ≡ fault_of self.now frame.now }
     {
@@ -137,6 +141,11 @@ impl Link {
 
     /// Takes in a frame that `check` passes: first its count, then its message. One that is ahead is kept, and
     /// nothing follows by itself: after a `Fresh` the caller looks at [`Link::kept`].
+    ///
+    /// The link can't say whether a kept message may be taken: the channel judges it, against what is held by then. So
+    /// this takes the frame's own message alone, and the caller goes on with `accept_kept` or `drop_kept`. Two linked
+    /// ends, which judge nothing, take all that follow. Where a caller left a kept message in its place and a frame
+    /// with that number arrives, the frame's message is the fresh one, and the place is empty after it.
     pub fn accept(&mut self, frame: &Frame) -> Arrival
         requires { fault_of self.old frame.now ≡ None }
         ensures arrival { result ≡ arrival_at self.old frame.now }

@@ -13,6 +13,10 @@ use std::marker::Model;
 pub const MAX_KEPT: usize = 18;
 
 /// How many messages were taken, in order, and places for the ones after them.
+///
+/// Of the 18 places 17 are used at most: of the next number something is kept only from a frame that made it the next
+/// one to the moment in which it is taken or thrown out. Nothing moves when the count does. Past the furthest number
+/// all are empty, so a message that is taken there leaves them alone.
 #[derive(Drop)]
 pub struct ReceiveWindow {
     taken: u64,

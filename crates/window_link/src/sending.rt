@@ -91,6 +91,9 @@ impl SendWindow {
     }
 
     /// The peer has taken the messages up to this number.
+    ///
+    /// Those that are left move to the front, by one copy within the window. Numbering places around a ring would save
+    /// that copy; but the waiting messages would be no slice then, and an arrival is well within its instructions.
     pub fn acknowledge(&mut self, count: u64)
         requires { count ≤ used self.old }
         ensures { self.new ≡ acknowledged self.old count }

@@ -2,11 +2,11 @@
 use Rattle.std.specs.Prelude.{◌≡◌, true, List, All}
 use Rattle.site_core.specs.declared.event.Entry.{Entry}
 use Rattle.site_core.specs.Journals.{Site, office_of, IsLegal}
-use Rattle.site_core.specs.declared.session.Session.{Session}
-use Rattle.site_core.specs.Agenda.{Agenda}
+use Rattle.session_agenda.specs.declared.session.Session.{Session}
+use Rattle.session_agenda.specs.Agenda.{Agenda}
 use Rattle.site_core.specs.Offices.{Office, is_ours}
-use Rattle.site_core.specs.refinement.PairsOfCode.{PairsValue, pairs_of}
-use Rattle.site_core.specs.refinement.AgendaOfCode.{AgendaValue, Means}
+use Rattle.neighbour_pairs.specs.refinement.PairsOfCode.{PairsValue, pairs_of}
+use Rattle.session_agenda.specs.refinement.AgendaOfCode.{AgendaValue, Means}
 
 abbrev pub office_at : PairsValue → Agenda → Office
 office_at p a = record { pairs = pairs_of p; agenda = a }

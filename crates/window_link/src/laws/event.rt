@@ -38,6 +38,8 @@ pub enum LinkReply {
 }
 
 /// A frame, with the end that made it.
+///
+/// So it goes to the other end even where both have one number.
 #[derive(Clone, Copy, Debug, PartialEq, Eq)]
 pub struct Posted {
     pub by: End,

@@ -36,6 +36,7 @@ pub fn step(
     }
 }
 
+// Where the greatest number was used the ends are idle, as they are where no place is free.
 fn queue(link: &mut Link, msg: Msg) -> LinkReply
     ensures reply { result ≡ (queue_step link.old msg).0 }
     ensures link { link.new ≡ (queue_step link.old msg).1 }

@@ -11,6 +11,9 @@ use std::marker::Model;
 
 /// Both ends of a link, and every frame that they made. A frame arrives at any time, any number of
 /// times or never.
+///
+/// The links keep no taken messages, so their contracts alone can't say that these begin what was sent. The invariant
+/// says that some list of events led here, and each event adds itself to every such list.
 #[derive(Drop)]
 pub struct Two {
     left: Link,

@@ -1,7 +1,7 @@
 use Rattle.std.proofs.Common.{ap, get_or}
 use Rattle.dining_core.specs.declared.shared_fork.Fork.{Fork}
 use Rattle.dining_core.specs.refinement.Tables.{used_shared, nothing}
-use Rattle.bottle_values.proofs.Lists.{map_next}
+use Rattle.bottle_values.specs.ListLaws.{map_next}
 use Rattle.dining_core.proofs.places.use_all.Goals as goal
 
 pub loop-place-preserved : goal.loop-place-preserved

@@ -4,7 +4,7 @@ use Rattle.std.proofs.lemmas.List.{nil_from_length, take_rest}
 use Rattle.std.proofs.lemmas.Result.{err_from_is_err_and}
 use Rattle.frame_codec.specs.refinement.DecodedParts.{message_fault}
 use Rattle.frame_codec.proofs.FirstFaults.{first_fault-in_header, first_fault-of_message}
-use Rattle.frame_codec.proofs.SpellingUnique.{same_frame}
+use Rattle.frame_codec.specs.SpellingLaws.{same_frame}
 use Rattle.frame_codec.proofs.DecodeSpells.{spells_data, spells_ack}
 use Rattle.frame_codec.proofs.version_01.decode.Goals as goal
 

@@ -1,5 +1,5 @@
 use Rattle.token_channel.specs.Places.{with_held}
-use Rattle.bottle_values.proofs.Lists.{map_next}
+use Rattle.bottle_values.specs.ListLaws.{map_next}
 use Rattle.token_channel.proofs.places.change.Goals as goal
 
 pub loop-place-preserved : goal.loop-place-preserved

@@ -1,7 +1,8 @@
 use Rattle.std.proofs.Common.{length, sym, ap, subst, arith, rules}
 use Rattle.window_link.specs.Links.{LinkState}
-use Rattle.token_channel.proofs.ThingsApart.{Apart, apart_none}
-use Rattle.token_channel.proofs.WaitingBound.{few_places}
+use Rattle.token_channel.specs.Places.{Apart}
+use Rattle.token_channel.proofs.ThingsApart.{apart_none}
+use Rattle.token_channel.specs.PlaceLaws.{few_places}
 use Rattle.token_channel.proofs.channel.Channel.open.Goals as goal
 
 pub invariant_of-result : goal.invariant_of-result

@@ -1,27 +1,40 @@
-use Rattle.std.proofs.Common.{◌||◌, ◌∷◌, sym, ap, ◌∙◌, subst}
+use Rattle.std.proofs.Common.{◌||◌, sym, ap, ◌∙◌, subst}
 use Rattle.window_link.specs.declared.arrival.Arrival.{Arrival}
 use Rattle.token_channel.specs.declared.taken.Taken.TheVariants.{Fresh}
 use Rattle.token_channel.specs.Places.{holds, waits}
-use Rattle.token_channel.specs.Channels.{ChannelState, after_frame, settled, following, followed, most_following}
+use Rattle.token_channel.specs.Channels.{after_frame, following, with_following, most_following}
 use Rattle.token_channel.specs.Answers.{Tells}
-use Rattle.token_channel.proofs.TakenHeld.{held_with_first}
 use Rattle.token_channel.proofs.channel.Channel.take.Goals as goal
 
 pub returns-in-Fresh-clause-taken : goal.returns-in-Fresh-clause-taken
 returns-in-Fresh-clause-taken c =
-    let after = after_frame c.args.self.now c.args.frame.now in
-    subst (λ (a : Arrival). Tells (Fresh c.follow_all.result) a (following most_following after)) (sym c.in-Fresh.is ∙ c.accept.ensures.arrival)
-    (c.follow_all.ensures.messages ∙ ap (λ (s : ChannelState). c.in-Fresh.msg ∷ following most_following s) c.accept.ensures.taken)
-
-pub returns-in-Fresh-clause-channel : goal.returns-in-Fresh-clause-channel
-returns-in-Fresh-clause-channel c =
-    let after = after_frame c.args.self.now c.args.frame.now in
-    c.follow_all.ensures.channel ∙ ap (followed most_following) c.accept.ensures.taken ∙ ap (λ (a : Arrival). settled a after) (sym c.in-Fresh.is ∙ c.accept.ensures.arrival)
+    let fresh = sym c.in-Fresh.is ∙ c.accept-arrival.ensures.arrival in
+    let ms = following most_following (after_frame c.args.self.now c.args.frame.now) in
+    subst (λ (a : Arrival). Tells (Fresh c.accept-arrival.result.1) a ms) fresh (c.accept-arrival.ensures.messages ∙ ap (λ (a : Arrival). with_following a ms) (sym fresh))
 
 pub returns-in-Fresh-clause-held : goal.returns-in-Fresh-clause-held
-returns-in-Fresh-clause-held c t =
-    let before = c.args.self.now in
-    let first = c.in-Fresh.msg in
-    ap (λ (s : ChannelState). holds s.places t) (c.follow_all.ensures.channel ∙ ap (followed most_following) c.accept.ensures.taken)
-    ∙ held_with_first most_following before c.args.frame.now first t (sym c.in_ok-check.ensures.fault) (sym (sym c.in-Fresh.is ∙ c.accept.ensures.arrival))
-    ∙ sym (ap (λ ms. waits t ms || holds before.places t) (c.follow_all.ensures.messages ∙ ap (λ (s : ChannelState). first ∷ following most_following s) c.accept.ensures.taken))
+returns-in-Fresh-clause-held c t = c.accept-arrival.ensures.held t
+
+pub returns-in-Acked-clause-held : goal.returns-in-Acked-clause-held
+returns-in-Acked-clause-held c t =
+    let ms = following most_following (after_frame c.args.self.now c.args.frame.now) in
+    let none = c.accept-arrival.ensures.messages ∙ ap (λ (a : Arrival). with_following a ms) (sym (sym c.in-Acked.is ∙ c.accept-arrival.ensures.arrival)) in
+    c.accept-arrival.ensures.held t ∙ ap (λ ms. waits t ms || holds c.args.self.now.places t) none
+
+pub returns-in-Repeat-clause-held : goal.returns-in-Repeat-clause-held
+returns-in-Repeat-clause-held c t =
+    let ms = following most_following (after_frame c.args.self.now c.args.frame.now) in
+    let none = c.accept-arrival.ensures.messages ∙ ap (λ (a : Arrival). with_following a ms) (sym (sym c.in-Repeat.is ∙ c.accept-arrival.ensures.arrival)) in
+    c.accept-arrival.ensures.held t ∙ ap (λ ms. waits t ms || holds c.args.self.now.places t) none
+
+pub returns-in-Kept-clause-held : goal.returns-in-Kept-clause-held
+returns-in-Kept-clause-held c t =
+    let ms = following most_following (after_frame c.args.self.now c.args.frame.now) in
+    let none = c.accept-arrival.ensures.messages ∙ ap (λ (a : Arrival). with_following a ms) (sym (sym c.in-Kept.is ∙ c.accept-arrival.ensures.arrival)) in
+    c.accept-arrival.ensures.held t ∙ ap (λ ms. waits t ms || holds c.args.self.now.places t) none
+
+pub returns-in-Early-clause-held : goal.returns-in-Early-clause-held
+returns-in-Early-clause-held c t =
+    let ms = following most_following (after_frame c.args.self.now c.args.frame.now) in
+    let none = c.accept-arrival.ensures.messages ∙ ap (λ (a : Arrival). with_following a ms) (sym (sym c.in-Early.is ∙ c.accept-arrival.ensures.arrival)) in
+    c.accept-arrival.ensures.held t ∙ ap (λ ms. waits t ms || holds c.args.self.now.places t) none

@@ -1,7 +1,7 @@
 use Rattle.std.proofs.Common.{length, ap, arith}
 use Rattle.token_channel.specs.declared.thing.Thing.TheVariants.{Fork as TheFork}
 use Rattle.token_channel.specs.Channels.{ChannelState}
-use Rattle.token_channel.proofs.ThingsApart.{room}
+use Rattle.token_channel.specs.ThingLaws.{room}
 use Rattle.token_channel.proofs.channel.Channel.waiting.Goals as goal
 
 pub returns-clause-few : goal.returns-clause-few

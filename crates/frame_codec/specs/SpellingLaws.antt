@@ -1,0 +1,121 @@
+-- What follows of spellings: what two of them can have in common.
+use Rattle.std.proofs.Common.{◌≡◌, ℕ, ◌<◌, ◌^◌, ℤ, pos, negsuc, IsTrue, List, [], ◌++◌, take, drop, get_or, Option, Some, None, refl, sym, ap, ◌∙◌, arith}
+use Rattle.std.specs.Prelude.{IfSome}
+use Rattle.std.proofs.lemmas.Bool.{ltb-true}
+use Rattle.byteorder.specs.Endian.{big_bytes, big_number}
+use Rattle.byteorder.specs.Numbers.{big_number-reads_back}
+use Rattle.bottle_values.specs.Operations.{is_i64, is_value}
+use Rattle.bottle_values.specs.Bytes.{bytes_of, twos_complement}
+use Rattle.bottle_values.specs.Values.{number_in}
+use Rattle.bottle_values.specs.Values.{Value, Number}
+use Rattle.frame_codec.specs.declared.message.Msg.{Msg}
+use Rattle.frame_codec.specs.declared.message.Msg.TheVariants.{AskFork, Fork, AskBottle, Bottle}
+use Rattle.frame_codec.specs.Frame.{Fields, IsFrame, IsMsg, IsNumbered}
+use Rattle.frame_codec.specs.Header.{kind_of}
+use Rattle.frame_codec.specs.Version01.{Spells, message, body, spelling}
+
+-- ---- fields
+
+-- a field spells one number
+same_number : (n x y : ℕ) → x < 256 ^ n → y < 256 ^ n → big_bytes n x ≡ big_bytes n y → x ≡ y
+same_number n x y fx fy e =
+    sym (big_number-reads_back n x [] fx) ∙ ap (λ (l : List ℕ). big_number n (l ++ [])) e ∙ big_number-reads_back n y [] fy
+
+-- the eight bytes spell one value
+same_int : (y z : ℤ) → IsTrue (is_i64 y) → IsTrue (is_i64 z) → twos_complement y ≡ twos_complement z → y ≡ z
+same_int (pos m) (pos n) fm fn e = ap pos e
+same_int (pos m) (negsuc n) fm fn e = let a = ltb-true _ _ fm in let b = ltb-true _ _ fn in absurd (omega arith)
+same_int (negsuc m) (pos n) fm fn e = let a = ltb-true _ _ fm in let b = ltb-true _ _ fn in absurd (omega arith)
+same_int (negsuc m) (negsuc n) fm fn e = let a = ltb-true _ _ fm in let b = ltb-true _ _ fn in ap negsuc (omega arith)
+
+below : (z : ℤ) → IsTrue (is_i64 z) → twos_complement z < 2 ^ 64
+below (pos n) f = let a = ltb-true _ _ f in omega arith
+below (negsuc n) f = omega arith
+
+same_value : (v w : Value) → IsTrue (is_value v) → IsTrue (is_value w) → bytes_of (number_in v) ≡ bytes_of (number_in w) → v ≡ w
+same_value (Number y) (Number z) fv fw e = ap Number (same_int y z fv fw (same_number 8 _ _ (below y fv) (below z fw) e))
+
+-- ---- messages
+
+-- no message begins another
+pub record SameMessage (m n : Msg) (x y : List ℕ) : Type 0 where
+  pub same : m ≡ n
+  pub rest : x ≡ y
+
+same_message : (m n : Msg) (x y : List ℕ) → IsMsg m → IsMsg n → message m ++ x ≡ message n ++ y → SameMessage m n x y
+same_message AskFork AskFork x y fm fn e = record { same = refl; rest = cc }
+same_message AskFork Fork x y fm fn e = absurd cc
+same_message AskFork (AskBottle b) x y fm fn e = absurd cc
+same_message AskFork (Bottle b w) x y fm fn e = absurd cc
+same_message Fork AskFork x y fm fn e = absurd cc
+same_message Fork Fork x y fm fn e = record { same = refl; rest = cc }
+same_message Fork (AskBottle b) x y fm fn e = absurd cc
+same_message Fork (Bottle b w) x y fm fn e = absurd cc
+same_message (AskBottle a) AskFork x y fm fn e = absurd cc
+same_message (AskBottle a) Fork x y fm fn e = absurd cc
+same_message (AskBottle a) (AskBottle b) x y fm fn e =
+    record { same = ap AskBottle (same_number 2 a b fm fn (ap (λ (l : List ℕ). take 2 (drop 1 l)) e)); rest = ap (drop 3) e }
+same_message (AskBottle a) (Bottle b w) x y fm fn e = absurd cc
+same_message (Bottle a v) AskFork x y fm fn e = absurd cc
+same_message (Bottle a v) Fork x y fm fn e = absurd cc
+same_message (Bottle a v) (AskBottle b) x y fm fn e = absurd cc
+same_message (Bottle a v) (Bottle b w) x y fm fn e =
+    let bottle : a ≡ b = same_number 2 a b fm.0 fn.0 (ap (λ (l : List ℕ). take 2 (drop 1 l)) e) in
+    let value : v ≡ w = same_value v w fm.1 fn.1 (ap (λ (l : List ℕ). take 8 (drop 3 l)) e) in
+    record { same = ap (λ (r : ℕ). Bottle r v) bottle ∙ ap (λ (u : Value). Bottle b u) value; rest = ap (drop 11) e }
+
+-- the same of what follows a header, where the kinds agree
+pub record SameBody (m n : Option Msg) (x y : List ℕ) : Type 0 where
+  pub same : m ≡ n
+  pub rest : x ≡ y
+
+same_body : (m n : Option Msg) (x y : List ℕ) → IfSome m IsMsg → IfSome n IsMsg → kind_of m ≡ kind_of n → body m ++ x ≡ body n ++ y → SameBody m n x y
+same_body None None x y fm fn k e = record { same = refl; rest = e }
+same_body None (Some n) x y fm fn k e = absurd (omega arith)
+same_body (Some m) None x y fm fn k e = absurd (omega arith)
+same_body (Some m) (Some n) x y fm fn k e =
+    let s = same_message m n x y fm fn e in record { same = ap Some s.same; rest = s.rest }
+
+-- ---- frames
+
+number_fits : (m : Option Msg) (number : ℕ) → IsNumbered m number → number < 2 ^ 64
+number_fits None number h = omega arith
+number_fits (Some m) number h = let high = h.1 in omega arith
+
+frame_of : ℕ → ℕ → ℕ → ℕ → ℕ → Option Msg → Fields
+frame_of run from to number count msg =
+    record { run = run; from = from; to = to; number = number; count = count; msg = msg }
+
+same_fields : (f g : Fields) → f.run ≡ g.run → f.from ≡ g.from → f.to ≡ g.to → f.number ≡ g.number → f.count ≡ g.count → f.msg ≡ g.msg → f ≡ g
+unfolding frame_of
+same_fields f g run from to number count msg =
+    ap (λ (r : ℕ). frame_of r f.from f.to f.number f.count f.msg) run
+    ∙ ap (λ (r : ℕ). frame_of g.run r f.to f.number f.count f.msg) from
+    ∙ ap (λ (r : ℕ). frame_of g.run g.from r f.number f.count f.msg) to
+    ∙ ap (λ (r : ℕ). frame_of g.run g.from g.to r f.count f.msg) number
+    ∙ ap (λ (r : ℕ). frame_of g.run g.from g.to g.number r f.msg) count
+    ∙ ap (λ (m : Option Msg). frame_of g.run g.from g.to g.number g.count m) msg
+
+-- two spellings with the same bytes behind one another are of one frame
+same_spelled : (f g : Fields) (x y : List ℕ) → IsFrame f → IsFrame g → spelling f ++ x ≡ spelling g ++ y → f ≡ g
+unfolding spelling
+same_spelled f g x y ff fg e =
+    let run = same_number 4 f.run g.run ff.run fg.run (ap (λ (l : List ℕ). take 4 (drop 4 l)) e) in
+    let from : f.from ≡ g.from = ap (λ (l : List ℕ). get_or l 8 0) e in
+    let to : f.to ≡ g.to = ap (λ (l : List ℕ). get_or l 9 0) e in
+    let number = same_number 8 f.number g.number (number_fits f.msg f.number ff.number) (number_fits g.msg g.number fg.number) (ap (λ (l : List ℕ). take 8 (drop 10 l)) e) in
+    let count = same_number 8 f.count g.count (let low = ff.count in omega arith) (let low = fg.count in omega arith) (ap (λ (l : List ℕ). take 8 (drop 18 l)) e) in
+    let kind : kind_of f.msg ≡ kind_of g.msg = ap (λ (l : List ℕ). get_or l 3 0) e in
+    let msg = same_body f.msg g.msg x y ff.msg fg.msg kind (ap (drop 26) e) in
+    same_fields f g run from to number count msg.same
+
+-- no spelling begins another
+pub same_spelling : (a b x y : List ℕ) (f g : Fields) → Spells a f → Spells b g → a ++ x ≡ b ++ y → (a ≡ b) × (f ≡ g)
+same_spelling a b x y f g sa sb e =
+    let spelled : spelling f ++ x ≡ spelling g ++ y = ap (λ (l : List ℕ). l ++ x) (sym sa.is) ∙ e ∙ ap (λ (l : List ℕ). l ++ y) sb.is in
+    let same = same_spelled f g x y sa.in_range sb.in_range spelled in
+    (sa.is ∙ ap spelling same ∙ sym sb.is, same)
+
+-- bytes spell one frame
+pub same_frame : (a : List ℕ) (f g : Fields) → Spells a f → Spells a g → f ≡ g
+same_frame a f g sf sg = (same_spelling a a [] [] f g sf sg refl).1

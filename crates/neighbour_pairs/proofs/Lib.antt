@@ -1,0 +1,5 @@
+pub mod SlotUpdates
+pub mod PairUpdates
+pub mod PairsOpening
+pub mod LeastNeighbour
+pub mod Taking
