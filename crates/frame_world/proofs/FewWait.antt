@@ -4,7 +4,7 @@ use Rattle.std.specs.Prelude.{◌||◌, IsTrue}
 use Rattle.std.proofs.Math.Bool.{and-false}
 use Rattle.std.proofs.lemmas.List.{length-map}
 use Rattle.bottle_values.specs.Lists.{num}
-use Rattle.bottle_values.proofs.Maps.{put_cases}
+use Rattle.bottle_values.specs.MapLaws.{put_cases}
 use Rattle.frame_codec.specs.declared.message.Msg.{Msg}
 use Rattle.office_map.specs.PlanValue.{PlanValue, are_neighbours, records_between}
 use Rattle.office_map.specs.Consistency.{IsConsistent}
@@ -12,11 +12,11 @@ use Rattle.token_channel.specs.declared.thing.Thing.{Thing}
 use Rattle.token_channel.specs.declared.thing.Thing.TheVariants.{Fork}
 use Rattle.token_channel.specs.declared.thing.SharedThing.{SharedThing}
 use Rattle.token_channel.specs.Things.{same, count_carrying}
-use Rattle.token_channel.specs.Places.{holds, shares, places_of}
+use Rattle.token_channel.specs.Places.{holds, shares, places_of, Apart}
 use Rattle.token_channel.specs.Ends.{is_shared}
 use Rattle.token_channel.specs.Opening.{OpensAsThePlanStarts}
-use Rattle.token_channel.proofs.ThingsApart.{Apart, room}
-use Rattle.token_channel.proofs.WaitingBound.{few_places}
+use Rattle.token_channel.specs.PlaceLaws.{few_places}
+use Rattle.token_channel.specs.ThingLaws.{room}
 use Rattle.dining_core.specs.Worlds as tables
 use Rattle.drinking_core.specs.Worlds as bars
 use Rattle.site_core.specs.Pairs.{Pairs, held}
@@ -25,7 +25,8 @@ use Rattle.frame_world.specs.Worlds.{World, opening, run_of}
 use Rattle.frame_world.specs.Ways.{pairs_at}
 use Rattle.frame_world.specs.Headline.{Always}
 use Rattle.frame_world.specs.Waiting.{EachIsHeldOrWaits, FewMessagesWait, NoFrameIsFarAhead}
-use Rattle.frame_world.proofs.Steps.{State, state_of, IsAccepted, seated, through}
+use Rattle.frame_world.specs.WorldStates.{State, state_of, IsAccepted}
+use Rattle.frame_world.specs.WorldLaws.{seated, through}
 use Rattle.frame_world.proofs.Answers.{PairStep, MayStep, step_of, all_after, is_step}
 use Rattle.frame_world.proofs.Following.{pairs_in, pairs_after}
 use Rattle.frame_world.proofs.SentFrames.{IsTimely, timely}

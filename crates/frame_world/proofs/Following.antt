@@ -3,7 +3,7 @@ use Rattle.std.proofs.Common.{◌≡◌, ℕ, zero, suc, ◌+◌, Bool, true, fa
 use Rattle.std.specs.Prelude.{nat_lt, slice_get, ◌==◌}
 use mathlib.Core.Path.{fun_ext}
 use Rattle.bottle_values.specs.Maps.{put}
-use Rattle.bottle_values.proofs.Maps.{put_same}
+use Rattle.bottle_values.specs.MapLaws.{put_same}
 use Rattle.frame_codec.specs.declared.message.Msg.{Msg}
 use Rattle.frame_codec.specs.Frame.{Fields}
 use Rattle.office_map.specs.PlanValue.{PlanValue, are_neighbours}
@@ -26,7 +26,8 @@ use Rattle.site_core.specs.Offices.{Office, answer, frame_on}
 use Rattle.frame_world.specs.declared.event.WorldEvent.{WorldEvent}
 use Rattle.frame_world.specs.Worlds.{opening, run_of, frames_of}
 use Rattle.frame_world.specs.Ways.{tables_of, bars_of}
-use Rattle.frame_world.proofs.Steps.{State, state_of, starting, MayCome, IsAccepted, through}
+use Rattle.frame_world.specs.WorldStates.{State, state_of, starting, MayCome, IsAccepted}
+use Rattle.frame_world.specs.WorldLaws.{through}
 use Rattle.frame_world.proofs.Answers.{PairStep, Stays, ByFork, ByBottle, ByFrame, ByKept, rule_step, step_of, pair_after, all_after, MayStep, through_all, was_submitted, was_done, was_sent, was_taken, is_step, was_withdrawn, withdrawal_step}
 use Rattle.site_core.specs.Agenda.{is_waiting}
 use Rattle.frame_world.proofs.OneLink.{Keeps, keeps_next}

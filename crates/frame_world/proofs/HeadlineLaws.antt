@@ -7,7 +7,7 @@ use Rattle.bottle_values.specs.Values.{Value}
 use Rattle.bottle_values.specs.Lists.{num}
 use Rattle.office_map.specs.declared.entries.RecordEntry.{RecordEntry}
 use Rattle.office_map.specs.PlanValue.{PlanValue, ends_of, has_end, lies_between}
-use Rattle.office_map.proofs.RecordEnds.{entry_of, entry_apart}
+use Rattle.office_map.specs.NeighbourLaws.{entry_of, entry_apart}
 use Rattle.serial_replay.specs.Serial.{start_map, map_of, outcomes_of}
 use Rattle.drinking_core.specs.Worlds.{Spot, With, Toward, is_with, is_toward, is_at_ends}
 use Rattle.drinking_core.specs.Worlds as bars
@@ -15,7 +15,8 @@ use Rattle.frame_world.specs.Worlds.{World, opening, run_of, office_at}
 use Rattle.frame_world.specs.Ways.{pairs_at, toward, bottles_in, listed, bottles_between, bars_of}
 use Rattle.frame_world.specs.Headline.{programs, office_and_ending, Always, HasSerialSessions, HasSerialValues, DrinkersHaveTheirBottles}
 use Rattle.frame_world.specs.refinement.PartsLaws.{PartsLaws}
-use Rattle.frame_world.proofs.Steps.{state_of, seated}
+use Rattle.frame_world.specs.WorldStates.{state_of}
+use Rattle.frame_world.specs.WorldLaws.{seated}
 use Rattle.frame_world.proofs.Sessions.{drinks_where_it_works, has_its_bottles}
 use Rattle.frame_world.proofs.SerialSessions.{IsKept, kept}
 

@@ -1,4 +1,3 @@
-pub mod Steps
 mod Answers
 mod OneLink
 mod Links
@@ -15,7 +14,7 @@ mod NoneEarly
 mod Sessions
 mod SerialRun
 mod SerialSessions
-pub mod RisingTickets
+mod RisingTickets
 pub mod Tickets
 mod HeadlineLaws
 mod Standstill

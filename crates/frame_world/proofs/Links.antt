@@ -3,7 +3,7 @@ use Rattle.std.proofs.Common.{◌≡◌, ℕ, zero, suc, ◌+◌, ◌-◌, ◌�
 use Rattle.std.specs.Prelude.{◌==◌, slice_get, nat_le}
 use Rattle.std.proofs.lemmas.Bool.{cases_eq}
 use Rattle.bottle_values.specs.Maps.{put}
-use Rattle.bottle_values.proofs.Maps.{put_cases}
+use Rattle.bottle_values.specs.MapLaws.{put_cases}
 use Rattle.frame_codec.specs.declared.message.Msg.{Msg}
 use Rattle.frame_codec.specs.Frame.{Fields}
 use Rattle.window_link.specs.Windows.{Sending, Receiving, queued, acknowledged}
@@ -11,7 +11,7 @@ use Rattle.window_link.specs.Links.{LinkState, resumed, received_from, arrival_a
 use Rattle.window_link.specs.Limits.{most_kept}
 use Rattle.token_channel.specs.Channels.{link_then, window_then}
 use Rattle.dining_core.specs.Worlds.{with_way}
-use Rattle.dining_core.proofs.OnTheWay.{way_at, way_off}
+use Rattle.dining_core.specs.WayLaws.{way_at, way_off}
 use Rattle.site_core.specs.Pairs.{Pairs, queued_to, sent, fork_sends, bottle_sends}
 use Rattle.site_core.specs.Offices.{frame_on}
 use Rattle.frame_world.specs.Ways.{untaken, between}

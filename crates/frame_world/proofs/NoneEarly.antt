@@ -8,7 +8,7 @@ use Rattle.window_link.specs.declared.arrival.Arrival.TheVariants as arrival
 use Rattle.window_link.specs.Windows as windows
 use Rattle.window_link.specs.Links.{brings}
 use Rattle.window_link.specs.Limits.{most_kept}
-use Rattle.window_link.proofs.Arrivals.{Stands, stands}
+use Rattle.window_link.specs.WindowLaws.{Stands, stands}
 use Rattle.site_core.specs.declared.event.Event as office
 use Rattle.site_core.specs.declared.event.Event.TheVariants as event
 use Rattle.site_core.specs.declared.reply.Reply.{Reply}

@@ -9,11 +9,9 @@ use Rattle.window_link.specs.declared.arrival.Arrival.{Arrival}
 use Rattle.window_link.specs.declared.arrival.Arrival.TheVariants as arrival
 use Rattle.window_link.specs.Windows.{Sending, Receiving, used, queued, acknowledged, arrival, next_kept, advanced, without_next, after_message}
 use Rattle.window_link.specs.Links.{brings, received_from}
-use Rattle.window_link.proofs.Invariant.{get-drop}
-use Rattle.window_link.proofs.Arrivals.{Stands, stands}
-use Rattle.window_link.proofs.KeptPlaces.{get-set, get-after, get-with}
+use Rattle.bottle_values.specs.ListLaws.{get-drop, get-set}
+use Rattle.window_link.specs.WindowLaws.{Stands, stands, get-after, get-with, known_used}
 use Rattle.token_channel.specs.Channels.{window_then}
-use Rattle.site_core.proofs.OfficeLimits.{known_used}
 use Rattle.frame_world.specs.Ways.{untaken}
 
 -- what the other took is among what was sent, and what is known to be taken was

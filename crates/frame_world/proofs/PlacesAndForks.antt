@@ -17,11 +17,11 @@ use Rattle.dining_core.specs.Diners.{is_eating}
 use Rattle.dining_core.specs.Worlds as tables
 use Rattle.drinking_core.specs.Worlds as bars
 use Rattle.site_core.specs.Pairs.{Pairs, held}
-use Rattle.site_core.proofs.PlanFacts.{among_neighbours}
+use Rattle.office_map.specs.NeighbourLaws.{among_neighbours}
 use Rattle.frame_world.specs.Worlds.{World, opening, run_of}
 use Rattle.frame_world.specs.Ways.{pairs_at, between, bottles_in, tables_of, bars_of}
 use Rattle.frame_world.specs.Headline.{Always, HasOnePlaceEach, NeighboursEatApart, EatersHaveTheirForks, PrecedenceHasNoRing}
-use Rattle.frame_world.proofs.Steps.{seated}
+use Rattle.frame_world.specs.WorldLaws.{seated}
 use Rattle.frame_world.proofs.Following.{Follow, follows}
 
 -- as many bottles as messages that carry them

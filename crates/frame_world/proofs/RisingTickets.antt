@@ -1,38 +1,11 @@
 -- Tickets that rise: an office's own, and so those of its sessions in the list of all.
-use Rattle.std.proofs.Common.{◌≡◌, ℕ, zero, suc, ◌+◌, ◌<◌, Bool, true, false, cond, List, [], ◌∷◌, ◌++◌, map, refl, sym, subst, arith}
+use Rattle.std.proofs.Common.{◌≡◌, ℕ, zero, suc, ◌<◌, Bool, true, false, cond, List, [], ◌∷◌, refl, sym, subst, arith}
 use Rattle.std.specs.Prelude.{◌==◌, All, AllPairs, filter}
 use Rattle.std.proofs.lemmas.Bool.{eq-eqb}
 use Rattle.std.proofs.lemmas.List.Elements.{All-nil, All-cons, All-head, All-tail, All-weaker}
 use Rattle.std.proofs.lemmas.List.Kept.{AllPairs-cons}
 use Rattle.session_meaning.specs.declared.ending.Outcome.{Outcome}
-use Rattle.site_core.specs.Agenda.{Agenda}
-use Rattle.site_core.specs.Journals.{Site, office_of}
-use Rattle.site_core.specs.Tickets.{current_tickets, Rise, SessionsGoInOrder}
-use Rattle.site_core.specs.declared.session.Session.{Session}
-
-abbrev pub IsBelow : Outcome → Outcome → Type 0
-IsBelow x y = x.ticket < y.ticket
-
--- ---- of one office
-
--- tickets above k
-record RiseFrom (k : ℕ) (os : List Outcome) : Type 0 where
-  above : All (λ (o : Outcome). k < o.ticket) os
-  rise : AllPairs IsBelow os
-
-rise_from : (k n : ℕ) (os : List Outcome) (rest : List ℕ) → Rise k (map (λ (o : Outcome). o.ticket) os ++ rest) n → RiseFrom k os
-rise_from k n [] rest h = record { above = All-nil (λ (o : Outcome). k < o.ticket); rise = λ i j d lt within. absurd (omega (arith, within)) }
-rise_from k n (o ∷ os) rest h =
-    let later : RiseFrom o.ticket os = rise_from o.ticket n os rest h.1 in
-    record {
-      above = All-cons (λ (x : Outcome). k < x.ticket) o os h.0 (All-weaker (IsBelow o) (λ (x : Outcome). k < x.ticket) (λ x lt. omega (arith, lt, h.0)) os later.above);
-      rise = AllPairs-cons IsBelow o os later.above later.rise;
-    }
-
-pub office_tickets_rise : SessionsGoInOrder → (s : Site) → AllPairs IsBelow (office_of s).agenda.outcomes
-office_tickets_rise law s =
-    let a : Agenda = (office_of s).agenda in
-    (rise_from 0 a.tickets a.outcomes (current_tickets a.current ++ map (λ (x : Session). x.ticket) a.queue) (law s)).rise
+use Rattle.frame_world.specs.Tickets.{IsBelow}
 
 -- ---- of all offices
 

@@ -10,11 +10,11 @@ use Rattle.frame_codec.specs.declared.message.Msg.{Msg}
 use Rattle.frame_codec.specs.Frame.{Fields}
 use Rattle.office_map.specs.PlanValue.{PlanValue, are_neighbours}
 use Rattle.office_map.specs.Consistency.{IsConsistent}
-use Rattle.office_map.proofs.RecordEnds.{near_both}
+use Rattle.office_map.specs.NeighbourLaws.{near_both}
 use Rattle.window_link.specs.declared.fault.LinkFault.TheVariants as linkfault
 use Rattle.window_link.specs.Windows.{Sending, used}
 use Rattle.window_link.specs.Links.{LinkState, frame_with, fault_of, after_arrival}
-use Rattle.window_link.proofs.Invariant.{get-drop}
+use Rattle.bottle_values.specs.ListLaws.{get-drop}
 use Rattle.token_channel.specs.declared.thing.Thing.{Thing}
 use Rattle.token_channel.specs.declared.fault.ChannelFault.{ChannelFault}
 use Rattle.token_channel.specs.declared.fault.ChannelFault.TheVariants as fault
@@ -22,8 +22,7 @@ use Rattle.token_channel.specs.Things.{thing_of, same, count_carrying}
 use Rattle.token_channel.specs.Places.{waits}
 use Rattle.token_channel.specs.Ends.{is_shared}
 use Rattle.token_channel.specs.Channels.{breach_among, fault_among, left_by, link_fault_or, next_of, link_then}
-use Rattle.token_channel.proofs.HeldUpdates.{same_self, same_is}
-use Rattle.dining_core.specs.Worlds.{with_way}
+use Rattle.token_channel.specs.ThingLaws.{same_self, same_is}
 use Rattle.dining_core.specs.Worlds as tables
 use Rattle.drinking_core.specs.Worlds as bars
 use Rattle.site_core.specs.Pairs.{Pairs, sent, fork_sends, bottle_sends, held, frame_fault, follows}
@@ -47,7 +46,8 @@ use Rattle.frame_world.specs.Ways.{untaken, between}
 use Rattle.frame_world.proofs.Answers.{PairStep, Stays, ByFork, ByBottle, ByFrame, ByKept, step_of, pair_after}
 use Rattle.frame_world.proofs.OneLink.{length_one, still_used, Known, Waits, Carries, Arrives, Brings, BringsNone, arrives, taken_after}
 use Rattle.frame_world.proofs.Links.{AreLinked, IsHonest, queued_link, made_honest, link_after, link_kept, links_kept, way_cases, sending_of, taken_of}
-use Rattle.frame_world.proofs.Steps.{State, state_of, starting, IsAccepted, IsSeated, seated, through}
+use Rattle.frame_world.specs.WorldStates.{State, state_of, starting, IsAccepted, IsSeated}
+use Rattle.frame_world.specs.WorldLaws.{seated, through}
 use Rattle.frame_world.proofs.Following.{moved, pairs_in, through_moves, pairs_after, Follow, Follows, kept_follows, own_step_follows, starts, IsNew, old_or_new}
 use Rattle.frame_world.proofs.PlacesAndForks.{each_is_placed}
 

@@ -6,7 +6,7 @@ use Rattle.std.proofs.lemmas.List.Elements.{All-head, All-tail}
 use Rattle.bottle_values.specs.Values.{Value}
 use Rattle.bottle_values.specs.Lists.{is_among}
 use Rattle.bottle_values.specs.Maps.{put, reads_of, write_all}
-use Rattle.bottle_values.proofs.Maps.{put_other}
+use Rattle.bottle_values.specs.MapLaws.{put_other}
 use Rattle.session_meaning.specs.declared.ending.Outcome.{Outcome}
 use Rattle.session_meaning.specs.ProgramValue.{ProgramValue}
 use Rattle.session_meaning.specs.Needs.{needs_of}

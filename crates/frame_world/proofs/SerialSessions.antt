@@ -1,6 +1,6 @@
 -- Over every list of events the finished sessions are a serial run, and each bottle has its value.
 use Rattle.std.proofs.Common.{◌≡◌, ℕ, ◌<◌, Bool, true, false, cond, List, [], ◌∷◌, ◌++◌, length, map, Option, None, Some, Ok, refl, sym, ap, subst, ◌∙◌, ⊎_elim, append-nil}
-use Rattle.std.specs.Prelude.{nat_lt, slice_get, ◌==◌, ◌&&◌, is_some, unwrap_or, option_map, pos}
+use Rattle.std.specs.Prelude.{nat_lt, slice_get, ◌==◌, ◌&&◌, is_some, unwrap_or, option_map}
 use Rattle.std.proofs.lemmas.Bool.{and_parts, eqb-true}
 use Rattle.std.proofs.lemmas.List.{map_push}
 use Rattle.std.proofs.lemmas.Option.{get_or_from_slice_get, slice_get-map}
@@ -8,10 +8,10 @@ use Rattle.bottle_values.specs.Values.{Value}
 use Rattle.bottle_values.specs.Operations.{nought}
 use Rattle.bottle_values.specs.Lists.{is_among}
 use Rattle.bottle_values.specs.Maps.{put, write_all}
-use Rattle.bottle_values.proofs.Maps.{put_cases}
+use Rattle.bottle_values.specs.MapLaws.{put_cases}
 use Rattle.office_map.specs.declared.entries.RecordEntry.{RecordEntry}
 use Rattle.office_map.specs.PlanValue.{PlanValue, peer, records_of, start_end, start_values}
-use Rattle.office_map.proofs.RecordEnds.{entry_of}
+use Rattle.office_map.specs.NeighbourLaws.{entry_of, end_within}
 use Rattle.session_meaning.specs.declared.ending.Ending.{Ending}
 use Rattle.session_meaning.specs.declared.ending.Outcome.{Outcome}
 use Rattle.session_meaning.specs.ProgramValue.{ProgramValue}
@@ -20,30 +20,29 @@ use Rattle.session_meaning.specs.Length.{length_on}
 use Rattle.session_meaning.specs.Laws.{WritesWhatItHas}
 use Rattle.session_machine.specs.Pieces.{ending_after}
 use Rattle.serial_replay.specs.Serial.{start_map, ending_on, map_after, map_of, outcomes_of}
-use Rattle.drinking_core.specs.Drinkers.{Drinker, is_drinking, holds, value_after}
+use Rattle.drinking_core.specs.Drinkers.{is_drinking, holds, value_after}
 use Rattle.drinking_core.specs.Drinkers as bottles
 use Rattle.drinking_core.specs.Worlds as bars
 use Rattle.frame_codec.specs.declared.message.Msg.{Msg}
 use Rattle.frame_codec.specs.declared.message.Msg.TheVariants as msg
 use Rattle.frame_codec.specs.Frame.{Fields}
-use Rattle.site_core.specs.declared.session.Session.{Session}
+use Rattle.session_agenda.specs.declared.session.Session.{Session}
 use Rattle.site_core.specs.declared.rule.Rule.{Rule}
 use Rattle.site_core.specs.declared.rule.Rule.TheVariants as rule
 use Rattle.site_core.specs.declared.event.Event as office
 use Rattle.site_core.specs.declared.event.Event.TheVariants as event
 use Rattle.site_core.specs.declared.reply.Reply.{Reply}
 use Rattle.site_core.specs.Pairs.{Pairs, arrival_of, follows}
-use Rattle.site_core.specs.Agenda.{Current, Idle, Gathering, Working, first_needs, writes_of}
+use Rattle.site_core.specs.Agenda.{Current, Idle, Gathering, Working, first_needs, writes_of, is_waiting}
 use Rattle.site_core.specs.Offices.{Office, may, value_in, answer}
-use Rattle.site_core.proofs.PlanFacts.{end_within}
 use Rattle.frame_world.specs.declared.event.WorldEvent.{WorldEvent}
 use Rattle.frame_world.specs.Worlds.{Finished, opening, run_of, ended_as, ended, finished_by}
 use Rattle.frame_world.specs.Headline.{office_and_ending}
 use Rattle.frame_world.specs.Ways.{bars_of}
 use Rattle.frame_world.specs.refinement.PartsLaws.{PartsLaws}
-use Rattle.frame_world.proofs.Steps.{State, state_of, starting, after_reply, IsAccepted, through}
+use Rattle.frame_world.specs.WorldStates.{State, state_of, starting, after_reply, IsAccepted}
+use Rattle.frame_world.specs.WorldLaws.{through}
 use Rattle.frame_world.proofs.Answers.{ByFrame, ByKept, rule_step, step_of, all_after, rule_alone, was_done, withdrawal_step, withdrawal_alone}
-use Rattle.site_core.specs.Agenda.{is_waiting}
 use Rattle.frame_world.proofs.OneLink.{brought}
 use Rattle.frame_world.proofs.BarsFollow.{bottle_coming, bottle_event, bars_then}
 use Rattle.frame_world.proofs.Following.{pairs_in, through_moves, moved, Follow, Follows, pairs_after, kept_moves, kept_follows, own_step_follows, moves_on, follows_on, starts}

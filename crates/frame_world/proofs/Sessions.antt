@@ -8,15 +8,15 @@ use Rattle.bottle_values.specs.Values.{Value}
 use Rattle.bottle_values.specs.Operations.{nought}
 use Rattle.bottle_values.specs.Lists.{is_among}
 use Rattle.bottle_values.specs.Maps.{reads_of}
-use Rattle.bottle_values.proofs.Maps.{put_other}
+use Rattle.bottle_values.specs.MapLaws.{put_other}
 use Rattle.frame_codec.specs.declared.message.Msg.{Msg}
 use Rattle.frame_codec.specs.declared.message.Msg.TheVariants as msg
 use Rattle.frame_codec.specs.Frame.{Fields}
 use Rattle.office_map.specs.PlanValue.{PlanValue, is_end, has_ends, peer, records_of}
-use Rattle.office_map.proofs.RecordEnds.{peer_is}
+use Rattle.office_map.specs.NeighbourLaws.{peer_is, among_records}
 use Rattle.session_meaning.specs.ProgramValue.{ProgramValue}
 use Rattle.session_meaning.specs.Needs.{needs_of}
-use Rattle.session_language.specs.Program.{fits}
+use Rattle.session_programs.specs.Program.{fits}
 use Rattle.window_link.specs.declared.arrival.Arrival.{Arrival}
 use Rattle.window_link.specs.declared.arrival.Arrival.TheVariants as arrival
 use Rattle.token_channel.specs.Ends.{is_shared}
@@ -25,7 +25,7 @@ use Rattle.drinking_core.specs.declared.phase.Phase.{Phase}
 use Rattle.drinking_core.specs.declared.phase.Phase.TheVariants.{Tranquil, Thirsty, Drinking}
 use Rattle.drinking_core.specs.Drinkers.{Drinker, is_drinking, is_thirsty, holds, is_served}
 use Rattle.drinking_core.specs.Drinkers as bottles
-use Rattle.site_core.specs.declared.session.Session.{Session}
+use Rattle.session_agenda.specs.declared.session.Session.{Session}
 use Rattle.site_core.specs.declared.rule.Rule.{Rule}
 use Rattle.site_core.specs.declared.rule.Rule.TheVariants as rule
 use Rattle.site_core.specs.declared.event.Event as office
@@ -34,10 +34,8 @@ use Rattle.site_core.specs.declared.reply.Reply.{Reply}
 use Rattle.site_core.specs.Pairs.{Pairs, held, frame_fault, arrival_of, drinker_after, after_frame, follows, as_arrival, after_kept, after_taking}
 use Rattle.site_core.specs.Agenda.{Current, Idle, Gathering, Working, is_working, first_needs, started, begun, worked, writes_of}
 use Rattle.site_core.specs.Offices.{Office, opened, may, act, is_ours, value_in, answer}
-use Rattle.site_core.proofs.PlanFacts.{among_records}
-use Rattle.site_core.proofs.FramesComing.{passed, same_records}
-use Rattle.site_core.proofs.KeptMessages.{through_taking}
-use Rattle.site_core.proofs.Withdrawing.{either_withdrawn}
+use Rattle.neighbour_pairs.specs.PairLaws.{passed, same_records, through_taking}
+use Rattle.site_core.specs.WithdrawalLaws.{either_withdrawn}
 use Rattle.frame_world.specs.Headline.{HasItsBottles}
 use Rattle.frame_world.proofs.Answers.{was_submitted, was_done, was_sent, was_taken, was_withdrawn}
 use Rattle.frame_world.proofs.PlacesAndForks.{all_at}

@@ -12,7 +12,7 @@ use Rattle.frame_codec.specs.declared.message.Msg.{Msg}
 use Rattle.session_meaning.specs.declared.ending.Ending.{Ending}
 use Rattle.office_map.specs.PlanValue.{PlanValue, are_neighbours, is_end, has_ends, neighbours_of}
 use Rattle.office_map.specs.Consistency.{IsConsistent, IsAccepted}
-use Rattle.office_map.proofs.RecordEnds.{near_both, near_within, peer_is, peer_near}
+use Rattle.office_map.specs.NeighbourLaws.{near_both, near_within, peer_is, peer_near, is_first_end, among_neighbours}
 use Rattle.token_channel.specs.declared.thing.Thing.TheVariants.{Fork, ForkToken, BottleToken}
 use Rattle.token_channel.specs.Things.{count_carrying}
 use Rattle.dining_core.specs.Diners as forks
@@ -24,8 +24,7 @@ use Rattle.drinking_core.specs.Drinkers as bottles
 use Rattle.drinking_core.specs.Drinkers.{Drinker}
 use Rattle.drinking_core.specs.Worlds as bars
 use Rattle.drinking_core.specs.Standstill as bars_rest
-use Rattle.drinking_core.proofs.BottleLaws.{is_first_end}
-use Rattle.site_core.specs.declared.session.Session.{Session}
+use Rattle.session_agenda.specs.declared.session.Session.{Session}
 use Rattle.site_core.specs.declared.rule.Rule.{Rule}
 use Rattle.site_core.specs.declared.rule.Rule.TheVariants as rule
 use Rattle.site_core.specs.Limits.{usual_piece}
@@ -34,8 +33,7 @@ use Rattle.site_core.specs.Pairs.{Pairs, is_thirsty}
 use Rattle.site_core.specs.Offices.{Office, may}
 use Rattle.site_core.specs.Journals.{Site, office_of}
 use Rattle.site_core.specs.RuleOrder.{next_rule, rules_in_order, IsAtRest, NoneNextIsAtRest}
-use Rattle.site_core.proofs.PlanFacts.{among_neighbours}
-use Rattle.site_core.proofs.OfficeLimits.{office_empty}
+use Rattle.site_core.specs.JournalLaws.{office_empty}
 use Rattle.frame_world.specs.declared.event.WorldEvent.{WorldEvent}
 use Rattle.frame_world.specs.declared.next_step.NextStep.{NextStep}
 use Rattle.frame_world.specs.declared.next_step.NextStep.TheVariants as next
@@ -44,7 +42,8 @@ use Rattle.frame_world.specs.Ways.{pairs_at, between, bottles_in, tables_of, bar
 use Rattle.frame_world.specs.Standstill.{sent_by, taken_of, AllAreFinished, IsStep, first_of, first_office, are_all_finished, rule_at, message_to, message_from, NeverStuck}
 use Rattle.frame_world.specs.Headline.{Always, EatersHaveTheirForks}
 use Rattle.frame_world.specs.refinement.PartsLaws.{PartsLaws}
-use Rattle.frame_world.proofs.Steps.{state_of, seated, IsSeated}
+use Rattle.frame_world.specs.WorldStates.{state_of, IsSeated}
+use Rattle.frame_world.specs.WorldLaws.{seated}
 use Rattle.frame_world.proofs.Sessions.{IsCurrent, drinks_where_it_works}
 use Rattle.frame_world.proofs.SerialSessions.{IsKept, kept}
 

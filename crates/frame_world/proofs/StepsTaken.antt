@@ -7,7 +7,7 @@ use Rattle.frame_codec.specs.declared.message.Msg.{Msg}
 use Rattle.frame_codec.specs.Frame.{Fields}
 use Rattle.office_map.specs.PlanValue.{PlanValue, are_neighbours}
 use Rattle.office_map.specs.Consistency.{IsConsistent}
-use Rattle.office_map.proofs.RecordEnds.{near_both, near_within, neighbours_apart}
+use Rattle.office_map.specs.NeighbourLaws.{near_both, near_within, neighbours_apart}
 use Rattle.window_link.specs.declared.arrival.Arrival.TheVariants as arrival
 use Rattle.window_link.specs.Limits.{most_kept}
 use Rattle.window_link.specs.Links.{LinkState, frame_of, brings}
@@ -31,7 +31,8 @@ use Rattle.frame_world.specs.Worlds as worlds
 use Rattle.frame_world.specs.Ways.{pairs_at}
 use Rattle.frame_world.specs.Headline.{Always, FramesAreTaken, is_fault}
 use Rattle.frame_world.specs.Standstill.{taken_of, IsNextMessage, place_of, HasRoom, IsSentAndTaken, RulesAreDone, MessagesAreTaken}
-use Rattle.frame_world.proofs.Steps.{IsSeated, seated, state_of}
+use Rattle.frame_world.specs.WorldStates.{IsSeated, state_of}
+use Rattle.frame_world.specs.WorldLaws.{seated}
 use Rattle.frame_world.proofs.Following.{Follows, follows}
 
 clash : (b : Bool) → b ≡ true → b ≡ false → ⊥

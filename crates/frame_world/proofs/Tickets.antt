@@ -6,13 +6,14 @@ use Rattle.std.proofs.lemmas.List.{map-append, length-append}
 use Rattle.std.proofs.lemmas.List.Elements.{All-nil, All-cons, All-head, All-tail, All-append, All-weaker, All-filter, filter-append}
 use Rattle.bottle_values.specs.Values.{Value}
 use Rattle.bottle_values.specs.Maps.{put}
-use Rattle.bottle_values.proofs.Maps.{put_at, put_other, put_cases}
+use Rattle.bottle_values.specs.ListLaws.{get_left}
+use Rattle.bottle_values.specs.MapLaws.{put_at, put_other, put_cases}
 use Rattle.office_map.specs.PlanValue.{PlanValue}
 use Rattle.session_meaning.specs.declared.ending.Ending.{Ending}
 use Rattle.session_meaning.specs.declared.ending.Outcome.{Outcome}
 use Rattle.session_meaning.specs.ProgramValue.{ProgramValue}
 use Rattle.session_machine.specs.Pieces.{ending_after}
-use Rattle.site_core.specs.declared.session.Session.{Session}
+use Rattle.session_agenda.specs.declared.session.Session.{Session}
 use Rattle.site_core.specs.declared.rule.Rule.{Rule}
 use Rattle.site_core.specs.declared.rule.Rule.TheVariants as rule
 use Rattle.site_core.specs.declared.event.Event as office
@@ -27,11 +28,13 @@ use Rattle.site_core.specs.Tickets.{SessionsGoInOrder}
 use Rattle.frame_world.specs.declared.event.WorldEvent.{WorldEvent}
 use Rattle.frame_world.specs.Worlds.{World, Finished, opening, run_of, ended_as, ended, finished_by, site_at}
 use Rattle.frame_world.specs.Headline.{Always, outcomes}
-use Rattle.frame_world.specs.Tickets.{submitted_by, submitted_in, submitted_as, session_of, HaveTheirTickets, TicketsRise, TellsEachOffice}
-use Rattle.frame_world.proofs.Steps.{State, state_of, starting, entry_of, IsAccepted, through}
+use Rattle.frame_world.specs.Tickets.{IsBelow, submitted_by, submitted_in, submitted_as, session_of, HaveTheirTickets, TicketsRise, TellsEachOffice}
+use Rattle.frame_world.specs.WorldStates.{State, state_of, starting, entry_of, IsAccepted}
+use Rattle.frame_world.specs.WorldLaws.{through}
 use Rattle.frame_world.proofs.Answers.{was_submitted, was_done, was_sent, was_taken, was_withdrawn}
-use Rattle.site_core.proofs.Withdrawing.{either_withdrawn}
-use Rattle.frame_world.proofs.RisingTickets.{IsBelow, office_tickets_rise, rise_by_office}
+use Rattle.site_core.specs.WithdrawalLaws.{either_withdrawn}
+use Rattle.frame_world.specs.TicketLaws.{IsAt, finished_at, office_tickets_rise}
+use Rattle.frame_world.proofs.RisingTickets.{rise_by_office}
 
 -- ---- the sessions of an office
 
@@ -54,11 +57,6 @@ submitted_more : (xs : List Entry) (x : Entry) → submitted_in (xs ++ x ∷ [])
 submitted_more [] x = append-nil (submitted_by x.event x.reply)
 submitted_more (y ∷ ys) x = ap (λ l. submitted_by y.event y.reply ++ l) (submitted_more ys x) ∙ sym (append_assoc (submitted_by y.event y.reply) (submitted_in ys) (submitted_by x.event x.reply))
 
-slice_get_left : (xs ys : List Session) (i : ℕ) (s : Session) → slice_get xs i ≡ Some s → slice_get (xs ++ ys) i ≡ Some s
-slice_get_left [] ys i s e = absurd cc
-slice_get_left (x ∷ xs) ys zero s e = e
-slice_get_left (x ∷ xs) ys (suc i) s e = slice_get_left xs ys i s e
-
 slice_get_end : (xs : List Session) (s : Session) → slice_get (xs ++ s ∷ []) (length xs) ≡ Some s
 slice_get_end [] s = refl
 slice_get_end (x ∷ xs) s = slice_get_end xs s
@@ -68,46 +66,12 @@ still_from entries x s = by s.ticket
   where
     by : (t : ℕ) → submitted_as entries t ≡ Some s → submitted_as (entries ++ x ∷ []) t ≡ Some s
     by zero e = absurd cc
-    by (suc n) e = ap (λ l. slice_get l n) (submitted_more entries x) ∙ slice_get_left (submitted_in entries) (submitted_by x.event x.reply) n s e
+    by (suc n) e = ap (λ l. slice_get l n) (submitted_more entries x) ∙ get_left (submitted_in entries) (submitted_by x.event x.reply) n s e
 
 now_from : (entries : List Entry) (x : Entry) (s : Session) → submitted_by x.event x.reply ≡ s ∷ [] → s.ticket ≡ length (submitted_in entries) + 1 → IsFrom (entries ++ x ∷ []) s
 now_from entries x s one count =
     let next : s.ticket ≡ suc (length (submitted_in entries)) = omega (arith, count) in
     ap (submitted_as (entries ++ x ∷ [])) next ∙ ap (λ l. slice_get l (length (submitted_in entries))) (submitted_more entries x ∙ ap (λ l. submitted_in entries ++ l) one) ∙ slice_get_end (submitted_in entries) s
-
--- ---- what finishes is of the office
-
-abbrev IsAt : ℕ → Finished → Type 0
-IsAt a f = f.outcome.office ≡ a
-
-ended_at : (a : ℕ) (c : Current) → All (IsAt a) (ended a c)
-ended_at a Idle = All-nil (IsAt a)
-ended_at a (Gathering s) = All-nil (IsAt a)
-ended_at a (Working s reads done) = of (ending_after s.program reads done)
-  where
-    of : (x : Option Ending) → All (IsAt a) (ended_as a s x)
-    of None = All-nil (IsAt a)
-    of (Some e) = All-cons (IsAt a) (record { program = s.program; outcome = record { office = a; ticket = s.ticket; ending = e } }) [] refl (All-nil (IsAt a))
-
-rule_at : (a : ℕ) (c : Current) (r : Rule) → All (IsAt a) (finished_by a c (event.Do r))
-rule_at a c rule.Start = All-nil (IsAt a)
-rule_at a c rule.Hungry = All-nil (IsAt a)
-rule_at a c (rule.AskFork v) = All-nil (IsAt a)
-rule_at a c (rule.GiveFork v) = All-nil (IsAt a)
-rule_at a c rule.Eat = All-nil (IsAt a)
-rule_at a c rule.Leave = All-nil (IsAt a)
-rule_at a c (rule.AskBottle r) = All-nil (IsAt a)
-rule_at a c (rule.GiveBottle r) = All-nil (IsAt a)
-rule_at a c rule.Drink = All-nil (IsAt a)
-rule_at a c (rule.Work n) = All-nil (IsAt a)
-rule_at a c rule.Finish = ended_at a c
-
-pub finished_at : (a : ℕ) (c : Current) (e : office.Event) → All (λ (f : Finished). f.outcome.office ≡ a) (finished_by a c e)
-finished_at a c (event.Submit p) = All-nil (IsAt a)
-finished_at a c (event.Do r) = rule_at a c r
-finished_at a c (event.Send v i) = All-nil (IsAt a)
-finished_at a c (event.Took f) = All-nil (IsAt a)
-finished_at a c (event.Withdraw t) = All-nil (IsAt a)
 
 -- ---- what an accepted event leaves of the sessions
 

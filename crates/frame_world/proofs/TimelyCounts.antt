@@ -3,7 +3,7 @@ use Rattle.std.proofs.Common.{◌≡◌, ℕ, ◌≤◌, ◌<◌, Bool, true, fa
 use Rattle.std.specs.Prelude.{slice_get, ◌==◌}
 use Rattle.std.proofs.lemmas.Bool.{eqb-true}
 use Rattle.bottle_values.specs.Maps.{put}
-use Rattle.bottle_values.proofs.Maps.{put_cases}
+use Rattle.bottle_values.specs.MapLaws.{put_cases}
 use Rattle.frame_codec.specs.Frame.{Fields}
 use Rattle.office_map.specs.PlanValue.{PlanValue}
 use Rattle.window_link.specs.Windows.{used}
@@ -12,10 +12,11 @@ use Rattle.site_core.specs.declared.event.Entry.{Entry}
 use Rattle.site_core.specs.Offices.{Office, answer}
 use Rattle.site_core.specs.Journals.{Site, office_of, next_or}
 use Rattle.site_core.specs.Growing.{link_at, Grows, LinksOnlyGrow}
-use Rattle.site_core.proofs.OfficeLimits.{office_noted, office_empty}
+use Rattle.site_core.specs.JournalLaws.{office_noted, office_empty}
 use Rattle.frame_world.specs.Worlds.{opening, run_of}
 use Rattle.frame_world.specs.Headline.{Always, CountsAreTimely}
-use Rattle.frame_world.proofs.Steps.{State, state_of, starting, IsAccepted, entry_of, seated, through}
+use Rattle.frame_world.specs.WorldStates.{State, state_of, starting, IsAccepted, entry_of}
+use Rattle.frame_world.specs.WorldLaws.{seated, through}
 use Rattle.frame_world.proofs.Following.{pairs_in, Follows, follows_on, starts, IsNew, old_or_new}
 use Rattle.frame_world.proofs.SentFrames.{IsOfLink, of_link}
 

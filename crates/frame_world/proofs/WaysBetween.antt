@@ -5,13 +5,13 @@ use Rattle.std.proofs.lemmas.Bool.{cases_eq}
 use mathlib.Core.Path.{fun_ext}
 use Rattle.bottle_values.specs.Values.{Value}
 use Rattle.bottle_values.specs.Maps.{put}
-use Rattle.bottle_values.proofs.Maps.{put_at, put_other}
+use Rattle.bottle_values.specs.MapLaws.{put_at, put_other}
 use Rattle.frame_codec.specs.declared.message.Msg.{Msg}
 use Rattle.frame_codec.specs.declared.message.Msg.TheVariants as msg
 use Rattle.token_channel.specs.declared.thing.Thing.{Thing}
 use Rattle.token_channel.specs.Things.{count_carrying}
 use Rattle.dining_core.specs.Worlds.{with_way}
-use Rattle.dining_core.proofs.OnTheWay.{cases_two, way_at, way_off}
+use Rattle.dining_core.specs.WayLaws.{cases_two, way_at, way_off}
 use Rattle.site_core.specs.Pairs.{Pairs}
 use Rattle.frame_world.specs.Ways.{between, bottles_in}
 use Rattle.frame_world.proofs.Links.{Goes, Comes, way_same}

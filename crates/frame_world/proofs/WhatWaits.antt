@@ -11,7 +11,7 @@ use Rattle.frame_codec.specs.declared.message.Msg.TheVariants as msg
 use Rattle.frame_codec.specs.Frame.{Fields}
 use Rattle.office_map.specs.PlanValue.{PlanValue, peer}
 use Rattle.office_map.specs.Consistency.{IsConsistent}
-use Rattle.office_map.proofs.RecordEnds.{peer_is}
+use Rattle.office_map.specs.NeighbourLaws.{peer_is}
 use Rattle.window_link.specs.declared.arrival.Arrival.{Arrival}
 use Rattle.window_link.specs.declared.arrival.Arrival.TheVariants as arrival
 use Rattle.window_link.specs.declared.fault.LinkFault.{LinkFault}
@@ -22,17 +22,14 @@ use Rattle.token_channel.specs.Things.{thing_of, same, count_carrying, hold}
 use Rattle.token_channel.specs.Places.{waits}
 use Rattle.token_channel.specs.Ends.{is_shared, starts_here}
 use Rattle.token_channel.specs.Channels.{breach_among, fault_among, left_by, link_fault_or, next_of, link_then}
-use Rattle.token_channel.proofs.HeldUpdates.{same_is, count_carrying-push, count_carrying-drop, count_carrying-none}
-use Rattle.token_channel.proofs.ThingsApart.{no_breach}
-use Rattle.token_channel.proofs.FrameArrival.{follows_unbreached}
+use Rattle.token_channel.specs.ThingLaws.{same_is, count_carrying-push, count_carrying-drop, count_carrying-none, no_breach, follows_unbreached}
 use Rattle.dining_core.specs.Diners.{ForkRule}
 use Rattle.dining_core.specs.Diners as forks
 use Rattle.drinking_core.specs.Drinkers.{Drinker, BottleRule, holds}
 use Rattle.drinking_core.specs.Drinkers as bottles
 use Rattle.site_core.specs.Pairs.{Pairs, opened, held, queued_to, sent, bottle_message, after_fork_rule, after_bottle_rule, frame_fault, arrival_of, arrived, after_frame, follows, as_arrival}
-use Rattle.site_core.proofs.FramesComing.{passed, same_records}
-use Rattle.site_core.proofs.PairsOpening.{held_at_start}
-use Rattle.site_core.proofs.HeldUpdates.{with_held, IsFrom, after_ask_fork, after_give_fork, after_ask_bottle, after_give_bottle, after_message, like_started, like_drinking, like_finished, like_diner, like_withdrawn}
+use Rattle.neighbour_pairs.specs.HeldLaws.{held_at_start, with_held, IsFrom, after_ask_fork, after_give_fork, after_ask_bottle, after_give_bottle, after_message, like_started, like_drinking, like_finished, like_diner, like_withdrawn}
+use Rattle.neighbour_pairs.specs.PairLaws.{passed, same_records}
 use Rattle.frame_world.proofs.Answers.{PairStep, Stays, ByFork, ByBottle, ByFrame, ByKept, pair_after, all_after, MayStep, through_all}
 use Rattle.frame_world.proofs.Links.{queued_link}
 use Rattle.frame_world.proofs.OneLink.{Arrives, Brings, BringsNone, arrives, brought}

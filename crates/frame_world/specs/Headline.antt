@@ -19,7 +19,7 @@ use Rattle.token_channel.specs.Ends.{is_shared}
 use Rattle.dining_core.specs.Diners.{is_eating}
 use Rattle.dining_core.specs.Worlds.{HasNoRing}
 use Rattle.drinking_core.specs.Drinkers.{is_drinking, holds}
-use Rattle.site_core.specs.declared.session.Session.{Session}
+use Rattle.session_agenda.specs.declared.session.Session.{Session}
 use Rattle.site_core.specs.declared.event.Event.TheVariants as event
 use Rattle.site_core.specs.declared.event.Entry.{Entry}
 use Rattle.site_core.specs.declared.reply.Reply.{Reply}
@@ -36,14 +36,15 @@ use Rattle.frame_world.specs.declared.refusal.WorldRefusal.TheVariants as refusa
 use Rattle.frame_world.specs.Worlds.{World, Finished, opening, run_of, happens, site_at, office_at, frame_at}
 use Rattle.frame_world.specs.Ways.{pairs_at, places, bottles_of, tables_of}
 
--- the programs of the finished sessions, and what is told of them, in finishing order
+-- the programs of the finished sessions, in finishing order
 abbrev pub programs : World → List ProgramValue
 programs w = map (λ (f : Finished). f.program) w.finished
 
+-- what is told of the finished sessions, in finishing order
 abbrev pub outcomes : World → List Outcome
 outcomes w = map (λ (f : Finished). f.outcome) w.finished
 
--- where a session finished, and how it ended
+-- where a session finished, and how it ended, its ticket aside
 abbrev pub office_and_ending : Outcome → ℕ × Ending
 office_and_ending o = (o.office, o.ending)
 
@@ -116,18 +117,18 @@ abbrev pub CountsAreTimely : World → Type 0
 CountsAreTimely w = (k : ℕ) (f : Fields) → slice_get w.frames k ≡ Some f → (before later : List Entry) → (site_at w f.from).entries ≡ before ++ later →
     used (link_at w.plan f.from before f.to).sending < f.number → (link_at w.plan f.from before f.to).receiving.taken ≤ f.count
 
--- which events led to a world
+-- which events led to a world from its plan
 pub record IsReached (w : World) : Type 0 where
   pub events : List WorldEvent
   pub leads : run_of (opening w.plan) events ≡ w
 
 -- ---- laws
 
--- so it is in each world that a list of events leads to, from whichever plan
+-- so it is in each world that a list of events leads to, from every consistent plan
 abbrev pub Always : (World → Type 0) → Type 0
 Always claim = (plan : PlanValue) (events : List WorldEvent) → IsConsistent plan → claim (run_of (opening plan) events)
 
--- from a plan that is accepted, precedence never has a ring
+-- from a plan that is accepted, after every list of events, precedence among the offices has no ring
 abbrev pub PrecedenceHasNoRing : Type 0
 PrecedenceHasNoRing = (plan : PlanValue) (events : List WorldEvent) → IsAccepted plan → HasNoRing plan (tables_of (pairs_at (run_of (opening plan) events)))
 

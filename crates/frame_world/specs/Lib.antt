@@ -1,7 +1,10 @@
 pub mod Worlds
+pub mod WorldStates
+pub mod WorldLaws
 pub mod Ways
 pub mod Headline
 pub mod Tickets
+pub mod TicketLaws
 pub mod Waiting
 pub mod Standstill
 pub mod RefusalText

@@ -44,7 +44,8 @@ pub record IsNextMessage (w : World) (a b number : ℕ) : Type 0 where
 abbrev pub AllAreFinished : World → Type 0
 AllAreFinished w = (a : ℕ) → unfinished (office_at w a).agenda ≡ 0
 
--- what a step says of the world
+-- what a step says of the world: the rule may be done, the message is next, or no office has a session that is current
+-- or waits
 abbrev pub IsStep : World → NextStep → Type 0
 IsStep w (next.Rule a rule) = MayDo w a rule
 IsStep w (next.Message a b number) = IsNextMessage w a b number
@@ -74,8 +75,8 @@ message_to w a b = if nat_lt (taken_of w a b) (sent_by w a b) then Some (next.Me
 abbrev pub message_from : World → ℕ → Option NextStep
 message_from w a = first_of (message_to w a) (neighbours_of w.plan a)
 
--- where sessions are left: the next rule of the least office that has one, or else the next message of the least office
--- that has one
+-- Where a session is current or waits somewhere: the next rule of the least office that has one, or else the next
+-- message of the least office that has one, for its least neighbour.
 abbrev pub next_step : World → NextStep
 next_step w =
     if are_all_finished w then next.AllFinished

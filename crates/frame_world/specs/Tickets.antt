@@ -1,7 +1,7 @@
 -- The tickets of the finished sessions. An office's tickets number the sessions that were submitted there, from 1.
 use Rattle.std.specs.Prelude.{◌≡◌, ◌<◌, ◌==◌, ℕ, zero, suc, List, [], ◌∷◌, ◌++◌, filter, slice_get, Option, None, Some, All, AllPairs}
 use Rattle.session_meaning.specs.declared.ending.Outcome.{Outcome}
-use Rattle.site_core.specs.declared.session.Session.{Session}
+use Rattle.session_agenda.specs.declared.session.Session.{Session}
 use Rattle.site_core.specs.declared.event.Event.{Event}
 use Rattle.site_core.specs.declared.event.Event.TheVariants as event
 use Rattle.site_core.specs.declared.event.Entry.{Entry}
@@ -15,7 +15,7 @@ abbrev pub submitted_by : Event → Reply → List Session
 submitted_by (event.Submit p) (reply.Ticket t) = record { ticket = t; program = p } ∷ []
 submitted_by _ _ = []
 
--- the sessions that were submitted by these entries, in order
+-- the sessions that were submitted by these entries, in order, each with the ticket that was answered
 abbrev pub submitted_in : List Entry → List Session
 submitted_in [] = []
 submitted_in (x ∷ xs) = submitted_by x.event x.reply ++ submitted_in xs
@@ -36,6 +36,9 @@ HasItsTicket w f = submitted_as (site_at w f.outcome.office).entries f.outcome.t
 -- each finished session has the ticket that it got
 abbrev pub HaveTheirTickets : World → Type 0
 HaveTheirTickets w = All (HasItsTicket w) w.finished
+
+abbrev pub IsBelow : Outcome → Outcome → Type 0
+IsBelow x y = x.ticket < y.ticket
 
 -- of two finished sessions of an office the one that finished earlier has the lower ticket
 abbrev pub TicketsRise : World → Type 0

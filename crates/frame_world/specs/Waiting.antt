@@ -19,6 +19,6 @@ EachIsHeldOrWaits w = (a v : ℕ) (t : Thing) → num (held (pairs_at w a) v t) 
 abbrev pub FewMessagesWait : World → Type 0
 FewMessagesWait w = (a v : ℕ) → are_neighbours w.plan a v ≡ true → length ((pairs_at w a).link v).sending.waiting ≤ 2 + 2 * records_between w.plan a v
 
--- no frame that was ever sent has a number more than 18 past what its addressee took
+-- no frame that was ever sent has a number more than 18 past what its addressee took, now and whenever it comes
 abbrev pub NoFrameIsFarAhead : World → Type 0
 NoFrameIsFarAhead w = (k : ℕ) (f : Fields) → frame_at w k ≡ Some f → f.number ≤ ((pairs_at w f.to).link f.from).receiving.taken + most_waiting

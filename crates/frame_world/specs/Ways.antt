@@ -15,6 +15,7 @@ use Rattle.drinking_core.specs.Worlds as bars
 use Rattle.site_core.specs.Pairs.{Pairs, held}
 use Rattle.frame_world.specs.Worlds.{World, office_at}
 
+-- what an office of a world shares with its neighbours
 abbrev pub pairs_at : World → ℕ → Pairs
 pairs_at w a = (office_at w a).pairs
 
@@ -28,6 +29,7 @@ untaken s taken = drop (taken - s.acked) s.waiting
 abbrev pub between : (ℕ → Pairs) → ℕ → ℕ → List Msg
 between pairs a b = untaken ((pairs a).link b).sending ((pairs b).link a).receiving.taken
 
+-- what an office of a world sent to another, who hasn't taken it
 abbrev pub toward : World → ℕ → ℕ → List Msg
 toward w = between (pairs_at w)
 
@@ -52,12 +54,13 @@ abbrev pub bottles_between : World → ℕ → ℕ × ℕ → List Value
 bottles_between w r (a, b) =
     listed ((pairs_at w a).drinker.bottle r) ++ (listed ((pairs_at w b).drinker.bottle r) ++ (bottles_in r (toward w a b) ++ bottles_in r (toward w b a)))
 
--- all bottles of a record of the plan
+-- all bottles of a record of the plan, held at its ends or on the way between them, each by its value
 abbrev pub bottles_of : World → ℕ → List Value
 bottles_of w r = option_map_or (bottles_between w r) (ends_of w.plan r) []
 
 -- ---- the parts' worlds
 
+-- the offices' tables, with the forks and request tokens on the way
 abbrev pub tables_of : (ℕ → Pairs) → tables.World
 tables_of pairs = record {
   diner = λ a. (pairs a).diner;
@@ -65,6 +68,7 @@ tables_of pairs = record {
   tokens_on_way = λ a v. count_carrying ForkToken (between pairs a v);
 }
 
+-- the offices' bars, with the bottles and request tokens on the way
 abbrev pub bars_of : (ℕ → Pairs) → bars.World
 bars_of pairs = record {
   drinker = λ a. (pairs a).drinker;

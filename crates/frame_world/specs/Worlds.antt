@@ -7,7 +7,7 @@ use Rattle.session_meaning.specs.declared.ending.Ending.{Ending}
 use Rattle.session_meaning.specs.declared.ending.Outcome.{Outcome}
 use Rattle.session_meaning.specs.ProgramValue.{ProgramValue}
 use Rattle.session_machine.specs.Pieces.{ending_after}
-use Rattle.site_core.specs.declared.session.Session.{Session}
+use Rattle.session_agenda.specs.declared.session.Session.{Session}
 use Rattle.site_core.specs.declared.rule.Rule.TheVariants as rule
 use Rattle.site_core.specs.declared.event.Event as office
 use Rattle.site_core.specs.declared.event.Event.TheVariants as event
@@ -28,8 +28,8 @@ pub record Finished : Type 0 where
   pub program : ProgramValue
   pub outcome : Outcome
 
--- the offices in order of number, each as its journal tells it; all frames, the first sent first; and the finished
--- sessions, in finishing order
+-- A plan; the offices in order of number, each as its journal tells it; all frames, the first sent first; and the
+-- finished sessions, in finishing order.
 pub record World : Type 0 where
   pub plan : PlanValue
   pub sites : List Site
@@ -40,13 +40,15 @@ pub record World : Type 0 where
 abbrev pub silent : PlanValue → ℕ → Site
 silent plan a = record { plan = plan; me = a; entries = [] }
 
+-- the world as the plan starts it: no office accepted anything
 abbrev pub opening : PlanValue → World
 opening plan = record { plan = plan; sites = map (silent plan) (range_with_len 0 (length plan.offices)); frames = []; finished = [] }
 
--- the journal of an office, and where the office is at its end
+-- the journal of an office
 abbrev pub site_at : World → ℕ → Site
 site_at w a = get_or w.sites a (silent w.plan a)
 
+-- where the office is at its end
 abbrev pub office_at : World → ℕ → Office
 office_at w a = office_of (site_at w a)
 
@@ -105,6 +107,8 @@ abbrev pub delivered : World → Option Fields → Answer
 delivered w None = (Err refusal.NoFrame, w)
 delivered w (Some f) = handed w f.to (event.Took f)
 
+-- What an event answers, and the world after it: an office's own step, whose frame is kept and whose finished session
+-- is put last; or the k-th frame comes to its addressee.
 abbrev pub happens : World → WorldEvent → Answer
 happens w (happening.Submit a p) = handed w a (event.Submit p)
 happens w (happening.Withdraw a ticket) = handed w a (event.Withdraw ticket)
@@ -112,7 +116,7 @@ happens w (happening.Do a rule) = handed w a (event.Do rule)
 happens w (happening.Send a v i) = handed w a (event.Send v i)
 happens w (happening.Deliver k) = delivered w (frame_at w k)
 
--- one event after the other
+-- one event after the other, a refused one changing nothing
 abbrev pub run_of : World → List WorldEvent → World
 run_of w [] = w
 run_of w (e ∷ es) = run_of (happens w e).1 es
@@ -122,6 +126,7 @@ abbrev pub AreAccepted : World → List WorldEvent → Type 0
 AreAccepted w [] = Unit {0}
 AreAccepted w (e ∷ es) = IsOk (happens w e).0 × AreAccepted (happens w e).1 es
 
+-- what each of these events answers
 abbrev pub replies_of : World → List WorldEvent → List (Result Reply WorldRefusal)
 replies_of w [] = []
 replies_of w (e ∷ es) = (happens w e).0 ∷ replies_of (happens w e).1 es
@@ -132,6 +137,7 @@ OrMemory w answer result w' =
     ((result ≡ Err (refusal.Office refused.Memory)) × (w' ≡ w) × IsOk answer.0)
     ⊎ ((result ≡ answer.0) × (w' ≡ answer.1))
 
+-- the answer is the event's, with the world after it; or, of one that is accepted, `Memory` and the world as it was
 abbrev pub Applies : World → WorldEvent → Result Reply WorldRefusal → World → Type 0
 Applies w e result w' = OrMemory w (happens w e) result w'
 

@@ -1,11 +1,11 @@
 //! What happens in a world.
 
 use office_map::OfficeId;
-use session_language::Program;
+use session_programs::Program;
 use site_core::Rule;
 
 /// An event of a world.
-#[derive(Debug, Drop)]
+#[derive(Drop)]
 pub enum WorldEvent {
     /// A session is submitted at an office.
     Submit(OfficeId, Program),

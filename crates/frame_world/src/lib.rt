@@ -25,6 +25,46 @@
 //! is looked at office by office, with no need of the others (`proofs/WhatWaits.antt`, `proofs/FewWait.antt`); so no frame
 //! comes too early (`proofs/NoneEarly.antt`). Where no rule may be done and nothing is on the way, the laws of tables and
 //! bars leave no office thirsty, so none has a session left (`proofs/Standstill.antt`).
+//!
+//! A world is its offices' journals, all frames, and the finishing list. An office's state is the end of its journal,
+//! so an event of the world is one step of an office that stands already, and no rule stands twice. Of what waits at
+//! its sender all is on the way but what the other has taken: so no list of messages is kept beside the windows, and a
+//! thing's place is a count over what is there. That counts are timely is said over the sender's journal: at each point
+//! of it at which a frame's number wasn't used yet, no more had been taken than the frame's count. What happens to an
+//! office is an equation for each event, without a premise but that each frame says the truth: so each law of tables
+//! and bars holds of the offices at once, and another law of theirs will too.
+//!
+//! The finishing list has programs, so the serial run is of programs in that list, and not of texts that a reader would
+//! have to look up. The headline compares offices and endings: the serial run counts tickets, an office answers them,
+//! and a withdrawn session's isn't given again. That tickets rise is said of each two finished sessions of an office,
+//! one line, which also says that no ticket stands twice; what it needs of `site_core` stands in one lemma
+//! (`proofs/RisingTickets.antt`). A bottle's value is told as the list of all bottles of a record, held or on the way:
+//! it has one element, with the serial run's value, so that there is one bottle and what it holds is one claim. One
+//! claim says what a step is worth (`IsStep`): of a rule that it may be done, of a message that it is next, of
+//! `AllFinished` that no session is left. So a body that says it is finished where it isn't is refused by the same
+//! line.
+//!
+//! Why nobody waits for ever. An office waits for bottles, and for forks; the two are looked at apart, and neither part
+//! knows the other's world. Say that no office may do a rule, and that nothing is on the way between two offices.
+//!
+//! - Bottles. A thirsty office lacks a bottle that its session needs, and has asked for it, or it could drink or ask.
+//!   So the bottle and the request are with the neighbour, who keeps a bottle that is asked for only where it needs it
+//!   itself and holds the fork of the two. So of each thirsty office some neighbour has the fork that they share.
+//! - Forks. A thirsty office is hungry or eats. A hungry one lacks a fork and has asked for it, so both are with the
+//!   neighbour. That one eats, and may not leave only since it is thirsty; or it has the fork clean and is hungry
+//!   itself, and comes before the first in the order of the offices. That order has no ring, so the way from a hungry
+//!   office to the neighbour that it waits for, and on from there, ends: some thirsty office eats.
+//! - Both. An office that eats has all its forks, and a thirsty one lacks one. So no office is thirsty, none has a
+//!   session that gathers, one that works has a rule to do, and one with waiting sessions may start.
+//!
+//! So where a session is left anywhere, some rule may be done or some message is on the way. A session that is
+//! withdrawn changes none of this: its office is tranquil then; if it was hungry it stays so, gets its forks, eats and
+//! leaves, as it would have.
+//!
+//! Not said: that a session finishes, that a hungry office eats, or that anything is ever done, arrives or is
+//! acknowledged; how often offices are turned; anything of frames that no office of this plan and run made; that what
+//! is kept is taken, and not thrown out at its turn; that a count is the newest when its frame comes; that a frame of
+//! the definitions is in the format's ranges, which holds of each world that a caller has (`World::is_serial`).
 #![tactic(auto)]
 
 mod event;

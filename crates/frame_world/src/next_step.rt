@@ -4,7 +4,7 @@ use office_map::OfficeId;
 use site_core::Rule;
 
 /// What a world does next, left to itself.
-#[derive(Clone, Copy, Debug, PartialEq, Eq)]
+#[derive(Clone, Copy, PartialEq, Eq)]
 pub enum NextStep {
     /// An office does a rule.
     Rule(OfficeId, Rule),

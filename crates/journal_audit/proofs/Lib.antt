@@ -1,2 +1,2 @@
-pub mod Gathering
-pub mod Accepted
+mod Gathering
+mod Accepted

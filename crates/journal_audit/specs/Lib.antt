@@ -1,3 +1,4 @@
 pub mod Gathering
+pub mod GatheringLaws
 pub mod Findings
 pub mod refinement

@@ -15,7 +15,7 @@ use std::alloc::{AllocError, Global};
 use world_schedule::World;
 
 /// What journals tell together.
-#[derive(Debug, Drop)]
+#[derive(Drop)]
 pub struct Finding {
     /// The report of the world whose record they are; or the line that names an entry.
     pub text: String,
@@ -65,6 +65,9 @@ fn named(alloc: Global, plan: &Plan, office: OfficeId, entry: usize) -> Result<S
 }
 
 /// The report of the world to which these events lead.
+///
+/// The world is opened anew and driven along the schedule, event by event, and no reply is kept: each is the told one.
+/// The journals are let go before that, since the schedule has all that they tell.
 fn report(alloc: Global, plan: &Plan, events: &[WorldEvent]) -> Result<String, AllocError>
     requires { AreAccepted (opening plan.now) events.now }
     ensures { IfOk result (λ text. IsToldOf (run_of (opening plan.now) events.now) (string_bytes text)) }

@@ -9,6 +9,13 @@
 //!
 //! Which texts are the journals of a plan's offices, and what a refusal says of them, is in `specs/Gathering.antt`; what is written
 //! in `specs.Findings.antt`, over what `journal_weave` calls woven.
+//!
+//! Journals are gathered in whatever order they come: what is gathered is told by office, a refused text with its place
+//! among them, and all before it are gathered. First it is judged whether a text is a journal, then whether its office
+//! has one already.
+//!
+//! Not said: that the offices did what they wrote down, or did it in that order; that the entry which is named is the
+//! one at fault.
 #![tactic(auto)]
 
 mod auditing;

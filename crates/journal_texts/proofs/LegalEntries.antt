@@ -9,15 +9,15 @@ use Rattle.std.proofs.lemmas.List.Folds.{list_any-append}
 use Rattle.frame_codec.specs.Frame.{Fields}
 use Rattle.office_map.specs.PlanValue.{PlanValue, are_neighbours, is_end}
 use Rattle.office_map.specs.Consistency.{IsConsistent}
-use Rattle.office_map.proofs.RecordEnds.{near_within}
+use Rattle.office_map.specs.NeighbourLaws.{near_within, end_within}
 use Rattle.session_meaning.specs.declared.ending.Outcome.{Outcome}
 use Rattle.session_meaning.specs.ProgramValue.{ProgramValue}
-use Rattle.session_language.specs.Program.{fits}
+use Rattle.session_programs.specs.Program.{fits}
 use Rattle.window_link.specs.declared.arrival.Arrival.{Arrival}
 use Rattle.window_link.specs.Links.{LinkState, ack_frame_of, frame_of}
 use Rattle.token_channel.specs.declared.fault.ChannelFault.{ChannelFault}
 use Rattle.drinking_core.specs.Drinkers as bottles
-use Rattle.site_core.specs.declared.session.Session.{Session}
+use Rattle.session_agenda.specs.declared.session.Session.{Session}
 use Rattle.site_core.specs.declared.rule.Rule.{Rule}
 use Rattle.site_core.specs.declared.rule.Rule.TheVariants as rule
 use Rattle.site_core.specs.declared.event.Event.{Event}
@@ -33,8 +33,8 @@ use Rattle.site_core.specs.Agenda.{Agenda, Current, Idle, Gathering, Working, is
 use Rattle.site_core.specs.Offices.{Office, Answer, may, is_ours, framed, frame_on, may_withdraw, unless_faulty, answer}
 use Rattle.site_core.specs.Tickets.{Rise, current_tickets, GoInOrder}
 use Rattle.site_core.specs.Journals.{Site, office_of, noted, after, AreAccepted, IsLegal}
-use Rattle.site_core.proofs.OfficeLimits.{office_noted, office_empty, within}
-use Rattle.site_core.proofs.PlanFacts.{end_within}
+use Rattle.site_core.specs.JournalLaws.{office_noted, office_empty}
+use Rattle.site_core.proofs.OfficeLimits.{within}
 use Rattle.site_core.proofs.SessionsInOrder.{in_order}
 use Rattle.run_words.specs.Rules.{IsRuleOf}
 

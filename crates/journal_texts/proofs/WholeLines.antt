@@ -8,7 +8,7 @@ use Rattle.site_core.specs.declared.event.Event.TheVariants as event
 use Rattle.site_core.specs.declared.event.Entry.{Entry}
 use Rattle.site_core.specs.declared.reply.Reply.{Reply}
 use Rattle.site_core.specs.declared.reply.Reply.TheVariants as reply
-use Rattle.session_language.specs.Program.{text_under}
+use Rattle.session_programs.specs.Program.{text_under}
 use Rattle.run_words.specs.Words.{office_name, line_of_words}
 use Rattle.run_words.specs.Replies.{reply_words}
 use Rattle.run_words.specs.Rules.{rule_words}

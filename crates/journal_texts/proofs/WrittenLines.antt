@@ -14,7 +14,7 @@ use Rattle.office_map.specs.PlanValue.{PlanValue, office_named}
 use Rattle.office_map.specs.Consistency.{IsConsistent}
 use Rattle.text_lines.specs.Text.{is_blank, is_name_byte, says_something, statements_from, lines}
 use Rattle.office_map.specs.PlanText.{and_then}
-use Rattle.session_language.specs.Program.{text_under}
+use Rattle.session_programs.specs.Program.{text_under}
 use Rattle.session_language.specs.Reading.{sessions_of}
 use Rattle.session_language.proofs.canonical.Lexemes.{IsWord, number_is_word, number_again}
 use Rattle.session_language.proofs.canonical.TextLines.{plainly, first_statement_is}

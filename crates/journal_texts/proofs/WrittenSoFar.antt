@@ -1,5 +1,5 @@
 -- The entries of a journal, written one after the other.
-use Rattle.std.proofs.Common.{◌≡◌, ℕ, zero, suc, ◌+◌, ◌-◌, ◌≤◌, refl, drop, List, [], ◌∷◌, ◌++◌, length, take, Option, Some, None, sym, ap, ◌∙◌, subst, arith, append_assoc, inl, inr, Bor}
+use Rattle.std.proofs.Common.{◌≡◌, ℕ, ◌+◌, ◌-◌, ◌≤◌, drop, List, [], ◌∷◌, ◌++◌, length, take, Option, Some, None, sym, ap, ◌∙◌, subst, arith, append_assoc, inl, inr, Bor}
 use Rattle.std.specs.Prelude.{All, slice_get}
 use Rattle.std.specs.Option.{option_copied}
 use Rattle.std.proofs.lemmas.Bool.{cases_lt}
@@ -7,6 +7,7 @@ use Rattle.std.proofs.lemmas.Grind.{flat_map-append}
 use Rattle.std.proofs.lemmas.List.{take_more, take_all, append-nil}
 use Rattle.std.proofs.lemmas.List.Elements.{All-nil, All-cons, All-append}
 use Rattle.std.proofs.lemmas.Option.{slice_get_within, get_or_from_slice_get, slice_get-get_or}
+use Rattle.bottle_values.specs.ListLaws.{get-drop}
 use Rattle.office_map.specs.PlanValue.{PlanValue}
 use Rattle.office_map.specs.Consistency.{IsConsistent}
 use Rattle.site_core.specs.declared.event.Event.{Event}
@@ -55,19 +56,11 @@ pub texts_go_on : (p : PlanValue) (office : ℕ) (xs more : List Entry) → jour
 texts_go_on p office xs more = ap (λ l. header_line p office ++ l) (flat_map-append (entry_line p) xs more) ∙ sym (append_assoc (header_line p office) (lines_of p xs) (lines_of p more))
 
 -- what stands from a place on
-get_drop : (xs : List Entry) (from k : ℕ) → slice_get (drop from xs) k ≡ slice_get xs (from + k)
-get_drop xs zero k = ap (slice_get xs) (omega arith)
-get_drop [] (suc from) k = refl
-get_drop (y ∷ xs) (suc from) k = get_drop xs from k ∙ next
-  where
-    next : slice_get xs (from + k) ≡ slice_get (y ∷ xs) (suc from + k)
-    next = let on : suc (from + k) ≡ suc from + k = omega arith in ap (slice_get (y ∷ xs)) on
-
 pub in_rest : (xs : List Entry) (from i : ℕ) (x : Entry) → from ≤ i → slice_get xs i ≡ Some x → slice_get (drop from xs) (i - from) ≡ Some x
-in_rest xs from i x le at = get_drop xs from (i - from) ∙ ap (slice_get xs) (omega (arith, le)) ∙ at
+in_rest xs from i x le at = get-drop xs from (i - from) ∙ ap (slice_get xs) (omega (arith, le)) ∙ at
 
 pub no_more : (xs : List Entry) (from i : ℕ) → from ≤ i → slice_get xs i ≡ None → slice_get (drop from xs) (i - from) ≡ None
-no_more xs from i le none = get_drop xs from (i - from) ∙ ap (slice_get xs) (omega (arith, le)) ∙ none
+no_more xs from i le none = get-drop xs from (i - from) ∙ ap (slice_get xs) (omega (arith, le)) ∙ none
 
 pub one_read_back : (p : PlanValue) (xs : List Entry) (i : ℕ) (x : Entry) → slice_get xs i ≡ Some x → All (EntryReadsBack p) (take i xs) → EntryReadsBack p x → All (EntryReadsBack p) (take (i + 1) xs)
 one_read_back p xs i x at all h =

@@ -36,6 +36,7 @@ pub record IsBeginning (p : PlanValue) (office : ℕ) (entries : List Entry) (te
   pub is : whole ≡ journal_text p office (take count entries)
   pub has : (m : ℕ) → m ≤ length entries → length (journal_text p office (take m entries)) ≤ length text → m ≤ count
 
+-- so it is of every beginning of a legal journal's text that has its first line
 abbrev pub TornTextsBegin : Type 0
 TornTextsBegin = (p : PlanValue) (office : ℕ) (entries : List Entry) (text whole rest more : List ℕ) → IsConsistent p → office < length p.offices → p.run < 2 ^ 32 → IsLegal (record { plan = p; me = office; entries = entries }) →
     All (EntryReadsBack p) entries → journal_text p office entries ≡ text ++ more → IsCutAfterLines text whole rest → length (header_line p office) ≤ length text → IsBeginning p office entries text whole

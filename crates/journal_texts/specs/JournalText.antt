@@ -32,7 +32,7 @@ abbrev pub office_of_header : PlanValue → Option (ℕ × List ℕ) → Result 
 office_of_header p None = Err Journal
 office_of_header p (Some h) = if h.0 == p.run then ok_or (office_named p h.1) JournalHeader else Err JournalHeader
 
--- whose journal it is
+-- whose journal it is, by its first line
 abbrev pub header_of : PlanValue → List ℕ → Result ℕ JournalRule
 header_of p line = office_of_header p (and_then (plain_words line) header_said)
 
@@ -50,13 +50,13 @@ AreEntries [] (x ∷ xs) ends = ⊥
 AreEntries (s ∷ more) [] ends = HasNoFrame s × (ends ≡ false)
 AreEntries (s ∷ more) (x ∷ xs) ends = IsEntry s x × AreEntries more xs ends
 
--- the entries of these lines
+-- the entries of these lines, up to the first of which the bytes spell no frame
 pub record HaveEntries (p : PlanValue) (lines : List (ℕ × List ℕ)) (entries : List Entry) (ends : Bool) : Type 0 where
   pub said : List Said
   pub each : AreSaid p lines said
   pub entered : AreEntries said entries ends
 
--- the text of that office's journal
+-- the text is the journal of that office with these entries, and ends with them or not
 pub record IsJournal (p : PlanValue) (text : List ℕ) (office : ℕ) (entries : List Entry) (ends : Bool) : Type 0 where
   pub first : ℕ × List ℕ
   pub rest : List (ℕ × List ℕ)
@@ -85,6 +85,7 @@ abbrev pub RefusesLines : PlanValue → List (ℕ × List ℕ) → JournalRefusa
 RefusesLines p [] r = r ≡ record { rule = Journal; line = 0 }
 RefusesLines p (first ∷ rest) r = ((header_of p first.1 ≡ Err r.rule) × (r.line ≡ first.0)) ⊎ ((office : ℕ) × (header_of p first.1 ≡ Ok office) × RefusesLine p rest r)
 
+-- so it is of a text's lines that say something
 abbrev pub RefusesJournal : PlanValue → List ℕ → JournalRefusal → Type 0
 RefusesJournal p text r = RefusesLines p (statements text) r
 
@@ -101,6 +102,7 @@ pub record IsSame (office office' : ℕ) (entries entries' : List Entry) (ends e
   pub lists : entries ≡ entries'
   pub ways : ends ≡ ends'
 
+-- so it is of every text
 abbrev pub ATextIsOneJournal : Type 0
 ATextIsOneJournal =
     (p : PlanValue) (text : List ℕ) (office office' : ℕ) (entries entries' : List Entry) (ends ends' : Bool) → IsJournal p text office entries ends → IsJournal p text office' entries' ends'

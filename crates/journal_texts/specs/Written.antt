@@ -3,7 +3,7 @@ use Rattle.std.specs.Prelude.{ℕ, List, [], ◌∷◌, ◌++◌, None, codes}
 use Rattle.std.specs.List.{flat_map}
 use Rattle.std.specs.Fmt.{decimal}
 use Rattle.office_map.specs.PlanValue.{PlanValue}
-use Rattle.session_language.specs.Program.{text_under}
+use Rattle.session_programs.specs.Program.{text_under}
 use Rattle.site_core.specs.declared.event.Event.{Event}
 use Rattle.site_core.specs.declared.event.Event.TheVariants as event
 use Rattle.site_core.specs.declared.event.Entry.{Entry}
@@ -27,15 +27,18 @@ event_words p (event.Withdraw t) = codes "withdraw" ∷ decimal t ∷ []
 abbrev pub entry_words : PlanValue → Entry → List (List ℕ)
 entry_words p x = decimal x.tag ∷ event_words p x.event ++ codes "=" ∷ reply_words None x.reply
 
+-- the line of an entry
 abbrev pub entry_line : PlanValue → Entry → List ℕ
 entry_line p x = line_of_words (entry_words p x) ++ 10 ∷ []
 
+-- a journal's first line
 abbrev pub header_line : PlanValue → ℕ → List ℕ
 header_line p office = line_of_words (header_words p office) ++ 10 ∷ []
 
+-- the lines of entries
 abbrev pub lines_of : PlanValue → List Entry → List ℕ
 lines_of p = flat_map (entry_line p)
 
--- the header, and then a line for each entry
+-- how a journal is written, to the byte: the header, and then a line for each entry
 abbrev pub journal_text : PlanValue → ℕ → List Entry → List ℕ
 journal_text p office entries = header_line p office ++ lines_of p entries

@@ -11,6 +11,8 @@ use office_map::{OfficeId, Plan};
 use text_lines::{first_word, is_plain, name, number};
 
 /// Whose journal a first line begins, or what is wrong with it.
+///
+/// A word that is no name, or no number, makes it another form, before the run is looked at.
 pub(crate) fn header(plan: &Plan, line: &[u8]) -> Result<OfficeId, JournalRule>
     ensures { result ≡ header_of plan.now line.now }
 {

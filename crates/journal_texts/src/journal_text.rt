@@ -4,7 +4,7 @@ use office_map::OfficeId;
 use site_core::Entry;
 
 /// The journal that a text is.
-#[derive(Debug, Drop)]
+#[derive(Drop)]
 pub struct JournalText {
     /// Whose journal it is.
     pub office: OfficeId,

@@ -10,6 +10,14 @@
 //!   none where it has a fault. So what was written is read as what it was written for.
 //!
 //! What a line says is in `specs/Lines.antt`, how it is written in `specs/Written.antt`; the words are those of `run_words`.
+//!
+//! Journals are read and written above the office, since it has no need of texts. One relation says what a journal's
+//! text is, and reading and writing both speak of it: so that what is written reads back needs no law beside the one
+//! that a text is one journal at most. A journal is legal when it is written: each entry was accepted, so its names are
+//! the plan's and its numbers fit, and no entry has to be refused for what a text can't say.
+//!
+//! Not said: that an office replies so; how fast a text is read; anything of a torn text that doesn't begin a
+//! journal's. `Memory` may stand in place of each answer.
 #![tactic(auto)]
 
 mod fault;

@@ -13,7 +13,8 @@ use run_words::digits::{FrameWord, bytes, frame_word};
 use run_words::replies::arrival_named;
 use run_words::rules::{rule_named, rule_with};
 use run_words::words::{great_count_by, is, office_by};
-use session_language::{LangFault, Program, read_sessions};
+use session_language::{LangFault, read_sessions};
+use session_programs::Program;
 use site_core::{Entry, Event, Reply, Rule};
 use std::alloc::{AllocError, Global};
 use text_lines::{first_word, is_plain, number};
@@ -22,7 +23,10 @@ use text_lines::{first_word, is_plain, number};
 const TAGS: u64 = 16;
 
 /// What is read of a line that says something.
-#[derive(Debug, Drop)]
+///
+/// An entry holds a frame, so there is none for a line whose digits spell no frame. Who reads the journal is told that
+/// there is one, and the lines after it are looked at, so that their faults are told.
+#[derive(Drop)]
 pub(crate) enum Told {
     AnEntry(Entry),
     /// The digits of its frame spell none.

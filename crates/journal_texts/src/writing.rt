@@ -3,7 +3,7 @@
 ghost use Rattle.std.specs.Prelude.{◌≡◌, ◌<◌, ◌^◌, ◌++◌, ◌∷◌, [], length, drop, true, IfOk, OnOk, IsTrue, All};
 ghost use Rattle.std.specs.Fmt.{decimal};
 ghost use Rattle.std.specs.String.{string_bytes};
-ghost use Rattle.session_language.specs.Program.{fits};
+ghost use Rattle.session_programs.specs.Program.{fits};
 ghost use Rattle.site_core.specs.Journals.{IsLegal};
 ghost use Rattle.site_core.specs.declared.event.Event.TheVariants as events;
 ghost use Rattle.run_words.specs.Digits.{frame_digits};
@@ -19,7 +19,8 @@ use run_words::digits::{add_frame_digits, digits};
 use run_words::replies::add_reply;
 use run_words::rules::add_rule;
 use run_words::words::office_name;
-use session_language::Program;
+use session_language::laws::reads_back;
+use session_programs::Program;
 use site_core::{Entry, Event, Journal};
 use std::alloc::{AllocError, Global};
 
@@ -120,6 +121,7 @@ fn add_program(
     ensures words { OnOk result (string_bytes text.new ≡ string_bytes text.old ++ line_of_words (event_words plan.now (events.Submit program.now))) }
     ensures reads_back { OnOk result (EventReadsBack plan.now (events.Submit program.now)) }
 {
+    reads_back(program, plan);
     let canonical = program.text(alloc, plan)?;
     let digits = digits(alloc, canonical.as_bytes())?;
     text.push_str("submit ")?;

@@ -2,7 +2,7 @@
 use Rattle.std.proofs.Common.{◌≡◌, ℕ, Bool, true, false, cond, List, [], ◌∷◌, ◌++◌, length, map, Option, None, Some, Ok, Err, refl, sym, ap, subst, ◌∙◌}
 use Rattle.std.specs.Prelude.{Result, is_ok, nat_lt}
 use Rattle.std.proofs.lemmas.List.{map-append}
-use Rattle.bottle_values.proofs.Maps.{put_cases}
+use Rattle.bottle_values.specs.MapLaws.{put_cases}
 use Rattle.frame_codec.specs.Frame.{Fields}
 use Rattle.office_map.specs.PlanValue.{PlanValue}
 use Rattle.site_core.specs.declared.event.Event.{Event}
@@ -16,7 +16,8 @@ use Rattle.frame_world.specs.declared.event.WorldEvent.TheVariants as happening
 use Rattle.frame_world.specs.declared.refusal.WorldRefusal.{WorldRefusal}
 use Rattle.frame_world.specs.declared.refusal.WorldRefusal.TheVariants as refusal
 use Rattle.frame_world.specs.Worlds.{World, Answer, opening, site_at, frame_at, told, handed, delivered, happens, run_of, AreAccepted}
-use Rattle.frame_world.proofs.Steps.{State, IsAccepted, entry_of, through}
+use Rattle.frame_world.specs.WorldStates.{State, IsAccepted, entry_of}
+use Rattle.frame_world.specs.WorldLaws.{through}
 use Rattle.journal_weave.specs.Weaving.{untagged, entries_at}
 
 -- ---- a refused event

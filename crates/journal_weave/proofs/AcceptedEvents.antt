@@ -21,11 +21,14 @@ use Rattle.frame_world.specs.declared.event.WorldEvent.TheVariants as happening
 use Rattle.frame_world.specs.declared.refusal.WorldRefusal.{WorldRefusal}
 use Rattle.frame_world.specs.declared.refusal.WorldRefusal.TheVariants as refusal
 use Rattle.frame_world.specs.Worlds.{World, Answer, silent, opening, site_at, office_at, frames_of, finished_by, told, handed, delivered, happens, run_of, AreAccepted}
-use Rattle.frame_world.proofs.Steps.{State, IsSeated, seated_opening, state_opening, happens_leaves}
+use Rattle.frame_world.specs.WorldStates.{State, IsSeated}
+use Rattle.frame_world.specs.WorldLaws.{seated_opening, state_opening, happens_leaves}
 use Rattle.journal_weave.specs.Weaving.{entries_at}
 use Rattle.journal_weave.specs.Laws.{IsBehind}
 use Rattle.journal_weave.specs.refinement.Following.{Gives}
-use Rattle.journal_weave.proofs.Frames.{AreAmong, nothing_at, get_push, get_right, are_among_themselves, among_left}
+use Rattle.journal_weave.specs.refinement.Merging.{IsSound}
+use Rattle.journal_weave.specs.FrameLaws.{AreAmong, are_among_themselves, among_left}
+use Rattle.bottle_values.specs.ListLaws.{nothing_at, get_push, get_right}
 
 abbrev pub grown : World → ℕ → Event → Reply → World
 grown w a e r = record {
@@ -105,11 +108,6 @@ reply_in (Ok r) h = (r, refl)
 reply_in (Err e) h = cc
 
 -- ---- what holds of each world that accepted events lead to
-
--- each office has the plan and its number, and each frame that an entry tells was sent
-pub record IsSound (plan : PlanValue) (w : World) : Type 0 where
-  pub seats : IsSeated plan w
-  pub known : (a k : ℕ) (x : Entry) → slice_get (entries_at w a) k ≡ Some x → AreAmong (frames_of x.reply) w.frames
 
 -- nothing was accepted at first
 pub nothing_told : (plan : PlanValue) (a : ℕ) → entries_at (opening plan) a ≡ []

@@ -17,8 +17,8 @@ use Rattle.journal_weave.specs.Weaving.{untagged, entries_at, IsWoven, GoesAlong
 use Rattle.journal_weave.specs.Given.{told_in, lines_of, IsWovenFrom, AreFurthest, Stands}
 use Rattle.journal_weave.specs.Laws.{NoneGoesFurther}
 use Rattle.journal_weave.specs.refinement.Following.{site_of, Gives, AreLimits}
-use Rattle.journal_weave.specs.refinement.Merging.{CannotCome, IsMerged, IsStuck}
-use Rattle.journal_weave.proofs.Merging.{Has, Cannot, no_way, goes_along, has_all}
+use Rattle.journal_weave.specs.refinement.Merging.{CannotCome, IsMerged, IsStuck, Has}
+use Rattle.journal_weave.proofs.Merging.{Cannot, no_way, goes_along, has_all}
 use Rattle.journal_weave.proofs.Pushing.{at_of}
 
 -- lists of numbers, place by place

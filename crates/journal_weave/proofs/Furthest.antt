@@ -12,8 +12,10 @@ use Rattle.frame_world.specs.Worlds.{World, opening, site_at, frames_of, happens
 use Rattle.journal_weave.specs.Weaving.{untagged, entries_at}
 use Rattle.journal_weave.specs.Laws.{IsBehind, NoneGoesFurther}
 use Rattle.journal_weave.specs.refinement.Following.{Gives}
-use Rattle.journal_weave.proofs.Frames.{AreAmong, nothing_at, at_seam, both_among}
-use Rattle.journal_weave.proofs.AcceptedEvents.{grown, note, Grows, grows_to, grows, here, elsewhere, entries, Acts, acts, reply_in, IsSound, sound_opening, site_is, sound_after, sound, run_behind}
+use Rattle.journal_weave.specs.FrameLaws.{AreAmong, both_among}
+use Rattle.bottle_values.specs.ListLaws.{nothing_at, at_seam}
+use Rattle.journal_weave.proofs.AcceptedEvents.{grown, note, Grows, grows_to, grows, here, elsewhere, entries, Acts, acts, reply_in, sound_opening, site_is, sound_after, sound, run_behind}
+use Rattle.journal_weave.specs.refinement.Merging.{IsSound}
 
 -- what is told, without tags
 abbrev Lists : Type 0

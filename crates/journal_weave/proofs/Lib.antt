@@ -1,4 +1,3 @@
-pub mod Frames
 mod SentFrames
 mod EntriesTold
 pub mod AcceptedEvents

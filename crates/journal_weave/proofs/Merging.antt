@@ -1,5 +1,5 @@
 -- One entry more of a merge, and its end: where each office is stuck no event goes on.
-use Rattle.std.proofs.Common.{◌≡◌, ◌≢◌, ℕ, ◌+◌, ◌<◌, ◌≤◌, List, [], ◌∷◌, ◌++◌, length, map, take, drop, Some, Ok, refl, sym, ap, subst, ◌∙◌, arith, inl, inr, ◌⊎◌, ⊎_elim}
+use Rattle.std.proofs.Common.{◌≡◌, ◌≢◌, ℕ, ◌+◌, ◌≤◌, List, [], ◌∷◌, ◌++◌, length, map, take, drop, Some, Ok, refl, sym, ap, subst, ◌∙◌, arith, inl, inr, ◌⊎◌, ⊎_elim}
 use Rattle.std.specs.Prelude.{IsOk, is_ok, slice_get}
 use Rattle.std.proofs.lemmas.Bool.{cases_eq}
 use Rattle.std.proofs.lemmas.List.{append_assoc, map-append, take-append-drop, length-map, length-take-le}
@@ -11,11 +11,11 @@ use Rattle.site_core.specs.declared.event.Entry.{Entry}
 use Rattle.site_core.specs.Journals.{Site}
 use Rattle.frame_world.specs.declared.event.WorldEvent.{WorldEvent}
 use Rattle.frame_world.specs.Worlds.{World, opening, site_at, frames_of, handed, delivered, frame_at, happens, run_of, AreAccepted}
-use Rattle.frame_world.proofs.Steps.{seated}
+use Rattle.frame_world.specs.WorldLaws.{seated}
 use Rattle.journal_weave.specs.Weaving.{untagged, entries_at, GoesAlong}
 use Rattle.journal_weave.specs.Laws.{CanGoOn}
 use Rattle.journal_weave.specs.refinement.Following.{site_of, Gives}
-use Rattle.journal_weave.specs.refinement.Merging.{IsEventAt, CannotCome}
+use Rattle.journal_weave.specs.refinement.Merging.{IsEventAt, CannotCome, Has, Follows}
 use Rattle.journal_weave.proofs.EntriesTold.{untagged_next, next_told}
 use Rattle.journal_weave.proofs.AcceptedEvents.{grown, note, Grows, grows_to, here, elsewhere, site_is, Happened, happened}
 
@@ -38,22 +38,9 @@ handed_at w a (event.Took f) e (to, k, is, sent) =
 
 -- ---- the schedule of a merge, without the rest of it
 
--- it is accepted, and has so many first entries of each office
-pub record Has (plan : PlanValue) (told : ℕ → List Entry) (at : ℕ → ℕ) (schedule : List WorldEvent) : Type 0 where
-  pub accepted : AreAccepted (opening plan) schedule
-  pub entries : (a : ℕ) → entries_at (run_of (opening plan) schedule) a ≡ map untagged (take (at a) (told a))
-
 pub site_told : (plan : PlanValue) (told : ℕ → List Entry) (at : ℕ → ℕ) (schedule : List WorldEvent) → Has plan told at schedule → (a : ℕ) → site_at (run_of (opening plan) schedule) a ≡ site_of plan a (take (at a) (told a))
 site_told plan told at schedule h a =
     site_is plan (run_of (opening plan) schedule) a (seated plan schedule) ∙ ap (λ l. record { plan = plan; me = a; entries = l }) (h.entries a)
-
--- an entry that its office gives there, by an event of that world
-pub record Follows (plan : PlanValue) (told : ℕ → List Entry) (at : ℕ → ℕ) (schedule : List WorldEvent) (a : ℕ) (x : Entry) (e : WorldEvent) : Type 0 where
-  pub has : Has plan told at schedule
-  pub inside : a < length plan.offices
-  pub next : slice_get (told a) (at a) ≡ Some x
-  pub gives : Gives (site_of plan a (take (at a) (told a))) x
-  pub is : IsEventAt (run_of (opening plan) schedule).frames a x.event e
 
 module _ (plan : PlanValue) (told : ℕ → List Entry) (at : ℕ → ℕ) (schedule : List WorldEvent) (a : ℕ) (x : Entry) (e : WorldEvent) (g : Follows plan told at schedule a x e) where
   abbrev w : World

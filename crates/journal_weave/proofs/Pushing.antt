@@ -14,9 +14,9 @@ use Rattle.journal_weave.specs.declared.key.FrameKey.{FrameKey}
 use Rattle.journal_weave.specs.declared.merge.Merge.{Merge}
 use Rattle.journal_weave.specs.Weaving.{untagged, entries_at}
 use Rattle.journal_weave.specs.refinement.Following.{AreLimits}
-use Rattle.journal_weave.specs.refinement.Merging.{IsEventAt, Knows, IsPushed, IsMerged}
+use Rattle.journal_weave.specs.refinement.Merging.{IsEventAt, Knows, IsPushed, IsMerged, Has, Follows}
 use Rattle.journal_weave.proofs.AcceptedEvents.{nothing_told}
-use Rattle.journal_weave.proofs.Merging.{Has, Follows, has_more, frames_after}
+use Rattle.journal_weave.proofs.Merging.{has_more, frames_after}
 
 -- how many entries of each office a merge has
 abbrev pub at_of : Merge → ℕ → ℕ

@@ -11,7 +11,7 @@ use Rattle.journal_weave.specs.declared.key.FrameKey.{FrameKey}
 use Rattle.journal_weave.specs.declared.sent.SentFrames.{SentFrames}
 use Rattle.journal_weave.specs.refinement.Keys.{key_of}
 use Rattle.journal_weave.specs.refinement.Merging.{WasSent, WasNotSent, number_in, Knows}
-use Rattle.journal_weave.proofs.Frames.{get_push, get_left, at_seam}
+use Rattle.bottle_values.specs.ListLaws.{get_push, get_left, at_seam}
 
 module _ (C : FrameKey → FrameKey → Ordering) (s s' : SentFrames) (f : Fields) where
   -- whether another frame has the same key

@@ -11,7 +11,8 @@ use Rattle.frame_world.specs.Worlds.{World, Finished, silent, opening, site_at, 
 use Rattle.frame_world.specs.Ways.{bottles_between, bottles_of}
 use Rattle.frame_world.specs.Headline.{Always}
 use Rattle.frame_world.specs.Tickets.{HaveTheirTickets, TellsEachOffice}
-use Rattle.frame_world.proofs.Steps.{IsSeated, seated}
+use Rattle.frame_world.specs.WorldStates.{IsSeated}
+use Rattle.frame_world.specs.WorldLaws.{seated}
 use Rattle.journal_weave.specs.declared.given.GivenJournal.{GivenJournal}
 use Rattle.journal_weave.specs.Weaving.{untagged, entries_at}
 use Rattle.journal_weave.specs.Given.{told_in}

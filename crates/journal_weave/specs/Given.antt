@@ -88,7 +88,7 @@ pub record IsLeft (plan : PlanValue) (journals : List GivenJournal) (a entry : �
   pub named : IsNamed journals at a
   pub next : entry ≡ at a + 1
 
--- an entry is left, or memory ran out
+-- an entry is left of an office, or memory ran out
 abbrev pub IsUnwoven : PlanValue → List GivenJournal → WeaveFault → Type 0
 IsUnwoven plan journals (fault.Unwoven a entry) = IsLeft plan journals a entry
 IsUnwoven plan journals fault.Memory = Unit {0}

@@ -13,7 +13,7 @@ untagged x = record { tag = 0; event = x.event; reply = x.reply }
 abbrev pub entries_at : World → ℕ → List Entry
 entries_at w a = (site_at w a).entries
 
--- every event is accepted, and what each office accepted is what it tells
+-- every event is accepted, and what each office accepted is what it tells, without tags
 pub record IsWoven (plan : PlanValue) (told : ℕ → List Entry) (events : List WorldEvent) : Type 0 where
   pub accepted : AreAccepted (opening plan) events
   pub as_told : (a : ℕ) → entries_at (run_of (opening plan) events) a ≡ map untagged (told a)

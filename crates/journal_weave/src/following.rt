@@ -9,6 +9,10 @@ use site_core::{Entry, Office, Refusal, Reply};
 use std::alloc::{AllocError, Global};
 
 /// How many entries an office gives, one after another from its opening on.
+///
+/// Each journal is replayed by itself before any is merged. A world that is driven along the journals would have taken
+/// a step by the time that its reply turns out to be another than the told one, and the other offices have to go on all
+/// the same, since how far they come decides which entry is named.
 pub(crate) fn followed(
     alloc: Global,
     plan: &Plan,

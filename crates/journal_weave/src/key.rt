@@ -8,7 +8,11 @@ ghost use Rattle.journal_weave.specs.refinement.Keys.{key_of, message_of};
 use frame_codec::{Frame, Msg};
 
 /// What a frame says, ordered by its number and its count, and then by the rest.
-#[derive(Clone, Copy, Debug, PartialEq, Eq, PartialOrd, Ord)]
+///
+/// A frame is looked up as a whole. A smaller key, of sender, addressee, number and count, would do, but then it has to
+/// be shown through the links that such a frame is the same. Number and count come first, since they tell most frames
+/// apart.
+#[derive(Clone, Copy, PartialEq, Eq, PartialOrd, Ord)]
 pub(crate) struct FrameKey {
     number: u64,
     count: u64,
@@ -19,7 +23,7 @@ pub(crate) struct FrameKey {
 }
 
 /// What its message says, if it has one.
-#[derive(Clone, Copy, Debug, PartialEq, Eq, PartialOrd, Ord)]
+#[derive(Clone, Copy, PartialEq, Eq, PartialOrd, Ord)]
 pub(crate) enum MessageKey {
     Nothing,
     AskFork,

@@ -26,6 +26,9 @@ pub fn woven_is_record()
 {}
 
 /// The journals of every world that events lead to, good or refused, are woven from a schedule, which leads to that world.
+///
+/// It leads to the world itself, and not only to one with its journals. So which events were refused is of no matter
+/// for any law of schedules.
 pub fn worlds_are_woven()
     ensures { WorldsAreWoven }
 {
@@ -33,6 +36,11 @@ pub fn worlds_are_woven()
 }
 
 /// Two schedules of the same journals lead to the same offices, and to worlds that differ in order alone.
+///
+/// It is said of worlds, and of all that a world is: offices, each office's finished sessions in order, frames,
+/// bottles. So it holds of whatever reads a world, and of schedules that nobody found. That the frames are the same
+/// ones in another order is said by counting those that pass a test, whatever it is: so no frames have to be compared,
+/// and no exchanges named.
 pub fn schedules_differ_in_order()
     ensures { SchedulesDifferInOrder }
 {

@@ -13,6 +13,10 @@ use std::collections::BTreeMap;
 
 /// The frames that a schedule sends, each with a number that it was sent under. They are kept in order, so that the time of a
 /// look-up grows with the logarithm of their count, whatever they say.
+///
+/// They aren't hashed: the kit's maps hash by a seed that is fixed, and of a frame the value comes last, so who writes
+/// a journal can choose values whose frames all collide, and then each entry looks at all others. Slots by number, in
+/// which counts only rise, would do too, but that has to be shown through the links as well.
 #[derive(Drop)]
 pub(crate) struct SentFrames {
     /// From 1. A frame that was sent more than once has the last of its numbers.

@@ -12,6 +12,10 @@ use site_core::{Entry, Event, Reply};
 
 /// The office that is named where none goes on, and the entry at which it stands, from 1: the least that doesn't wait, or the
 /// least, where all wait that stand.
+///
+/// The entry is the first of its office that no schedule has; which office that is, where several stand, is a
+/// definition. An office waits by its next entry alone: whether it would give that entry, once the frame came, isn't
+/// asked. What comes after the entries of a journal that doesn't end takes no frame, so the office doesn't wait there.
 pub(crate) fn first_left(
     plan: &Plan,
     journals: &[GivenJournal],

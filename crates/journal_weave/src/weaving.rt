@@ -69,6 +69,9 @@ fn limits_of(
 }
 
 /// Rounds over the offices until one moves nobody.
+///
+/// There is no list of who was woken. A round looks at an office in vain at most once, and each but the last puts an
+/// entry on the schedule. The last round is the proof that each office is stuck where the merge ends.
 fn merged(
     alloc: Global,
     plan: &Plan,

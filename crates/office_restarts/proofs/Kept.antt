@@ -6,8 +6,9 @@ use Rattle.std.proofs.lemmas.Bool.{cases_eq}
 use Rattle.std.proofs.lemmas.Bool.Decides.{nat_tests}
 use Rattle.std.proofs.lemmas.List.{length_push, length-take, take-take, take-append-le}
 use Rattle.std.proofs.lemmas.Option.{slice_get-map, slice_get_cases}
+use Rattle.bottle_values.specs.ListLaws.{nothing_at}
 use Rattle.bottle_values.specs.Maps.{put}
-use Rattle.bottle_values.proofs.Maps.{put_cases, put_other, put_same}
+use Rattle.bottle_values.specs.MapLaws.{put_cases, put_other, put_same}
 use Rattle.frame_codec.specs.Frame.{Fields}
 use Rattle.office_map.specs.PlanValue.{PlanValue}
 use Rattle.site_core.specs.Limits.{most_entries}
@@ -24,10 +25,10 @@ use Rattle.frame_world.specs.declared.event.WorldEvent.TheVariants as happening
 use Rattle.frame_world.specs.Worlds.{World, opening, run_of, frames_of}
 use Rattle.journal_weave.specs.Weaving.{untagged, entries_at}
 use Rattle.journal_weave.specs.refinement.Following.{site_of, Gives}
-use Rattle.journal_weave.specs.refinement.Merging.{IsEventAt}
-use Rattle.journal_weave.proofs.Frames.{AreAmong, nothing_at, are_among_themselves, among_left, both_among}
+use Rattle.journal_weave.specs.FrameLaws.{AreAmong, are_among_themselves, among_left, both_among}
+use Rattle.journal_weave.specs.refinement.Merging.{IsEventAt, Has, Follows}
 use Rattle.journal_weave.proofs.AcceptedEvents.{sound_opening, sound, nothing_told}
-use Rattle.journal_weave.proofs.Merging as merging
+use Rattle.journal_weave.proofs.Merging.{has_more, frames_after}
 use Rattle.office_restarts.specs.Lives.{Lives, Happening, Handed, Stored, Left, Lost, newborn, site_in, standing, answered, handed, arrives, happens, leaves, after, goes_on}
 use Rattle.office_restarts.proofs.Parts.{GivesAll, get_first, gives_untagged, gives_first, gives_one_more, last_or_before}
 
@@ -77,7 +78,7 @@ own_wider plan left more a xs sub o = record {
 
 pub record KeptAt (plan : PlanValue) (journal : ℕ → List Entry) (at : ℕ → ℕ) (left : List Fields) : Type 0 where
   pub schedule : List WorldEvent
-  pub has : merging.Has plan journal at schedule
+  pub has : Has plan journal at schedule
   pub sent : AreAmong left (run_of (opening plan) schedule).frames
   pub within : (a : ℕ) → at a ≤ length (journal a)
   pub own : (a : ℕ) → Own plan left a (journal a)
@@ -220,7 +221,7 @@ module _ (plan : PlanValue) (journal : ℕ → List Entry) (left : List Fields) 
       there : (x : Entry) × (at a < length (journal a)) × (slice_get (journal a) (at a) ≡ Some x) × (get_or (journal a) (at a) x ≡ x) → KeptAt plan journal at' left
       there (x, below, next, read) =
           let e = event_of w.frames left a x.event (λ f t. (k.own a).comes (at a) x f next t) k.sent in
-          let g : merging.Follows plan journal at k.schedule a x e.0 = record {
+          let g : Follows plan journal at k.schedule a x e.0 = record {
             has = k.has;
             inside = (k.own a).inside (at a) x next;
             next = next;
@@ -229,8 +230,8 @@ module _ (plan : PlanValue) (journal : ℕ → List Entry) (left : List Fields) 
           } in
           record {
             schedule = k.schedule ++ e.0 ∷ [];
-            has = merging.has_more plan journal at k.schedule a x e.0 g at' more others;
-            sent = subst (AreAmong left) (sym (merging.frames_after plan journal at k.schedule a x e.0 g)) (among_left left w.frames (frames_of x.reply) k.sent);
+            has = has_more plan journal at k.schedule a x e.0 g at' more others;
+            sent = subst (AreAmong left) (sym (frames_after plan journal at k.schedule a x e.0 g)) (among_left left w.frames (frames_of x.reply) k.sent);
             within = λ b. ⊎_elim
                 (λ i. subst (λ c. at' c ≤ length (journal c)) (sym i) (omega (arith, more, lt)))
                 (λ ne. omega (arith, others b ne, k.within b))

@@ -2,8 +2,9 @@
 use Rattle.std.proofs.Common.{◌≡◌, ℕ, ◌+◌, ◌<◌, false, cond, List, [], ◌∷◌, ◌++◌, length, take, Some, Ok, Err, sym, ap, subst, ◌∙◌, arith, length-append}
 use Rattle.std.specs.Prelude.{Result, nat_le, slice_get}
 use Rattle.std.proofs.lemmas.Bool.Decides.{nat_tests}
-use Rattle.std.proofs.lemmas.List.{take_more, take-append-drop}
-use Rattle.std.proofs.lemmas.Option.{slice_get_within, get_or_from_slice_get}
+use Rattle.std.proofs.lemmas.List.{take-append-drop}
+use Rattle.std.proofs.lemmas.Option.{slice_get_within}
+use Rattle.bottle_values.specs.ListLaws.{first_more}
 use Rattle.office_map.specs.PlanValue.{PlanValue}
 use Rattle.site_core.specs.Limits.{most_entries}
 use Rattle.site_core.specs.declared.event.Entry.{Entry}
@@ -12,16 +13,9 @@ use Rattle.site_core.specs.declared.reply.Refusal.{Refusal}
 use Rattle.site_core.specs.declared.reply.Refusal.TheVariants as refusal
 use Rattle.site_core.specs.Offices.{Office, answer, opened}
 use Rattle.site_core.specs.Journals.{Site, office_of, run_of, after, noted, recorded, AreAccepted, IsLegal}
+use Rattle.office_restarts.specs.ReopeningLaws.{legal_first}
 use Rattle.office_restarts.specs.Reopening.{site_with, IsCutAt}
 use Rattle.office_restarts.specs.refinement.Giving.{Gives}
-
--- what is accepted begins with what is accepted
-accepted_first : (plan : PlanValue) (me : ℕ) (o : Office) (xs ys : List Entry) → AreAccepted plan me o (xs ++ ys) → AreAccepted plan me o xs
-accepted_first plan me o [] ys h = tt
-accepted_first plan me o (x ∷ xs) ys (a, lt, h) = (a, lt, accepted_first plan me (after plan me o x.event) xs ys h)
-
-pub legal_first : (plan : PlanValue) (me : ℕ) (xs ys : List Entry) → IsLegal (site_with plan me (xs ++ ys)) → IsLegal (site_with plan me xs)
-legal_first plan me xs ys h = record { accepted = accepted_first plan me (opened plan me) xs ys h.accepted; few = omega (arith, h.few, length-append xs ys) }
 
 -- the answer to the last
 abbrev Last : PlanValue → ℕ → Office → Entry → Type 0
@@ -47,10 +41,6 @@ legal_gives s x h =
       tag = last.1;
       step = ap (recorded s x.tag x.event) last.0 ∙ ap (λ b. cond {A = Stepped} b (Err refusal.JournalFull, s) (Ok x.reply, noted s x.tag x.event x.reply)) room;
     }
-
--- one entry more of a list
-pub first_more : (xs : List Entry) (i : ℕ) (x : Entry) → slice_get xs i ≡ Some x → take (i + 1) xs ≡ take i xs ++ x ∷ []
-first_more xs i x at = take_more xs i x (slice_get_within xs i x at) ∙ ap (λ y. take i xs ++ y ∷ []) (get_or_from_slice_get xs i x x at)
 
 pub site_more : (plan : PlanValue) (me : ℕ) (xs : List Entry) (i : ℕ) (x : Entry) → slice_get xs i ≡ Some x → noted (site_with plan me (take i xs)) x.tag x.event x.reply ≡ site_with plan me (take (i + 1) xs)
 site_more plan me xs i x at = ap (site_with plan me) (sym (first_more xs i x at))

@@ -1,4 +1,4 @@
-pub mod LegalBeginnings
+mod LegalBeginnings
 mod Parts
 mod Kept
 mod Restarts

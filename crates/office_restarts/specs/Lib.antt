@@ -1,4 +1,5 @@
 pub mod Reopening
+pub mod ReopeningLaws
 pub mod Lives
 pub mod Restarts
 pub mod refinement

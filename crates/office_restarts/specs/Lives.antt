@@ -22,7 +22,7 @@ pub record Lives : Type 0 where
   pub stood : ℕ → ℕ
   pub left : List Fields
 
--- nothing yet
+-- before anything happened
 abbrev pub newborn : PlanValue → Lives
 newborn plan = record { plan = plan; journal = λ a. []; stood = λ a. 0; left = [] }
 
@@ -72,16 +72,18 @@ pub data Happening : Type 0 where
   Left : (a k : ℕ) → Happening
   Lost : (a n : ℕ) → Happening
 
+-- what each of these leaves
 abbrev pub after : Lives → Happening → Lives
 after l (Handed tag e) = happens l tag e
 after l (Stored a n) = record { plan = l.plan; journal = l.journal; stood = put l.stood a (min (l.stood a + n) (length (l.journal a))); left = l.left }
 after l (Left a k) = leaves l (slice_get (standing l a) k)
 after l (Lost a n) = record { plan = l.plan; journal = put l.journal a (take (l.stood a + n) (l.journal a)); stood = l.stood; left = l.left }
 
+-- what one after the other leave
 abbrev pub goes_on : Lives → List Happening → Lives
 goes_on l [] = l
 goes_on l (h ∷ hs) = goes_on (after l h) hs
 
--- what a history leaves
+-- what a history leaves, from the start on
 abbrev pub lived : PlanValue → List Happening → Lives
 lived plan = goes_on (newborn plan)

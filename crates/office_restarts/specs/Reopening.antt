@@ -17,7 +17,7 @@ pub record IsCutAt (plan : PlanValue) (me : ℕ) (entries : List Entry) (n : ℕ
   pub next : IsLegal (site_with plan me (take (n + 1) entries)) → ⊥
   pub whole : IsLegal (site_with plan me entries) → ⊥
 
--- why no office is opened: the entries are the journal of none, or memory ran out
+-- why an office isn't opened again: the entries are the journal of none, or memory ran out
 abbrev pub IsNoJournal : PlanValue → ℕ → List Entry → ReopenFault → Type 0
 IsNoJournal plan me entries (fault.NotGiven n) = IsCutAt plan me entries n
 IsNoJournal plan me entries fault.Memory = Unit {0}

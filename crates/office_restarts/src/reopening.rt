@@ -12,6 +12,9 @@ use std::alloc::{AllocError, Global};
 
 /// The office of which these entries are the journal. It is the one that had accepted them, and goes on where they end.
 ///
+/// It is opened by its own events, and not from a copy of its state: an office is its journal's end, so there is
+/// nothing else that could be wrong, and the reply of each entry is a check. A million entries take about a second.
+///
 /// # Errors
 /// `NotGiven` where no office has that journal, with how many of the entries one gives; `Memory`.
 pub fn reopened(

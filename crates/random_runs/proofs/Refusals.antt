@@ -13,7 +13,7 @@ use Rattle.session_meaning.specs.declared.ending.Ending.{Ending}
 use Rattle.session_machine.specs.Pieces.{ending_after}
 use Rattle.token_channel.specs.declared.fault.ChannelFault.{ChannelFault}
 use Rattle.drinking_core.specs.Drinkers as bottles
-use Rattle.site_core.specs.declared.session.Session.{Session}
+use Rattle.session_agenda.specs.declared.session.Session.{Session}
 use Rattle.site_core.specs.declared.rule.Rule.{Rule}
 use Rattle.site_core.specs.declared.rule.Rule.TheVariants as rule
 use Rattle.site_core.specs.declared.event.Event as office
@@ -26,7 +26,7 @@ use Rattle.site_core.specs.Pairs.{frame_fault}
 use Rattle.site_core.specs.Agenda.{Agenda, Current, Idle, Gathering, Working, unfinished, unfinished_current, is_full, submitted, first_needs, started, begun, worked, writes_of}
 use Rattle.site_core.specs.Offices.{Office, Answer, answer, submit, may, act, is_ours, framed, frame_on, unless_faulty, value_in}
 use Rattle.site_core.specs.Journals.{Site, office_of, noted, recorded, step, next_or}
-use Rattle.site_core.proofs.OfficeLimits.{office_noted}
+use Rattle.site_core.specs.JournalLaws.{office_noted}
 use Rattle.frame_world.specs.declared.event.WorldEvent.{WorldEvent}
 use Rattle.frame_world.specs.declared.event.WorldEvent.TheVariants as happening
 use Rattle.frame_world.specs.declared.refusal.WorldRefusal.TheVariants as refusal

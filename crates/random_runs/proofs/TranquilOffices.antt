@@ -1,7 +1,7 @@
 -- An office that neither waits for bottles nor drinks has no session.
 use Rattle.std.proofs.Common.{◌≡◌, ℕ, ◌+◌, Bool, true, false, cond, List, [], ◌∷◌, Option, None, Some, Ok, Err, refl, sym, ap, subst, ◌∙◌, ⊎_elim}
 use Rattle.std.proofs.lemmas.Bool.{cases_eq}
-use Rattle.bottle_values.proofs.Maps.{put_at, put_other}
+use Rattle.bottle_values.specs.MapLaws.{put_at, put_other}
 use Rattle.frame_codec.specs.Frame.{Fields}
 use Rattle.frame_codec.specs.declared.message.Msg.{Msg}
 use Rattle.frame_codec.specs.declared.message.Msg.TheVariants as msg
@@ -11,7 +11,7 @@ use Rattle.window_link.specs.declared.arrival.Arrival.TheVariants as arrival
 use Rattle.token_channel.specs.declared.fault.ChannelFault.{ChannelFault}
 use Rattle.drinking_core.specs.Drinkers.{Drinker}
 use Rattle.drinking_core.specs.Drinkers as bottles
-use Rattle.site_core.specs.declared.session.Session.{Session}
+use Rattle.session_agenda.specs.declared.session.Session.{Session}
 use Rattle.site_core.specs.declared.rule.Rule.{Rule}
 use Rattle.site_core.specs.declared.rule.Rule.TheVariants as rule
 use Rattle.site_core.specs.declared.event.Event as office
@@ -22,11 +22,12 @@ use Rattle.site_core.specs.Pairs.{Pairs, bottle_came, drinker_after, frame_fault
 use Rattle.site_core.specs.Agenda.{Idle, first_needs, started, submitted, worked, is_full}
 use Rattle.site_core.specs.Offices.{Office, answer, may, act, is_ours, framed, frame_on, unless_faulty}
 use Rattle.site_core.specs.Journals.{next_or}
-use Rattle.site_core.proofs.KeptMessages.{through_taking}
-use Rattle.site_core.proofs.Withdrawing.{either_withdrawn, after_withdrawal}
+use Rattle.neighbour_pairs.specs.PairLaws.{through_taking}
+use Rattle.site_core.specs.WithdrawalLaws.{either_withdrawn, after_withdrawal}
 use Rattle.frame_world.specs.Worlds.{World, office_at}
 use Rattle.frame_world.specs.Headline.{IsReached}
-use Rattle.frame_world.proofs.Steps.{State, IsAccepted, through}
+use Rattle.frame_world.specs.WorldStates.{State, IsAccepted}
+use Rattle.frame_world.specs.WorldLaws.{through}
 
 abbrev pub Rests : Office → Type 0
 Rests o = bottles.is_tranquil o.pairs.drinker.phase ≡ true → o.agenda.current ≡ Idle

@@ -10,6 +10,10 @@
 //!
 //! Which of these events are drawn is no promise; tests show it. What a run may be is in `specs/Runs.antt`, over the world of
 //! `frame_world`; what is printed in the crate `run_reports`.
+//!
+//! Not said: which events are drawn, how many, and that one seed gives one run; in which order the sessions of one
+//! office are submitted; how many frames are lost where the loss is below 100; of which messages frames are made; that
+//! memory ran out where it is said. A clause on the draws would be the program written again.
 #![tactic(auto)]
 
 mod draws;

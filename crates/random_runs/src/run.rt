@@ -11,7 +11,7 @@ use crate::steps::step;
 use crate::submission::{all_of, submit_waiting};
 use office_map::Plan;
 use run_reports::world::add_world;
-use session_language::Program;
+use session_programs::Program;
 use std::alloc::{AllocError, Global};
 use world_schedule::World;
 
@@ -62,6 +62,9 @@ pub fn run(
 
 /// One step, where fewer than all sessions have finished; and where one finishes by it, those that wait are submitted that an
 /// office takes now.
+///
+/// An office refuses a session as long as none of its own finishes (that one starts leaves as many that are
+/// unfinished), so only then are those that wait submitted again, in the same step.
 fn go_on(
     world: &mut World,
     waiting: &mut Vec<&Program>,

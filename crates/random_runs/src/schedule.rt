@@ -1,7 +1,7 @@
 //! What a run is drawn from.
 
 /// What a run is drawn from.
-#[derive(Clone, Copy, Debug, PartialEq, Eq)]
+#[derive(Clone, Copy, PartialEq, Eq)]
 pub struct Schedule {
     /// The seed of the generator: one seed gives one run.
     pub seed: u64,

@@ -17,6 +17,9 @@ const LAST_FRAMES: usize = 64;
 
 /// An office does the rule that comes next there, or it sends a message that waits, or a frame comes; or the frame is lost.
 /// Which of these, where, and what, is drawn. Where there is none of the kind that was drawn, nothing happens.
+///
+/// The kind is drawn first, one of three, each as likely; then the office of a rule or of a sending, and then one of
+/// the messages that wait there, for whichever neighbour.
 pub(crate) fn step(world: &mut World, draws: &mut Draws, loss: u64) -> Result<(), AllocError>
     ensures { Steps loss world.old world.new }
 {
@@ -55,6 +58,10 @@ fn send(world: &mut World, draws: &mut Draws) -> Result<(), AllocError>
 }
 
 /// A drawn one of the last frames comes, unless it is lost.
+///
+/// The frame is drawn first, counted back from the last one, and then a number below a hundred: it is lost where that
+/// is below the loss. A frame that was lost may be drawn again: it stays among the last. One of the count alone is
+/// never made here, so counts go with messages.
 fn deliver(world: &mut World, draws: &mut Draws, loss: u64) -> Result<(), AllocError>
     ensures { Steps loss world.old world.new }
 {

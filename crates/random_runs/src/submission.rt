@@ -6,7 +6,7 @@ ghost use Rattle.frame_world.specs.Worlds.{happens, run_of};
 ghost use Rattle.random_runs.specs.Runs.{IsRefused, Leads};
 
 use crate::steps::unless_memory;
-use session_language::Program;
+use session_programs::Program;
 use std::alloc::{AllocError, Global};
 use world_schedule::World;
 

@@ -1,19 +1,12 @@
--- Rows for each number below another, and parts that are added.
-use Rattle.std.proofs.Common.{◌≡◌, ◌+◌, ℕ, zero, suc, List, [], ◌∷◌, ◌++◌, take, Some, sym, ap, ◌∙◌, append_assoc, arith}
+-- Parts and lines that are added.
+use Rattle.std.proofs.Common.{◌≡◌, ◌+◌, ℕ, List, [], ◌∷◌, ◌++◌, take, Some, sym, ap, ◌∙◌, append_assoc}
 use Rattle.std.specs.Prelude.{slice_get}
-use Rattle.std.specs.List.{flat_map, range_with_len}
+use Rattle.std.specs.List.{flat_map}
 use Rattle.std.proofs.lemmas.List.{append-nil, take_more}
 use Rattle.std.proofs.lemmas.List.Concat.{flat_map-append}
 use Rattle.std.proofs.lemmas.Option.{slice_get_within, get_or_from_slice_get}
 use Rattle.session_meaning.specs.declared.ending.End.TheVariants.{Done}
 use Rattle.session_meaning.specs.declared.ending.Outcome.{Outcome}
-
-last : (f : ℕ → List ℕ) (a n j : ℕ) → a + n ≡ j → flat_map f (range_with_len a (suc n)) ≡ flat_map f (range_with_len a n) ++ f j
-last f a zero j e = let here : a ≡ j = omega (arith, e) in append-nil (f a) ∙ ap f here
-last f a (suc n) j e = ap (λ rows. f a ++ rows) (last f (a + 1) n j (omega (arith, e))) ∙ sym (append_assoc (f a) _ (f j))
-
-pub rows_more : (f : ℕ → List ℕ) (n : ℕ) → flat_map f (range_with_len 0 (n + 1)) ≡ flat_map f (range_with_len 0 n) ++ f n
-rows_more f n = let more : n + 1 ≡ suc n = omega arith in ap (λ k. flat_map f (range_with_len 0 k)) more ∙ last f 0 n n (omega arith)
 
 -- three parts, added one after the other
 pub three_added : (old a b c first second third : List ℕ) → first ≡ old ++ a → second ≡ first ++ b → third ≡ second ++ c → third ≡ old ++ (a ++ (b ++ c))

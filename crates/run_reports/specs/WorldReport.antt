@@ -1,17 +1,13 @@
 -- The report of a world: what is printed of the sessions and the records of all offices.
-use Rattle.std.specs.Prelude.{ℕ, List, [], ◌∷◌, ◌++◌, codes, get_or}
+use Rattle.std.specs.Prelude.{ℕ, List, ◌++◌, get_or}
 use Rattle.std.specs.List.{flat_map}
-use Rattle.std.specs.Fmt.{decimal}
 use Rattle.bottle_values.specs.Values.{Value}
 use Rattle.bottle_values.specs.Operations.{nought}
 use Rattle.frame_world.specs.Worlds.{World}
 use Rattle.frame_world.specs.Ways.{bottles_of}
 use Rattle.frame_world.specs.Headline.{outcomes}
-use Rattle.run_reports.specs.Report.{outcome_line, value_lines}
-
--- unfinished N
-abbrev pub unfinished_line : ℕ → List ℕ
-unfinished_line n = codes "unfinished " ++ (decimal n ++ 10 ∷ [])
+use Rattle.session_reports.specs.Report.{outcome_line, value_lines}
+pub use Rattle.session_reports.specs.Report.{unfinished_line}
 
 -- the value of a record: that of its bottle
 abbrev pub bottle_value : World → ℕ → Value

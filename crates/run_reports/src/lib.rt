@@ -1,13 +1,11 @@
-//! What is printed of sessions and of records, whoever ran them.
+//! What is printed of all offices: the finished sessions, how many haven't finished, and the values.
 //!
-//! - [`report::report`] has a line for each outcome, in the order in which they are given, and then a line for each record.
-//! - [`report::add_outcome`] and [`report::add_value`] add one such line to a text.
-//! - [`world::add_world`] adds what is printed of all offices: the finished sessions, how many haven't finished, and the
-//!   values.
+//! [`world::add_world`] adds that report of a world to a text: `world_report` of `specs/WorldReport.antt`. Its lines are those of
+//! `session_reports`, whose [`report`] is passed on.
 //!
-//! The lines are those of `specs/Report.antt`, with the names of a plan; the report of a world is in
-//! `specs/WorldReport.antt`.
+//! Not said: what is in a text where memory ran out.
 #![tactic(auto)]
 
-pub mod report;
 pub mod world;
+
+pub use session_reports::report;

@@ -5,11 +5,13 @@ ghost use Rattle.std.specs.List.{flat_map};
 ghost use Rattle.std.specs.String.{string_bytes};
 ghost use Rattle.session_meaning.specs.declared.ending.Outcome.{Outcome};
 ghost use Rattle.frame_world.specs.Headline.{outcomes};
-ghost use Rattle.run_reports.specs.Report.{outcome_line, value_lines};
-ghost use Rattle.run_reports.specs.WorldReport.{bottle_value, unfinished_line, world_report};
+ghost use Rattle.session_reports.specs.Report.{outcome_line, value_lines};
+ghost use Rattle.run_reports.specs.WorldReport.{bottle_value, world_report};
 
-use crate::report::{add_outcome, add_value};
 use office_map::RecordId;
+use session_reports::laws::rows_are_added;
+pub use session_reports::report::add_unfinished;
+use session_reports::report::{add_outcome, add_value};
 use std::alloc::AllocError;
 use world_schedule::World;
 
@@ -43,16 +45,10 @@ fn add_nth(text: &mut String, world: &World, i: usize) -> Result<(), AllocError>
     }
 }
 
-/// The line that says how many sessions haven't finished is added. Where memory runs out, a part of it may be.
-pub fn add_unfinished(text: &mut String, count: usize) -> Result<(), AllocError>
-    ensures { OnOk result (string_bytes text.new ≡ string_bytes text.old ++ unfinished_line count) }
-{
-    writeln!(text, "unfinished {count}")
-}
-
 fn add_bottles(text: &mut String, world: &World) -> Result<(), AllocError>
     ensures { OnOk result (string_bytes text.new ≡ string_bytes text.old ++ value_lines world.now.plan (bottle_value world.now)) }
 {
+    rows_are_added();
     let plan = world.plan();
     for i in 0..plan.records() {
         let id = RecordId::new(i as u16);

@@ -7,13 +7,13 @@ use Rattle.std.proofs.lemmas.List.Sums.{AllPass-from_list_all, list_all-from_All
 use Rattle.hex.specs.Hex.{decode_of, is_hex_digit}
 use Rattle.hex.specs.declared.error.FromHexError.{FromHexError}
 use Rattle.hex.proofs.HexLemmas.{decode_of-ok, decode_of-odd, decode_of-digits}
+use Rattle.bottle_values.specs.ListLaws.{all_weaker}
 use Rattle.frame_codec.specs.declared.fault.FrameFault.{FrameFault}
 use Rattle.frame_codec.specs.declared.message.Msg.{Msg}
 use Rattle.frame_codec.specs.declared.message.Msg.TheVariants.{AskFork, Fork, AskBottle, Bottle}
 use Rattle.frame_codec.specs.Frame.{Fields}
 use Rattle.frame_codec.specs.Header.{header, kind_of}
 use Rattle.frame_codec.specs.Version01.{Spells, spelling, body}
-use Rattle.session_language.proofs.canonical.Lexemes.{all_weaker}
 use Rattle.run_words.specs.Words.{is_visible, is_word}
 use Rattle.run_words.specs.Digits.{bytes_in}
 

@@ -4,6 +4,7 @@ use Rattle.std.specs.Prelude.{slice_get}
 use Rattle.std.specs.Fmt.{decimal}
 use Rattle.std.proofs.lemmas.Bool.Decides.{nat_tests}
 use Rattle.std.proofs.lemmas.Option.{slice_get-get_or}
+use Rattle.bottle_values.specs.ListLaws.{all_weaker}
 use Rattle.bottle_values.specs.Operations.{nought}
 use Rattle.office_map.specs.declared.entries.OfficeEntry.{OfficeEntry}
 use Rattle.office_map.specs.declared.entries.RecordEntry.{RecordEntry}
@@ -11,7 +12,7 @@ use Rattle.office_map.specs.PlanValue.{PlanValue, office_named, record_named}
 use Rattle.office_map.specs.Consistency.{IsConsistent}
 use Rattle.office_map.specs.PlanText.{and_then}
 use Rattle.text_lines.specs.Text.{is_name, is_name_byte, name_of}
-use Rattle.session_language.proofs.canonical.Lexemes.{IsWord, all_weaker, number_is_word, number_again, name_bytes, name_again}
+use Rattle.session_language.proofs.canonical.Lexemes.{IsWord, number_is_word, number_again, name_bytes, name_again}
 use Rattle.session_language.proofs.canonical.NameResolution.{office_found, record_found, office_is_named, record_is_named}
 use Rattle.run_words.specs.Words.{office_name, record_name, office_by, record_by, counted, count_by, is_visible, is_word}
 

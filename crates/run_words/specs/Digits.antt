@@ -7,7 +7,7 @@ use Rattle.frame_codec.specs.Version01.{Spells, spelling}
 use Rattle.run_words.specs.declared.digits.FrameWord.{FrameWord}
 use Rattle.run_words.specs.declared.digits.FrameWord.TheVariants.{Spelled, NoFrame, NoDigits}
 
--- the digits of bytes, with lower-case letters
+-- the digits of bytes, two for each, with lower-case letters
 abbrev pub digits_of : List ℕ → List ℕ
 digits_of = encode_lower
 
@@ -15,7 +15,7 @@ digits_of = encode_lower
 abbrev pub bytes_in : List ℕ → Option (List ℕ)
 bytes_in word = result_ok (decode_of word)
 
--- the digits of a frame
+-- the digits of a frame's one spelling
 abbrev pub frame_digits : Fields → List ℕ
 frame_digits f = digits_of (spelling f)
 

@@ -12,6 +12,7 @@ abbrev pub frame_words : Option ℕ → List ℕ → List (List ℕ)
 frame_words None digits = codes "frame" ∷ digits ∷ []
 frame_words (Some k) digits = codes "frame" ∷ decimal k ∷ digits ∷ []
 
+-- a reply's words
 abbrev pub reply_words : Option ℕ → Reply → List (List ℕ)
 reply_words k (reply.Ticket t) = codes "ticket" ∷ decimal t ∷ []
 reply_words k reply.Done = codes "done" ∷ []
@@ -22,7 +23,7 @@ reply_words k reply.Repeat = codes "repeat" ∷ []
 reply_words k reply.Kept = codes "kept" ∷ []
 reply_words k reply.Early = codes "early" ∷ []
 
--- what a frame that came was
+-- what a word says of a frame that came
 abbrev pub arrival_named : List ℕ → Option Reply
 arrival_named name =
     if bytes_eq name (codes "acked") then Some reply.Acked

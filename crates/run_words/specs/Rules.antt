@@ -12,6 +12,7 @@ use Rattle.run_words.specs.Words.{office_name, record_name, office_by, record_by
 
 -- ---- read
 
+-- the rule that a word says by itself
 abbrev pub rule_named : List ℕ → Option Rule
 rule_named name =
     if bytes_eq name (codes "start") then Some rule.Start
@@ -21,7 +22,8 @@ rule_named name =
     else (if bytes_eq name (codes "drink") then Some rule.Drink
     else (if bytes_eq name (codes "finish") then Some rule.Finish else None)))))
 
--- askfork OFFICE, givefork OFFICE, askbottle RECORD, givebottle RECORD, work N
+-- The rule that a word says with one that names an office, a record or a number: askfork OFFICE, givefork OFFICE,
+-- askbottle RECORD, givebottle RECORD, work N.
 abbrev pub rule_with : PlanValue → List ℕ → List ℕ → Option Rule
 rule_with p name argument =
     if bytes_eq name (codes "askfork") then option_map rule.AskFork (office_by p argument)
@@ -38,6 +40,7 @@ rule_of p words = None
 
 -- ---- written
 
+-- the words of a rule
 abbrev pub rule_words : PlanValue → Rule → List (List ℕ)
 rule_words p rule.Start = codes "start" ∷ []
 rule_words p rule.Hungry = codes "hungry" ∷ []

@@ -12,7 +12,7 @@ use hex::FromHexError;
 use std::alloc::{AllocError, Global};
 
 /// What a word says where a frame stands.
-#[derive(Clone, Copy, Debug, PartialEq, Eq)]
+#[derive(Clone, Copy, PartialEq, Eq)]
 pub enum FrameWord {
     /// The frame that its digits spell.
     Spelled(Frame),

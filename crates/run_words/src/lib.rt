@@ -8,6 +8,10 @@
 //!
 //! Which words say what is in `specs/`: `Words.antt`, `Rules.antt`, `Replies.antt` and `Digits.antt`. Lines, names and numbers
 //! are those of `text_lines`, a frame's bytes those of `frame_codec`.
+//!
+//! Not said: anything of rules whose office or record the plan hasn't, or whose piece of work isn't allowed. The code
+//! and the name of a refusal stand in the crate that refuses (`text` of each fault), and what is printed of it is that
+//! text.
 #![tactic(auto)]
 
 pub mod digits;

@@ -2,9 +2,10 @@
 
 ghost use Rattle.std.specs.Prelude.{◌≡◌, ◌≤◌, IfSome};
 ghost use Rattle.std.specs.Str.{bytes_eq};
-ghost use Rattle.run_words.specs.Words.{office_by, record_by, count_by, office_name, record_name};
+ghost use Rattle.run_words.specs.Words.{office_by, record_by, count_by};
 
 use office_map::{OfficeId, Plan, RecordId};
+pub use session_reports::names::{office_name, record_name};
 use text_lines::{name, number};
 
 /// Whether a word is this text.
@@ -53,26 +54,4 @@ fn counted(most: u64, word: &[u8]) -> Option<u64>
         return None;
     }
     Some(n)
-}
-
-/// An office's name, or nothing where the plan has no such office.
-pub fn office_name(plan: &Plan, id: OfficeId) -> &str
-    ensures { result.now ≡ office_name plan.now id }
-{
-    if id.index() < plan.offices() {
-        plan.office_name(id)
-    } else {
-        ""
-    }
-}
-
-/// A record's name, or nothing where the plan has no such record.
-pub fn record_name(plan: &Plan, id: RecordId) -> &str
-    ensures { result.now ≡ record_name plan.now id }
-{
-    if id.index() < plan.records() {
-        plan.record_name(id)
-    } else {
-        ""
-    }
 }

@@ -19,7 +19,8 @@ use Rattle.frame_world.specs.declared.refusal.WorldRefusal.TheVariants as refusa
 use Rattle.frame_world.specs.Worlds.{World, Answer, site_at, office_at, told, happens}
 use Rattle.frame_world.specs.Worlds as worlds
 use Rattle.frame_world.specs.Headline.{IsReached}
-use Rattle.frame_world.proofs.Steps.{IsSeated, seated, happens_leaves}
+use Rattle.frame_world.specs.WorldStates.{IsSeated}
+use Rattle.frame_world.specs.WorldLaws.{seated, happens_leaves}
 use Rattle.script_runs.specs.declared.said.Said.{Said}
 use Rattle.script_runs.specs.declared.said.Said.TheVariants.{Replied, Rules, Settled, Open}
 use Rattle.script_runs.specs.Runs.{Told, advanced, by_rule, further}

@@ -67,16 +67,18 @@ abbrev pub settled : World → ℕ → ℕ → Told
 settled w done zero = (Ok (at_most done (next_step w)), w)
 settled w done (suc left) = by_step (λ v. settled v (done + 1) left) w done (stepped w (next_step w))
 
+-- what is said of an act, and the world then
 abbrev pub does : World → Act → Told
 does w (Happens e) = replied (happens w e)
 does w (Advances a n) = if nat_lt a (length w.plan.offices) then advanced w a 0 n else (Err refusal.NoOffice, w)
 does w (Settles n) = settled w 0 n
 
--- one after the other
+-- one act after the other
 abbrev pub run_of : World → List Act → World
 run_of w [] = w
 run_of w (x ∷ xs) = run_of (does w x).1 xs
 
+-- all that is said of acts, one after the other
 abbrev pub all_told : World → List Act → List Told
 all_told w [] = []
 all_told w (x ∷ xs) = does w x ∷ all_told (does w x).1 xs

@@ -114,10 +114,11 @@ act_with programs (event.Settle n) = Some (Settles n)
 act_with programs (event.Send office neighbour i) = Some (Happens (happening.Send office neighbour i))
 act_with programs (event.Deliver k) = Some (Happens (happening.Deliver k))
 
+-- what a list of a script's events asks for
 abbrev pub acts_with : List ProgramValue → List ScriptEvent → List Act
 acts_with programs = filter_map (act_with programs)
 
--- what a line asks for
+-- what a line of a script asks for, under a plan and programs
 abbrev pub act_of : PlanValue → List ProgramValue → List ℕ → Option Act
 act_of p programs line = and_then (said_of p line) (act_with programs)
 
@@ -125,7 +126,7 @@ act_of p programs line = and_then (said_of p line) (act_with programs)
 abbrev pub AreActs : PlanValue → List ProgramValue → List (ℕ × List ℕ) → List Act → Type 0
 AreActs p programs lines acts = map (λ l. act_of p programs l.1) lines ≡ map Some acts
 
--- a text of at most 16 MiB that asks for these
+-- a text of at most 16 MiB that asks for these, one for each line that says something
 pub record IsScript (p : PlanValue) (programs : List ProgramValue) (text : List ℕ) (acts : List Act) : Type 0 where
   pub short : length text ≤ most_bytes
   pub each : AreActs p programs (statements text) acts
@@ -140,7 +141,7 @@ pub record IsFirstFault (p : PlanValue) (programs : List ProgramValue) (text : L
   pub good : AreActs p programs before acts
   pub faulty : act_of p programs line ≡ None
 
--- a text that is too long, or its first faulty line
+-- a text that is too long, or its first faulty line, where each line before it asks for something
 abbrev pub RefusesScript : PlanValue → List ProgramValue → List ℕ → ScriptRefusal → Type 0
 RefusesScript p programs text r =
     ((most_bytes < length text) × (r.line ≡ 0)) ⊎ ((length text ≤ most_bytes) × IsFirstFault p programs text r.line)

@@ -40,6 +40,7 @@ Ends most done w (Ok (Replied r), v) = ⊥
 Ends most done w (Ok (Rules n), v) = ⊥
 Ends most done w (Err r, v) = (done < most) × IsRefused w (events_of w (next_step w)) r v × (((a : ℕ) → HasRoom w a) → ⊥)
 
+-- What a world does that is left to itself: such steps, just as many as are told, and then it ends so.
 pub record Settles (w : World) (most : ℕ) (told : Told) : Type 0 where
   pub steps : List NextStep
   pub world : World

@@ -31,6 +31,7 @@ said_text k (Err r) = codes "refused " ++ refusal_text r
 abbrev pub said_line : ℕ → Result Said WorldRefusal → List ℕ
 said_line k said = said_text k said ++ 10 ∷ []
 
+-- the line of what is told of an act
 abbrev pub told_line : Told → List ℕ
 told_line t = said_line (length t.1.frames) t.0
 
@@ -40,7 +41,8 @@ told_line t = said_line (length t.1.frames) t.0
 abbrev pub told_report : World → List ℕ
 told_report w = world_report w (unfinished_in w)
 
--- a line for each act of the run from the plan's opening, and then the report of the world that it leads to
+-- A line for each act of the run from the plan's opening, and then the report of the world that it leads to, with how
+-- many submitted sessions haven't finished.
 abbrev pub transcript : PlanValue → List Act → List ℕ
 transcript p acts = flat_map told_line (all_told (opening p) acts) ++ told_report (run_of (opening p) acts)
 

@@ -4,7 +4,7 @@ use office_map::OfficeId;
 use site_core::Rule;
 
 /// An event of a script. However many events submit a session, its program is kept once.
-#[derive(Clone, Copy, Debug, PartialEq, Eq)]
+#[derive(Clone, Copy, PartialEq, Eq)]
 pub enum ScriptEvent {
     /// The session with this number in the file, from 1, is submitted at its office.
     Submit(u64),

@@ -13,6 +13,12 @@
 //! Which acts a line asks for is in `specs/Script.antt`, what they do in `specs/Runs.antt`, over the world of
 //! `frame_world`; what is printed in `specs/Transcript.antt`. The words of rules, offices and records are those of
 //! `run_words`, the lines of outcomes and of values those of `run_reports`.
+//!
+//! A script asks for acts: an event of the world, or that offices go on, left to themselves. `advance` and `settle` are
+//! no events of the world: what they do depends on where the offices are.
+//!
+//! Not said: that a number of steps suffices; by which code a step is refused. Events whose sessions, offices or
+//! records aren't there have no line that reads back.
 #![tactic(auto)]
 
 mod event;

@@ -3,7 +3,7 @@
 use site_core::Reply;
 
 /// What is said of an event that was accepted.
-#[derive(Clone, Copy, Debug, PartialEq, Eq)]
+#[derive(Clone, Copy, PartialEq, Eq)]
 pub enum Said {
     /// What the office replied.
     Replied(Reply),

@@ -10,12 +10,15 @@ use crate::limits::{MAX_BYTES, MAX_RULES, MAX_STEPS};
 use office_map::{OfficeId, Plan};
 use run_words::rules::{rule_named, rule_with};
 use run_words::words::{count_by, great_count_by, is, office_by};
-use session_language::Program;
+use session_programs::Program;
 use site_core::Rule;
 use std::alloc::{AllocError, Global};
 use text_lines::{Statements, is_plain, number, words};
 
 /// The events that a script means under a plan, where these are the programs of the file of sessions.
+///
+/// What a script means is a relation: its lines don't depend on each other, so the definition says which event each
+/// line means, and that the events are those of the lines, in order. The contract ties the loop to it.
 ///
 /// # Errors
 /// The first faulty line is refused, or a text that is too long.

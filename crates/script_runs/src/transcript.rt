@@ -19,7 +19,7 @@ use frame_world::{NextStep, WorldRefusal};
 use office_map::{OfficeId, Plan};
 use run_reports::world::add_world;
 use run_words::replies::add_reply;
-use session_language::Program;
+use session_programs::Program;
 use site_core::Reply;
 use std::alloc::{AllocError, Global};
 use world_schedule::{Resting, World};
@@ -133,6 +133,9 @@ fn advance(world: &mut World, office: OfficeId, n: u16) -> Result<Said, WorldRef
 }
 
 /// The world does so many steps at most, left to itself.
+///
+/// At its last step it asks once more what comes next, so it tells `finished` wherever no session is left. That no
+/// session is left is no step: it tells how many were done while one was, and goes no further.
 fn settle(world: &mut World, most: u32) -> Result<Said, WorldRefusal>
     ensures { Says (does world.old (scripts.Settles most)) result world.new }
 {
@@ -190,6 +193,8 @@ fn send_and_deliver(
 }
 
 /// The line of what is said, where so many frames were sent.
+///
+/// So a frame is named by the number by which it can be delivered.
 fn add_said(
     text: &mut String,
     frames: usize,

@@ -9,7 +9,7 @@ use Rattle.bottle_values.specs.Values.{Value}
 use Rattle.frame_codec.specs.Frame.{Fields}
 use Rattle.office_map.specs.declared.entries.RecordEntry.{RecordEntry}
 use Rattle.office_map.specs.PlanValue.{PlanValue, are_neighbours, ends_of, is_end, has_end, has_ends, lies_between, peer}
-use Rattle.office_map.proofs.RecordEnds.{near_both, has_ends_both, peer_is}
+use Rattle.office_map.specs.NeighbourLaws.{near_both, has_ends_both, peer_is}
 use Rattle.serial_replay.specs.Serial.{start_map, map_of}
 use Rattle.site_core.specs.Journals.{Site, office_of}
 use Rattle.frame_world.specs.Worlds.{World, site_at, silent}

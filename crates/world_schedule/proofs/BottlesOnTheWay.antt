@@ -11,7 +11,7 @@ use Rattle.office_map.specs.PlanValue.{are_neighbours, is_end, peer}
 use Rattle.token_channel.specs.declared.thing.Thing.TheVariants.{Bottle}
 use Rattle.token_channel.specs.Things.{count_carrying}
 use Rattle.window_link.specs.Links.{LinkState}
-use Rattle.site_core.specs.Readers.{TellsBottle}
+use Rattle.token_channel.specs.WaitingBottle.{TellsBottle}
 use Rattle.site_core.specs.Journals.{Site, office_of}
 use Rattle.frame_world.specs.Ways.{untaken, bottles_in}
 use Rattle.world_schedule.specs.refinement.Bottles.{bottles_toward, LiesBetween}

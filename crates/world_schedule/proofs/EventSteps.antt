@@ -29,10 +29,11 @@ use Rattle.site_core.specs.Agenda.{Current, Idle, Gathering, Working, writes_of,
 use Rattle.site_core.specs.Offices.{Office, Answer, may, act, is_ours, answer, unless_faulty, may_withdraw, withdrawn, withdraw, done_if}
 use Rattle.site_core.specs.Journals.{Site, next_or, office_of, noted, Steps, IsLegal}
 use Rattle.site_core.specs.Tickets.{SessionsGoInOrder}
-use Rattle.site_core.proofs.OfficeLimits.{legal_empty, office_noted}
+use Rattle.site_core.specs.JournalLaws.{legal_empty, office_noted}
 use Rattle.frame_world.specs.declared.refusal.WorldRefusal.{WorldRefusal}
 use Rattle.frame_world.specs.Worlds.{Finished, silent, frames_of, finished_by, ended, ended_as}
-use Rattle.frame_world.proofs.RisingTickets.{IsBelow, office_tickets_rise}
+use Rattle.frame_world.specs.Tickets.{IsBelow}
+use Rattle.frame_world.specs.TicketLaws.{office_tickets_rise}
 use Rattle.frame_world.proofs.Tickets.{outcomes_grow}
 use Rattle.world_schedule.specs.declared.finished.Finished as mark
 use Rattle.world_schedule.specs.Readers.{listed_as}

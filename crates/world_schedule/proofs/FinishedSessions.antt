@@ -6,7 +6,7 @@ use Rattle.std.proofs.lemmas.List.{map-append, length-append, length-map}
 use Rattle.std.proofs.lemmas.List.Elements.{All-nil, All-cons, All-head, All-tail, All-append}
 use Rattle.office_map.specs.PlanValue.{PlanValue}
 use Rattle.session_meaning.specs.declared.ending.Outcome.{Outcome}
-use Rattle.site_core.specs.declared.session.Session.{Session}
+use Rattle.session_agenda.specs.declared.session.Session.{Session}
 use Rattle.site_core.specs.declared.event.Event.{Event}
 use Rattle.site_core.specs.declared.event.Entry.{Entry}
 use Rattle.site_core.specs.declared.reply.Reply.{Reply}
@@ -16,8 +16,9 @@ use Rattle.site_core.specs.Journals.{Site, after, run_of, office_of, noted, AreA
 use Rattle.site_core.specs.Readers.{outcome_with}
 use Rattle.site_core.specs.Tickets.{current_tickets, Rise, SessionsGoInOrder}
 use Rattle.frame_world.specs.Worlds.{Finished, finished_by}
-use Rattle.frame_world.proofs.RisingTickets.{IsBelow}
-use Rattle.frame_world.proofs.Tickets.{finished_at, outcomes_grow}
+use Rattle.frame_world.specs.Tickets.{IsBelow}
+use Rattle.frame_world.specs.TicketLaws.{finished_at}
+use Rattle.frame_world.proofs.Tickets.{outcomes_grow}
 use Rattle.world_schedule.specs.refinement.WorldOfCode.{finishes, finished_from, finished_of, has_ticket}
 
 abbrev pub outcomes_in : List Finished → List Outcome

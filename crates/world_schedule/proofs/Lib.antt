@@ -1,13 +1,13 @@
-pub mod FinishedSessions
-pub mod SiteSteps
-pub mod Asking
-pub mod WorldSteps
-pub mod EventSteps
-pub mod Runs
-pub mod Finishing
-pub mod BottlesOnTheWay
-pub mod BottleValues
-pub mod Headline
-pub mod LinkPeers
-pub mod RestingOffices
-pub mod NextSteps
+mod FinishedSessions
+mod SiteSteps
+mod Asking
+mod WorldSteps
+mod EventSteps
+mod Runs
+mod Finishing
+mod BottlesOnTheWay
+mod BottleValues
+mod Headline
+mod LinkPeers
+mod RestingOffices
+mod NextSteps

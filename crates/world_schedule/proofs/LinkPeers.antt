@@ -1,7 +1,7 @@
 -- The link of an office to another is to that other, along its whole journal.
 use Rattle.std.proofs.Common.{◌≡◌, ℕ, ◌+◌, Bool, true, false, cond, List, [], ◌∷◌, Option, None, Some, Ok, Err, refl, sym, ◌∙◌}
 use Rattle.bottle_values.specs.Maps.{put}
-use Rattle.bottle_values.proofs.Maps.{put_cases}
+use Rattle.bottle_values.specs.MapLaws.{put_cases}
 use Rattle.frame_codec.specs.declared.message.Msg.{Msg}
 use Rattle.frame_codec.specs.declared.message.Msg.TheVariants as msg
 use Rattle.frame_codec.specs.Frame.{Fields}
@@ -22,8 +22,8 @@ use Rattle.site_core.specs.Pairs.{Pairs, queued_to, sent, bottle_sends, frame_fa
 use Rattle.site_core.specs.Agenda.{is_full, submitted}
 use Rattle.site_core.specs.Offices.{Office, Answer, may, act, is_ours, framed, frame_on, unless_faulty, opened}
 use Rattle.site_core.specs.Journals.{Site, next_or, after, run_of, office_of}
-use Rattle.site_core.proofs.KeptMessages.{through_taking}
-use Rattle.site_core.proofs.Withdrawing.{either_withdrawn, after_withdrawal}
+use Rattle.neighbour_pairs.specs.PairLaws.{through_taking}
+use Rattle.site_core.specs.WithdrawalLaws.{either_withdrawn, after_withdrawal}
 
 abbrev ArePeers : (ℕ → LinkState) → Type 0
 ArePeers link = (v : ℕ) → (link v).peer ≡ v

@@ -21,7 +21,7 @@ use Rattle.site_core.specs.Offices.{Office, answer, framed, frame_on}
 use Rattle.site_core.specs.Offices as answers
 use Rattle.site_core.specs.Journals.{Site, office_of, noted, recorded, step, next_or}
 use Rattle.site_core.specs.RuleOrder.{next_rule}
-use Rattle.site_core.proofs.OfficeLimits.{office_noted}
+use Rattle.site_core.specs.JournalLaws.{office_noted}
 use Rattle.frame_world.specs.declared.event.WorldEvent.TheVariants as happening
 use Rattle.frame_world.specs.declared.refusal.WorldRefusal.{WorldRefusal}
 use Rattle.frame_world.specs.declared.refusal.WorldRefusal.TheVariants as refusal

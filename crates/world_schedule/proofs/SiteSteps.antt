@@ -7,7 +7,7 @@ use Rattle.site_core.specs.declared.reply.Reply.{Reply}
 use Rattle.site_core.specs.declared.reply.Refusal.{Refusal}
 use Rattle.site_core.specs.declared.reply.Refusal.TheVariants as refusal
 use Rattle.site_core.specs.Offices.{Office, Answer, answer}
-use Rattle.site_core.proofs.OfficeLimits.{legal_noted}
+use Rattle.site_core.specs.JournalLaws.{legal_noted}
 use Rattle.site_core.specs.Journals.{Site, next_or, office_of, noted, step, recorded, Steps, IsLegal}
 
 -- a refused step leaves the site, and so does one for which memory ran out, which would be accepted; an accepted one is noted

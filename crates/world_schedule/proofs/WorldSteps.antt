@@ -25,7 +25,7 @@ use Rattle.world_schedule.specs.declared.finished.Finished as mark
 use Rattle.world_schedule.specs.Readers.{listed_as}
 use Rattle.world_schedule.specs.refinement.WorldOfCode.{finishes, no_session, finished_of, has_ticket, found_in, finished_in, world_in, IsSiteOf, IsKnown, IsWorld}
 use Rattle.world_schedule.specs.refinement.Handing.{Hands, Nobody, Asked, passed_on}
-use Rattle.frame_world.proofs.Tickets.{finished_at}
+use Rattle.frame_world.specs.TicketLaws.{finished_at}
 use Rattle.world_schedule.proofs.FinishedSessions.{finished_noted, found_some, IsFoundIn}
 use Rattle.world_schedule.proofs.SiteSteps.{still_legal, Stepped, Refused, OutOfMemory, Accepted, stepped}
 

@@ -11,9 +11,10 @@ use Rattle.world_schedule.specs.declared.finished.Finished as entry
 abbrev pub unfinished_in : World → ℕ
 unfinished_in w = sum_by (λ (s : Site). unfinished (office_of s).agenda) w.sites
 
--- the office and the ticket of an outcome, and so of a finished session
+-- the office and the ticket of an outcome
 abbrev pub mark_of : Outcome → entry.Finished
 mark_of o = record { office = o.office; ticket = o.ticket }
 
+-- a finished session's office and ticket
 abbrev pub listed_as : Finished → entry.Finished
 listed_as f = mark_of f.outcome

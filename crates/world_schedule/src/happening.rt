@@ -19,7 +19,8 @@ use crate::finished::Finished;
 use frame_codec::Frame;
 use frame_world::WorldRefusal;
 use office_map::OfficeId;
-use session_language::{Outcome, Program};
+use session_meaning::Outcome;
+use session_programs::Program;
 use site_core::{Journal, MAX_ENTRIES, Office, Reply, Rule};
 
 /// A session is submitted at an office.
@@ -65,6 +66,10 @@ pub(crate) fn act(
 }
 
 /// An office finishes a session, which is listed.
+///
+/// Room is made before an office takes a step, for its frame or its place in the finishing list, so a refusal for want
+/// of memory leaves the world as it was. Where there is none, the office is asked what it would refuse, and that is
+/// told: `Memory` stands only in place of an acceptance.
 pub(crate) fn finish(
     offices: &mut Vec<Office>,
     finished: &mut Vec<Finished>,

@@ -2,6 +2,34 @@
 //! session read, wrote and gave exactly what it does when the finished sessions run alone, one after another in
 //! finishing order, from the plan's values; and each record has one bottle, which carries that serial run's value.
 //!
+//! A caller:
+//!
+//! ```
+//! use frame_world::{NextStep, WorldRefusal};
+//! use session_language::read_sessions;
+//! use session_programs::Program;
+//! use world_schedule::World;
+//!
+//! /// Sessions are submitted, and then the offices are left to themselves, until no session is left.
+//! fn settle(world: &mut World, programs: &[Program]) -> Result<(), WorldRefusal> {
+//!     for program in programs {
+//!         world.submit(program.office(), program)?;
+//!     }
+//!     for _ in 0..1_000 {
+//!         match world.next_step() {
+//!             NextStep::Rule(office, rule) => drop(world.act(office, &rule)?),
+//!             NextStep::Message(from, to, number) => {
+//!                 let i = world.place_of(from, to, number);
+//!                 world.send(from, to, i)?;
+//!                 world.deliver(world.frames())?;
+//!             }
+//!             NextStep::AllFinished => break,
+//!         }
+//!     }
+//!     Ok(())
+//! }
+//! ```
+//!
 //! - A [`World`] is what `frame_world` defines: a contract sees the plan, the offices' journals, every frame that was
 //!   ever sent, and the finished sessions. Each event ([`World::apply`], or [`World::submit`], [`World::withdraw`],
 //!   [`World::act`], [`World::send`], [`World::deliver`] for one kind of them) is that definition's `happens`: the office
@@ -28,6 +56,9 @@
 //! `specs/refinement`. That a finished session is found by its ticket is proved in `proofs/FinishedSessions.antt`, each
 //! event in `proofs/WorldSteps.antt` and `proofs/EventSteps.antt`, runs in `proofs/Runs.antt`, the one bottle in
 //! `proofs/BottleValues.antt`, and that who rests still rests after a step in `proofs/RestingOffices.antt`.
+//!
+//! Not said, beside what `frame_world` leaves open: anything of bytes that a caller makes up, since a world takes none;
+//! which offices [`World::next_step_asking`] asks; that memory suffices for the step that comes next.
 #![tactic(auto)]
 
 mod finished;

@@ -9,7 +9,7 @@ use site_core::Office;
 use std::alloc::{AllocError, Global};
 
 /// All offices of a plan, in order of number. None accepted anything.
-#[tactic(auto, using(bottle_values::proofs::Lists::mapped_more))]
+#[tactic(auto, using(bottle_values::specs::ListLaws::mapped_more))]
 pub(crate) fn offices_of(alloc: Global, plan: &Plan) -> Result<Vec<Office>, AllocError>
     ensures { IfOk result (λ os. os.items ≡ map (silent plan.now) (range_with_len 0 (length plan.now.offices))) }
 {

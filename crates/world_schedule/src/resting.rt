@@ -9,6 +9,10 @@ use std::marker::Model;
 
 /// Which offices had no rule next when they were last asked, and which had no message, so that they aren't asked again
 /// before they change.
+///
+/// Only the office that did a rule, or that a message came to, can have got something to do. The note is the caller's
+/// and no part of the world, so there is no second truth beside the journals. A clause says that what it notes is so in
+/// the world after the step; without it (`World::next_step`) every office is asked, and no memory is taken.
 #[derive(Drop)]
 pub struct Resting {
     rules: [bool; 16],

@@ -2,7 +2,7 @@
 
 ghost use Rattle.std.specs.Prelude.{◌≡◌, ◌<◌, ◌^◌, ◌↔◌, ◌∷◌, [], Err, IsTrue, length, map, slice_get, IfOk, OnOk, IfErr};
 ghost use Rattle.std.specs.Option.{option_copied};
-ghost use Rattle.site_core.specs.Agenda.{unfinished};
+ghost use Rattle.session_agenda.specs.Agenda.{unfinished};
 ghost use Rattle.site_core.specs.Journals.{office_of, IsLegal};
 ghost use Rattle.site_core.specs.declared.reply.Refusal.TheVariants as refused;
 ghost use Rattle.frame_world.specs.declared.refusal.WorldRefusal.TheVariants as refusals;
@@ -32,7 +32,8 @@ use frame_world::laws::{
 };
 use frame_world::{NextStep, WorldEvent, WorldRefusal};
 use office_map::{OfficeId, Plan, RecordId};
-use session_language::{Outcome, Program};
+use session_meaning::Outcome;
+use session_programs::Program;
 use site_core::laws::sessions_go_in_order;
 use site_core::{Journal, Office, Reply, Rule};
 use std::alloc::{AllocError, Global};
@@ -46,6 +47,9 @@ pub struct Stopped {
 }
 
 /// All offices of a plan with their journals, every frame that they sent, and which sessions finished.
+///
+/// It keeps frames, not bytes. That each is in the format's ranges is its invariant, so each has its one spelling, and
+/// who hands on the bytes hands on the frame.
 #[derive(Drop)]
 pub struct World {
     alloc: Global,
@@ -172,6 +176,8 @@ impl World {
 
     /// Events in order. A refused one leaves the world as it was, and the run goes on. Of the world then all holds that
     /// [`World::is_serial`] tells.
+    ///
+    /// Room for all replies is made first. So where it stops later, it is at an event that is accepted there.
     ///
     /// # Errors
     /// `Stopped` where memory runs out, with the world after the events before: before the first one, where there is no room

@@ -1,5 +1,5 @@
 -- What is kept while journals are merged.
-use Rattle.std.specs.Prelude.{◌≡◌, ◌≢◌, ℕ, suc, ◌+◌, ◌≤◌, List, [], ◌∷◌, ◌++◌, length, map, sum, take, get_or, set, slice_get, Option, Some, None, ◌⊎◌}
+use Rattle.std.specs.Prelude.{◌≡◌, ◌≢◌, ℕ, suc, ◌+◌, ◌<◌, ◌≤◌, List, [], ◌∷◌, ◌++◌, length, map, sum, take, get_or, set, slice_get, Option, Some, None, ◌⊎◌}
 use Rattle.std.specs.BTreeMap.{get}
 use Rattle.std.specs.declared.cmp.Ordering.{Ordering}
 use Rattle.office_map.specs.PlanValue.{PlanValue}
@@ -10,11 +10,14 @@ use Rattle.site_core.specs.declared.event.Entry.{Entry}
 use Rattle.site_core.specs.declared.reply.Reply.{Reply}
 use Rattle.frame_world.specs.declared.event.WorldEvent.{WorldEvent}
 use Rattle.frame_world.specs.declared.event.WorldEvent.TheVariants as happening
-use Rattle.frame_world.specs.Worlds.{opening, frames_of, run_of, AreAccepted}
+use Rattle.frame_world.specs.Worlds.{World, opening, frames_of, run_of, AreAccepted}
+use Rattle.frame_world.specs.WorldStates.{IsSeated}
 use Rattle.journal_weave.specs.declared.key.FrameKey.{FrameKey}
 use Rattle.journal_weave.specs.declared.sent.SentFrames.{SentFrames}
 use Rattle.journal_weave.specs.declared.merge.Merge.{Merge}
 use Rattle.journal_weave.specs.Weaving.{untagged, entries_at}
+use Rattle.journal_weave.specs.FrameLaws.{AreAmong}
+use Rattle.journal_weave.specs.refinement.Following.{site_of, Gives}
 use Rattle.journal_weave.specs.refinement.Keys.{key_of}
 
 -- ---- events of offices in a world
@@ -44,6 +47,26 @@ pub record CannotCome (frames : List Fields) (a : ℕ) (e : Event) : Type 0 wher
 abbrev pub IsFound : List Fields → ℕ → Event → Option WorldEvent → Type 0
 IsFound frames a e (Some found) = IsEventAt frames a e found
 IsFound frames a e None = CannotCome frames a e
+
+-- ---- a schedule
+
+-- each office has the plan and its number, and each frame that an entry tells was sent
+pub record IsSound (plan : PlanValue) (w : World) : Type 0 where
+  pub seats : IsSeated plan w
+  pub known : (a k : ℕ) (x : Entry) → slice_get (entries_at w a) k ≡ Some x → AreAmong (frames_of x.reply) w.frames
+
+-- the schedule is accepted, and has so many first entries of each office
+pub record Has (plan : PlanValue) (told : ℕ → List Entry) (at : ℕ → ℕ) (schedule : List WorldEvent) : Type 0 where
+  pub accepted : AreAccepted (opening plan) schedule
+  pub entries : (a : ℕ) → entries_at (run_of (opening plan) schedule) a ≡ map untagged (take (at a) (told a))
+
+-- an entry that its office gives there, by an event of that world
+pub record Follows (plan : PlanValue) (told : ℕ → List Entry) (at : ℕ → ℕ) (schedule : List WorldEvent) (a : ℕ) (x : Entry) (e : WorldEvent) : Type 0 where
+  pub has : Has plan told at schedule
+  pub inside : a < length plan.offices
+  pub next : slice_get (told a) (at a) ≡ Some x
+  pub gives : Gives (site_of plan a (take (at a) (told a))) x
+  pub is : IsEventAt (run_of (opening plan) schedule).frames a x.event e
 
 -- ---- a merge; C compares the keys of frames
 

@@ -1,9 +1,8 @@
 use Rattle.std.proofs.Common.{◌≡◌, ◌++◌, ℕ, List, sym, ap, ap₂, ◌∙◌, append_assoc, get_or}
 use Rattle.std.specs.String.{string_bytes}
 use Rattle.bottle_values.specs.Operations.{nought}
-use Rattle.run_reports.specs.Report.{value_line}
+use Rattle.session_reports.specs.Report.{value_line}
 use Rattle.run_reports.specs.WorldReport.{bottle_value}
-use Rattle.run_reports.proofs.Rows.{rows_more}
 use Rattle.run_reports.proofs.world.add_bottles.Goals as goal
 
 pub loop-i-preserved : goal.loop-i-preserved
@@ -15,4 +14,4 @@ loop-i-preserved c =
     let added : string_bytes c.add_value.new.text ≡ string_bytes c.loop-i.text ++ f c.loop-i.i =
     c.in_ok-add_value.ensures ∙ ap (λ p. string_bytes c.loop-i.text ++ value_line p c.new-id.result c.value_of.result) c.plan-plan.ensures ∙ ap (λ b. string_bytes c.loop-i.text ++ b) row in
     added ∙ ap (λ b. b ++ f c.loop-i.i) c.loop-i.invariant ∙ append_assoc _ _ (f c.loop-i.i)
-    ∙ sym (ap (λ b. string_bytes c.args.text.now ++ b) (rows_more f c.loop-i.i))
+    ∙ sym (ap (λ b. string_bytes c.args.text.now ++ b) (c.rows_are_added.ensures f c.loop-i.i))

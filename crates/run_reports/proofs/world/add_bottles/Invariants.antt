@@ -1,7 +1,7 @@
 use Rattle.std.proofs.Common.{◌≡◌, ◌++◌}
 use Rattle.std.specs.List.{flat_map, range_with_len}
 use Rattle.std.specs.String.{string_bytes}
-use Rattle.run_reports.specs.Report.{value_line}
+use Rattle.session_reports.specs.Report.{value_line}
 use Rattle.run_reports.specs.WorldReport.{bottle_value}
 use Rattle.run_reports.proofs.world.add_bottles.Given as goal
 

@@ -6,7 +6,7 @@ use Rattle.std.proofs.lemmas.Option.{slice_get-get_or}
 use Rattle.frame_world.specs.Worlds.{Finished}
 use Rattle.frame_world.specs.Headline.{outcomes}
 use Rattle.world_schedule.specs.Readers.{listed_as}
-use Rattle.run_reports.specs.Report.{outcome_line}
+use Rattle.session_reports.specs.Report.{outcome_line}
 use Rattle.run_reports.proofs.Rows.{line_more, no_outcome}
 use Rattle.run_reports.proofs.world.add_finished.Goals as goal
 

@@ -2,7 +2,7 @@ use Rattle.std.proofs.Common.{◌≡◌, ◌++◌, take}
 use Rattle.std.specs.List.{flat_map}
 use Rattle.std.specs.String.{string_bytes}
 use Rattle.frame_world.specs.Headline.{outcomes}
-use Rattle.run_reports.specs.Report.{outcome_line}
+use Rattle.session_reports.specs.Report.{outcome_line}
 use Rattle.run_reports.proofs.world.add_finished.Given as goal
 
 abbrev pub invariant-loop-i : goal.invariant-loop-i

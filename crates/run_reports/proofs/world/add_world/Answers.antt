@@ -1,7 +1,7 @@
 use Rattle.std.specs.List.{flat_map}
 use Rattle.std.specs.String.{string_bytes}
 use Rattle.frame_world.specs.Headline.{outcomes}
-use Rattle.run_reports.specs.Report.{outcome_line, value_lines}
+use Rattle.session_reports.specs.Report.{outcome_line, value_lines}
 use Rattle.run_reports.specs.WorldReport.{unfinished_line, bottle_value}
 use Rattle.run_reports.proofs.Rows.{three_added}
 use Rattle.run_reports.proofs.world.add_world.Goals as goal

@@ -1,7 +1,7 @@
 use Rattle.std.proofs.Common.{◌≡◌, ◌<◌, length, sym, ap, subst, ◌∙◌, arith}
 use Rattle.office_map.specs.PlanValue.{PlanValue}
 use Rattle.office_map.specs.Consistency.{IsConsistent}
-use Rattle.office_map.proofs.RecordEnds.{near_within}
+use Rattle.office_map.specs.NeighbourLaws.{near_within}
 use Rattle.frame_world.specs.declared.next_step.NextStep.{NextStep}
 use Rattle.frame_world.specs.declared.next_step.NextStep.TheVariants.{Rule, Message}
 use Rattle.frame_world.specs.Standstill.{IsStep, IsNextMessage}

@@ -1,5 +1,5 @@
 use Rattle.std.proofs.Common.{◌∙◌}
-use Rattle.journal_audit.proofs.Gathering.{gathered_nothing}
+use Rattle.journal_audit.specs.GatheringLaws.{gathered_nothing}
 use Rattle.journal_audit.proofs.journals.Journals.new.Goals as goal
 
 pub returns-clause-gathered : goal.returns-clause-gathered

@@ -1,6 +1,6 @@
 use Rattle.std.proofs.Common.{subst, ◌∙◌}
 use Rattle.office_map.specs.Consistency.{IsConsistent}
-use Rattle.office_map.proofs.RecordEnds.{near_both, near_within}
+use Rattle.office_map.specs.NeighbourLaws.{near_both, near_within}
 use Rattle.world_schedule.proofs.world.World.place_of.Goals as goal
 
 pub office-requires : goal.office-requires

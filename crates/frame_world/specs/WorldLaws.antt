@@ -1,14 +1,13 @@
--- A world as functions, and what an accepted event changes there: one office, by its own answer.
-use Rattle.std.proofs.Common.{◌≡◌, ℕ, zero, suc, ◌<◌, Bool, true, false, cond, List, [], ◌∷◌, ◌++◌, length, map, Option, None, Some, Ok, Err, refl, sym, ap, subst, ◌∙◌, arith, inl, inr, ◌⊎◌, ⊎_elim, get_or, set}
+-- What follows of worlds: how they begin, and what each event leaves there.
+use Rattle.std.proofs.Common.{◌≡◌, ℕ, zero, suc, ◌<◌, Bool, true, false, cond, List, [], ◌∷◌, ◌++◌, length, map, Option, None, Some, Ok, Err, refl, sym, ap, subst, ◌∙◌, arith, inl, inr, ⊎_elim, get_or, set}
 use Rattle.std.specs.Prelude.{nat_lt, nat_le, slice_get, ◌==◌}
 use Rattle.std.specs.List.{range_with_len}
-use Rattle.std.proofs.lemmas.Bool.{cases_eq, cases_lt}
-use Rattle.std.proofs.lemmas.Bool.Decides.{nat_tests}
+use Rattle.std.proofs.lemmas.Bool.{cases_eq, cases_lt, ltb-true}
 use Rattle.std.proofs.lemmas.List.{get_or-set_same, get_or-set_other, length-set, get_or_past}
 use Rattle.std.proofs.lemmas.List.FromFn.{get_or-map-range_with_len, length-map-range_with_len}
 use mathlib.Core.Path.{fun_ext}
 use Rattle.bottle_values.specs.Maps.{put}
-use Rattle.bottle_values.proofs.Maps.{put_at, put_other}
+use Rattle.bottle_values.specs.MapLaws.{put_at, put_other}
 use Rattle.frame_codec.specs.Frame.{Fields}
 use Rattle.office_map.specs.PlanValue.{PlanValue}
 use Rattle.site_core.specs.declared.event.Event as office
@@ -20,60 +19,12 @@ use Rattle.site_core.specs.Limits.{most_entries}
 use Rattle.site_core.specs.Offices.{Office, Answer, answer}
 use Rattle.site_core.specs.Offices as site
 use Rattle.site_core.specs.Journals.{Site, office_of, noted, recorded, step, next_or}
-use Rattle.site_core.proofs.OfficeLimits.{office_noted, office_empty}
+use Rattle.site_core.specs.JournalLaws.{office_noted, office_empty}
 use Rattle.frame_world.specs.declared.event.WorldEvent.{WorldEvent}
 use Rattle.frame_world.specs.declared.event.WorldEvent.TheVariants as happening
 use Rattle.frame_world.specs.declared.refusal.WorldRefusal.TheVariants as refusal
-use Rattle.frame_world.specs.Worlds.{World, Finished, silent, opening, site_at, office_at, frames_of, finished_by, told, handed, delivered, happens, run_of}
-
-pub record State : Type 0 where
-  pub office : ℕ → Office
-  pub journal : ℕ → List Entry
-  pub frames : List Fields
-  pub finished : List Finished
-
-abbrev pub state_of : World → State
-state_of w = record { office = office_at w; journal = λ a. (site_at w a).entries; frames = w.frames; finished = w.finished }
-
-abbrev pub starting : PlanValue → State
-starting plan = record { office = site.opened plan; journal = λ a. []; frames = []; finished = [] }
-
--- what can be handed to an office: of frames those that were sent to it
-abbrev pub MayCome : List Fields → ℕ → office.Event → Type 0
-MayCome frames a (event.Submit p) = Unit {0}
-MayCome frames a (event.Do rule) = Unit {0}
-MayCome frames a (event.Send v i) = Unit {0}
-MayCome frames a (event.Withdraw t) = Unit {0}
-MayCome frames a (event.Took f) = (f.to ≡ a) × (k : ℕ) × (slice_get frames k ≡ Some f)
-
-abbrev pub entry_of : office.Event → Reply → Entry
-entry_of e r = record { tag = 0; event = e; reply = r }
-
-abbrev pub after_reply : State → ℕ → office.Event → Reply → Office → State
-after_reply s a e r o = record {
-  office = put s.office a o;
-  journal = put s.journal a (s.journal a ++ entry_of e r ∷ []);
-  frames = s.frames ++ frames_of r;
-  finished = s.finished ++ finished_by a (s.office a).agenda.current e;
-}
-
--- an accepted event
-pub record IsAccepted (plan : PlanValue) (s s' : State) : Type 0 where
-  pub place : ℕ
-  pub event : office.Event
-  pub reply : Reply
-  pub new : Office
-  pub inside : nat_lt place (length plan.offices) ≡ true
-  pub comes : MayCome s.frames place event
-  pub answered : answer plan place (s.office place) event ≡ Ok (reply, new)
-  pub led : s' ≡ after_reply s place event reply new
-
--- each office has the plan and its number
-pub record IsSeated (plan : PlanValue) (w : World) : Type 0 where
-  pub planned : w.plan ≡ plan
-  pub size : length w.sites ≡ length plan.offices
-  pub plans : (a : ℕ) → (site_at w a).plan ≡ plan
-  pub numbers : (a : ℕ) → (site_at w a).me ≡ a
+use Rattle.frame_world.specs.WorldStates.{State, state_of, starting, MayCome, entry_of, IsAccepted, IsSeated, Left}
+use Rattle.frame_world.specs.Worlds.{World, silent, opening, site_at, office_at, frames_of, finished_by, told, handed, delivered, happens, run_of}
 
 -- ---- at the start
 
@@ -115,11 +66,6 @@ put_kept_as g f a x y e j = at (j == a)
     at true = e
     at false = refl
 
--- what an event leaves: the world as it was, or an accepted event's
-pub record Left (plan : PlanValue) (w w' : World) : Type 0 where
-  pub seated : IsSeated plan w'
-  pub led : (state_of w' ≡ state_of w) ⊎ IsAccepted plan (state_of w) (state_of w')
-
 left_as_it_was : (plan : PlanValue) (w w' : World) → IsSeated plan w → w' ≡ w → Left plan w w'
 left_as_it_was plan w w' h e = record { seated = subst (IsSeated plan) (sym e) h; led = inl (ap state_of e) }
 
@@ -152,7 +98,7 @@ accepted plan w a e r o h come inside ans = record {
     w' = (told w a e (Ok r, new)).1
 
     sites : (x : ℕ) → site_at w' x ≡ put (site_at w) a new x
-    sites = site_set w w' a new refl refl (grind (arith, nat_tests, inside))
+    sites = site_set w w' a new refl refl (ltb-true a (length w.sites) inside)
 
     const : (b : Bool) → {y : PlanValue} → y ≡ plan → cond b plan y ≡ plan
     const true e = refl
@@ -205,6 +151,7 @@ go_on plan P keeps w (e ∷ es) h p =
     let l = happens_leaves plan w e h in
     go_on plan P keeps (happens w e).1 es l.seated (⊎_elim (λ same. subst P (sym same) p) (λ s. keeps (state_of w) (state_of (happens w e).1) p s) l.led)
 
+-- what holds at the start, and after each accepted event where it held before, holds after every list of events
 pub through : (plan : PlanValue) (P : State → Type 0) → P (starting plan) → ((s s' : State) → P s → IsAccepted plan s s' → P s') → (es : List WorldEvent) → P (state_of (run_of (opening plan) es))
 through plan P first keeps es = (go_on plan P keeps (opening plan) es (seated_opening plan) (subst P (sym (state_opening plan)) first)).1
 
