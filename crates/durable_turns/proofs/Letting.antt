@@ -1,16 +1,16 @@
 -- What left is of entries that stand.
-use Rattle.std.proofs.Common.{◌≡◌, ℕ, zero, suc, ◌≤◌, Bool, true, List, [], ◌∷◌, ◌++◌, length, map, take, drop, Option, Some, None, refl, sym, ap, subst, ◌∙◌, arith, length-append, append_assoc, append-nil}
+use Rattle.std.proofs.Common.{◌≡◌, ℕ, ◌≤◌, Bool, true, List, [], ◌∷◌, ◌++◌, length, map, take, drop, Option, Some, None, refl, sym, ap, subst, ◌∙◌, arith, length-append, append_assoc, append-nil}
 use Rattle.std.specs.Prelude.{All, slice_get}
 use mathlib.Core.List.{IsPrefix}
 use Rattle.std.proofs.lemmas.List.{take-append-le, take_all, take-append-drop}
-use Rattle.std.proofs.lemmas.List.Elements.{All-nil, All-cons, All-head, All-tail, All-take}
+use Rattle.std.proofs.lemmas.List.Elements.{All-nil, All-cons, All-take}
 use Rattle.std.proofs.lemmas.List.Concat.{flat_map-append}
 use Rattle.std.proofs.lemmas.Option.{slice_get_within}
+use Rattle.bottle_values.specs.ListLaws.{get_left}
 use Rattle.office_map.specs.PlanValue.{PlanValue}
 use Rattle.site_core.specs.declared.event.Entry.{Entry}
-use Rattle.site_core.specs.Journals.{Site}
+use Rattle.site_core.specs.Journals.{Site, Receives}
 use Rattle.locked_office.specs.Calls.{Key, DeskPass, Does, Looks}
-use Rattle.site_core.specs.Journals.{Receives}
 use Rattle.journal_stores.specs.Stores.{Stands, IsFound, Finds}
 use Rattle.journal_texts.specs.Written.{header_line, lines_of, entry_line, journal_text}
 use Rattle.socket_pump.specs.declared.pump.Turn.{Turn}
@@ -18,7 +18,8 @@ use Rattle.socket_pump.specs.declared.pump.PumpFault.{PumpFault}
 use Rattle.socket_pump.specs.Wires.{Account}
 use Rattle.socket_pump.specs.Chains.{Heard, Made, Hears, MakesFrame, Sends, sent_entry, datagram, answers}
 use Rattle.socket_pump.specs.Turns.{Times, Turned, Stage, WhileHearing, AtRules, WhileTelling}
-use Rattle.socket_pump.proofs.Telling.{Begins, begins_both, does_begins, sees_begins, sends_begins}
+use Rattle.socket_pump.specs.ChainLaws.{Begins, begins_both, does_begins, sees_begins, sends_begins}
+use Rattle.durable_turns.specs.LettingLaws.{has_on}
 use Rattle.durable_turns.specs.Letting.{key_of, StoreHas, FindsText, IsOfStanding, LetsOut, Posts, Turns}
 use Rattle.durable_turns.specs.refinement.Mailed.{Mailed, IsMail, fresh, account_of, Fetches}
 use Rattle.durable_turns.proofs.Mailing.{heard_is_fetched}
@@ -42,10 +43,6 @@ stage_begins tells tag k last now p a f b q then (WhileTelling mid ruled receive
 
 -- ---- what stands
 
-pub has_on : (o : Option (List ℕ)) (k : Key) (old entries : List Entry) (n : ℕ) → n ≤ length old → IsPrefix old entries → StoreHas o k old n → StoreHas o k entries n
-has_on None k old entries n le b h = tt
-has_on (Some bytes) k old entries n le b h = h ∙ ap (journal_text k.0 k.1) (sym (take-append-le n old b.0 le) ∙ ap (take n) b.1)
-
 pub has_later : (o : Option (List ℕ)) (k : Key) (p q : DeskPass) (n : ℕ) → n ≤ length p.seen → Begins p q → StoreHas o k p.seen n → StoreHas o k q.seen n
 has_later None k p q n le b h = tt
 has_later (Some bytes) k p q n le b h = h ∙ ap (journal_text k.0 k.1) (sym (take-append-le n p.seen b.0 le) ∙ ap (take n) (sym b.1))
@@ -59,17 +56,12 @@ at_end : (xs ys : List Entry) (x : Entry) → slice_get ((xs ++ x ∷ []) ++ ys)
 at_end [] ys x = refl
 at_end (z ∷ xs) ys x = at_end xs ys x
 
-get_on : (xs ys : List Entry) (i : ℕ) (x : Entry) → slice_get xs i ≡ Some x → slice_get (xs ++ ys) i ≡ Some x
-get_on [] ys i x e = cc
-get_on (z ∷ xs) ys zero x e = e
-get_on (z ∷ xs) ys (suc i) x e = get_on xs ys i x e
-
 -- its entry is in the journal
 abbrev IsThere : ℕ → List Entry → Made → Type 0
 IsThere tag es m = (i : ℕ) × (slice_get es i ≡ Some (sent_entry tag m))
 
 there_on : (tag : ℕ) (p q : DeskPass) (m : Made) → Begins p q → IsThere tag p.seen m → IsThere tag q.seen m
-there_on tag p q m b h = (h.0, ap (λ l. slice_get l h.0) b.1 ∙ get_on p.seen b.0 h.0 (sent_entry tag m) h.1)
+there_on tag p q m b h = (h.0, ap (λ l. slice_get l h.0) b.1 ∙ get_left p.seen b.0 h.0 (sent_entry tag m) h.1)
 
 one_there : (tag : ℕ) (k : Key) (p x : DeskPass) (m : Made) → Does (MakesFrame tag m) k p x → IsThere tag x.seen m
 one_there tag k p x m d =
@@ -83,14 +75,6 @@ all_there tag k p q z (m ∷ ms) s b =
     let here = there_on tag s.0 z m on (one_there tag k p s.0 m s.1) in
     let one : IsOfStanding tag z.seen (length z.seen) (datagram m) = (m, refl, here.0, slice_get_within z.seen here.0 (sent_entry tag m) here.1, here.1) in
     All-cons (IsOfStanding tag z.seen (length z.seen)) (datagram m) (map datagram ms) one (all_there tag k s.0 q z ms s.2 b)
-
--- what is of an entry that stands stays so while the journal goes on and more of it stands
-pub standing_on : (tag : ℕ) (es fs : List Entry) (n m : ℕ) (out : List (ℕ × List ℕ)) → n ≤ m → IsPrefix es fs → All (IsOfStanding tag es n) out → All (IsOfStanding tag fs m) out
-standing_on tag es fs n m [] le p h = All-nil (IsOfStanding tag fs m)
-standing_on tag es fs n m (d ∷ ds) le p h =
-    let one : IsOfStanding tag es n d = All-head (IsOfStanding tag es n) d ds h in
-    let here : IsOfStanding tag fs m d = (one.0, one.1, one.2, omega (arith, one.3, le), ap (λ l. slice_get l one.2) (sym p.1) ∙ get_on es p.0 one.2 (sent_entry tag one.0) one.4) in
-    All-cons (IsOfStanding tag fs m) d ds here (standing_on tag es fs n m ds le p (All-tail (IsOfStanding tag es n) d ds h))
 
 -- what the mail accepted are the frames that were made
 mail_is : (tag : ℕ) (k : Key) (last : Times) (now : ℕ) (p : DeskPass) (t : Turn) (a b : Account) (q : DeskPass) (then : Times) → a.accepted ≡ [] → (x : Turned true tag k last now p a t b q then) → b.accepted ≡ map datagram x.made
@@ -197,10 +181,10 @@ has_given o k s es n key same h = subst (λ l. StoreHas o k l n) (sym same) (sub
 pub finds_given : (o found : Option (List ℕ)) (k : Key) (s : Site) (es : List Entry) → key_of s ≡ k → es ≡ s.entries → FindsText o found (key_of s) s.entries → FindsText o found k es
 finds_given o found k s es key same h = subst (λ l. FindsText o found k l) (sym same) (subst (λ (x : Key). FindsText o found x s.entries) key h)
 
-pub stood_all : (o new : Option (List ℕ)) (s : Site) (plan : PlanValue) (n m : ℕ) (before text : List ℕ) → StoreHas o (key_of s) s.entries n → plan ≡ s.plan → before ≡ [] → text ≡ before ++ lines_of plan (drop n s.entries) → m ≡ length s.entries → Stands o text new →
+pub stood_all : (o new : Option (List ℕ)) (s : Site) (plan : PlanValue) (n m : ℕ) (text : List ℕ) → StoreHas o (key_of s) s.entries n → plan ≡ s.plan → text ≡ lines_of plan (drop n s.entries) → m ≡ length s.entries → Stands o text new →
     StoreHas new (key_of s) s.entries m
-stood_all o new s plan n m before text has same none is all stands =
-    has_all o new (key_of s) s.entries n m text has (is ∙ ap (λ l. l ++ lines_of plan (drop n s.entries)) none ∙ ap (λ (x : PlanValue). lines_of x (drop n s.entries)) same) stands all
+stood_all o new s plan n m text has same is all stands =
+    has_all o new (key_of s) s.entries n m text has (is ∙ ap (λ (x : PlanValue). lines_of x (drop n s.entries)) same) stands all
 
 -- ---- what a start finds
 
@@ -217,6 +201,6 @@ torn (Some bytes) None k es n text h is f = tt
 torn (Some bytes) (Some found) k es n text h is f =
     (f.rest, sym (whole k es n) ∙ ap (λ l. l ++ lines_of k.0 (drop n es)) (sym h) ∙ ap (λ l. bytes ++ l) (sym is ∙ f.begins) ∙ sym (append_assoc bytes f.part f.rest) ∙ ap (λ l. l ++ f.rest) (sym f.after))
 
-pub torn_later : (o new found : Option (List ℕ)) (s : Site) (n : ℕ) (before text : List ℕ) → StoreHas o (key_of s) s.entries n → before ≡ [] → text ≡ before ++ lines_of s.plan (drop n s.entries) → Finds o text found → new ≡ o → FindsText new found (key_of s) s.entries
-torn_later o new found s n before text has none is f kept =
-    subst (λ y. FindsText y found (key_of s) s.entries) (sym kept) (torn o found (key_of s) s.entries n text has (is ∙ ap (λ l. l ++ lines_of s.plan (drop n s.entries)) none) f)
+pub torn_later : (o new found : Option (List ℕ)) (s : Site) (n : ℕ) (text : List ℕ) → StoreHas o (key_of s) s.entries n → text ≡ lines_of s.plan (drop n s.entries) → Finds o text found → new ≡ o → FindsText new found (key_of s) s.entries
+torn_later o new found s n text has is f kept =
+    subst (λ y. FindsText y found (key_of s) s.entries) (sym kept) (torn o found (key_of s) s.entries n text has is f)

@@ -1,3 +1,3 @@
-pub mod Letting
+mod Letting
 mod Mailing
 mod Faults

@@ -12,6 +12,7 @@ use Rattle.socket_pump.specs.Turns.{Times, Turned}
 use Rattle.durable_turns.specs.declared.fault.TurnFault.{TurnFault}
 use Rattle.durable_turns.specs.declared.fault.TurnFault.TheVariants.{WireFailed, StoreFailed, JournalFull, Memory}
 
+-- the plan and the number of an office
 abbrev pub key_of : Site → Key
 key_of s = (s.plan, s.me)
 
@@ -49,7 +50,8 @@ SendsNothing tells a b = tells ≡ true → b.accepted ≡ a.accepted
 abbrev pub Posts : Bool → Account → List (ℕ × List ℕ) → Account → Type 0
 Posts tells a out b = (n : ℕ) × (tells ≡ true → b.accepted ≡ a.accepted ++ take n out)
 
--- StoreFailed just where the store's append failed, and JournalFull only at a full journal; at these and Memory no call of the wire failed
+-- What a fault of a turn says: StoreFailed just where the store's append failed, and JournalFull only at a full
+-- journal; at these and Memory no call of the wire failed.
 abbrev pub BreaksOff : Bool → List Entry → Account → Account → TurnFault → Type 0
 BreaksOff failed es a b WireFailed = failed ≡ false
 BreaksOff failed es a b StoreFailed = (failed ≡ true) × (b.failures ≡ a.failures)

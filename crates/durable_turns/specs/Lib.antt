@@ -1,3 +1,4 @@
 pub mod Letting
+pub mod LettingLaws
 pub mod Breaking
 pub mod refinement

@@ -6,6 +6,13 @@
 //!   each datagram that left is of a frame whose entry is among these (`lets_out`): a loss at any moment is a turn whose calls
 //!   fail from then on. What a start may find after a failed append is a beginning of the journal's text (`found`). At a fault
 //!   nothing was done at the office but what a pump does (`broke`, definitions in `specs/Breaking.antt`).
+//!
+//! What came is fetched first and frames are posted last, with a wire of fixed room in memory between: the pump and its
+//! contract stay as they are, and all entries of a turn share one sync.
+//!
+//! Not said: that what an Ok of the store said stands is found, and what a file has; that the wire failed where the
+//! answer is WireFailed, since its mail may have no room (private clauses of a pump rule that out); at a fault, which
+//! of the three cases it was, what was heard, and what the pump takes for sent.
 #![tactic(auto)]
 
 mod fault;

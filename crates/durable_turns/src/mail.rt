@@ -8,6 +8,7 @@ use crate::letter::{Letter, MOST_BYTES};
 use arrayvec::ArrayVec;
 use office_map::OfficeId;
 use socket_pump::{Wire, WireFailed};
+use std::alloc::Global;
 use std::marker::Model;
 
 /// The most datagrams that a turn fetches, and the most that it posts.
@@ -53,7 +54,8 @@ impl Default for Addressed {
     }
 }
 
-/// The mail of turns, each after the other: made once, since it has room for the most that a turn fetches and posts.
+/// The mail of turns, each after the other: made once, since it has room for the most that a turn fetches and posts, and for the
+/// text of the entries that a turn adds, which contracts don't see.
 #[derive(Drop)]
 pub struct Mail {
     came: ArrayVec<Letter, MOST_IN>,
@@ -61,6 +63,7 @@ pub struct Mail {
     ended: bool,
     out: ArrayVec<Addressed, MOST_OUT>,
     failures: u64,
+    pub(crate) text: String,
 }
 
 impl Model for Mail {
@@ -75,13 +78,14 @@ impl Model for Mail {
 
 impl Mail {
     /// With nothing in it.
-    pub fn new() -> Mail {
+    pub fn new(alloc: Global) -> Mail {
         Mail {
             came: ArrayVec::new(),
             handed: 0,
             ended: false,
             out: ArrayVec::new(),
             failures: 0,
+            text: String::new(alloc),
         }
     }
 

@@ -1,6 +1,6 @@
 //! Entries are made to stand.
 
-ghost use Rattle.std.specs.Prelude.{◌≡◌, ◌≤◌, ◌++◌, false, length, drop, OnOk, OnErr, IfErr, IfOk};
+ghost use Rattle.std.specs.Prelude.{◌≡◌, ◌≤◌, false, length, drop, OnOk, OnErr, IfErr, IfOk};
 ghost use Rattle.std.specs.String.{string_bytes};
 ghost use Rattle.own_lock.specs.Passes.{IsOf};
 ghost use Rattle.locked_office.specs.Calls.{Stays, Looks};
@@ -18,7 +18,7 @@ use site_core::Office;
 use std::alloc::{AllocError, Global};
 use std::sync::Wait;
 
-/// All entries that the office has now stand from now on. Where none is new, nothing is appended.
+/// All entries that the office has now stand from now on. Where none is new, nothing is appended. What the text had is forgotten.
 pub(crate) fn stand<R: Wait, S: Store>(
     rt: &R,
     alloc: Global,
@@ -26,6 +26,7 @@ pub(crate) fn stand<R: Wait, S: Store>(
     pass: &mut Pass<Office>,
     store: &mut S,
     stood: &mut usize,
+    text: &mut String,
 ) -> Result<(), TurnFault>
     requires of { IsOf desk.now pass.old }
     requires idle { pass.old.holds ≡ false }
@@ -43,17 +44,19 @@ pub(crate) fn stand<R: Wait, S: Store>(
     ensures found { OnErr result (IsFound (S.stood store.old) (S.found store.old) → FindsText (S.stood store.new) (S.found store.new) desk.now.key pass.new.seen) }
 {
     let held = desk.lock().take(rt, pass);
-    let stands = stand_office(alloc, held.get(), store, stood);
+    let stands = stand_office(alloc, held.get(), store, stood, text);
     desk.lock().give(pass, held);
     stands
 }
 
-/// All entries of an office stand from now on. Where none is new, nothing is appended.
+/// All entries of an office stand from now on. Where none is new, nothing is appended. Their lines are written into the text, whose
+/// room later calls find; what it had is forgotten.
 pub fn stand_office<S: Store>(
     alloc: Global,
     office: &Office,
     store: &mut S,
     stood: &mut usize,
+    text: &mut String,
 ) -> Result<(), TurnFault>
     requires usable { S.failed store.old ≡ false }
     requires has { StoreHas (S.stood store.old) (key_of office.now) office.now.entries stood.old }
@@ -65,8 +68,7 @@ pub fn stand_office<S: Store>(
     ensures whole { OnOk result (IsFound (S.stood store.old) (S.found store.old) → IsFound (S.stood store.new) (S.found store.new)) }
     ensures found { OnErr result (IsFound (S.stood store.old) (S.found store.old) → FindsText (S.stood store.new) (S.found store.new) (key_of office.now) office.now.entries) }
 {
-    let mut text = String::new(alloc);
-    let count = match lines_since(alloc, &mut text, office, *stood) {
+    let count = match lines_since(alloc, text, office, *stood) {
         Ok(count) => count,
         Err(_) => return Err(TurnFault::Memory),
     };
@@ -81,16 +83,18 @@ pub fn stand_office<S: Store>(
     Ok(())
 }
 
-/// The lines of the office's entries from that place on, and how many entries it has in all.
+/// The text is the lines of the office's entries from that place on, and how many entries it has in all is told. What the text had is
+/// forgotten.
 fn lines_since(
     alloc: Global,
     text: &mut String,
     office: &Office,
     from: usize,
 ) -> Result<usize, AllocError>
-    ensures lines { OnOk result (string_bytes text.new ≡ string_bytes text.old ++ lines_of office.now.plan (drop from office.now.entries)) }
+    ensures lines { OnOk result (string_bytes text.new ≡ lines_of office.now.plan (drop from office.now.entries)) }
     ensures count { IfOk result (λ n. n ≡ length office.now.entries) }
 {
+    text.clear();
     let journal = office.journal();
     add_lines(alloc, text, journal, office.plan(), office.number(), from)?;
     Ok(journal.len())

@@ -69,7 +69,7 @@ pub fn turn<R: Wait, W: Wire, S: Store>(
         Ok(turn) => turn,
         Err(fault) => return Err(TurnFault::of_pump(fault)),
     };
-    match stand(rt, alloc, desk, pass, store, stood) {
+    match stand(rt, alloc, desk, pass, store, stood, &mut mail.text) {
         Ok(()) => {}
         Err(fault) => return Err(fault),
     }

@@ -12,6 +12,9 @@
 //! - Not known is what a start finds in a file. It finds what stands, and after a failed append a beginning of its bytes after
 //!   that, if the system's answers hold of the disk, no other program writes to the file, and no earlier copy of it is put back.
 //! - [`MemoryStore`] tells all. It may fail at a call, and then has a beginning of what was to be appended.
+//!
+//! Not said: how long an append takes, that one ever succeeds; and of a file of `std`, that bytes were written and
+//! synced, that the rest was cut off, and that another process is refused. Tests and `checks/stores` show these.
 #![tactic(auto)]
 
 mod file;

@@ -7,6 +7,11 @@ ghost use Rattle.std.specs.Borrow.{ftrue};
 use std::marker::{Model, PhantomData};
 
 /// Bytes that only clauses read.
+///
+/// No contract of the system's calls says what a file has, so a store in a file tells what was answered as stored. Its
+/// two functions alone set it, `append` adds to it at its `Ok` and nowhere else, and whoever reads that one function
+/// knows what it is a record of. So what is promised above of a store holds of a file under the premise that a start
+/// finds these bytes.
 #[derive(Drop)]
 pub struct Record {
     of: PhantomData<u8>,

@@ -6,6 +6,8 @@ ghost use Rattle.journal_stores.specs.Stores.{Stands, Keeps, IsFound, Finds};
 use thiserror::Error;
 
 /// The bytes couldn't be appended, or it isn't known whether they stand.
+///
+/// A failed sync may have dropped what was written, so whether it stands is only known by a start that looks.
 #[derive(Clone, Copy, Debug, PartialEq, Eq, Error)]
 #[error("U4 StoreFailed")]
 pub struct StoreFailed;

@@ -1,5 +1,7 @@
 -- What a pass that holds the office adds to it, and what it has seen when it has given the office back.
 use Rattle.std.proofs.Common.{◌≡◌, ℕ, List, [], ◌∷◌, ◌++◌, Result, Ok, Err, refl, sym, ap, subst, ◌∙◌}
+use Rattle.frame_codec.specs.Frame.{Fields}
+use Rattle.frame_codec.specs.declared.fault.FrameFault.{FrameFault}
 use Rattle.own_lock.specs.Entries.{Every, AddsOnly}
 use mathlib.Core.List.{IsPrefix}
 use Rattle.own_lock.specs.Passes.{LockView, IsOf, pass_after_take}
@@ -8,7 +10,7 @@ use Rattle.site_core.specs.declared.event.Event.{Event}
 use Rattle.site_core.specs.declared.event.Event.TheVariants.{Took}
 use Rattle.site_core.specs.declared.reply.Reply.{Reply}
 use Rattle.site_core.specs.declared.reply.Refusal.{Refusal}
-use Rattle.site_core.specs.Journals.{Site, IsLegal, noted, Steps, Receives, Enters, Adds, StepsAddTheirEntry}
+use Rattle.site_core.specs.Journals.{Site, IsLegal, noted, Steps, TakesRead, IsRead, Receives, Adds, StepsAddTheirEntry, ReadIsReceived}
 use Rattle.locked_office.specs.declared.advance.Stopped.{Stopped}
 use Rattle.locked_office.specs.Calls.{Key, DeskPass, tag_of, office_with, Did, Does}
 use Rattle.site_core.specs.RulesInTurn.{extended, AreNext}
@@ -32,9 +34,10 @@ pub grew_by : (tag : ℕ) (s s' : Site) (e : Event) (result : Result Reply Refus
 grew_by tag s s' e (Ok r) a = grew_noted tag s s' e r a
 grew_by tag s s' e (Err r) a = grew_none tag s s' a
 
-grew_by_bytes : (tag : ℕ) (s s' : Site) (bytes : List ℕ) (result : Result Reply Refusal) → Enters s tag bytes result s' → Grew tag s s'
-grew_by_bytes tag s s' bytes (Ok r) a = grew_noted tag s s' (Took a.0) r a.2
-grew_by_bytes tag s s' bytes (Err r) a = grew_none tag s s' a
+-- what was read is a frame, or nothing is added
+grew_by_read : StepsAddTheirEntry → (tag : ℕ) (s s' : Site) (read : Result Fields FrameFault) (result : Result Reply Refusal) → TakesRead s tag read result s' → Grew tag s s'
+grew_by_read law tag s s' (Ok f) result h = grew_by tag s s' (Took f) result (law s tag (Took f) result s' h)
+grew_by_read law tag s s' (Err fault) result h = grew_none tag s s' h.1
 
 next_tagged : (tag : ℕ) (s : Site) (xs : List Entry) → AreNext tag s xs → Every (λ (e : Entry). tag_of e ≡ tag) xs
 next_tagged tag s [] a = tt
@@ -80,18 +83,28 @@ pub event_did : StepsAddTheirEntry → (desk : LockView Key) (p q : DeskPass) (t
 event_did law desk p q t e result held s s' h same tag steps seen legal back =
     did (λ x x'. Steps x p.tag e result x') desk p q s s' (still desk p held s h same) (event_grew law p t e result s s' tag steps) (subst (λ n. Steps s n e result s') tag steps) seen legal back
 
--- ---- bytes that are handed in
+-- ---- what was read of bytes
 
-bytes_grew : (p : DeskPass) (t : ℕ) (bytes : List ℕ) (result : Result Reply Refusal) (s s' : Site) → t ≡ p.tag → Receives s t bytes result s' → Grew p.tag s s'
-bytes_grew p t bytes result s s' tag answer = subst (λ n. Grew n s s') tag (grew_by_bytes t s s' bytes result answer.entry)
+read_grew : StepsAddTheirEntry → (p : DeskPass) (t : ℕ) (read : Result Fields FrameFault) (result : Result Reply Refusal) (s s' : Site) → t ≡ p.tag → TakesRead s t read result s' → Grew p.tag s s'
+read_grew law p t read result s s' tag answer = subst (λ n. Grew n s s') tag (grew_by_read law t s s' read result answer)
 
-pub bytes_add : (desk : LockView Key) (p : DeskPass) (t : ℕ) (bytes : List ℕ) (result : Result Reply Refusal) (held s s' : Site) → Holds desk p held → s ≡ held → t ≡ p.tag → Receives s t bytes result s' → AddsOnly tag_of p.tag p.seen s'.entries
-bytes_add desk p t bytes result held s s' h same tag answer = adds_only desk p s s' (still desk p held s h same) (bytes_grew p t bytes result s s' tag answer)
+pub read_adds : StepsAddTheirEntry → (desk : LockView Key) (p : DeskPass) (t : ℕ) (read : Result Fields FrameFault) (result : Result Reply Refusal) (held s s' : Site) → Holds desk p held → s ≡ held → t ≡ p.tag → TakesRead s t read result s' →
+    AddsOnly tag_of p.tag p.seen s'.entries
+read_adds law desk p t read result held s s' h same tag answer = adds_only desk p s s' (still desk p held s h same) (read_grew law p t read result s s' tag answer)
 
-pub bytes_did : (desk : LockView Key) (p q : DeskPass) (t : ℕ) (bytes : List ℕ) (result : Result Reply Refusal) (held s s' : Site) → Holds desk p held → s ≡ held → t ≡ p.tag → Receives s t bytes result s' → q.seen ≡ s'.entries → IsLegal s' → GivesBack p q s' →
-    Did (λ x x'. Receives x p.tag bytes result x') desk.key p q
-bytes_did desk p q t bytes result held s s' h same tag answer seen legal back =
-    did (λ x x'. Receives x p.tag bytes result x') desk p q s s' (still desk p held s h same) (bytes_grew p t bytes result s s' tag answer) (subst (λ n. Receives s n bytes result s') tag answer) seen legal back
+pub read_key : StepsAddTheirEntry → (desk : LockView Key) (p : DeskPass) (t : ℕ) (read : Result Fields FrameFault) (result : Result Reply Refusal) (held s s' : Site) → Holds desk p held → s ≡ held → t ≡ p.tag → TakesRead s t read result s' →
+    (s'.plan, s'.me) ≡ desk.key
+read_key law desk p t read result held s s' h same tag answer = key_stays desk p s s' (still desk p held s h same) (read_grew law p t read result s s' tag answer)
+
+pub read_did : StepsAddTheirEntry → (desk : LockView Key) (p q : DeskPass) (t : ℕ) (read : Result Fields FrameFault) (result : Result Reply Refusal) (held s s' : Site) → Holds desk p held → s ≡ held → t ≡ p.tag → TakesRead s t read result s' →
+    q.seen ≡ s'.entries → IsLegal s' → GivesBack p q s' → Did (λ x x'. TakesRead x p.tag read result x') desk.key p q
+read_did law desk p q t read result held s s' h same tag answer seen legal back =
+    did (λ x x'. TakesRead x p.tag read result x') desk p q s s' (still desk p held s h same) (read_grew law p t read result s s' tag answer) (subst (λ n. TakesRead s n read result s') tag answer) seen legal back
+
+-- bytes that were read so were received
+pub read_received : ReadIsReceived → (k : Key) (p q : DeskPass) (bytes : List ℕ) (read : Result Fields FrameFault) (result : Result Reply Refusal) → IsRead bytes read → Does (λ s s'. TakesRead s p.tag read result s') k p q → Does (λ s s'. Receives s p.tag bytes result s') k p q
+read_received law k p q bytes read result is (between, d) =
+    (between, record { done = law (office_with k (p.seen ++ between)) p.tag bytes read result (office_with k q.seen) is d.done; legal = d.legal; added = d.added; left = d.left })
 
 -- ---- rules that come next
 

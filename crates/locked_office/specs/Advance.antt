@@ -16,7 +16,7 @@ abbrev pub Ends : ℕ → ℕ → Result ℕ Stopped → Site → Type 0
 Ends tag most (Ok n) s = (n ≤ most) × (n < most → next_at s ≡ None)
 Ends tag most (Err stopped) s = (stopped.done < most) × LacksRoom s stopped.refusal × ((r : Rule) × (next_at s ≡ Some r) × Steps s tag (Do r) (Err stopped.refusal) s)
 
--- as many entries as the answer tells were added beside each other
+-- as many entries as the answer tells were added beside each other, each the rule that was next at its point
 pub record Advances (tag most : ℕ) (result : Result ℕ Stopped) (s s' : Site) : Type 0 where
   pub done : List Entry
   pub next : AreNext tag s done

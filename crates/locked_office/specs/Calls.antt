@@ -9,13 +9,15 @@ use Rattle.site_core.specs.Journals.{Site, IsLegal}
 abbrev pub Key : Type 0
 Key = PlanValue × ℕ
 
+-- a pass of a desk
 abbrev pub DeskPass : Type 0
 DeskPass = PassView Key Entry
 
+-- the tag of an entry
 abbrev pub tag_of : Entry → ℕ
 tag_of e = e.tag
 
--- that office, with this journal
+-- the office of a desk, with this journal
 abbrev pub office_with : Key → List Entry → Site
 office_with k es = record { plan = k.0; me = k.1; entries = es }
 

@@ -11,6 +11,7 @@ use Rattle.site_core.specs.Journals.{Site, office_of}
 abbrev pub outcome_of : Site → ℕ → Option Outcome
 outcome_of s ticket = outcome_with (office_of s).agenda.outcomes ticket
 
--- the number of the first message that waits for a neighbour, if one waits, and how many do
+-- the number of the first message that waits for a neighbour, if one waits, and how many do; or `NotNow`, where it is
+-- none
 abbrev pub waiting_for : Site → ℕ → Result (ℕ × ℕ) Refusal
 waiting_for s v = if are_neighbours s.plan s.me v then Ok (waiting_on ((office_of s).pairs.link v)) else Err NotNow

@@ -4,7 +4,7 @@ ghost use Rattle.std.specs.Prelude.{◌≡◌, ◌≢◌, ◌+◌, ◌≤◌, �
 ghost use Rattle.own_lock.specs.Entries.{AddsOnly};
 ghost use Rattle.own_lock.specs.Passes.{IsOf};
 ghost use Rattle.site_core.specs.declared.event.Event.TheVariants as events;
-ghost use Rattle.site_core.specs.Journals.{IsLegal, Steps, Receives};
+ghost use Rattle.site_core.specs.Journals.{IsLegal, Steps, TakesRead};
 ghost use Rattle.site_core.specs.Growing.{link_to};
 ghost use Rattle.site_core.specs.Limits.{most_entries};
 ghost use Rattle.locked_office.specs.Calls.{Stays, Did, tag_of, office_with};
@@ -15,10 +15,11 @@ ghost use Rattle.locked_office.specs.refinement.Places.{place_at, framed_as};
 ghost use Rattle.locked_office.specs.refinement.Holding.{Holds, GivesBack};
 
 use crate::advance::{Stopped, do_rules};
-use frame_codec::Frame;
+use frame_codec::{Frame, FrameFault};
 use office_map::OfficeId;
 use own_lock::{Held, OwnLock, Pass};
-use session_language::{Outcome, Program};
+use session_meaning::Outcome;
+use session_programs::Program;
 use site_core::laws::steps_add_their_entry;
 use site_core::{Entry, Office, Refusal, Reply};
 use std::alloc::{AllocError, Global};
@@ -73,18 +74,19 @@ pub fn withdraw(
     reply
 }
 
-/// A frame is taken, or bytes that are none are refused.
-pub fn took(
+/// What was read of bytes is taken, or refused for what is wrong with them.
+pub fn take_read(
     lock: &OwnLock<Office>,
     pass: &mut Pass<Office>,
     mut held: Held<Office>,
-    bytes: &[u8],
+    read: &Result<Frame, FrameFault>,
 ) -> Result<Reply, Refusal>
     requires { Holds lock.now pass.old held }
     ensures stays { Stays lock.now pass.old pass.new }
-    ensures did { Did (λ s s'. Receives s pass.old.tag bytes.now result s') lock.now.key pass.old pass.new }
+    ensures did { Did (λ s s'. TakesRead s pass.old.tag read.now result s') lock.now.key pass.old pass.new }
 {
-    let reply = held.state().receive(pass.tag(), bytes);
+    steps_add_their_entry();
+    let reply = held.state().take_read(pass.tag(), read);
     give_back(lock, pass, held);
     reply
 }

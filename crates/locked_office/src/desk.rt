@@ -5,7 +5,7 @@ ghost use mathlib.Core.List.{IsPrefix};
 ghost use Rattle.own_lock.specs.Entries.{longer, tagged};
 ghost use Rattle.own_lock.specs.Passes.{IsOf, AreFresh, AreIdle};
 ghost use Rattle.site_core.specs.declared.event.Event.TheVariants as events;
-ghost use Rattle.site_core.specs.Journals.{IsLegal, Steps, Receives};
+ghost use Rattle.site_core.specs.Journals.{IsLegal, Steps, TakesRead, Receives};
 ghost use Rattle.site_core.specs.Limits.{most_entries};
 ghost use Rattle.locked_office.specs.Calls.{Stays, Does, Looks, tag_of, office_with};
 ghost use Rattle.locked_office.specs.Advance.{Advances};
@@ -15,10 +15,12 @@ ghost use Rattle.locked_office.specs.refinement.Holding.{Holds, Came};
 
 use crate::advance::Stopped;
 use crate::calls;
-use frame_codec::Frame;
+use frame_codec::{Frame, FrameFault, decode};
 use office_map::OfficeId;
 use own_lock::{Busy, Held, OwnLock, Pass};
-use session_language::{Outcome, Program};
+use session_meaning::Outcome;
+use session_programs::Program;
+use site_core::laws::what_is_read_is_received;
 use site_core::{Entry, Office, Refusal, Reply};
 use std::alloc::{AllocError, Global};
 use std::marker::Model;
@@ -100,6 +102,7 @@ impl Desk {
         self.lock.meet(first, second);
     }
 
+    // Goes by `OwnLock::take`, which tries again and then parks: nothing here knows of it.
     fn hold<R: Wait>(&self, rt: &R, pass: &mut Pass<Office>) -> Held<Office>
         requires of { IsOf self.now pass.old }
         requires idle { pass.old.holds ≡ false }
@@ -139,6 +142,9 @@ impl Desk {
     }
 
     /// Submits a session, if no other pass has the office.
+    ///
+    /// A refusal and `Busy` are two layers: what an office refuses stays its own type, and a caller that tries again
+    /// looks at one of them.
     ///
     /// # Errors
     /// `Busy` where another pass has it. Nothing changed.
@@ -210,8 +216,28 @@ impl Desk {
         ensures stays { Stays self.now pass.old pass.new }
         ensures taken { Does (λ s s'. Receives s pass.old.tag bytes.now result s') self.now.key pass.old pass.new }
     {
+        what_is_read_is_received();
+        let read = decode(bytes);
+        self.take_read(rt, pass, &read)
+    }
+
+    /// Takes in what was read of bytes that come, as [`Desk::took`] does with the bytes.
+    ///
+    /// # Errors
+    /// As [`Office::take_read`].
+    pub fn take_read<R: Wait>(
+        &self,
+        rt: &R,
+        pass: &mut Pass<Office>,
+        read: &Result<Frame, FrameFault>,
+    ) -> Result<Reply, Refusal>
+        requires of { IsOf self.now pass.old }
+        requires idle { pass.old.holds ≡ false }
+        ensures stays { Stays self.now pass.old pass.new }
+        ensures taken { Does (λ s s'. TakesRead s pass.old.tag read.now result s') self.now.key pass.old pass.new }
+    {
         let held = self.hold(rt, pass);
-        calls::took(&self.lock, pass, held, bytes)
+        calls::take_read(&self.lock, pass, held, read)
     }
 
     /// Takes in bytes that come, if no other pass has the office.
@@ -229,8 +255,10 @@ impl Desk {
         ensures taken { IfOk result (λ answer. Does (λ s s'. Receives s pass.old.tag bytes.now answer s') self.now.key pass.old pass.new) }
         ensures busy { IfErr result (λ _. pass.new ≡ pass.old) }
     {
+        what_is_read_is_received();
+        let read = decode(bytes);
         let held = self.try_hold(pass)?;
-        Ok(calls::took(&self.lock, pass, held, bytes))
+        Ok(calls::take_read(&self.lock, pass, held, &read))
     }
 
     /// Makes a frame for a neighbour: of the `i`-th message that waits for it, from 1, or with 0 of the count alone.
@@ -254,6 +282,9 @@ impl Desk {
     }
 
     /// Makes a frame of the message with that number; none where no such message waits for that neighbour, or it is no neighbour.
+    ///
+    /// It is found and sent under one holding. Between `waiting` and `send` another pass may take an acknowledgement,
+    /// and then the i-th message that waits is another one.
     ///
     /// # Errors
     /// `JournalFull` or `Memory`, where there is no room for the entry. Nothing changed.
@@ -295,6 +326,9 @@ impl Desk {
     }
 
     /// How the session with that ticket ended; none where it hasn't finished or was withdrawn, and then no memory is taken.
+    ///
+    /// Want of memory for a copy is `AllocError`, as of [`Desk::journal_part`]: no refusal of the office can come of a
+    /// question.
     pub fn outcome<R: Wait>(
         &self,
         rt: &R,

@@ -6,6 +6,8 @@ ghost use Rattle.locked_office.specs.contracts.desk.Desk as desk;
 use site_core::laws::an_office_crosses_threads;
 
 /// Threads may share a desk.
+///
+/// A function that hands a desk to threads calls these laws, and `an_office_crosses_threads` for the passes.
 pub fn threads_share_a_desk()
     ensures { IsSync desk.the_row }
 {

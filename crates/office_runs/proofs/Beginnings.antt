@@ -1,31 +1,21 @@
 -- Lists that begin one another, and the entries of a tag in them.
-use Rattle.std.proofs.Common.{◌≡◌, ℕ, zero, suc, ◌==◌, ◌<◌, ◌≤◌, Bool, true, false, cond, List, [], ◌∷◌, ◌++◌, length, get_or, take, map, refl, sym, ap, ◌∙◌, append_assoc, append-nil, arith, take_at, eq-eqb, ⊎_elim}
+use Rattle.std.proofs.Common.{◌≡◌, ℕ, zero, suc, ◌==◌, ◌<◌, ◌≤◌, Bool, true, false, cond, List, [], ◌∷◌, ◌++◌, length, get_or, refl, sym, ap, ◌∙◌, append_assoc, append-nil, arith, eq-eqb, ⊎_elim}
 use Rattle.std.specs.Prelude.{All}
 use Rattle.std.proofs.lemmas.Bool.{cases_lt}
-use Rattle.std.proofs.lemmas.List.{map-append, take-map, length-map}
 use Rattle.std.proofs.lemmas.List.Elements.{filter-append}
 use mathlib.Core.List.{IsPrefix}
 use Rattle.own_lock.specs.Entries.{tagged}
 
 module _ {A : Type 0} where
-  pub nothing_before : (xs ys : List A) → xs ++ ys ≡ [] → xs ≡ []
+  nothing_before : (xs ys : List A) → xs ++ ys ≡ [] → xs ≡ []
   nothing_before [] ys h = refl
   nothing_before (x ∷ xs) ys h = absurd (cc h)
-
-  pub nothing_behind : (xs ys : List A) → xs ++ ys ≡ [] → ys ≡ []
-  nothing_behind [] ys h = h
-  nothing_behind (x ∷ xs) ys h = absurd (cc h)
 
   pub begins_itself : (xs : List A) → IsPrefix xs xs
   begins_itself xs = ([], append-nil xs)
 
   pub begins_all : (xs ys zs : List A) → IsPrefix xs ys → IsPrefix ys zs → IsPrefix xs zs
   begins_all xs ys zs p q = (p.0 ++ q.0, sym (append_assoc xs p.0 q.0) ∙ ap (λ l. l ++ q.0) p.1 ∙ q.1)
-
--- where all are mapped to the same, so is a beginning
-pub map_begins : {A B C : Type 0} (f : A → C) (g : B → C) (xs rest all : List A) (ys : List B) → xs ++ rest ≡ all → map f all ≡ map g ys → map f xs ≡ map g (take (length xs) ys)
-map_begins f g xs rest all ys is same =
-    sym (take_at (map f xs) (map f rest) (length xs) (length-map xs f)) ∙ ap (take (length xs)) (sym (map-append f xs rest) ∙ ap (map f) is ∙ same) ∙ take-map g (length xs) ys
 
 -- ---- entries of a tag
 

@@ -9,7 +9,7 @@ use Rattle.office_stations.specs.declared.pace.TimedTurn.{TimedTurn}
 use Rattle.office_stations.specs.Rounds.{Standing, Fills, StopsFilling, Turns, BreaksOff, counted}
 use Rattle.office_runs.specs.Threads.{Worked, FillsTimes, Submitted}
 use Rattle.office_stations.specs.refinement.Standings.{standing}
-use Rattle.office_stations.proofs.Rounds.{Made, one_round}
+use Rattle.office_stations.specs.refinement.RoundLaws.{Made, one_round}
 
 -- ---- who turns it
 

@@ -1,9 +1,5 @@
-mod Beginnings
-mod Courses
-mod Dealing
-mod Ends
-mod Finishing
-mod Lists
-mod Telling
-mod Writers
-mod Written
+pub mod Beginnings
+pub mod Dealing
+pub mod Ends
+pub mod Telling
+pub mod Writers

@@ -1,21 +1,19 @@
 -- What is told of one office, and of one more.
-use Rattle.std.proofs.Common.{◌≡◌, ℕ, ◌+◌, ◌-◌, ◌<◌, List, [], ◌∷◌, ◌++◌, length, map, Bool, true, false, Option, None, Result, Ok, Err, refl, sym, ap, subst, ◌∙◌, arith}
+use Rattle.std.proofs.Common.{◌≡◌, ℕ, ◌+◌, ◌-◌, ◌<◌, List, [], ◌∷◌, ◌++◌, length, map, Bool, true, Option, None, Result, Ok, Err, sym, ap, subst, ◌∙◌, arith}
 use Rattle.std.specs.Prelude.{All, IfOk, OnOk}
 use Rattle.std.specs.List.{flat_map}
 use mathlib.Core.List.{IsPrefix}
 use Rattle.std.specs.String.{string_bytes}
-use Rattle.std.proofs.lemmas.List.Elements.{All-append, All-cons, All-nil}
+use Rattle.std.proofs.lemmas.List.Elements.{All-cons, All-nil}
 use Rattle.office_map.specs.PlanValue.{PlanValue}
 use Rattle.session_meaning.specs.ProgramValue.{ProgramValue}
 use Rattle.own_lock.specs.Entries.{tagged}
 use Rattle.locked_office.specs.Calls.{Key, DeskPass, Looks, office_with, tag_of}
-use Rattle.run_reports.specs.Report.{outcome_line}
+use Rattle.session_reports.specs.Report.{outcome_line}
 use Rattle.office_stations.specs.declared.fault.RunFault.{RunFault}
 use Rattle.office_runs.specs.declared.report.Ran.{Ran}
 use Rattle.office_stations.specs.Rounds.{Standing, Goes, of_office}
-use Rattle.std.proofs.lemmas.List.{append-nil, map-append, length-append}
-use Rattle.std.proofs.lemmas.List.Concat.{flat_map-append}
-use Rattle.session_meaning.specs.declared.ending.Outcome.{Outcome}
+use Rattle.std.proofs.lemmas.List.{append-nil, map-append}
 use Rattle.site_core.specs.Journals.{Site, IsLegal}
 use Rattle.site_core.specs.declared.event.Entry.{Entry}
 use Rattle.journal_texts.specs.JournalText.{IsJournal}
@@ -23,18 +21,6 @@ use Rattle.journal_texts.specs.Written.{journal_text}
 use Rattle.office_stations.specs.Sessions.{count_of, finished_of}
 use Rattle.office_runs.specs.Runs.{all_finished, key_of, runs_report, text_of, HasJournals, IsReadBack, TellsCourse, TellsJournals}
 use Rattle.office_runs.specs.refinement.Reports.{Told, AddsJournal, AddsOffice}
-
-pub finished_more : (sites : List Site) (s : Site) → all_finished (sites ++ s ∷ []) ≡ all_finished sites ++ finished_of s
-finished_more sites s = flat_map-append finished_of sites (s ∷ []) ∙ ap (λ l. all_finished sites ++ l) (append-nil (finished_of s))
-
-pub left_more : (sites : List Site) (s : Site) (sessions left next n : ℕ) → left ≡ sessions - length (all_finished sites) → next ≡ left - n → n ≡ length (finished_of s) → next ≡ sessions - length (all_finished (sites ++ s ∷ []))
-left_more sites s sessions left next n before after count =
-    let all : length (all_finished (sites ++ s ∷ [])) ≡ length (all_finished sites) + length (finished_of s) = ap length (finished_more sites s) ∙ length-append (all_finished sites) (finished_of s) in
-    omega (arith, before, after, count, all)
-
-pub text_more : (line : Outcome → List ℕ) (sites : List Site) (s : Site) (before after : List ℕ) → before ≡ flat_map line (all_finished sites) → after ≡ before ++ flat_map line (finished_of s) → after ≡ flat_map line (all_finished (sites ++ s ∷ []))
-text_more line sites s before after told more =
-    more ∙ ap (λ l. l ++ flat_map line (finished_of s)) told ∙ sym (flat_map-append line (all_finished sites) (finished_of s)) ∙ ap (flat_map line) (sym (finished_more sites s))
 
 -- ---- journals
 
@@ -56,16 +42,6 @@ read_back s p me entries text plan number same is reads =
 
 pub journal_added : (wanted : Bool) (s : Site) (before after : List (List ℕ)) → wanted ≡ true → after ≡ before ++ text_of s ∷ [] → IsReadBack s → AddsJournal wanted s before after
 journal_added wanted s before after asked told reads = subst (λ (w : Bool). AddsJournal w s before after) (sym asked) (told, reads)
-
--- of no office yet
-pub no_journals : (wanted : Bool) → HasJournals wanted [] []
-no_journals true = (refl, All-nil IsReadBack)
-no_journals false = refl
-
-pub journals_more : (wanted : Bool) (sites : List Site) (s : Site) (before after : List (List ℕ)) → HasJournals wanted sites before → AddsJournal wanted s before after → HasJournals wanted (sites ++ s ∷ []) after
-journals_more true sites s before after has adds =
-    (adds.0 ∙ ap (λ l. l ++ text_of s ∷ []) has.0 ∙ sym (map-append text_of sites (s ∷ [])), All-append IsReadBack sites (s ∷ []) has.1 (All-cons IsReadBack s [] adds.1 (All-nil IsReadBack)))
-journals_more false sites s before after has adds = adds ∙ has
 
 -- ---- one office alone
 

@@ -1,28 +1,27 @@
 -- Who wrote what is told of an office, by what its passes show that met.
-use Rattle.std.proofs.Common.{◌≡◌, ℕ, ◌+◌, ◌<◌, ◌≤◌, List, [], ◌∷◌, ◌++◌, length, get_or, take, drop, map, sym, ap, subst, ◌∙◌, append_assoc, arith, length-append, take-append-drop, ⊎_elim}
+use Rattle.std.proofs.Common.{◌≡◌, ℕ, ◌+◌, ◌<◌, ◌≤◌, List, [], ◌∷◌, ◌++◌, length, map, sym, ap, subst, ◌∙◌, append-nil, arith, ⊎_elim}
 use Rattle.std.specs.Prelude.{All}
 use Rattle.std.specs.List.{range_with_len}
 use Rattle.std.proofs.lemmas.Bool.{cases_lt}
-use Rattle.std.proofs.lemmas.List.{get_or_append_left}
+use Rattle.std.proofs.lemmas.List.{append_cancel_left}
 use Rattle.std.proofs.lemmas.List.Elements.{All-cons, All-nil}
 use mathlib.Core.List.{IsPrefix}
 use Rattle.own_lock.specs.Entries.{tagged}
 use Rattle.own_lock.specs.Passes.{LockView, fresh_pass}
 use Rattle.office_map.specs.PlanValue.{PlanValue}
-use Rattle.session_meaning.specs.ProgramValue.{ProgramValue}
-use Rattle.site_core.specs.declared.event.Event.TheVariants.{Submit}
 use Rattle.site_core.specs.declared.event.Entry.{Entry}
 use Rattle.site_core.specs.Offices.{Office}
 use Rattle.site_core.specs.Journals.{Site, AreAccepted, IsLegal, after}
 use Rattle.locked_office.specs.Calls.{Key, DeskPass, Looks, office_with, tag_of}
-use Rattle.office_runs.specs.Threads.{IsNoSubmit, IsWrittenBy}
-use Rattle.office_runs.proofs.Beginnings.{begins_all, map_begins, none_before, tagged_begins, tags_below}
-use Rattle.office_runs.proofs.Written.{looks_adds_nothing}
+use Rattle.office_runs.proofs.Beginnings.{begins_all, none_before, tagged_begins, tags_below}
 
-all_before : (P : Entry → Type 0) (xs ys : List Entry) → IsPrefix xs ys → All P ys → All P xs
-all_before P xs ys p all i d lt =
-    let within : i < length ys = omega (arith, lt, length-append xs p.0, ap length p.1) in
-    subst P (ap (λ (l : List Entry). get_or l i d) (sym p.1) ∙ get_or_append_left xs p.0 d i lt) (all i d within)
+-- who only looked added nothing
+looks_adds_nothing : (k : Key) (p q : DeskPass) → Looks k p q → q.mine ≡ p.mine
+looks_adds_nothing k p q (between, d) =
+    let seen : List Entry = p.seen ++ between in
+    let done : office_with k (seen ++ d.added) ≡ office_with k seen = subst (λ (x : DeskPass). office_with k x.seen ≡ office_with k seen) d.left d.done in
+    let none : d.added ≡ [] = append_cancel_left seen d.added [] (ap (λ (s : Site). s.entries) done ∙ sym (append-nil seen)) in
+    ap (λ (x : DeskPass). x.mine) d.left ∙ ap (λ (l : List Entry). p.mine ++ l) none ∙ append-nil p.mine
 
 accepted_tags : (plan : PlanValue) (me : ℕ) (o : Office) (es : List Entry) → AreAccepted plan me o es → All (λ (e : Entry). e.tag < 16) es
 accepted_tags plan me o [] accepted = All-nil (λ (e : Entry). e.tag < 16)
@@ -60,16 +59,3 @@ all_met desk k own looked rested worked submitted worker client rest fresh other
       subst (IsPrefix (tagged tag_of 0 looked.seen)) turned (tagged_begins tag_of 0 looked.seen worked.seen to_worked),
       subst (IsPrefix (tagged tag_of 1 looked.seen)) given (tagged_begins tag_of 1 looked.seen submitted.seen to_submitted),
     )
-
-pub written_by : (sessions : List ProgramValue) (s : Site) (worker client : List Entry) → All (λ (e : Entry). e.tag < 2) s.entries → IsPrefix (tagged tag_of 0 s.entries) worker → IsPrefix (tagged tag_of 1 s.entries) client → All IsNoSubmit worker →
-    (given left : List ProgramValue) × (given ++ left ≡ sessions) × (map (λ (e : Entry). e.event) client ≡ map Submit given) → IsWrittenBy sessions s
-written_by sessions s worker client tags turns submits none (given, left, are, all) =
-    let own : List Entry = tagged tag_of 1 s.entries in
-    record {
-      tags = tags;
-      turns = all_before IsNoSubmit (tagged tag_of 0 s.entries) worker turns none;
-      given = take (length own) given;
-      left = drop (length own) given ++ left;
-      are = sym (append_assoc (take (length own) given) (drop (length own) given) left) ∙ ap (λ (l : List ProgramValue). l ++ left) (take-append-drop (length own) given) ∙ are;
-      submits = map_begins (λ (e : Entry). e.event) Submit own submits.0 client given submits.1 all;
-    }

@@ -1,4 +1,3 @@
-pub mod Courses
 pub mod Runs
 pub mod Threads
 pub mod refinement

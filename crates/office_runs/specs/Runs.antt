@@ -7,19 +7,18 @@ use Rattle.session_meaning.specs.ProgramValue.{ProgramValue}
 use Rattle.session_meaning.specs.declared.ending.Outcome.{Outcome}
 use Rattle.site_core.specs.Journals.{Site, IsLegal}
 use Rattle.locked_office.specs.Calls.{Key, DeskPass, Looks, office_with}
-use Rattle.run_reports.specs.Report.{outcome_line}
-use Rattle.run_reports.specs.WorldReport.{unfinished_line}
+use Rattle.session_reports.specs.Report.{outcome_line, unfinished_line}
 use Rattle.journal_texts.specs.JournalText.{IsJournal}
 use Rattle.journal_texts.specs.Written.{journal_text}
 use Rattle.office_stations.specs.Rounds.{Standing, Goes, of_office}
 use Rattle.office_stations.specs.Sessions.{count_of, finished_of}
 use Rattle.office_runs.specs.declared.report.Ran.{Ran}
 
--- those of several offices, one office after the other
+-- the finished sessions of several offices, one office after the other
 abbrev pub all_finished : List Site → List Outcome
 all_finished = flat_map finished_of
 
--- their lines, and how many haven't finished
+-- the lines of the sessions that finished, and how many haven't
 abbrev pub runs_report : PlanValue → List Site → ℕ → List ℕ
 runs_report p sites n = flat_map (outcome_line p) (all_finished sites) ++ unfinished_line n
 
@@ -52,11 +51,13 @@ pub record TellsOffices (p : PlanValue) (keys : List Key) (sessions : ℕ) (want
   pub told : string_bytes ran.text ≡ runs_report p sites ran.unfinished
   pub journals : HasJournals wanted sites (map string_bytes ran.journals.items)
 
--- of these offices of the plan
+-- so it is of these offices of the plan
 abbrev pub TellsJournals : PlanValue → List ℕ → ℕ → Bool → Ran → Type 0
 TellsJournals p offices = TellsOffices p (map (λ me. (p, me)) offices)
 
--- What is told of an office is what its journal tells, which is what came of so many rounds with its sessions of the list, of fewer only where a fault ended one; and, where it is wanted, this journal.
+-- What is told of an office is what its journal tells, which is what came of so many rounds with its sessions of the
+-- list, with nothing done and nothing sent before, of fewer only where a fault ended one; and, where it is wanted, this
+-- journal.
 pub record TellsCourse (tells : Bool) (p : PlanValue) (me : ℕ) (programs : List ProgramValue) (turns : ℕ) (wanted : Bool) (ran : Ran) : Type 0 where
   pub first : Standing
   pub begins : (first.pass.tag ≡ 0) × (first.pass.seen ≡ []) × (first.pass.mine ≡ []) × ((v n : ℕ) → first.last v n ≡ None)

@@ -10,6 +10,14 @@ use Rattle.office_stations.specs.declared.fault.RunFault.{RunFault}
 use Rattle.office_stations.specs.declared.pace.TimedTurn.{TimedTurn}
 use Rattle.office_stations.specs.Rounds.{Standing, Fills, StopsFilling, BreaksOff, counted, IsLastBegun, Rounds}
 
+-- the most turns of an office on threads
+abbrev pub most_turns : ℕ
+most_turns = 100000
+
+-- a pass with this tag, of an office that has done nothing
+abbrev pub IsNew : ℕ → DeskPass → Type 0
+IsNew tag p = (p.tag ≡ tag) × (p.seen ≡ []) × (p.mine ≡ [])
+
 -- ---- how each ended
 
 -- who turned it, with the tag 0: after turns, one after the other, the last begun while fewer than so many counted; and, where there is a fault, in one that broke off

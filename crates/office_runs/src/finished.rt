@@ -4,7 +4,7 @@ ghost use Rattle.std.specs.Prelude.{◌≡◌, ◌<◌, ◌++◌, false, length,
 ghost use Rattle.std.specs.List.{flat_map};
 ghost use Rattle.own_lock.specs.Passes.{IsOf};
 ghost use Rattle.locked_office.specs.Calls.{Stays, Looks, office_with};
-ghost use Rattle.run_reports.specs.Report.{outcome_line};
+ghost use Rattle.session_reports.specs.Report.{outcome_line};
 ghost use Rattle.office_stations.specs.Sessions.{finished_of};
 ghost use Rattle.office_runs.specs.refinement.Reports.{AddsJournal};
 

@@ -22,7 +22,7 @@ use std::sync::Wait;
 
 /// The sessions of an office that finished are told, and how many they are; and its journal, where it is wanted. Then all its
 /// passes meet, so that it is known whose the entries are: those of who turned it, and of who submitted its sessions.
-pub(crate) fn add_office<R: Wait>(
+pub fn add_office<R: Wait>(
     rt: &R,
     plan: &Plan,
     office: Opened,

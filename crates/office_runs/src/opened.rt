@@ -15,9 +15,11 @@ use std::sync::Arc;
 
 /// An office at its desk, which threads share, with the passes that stay with who started it: the last, and those that nobody
 /// works with. The two who work for it have the others, with the tags 0 and 1.
+///
+/// The desk is shared by an `Arc`, so that none outlives its run.
 #[derive(Drop)]
-pub(crate) struct Opened {
-    pub(crate) desk: Arc<Desk>,
+pub struct Opened {
+    pub desk: Arc<Desk>,
     pub(crate) own: Pass<Office>,
     pub(crate) rest: Vec<Pass<Office>>,
     ghost last: { own ≡ fresh_pass (arc_value desk) tag_of [] 15 },

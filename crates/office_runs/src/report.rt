@@ -3,8 +3,7 @@
 ghost use Rattle.std.specs.Prelude.{◌≡◌, ◌<◌, ◌++◌, [], length, map, IfOk, OnOk};
 ghost use Rattle.std.specs.List.{flat_map};
 ghost use Rattle.std.specs.String.{string_bytes};
-ghost use Rattle.run_reports.specs.Report.{outcome_line};
-ghost use Rattle.run_reports.specs.WorldReport.{unfinished_line};
+ghost use Rattle.session_reports.specs.Report.{outcome_line, unfinished_line};
 ghost use Rattle.office_stations.specs.Sessions.{finished_of};
 ghost use Rattle.office_runs.specs.Runs.{IsQuiet};
 ghost use Rattle.office_runs.specs.refinement.Reports.{AddsJournal, none_told};
@@ -12,7 +11,7 @@ ghost use Rattle.office_runs.specs.refinement.Reports.{AddsJournal, none_told};
 use office_map::Plan;
 use office_stations::{RunFault, add_lines};
 use run_remarks::{Remarks, Way};
-use run_reports::world::add_unfinished;
+use session_reports::report::add_unfinished;
 use site_core::Office;
 use std::alloc::{AllocError, Global};
 use std::marker::Model;
@@ -31,7 +30,7 @@ pub struct Ran {
 
 /// What is told of offices so far, one after the other. Contracts see the texts.
 #[derive(Drop)]
-pub(crate) struct Report {
+pub struct Report {
     alloc: Global,
     text: String,
     wanted: bool,
@@ -54,7 +53,7 @@ impl Model for Report {
 
 impl Report {
     /// Of no office yet; and whether the texts of their journals are wanted.
-    pub(crate) fn new(alloc: Global, wanted: bool) -> Report
+    pub fn new(alloc: Global, wanted: bool) -> Report
         ensures { result ≡ none_told wanted }
     {
         Report {
@@ -69,7 +68,7 @@ impl Report {
     }
 
     /// So many sessions of the office that is told next are the run's, and these are the ways to its neighbours.
-    pub(crate) fn expect(&mut self, sessions: usize, ways: Vec<Way>)
+    pub fn expect(&mut self, sessions: usize, ways: Vec<Way>)
         ensures { self.new ≡ self.old }
     {
         self.sessions = u32::try_from(sessions).unwrap_or(u32::MAX);
@@ -117,7 +116,7 @@ impl Report {
 }
 
 /// What came of a run, of which the sessions that finished are told.
-pub(crate) fn with_unfinished(
+pub fn with_unfinished(
     report: Report,
     unfinished: usize,
     fault: Option<RunFault>,

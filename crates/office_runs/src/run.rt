@@ -23,7 +23,7 @@ use office_stations::{
 };
 use own_lock::Pass;
 use run_remarks::Way;
-use session_language::Program;
+use session_programs::Program;
 use site_core::Office;
 use std::alloc::{AllocError, Global};
 use std::rt::Clock;

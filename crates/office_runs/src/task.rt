@@ -10,7 +10,7 @@ use std::thread::{Promise, PromisedHandle, Scope, SpawnError, Threads};
 
 /// Work that was started. Contracts see what is promised of its end.
 #[derive(Drop)]
-pub(crate) struct Task<T, P: Promise<T>> {
+pub struct Task<T, P: Promise<T>> {
     /// Its thread; or its end, where none could be started.
     thread: Result<PromisedHandle<T, P>, T>,
     promise: Snapshot<P>,
@@ -28,7 +28,7 @@ impl<T, P: Promise<T>> Model for Task<T, P> {
 
 impl<T, P: Promise<T>> Task<T, P> {
     /// Waits for its end.
-    pub(crate) fn join<R: Threads>(self, rt: &R) -> T
+    pub fn join<R: Threads>(self, rt: &R) -> T
         ensures { P.kept_by self result }
     {
         let Task { thread, promise } = self;
@@ -41,6 +41,9 @@ impl<T, P: Promise<T>> Task<T, P> {
 }
 
 /// Starts a thread for the work. Where none can be, the run is over, so the work ends at once, and is done here.
+///
+/// So its pass isn't lost. No clause tells this from work that a thread did: that a thread couldn't be started may be
+/// told of whatever run, as far as the clauses go.
 pub(crate) fn start<'x, E, R: Wait, G: Gate, T, P, F>(
     scope: &Scope<'x, E>,
     rt: &R,

@@ -1,26 +1,29 @@
 //! Who works for an office, each on a thread of its own.
 
-ghost use Rattle.std.specs.Prelude.{◌≡◌, ℕ, [], None, false};
+ghost use Rattle.std.specs.Prelude.{◌≡◌, ◌<◌, ℕ, [], None, false, length, IfOk};
 ghost use Rattle.std.specs.Arc.{arc_value};
 ghost use Rattle.own_lock.specs.Passes.{IsOf, fresh_pass};
 ghost use Rattle.locked_office.specs.Calls.{Stays, tag_of};
 ghost use Rattle.socket_pump.specs.Last.{last_of};
 ghost use Rattle.office_stations.specs.Rounds.{of_office};
-ghost use Rattle.office_runs.specs.Threads.{Worked, Submitted};
-ghost use Rattle.office_runs.specs.Courses.{most_turns};
+ghost use Rattle.office_runs.specs.Threads.{Worked, Submitted, most_turns};
 ghost use Rattle.office_stations.specs.refinement.Standings.{standing};
 ghost use Rattle.office_runs.specs.refinement.Ends.{HasWorked, HasSubmitted};
+ghost use Rattle.office_runs.specs.refinement.Opening.{opened_key};
 
+use crate::opened::{Opened, open_shared};
 use locked_office::Desk;
 use office_map::{OfficeId, Plan};
 use office_stations::{
-    Gate, Hearing, RunFault, Shared, Socket, Station, Wakes, Watch, Ways, submit_some,
+    Gate, Hearing, OpeningFault, RunFault, Shared, Socket, Station, Wakes, Watch, Ways, submit_some,
 };
 use own_lock::Pass;
-use session_language::Program;
+use session_programs::Program;
 use site_core::Office;
 use socket_pump::Pump;
+use std::alloc::Global;
 use std::marker::PhantomData;
+use std::net::SocketAddr;
 use std::rt::Clock;
 use std::snapshot::Snapshot;
 use std::sync::{Arc, Wait};
@@ -34,17 +37,22 @@ const MOST_TURNS: u64 = 100_000;
 const NEXT_LOOK: u64 = 1;
 
 /// Who turns an office that has done nothing.
+///
+/// That it may be handed to a thread is proved by a search through its fields, which doesn't look into a field's own
+/// fields of other crates. So it holds its pump, its socket and where its neighbours are by themselves, and makes its
+/// station, which has all three, on its thread. What it hands back has an array of values that are copied, and no
+/// memory of its own.
 #[derive(Drop)]
-pub(crate) struct Worker<S: Socket> {
-    pub(crate) me: OfficeId,
-    pub(crate) desk: Arc<Desk>,
-    pub(crate) pass: Pass<Office>,
-    pub(crate) pump: Pump,
-    pub(crate) socket: S,
+pub struct Worker<S: Socket> {
+    pub me: OfficeId,
+    pub desk: Arc<Desk>,
+    pub pass: Pass<Office>,
+    pub pump: Pump,
+    pub socket: S,
     /// Where its neighbours are.
-    pub(crate) hearing: Hearing,
+    pub hearing: Hearing,
     /// From when on its turns are timed.
-    pub(crate) start: Instant,
+    pub start: Instant,
     ghost key: { (arc_value desk).key ≡ pump.key },
     ghost fresh: { pass ≡ fresh_pass (arc_value desk) tag_of [] 0 },
     ghost never: { (v n : ℕ) → last_of pump.lasts v n ≡ None },
@@ -52,17 +60,17 @@ pub(crate) struct Worker<S: Socket> {
 
 /// How that ended, and what is known of the ways to the neighbours.
 #[derive(Drop)]
-pub(crate) struct WorkerEnd {
-    pub(crate) pass: Pass<Office>,
-    pub(crate) fault: Option<RunFault>,
-    pub(crate) ways: Ways,
+pub struct WorkerEnd {
+    pub pass: Pass<Office>,
+    pub fault: Option<RunFault>,
+    pub ways: Ways,
 }
 
 /// What is promised of this, at a desk and with a socket of this type.
 #[derive(Drop)]
-pub(crate) struct TurnsAt<S: Socket> {
-    pub(crate) desk: Snapshot<Desk>,
-    pub(crate) socket: PhantomData<S>,
+pub struct TurnsAt<S: Socket> {
+    pub desk: Snapshot<Desk>,
+    pub socket: PhantomData<S>,
 }
 
 impl<S: Socket> Promise<WorkerEnd> for TurnsAt<S> {
@@ -73,27 +81,27 @@ impl<S: Socket> Promise<WorkerEnd> for TurnsAt<S> {
 
 /// Who submits an office's sessions.
 #[derive(Drop)]
-pub(crate) struct Client<A: Wakes> {
-    pub(crate) me: OfficeId,
-    pub(crate) desk: Arc<Desk>,
-    pub(crate) pass: Pass<Office>,
-    pub(crate) alarm: A,
+pub struct Client<A: Wakes> {
+    pub me: OfficeId,
+    pub desk: Arc<Desk>,
+    pub pass: Pass<Office>,
+    pub alarm: A,
     ghost number: { (arc_value desk).key.1 ≡ me },
     ghost fresh: { pass ≡ fresh_pass (arc_value desk) tag_of [] 1 },
 }
 
 /// How that ended.
 #[derive(Drop)]
-pub(crate) struct ClientEnd {
-    pub(crate) pass: Pass<Office>,
-    pub(crate) fault: Option<RunFault>,
+pub struct ClientEnd {
+    pub pass: Pass<Office>,
+    pub fault: Option<RunFault>,
 }
 
 /// What is promised of this, at a desk, with the sessions of the run.
 #[derive(Drop)]
-pub(crate) struct SubmitsAt<'x> {
-    pub(crate) desk: Snapshot<Desk>,
-    pub(crate) programs: &'x [Program],
+pub struct SubmitsAt<'x> {
+    pub desk: Snapshot<Desk>,
+    pub programs: &'x [Program],
 }
 
 impl<'x> Promise<ClientEnd> for SubmitsAt<'x> {
@@ -102,9 +110,90 @@ impl<'x> Promise<ClientEnd> for SubmitsAt<'x> {
     ghost kept_by = { λ p end. HasSubmitted p.desk.value p.programs.now end.fault end.pass };
 }
 
+/// That office of the plan at a desk, with who turns it at this socket, and who submits its sessions and wakes that one by this alarm. The
+/// socket learns where the neighbours are.
+pub fn open_office<R: Clock, S: Socket, A: Wakes>(
+    rt: &R,
+    alloc: Global,
+    plan: &Plan,
+    me: OfficeId,
+    mut socket: S,
+    alarm: A,
+    places: &[SocketAddr],
+) -> Result<(Opened, Worker<S>, Client<A>), OpeningFault>
+    requires { me < length plan.now.offices }
+    ensures key { IfOk result (λ r. opened_key r.0 ≡ (plan.now, me)) }
+    ensures worker { IfOk result (λ r. arc_value r.1.desk ≡ arc_value r.0.desk) }
+    ensures client { IfOk result (λ r. arc_value r.2.desk ≡ arc_value r.0.desk) }
+{
+    let mut hearing = Hearing::none();
+    for v in plan.neighbours(me) {
+        if let Some(at) = places.get(v.index()) {
+            socket.set_peer(*v, *at);
+            hearing.set_place(*v, *at);
+        }
+    }
+    let (office, pump, start, turns, submits) = fitted_out(rt, alloc, plan, me)?;
+    let worker = Worker {
+        me,
+        desk: turns.desk,
+        pass: turns.pass,
+        pump,
+        socket,
+        hearing,
+        start,
+    };
+    let client = Client {
+        me,
+        desk: submits.desk,
+        pass: submits.pass,
+        alarm,
+    };
+    Ok((office, worker, client))
+}
+
+/// A place at a desk.
+#[derive(Drop)]
+struct Seat {
+    desk: Arc<Desk>,
+    pass: Pass<Office>,
+}
+
+/// That office of the plan at a desk, with its pump and the time; and the seats of who turns it, and of who submits its sessions.
+fn fitted_out<R: Clock>(
+    rt: &R,
+    alloc: Global,
+    plan: &Plan,
+    me: OfficeId,
+) -> Result<(Opened, Pump, Instant, Seat, Seat), OpeningFault>
+    requires { me < length plan.now.offices }
+    ensures key { IfOk result (λ r. opened_key r.0 ≡ (plan.now, me)) }
+    ensures pump { IfOk result (λ r. r.1.key ≡ (plan.now, me)) }
+    ensures never { IfOk result (λ r. (v n : ℕ) → last_of r.1.lasts v n ≡ None) }
+    ensures worker { IfOk result (λ r. arc_value r.3.desk ≡ arc_value r.0.desk) }
+    ensures client { IfOk result (λ r. arc_value r.4.desk ≡ arc_value r.0.desk) }
+    ensures turns { IfOk result (λ r. r.3.pass ≡ fresh_pass (arc_value r.3.desk) tag_of [] 0) }
+    ensures submits { IfOk result (λ r. r.4.pass ≡ fresh_pass (arc_value r.4.desk) tag_of [] 1) }
+{
+    let Ok(start) = Instant::now(rt) else {
+        return Err(OpeningFault::NoClock);
+    };
+    let pump = Pump::open(alloc, plan, me)?;
+    let (office, worker, client) = open_shared(alloc, plan, me)?;
+    let turns = Seat {
+        desk: Arc::clone(&office.desk)?,
+        pass: worker,
+    };
+    let submits = Seat {
+        desk: Arc::clone(&office.desk)?,
+        pass: client,
+    };
+    Ok((office, pump, start, turns, submits))
+}
+
 impl<S: Socket> Worker<S> {
     /// Turns until the run is over, or as often as an office may.
-    pub(crate) fn work<R: Wait + Clock, G: Gate, W: Watch>(
+    pub fn work<R: Wait + Clock, G: Gate, W: Watch>(
         self,
         rt: &R,
         plan: &Plan,
@@ -183,12 +272,7 @@ fn turn_all<R: Wait + Clock, S: Socket, G: Gate, W: Watch>(
 impl<A: Wakes> Client<A> {
     /// Submits the sessions of the office, in order, as it takes them, and wakes who turns it; until all are submitted, the run is
     /// over, or nobody turns the office any more.
-    pub(crate) fn submit<R: Wait + Clock>(
-        self,
-        rt: &R,
-        programs: &[Program],
-        shared: &Shared,
-    ) -> ClientEnd
+    pub fn submit<R: Wait + Clock>(self, rt: &R, programs: &[Program], shared: &Shared) -> ClientEnd
         ensures submitted { HasSubmitted (arc_value self.desk) programs.now result.fault result.pass }
     {
         let Client {

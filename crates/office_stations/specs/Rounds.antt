@@ -89,7 +89,7 @@ pub record StopsFilling (tag : ℕ) (k : Key) (p q : DeskPass) (sessions : List 
 
 -- ---- turns
 
--- a turn at its time, after which the office may be looked at
+-- a turn at its time, as a pump does it, after which the office may be looked at
 pub record Turns (tells : Bool) (tag : ℕ) (k : Key) (t : TimedTurn) (a b : Standing) : Type 0 where
   pub after : DeskPass
   pub turned : Turned tells tag k a.last t.at a.pass a.wire t.turn b.wire after b.last

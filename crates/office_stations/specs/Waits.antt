@@ -5,10 +5,11 @@ use Rattle.office_stations.specs.declared.waits.Waits.{Waits}
 use Rattle.office_stations.specs.Paces.{PaceView}
 use Rattle.office_stations.specs.Rounds.{longest_wait}
 
+-- it wasn't waited at the socket yet
 abbrev pub no_waits : Waits
 no_waits = record { count = 0; last = 0 }
 
--- once more, for so many milliseconds at most
+-- it was waited once more, for so many milliseconds at most
 abbrev pub one_more : ℕ → Waits → Waits
 one_more most w = record { count = risen w.count; last = most }
 

@@ -10,7 +10,7 @@ use crate::fault::RunFault;
 use locked_office::Desk;
 use office_map::OfficeId;
 use own_lock::Pass;
-use session_language::Program;
+use session_programs::Program;
 use site_core::Office;
 use std::sync::Wait;
 

@@ -87,7 +87,7 @@ impl Hearing {
 }
 
 /// The ways to the neighbours of an office, as they were known at one time. No memory is needed for it.
-#[derive(Clone, Copy, Debug)]
+#[derive(Clone, Copy)]
 pub struct Ways {
     ways: [Option<Way>; 16],
 }

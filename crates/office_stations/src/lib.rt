@@ -11,6 +11,9 @@
 //!   several offices know of that.
 //!
 //! How often a turn comes, and that a datagram arrives, is no promise.
+//!
+//! Not said: that an address is one of this machine's; that nothing was waited for at the socket but by
+//! [`Station::wait`]; over UDP, what the system was asked, and how long it waited.
 #![tactic(auto)]
 
 mod address;

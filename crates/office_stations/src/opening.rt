@@ -8,6 +8,10 @@ use std::io::ErrorKind;
 use std::net::SocketAddr;
 
 /// Why a run can't begin: then nothing was done. Or memory lacks to tell of it.
+///
+/// What ends a run that began is another type (`RunFault`), so that a socket that fails in a run can't be told as a
+/// clock that can't be read. Want of memory is in both. A socket that lacks memory is told as one that can't have its
+/// address, with that cause.
 #[derive(Clone, Copy, Debug, PartialEq, Eq)]
 pub enum OpeningFault {
     Memory,

@@ -18,7 +18,7 @@ const LONGEST_WAIT: u64 = 5;
 const TOLD_EACH: u64 = 1000;
 
 /// A turn: when it was, in milliseconds from when its office was opened, and what it did.
-#[derive(Clone, Copy, Debug, PartialEq, Eq)]
+#[derive(Clone, Copy, PartialEq, Eq)]
 pub struct TimedTurn {
     pub at: u64,
     pub turn: Turn,
@@ -34,6 +34,10 @@ impl TimedTurn {
     }
 
     /// A void turn is none before the time is over that as many idle ones take.
+    ///
+    /// A turn that took a datagram, did a rule or sent a frame counts at once, be there refused datagrams beside it: a
+    /// frame is sent again after 50 milliseconds and no sooner. A void one costs nothing but work until that time is
+    /// over, and after it the turns end as ever.
     fn counts(&self, turns: u64) -> bool
         ensures { result ≡ counts turns self.now }
     {
@@ -49,6 +53,10 @@ fn is_void(turn: &Turn) -> bool
 }
 
 /// When an office's last turn was, and what is known of the next one.
+///
+/// It counts each wait that it gives out, and so tells that a turn comes after one wait: a pump's clause speaks of what
+/// a wire received, accepted and failed, and of nothing else that a socket tells. That a wait of the pace is one at the
+/// socket, and as long as was asked for, is a clause of `Station::wait`.
 #[derive(Drop)]
 pub struct Pace {
     start: Instant,

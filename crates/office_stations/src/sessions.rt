@@ -5,14 +5,15 @@ ghost use Rattle.std.specs.List.{flat_map};
 ghost use Rattle.std.specs.String.{string_bytes};
 ghost use Rattle.own_lock.specs.Passes.{IsOf};
 ghost use Rattle.locked_office.specs.Calls.{Stays, Looks};
-ghost use Rattle.run_reports.specs.Report.{outcome_line};
+ghost use Rattle.session_reports.specs.Report.{outcome_line};
 ghost use Rattle.office_stations.specs.Sessions.{count_of};
 
 use locked_office::Desk;
 use office_map::{OfficeId, Plan};
 use own_lock::Pass;
-use run_reports::report::add_outcome;
-use session_language::{Outcome, Program};
+use session_meaning::Outcome;
+use session_programs::Program;
+use session_reports::report::add_outcome;
 use site_core::Office;
 use std::alloc::AllocError;
 use std::sync::Wait;

@@ -4,7 +4,10 @@ ghost use Rattle.std.specs.Prelude.{◌≡◌};
 ghost use Rattle.office_stations.specs.Waits.{no_waits, one_more};
 
 /// How often it was waited at a socket, and for how many milliseconds at most the last time.
-#[derive(Clone, Copy, Debug, PartialEq, Eq)]
+///
+/// No clause can say what a system was asked, so over UDP it is what `UdpSocket` writes down beside the call. A list of
+/// all waits would need memory at each turn.
+#[derive(Clone, Copy, PartialEq, Eq)]
 pub struct Waits {
     pub count: u64,
     pub last: u64,

@@ -3,7 +3,7 @@
 use run_remarks::Unmet;
 
 /// How many of a run's sessions finished, of how many, and how many datagrams came, went and were refused.
-#[derive(Clone, Copy, Debug, PartialEq, Eq)]
+#[derive(Clone, Copy, PartialEq, Eq)]
 pub struct Progress {
     pub finished: u64,
     pub sessions: u64,
@@ -24,7 +24,7 @@ pub trait Watch {
 }
 
 /// Nobody.
-#[derive(Clone, Copy, Debug)]
+#[derive(Clone, Copy)]
 pub struct Quiet;
 
 impl Watch for Quiet {

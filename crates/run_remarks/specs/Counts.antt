@@ -7,9 +7,11 @@ pub record Counts : Type 0 where
   pub named : ℕ
   pub more : ℕ
 
+-- the most sessions that are named
 abbrev pub most_named : ℕ
 most_named = 10
 
+-- none is named, and none is left
 abbrev pub nobody : Counts
 nobody = record { named = 0; more = 0 }
 
@@ -17,10 +19,10 @@ nobody = record { named = 0; more = 0 }
 abbrev pub with_left : ℕ → Counts → Counts
 with_left n c = record { named = min (c.named + n) most_named; more = min (c.more + (c.named + n - most_named)) (2 ^ 64 - 1) }
 
--- the system took no frame for it, and some were lost
+-- the system took no frame for a neighbour, and some were lost
 abbrev pub is_unreached : Contact → Bool
 is_unreached c = (c.went == 0) && nat_lt 0 c.lost
 
--- or nothing ever came from it
+-- or nothing ever came from that neighbour
 abbrev pub is_unmet : Contact → Bool
 is_unmet c = is_unreached c || (c.heard == 0)

@@ -52,6 +52,7 @@ abbrev pub lacks : Site → Option ProgramValue → List ℕ
 lacks s None = []
 lacks s (Some p) = filter (is_away s) (needs_of p.body)
 
+-- the records that the session with this ticket needs, and whose bottles aren't at its office
 abbrev pub missing : Site → ℕ → List ℕ
 missing s k = lacks s (program_with k s.entries)
 

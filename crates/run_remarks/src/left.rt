@@ -5,12 +5,12 @@ ghost use Rattle.std.specs.Option.{option_copied};
 ghost use Rattle.run_remarks.specs.Left.{left_of, is_left, is_away, submitted_as, program_with, missing, IsWaitFor};
 
 use office_map::RecordId;
-use session_language::Program;
+use session_programs::Program;
 use site_core::{Entry, Event, Journal, Office, Reply};
 use std::alloc::{AllocError, Global};
 
 /// What a session waits for that is left.
-#[derive(Debug, Drop)]
+#[derive(Drop)]
 pub enum WaitsFor {
     /// For these records.
     Records(Vec<RecordId>),

@@ -8,6 +8,13 @@
 //! - [`unmet_by`] is said of a neighbour that was never reached or heard, and of no other.
 //!
 //! How many sessions are named is a clause (`specs/Counts.antt`). No clause speaks of the words: tests pin them.
+//!
+//! What an office tells is asked of it, not kept: no state is kept for people, and no layer below knows of them. The
+//! first session that is left has its program in the journal, under its ticket; one walk finds it, and the next ones
+//! wait for the one before. A session is left where its ticket has no outcome, of as many tickets as the file has
+//! sessions of the office: those of `run` and `live` are submitted in the file's order and never withdrawn.
+//!
+//! Not said: where a bottle is that isn't there; that a session is of the file.
 #![tactic(auto)]
 
 mod left;

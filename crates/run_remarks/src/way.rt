@@ -10,7 +10,7 @@ use std::net::SocketAddr;
 use std::{fmt, io};
 
 /// The way to a neighbour of an office, and from it.
-#[derive(Clone, Copy, Debug)]
+#[derive(Clone, Copy)]
 pub struct Way {
     pub to: OfficeId,
     /// Where it is.
@@ -21,7 +21,10 @@ pub struct Way {
 }
 
 /// What is said of a neighbour that an office never reached or never heard.
-#[derive(Clone, Copy, Debug)]
+///
+/// That a neighbour wasn't reached is said of frames that the system didn't take, and that it wasn't heard of frames
+/// that came. Whether a frame arrived is nobody's to know.
+#[derive(Clone, Copy)]
 pub struct Unmet<'a> {
     office: &'a str,
     neighbour: &'a str,

@@ -12,7 +12,7 @@ use Rattle.site_core.specs.declared.reply.Reply.{Reply}
 use Rattle.site_core.specs.declared.reply.Refusal.{Refusal}
 use Rattle.site_core.specs.declared.reply.Refusal.TheVariants as refusal
 use Rattle.site_core.specs.Limits.{most_entries}
-use Rattle.site_core.specs.Journals.{Site, Enters, Receives, FullAtTheLimit}
+use Rattle.site_core.specs.Journals.{Site, Enters, TakesRead, Receives, FullAtTheLimit, ReadIsReceived}
 use Rattle.locked_office.specs.Calls.{Key, DeskPass, office_with, Did, Does}
 use Rattle.socket_pump.specs.declared.pump.PumpFault.{PumpFault}
 use Rattle.socket_pump.specs.declared.pump.PumpFault.TheVariants as faults
@@ -64,6 +64,19 @@ pub data Reads (bytes : List ℕ) : Type 0 where
 pub reads : (bytes : List ℕ) (d : Result Fields FrameFault) → IfOk d (Spells bytes) → result_err d ≡ first_fault bytes → Reads bytes
 reads bytes (Ok f) h e = AsFrame f h
 reads bytes (Err fault) h e = AsFault fault (sym e)
+
+-- what was read of the bytes was taken, so they were received
+pub read_received : ReadIsReceived → (tag : ℕ) (k : Key) (p q : DeskPass) (bytes : List ℕ) (read : Result Fields FrameFault) (answer : Result Reply Refusal) → IfOk read (Spells bytes) → ((f : Fields) → Spells bytes f → read ≡ Ok f) → result_err read ≡ first_fault bytes →
+    Does (λ s s'. TakesRead s tag read answer s') k p q → Does (λ s s'. Receives s tag bytes answer s') k p q
+read_received law tag k p q bytes read answer found only fault (between, did) = (
+  between,
+  record {
+    done = law (office_with k (p.seen ++ between)) tag bytes read answer (office_with k q.seen) (record { found = found; only = only; fault = fault }) did.done;
+    legal = did.legal;
+    added = did.added;
+    left = did.left;
+  },
+)
 
 full_where : FullAtTheLimit → (s s' : Site) (tag : ℕ) (bytes : List ℕ) → Reads bytes → Receives s tag bytes (Err refusal.JournalFull) s' → most_entries ≤ length s.entries
 full_where law s s' tag bytes (AsFrame f h) r = law s tag (Took f) s' (r.frame f h)

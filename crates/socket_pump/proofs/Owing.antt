@@ -10,7 +10,7 @@ use Rattle.site_core.specs.declared.reply.Refusal.{Refusal}
 use Rattle.site_core.specs.declared.reply.Refusal.TheVariants as refusal
 use Rattle.site_core.specs.Pairs.{frame_fault}
 use Rattle.site_core.specs.Offices.{answer, unless_faulty}
-use Rattle.site_core.proofs.FramesComing.{passed}
+use Rattle.neighbour_pairs.specs.PairLaws.{passed}
 use Rattle.site_core.specs.Journals.{Site, office_of, recorded, OrMemory, Receives}
 use Rattle.locked_office.specs.Calls.{Key, DeskPass, office_with}
 use Rattle.socket_pump.specs.Chains.{Heard, Hears, BringsMessage, Brought, Made, Sent}

@@ -16,11 +16,12 @@ use Rattle.socket_pump.specs.declared.pump.PumpFault.{PumpFault}
 use Rattle.socket_pump.specs.Wires.{Account}
 use Rattle.socket_pump.specs.Last.{IsDue}
 use Rattle.socket_pump.specs.Chains.{Made, Sees, Sent}
+use Rattle.socket_pump.specs.ChainLaws.{Begins, sees_begins, sends_begins}
 use Rattle.socket_pump.specs.Turns.{Times, acked_at, IsKnown, AreKnown, SentTo}
 use Rattle.socket_pump.specs.refinement.Stages.{AreFor, Spoke, SpokeOf, SpokeTo, SpokeToAll, BrokenOf, BrokenTo, BrokenToAll}
 use Rattle.socket_pump.specs.refinement.Counts.{Spares, Gets}
 use Rattle.socket_pump.proofs.Owing.{spares_none, spares_both}
-use Rattle.socket_pump.proofs.Telling.{Begins, sees_begins, sends_begins, grows_on, waits_between, unchanged, sent_left, sent_right, sent_cases, AreSame, spoke_both, spoke_none, broke_on}
+use Rattle.socket_pump.proofs.Telling.{grows_on, waits_between, unchanged, sent_left, sent_right, sent_cases, AreSame, spoke_both, spoke_none, broke_on}
 
 -- ---- what waits for a neighbour
 

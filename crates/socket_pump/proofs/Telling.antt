@@ -19,27 +19,12 @@ use Rattle.socket_pump.specs.declared.pump.PumpFault.TheVariants.{WireFailed, Me
 use Rattle.socket_pump.specs.Wires.{Account}
 use Rattle.socket_pump.specs.Last.{IsDue, sent_now}
 use Rattle.socket_pump.specs.Chains.{Made, Sees, MakesFrame, Sends, sent_entry, datagram, Sent, DueOnce}
+use Rattle.socket_pump.specs.ChainLaws.{Begins, sends_begins}
 use Rattle.socket_pump.specs.Turns.{Times, Told, Remembers, BrokeTelling, Faulted, Lost, IsFaultOf}
 use Rattle.socket_pump.specs.refinement.Stages.{AreUsed, AreMessages, AreOf, AreCounts, Spoke, SpokeOf, Broken, BrokenOf}
 use Rattle.socket_pump.proofs.Left.{does_later, sees_self, sees_both}
 
 -- ---- what waits
-
-abbrev pub Begins : DeskPass → DeskPass → Type 0
-Begins p q = (more : List Entry) × (q.seen ≡ p.seen ++ more)
-
-pub begins_both : (p m q : DeskPass) → Begins p m → Begins m q → Begins p q
-begins_both p m q x y = (x.0 ++ y.0, y.1 ∙ (ap (λ l. l ++ y.0) x.1 ∙ append_assoc p.seen x.0 y.0))
-
-pub does_begins : (what : Site → Site → Type 0) (k : Key) (p q : DeskPass) → Does what k p q → Begins p q
-does_begins what k p q (between, did) = (between ++ did.added, ap (λ (x : DeskPass). x.seen) did.left ∙ append_assoc p.seen between did.added)
-
-pub sees_begins : (p q : DeskPass) → Sees p q → Begins p q
-sees_begins p q s = (s.0, ap (λ (x : DeskPass). x.seen) s.1)
-
-pub sends_begins : (tag : ℕ) (k : Key) (p q : DeskPass) (ms : List Made) → Sends tag k p ms q → Begins p q
-sends_begins tag k p q [] s = sees_begins p q s
-sends_begins tag k p q (m ∷ ms) s = begins_both p s.0 q (does_begins (MakesFrame tag m) k p s.0 s.1) (sends_begins tag k s.0 q ms s.2)
 
 -- the links at the ends of two journals, of which one begins the other
 pub grows_on : LinksOnlyGrow → (k : Key) (p q : DeskPass) (v : ℕ) → Begins p q → Grows (link_at k.0 k.1 p.seen v) (link_at k.0 k.1 q.seen v)

@@ -9,10 +9,11 @@ use Rattle.locked_office.specs.Sends.{WaitsFor}
 use Rattle.socket_pump.specs.declared.pump.PumpFault.{PumpFault}
 use Rattle.socket_pump.specs.Wires.{Account}
 use Rattle.socket_pump.specs.Chains.{Heard, Brought, Made, Sends, Sent, DueOnce}
+use Rattle.socket_pump.specs.ChainLaws.{Begins, sends_begins}
 use Rattle.socket_pump.specs.Turns.{Times, Told, AreKnown, Remembers, SentTo, GotMessage, CountsGo, CountsBroke, BrokeTelling}
 use Rattle.socket_pump.specs.refinement.Counts.{Owed, Owes, Spares, Acknowledges, AcknowledgesOnly}
 use Rattle.socket_pump.specs.refinement.Stages.{AreUsed, AreMessages, SpokeToAll, AreCounts}
-use Rattle.socket_pump.proofs.Telling.{Begins, sends_begins, waits_between, told_both, broke_both, sent_left, sent_right, sent_cases, due_both, remembers_both}
+use Rattle.socket_pump.proofs.Telling.{waits_between, told_both, broke_both, sent_left, sent_right, sent_cases, due_both, remembers_both}
 use Rattle.socket_pump.proofs.Speaking.{known_on}
 
 -- ---- counts that follow messages

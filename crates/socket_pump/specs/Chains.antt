@@ -52,6 +52,7 @@ Counts (Err JournalFull) = ⊥
 Counts (Err _) = Unit {0}
 Counts (Ok r) = Unit {0}
 
+-- no answer is for want of room
 abbrev pub AllCount : List Heard → Type 0
 AllCount [] = Unit {0}
 AllCount (h ∷ hs) = Counts h.answer × AllCount hs

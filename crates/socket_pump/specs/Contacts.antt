@@ -6,11 +6,11 @@ use Rattle.frame_codec.specs.Version01.{Spells}
 use Rattle.socket_pump.specs.declared.contact.Contact.{Contact}
 use Rattle.socket_pump.specs.Wires.{risen}
 
--- nothing went, nothing was lost, nothing came
+-- nothing is known: nothing went, nothing was lost, nothing came
 abbrev pub no_contact : Contact
 no_contact = record { went = 0; lost = 0; cause = None; heard = 0 }
 
--- what is known of v
+-- what is known of the way to v
 abbrev pub contact_with : List Contact → ℕ → Contact
 contact_with contacts v = get_or contacts v no_contact
 

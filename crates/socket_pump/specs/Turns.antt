@@ -37,6 +37,7 @@ pub record Hearing (tells : Bool) (tag : ℕ) (k : Key) (p : DeskPass) (a : Acco
   pub failures : b.failures ≡ a.failures
   pub wire : tells ≡ true → b ≡ record a { received = a.received ++ answers heard ends }
 
+-- such datagrams, 32 or fewer and then none, of which so many were taken and so many refused
 pub record HeardAll (tells : Bool) (tag : ℕ) (k : Key) (p : DeskPass) (a : Account) (took refused : ℕ) (b : Account) (q : DeskPass) : Type 0 where
   pub ends : List (Option (List ℕ))
   pub heard : List Heard
@@ -86,10 +87,11 @@ pub record BrokeHearing (tells : Bool) (tag : ℕ) (k : Key) (p : DeskPass) (a :
 abbrev pub acked_at : Key → DeskPass → ℕ → ℕ
 acked_at k p v = (link_at k.0 k.1 p.seen v).sending.acked
 
--- how many v was known to have taken at some time from p to q; and each neighbour
+-- so many messages v was known to have taken at some time from p to q
 abbrev pub IsKnown : Key → DeskPass → DeskPass → ℕ → ℕ → Type 0
 IsKnown k p q v acked = (acked_at k p v ≤ acked) × (acked ≤ acked_at k q v)
 
+-- so many each neighbour was known to have taken at some time from p to q
 abbrev pub AreKnown : Key → DeskPass → DeskPass → (ℕ → ℕ) → Type 0
 AreKnown k p q acked = (v : ℕ) → IsKnown k p q v (acked v)
 

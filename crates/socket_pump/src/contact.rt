@@ -9,7 +9,11 @@ use office_map::OfficeId;
 use std::marker::Model;
 
 /// What is known of the way to a neighbour, and from it.
-#[derive(Clone, Copy, Debug, PartialEq, Eq)]
+///
+/// Who started another run by mistake is there, and its source address may be a relay's: so it is heard all the same. A
+/// count stops at the top of its type (`risen`): 2^64 of them don't come, and a clause that says so costs less than a
+/// condition on every caller.
+#[derive(Clone, Copy, PartialEq, Eq)]
 pub struct Contact {
     /// How many frames to it the system took.
     pub went: u64,

@@ -1,16 +1,73 @@
 //! A pump between the desk of an office and a wire to its neighbours.
 //!
+//! A caller:
+//!
+//! ```
+//! use locked_office::Desk;
+//! use office_map::{OfficeId, Plan};
+//! use session_programs::Program;
+//! use site_core::Office;
+//! use socket_pump::{Pump, Turn, Wire};
+//! use std::alloc::Global;
+//! use std::sync::Wait;
+//! use std::test::Fail;
+//!
+//! /// The first office of a plan submits a session and is turned once.
+//! fn turned<R: Wait, W: Wire>(
+//!     rt: &R,
+//!     alloc: Global,
+//!     plan: &Plan,
+//!     program: &Program,
+//!     wire: &mut W,
+//! ) -> Result<Turn, Fail> {
+//!     let me = OfficeId::new(0);
+//!     if me.index() >= plan.offices() {
+//!         return Err(Fail::from("an office"));
+//!     }
+//!     let mut pump = Pump::open(alloc, plan, me)?;
+//!     let (desk, mut passes) = Desk::open(alloc, Office::open(alloc, plan, me)?, 1)?;
+//!     let Some(mut pass) = passes.pop() else {
+//!         return Err(Fail::from("a pass"));
+//!     };
+//!     desk.submit(rt, &mut pass, program)?;
+//!     // Of an office that runs, again and again, with the time in milliseconds.
+//!     Ok(pump.turn(rt, wire, &desk, &mut pass, 0)?)
+//! }
+//! ```
+//!
 //! - [`Wire`]: where datagrams come from and go to. [`UdpWire`] is a UDP socket, which tells of each neighbour what is known of the
-//!   way there ([`Contact`]); [`MemoryWire`] is one in memory, for tests.
+//!   way there ([`Contact`]); `memory_wires` has one in memory, for tests.
 //! - [`Pump::turn`]: datagrams that came, at most 32; rules that come next, at most 64; then each message that waits and is due,
 //!   where one that isn't answered is due ever more seldom, from each 50 milliseconds to each 5 seconds (`specs/Last.antt`);
 //!   then a count to each neighbour that sent something and got nothing. What a turn leaves is `Turned`, and `Stage` at a
 //!   fault, in `specs/Turns.antt`.
+//!
+//! Each part of a turn is a call at the desk, so clients and pumps of one office need nothing but passes of their own:
+//!
+//! ```text
+//! wire                  desk                                  journal of the pump's pass
+//! receive  32 or none   took      the frame, or refused       took  took ..
+//!                       advance   at most 64                  do    do   ..
+//! send     its bytes    send_number, where it is due          send  send ..
+//! send     its bytes    send      a count alone               send  ..
+//! ```
+//!
+//! Between any two of them other passes may add entries, so the chain of a turn says 'entries of others, then this' at
+//! each, and nothing of when. The proof goes the same way: one datagram, all datagrams; one message, all to one
+//! neighbour, all; and chains that are joined.
+//!
+//! Each frame is an entry. A message to a neighbour that is away is sent ever more seldom, so it fills a journal in 57
+//! days; each 50 milliseconds it would take 14 hours.
+//!
+//! Not said: that a datagram arrives; anything of a message that another pass takes an acknowledgement for meanwhile,
+//! or that waits at the end of a turn alone and wasn't sent; that each count went out before a fault; that the wire
+//! fails for a reason. A UDP wire fails where 64 reads in a row do, and at a frame for an office whose address it
+//! wasn't told. Of one that the system took nothing is known, nor that a frame is counted as what the system answered
+//! and goes to that address.
 #![tactic(auto)]
 
 mod contact;
 mod last;
-mod memory;
 mod pump;
 mod senders;
 mod udp;
@@ -18,7 +75,6 @@ mod wire;
 
 pub use crate::contact::Contact;
 pub use crate::last::{LONGEST_RESEND, Lasts, SHORTEST_RESEND};
-pub use crate::memory::{Datagram, MemoryWire};
 pub use crate::pump::{MOST_DATAGRAMS, MOST_RULES, Pump, PumpFault, Turn};
 pub use crate::udp::UdpWire;
 pub use crate::wire::{Wire, WireFailed};

@@ -20,7 +20,7 @@ use frame_codec::{Frame, MAX_LENGTH, decode, encode};
 use locked_office::Desk;
 use office_map::{OfficeId, Plan};
 use own_lock::Pass;
-use site_core::laws::{full_at_the_limit, links_only_grow};
+use site_core::laws::{full_at_the_limit, links_only_grow, what_is_read_is_received};
 use site_core::{Office, Refusal, Reply};
 use std::alloc::{AllocError, Global};
 use std::marker::Model;
@@ -43,17 +43,23 @@ pub struct Turn {
 }
 
 /// Why a turn broke off. What was done before stands in the journal; a frame whose sending failed stands there as sent.
+///
+/// The code of a refusal is told, not its cause: of what the office refused for want of room this says which, and a
+/// refused datagram is only counted.
 #[derive(Clone, Copy, Debug, PartialEq, Eq, Error)]
 pub enum PumpFault {
-    #[error("U1 WireFailed")]
+    #[error("{rule}", rule = WireFailed)]
     WireFailed,
-    #[error("O4 JournalFull")]
+    #[error("{rule}", rule = Refusal::JournalFull)]
     JournalFull,
     #[error("out of memory")]
     Memory,
 }
 
 /// A pump of one office. Contracts see whose it is, and when it last sent each message.
+///
+/// Its neighbours are those of its copy of the plan, so that no message to another can wait is known without asking the
+/// office.
 #[derive(Drop)]
 pub struct Pump {
     plan: Plan,
@@ -222,6 +228,9 @@ impl Pump {
 }
 
 // All messages to one neighbour that are due.
+//
+// What a turn goes by is looked up once for each neighbour, so its contract has one number for what is due, what went
+// and what is remembered.
 fn tell_one<R: Wait, W: Wire>(
     rt: &R,
     last: &mut Lasts,
@@ -258,6 +267,9 @@ fn tell_one<R: Wait, W: Wire>(
 }
 
 // One message, if it is due, where its neighbour is known to have taken so many, and still waits: how many frames were made.
+//
+// By number, since another pass may take an acknowledgement between two of them; one that doesn't wait any more is
+// passed over.
 fn tell_message<R: Wait, W: Wire>(
     rt: &R,
     last: &mut Lasts,
@@ -403,9 +415,10 @@ fn hear_one<R: Wait, W: Wire>(
         Err(WireFailed) => return Err(PumpFault::WireFailed),
     };
     full_at_the_limit();
+    what_is_read_is_received();
     let bytes = &buffer[..count];
     let read = decode(bytes);
-    let answer = desk.took(rt, pass, bytes);
+    let answer = desk.take_read(rt, pass, &read);
     senders.note(&read, &answer);
     match judged(answer) {
         Ok(took) => Ok(Some(took)),

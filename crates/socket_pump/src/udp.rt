@@ -23,6 +23,10 @@ const MOST_READS: u32 = 64;
 
 /// A UDP socket, and where the neighbours are. Contracts see how many of its calls failed, where each neighbour is, and what is
 /// known of it.
+///
+/// No list of errors says which of them pass: a socket that can't be used any more fails at the next read, and there 64
+/// failures in a row say so, since the system tells each error of an earlier frame once. That a neighbour can't be
+/// reached is told by its `Contact`, and ends nothing: an office with three neighbours goes on without one.
 #[derive(Drop)]
 pub struct UdpWire {
     socket: UdpSocket,

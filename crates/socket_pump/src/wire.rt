@@ -12,6 +12,9 @@ use thiserror::Error;
 pub struct WireFailed;
 
 /// Where datagrams come from and go to.
+///
+/// Contracts see one record of failures, answers and datagrams, and whether it tells the last two. So one clause covers
+/// a wire in memory, where tests see every byte, and a socket, of which only the failures are known.
 pub trait Wire {
     /// How many calls failed, what `receive` answered, and what `send` accepted.
     ghost account: { Self → Account };

@@ -6,9 +6,9 @@ use Rattle.session_meaning.specs.ProgramValue.{ProgramValue}
 use Rattle.site_core.specs.declared.event.Entry.{Entry}
 use Rattle.locked_office.specs.Calls.{Key, DeskPass, Looks}
 use Rattle.socket_pump.specs.Wires.{Account}
-use Rattle.socket_pump.proofs.Telling.{does_begins}
+use Rattle.socket_pump.specs.ChainLaws.{does_begins}
 use Rattle.durable_turns.specs.Letting.{IsOfStanding, LetsOut}
-use Rattle.durable_turns.proofs.Letting.{standing_on}
+use Rattle.durable_turns.specs.LettingLaws.{standing_on}
 use Rattle.office_stations.specs.declared.fault.RunFault.{RunFault}
 use Rattle.office_stations.specs.Rounds.{TakesAll, TakesNoMore, Fills, StopsFilling}
 use Rattle.stored_runs.proofs.Outcomes.{both}

@@ -11,11 +11,11 @@ use Rattle.site_core.specs.declared.event.Entry.{Entry}
 use Rattle.site_core.specs.Journals.{Site, IsLegal}
 use Rattle.own_lock.specs.Passes.{pass_after_take}
 use Rattle.locked_office.specs.Calls.{Key, DeskPass, Looks, office_with, pass_after_adding}
-use Rattle.run_reports.specs.Report.{outcome_line}
+use Rattle.session_reports.specs.Report.{outcome_line}
 use Rattle.office_stations.specs.declared.pace.TimedTurn.{TimedTurn}
 use Rattle.office_stations.specs.Rounds.{Standing, Turns}
 use Rattle.office_stations.specs.Sessions.{finished_of}
-use Rattle.office_stations.proofs.Rounds.{Made}
+use Rattle.office_stations.specs.refinement.RoundLaws.{Made}
 use Rattle.stored_runs.specs.declared.fault.StoredFault.{StoredFault}
 use Rattle.stored_runs.specs.declared.fault.StoredFault.TheVariants.{Run, StoreFailed, WriteFailed}
 use Rattle.stored_runs.specs.Runs.{finished_by, CutShort, Goes, Unless}

@@ -8,7 +8,7 @@ use Rattle.session_meaning.specs.ProgramValue.{ProgramValue}
 use Rattle.site_core.specs.declared.event.Event.{Event}
 use Rattle.site_core.specs.declared.event.Event.TheVariants.{Submit}
 use Rattle.site_core.specs.declared.event.Entry.{Entry}
-use Rattle.office_restarts.proofs.LegalBeginnings.{first_more}
+use Rattle.bottle_values.specs.ListLaws.{first_more}
 use Rattle.office_stations.specs.Rounds.{of_office}
 use Rattle.stored_runs.specs.Keeping.{submitted, submitted_by, IsFirstOther}
 use Rattle.stored_runs.specs.refinement.Submits.{IsNextOf}

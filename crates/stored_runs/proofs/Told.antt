@@ -12,8 +12,8 @@ use Rattle.session_meaning.specs.declared.ending.Outcome.{Outcome}
 use Rattle.site_core.specs.declared.event.Entry.{Entry}
 use Rattle.site_core.specs.Journals.{IsLegal}
 use Rattle.locked_office.specs.Calls.{Key, office_with}
-use Rattle.run_reports.specs.Report.{outcome_line}
-use Rattle.office_restarts.proofs.LegalBeginnings.{legal_first}
+use Rattle.session_reports.specs.Report.{outcome_line}
+use Rattle.office_restarts.specs.ReopeningLaws.{legal_first}
 use Rattle.office_stations.specs.Sessions.{count_of, finished_of}
 use Rattle.stored_runs.specs.declared.ended.Ended.{Ended}
 use Rattle.stored_runs.specs.Runs.{finished_by, before_line, told_text, IsLastLine, IsTold}

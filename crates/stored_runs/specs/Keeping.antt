@@ -38,6 +38,7 @@ pub record IsFound (p : PlanValue) (me : ℕ) (found : List ℕ) (k : Keeping) :
 
 -- ---- the sessions
 
+-- the session that an event submits
 abbrev pub submitted_by : Event → List ProgramValue
 submitted_by (Submit p) = p ∷ []
 submitted_by e = []

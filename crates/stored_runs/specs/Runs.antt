@@ -9,8 +9,7 @@ use Rattle.session_meaning.specs.ProgramValue.{ProgramValue}
 use Rattle.session_meaning.specs.declared.ending.Outcome.{Outcome}
 use Rattle.site_core.specs.declared.event.Entry.{Entry}
 use Rattle.locked_office.specs.Calls.{Key, DeskPass, Looks, office_with}
-use Rattle.run_reports.specs.Report.{outcome_line}
-use Rattle.run_reports.specs.WorldReport.{unfinished_line}
+use Rattle.session_reports.specs.Report.{outcome_line, unfinished_line}
 use Rattle.socket_pump.specs.Wires.{Account}
 use Rattle.durable_turns.specs.declared.fault.TurnFault.{TurnFault}
 use Rattle.durable_turns.specs.declared.fault.TurnFault.TheVariants as turn
@@ -55,6 +54,7 @@ IsUntold StoreFailed = ⊥
 abbrev pub finished_by : Key → List Entry → ℕ → List Outcome
 finished_by k entries n = finished_of (office_with k (take n entries))
 
+-- how many sessions had finished before: before N
 abbrev pub before_line : ℕ → List ℕ
 before_line n = codes "before " ++ (decimal n ++ 10 ∷ [])
 

@@ -1,7 +1,7 @@
 //! An office as its store has it.
 
 ghost use Rattle.std.specs.Prelude.{◌≡◌, ◌<◌, ◌≤◌, All, length, IfOk, IfErr, IsTrue};
-ghost use Rattle.session_language.specs.Program.{fits};
+ghost use Rattle.session_programs.specs.Program.{fits};
 ghost use Rattle.site_core.specs.Journals.{IsLegal};
 ghost use Rattle.office_restarts.specs.Reopening.{site_with};
 ghost use Rattle.journal_texts.specs.Written.{journal_text};
@@ -15,7 +15,7 @@ use journal_texts::laws::{a_faulty_text_is_no_journal, a_text_is_one_journal};
 use journal_texts::{JournalFault, read_journal, text, whole_lines};
 use office_map::{OfficeId, Plan};
 use office_restarts::{ReopenFault, reopened};
-use session_language::Program;
+use session_programs::Program;
 use site_core::Office;
 use std::alloc::Global;
 use std::marker::Model;
@@ -135,6 +135,9 @@ fn read_office(alloc: Global, plan: &Plan, me: OfficeId, text: &[u8]) -> Result<
 }
 
 /// The office, if this is the text of its journal as it writes it.
+///
+/// A text that only reads as that journal, with a comment or a blank line in it, is refused: then nothing that is
+/// appended could be the text of a journal that goes on, and who wrote it wasn't this program.
 fn as_written(
     alloc: Global,
     plan: &Plan,

@@ -7,6 +7,10 @@
 //!   them. It is told as soon as it stands.
 //!
 //! What the offices of a network that are lost and go on so have done is one world (`office_restarts`).
+//!
+//! Not said: that a file has what was found in it, which is the premise beside the headline; over UDP, where sockets
+//! tell nothing, which datagrams left; what is written where writing fails; how soon a session is told; which line of a
+//! faulty store is told, and what is said for people (tests show both).
 #![tactic(auto)]
 
 mod books;

@@ -33,7 +33,7 @@ use office_stations::{
 };
 use own_lock::Pass;
 use run_remarks::{Remarks, Way};
-use session_language::Program;
+use session_programs::Program;
 use site_core::Office;
 use std::alloc::{AllocError, Global};
 use std::io::Write;
@@ -230,6 +230,9 @@ fn go_on<R: Wait + Clock, S: Socket, G: Gate, W: Watch, T: Store, O: Write>(
 }
 
 /// The first line of the journal stands from now on.
+///
+/// The run appends it, and not what makes the store. So a store that was lost before its first line stood is one that
+/// has done nothing, and no case of its own.
 fn begin<T: Store>(
     alloc: Global,
     plan: &Plan,
@@ -292,7 +295,8 @@ fn take_turns<R: Wait + Clock, S: Socket, G: Gate, W: Watch, T: Store, O: Write>
     ensures told { Unless (result_err result) (Told plan.now desk.now.key pass.new.seen (length pass.old.seen) books.new.stood books.old.told books.new.told (O.contents out.old) (O.contents out.new)) }
     ensures fault { IsFaultOf (T.failed store.new) (result_err result) }
 {
-    let mut mail = Mail::new();
+    let mut mail = Mail::new(alloc);
+    let mut text = String::new(alloc);
     let mut next = from;
     let mut count = 0;
     for _ in rt.forever() {
@@ -318,7 +322,7 @@ fn take_turns<R: Wait + Clock, S: Socket, G: Gate, W: Watch, T: Store, O: Write>
             Ok(turn) => turn,
             Err(fault) => return Err(fault),
         };
-        match stand_and_tell(rt, alloc, desk, pass, plan, store, books, out) {
+        match stand_and_tell(rt, alloc, desk, pass, plan, store, books, &mut text, out) {
             Ok(()) => {}
             Err(fault) => return Err(fault),
         }

@@ -1,14 +1,15 @@
 //! The sessions that a journal submitted, and those of a list that are left.
 
 ghost use Rattle.std.specs.Prelude.{◌≡◌, ◌↔◌, ◌≤◌, ◌<◌, All, Some, length, slice_get, IfOk, IfErr, IfSome, IfNone, IsTrue};
-ghost use Rattle.session_language.specs.Program.{fits};
+ghost use Rattle.session_programs.specs.Program.{fits};
 ghost use Rattle.office_stations.specs.Rounds.{of_office};
 ghost use Rattle.stored_runs.specs.Keeping.{LeavesFrom, submitted};
 ghost use Rattle.stored_runs.specs.refinement.Submits.{IsNextOf, IsOtherOf, SubmitsAt, SubmitsNone};
 
 use crate::fault::KeptFault;
 use office_map::{OfficeId, Plan};
-use session_language::Program;
+use session_language::laws::reads_back;
+use session_programs::Program;
 use site_core::{Event, Journal};
 use std::alloc::{AllocError, Global};
 
@@ -90,6 +91,9 @@ fn is_at(
 }
 
 /// Whether two sessions are the same: they are where their texts are.
+///
+/// By their canonical texts, under the plan that both fit: a text means one program. So no equality of trees is needed,
+/// and what is compared is what an audit reads.
 fn is_same(alloc: Global, plan: &Plan, one: &Program, other: &Program) -> Result<bool, AllocError>
     requires fits { IsTrue (fits plan.now one.now) }
     ensures { IfOk result (λ b. IsTrue b ↔ (one.now ≡ other.now)) }
@@ -97,6 +101,8 @@ fn is_same(alloc: Global, plan: &Plan, one: &Program, other: &Program) -> Result
     if !other.fits(plan) {
         return Ok(false);
     }
+    reads_back(one, plan);
+    reads_back(other, plan);
     let left = one.text(alloc, plan)?;
     let right = other.text(alloc, plan)?;
     Ok(left.as_bytes() == right.as_bytes())

@@ -6,8 +6,7 @@ ghost use Rattle.std.specs.String.{string_bytes};
 ghost use Rattle.std.specs.Io.KnownBytes.{Appends};
 ghost use Rattle.own_lock.specs.Passes.{IsOf};
 ghost use Rattle.locked_office.specs.Calls.{Stays, Looks, office_with};
-ghost use Rattle.run_reports.specs.Report.{outcome_line};
-ghost use Rattle.run_reports.specs.WorldReport.{unfinished_line};
+ghost use Rattle.session_reports.specs.Report.{outcome_line, unfinished_line};
 ghost use Rattle.durable_turns.specs.Letting.{StoreHas, key_of};
 ghost use Rattle.office_stations.specs.Sessions.{finished_of};
 ghost use Rattle.stored_runs.specs.Runs.{IsFaultOf, IsOfStanding, IsUntold, Unless, told_text};
@@ -22,8 +21,8 @@ use locked_office::Desk;
 use office_map::Plan;
 use office_stations::{RunFault, add_lines};
 use own_lock::Pass;
-use run_reports::world::add_unfinished;
-use session_language::Outcome;
+use session_meaning::Outcome;
+use session_reports::report::add_unfinished;
 use site_core::Office;
 use std::alloc::{AllocError, Global};
 use std::io::Write;
@@ -55,6 +54,9 @@ fn write_some<W: Write>(out: &mut W, text: &str) -> Result<(), StoredFault>
 }
 
 /// How many sessions had finished before, and their lines.
+///
+/// There is no other memory of what was told than the journal: a reader who lost its lines has them again, and one who
+/// didn't knows how many to pass over.
 pub(crate) fn before_text(
     alloc: Global,
     plan: &Plan,
@@ -69,7 +71,11 @@ pub(crate) fn before_text(
     Ok(text)
 }
 
-/// What the office has stands from now on, all of it; and its sessions that finished since so many were told are told.
+/// What the office has stands from now on, all of it; and its sessions that finished since so many were told are told. The text is
+/// written anew for both, in the room that it has; what it had is forgotten.
+///
+/// The entries are appended and the finished sessions read off in one holding of the office. So nothing hangs on who
+/// else might have written between.
 pub(crate) fn stand_and_tell<R: Wait, S: Store, W: Write>(
     rt: &R,
     alloc: Global,
@@ -78,6 +84,7 @@ pub(crate) fn stand_and_tell<R: Wait, S: Store, W: Write>(
     plan: &Plan,
     store: &mut S,
     books: &mut Books,
+    text: &mut String,
     out: &mut W,
 ) -> Result<(), StoredFault>
     requires of { IsOf desk.now pass.old }
@@ -98,15 +105,14 @@ pub(crate) fn stand_and_tell<R: Wait, S: Store, W: Write>(
     ensures fault { IfErr result (λ fault. IsFaultOf (S.failed store.new) (Some fault)) }
     ensures cause { IfErr result IsOfStanding }
 {
-    let mut text = String::new(alloc);
     let held = desk.lock().take(rt, pass);
-    let added = stand_and_add(alloc, &mut text, held.get(), plan, store, books);
+    let added = stand_and_add(alloc, text, held.get(), plan, store, books);
     desk.lock().give(pass, held);
     let count = match added {
         Ok(count) => count,
         Err(fault) => return Err(fault),
     };
-    match write_some(out, &text) {
+    match write_some(out, text) {
         Ok(()) => {}
         Err(fault) => return Err(fault),
     }
@@ -114,8 +120,8 @@ pub(crate) fn stand_and_tell<R: Wait, S: Store, W: Write>(
     Ok(())
 }
 
-/// What an office has stands from now on; and the lines of its sessions that finished since so many were told are added, and how many
-/// have is told.
+/// What an office has stands from now on; and the text is the lines of its sessions that finished since so many were told, and how
+/// many have is told. What the text had is forgotten.
 fn stand_and_add<S: Store>(
     alloc: Global,
     text: &mut String,
@@ -130,16 +136,17 @@ fn stand_and_add<S: Store>(
     ensures steps { (books.new.stood ≡ books.old.stood) ⊎ (books.new.stood ≡ length office.now.entries) }
     ensures all { OnOk result (books.new.stood ≡ length office.now.entries) }
     ensures count { IfOk result (λ n. n ≡ length (finished_of office.now)) }
-    ensures lines { OnOk result (string_bytes text.new ≡ string_bytes text.old ++ flat_map (outcome_line plan.now) (drop books.old.told (finished_of office.now))) }
+    ensures lines { OnOk result (string_bytes text.new ≡ flat_map (outcome_line plan.now) (drop books.old.told (finished_of office.now))) }
     ensures told { books.new.told ≡ books.old.told }
     ensures usable { OnOk result (S.failed store.new ≡ false) }
     ensures fault { IfErr result (λ fault. IsFaultOf (S.failed store.new) (Some fault)) }
     ensures cause { IfErr result IsOfStanding }
 {
-    match stand_office(alloc, office, store, &mut books.stood) {
+    match stand_office(alloc, office, store, &mut books.stood, text) {
         Ok(()) => {}
         Err(fault) => return Err(StoredFault::of_turn(fault)),
     }
+    text.clear();
     match add_since(text, plan, office.outcomes(), books.told) {
         Ok(count) => Ok(count),
         Err(_) => Err(StoredFault::Run(RunFault::Memory)),

@@ -7,7 +7,7 @@ use Rattle.site_core.specs.declared.event.Entry.{Entry}
 use Rattle.site_core.specs.Journals.{Site, IsLegal}
 use Rattle.own_lock.specs.Entries.{tagged}
 use Rattle.locked_office.specs.Calls.{Key, tag_of}
-use Rattle.run_reports.specs.Report.{outcome_line}
+use Rattle.session_reports.specs.Report.{outcome_line}
 use Rattle.office_stations.specs.Sessions.{finished_of}
 use Rattle.office_runs.specs.Runs.{text_of, key_of, IsReadBack}
 

@@ -8,10 +8,10 @@ returns-in-Err-clause-found g c = λ same. finds (g.S.Store.stood c.args.store.n
 
 pub returns-in-Err-append-clause-found : goal.returns-in-Err-append-clause-found
 returns-in-Err-append-clause-found g c = λ same.
-    torn_later (g.S.Store.stood c.args.store.now) (g.S.Store.stood c.append.new.self) (g.S.Store.found c.append.new.self) c.args.office.now c.args.stood.now _ c.as_bytes.result.now c.requires.has c.new-text.ensures.bytes
+    torn_later (g.S.Store.stood c.args.store.now) (g.S.Store.stood c.append.new.self) (g.S.Store.found c.append.new.self) c.args.office.now c.args.stood.now c.as_bytes.result.now c.requires.has
     (c.as_bytes.ensures.value ∙ c.in-Ok.ensures.lines) c.in-Err-append.ensures.finds c.in-Err-append.ensures.keeps
 
 pub returns-clause-has : goal.returns-clause-has
 returns-clause-has g c =
-    stood_all (g.S.Store.stood c.args.store.now) (g.S.Store.stood c.append.new.self) c.args.office.now c.args.office.now.plan c.args.stood.now c.in-Ok.count _ c.as_bytes.result.now c.requires.has refl c.new-text.ensures.bytes
+    stood_all (g.S.Store.stood c.args.store.now) (g.S.Store.stood c.append.new.self) c.args.office.now c.args.office.now.plan c.args.stood.now c.in-Ok.count c.as_bytes.result.now c.requires.has refl
     (c.as_bytes.ensures.value ∙ c.in-Ok.ensures.lines) c.in-Ok.ensures.count c.in-Ok-append.ensures.stands

@@ -1,8 +1,8 @@
-use Rattle.std.proofs.Common.{◌≡◌, ℕ, true, [], refl, sym, subst, ◌≤◌, length, append-nil, inl, inr}
+use Rattle.std.proofs.Common.{◌≡◌, ◌∙◌, ℕ, true, [], refl, sym, ap, subst, ◌≤◌, length, append-nil, inl, inr}
 use Rattle.socket_pump.specs.Last.{last_of}
-use Rattle.socket_pump.proofs.Telling.{begins_both, does_begins}
+use Rattle.socket_pump.specs.ChainLaws.{begins_both, does_begins}
 use Rattle.durable_turns.specs.Breaking.{BeforePump, InPump, AfterPump}
-use Rattle.durable_turns.specs.refinement.Mailed.{account_of}
+use Rattle.durable_turns.specs.refinement.Mailed.{Mailed, IsMail, account_of}
 use Rattle.durable_turns.proofs.Letting.{turned_begins, stage_begins, has_later, within_later, finds, posted, turns}
 use Rattle.durable_turns.proofs.Faults.{wire_failed, pump_broke, standing_broke}
 use Rattle.durable_turns.proofs.turning.turn.Goals as goal
@@ -47,19 +47,19 @@ pub returns-in-Ok-post-clause-lets_out : goal.returns-in-Ok-post-clause-lets_out
 returns-in-Ok-post-clause-lets_out g c =
     posted g.W.Wire.tells c.args.pass.now.tag c.args.desk.now.key (last_of c.args.pump.now.lasts) c.args.now c.args.pass.now c.in-Ok-turn.turn c.fetch.new.mail c.turn.new.wire c.turn.new.pass c.stand.new.pass (last_of c.turn.new.self.lasts)
     (g.W.Wire.account c.args.wire.now) (g.W.Wire.account c.fetch.new.wire) (g.W.Wire.account c.post.new.wire) c.stand.new.stood c.out.result.now c.in-Ok.ensures.fresh
-    c.in-Ok-turn.ensures.turned c.stand.ensures.looked c.fetch.ensures.nothing c.out.ensures.value c.post.ensures.posts c.in-Ok-stand.ensures.all
+    c.in-Ok-turn.ensures.turned c.stand.ensures.looked c.fetch.ensures.nothing (c.out.ensures.value ∙ ap (λ (m : Mailed). m.out) c.mail.view_is) c.post.ensures.posts c.in-Ok-stand.ensures.all
 
 pub returns-in-Err-post-clause-lets_out : goal.returns-in-Err-post-clause-lets_out
 returns-in-Err-post-clause-lets_out g c =
     posted g.W.Wire.tells c.args.pass.now.tag c.args.desk.now.key (last_of c.args.pump.now.lasts) c.args.now c.args.pass.now c.in-Ok-turn.turn c.fetch.new.mail c.turn.new.wire c.turn.new.pass c.stand.new.pass (last_of c.turn.new.self.lasts)
     (g.W.Wire.account c.args.wire.now) (g.W.Wire.account c.fetch.new.wire) (g.W.Wire.account c.post.new.wire) c.stand.new.stood c.out.result.now c.in-Ok.ensures.fresh
-    c.in-Ok-turn.ensures.turned c.stand.ensures.looked c.fetch.ensures.nothing c.out.ensures.value c.post.ensures.posts c.in-Ok-stand.ensures.all
+    c.in-Ok-turn.ensures.turned c.stand.ensures.looked c.fetch.ensures.nothing (c.out.ensures.value ∙ ap (λ (m : Mailed). m.out) c.mail.view_is) c.post.ensures.posts c.in-Ok-stand.ensures.all
 
 pub returns-in-Ok-post-clause-turned : goal.returns-in-Ok-post-clause-turned
 returns-in-Ok-post-clause-turned g c =
     turns g.W.Wire.tells c.args.pass.now.tag c.args.desk.now.key (last_of c.args.pump.now.lasts) c.args.now c.args.pass.now c.in-Ok-turn.turn c.fetch.new.mail c.turn.new.wire c.turn.new.pass c.stand.new.pass (last_of c.turn.new.self.lasts)
-    (g.W.Wire.account c.args.wire.now) (g.W.Wire.account c.fetch.new.wire) (g.W.Wire.account c.post.new.wire) c.out.result.now c.in-Ok.ensures.fresh c.out.ensures.mail c.in-Ok.ensures.fetches
-    c.in-Ok-turn.ensures.turned c.stand.ensures.looked c.out.ensures.value c.in-Ok-post.ensures.all c.in-Ok-post.ensures.failures
+    (g.W.Wire.account c.args.wire.now) (g.W.Wire.account c.fetch.new.wire) (g.W.Wire.account c.post.new.wire) c.out.result.now c.in-Ok.ensures.fresh (subst (λ (m : Mailed). IsMail m.came m.handed m.ended) c.mail.view_is c.out.ensures.mail) c.in-Ok.ensures.fetches
+    c.in-Ok-turn.ensures.turned c.stand.ensures.looked (c.out.ensures.value ∙ ap (λ (m : Mailed). m.out) c.mail.view_is) c.in-Ok-post.ensures.all c.in-Ok-post.ensures.failures
 
 pub returns-in-Err-post-clause-found : goal.returns-in-Err-post-clause-found
 returns-in-Err-post-clause-found g c = λ same. finds (g.S.Store.stood c.stand.new.store) (g.S.Store.found c.stand.new.store) c.args.desk.now.key c.stand.new.pass.seen c.stand.new.stood c.stand.ensures.has (c.in-Ok-stand.ensures.whole same)

@@ -2,7 +2,7 @@ use Rattle.std.proofs.Common.{◌≡◌, ◌<◌, ◌∙◌, length, sym, ap, su
 use Rattle.std.proofs.lemmas.Bool.{cases_eq}
 use Rattle.office_map.specs.PlanValue.{PlanValue}
 use Rattle.office_map.specs.Consistency.{IsConsistent}
-use Rattle.office_map.proofs.RecordEnds.{near_within}
+use Rattle.office_map.specs.NeighbourLaws.{near_within}
 use Rattle.locked_office.specs.Sends.{WaitsFor}
 use Rattle.locked_office.proofs.calls.any_waits.Goals as goal
 

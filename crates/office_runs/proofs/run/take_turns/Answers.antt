@@ -2,7 +2,7 @@ use Rattle.std.proofs.Common.{◌+◌, ◌<◌, ◌≤◌, drop, sym, ap, subst,
 use Rattle.socket_pump.specs.Last.{PumpView, last_of}
 use Rattle.office_stations.specs.Rounds.{Standing, of_office}
 use Rattle.office_stations.specs.refinement.Standings.{standing}
-use Rattle.office_stations.proofs.Rounds.{Made, one_round, ends_at_sessions, ends_in_turn}
+use Rattle.office_stations.specs.refinement.RoundLaws.{Made, one_round, ends_at_sessions, ends_in_turn}
 use Rattle.office_runs.proofs.run.take_turns.Goals as goal
 
 pub returns-in-Err-clause-goes : goal.returns-in-Err-clause-goes

@@ -3,7 +3,7 @@ use Rattle.locked_office.specs.Calls.{Stays}
 use Rattle.socket_pump.specs.Last.{last_of}
 use Rattle.office_stations.specs.Rounds.{of_office}
 use Rattle.office_stations.specs.refinement.Standings.{standing}
-use Rattle.office_stations.proofs.Rounds.{Made}
+use Rattle.office_stations.specs.refinement.RoundLaws.{Made}
 use Rattle.office_runs.proofs.run.take_turns.Given as goal
 
 -- what was done so far

@@ -1,9 +1,9 @@
 use Rattle.std.proofs.Common.{◌+◌, ◌<◌, [], sym, ap, subst, ◌∙◌, arith}
 use Rattle.socket_pump.specs.Last.{PumpView, last_of}
 use Rattle.office_stations.specs.Rounds.{Standing}
-use Rattle.office_runs.specs.Courses.{most_turns}
+use Rattle.office_runs.specs.Threads.{most_turns}
 use Rattle.office_stations.specs.refinement.Standings.{standing}
-use Rattle.office_stations.proofs.Rounds.{Made}
+use Rattle.office_stations.specs.refinement.RoundLaws.{Made}
 use Rattle.office_runs.proofs.Ends.{one_turn}
 use Rattle.office_runs.proofs.threads.turn_all.Goals as goal
 

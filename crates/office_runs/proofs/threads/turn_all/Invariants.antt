@@ -1,9 +1,9 @@
 use Rattle.std.proofs.Common.{◌≡◌, []}
 use Rattle.locked_office.specs.Calls.{Stays}
 use Rattle.socket_pump.specs.Last.{last_of}
-use Rattle.office_runs.specs.Courses.{most_turns}
+use Rattle.office_runs.specs.Threads.{most_turns}
 use Rattle.office_stations.specs.refinement.Standings.{standing}
-use Rattle.office_stations.proofs.Rounds.{Made}
+use Rattle.office_stations.specs.refinement.RoundLaws.{Made}
 use Rattle.office_runs.proofs.threads.turn_all.Given as goal
 
 -- the turns that were made

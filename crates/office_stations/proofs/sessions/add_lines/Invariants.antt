@@ -1,7 +1,7 @@
 use Rattle.std.proofs.Common.{◌≡◌, ◌++◌, take}
 use Rattle.std.specs.List.{flat_map}
 use Rattle.std.specs.String.{string_bytes}
-use Rattle.run_reports.specs.Report.{outcome_line}
+use Rattle.session_reports.specs.Report.{outcome_line}
 use Rattle.office_stations.proofs.sessions.add_lines.Given as goal
 
 abbrev pub invariant-loop-outcome : goal.invariant-loop-outcome

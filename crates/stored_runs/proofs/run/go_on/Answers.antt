@@ -3,7 +3,7 @@ use Rattle.socket_pump.specs.Last.{last_of}
 use Rattle.durable_turns.specs.Letting.{StoreHas}
 use Rattle.office_stations.specs.Rounds.{Standing, of_office}
 use Rattle.office_stations.specs.refinement.Standings.{standing}
-use Rattle.office_stations.proofs.Rounds.{none_made}
+use Rattle.office_stations.specs.refinement.RoundLaws.{none_made}
 use Rattle.stored_runs.specs.Runs.{BeforeAll}
 use Rattle.stored_runs.proofs.Outcomes.{itself}
 use Rattle.stored_runs.proofs.Running.{cut_short}

@@ -5,12 +5,12 @@ use Rattle.std.proofs.lemmas.List.{take_all}
 use Rattle.locked_office.specs.Calls.{office_with}
 use Rattle.socket_pump.specs.Last.{PumpView, last_of}
 use Rattle.durable_turns.specs.Letting.{LetsOut}
-use Rattle.durable_turns.proofs.Letting.{has_on}
-use Rattle.run_reports.specs.Report.{outcome_line}
+use Rattle.durable_turns.specs.LettingLaws.{has_on}
+use Rattle.session_reports.specs.Report.{outcome_line}
 use Rattle.office_stations.specs.Rounds.{Standing, Fills, StopsFilling, Turns, of_office, with_pass}
 use Rattle.office_stations.specs.Sessions.{finished_of}
 use Rattle.office_stations.specs.refinement.Standings.{standing}
-use Rattle.office_stations.proofs.Rounds.{Made, none_made, one_round}
+use Rattle.office_stations.specs.refinement.RoundLaws.{Made, none_made, one_round}
 use Rattle.stored_runs.specs.declared.fault.StoredFault.TheVariants.{Run}
 use Rattle.stored_runs.specs.Runs.{AtSessions, AtTurn, AfterTurn}
 use Rattle.stored_runs.specs.refinement.Running.{Told}

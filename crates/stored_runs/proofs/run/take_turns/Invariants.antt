@@ -3,13 +3,13 @@ use Rattle.std.specs.List.{flat_map}
 use Rattle.std.specs.Io.KnownBytes.{Appends}
 use mathlib.Core.List.{IsPrefix}
 use Rattle.locked_office.specs.Calls.{Stays, office_with}
-use Rattle.run_reports.specs.Report.{outcome_line}
+use Rattle.session_reports.specs.Report.{outcome_line}
 use Rattle.socket_pump.specs.Last.{last_of}
 use Rattle.durable_turns.specs.Letting.{StoreHas, LetsOut}
 use Rattle.office_stations.specs.Rounds.{of_office}
 use Rattle.office_stations.specs.Sessions.{finished_of}
 use Rattle.office_stations.specs.refinement.Standings.{standing}
-use Rattle.office_stations.proofs.Rounds.{Made}
+use Rattle.office_stations.specs.refinement.RoundLaws.{Made}
 use Rattle.stored_runs.proofs.run.take_turns.Given as goal
 
 -- what was done so far, all of which stands and is told

@@ -1,7 +1,7 @@
 use Rattle.std.proofs.Common.{◌≡◌, ℕ, ◌<◌, ◌∙◌, true, false, List, [], ◌∷◌, length, refl, sym, ap, subst, arith}
 use Rattle.office_map.specs.PlanValue.{PlanValue, are_neighbours}
 use Rattle.office_map.specs.Consistency.{IsConsistent}
-use Rattle.office_map.proofs.RecordEnds.{near_within}
+use Rattle.office_map.specs.NeighbourLaws.{near_within}
 use Rattle.locked_office.specs.Calls.{Key}
 use Rattle.socket_pump.specs.Last.{PumpView}
 use Rattle.socket_pump.specs.Chains.{Made}

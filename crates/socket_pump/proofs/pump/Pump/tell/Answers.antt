@@ -6,7 +6,7 @@ use Rattle.socket_pump.specs.declared.last.Lasts.{Lasts}
 use Rattle.socket_pump.specs.Last.{PumpView, last_of}
 use Rattle.socket_pump.specs.refinement.Counts.{Gets}
 use Rattle.socket_pump.specs.refinement.Stages.{SpokeTo, BrokenTo}
-use Rattle.office_map.proofs.RecordEnds.{near_within}
+use Rattle.office_map.specs.NeighbourLaws.{near_within}
 use Rattle.socket_pump.proofs.Near.{near_as}
 use Rattle.socket_pump.proofs.Speaking.{looked, silent_to_all, SpokeBelow, below_starts, below_on, below_past, below_broke, spoken_to_all}
 use Rattle.socket_pump.proofs.pump.Pump.tell.Goals as goal

@@ -1,12 +1,11 @@
 use Rattle.std.proofs.Common.{◌≡◌, ℕ, ◌<◌, List, length, Ok, Err, true, refl, sym, ap, subst, ◌∙◌, arith}
 use Rattle.office_map.specs.PlanValue.{are_neighbours}
 use Rattle.office_map.specs.Consistency.{IsConsistent}
-use Rattle.office_map.proofs.RecordEnds.{near_within}
+use Rattle.office_map.specs.NeighbourLaws.{near_within}
 use Rattle.locked_office.specs.Calls.{Key}
 use Rattle.socket_pump.specs.Last.{PumpView, last_of}
 use Rattle.socket_pump.specs.Chains.{Made}
-use Rattle.socket_pump.specs.Turns.{Told, BrokeTelling}
-use Rattle.socket_pump.specs.Turns.{AtRules, WhileTelling}
+use Rattle.socket_pump.specs.Turns.{Told, BrokeTelling, AtRules, WhileTelling}
 use Rattle.socket_pump.specs.refinement.Counts.{Acknowledges, AcknowledgesOnly}
 use Rattle.socket_pump.specs.refinement.Stages.{BrokenToAll, AreCounts}
 use Rattle.socket_pump.proofs.Owing.{brought_near}

@@ -1,0 +1,2 @@
+-- What ties the code to the definitions beside this folder.
+pub mod Ends
