@@ -75,10 +75,11 @@ audit_command = with_rule (with_rule (new_app (codes "audit")) (required (codes 
 abbrev pub some_command : App
 some_command = let a = new_app (codes "drink") in record a { top = record a.top { subcommand_required = true; has_version = true } }
 
--- the program, one of whose commands must be there
+-- the program with `serial`, `sim` and `random`
 abbrev pub world_commands : App
 world_commands = with_subcommand (with_subcommand (with_subcommand some_command serial_command.top) sim_command.top) random_command.top
 
+-- the program with all its commands, one of which must be there
 abbrev pub program : App
 program = with_subcommand (with_subcommand (with_subcommand world_commands run_command.top) live_command.top) audit_command.top
 
@@ -157,7 +158,7 @@ Requests name rows (Audit plan journals) =
     (bytes_eq name (codes "audit") ≡ true) × (plan.now ≡ word_of (codes "PLAN") rows)
     × (map (λ journal. journal.now) journals.items ≡ words_of (codes "JOURNAL") rows)
 
--- the words ask for this
+-- the words of a command line ask for this, in the terms of `clap`'s contracts
 abbrev pub Asks : List Text → Request → Type 0
 Asks words request = Requests (command_of words) (arguments_of words) request
 

@@ -139,6 +139,11 @@ fn requested<'a>(alloc: Global, name: &str, found: &ArgMatches<'a>) -> Result<Re
 }
 
 /// What `run` asks for. A store is a journal already, and what is said of one needs it.
+///
+/// Words about a store are refused beside `clap`'s rules. Its contracts say which error a command line has only where
+/// no option has a rule on another, and which value only of its own lists whose place in memory isn't known. So another
+/// word after `--sync`, `--sync` or `--new` without `--store`, and `--store` with `--journal` are refused here, by
+/// `clap`'s own kinds of error, after all that `clap` refuses.
 fn run_requested<'a>(alloc: Global, found: &ArgMatches<'a>) -> Result<Request<'a>, Error>
     ensures request { IfOk result (Requests (codes "run") (Some (rows_of (found_of found.now)))) }
     ensures faults { FailsBy (store_faults (codes "run") (Some (rows_of (found_of found.now)))) result }
@@ -394,6 +399,8 @@ fn numbered<'a>(alloc: Global, id: &'a str, help: &'a str, low: u64, high: u64) 
 }
 
 /// A number in a range, after its name, that need not be there; where it isn't, this one is meant.
+///
+/// `clap` fills in the usual number, so the definition of the command line has it too.
 fn optional<'a>(
     alloc: Global,
     id: &'a str,

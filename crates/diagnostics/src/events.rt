@@ -1,6 +1,6 @@
 //! What is said of the words of events, which scripts and journals share.
 
-use crate::shown::{Quoted, say_word};
+use crate::shown::{Quoted, is_one_of, say_word};
 use std::alloc::AllocError;
 
 /// The rules, with what each is done to.
@@ -15,27 +15,63 @@ pub fn say_rule(
     argument: &[u8],
     most: u16,
 ) -> Result<(), AllocError> {
-    let (article, thing) = match rule {
-        b"start" | b"hungry" | b"eat" | b"leave" | b"drink" | b"finish" => {
-            return say_word(said, "nothing may follow the rule, and not ", argument, "");
-        }
-        b"askfork" | b"givefork" => ("an", "office"),
-        b"askbottle" | b"givebottle" => ("a", "record"),
-        b"work" => ("a", "number of instructions"),
-        _ => return say_no_rule(said, rule),
+    if is_one_of(rule, "start hungry eat leave drink finish") {
+        return say_word(said, "nothing may follow the rule, and not ", argument, "");
+    }
+    match thing_after(rule) {
+        None => say_no_rule(said, rule),
+        Some(thing) if argument.is_empty() => say_nothing_after(said, rule, thing),
+        Some(thing) => say_no_thing(said, argument, thing, most),
+    }
+}
+
+/// What a rule is done to.
+#[derive(Clone, Copy)]
+enum Thing {
+    Office,
+    Record,
+    Instructions,
+}
+
+/// What has to stand after the name of a rule, if there is such a rule.
+fn thing_after(rule: &[u8]) -> Option<Thing> {
+    if is_one_of(rule, "askfork givefork") {
+        Some(Thing::Office)
+    } else if is_one_of(rule, "askbottle givebottle") {
+        Some(Thing::Record)
+    } else if is_one_of(rule, "work") {
+        Some(Thing::Instructions)
+    } else {
+        None
+    }
+}
+
+fn say_nothing_after(said: &mut String, rule: &[u8], thing: Thing) -> Result<(), AllocError> {
+    let rule = Quoted(rule);
+    let thing = match thing {
+        Thing::Office => "an office",
+        Thing::Record => "a record",
+        Thing::Instructions => "a number of instructions",
     };
-    if argument.is_empty() {
-        let rule = Quoted(rule);
-        return write!(said, "the rule {rule} needs {article} {thing} after it");
-    }
-    let argument = Quoted(argument);
-    match rule {
-        b"work" => write!(said, "{argument} is no {thing}, which is 1 to {most}"),
-        _ => write!(
-            said,
-            "{argument} is no {thing} of the plan, and the rule needs one"
-        ),
-    }
+    write!(said, "the rule {rule} needs {thing} after it")
+}
+
+fn say_no_thing(said: &mut String, word: &[u8], thing: Thing, most: u16) -> Result<(), AllocError> {
+    let word = Quoted(word);
+    let thing = match thing {
+        Thing::Office => "office",
+        Thing::Record => "record",
+        Thing::Instructions => {
+            return write!(
+                said,
+                "{word} is no number of instructions, which is 1 to {most}"
+            );
+        }
+    };
+    write!(
+        said,
+        "{word} is no {thing} of the plan, and the rule needs one"
+    )
 }
 
 fn say_no_rule(said: &mut String, rule: &[u8]) -> Result<(), AllocError> {

@@ -8,7 +8,7 @@ use office_map::limits::{FEWEST_OFFICES, MOST_OFFICES, MOST_PAIR_RECORDS, TEXT_L
 use office_map::{PlanRefusal, PlanRule};
 use std::alloc::{AllocError, Global};
 use std::fmt;
-use text_lines::{is_name, words};
+use text_lines::{is_name, is_same_word, words};
 
 const OFFICE: &str = "`office NAME ADDRESS`";
 
@@ -97,17 +97,24 @@ fn say_form(said: &mut String, line: &[u8], words: &[&[u8]]) -> Result<(), Alloc
     if say_unreadable(said, line)? {
         return Ok(());
     }
-    match word_at(words, 0) {
-        b"office" => say_office(said, line, words),
-        b"pair" => say_pair(said, line, words),
-        b"record" => say_record(said, line, words),
-        b"plan" => said.push_str("`plan` stands on the first line alone"),
-        other => {
-            say_word(said, "", other, " begins no line of a plan; these are ")?;
-            write!(said, "{OFFICE}, {PAIR} and {RECORD}")?;
-            say_other_text(said, Text::Plan, line)
-        }
+    let word = word_at(words, 0);
+    if is_same_word(word, b"office") {
+        say_office(said, line, words)
+    } else if is_same_word(word, b"pair") {
+        say_pair(said, line, words)
+    } else if is_same_word(word, b"record") {
+        say_record(said, line, words)
+    } else if is_same_word(word, b"plan") {
+        said.push_str("`plan` stands on the first line alone")
+    } else {
+        say_other(said, line, word)
     }
+}
+
+fn say_other(said: &mut String, line: &[u8], word: &[u8]) -> Result<(), AllocError> {
+    say_word(said, "", word, " begins no line of a plan; these are ")?;
+    write!(said, "{OFFICE}, {PAIR} and {RECORD}")?;
+    say_other_text(said, Text::Plan, line)
 }
 
 fn say_office(said: &mut String, line: &[u8], words: &[&[u8]]) -> Result<(), AllocError> {

@@ -7,7 +7,7 @@ use crate::shown::{
 };
 use office_map::Plan;
 use std::alloc::{AllocError, Global};
-use text_lines::{name, number, words};
+use text_lines::{is_same_word, name, number, words};
 
 /// The greatest numbers of a script: bytes of its text, rules of an `advance`, steps of a `settle`, instructions of a `work`.
 #[derive(Clone, Copy)]
@@ -59,25 +59,34 @@ struct Refused<'a> {
 }
 
 fn say_words(said: &mut String, refused: Refused<'_>, words: &[&[u8]]) -> Result<(), AllocError> {
-    let line = refused.line;
-    match word_at(words, 0) {
-        b"submit" => say_submit(said, refused, words),
-        b"deliver" => say_deliver(said, line, words),
-        b"do" => say_do(said, refused, words),
-        b"advance" => say_advance(said, refused, words),
-        b"withdraw" => say_withdraw(said, refused, words),
-        b"settle" => say_settle(said, refused, words),
-        b"send" => say_send(said, refused, words),
-        other => {
-            say_word(
-                said,
-                "",
-                other,
-                " begins no line of a script; these are `submit N`, `withdraw OFFICE T`, `do OFFICE RULE`, `advance OFFICE N`, `settle N`, `send OFFICE NEIGHBOUR I` and `deliver K`",
-            )?;
-            say_other_text(said, Text::Script, line)
-        }
+    let word = word_at(words, 0);
+    if is_same_word(word, b"submit") {
+        say_submit(said, refused, words)
+    } else if is_same_word(word, b"deliver") {
+        say_deliver(said, refused.line, words)
+    } else if is_same_word(word, b"do") {
+        say_do(said, refused, words)
+    } else if is_same_word(word, b"advance") {
+        say_advance(said, refused, words)
+    } else if is_same_word(word, b"withdraw") {
+        say_withdraw(said, refused, words)
+    } else if is_same_word(word, b"settle") {
+        say_settle(said, refused, words)
+    } else if is_same_word(word, b"send") {
+        say_send(said, refused, words)
+    } else {
+        say_other(said, refused.line, word)
     }
+}
+
+fn say_other(said: &mut String, line: &[u8], word: &[u8]) -> Result<(), AllocError> {
+    say_word(
+        said,
+        "",
+        word,
+        " begins no line of a script; these are `submit N`, `withdraw OFFICE T`, `do OFFICE RULE`, `advance OFFICE N`, `settle N`, `send OFFICE NEIGHBOUR I` and `deliver K`",
+    )?;
+    say_other_text(said, Text::Script, line)
 }
 
 fn say_submit(said: &mut String, refused: Refused<'_>, words: &[&[u8]]) -> Result<(), AllocError> {

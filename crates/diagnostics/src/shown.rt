@@ -4,7 +4,7 @@ use office_map::{OfficeId, Plan};
 use std::alloc::AllocError;
 use std::fmt;
 use text_lines::limits::MOST_LETTERS;
-use text_lines::{first_line, first_word, is_plain_byte};
+use text_lines::{first_line, first_word, is_plain_byte, is_same_word};
 
 /// How many bytes of a word or a line are shown.
 const MOST: usize = 60;
@@ -31,7 +31,7 @@ impl fmt::Display for Quoted<'_> {
 
 /// The lines of a text that are left, each without its end.
 #[derive(Clone, Copy)]
-pub(crate) struct Lines<'a> {
+pub struct Lines<'a> {
     pub rest: &'a [u8],
 }
 
@@ -145,7 +145,7 @@ pub fn say_no_office(said: &mut String, plan: &Plan, word: &[u8]) -> Result<(), 
 }
 
 /// Whether two words are one but for capital letters.
-pub(crate) fn is_alike(a: &[u8], b: &[u8]) -> bool {
+pub fn is_alike(a: &[u8], b: &[u8]) -> bool {
     a.len() == b.len() && a.iter().zip(b).all(|(x, y)| x.eq_ignore_ascii_case(y))
 }
 
@@ -158,40 +158,61 @@ pub enum Text {
     Journal,
 }
 
+impl Text {
+    fn shown(self) -> &'static str {
+        match self {
+            Text::Plan => "a plan",
+            Text::Sessions => "a text of sessions",
+            Text::Script => "a script",
+            Text::Journal => "a journal",
+        }
+    }
+
+    /// The words that its lines begin with; of a journal the first line's.
+    fn words(self) -> &'static str {
+        match self {
+            Text::Plan => "plan office pair record",
+            Text::Sessions => "session let set give require if else repeat end",
+            Text::Script => "submit withdraw do advance settle send deliver",
+            Text::Journal => "journal",
+        }
+    }
+
+    /// The text a line of which begins with this word.
+    fn begun_by(word: &[u8]) -> Option<Text> {
+        for text in [Text::Plan, Text::Sessions, Text::Script, Text::Journal] {
+            if is_one_of(word, text.words()) {
+                return Some(text);
+            }
+        }
+        None
+    }
+}
+
+/// Whether a word is one of these, which have a space between.
+pub(crate) fn is_one_of(word: &[u8], words: &str) -> bool {
+    words.split(' ').any(|it| it.as_bytes() == word)
+}
+
 /// Adds, where a line of the text that was read begins as one of another text does, how the texts are told apart.
 pub fn say_other_text(said: &mut String, read: Text, line: &[u8]) -> Result<(), AllocError> {
     let word = match first_word(line) {
         Some((word, _)) => word,
         None => return Ok(()),
     };
-    if word == b"---".as_slice() {
+    if is_same_word(word, b"---") {
         return said.push_str(
             "; `---` parts texts on the standard input alone, one for each word `-` of the command",
         );
     }
-    let (begun, what) = match word {
-        b"plan" | b"office" | b"pair" | b"record" => (Text::Plan, "a plan"),
-        b"session"
-        | b"let"
-        | b"set"
-        | b"give"
-        | b"require"
-        | b"if"
-        | b"else"
-        | b"repeat"
-        | b"end" => (Text::Sessions, "a text of sessions"),
-        b"submit" | b"withdraw" | b"do" | b"advance" | b"settle" | b"send" | b"deliver" => (
-            Text::Script,
-            "a script",
-        ),
-        b"journal" => (Text::Journal, "a journal"),
-        _ => return Ok(()),
-    };
-    if begun == read {
-        return Ok(());
+    match Text::begun_by(word) {
+        Some(begun) if begun != read => {
+            let what = begun.shown();
+            write!(
+                said,
+                "; it is a line of {what}: name the texts in the order of the command, and part those on one standard input by a line `---`"
+            )
+        }
+        _ => Ok(()),
     }
-    write!(
-        said,
-        "; it is a line of {what}: name the texts in the order of the command, and part those on one standard input by a line `---`"
-    )
 }

@@ -5,19 +5,36 @@ use Rattle.office_map.specs.PlanValue.{PlanValue}
 use Rattle.session_meaning.specs.ProgramValue.{ProgramValue}
 use Rattle.session_language.specs.Reading.{sessions_of}
 use Rattle.script_runs.specs.Script.{Act, IsScript}
-use Rattle.drink_commands.specs.declared.input.Input.{Input}
-use Rattle.drink_commands.specs.declared.input.Input.TheVariants as inputs
-use Rattle.drink_commands.specs.declared.fault.Why.{Why}
-use Rattle.drink_commands.specs.declared.fault.Fault.{Fault}
-use Rattle.drink_commands.specs.declared.fault.Fault.TheVariants.{Memory, ReadFailed, Refused, NoSuchOffice, NoAddress, NoJournal, NoPlace, NoRun, CutShort, WriteFailed, FileFailed, NoStore, StoreFailed, OtherSessions}
-use Rattle.drink_commands.specs.Fault.{IsAmong, IsFaultAt, IsWriteFault, refused_input}
-use Rattle.drink_commands.specs.Plans.{IsAcceptedAs}
+use Rattle.command_inputs.specs.declared.input.Input.{Input}
+use Rattle.command_inputs.specs.declared.input.Input.TheVariants as inputs
+use Rattle.command_inputs.specs.declared.fault.TextFault.{TextFault}
+use Rattle.command_inputs.specs.declared.fault.TextFault.TheVariants as unfit
+use Rattle.command_inputs.specs.Fault.{IsAtInput, IsOneOf}
+use Rattle.command_outputs.specs.declared.fault.Fault.{Fault}
+use Rattle.command_outputs.specs.declared.fault.Fault.TheVariants.{Memory, Text, Refused, NoSuchOffice, NoAddress, NoJournal, NoPlace, NoRun, CutShort, WriteFailed, FileFailed, NoStore, StoreFailed, OtherSessions}
+use Rattle.command_outputs.specs.Fault.{IsAmong, IsFaultAt, IsWriteFault, refused_input}
+use Rattle.command_inputs.specs.Plans.{IsAcceptedAs}
 use Rattle.drink_commands.specs.Texts.{Accepts, IsJudgedOr, Judges, Known, Refuses, nothing}
 
-pub weaker : (input : Input) (P Q : Why → Type 0) (f : Fault) → ((why : Why) → P why → Q why) → IsFaultAt input P f → IsFaultAt input Q f
+weaker_text : (input : Input) (P Q : TextFault → Type 0) (f : TextFault) → ((why : TextFault) → P why → Q why) → IsAtInput input P f → IsAtInput input Q f
+weaker_text input P Q unfit.Memory k h = tt
+weaker_text input P Q (unfit.ReadFailed failed cause) k h = h
+weaker_text input P Q (unfit.Plan refusal said) k (e, h) = (e, k _ h)
+weaker_text input P Q (unfit.Ring ring said) k (e, h) = (e, k _ h)
+weaker_text input P Q (unfit.Sessions refusal said) k (e, h) = (e, k _ h)
+
+-- an input that wasn't read
+pub unread_at : (input : Input) (P : TextFault → Type 0) (f : TextFault) → IsAtInput input (λ _. ⊥) f → IsAtInput input P f
+unread_at input P unfit.Memory h = tt
+unread_at input P (unfit.ReadFailed failed cause) h = h
+unread_at input P (unfit.Plan refusal said) (e, h) = absurd h
+unread_at input P (unfit.Ring ring said) (e, h) = absurd h
+unread_at input P (unfit.Sessions refusal said) (e, h) = absurd h
+
+pub weaker : (input : Input) (P Q : Fault → Type 0) (f : Fault) → ((why : Fault) → P why → Q why) → IsFaultAt input P f → IsFaultAt input Q f
 weaker input P Q Memory k h = tt
-weaker input P Q (ReadFailed failed cause) k h = h
-weaker input P Q (Refused why remark) k (e, h) = (e, k why h)
+weaker input P Q (Text fault) k h = weaker_text input (λ f. P (Text f)) (λ f. Q (Text f)) fault (λ f. k (Text f)) h
+weaker input P Q (Refused why said) k (e, h) = (e, k (Refused why said) h)
 weaker input P Q (NoSuchOffice offices) k h = h
 weaker input P Q (NoAddress office) k h = h
 weaker input P Q (NoJournal office) k h = h
@@ -30,11 +47,19 @@ weaker input P Q (NoStore why) k h = h
 weaker input P Q StoreFailed k h = h
 weaker input P Q (OtherSessions ticket) k h = h
 
+-- the same of one of a plan's text or of sessions'
+pub among_text : (asked : List Input) (input : Input) (P : TextFault → Type 0) (f : TextFault) → Contains asked input → IsAtInput input P f → IsOneOf asked f
+among_text asked input P unfit.Memory at h = tt
+among_text asked input P (unfit.ReadFailed failed cause) at h = subst (Contains asked) (sym h) at
+among_text asked input P (unfit.Plan refusal said) at (e, h) = subst (Contains asked) (sym e) at
+among_text asked input P (unfit.Ring ring said) at (e, h) = subst (Contains asked) (sym e) at
+among_text asked input P (unfit.Sessions refusal said) at (e, h) = subst (Contains asked) (sym e) at
+
 -- a fault at an input of these
-pub among : (asked : List Input) (input : Input) (P : Why → Type 0) (f : Fault) → Contains asked input → IsFaultAt input P f → IsAmong asked f
+pub among : (asked : List Input) (input : Input) (P : Fault → Type 0) (f : Fault) → Contains asked input → IsFaultAt input P f → IsAmong asked f
 among asked input P Memory at h = tt
-among asked input P (ReadFailed failed cause) at h = subst (Contains asked) (sym h) at
-among asked input P (Refused why remark) at (e, h) = subst (Contains asked) (sym e) at
+among asked input P (Text fault) at h = among_text asked input (λ f. P (Text f)) fault at h
+among asked input P (Refused why said) at (e, h) = subst (Contains asked) (sym e) at
 among asked input P (NoSuchOffice offices) at h = h
 among asked input P (NoAddress office) at h = h
 among asked input P (NoJournal office) at h = h
@@ -50,10 +75,17 @@ among asked input P (OtherSessions ticket) at h = h
 contains_more : (input : Input) (asked : List Input) (x : Input) → Contains asked x → Contains (input ∷ asked) x
 contains_more input asked x (k, lt, e) = (suc k, omega (arith, lt), e)
 
+one_more : (input : Input) (asked : List Input) (f : TextFault) → IsOneOf asked f → IsOneOf (input ∷ asked) f
+one_more input asked unfit.Memory h = tt
+one_more input asked (unfit.ReadFailed failed cause) h = contains_more input asked failed h
+one_more input asked (unfit.Plan refusal said) h = contains_more input asked inputs.Plan h
+one_more input asked (unfit.Ring ring said) h = contains_more input asked inputs.Plan h
+one_more input asked (unfit.Sessions refusal said) h = contains_more input asked inputs.Sessions h
+
 pub among_more : (input : Input) (asked : List Input) (f : Fault) → IsAmong asked f → IsAmong (input ∷ asked) f
 among_more input asked Memory h = tt
-among_more input asked (ReadFailed failed cause) h = contains_more input asked failed h
-among_more input asked (Refused why remark) h = contains_more input asked (refused_input why) h
+among_more input asked (Text fault) h = one_more input asked fault h
+among_more input asked (Refused why said) h = contains_more input asked (refused_input why) h
 among_more input asked (NoSuchOffice offices) h = h
 among_more input asked (NoAddress office) h = h
 among_more input asked (NoJournal office) h = h
@@ -69,8 +101,8 @@ among_more input asked (OtherSessions ticket) h = h
 -- the writing failed, and no input is at fault
 pub no_input : (f : Fault) → IsWriteFault f → IsAmong [] f
 no_input Memory h = tt
-no_input (ReadFailed input cause) h = absurd h
-no_input (Refused why remark) h = absurd h
+no_input (Text fault) h = absurd h
+no_input (Refused why said) h = absurd h
 no_input (NoSuchOffice offices) h = h
 no_input (NoAddress office) h = h
 no_input (NoJournal office) h = h
@@ -97,6 +129,10 @@ abbrev pub IsTaken : (List ℕ → Option (List ℕ)) → Unread → List ℕ �
 IsTaken files u word v input known next = (text : List ℕ) (after : Unread) → HasText files u word text after
     → Accepts known input text next × (v ≡ after)
 
+-- the text of that word is refused, and the fault says why
+abbrev pub RefusesWord : (List ℕ → Option (List ℕ)) → Unread → List ℕ → Known → Fault → Type 0
+RefusesWord files u word known why = (text : List ℕ) (after : Unread) → HasText files u word text after → Refuses known text why
+
 -- P holds of the faults that come besides
 module _ (P : Fault → Type 0) (files : List ℕ → Option (List ℕ)) where
   -- a fault says what is so of the texts of these words, whichever are known
@@ -105,11 +141,11 @@ module _ (P : Fault → Type 0) (files : List ℕ → Option (List ℕ)) where
 
   -- at the first of the words
   pub at_first : (u : Unread) (word : List ℕ) (words : List (List ℕ)) (known : Known) (input : Input) (asked : List Input) (f : Fault)
-      → IsFaultAt input (λ why. (text : List ℕ) (after : Unread) → HasText files u word text after → Refuses known text why) f
+      → IsFaultAt input (RefusesWord files u word known) f
       → SaysTexts u (word ∷ words) known (input ∷ asked) f
-  at_first u word words known input asked f h texts zero has = inl (among (input ∷ asked) input _ f (0, omega arith, refl) h)
+  at_first u word words known input asked f h texts zero has = inl (among (input ∷ asked) input (RefusesWord files u word known) f (0, omega arith, refl) h)
   at_first u word words known input asked f h [] (suc n) has = absurd has
-  at_first u word words known input asked f h (text ∷ texts) (suc n) (after, has, more) = inl (weaker input _ _ f (λ why refused. refused text after has) h)
+  at_first u word words known input asked f h (text ∷ texts) (suc n) (after, has, more) = inl (weaker input (RefusesWord files u word known) (Refuses known text) f (λ why refused. refused text after has) h)
 
   -- at a later one, where the text of the first is accepted
   pub at_next : (u v : Unread) (word : List ℕ) (words : List (List ℕ)) (known next : Known) (input : Input) (asked : List Input) (f : Fault)

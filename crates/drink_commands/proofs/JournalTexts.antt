@@ -6,16 +6,16 @@ use Rattle.office_map.specs.PlanValue.{PlanValue}
 use Rattle.journal_weave.specs.declared.given.GivenJournal.{GivenJournal}
 use Rattle.journal_audit.specs.Gathering.{AreGathered, AreJournals, Lacks}
 use Rattle.journal_audit.specs.Findings.{TellsWoven, TellsUnwoven}
-use Rattle.drink_commands.specs.declared.input.Input.{Input}
-use Rattle.drink_commands.specs.declared.input.Input.TheVariants as inputs
-use Rattle.drink_commands.specs.declared.fault.Fault.{Fault}
-use Rattle.drink_commands.specs.declared.fault.Fault.TheVariants.{Memory, ReadFailed, Refused, NoSuchOffice, NoAddress, NoJournal, NoPlace, NoRun, CutShort, WriteFailed, FileFailed, NoStore, StoreFailed, OtherSessions}
-use Rattle.drink_commands.specs.Audit.{Tells, IsJudgedAudit, JudgesJournals, SaysAfter, IsLacking, journal_inputs}
-use Rattle.drink_commands.specs.Fault.{IsAmong, IsFaultAt, IsNoJournal}
+use Rattle.command_inputs.specs.declared.input.Input.{Input}
+use Rattle.command_inputs.specs.declared.input.Input.TheVariants as inputs
+use Rattle.command_outputs.specs.declared.fault.Fault.{Fault}
+use Rattle.command_outputs.specs.declared.fault.Fault.TheVariants.{Memory, Text, Refused, NoSuchOffice, NoAddress, NoJournal, NoPlace, NoRun, CutShort, WriteFailed, FileFailed, NoStore, StoreFailed, OtherSessions}
+use Rattle.drink_commands.specs.Audit.{Tells, IsJudgedAudit, JudgesJournals, RefusesJournal, SaysAfter, IsLacking, journal_inputs}
+use Rattle.command_outputs.specs.Fault.{IsAmong, IsFaultAt, IsNoJournal}
 use Rattle.drink_commands.specs.Texts.{Refuses, nothing}
-use Rattle.drink_commands.specs.refinement.Journals.{GathersFirst, IsNamed, SaysAudit, SaysFrom, SaysJournals, SaysOne, Slots, TakesAll, TakesOne, TellsAudit}
-use Rattle.journal_audit.proofs.Gathering.{none_gathered}
-use Rattle.drink_commands.proofs.Faults.{TakesPlan, among, among_more, weaker}
+use Rattle.drink_commands.specs.refinement.Journals.{GathersFirst, IsNamed, RefusesOne, SaysAudit, SaysFrom, SaysJournals, SaysOne, Slots, TakesAll, TakesOne, TellsAudit}
+use Rattle.journal_audit.specs.GatheringLaws.{none_gathered}
+use Rattle.drink_commands.proofs.Faults.{RefusesWord, TakesPlan, among, among_more, weaker}
 
 -- ---- lists
 
@@ -99,7 +99,7 @@ module _ (files : List ℕ → Option (List ℕ)) (p : PlanValue) where
   -- at the first of the words
   pub one_among : (u : Unread) (word : List ℕ) (place count : ℕ) (slots : Slots) (f : Fault) → SaysOne files p u word place slots f
       → IsAmong (journal_inputs place (suc count)) f
-  one_among u word place count slots f h = among (journal_inputs place (suc count)) (inputs.Journal place) _ f (0, omega arith, refl) h
+  one_among u word place count slots f h = among (journal_inputs place (suc count)) (inputs.Journal place) (RefusesOne files p u word place slots) f (0, omega arith, refl) h
 
   pub says_first : (u : Unread) (word : List ℕ) (words : List (List ℕ)) (place : ℕ) (slots : Slots) (f : Fault) → SaysOne files p u word place slots f
       → SaysJournals files p u (word ∷ words) place slots f
@@ -110,7 +110,7 @@ module _ (files : List ℕ → Option (List ℕ)) (p : PlanValue) where
       inl (
         place,
         place_within before (take n texts) text place e,
-        weaker (inputs.Journal place) _ _ f (λ why refused. refused text after has before (take n texts) gathered e) h,
+        weaker (inputs.Journal place) (RefusesOne files p u word place slots) (RefusesJournal p (before ++ text ∷ take n texts) place) f (λ why refused. refused text after has before (take n texts) gathered e) h,
       )
 
   -- at a later one
@@ -151,8 +151,8 @@ module _ (files : List ℕ → Option (List ℕ)) (p : PlanValue) where
   named_after : (a : ℕ) (texts : List (List ℕ)) (asked : List Input) (f : Fault) → IsNamed p a f → (asked ≡ [] → Lacks p texts a) → SaysAfter p texts asked f
   named_after a texts [] Memory h lacks = inl tt
   named_after a texts [] (NoJournal name) h lacks = inr (a, lacks refl, h)
-  named_after a texts [] (ReadFailed input cause) h lacks = absurd h
-  named_after a texts [] (Refused why remark) h lacks = absurd h
+  named_after a texts [] (Text fault) h lacks = absurd h
+  named_after a texts [] (Refused why said) h lacks = absurd h
   named_after a texts [] (NoSuchOffice offices) h lacks = absurd h
   named_after a texts [] (NoAddress office) h lacks = absurd h
   named_after a texts [] (NoRun cause) h lacks = absurd h
@@ -165,8 +165,8 @@ module _ (files : List ℕ → Option (List ℕ)) (p : PlanValue) where
   named_after a texts [] (OtherSessions ticket) h lacks = absurd h
   named_after a texts (x ∷ xs) Memory h lacks = inl tt
   named_after a texts (x ∷ xs) (NoJournal name) h lacks = inr tt
-  named_after a texts (x ∷ xs) (ReadFailed input cause) h lacks = absurd h
-  named_after a texts (x ∷ xs) (Refused why remark) h lacks = absurd h
+  named_after a texts (x ∷ xs) (Text fault) h lacks = absurd h
+  named_after a texts (x ∷ xs) (Refused why said) h lacks = absurd h
   named_after a texts (x ∷ xs) (NoSuchOffice offices) h lacks = absurd h
   named_after a texts (x ∷ xs) (NoAddress office) h lacks = absurd h
   named_after a texts (x ∷ xs) (NoRun cause) h lacks = absurd h
@@ -216,16 +216,16 @@ module _ (files : List ℕ → Option (List ℕ)) (p : PlanValue) where
 
 module _ (files : List ℕ → Option (List ℕ)) where
   pub at_plan : (u : Unread) (a : List ℕ) (words : List (List ℕ)) (f : Fault)
-      → IsFaultAt inputs.Plan (λ why. (text : List ℕ) (after : Unread) → HasText files u a text after → Refuses nothing text why) f → SaysAudit files u a words f
-  at_plan u a words f h texts zero has = inl (among (inputs.Plan ∷ journal_inputs 0 (length words)) inputs.Plan _ f (0, omega arith, refl) h)
+      → IsFaultAt inputs.Plan (RefusesWord files u a nothing) f → SaysAudit files u a words f
+  at_plan u a words f h texts zero has = inl (among (inputs.Plan ∷ journal_inputs 0 (length words)) inputs.Plan (RefusesWord files u a nothing) f (0, omega arith, refl) h)
   at_plan u a words f h [] (suc n) has = absurd has
-  at_plan u a words f h (text ∷ texts) (suc n) (after, has, more) = inl (weaker inputs.Plan _ _ f (λ why refused. refused text after has) h)
+  at_plan u a words f h (text ∷ texts) (suc n) (after, has, more) = inl (weaker inputs.Plan (RefusesWord files u a nothing) (Refuses nothing text) f (λ why refused. refused text after has) h)
 
   is_no_journal : (p : PlanValue) (texts : List (List ℕ)) (f : Fault) → IsLacking p texts f → IsNoJournal f
   is_no_journal p texts Memory h = h
   is_no_journal p texts (NoJournal name) h = tt
-  is_no_journal p texts (ReadFailed input cause) h = h
-  is_no_journal p texts (Refused why remark) h = h
+  is_no_journal p texts (Text fault) h = h
+  is_no_journal p texts (Refused why said) h = h
   is_no_journal p texts (NoSuchOffice offices) h = h
   is_no_journal p texts (NoAddress office) h = h
   is_no_journal p texts (NoRun cause) h = h

@@ -1,9 +1,8 @@
-pub mod Rows
-pub mod Limits
+pub mod ReadWhole
 pub mod Faults
 pub mod Reported
 pub mod Running
 pub mod Storing
 pub mod JournalTexts
-pub mod JournalFiles
-pub mod Obstacles
+pub mod FewJournals
+pub mod SerialTold

@@ -6,7 +6,6 @@ use Rattle.std.specs.Io.KnownBytes.{Appends}
 use Rattle.input_texts.specs.Words.{HasText, HaveTexts, StandFor, Unread, unread}
 use Rattle.office_map.specs.PlanValue.{PlanValue, office_named}
 use Rattle.session_meaning.specs.ProgramValue.{ProgramValue}
-use Rattle.drink_commands.specs.Serial.{Reports, serial_report}
 use Rattle.frame_world.specs.Worlds.{opening}
 use Rattle.script_runs.specs.Script.{Act}
 use Rattle.script_runs.specs.Runs.{run_of}
@@ -15,10 +14,10 @@ use Rattle.random_runs.specs.Runs.{Tells}
 use Rattle.drink_commands.specs.Random.{TellsRun}
 use Rattle.office_runs.specs.Runs.{TellsCourse, TellsJournals}
 use Rattle.office_runs.specs.declared.report.Ran.{Ran}
-use Rattle.drink_commands.specs.Journals.{File, WritesFiles, files_of, files_of_world}
-use Rattle.drink_commands.specs.Places.{IsIn, IsObstacle}
+use Rattle.command_outputs.specs.Journals.{File, WritesFiles, files_of, files_of_world}
+use Rattle.command_outputs.specs.Places.{IsIn, IsObstacle}
 use Rattle.drink_commands.specs.Run.{IsReached, RefusesFile, RefusesFolder, WritesOffice, WritesOffices}
-use Rattle.drink_commands.specs.declared.fault.Obstacle.{Obstacle}
+use Rattle.command_outputs.specs.declared.fault.Obstacle.{Obstacle}
 use Rattle.drink_commands.specs.Simulation.{Simulates}
 use Rattle.drink_commands.proofs.Faults.{TakesPlan, TakesScript, TakesSessions}
 
@@ -26,20 +25,6 @@ use Rattle.drink_commands.proofs.Faults.{TakesPlan, TakesScript, TakesSessions}
 pub started : (u : Unread) (bytes : Option (List ℕ)) (files : List ℕ → Option (List ℕ)) (words texts : List (List ℕ)) → u ≡ unread bytes words
     → StandFor files bytes words texts → HaveTexts files u words texts
 started u bytes files words texts e h = subst (λ s. HaveTexts files s words texts) (sym e) h
-
-pub reported : (files : List ℕ → Option (List ℕ)) (u v w : Unread) (a b a_text b_text : List ℕ) (p : PlanValue) (programs : List ProgramValue)
-    (old new : Option (List ℕ)) (printed : List ℕ) → TakesPlan files u a v p → TakesSessions files v b w p programs
-    → HaveTexts files u (a ∷ b ∷ []) (a_text ∷ b_text ∷ []) → printed ≡ serial_report p programs → Appends old new printed
-    → Reports a_text b_text old new
-reported files u v w a b a_text b_text p programs old new printed plan sessions (after, has, (next, has_next, more)) e written =
-    let it = plan a_text after has in
-    record {
-      p = p;
-      programs = programs;
-      is_plan = it.0;
-      are_sessions = (sessions b_text next (subst (λ s. HasText files s b b_text next) (sym it.1) has_next)).0;
-      written = subst (λ t. Appends old new t) e written;
-    }
 
 pub ran : (files : List ℕ → Option (List ℕ)) (u v w : Unread) (a b a_text b_text : List ℕ) (p : PlanValue) (programs seen : List ProgramValue) (loss : ℕ)
     (old new : Option (List ℕ)) (printed : List ℕ) → TakesPlan files u a v p → TakesSessions files v b w p programs

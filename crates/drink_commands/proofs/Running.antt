@@ -1,45 +1,26 @@
 -- What a fault of `run` says, and what it leaves.
-use Rattle.std.proofs.Common.{Bor, is_some, ◌≡◌, ◌⊎◌, ◌≤◌, ℕ, zero, suc, List, [], ◌∷◌, take, Option, Some, None, Result, Ok, Err, refl, sym, subst, arith, inl, inr, IfErr, IfOk}
+use Rattle.std.proofs.Common.{Bor, is_some, ◌≡◌, ◌⊎◌, ◌≤◌, ℕ, zero, suc, List, [], ◌∷◌, take, Option, Some, None, Result, Ok, Err, refl, sym, subst, arith, inl, inr, IfErr, IfOk, OnOk}
 use Rattle.std.specs.Option.{option_copied}
 use Rattle.std.specs.String.{string_bytes}
-use Rattle.input_texts.specs.Words.{HaveTexts, HasText, Unread, unread}
+use Rattle.input_texts.specs.Words.{HaveTexts, Unread, unread}
 use Rattle.office_map.specs.PlanValue.{PlanValue, office_named}
 use Rattle.office_stations.specs.declared.fault.RunFault.{RunFault}
-use Rattle.drink_commands.specs.declared.input.Input.{Input}
-use Rattle.drink_commands.specs.declared.input.Input.TheVariants as inputs
-use Rattle.drink_commands.specs.declared.fault.Obstacle.{Obstacle}
-use Rattle.drink_commands.specs.declared.fault.Why.{Why}
-use Rattle.drink_commands.specs.declared.fault.Fault.{Fault}
-use Rattle.drink_commands.specs.declared.fault.Fault.TheVariants.{Memory, ReadFailed, Refused, NoSuchOffice, NoAddress, NoJournal, NoPlace, NoRun, CutShort, WriteFailed, FileFailed, NoStore, StoreFailed, OtherSessions}
-use Rattle.drink_commands.specs.Fault.{IsAmong, IsFaultAt, IsOfRun, IsPlaceFault}
+use Rattle.command_inputs.specs.declared.input.Input.{Input}
+use Rattle.command_inputs.specs.declared.input.Input.TheVariants as inputs
+use Rattle.command_outputs.specs.declared.fault.Obstacle.{Obstacle}
+use Rattle.command_outputs.specs.declared.fault.Fault.{Fault}
+use Rattle.command_outputs.specs.declared.fault.Fault.TheVariants.{Memory, Text, Refused, NoSuchOffice, NoAddress, NoJournal, NoPlace, NoRun, CutShort, WriteFailed, FileFailed, NoStore, StoreFailed, OtherSessions}
+use Rattle.command_outputs.specs.Fault.{IsAmong, IsFaultAt, IsOfRun, IsPlaceFault}
 use Rattle.drink_commands.specs.Texts.{Judges, NoOther, Refuses, nothing}
-use Rattle.drink_commands.specs.Status.{status_of}
 use Rattle.drink_commands.specs.Run.{IsJudgedOffice, IsNoOffice, IsOfOffice, IsReached, IsUnreached, JudgesOffice, Leaves, NoObstacle, SaysOf, status_with}
-use Rattle.drink_commands.proofs.Faults.{SaysTexts, TakesPlan, among, among_more, weaker}
+use Rattle.drink_commands.proofs.Faults.{RefusesWord, SaysTexts, TakesPlan, among, among_more, weaker}
 
 -- ---- what a fault leaves
 
--- a fault at an input
-pub at_input : (U : Type 0) (F : List ℕ → Obstacle → Type 0) (S : RunFault → Type 0) (input : Input) (P : Why → Type 0) (f : Fault) → IsFaultAt input P f → U → Leaves U F S f
-at_input U F S input P Memory h u = u
-at_input U F S input P (ReadFailed failed cause) h u = u
-at_input U F S input P (Refused why remark) h u = u
-at_input U F S input P (NoSuchOffice offices) h u = u
-at_input U F S input P (NoAddress office) h u = u
-at_input U F S input P (NoJournal office) h u = u
-at_input U F S input P (NoPlace name why) h u = absurd h
-at_input U F S input P (NoRun cause) h u = u
-at_input U F S input P (CutShort cause) h u = absurd h
-at_input U F S input P (WriteFailed cause) h u = tt
-at_input U F S input P (FileFailed name cause) h u = tt
-at_input U F S input P (NoStore why) h u = u
-at_input U F S input P StoreFailed h u = u
-at_input U F S input P (OtherSessions ticket) h u = u
-
 no_office : (U : Type 0) (F : List ℕ → Obstacle → Type 0) (S : RunFault → Type 0) (f : Fault) → IsNoOffice f → U → Leaves U F S f
 no_office U F S Memory h u = u
-no_office U F S (ReadFailed failed cause) h u = u
-no_office U F S (Refused why remark) h u = u
+no_office U F S (Text fault) h u = u
+no_office U F S (Refused why said) h u = u
 no_office U F S (NoSuchOffice offices) h u = u
 no_office U F S (NoAddress office) h u = u
 no_office U F S (NoJournal office) h u = u
@@ -54,8 +35,8 @@ no_office U F S (OtherSessions ticket) h u = u
 
 unreached : (U : Type 0) (F : List ℕ → Obstacle → Type 0) (S : RunFault → Type 0) (p : PlanValue) (v : ℕ) (f : Fault) → IsUnreached p v f → U → Leaves U F S f
 unreached U F S p v Memory h u = u
-unreached U F S p v (ReadFailed failed cause) h u = u
-unreached U F S p v (Refused why remark) h u = u
+unreached U F S p v (Text fault) h u = u
+unreached U F S p v (Refused why said) h u = u
 unreached U F S p v (NoSuchOffice offices) h u = u
 unreached U F S p v (NoAddress office) h u = u
 unreached U F S p v (NoJournal office) h u = u
@@ -77,8 +58,8 @@ at_office U F S p (Some me) f (inr (reached, h)) u = absurd h
 -- a run that was cut short, or the writing that failed
 pub at_end : (U : Type 0) (F : List ℕ → Obstacle → Type 0) (S T : RunFault → Type 0) (f : Fault) → Leaves ⊥ NoObstacle S f → ((cause : RunFault) → S cause → T cause) → Leaves U F T f
 at_end U F S T Memory h k = absurd h
-at_end U F S T (ReadFailed failed cause) h k = absurd h
-at_end U F S T (Refused why remark) h k = absurd h
+at_end U F S T (Text fault) h k = absurd h
+at_end U F S T (Refused why said) h k = absurd h
 at_end U F S T (NoSuchOffice offices) h k = absurd h
 at_end U F S T (NoAddress office) h k = absurd h
 at_end U F S T (NoJournal office) h k = absurd h
@@ -93,8 +74,8 @@ at_end U F S T (OtherSessions ticket) h k = absurd h
 
 pub is_end : (S : RunFault → Type 0) (f : Fault) → Leaves ⊥ NoObstacle S f → IsAmong [] f ⊎ IsOfRun f
 is_end S Memory h = absurd h
-is_end S (ReadFailed failed cause) h = absurd h
-is_end S (Refused why remark) h = absurd h
+is_end S (Text fault) h = absurd h
+is_end S (Refused why said) h = absurd h
 is_end S (NoSuchOffice offices) h = absurd h
 is_end S (NoAddress office) h = absurd h
 is_end S (NoJournal office) h = absurd h
@@ -111,8 +92,8 @@ is_end S (OtherSessions ticket) h = absurd h
 pub at_place : (U : Type 0) (E F : List ℕ → Obstacle → Type 0) (S : RunFault → Type 0) (f : Fault) → IsPlaceFault E f → U → ((name : List ℕ) (why : Obstacle) → E name why → F name why)
     → Leaves U F S f
 at_place U E F S Memory h u k = u
-at_place U E F S (ReadFailed failed cause) h u k = absurd h
-at_place U E F S (Refused why remark) h u k = absurd h
+at_place U E F S (Text fault) h u k = absurd h
+at_place U E F S (Refused why said) h u k = absurd h
 at_place U E F S (NoSuchOffice offices) h u k = absurd h
 at_place U E F S (NoAddress office) h u k = absurd h
 at_place U E F S (NoJournal office) h u k = absurd h
@@ -127,8 +108,8 @@ at_place U E F S (OtherSessions ticket) h u k = absurd h
 
 pub is_place : (E : List ℕ → Obstacle → Type 0) (f : Fault) → IsPlaceFault E f → IsAmong [] f ⊎ IsOfRun f
 is_place E Memory h = inl tt
-is_place E (ReadFailed failed cause) h = absurd h
-is_place E (Refused why remark) h = absurd h
+is_place E (Text fault) h = absurd h
+is_place E (Refused why said) h = absurd h
 is_place E (NoSuchOffice offices) h = absurd h
 is_place E (NoAddress office) h = absurd h
 is_place E (NoJournal office) h = absurd h
@@ -146,8 +127,8 @@ is_place E (OtherSessions ticket) h = absurd h
 module _ (P : Fault → Type 0) (asked : List Input) where
   named : (f : Fault) → IsNoOffice f → IsAmong asked f ⊎ (IsOfOffice f ⊎ P f)
   named Memory h = inl tt
-  named (ReadFailed failed cause) h = absurd h
-  named (Refused why remark) h = absurd h
+  named (Text fault) h = absurd h
+  named (Refused why said) h = absurd h
   named (NoSuchOffice offices) h = inr (inl tt)
   named (NoAddress office) h = absurd h
   named (NoJournal office) h = absurd h
@@ -162,8 +143,8 @@ module _ (P : Fault → Type 0) (asked : List Input) where
 
   met : (p : PlanValue) (v : ℕ) (f : Fault) → IsUnreached p v f → IsAmong asked f ⊎ (IsOfOffice f ⊎ P f)
   met p v Memory h = inl tt
-  met p v (ReadFailed failed cause) h = absurd h
-  met p v (Refused why remark) h = absurd h
+  met p v (Text fault) h = absurd h
+  met p v (Refused why said) h = absurd h
   met p v (NoSuchOffice offices) h = absurd h
   met p v (NoAddress office) h = inr (inl tt)
   met p v (NoJournal office) h = absurd h
@@ -194,11 +175,11 @@ module _ (P : Fault → Type 0) (files : List ℕ → Option (List ℕ)) (word :
 
   -- at the plan
   pub at_plan : (u : Unread) (a b : List ℕ) (f : Fault)
-      → IsFaultAt inputs.Plan (λ why. (text : List ℕ) (after : Unread) → HasText files u a text after → Refuses nothing text why) f
+      → IsFaultAt inputs.Plan (RefusesWord files u a nothing) f
       → SaysRun u (a ∷ b ∷ []) f
-  at_plan u a b f h texts zero has = inl (among (inputs.Plan ∷ inputs.Sessions ∷ []) inputs.Plan _ f (0, omega arith, refl) h)
+  at_plan u a b f h texts zero has = inl (among (inputs.Plan ∷ inputs.Sessions ∷ []) inputs.Plan (RefusesWord files u a nothing) f (0, omega arith, refl) h)
   at_plan u a b f h [] (suc n) has = absurd has
-  at_plan u a b f h (text ∷ texts) (suc n) (after, has, more) = inl (weaker inputs.Plan _ _ f (λ why refused. refused text after has) h)
+  at_plan u a b f h (text ∷ texts) (suc n) (after, has, more) = inl (weaker inputs.Plan (RefusesWord files u a nothing) (Refuses nothing text) f (λ why refused. refused text after has) h)
 
   -- at OFFICE
   pub at_word : (u v : Unread) (a b : List ℕ) (p : PlanValue) (f : Fault) → TakesPlan files u a v p → SaysOf p NoOther (office_named p word) f
@@ -243,14 +224,13 @@ pub ok_more : {A : Type 0} (r : Result A Fault) (P Q : A → Type 0) → ((x : A
 ok_more (Ok x) P Q k h = k x h
 ok_more (Err f) P Q k h = tt
 
+pub on_both : {A : Type 0} (r : Result A Fault) (P Q S : Type 0) → (P → Q → S) → OnOk r P → OnOk r Q → OnOk r S
+on_both (Ok x) P Q S k h j = k h j
+on_both (Err f) P Q S k h j = tt
+
 pub one_at_most : (left : ℕ) → status_with left ≤ 1
 one_at_most zero = omega arith
 one_at_most (suc n) = omega arith
-
--- a status of 0 is that of what was done
-pub done : (r : Result ℕ Fault) (P : ℕ → Type 0) → IfOk r P → status_of r ≡ 0 → P 0
-done (Ok status) P h e = subst P e h
-done (Err f) P h e = absurd (omega (arith, e))
 
 -- whether there is a word, and whether there are its bytes
 pub is_some_copied : (o : Option (Bor (List ℕ))) → is_some o ≡ is_some (option_copied o)

@@ -11,14 +11,14 @@ use Rattle.stored_runs.specs.declared.ended.Ended.{Ended}
 use Rattle.stored_runs.specs.declared.fault.KeptFault.{KeptFault}
 use Rattle.stored_runs.specs.declared.fault.StoredFault.{StoredFault}
 use Rattle.stored_runs.specs.declared.fault.StoredFault.TheVariants as ended
-use Rattle.drink_commands.specs.declared.input.Input.TheVariants as inputs
-use Rattle.drink_commands.specs.declared.fault.Obstacle.{Obstacle}
-use Rattle.drink_commands.specs.declared.fault.StoreRefusal.{StoreRefusal}
-use Rattle.drink_commands.specs.declared.fault.StoreRefusal.TheVariants as refusal
-use Rattle.drink_commands.specs.declared.fault.Fault.{Fault}
-use Rattle.drink_commands.specs.declared.fault.Fault.TheVariants.{Memory, ReadFailed, Refused, NoSuchOffice, NoAddress, NoJournal, NoPlace, NoRun, CutShort, WriteFailed, FileFailed, NoStore, StoreFailed, OtherSessions}
-use Rattle.drink_commands.specs.Fault.{IsAmong, IsOfStoredRun, IsPlaceFault}
-use Rattle.drink_commands.specs.Plans.{IsAcceptedAs}
+use Rattle.command_inputs.specs.declared.input.Input.TheVariants as inputs
+use Rattle.command_outputs.specs.declared.fault.Obstacle.{Obstacle}
+use Rattle.command_outputs.specs.declared.fault.StoreRefusal.{StoreRefusal}
+use Rattle.command_outputs.specs.declared.fault.StoreRefusal.TheVariants as refusal
+use Rattle.command_outputs.specs.declared.fault.Fault.{Fault}
+use Rattle.command_outputs.specs.declared.fault.Fault.TheVariants.{Memory, Text, Refused, NoSuchOffice, NoAddress, NoJournal, NoPlace, NoRun, CutShort, WriteFailed, FileFailed, NoStore, StoreFailed, OtherSessions}
+use Rattle.command_outputs.specs.Fault.{IsAmong, IsOfStoredRun, IsPlaceFault}
+use Rattle.command_inputs.specs.Plans.{IsAcceptedAs}
 use Rattle.drink_commands.specs.Run.{IsNoOffice, IsReached, IsUnreached, SaysOf}
 use Rattle.drink_commands.specs.Stored.{IsEnd, IsEndedBy, IsJudgedStored, IsKept, IsNotHeld, IsRefusal, IsStoreFault, LeavesStored, RefusesStore, WritesStored}
 use Rattle.drink_commands.specs.Texts.{Known, NoOther, nothing}
@@ -35,8 +35,8 @@ module _ (U S : Type 0) (F : List ℕ → Obstacle → Type 0) (is_new : Bool) (
 
   no_office : (f : Fault) → IsNoOffice f → U → L f
   no_office Memory h u = u
-  no_office (ReadFailed failed cause) h u = u
-  no_office (Refused why remark) h u = u
+  no_office (Text fault) h u = u
+  no_office (Refused why said) h u = u
   no_office (NoSuchOffice offices) h u = u
   no_office (NoAddress office) h u = u
   no_office (NoJournal office) h u = u
@@ -51,8 +51,8 @@ module _ (U S : Type 0) (F : List ℕ → Obstacle → Type 0) (is_new : Bool) (
 
   unreached : (p : PlanValue) (v : ℕ) (f : Fault) → IsUnreached p v f → U → L f
   unreached p v Memory h u = u
-  unreached p v (ReadFailed failed cause) h u = u
-  unreached p v (Refused why remark) h u = u
+  unreached p v (Text fault) h u = u
+  unreached p v (Refused why said) h u = u
   unreached p v (NoSuchOffice offices) h u = u
   unreached p v (NoAddress office) h u = u
   unreached p v (NoJournal office) h u = u
@@ -74,8 +74,8 @@ module _ (U S : Type 0) (F : List ℕ → Obstacle → Type 0) (is_new : Bool) (
   -- the store is an input
   pub at_place : (f : Fault) → IsPlaceFault F f → U → S → L f
   at_place Memory h u s = u
-  at_place (ReadFailed failed cause) h u s = absurd h
-  at_place (Refused why remark) h u s = absurd h
+  at_place (Text fault) h u s = absurd h
+  at_place (Refused why said) h u s = absurd h
   at_place (NoSuchOffice offices) h u s = absurd h
   at_place (NoAddress office) h u s = absurd h
   at_place (NoJournal office) h u s = absurd h
@@ -98,8 +98,8 @@ module _ (U S : Type 0) (F : List ℕ → Obstacle → Type 0) (is_new : Bool) (
   -- the office doesn't get its store, or doesn't go on from it
   pub at_store : (M : KeptFault → Type 0) → ((fault : KeptFault) → M fault → N fault) → (f : Fault) → IsStoreFault S is_new M f → U → L f
   at_store M k Memory h u = u
-  at_store M k (ReadFailed failed cause) h u = absurd h
-  at_store M k (Refused why remark) h u = absurd h
+  at_store M k (Text fault) h u = absurd h
+  at_store M k (Refused why said) h u = absurd h
   at_store M k (NoSuchOffice offices) h u = absurd h
   at_store M k (NoAddress office) h u = absurd h
   at_store M k (NoJournal office) h u = absurd h
@@ -115,8 +115,8 @@ module _ (U S : Type 0) (F : List ℕ → Obstacle → Type 0) (is_new : Bool) (
   -- the run had begun
   pub at_end : (e : Ended) (f : Fault) → IsEnd e f → ((cause : StoredFault) → IsEndedBy cause e → R cause) → L f
   at_end e Memory h k = absurd h
-  at_end e (ReadFailed failed cause) h k = absurd h
-  at_end e (Refused why remark) h k = absurd h
+  at_end e (Text fault) h k = absurd h
+  at_end e (Refused why said) h k = absurd h
   at_end e (NoSuchOffice offices) h k = absurd h
   at_end e (NoAddress office) h k = absurd h
   at_end e (NoJournal office) h k = absurd h
@@ -133,8 +133,8 @@ module _ (U S : Type 0) (F : List ℕ → Obstacle → Type 0) (is_new : Bool) (
 
 pub is_end : (e : Ended) (f : Fault) → IsEnd e f → IsAmong [] f ⊎ IsOfStoredRun f
 is_end e Memory h = absurd h
-is_end e (ReadFailed failed cause) h = absurd h
-is_end e (Refused why remark) h = absurd h
+is_end e (Text fault) h = absurd h
+is_end e (Refused why said) h = absurd h
 is_end e (NoSuchOffice offices) h = absurd h
 is_end e (NoAddress office) h = absurd h
 is_end e (NoJournal office) h = absurd h
@@ -149,8 +149,8 @@ is_end e (OtherSessions ticket) h = absurd h
 
 pub is_place : (F : List ℕ → Obstacle → Type 0) (f : Fault) → IsPlaceFault F f → IsAmong [] f ⊎ IsOfStoredRun f
 is_place F Memory h = inl tt
-is_place F (ReadFailed failed cause) h = absurd h
-is_place F (Refused why remark) h = absurd h
+is_place F (Text fault) h = absurd h
+is_place F (Refused why said) h = absurd h
 is_place F (NoSuchOffice offices) h = absurd h
 is_place F (NoAddress office) h = absurd h
 is_place F (NoJournal office) h = absurd h
@@ -165,8 +165,8 @@ is_place F (OtherSessions ticket) h = absurd h
 
 pub is_store : (S : Type 0) (is_new : Bool) (N : KeptFault → Type 0) (f : Fault) → IsStoreFault S is_new N f → IsAmong [] f ⊎ IsOfStoredRun f
 is_store S is_new N Memory h = inl tt
-is_store S is_new N (ReadFailed failed cause) h = absurd h
-is_store S is_new N (Refused why remark) h = absurd h
+is_store S is_new N (Text fault) h = absurd h
+is_store S is_new N (Refused why said) h = absurd h
 is_store S is_new N (NoSuchOffice offices) h = absurd h
 is_store S is_new N (NoAddress office) h = absurd h
 is_store S is_new N (NoJournal office) h = absurd h

@@ -11,15 +11,14 @@ use Rattle.journal_audit.specs.Gathering.{AreGathered, AreJournals, IsRefusedAt,
 use Rattle.journal_audit.specs.Findings.{TellsWoven, TellsUnwoven}
 use Rattle.journal_audit.specs.declared.fault.GatherFault.{GatherFault}
 use Rattle.journal_audit.specs.declared.fault.GatherFault.TheVariants as gather
-use Rattle.drink_commands.specs.Plans.{IsAcceptedAs}
-use Rattle.drink_commands.specs.Fault.{IsAmong, IsFaultAt, IsNoJournal}
+use Rattle.command_inputs.specs.Plans.{IsAcceptedAs}
+use Rattle.command_outputs.specs.Fault.{IsAmong, IsFaultAt, IsNoJournal}
 use Rattle.drink_commands.specs.Texts.{Refuses, nothing}
-use Rattle.drink_commands.specs.declared.input.Input.{Input}
-use Rattle.drink_commands.specs.declared.input.Input.TheVariants as inputs
-use Rattle.drink_commands.specs.declared.fault.Why.{Why}
-use Rattle.drink_commands.specs.declared.fault.Why.TheVariants.{Journal, Twice}
-use Rattle.drink_commands.specs.declared.fault.Fault.{Fault}
-use Rattle.drink_commands.specs.declared.fault.Fault.TheVariants.{NoJournal}
+use Rattle.command_inputs.specs.declared.input.Input.{Input}
+use Rattle.command_inputs.specs.declared.input.Input.TheVariants as inputs
+use Rattle.command_outputs.specs.declared.fault.Why.TheVariants.{Journal, Twice}
+use Rattle.command_outputs.specs.declared.fault.Fault.{Fault}
+use Rattle.command_outputs.specs.declared.fault.Fault.TheVariants.{NoJournal, Refused}
 
 -- so many journals, from the one at that place on
 abbrev pub journal_inputs : ℕ → ℕ → List Input
@@ -47,14 +46,14 @@ pub record Audits (plan : List ℕ) (texts : List (List ℕ)) (status : ℕ) (ol
 -- ---- what a fault says
 
 -- a text that isn't gathered is refused so
-abbrev pub IsToldAs : GatherFault → Why → Type 0
-IsToldAs (gather.Unread (journal.Refused refusal)) (Journal place said) = said ≡ refusal
-IsToldAs (gather.Twice office) (Twice place) = Unit {0}
-IsToldAs fault why = ⊥
+abbrev pub IsToldAs : GatherFault → Fault → Type 0
+IsToldAs (gather.Unread (journal.Refused refusal)) (Refused (Journal place told) said) = told ≡ refusal
+IsToldAs (gather.Twice office) (Refused (Twice place) said) = Unit {0}
+IsToldAs fault f = ⊥
 
 -- of these texts the one at that place is the first that isn't gathered, and it is refused so
-abbrev pub RefusesJournal : PlanValue → List (List ℕ) → ℕ → Why → Type 0
-RefusesJournal p texts place why = (fault : GatherFault) × IsRefusedAt p texts place fault × IsToldAs fault why
+abbrev pub RefusesJournal : PlanValue → List (List ℕ) → ℕ → Fault → Type 0
+RefusesJournal p texts place f = (fault : GatherFault) × IsRefusedAt p texts place fault × IsToldAs fault f
 
 -- all are gathered, and it tells the name of an office of which there is none
 abbrev pub IsLacking : PlanValue → List (List ℕ) → Fault → Type 0

@@ -1,12 +1,5 @@
-pub mod Plans
-pub mod Input
-pub mod Fault
+pub mod Limits
 pub mod Texts
-pub mod Journals
-pub mod Places
-pub mod Requests
-pub mod Status
-pub mod Serial
 pub mod Simulation
 pub mod Random
 pub mod Audit

@@ -5,7 +5,7 @@ use Rattle.office_map.specs.PlanValue.{PlanValue}
 use Rattle.session_meaning.specs.ProgramValue.{ProgramValue}
 use Rattle.session_language.specs.Reading.{sessions_of}
 use Rattle.random_runs.specs.Runs.{Tells}
-use Rattle.drink_commands.specs.Plans.{IsAcceptedAs}
+use Rattle.command_inputs.specs.Plans.{IsAcceptedAs}
 
 -- The two texts mean a plan and sessions under it, and the report of a run of these with this loss, whichever was drawn, was
 -- written after what the writer held.

@@ -11,15 +11,15 @@ use Rattle.office_stations.specs.Addresses.{is_without}
 use Rattle.office_runs.specs.Runs.{TellsCourse, TellsJournals}
 use Rattle.office_runs.specs.declared.report.Ran.{Ran}
 use Rattle.office_stations.specs.declared.fault.RunFault.{RunFault}
-use Rattle.drink_commands.specs.Journals.{File, WritesFiles, files_of}
-use Rattle.drink_commands.specs.Places.{AreFree, IsFree, IsIn, IsObstacle}
-use Rattle.drink_commands.specs.Plans.{IsAcceptedAs}
-use Rattle.drink_commands.specs.Fault.{IsAmong, IsFaultAt, IsOfRun}
+use Rattle.command_outputs.specs.Journals.{File, WritesFiles, files_of}
+use Rattle.command_outputs.specs.Places.{AreFree, IsFree, IsIn, IsObstacle}
+use Rattle.command_inputs.specs.Plans.{IsAcceptedAs}
+use Rattle.command_outputs.specs.Fault.{IsAmong, IsFaultAt, IsOfRun}
 use Rattle.drink_commands.specs.Texts.{Judges, Refuses, nothing}
-use Rattle.drink_commands.specs.declared.input.Input.TheVariants as inputs
-use Rattle.drink_commands.specs.declared.fault.Obstacle.{Obstacle}
-use Rattle.drink_commands.specs.declared.fault.Fault.{Fault}
-use Rattle.drink_commands.specs.declared.fault.Fault.TheVariants.{Memory, NoSuchOffice, NoAddress, NoPlace, CutShort, WriteFailed, FileFailed}
+use Rattle.command_inputs.specs.declared.input.Input.TheVariants as inputs
+use Rattle.command_outputs.specs.declared.fault.Obstacle.{Obstacle}
+use Rattle.command_outputs.specs.declared.fault.Fault.{Fault}
+use Rattle.command_outputs.specs.declared.fault.Fault.TheVariants.{Memory, NoSuchOffice, NoAddress, NoPlace, CutShort, WriteFailed, FileFailed}
 
 -- ---- how it ended
 
@@ -79,6 +79,7 @@ RunsOffice tells files standard plan word sessions turns file P old new kept lef
     → StandFor files standard (plan ∷ sessions ∷ []) (plan_text ∷ sessions_text ∷ [])
     → (ran : Ran) × P ran × WritesOffice tells (IsFree files plan sessions) plan_text word sessions_text turns file ran old new kept left
 
+-- so it is of all offices of the plan and all sessions
 abbrev pub RunsOffices : (List ℕ → Option (List ℕ)) → Option (List ℕ) → (plan sessions : List ℕ) → Option (List ℕ) → (Ran → Type 0) → Option (List ℕ) → Option (List ℕ) → Option (List File) → Option (List File) → Type 0
 RunsOffices files standard plan sessions folder P old new kept left = (plan_text sessions_text : List ℕ)
     → StandFor files standard (plan ∷ sessions ∷ []) (plan_text ∷ sessions_text ∷ [])
@@ -123,10 +124,12 @@ JudgesOffice P word (text ∷ texts) f =
     IsFaultAt inputs.Plan (Refuses nothing text) f
     ⊎ ((p : PlanValue) × IsAcceptedAs text p × SaysOf p (Judges P (record nothing { plan = Some p }) (inputs.Sessions ∷ []) texts) (office_named p word) f)
 
+-- what it says of the words of the command, whichever of their texts are known
 abbrev pub IsJudgedOffice : (Fault → Type 0) → (List ℕ → Option (List ℕ)) → Option (List ℕ) → (plan word sessions : List ℕ) → Fault → Type 0
 IsJudgedOffice P files standard plan word sessions f = (texts : List (List ℕ)) (n : ℕ) → HaveFirstTexts files standard (plan ∷ sessions ∷ []) texts n
     → JudgesOffice P word (take n texts) f
 
+-- so it is of `run` without a store
 abbrev pub IsJudgedRun : (List ℕ → Option (List ℕ)) → Option (List ℕ) → (plan word sessions : List ℕ) → Fault → Type 0
 IsJudgedRun = IsJudgedOffice IsOfRun
 
@@ -155,6 +158,6 @@ Leaves Unwritten Found Stands (CutShort cause) = Stands cause
 Leaves Unwritten Found Stands (NoPlace name why) = Unwritten × Found (string_bytes name) why
 Leaves Unwritten Found Stands _ = Unwritten
 
--- of a run that has begun
+-- of a run that has begun: nothing is found
 abbrev pub NoObstacle : List ℕ → Obstacle → Type 0
 NoObstacle name why = ⊥

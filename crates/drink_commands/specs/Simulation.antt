@@ -8,8 +8,8 @@ use Rattle.frame_world.specs.Worlds.{opening}
 use Rattle.script_runs.specs.Script.{Act, IsScript}
 use Rattle.script_runs.specs.Runs.{run_of}
 use Rattle.script_runs.specs.Transcript.{transcript, IsSerialRun}
-use Rattle.drink_commands.specs.Journals.{File, WritesFiles, files_of_world}
-use Rattle.drink_commands.specs.Plans.{IsAcceptedAs}
+use Rattle.command_outputs.specs.Journals.{File, WritesFiles, files_of_world}
+use Rattle.command_inputs.specs.Plans.{IsAcceptedAs}
 
 -- The three texts mean a plan, sessions under it and a script of them, and the transcript of its run was written after what
 -- the writer held. What its report tells is a serial run. Where a word names a folder for them, the journals of all offices at its

@@ -13,15 +13,15 @@ use Rattle.stored_runs.specs.declared.fault.KeptFault.{KeptFault}
 use Rattle.stored_runs.specs.declared.fault.KeptFault.TheVariants as kept
 use Rattle.stored_runs.specs.declared.fault.StoredFault.{StoredFault}
 use Rattle.stored_runs.specs.declared.fault.StoredFault.TheVariants as ended
-use Rattle.drink_commands.specs.Places.{IsOther}
-use Rattle.drink_commands.specs.Plans.{IsAcceptedAs}
-use Rattle.drink_commands.specs.Fault.{IsOfStoredRun}
+use Rattle.command_outputs.specs.Places.{IsOther}
+use Rattle.command_inputs.specs.Plans.{IsAcceptedAs}
+use Rattle.command_outputs.specs.Fault.{IsOfStoredRun}
 use Rattle.drink_commands.specs.Run.{IsJudgedOffice, IsReached, status_with}
-use Rattle.drink_commands.specs.declared.fault.Obstacle.{Obstacle}
-use Rattle.drink_commands.specs.declared.fault.StoreRefusal.{StoreRefusal}
-use Rattle.drink_commands.specs.declared.fault.StoreRefusal.TheVariants as refusal
-use Rattle.drink_commands.specs.declared.fault.Fault.{Fault}
-use Rattle.drink_commands.specs.declared.fault.Fault.TheVariants.{Memory, NoPlace, CutShort, WriteFailed, NoStore, StoreFailed, OtherSessions}
+use Rattle.command_outputs.specs.declared.fault.Obstacle.{Obstacle}
+use Rattle.command_outputs.specs.declared.fault.StoreRefusal.{StoreRefusal}
+use Rattle.command_outputs.specs.declared.fault.StoreRefusal.TheVariants as refusal
+use Rattle.command_outputs.specs.declared.fault.Fault.{Fault}
+use Rattle.command_outputs.specs.declared.fault.Fault.TheVariants.{Memory, NoPlace, CutShort, WriteFailed, NoStore, StoreFailed, OtherSessions}
 
 -- ---- how it ended
 
@@ -84,6 +84,7 @@ RunsStored tells files standard known is_new plan word sessions store turns P ol
 
 -- ---- what a fault says
 
+-- what a fault of `run` with a store says of its texts and of OFFICE
 abbrev pub IsJudgedStored : (List ℕ → Option (List ℕ)) → Option (List ℕ) → (plan word sessions : List ℕ) → Fault → Type 0
 IsJudgedStored = IsJudgedOffice IsOfStoredRun
 

@@ -1,31 +1,32 @@
 -- What the texts of a command's inputs mean, and what a fault says of them. They are judged in the order of the words, each
 -- under what those before it mean.
-use Rattle.std.specs.Prelude.{◌≡◌, ◌⊎◌, List, [], ◌∷◌, ℕ, take, Option, Some, None, Ok, Err}
+use Rattle.std.specs.Prelude.{◌≡◌, ◌⊎◌, List, [], ◌∷◌, ℕ, take, Option, Some, None, Ok}
 use Rattle.input_texts.specs.Words.{HaveFirstTexts}
 use Rattle.office_map.specs.PlanValue.{PlanValue}
-use Rattle.office_map.specs.PlanText.{plan_of, HasRing}
 use Rattle.session_meaning.specs.ProgramValue.{ProgramValue}
 use Rattle.session_language.specs.Reading.{sessions_of}
 use Rattle.script_runs.specs.Script.{Act, IsScript, RefusesScript}
-use Rattle.drink_commands.specs.Plans.{IsAcceptedAs}
-use Rattle.drink_commands.specs.Fault.{IsAmong, IsFaultAt}
-use Rattle.drink_commands.specs.declared.input.Input.{Input}
-use Rattle.drink_commands.specs.declared.input.Input.TheVariants as inputs
-use Rattle.drink_commands.specs.declared.fault.Why.{Why}
-use Rattle.drink_commands.specs.declared.fault.Why.TheVariants.{Plan, Ring, Sessions, Script, Journal, Twice}
-use Rattle.drink_commands.specs.declared.fault.Fault.{Fault}
+use Rattle.command_inputs.specs.Plans.{IsAcceptedAs}
+use Rattle.command_inputs.specs.Texts.{RefusesText}
+use Rattle.command_outputs.specs.Fault.{IsAmong, IsFaultAt}
+use Rattle.command_inputs.specs.declared.input.Input.{Input}
+use Rattle.command_inputs.specs.declared.input.Input.TheVariants as inputs
+use Rattle.command_outputs.specs.declared.fault.Why.TheVariants.{Script}
+use Rattle.command_outputs.specs.declared.fault.Fault.{Fault}
+use Rattle.command_outputs.specs.declared.fault.Fault.TheVariants.{Text, Refused}
 
--- what the texts that were accepted mean
+-- the plan, sessions and acts that the texts accepted so far mean
 pub record Known : Type 0 where
   pub plan : Option PlanValue
   pub programs : Option (List ProgramValue)
   pub acts : Option (List Act)
 
--- before the first of them
+-- before the first of them is accepted
 abbrev pub nothing : Known
 nothing = record { plan = None; programs = None; acts = None }
 
--- the text of this input is accepted, and then so much is known; journals are judged together (Audit.antt)
+-- Under what those before it mean, the text of this input is accepted, and then so much is known. Journals are judged
+-- together (Audit.antt).
 abbrev pub Accepts : Known → Input → List ℕ → Known → Type 0
 Accepts known inputs.Plan text next = (p : PlanValue) × IsAcceptedAs text p × (next ≡ record known { plan = Some p })
 Accepts known inputs.Sessions text next =
@@ -36,15 +37,12 @@ Accepts known inputs.Script text next =
     × IsScript p programs text acts × (next ≡ record known { acts = Some acts })
 Accepts known (inputs.Journal place) text next = ⊥
 
--- the text is refused so
-abbrev pub Refuses : Known → List ℕ → Why → Type 0
-Refuses known text (Plan r) = plan_of text ≡ Err r
-Refuses known text (Ring r) = HasRing r (plan_of text)
-Refuses known text (Sessions r) = (p : PlanValue) × (known.plan ≡ Some p) × (sessions_of p text ≡ Err r)
-Refuses known text (Script r) =
+-- under what those before it mean, a text is refused, and the fault says why
+abbrev pub Refuses : Known → List ℕ → Fault → Type 0
+Refuses known text (Text fault) = RefusesText known.plan text fault
+Refuses known text (Refused (Script r) said) =
     (p : PlanValue) × (programs : List ProgramValue) × (known.plan ≡ Some p) × (known.programs ≡ Some programs) × RefusesScript p programs text r
-Refuses known text (Journal place r) = ⊥
-Refuses known text (Twice place) = ⊥
+Refuses known text _ = ⊥
 
 -- What a fault says of the texts of these inputs, of which the first are given: each is accepted, up to one that wasn't read or
 -- is refused; where none of those is at fault, none before the rest is. Where memory ran out, nothing is said. Other faults than
@@ -65,5 +63,6 @@ IsJudgedOr P files standard words asked f = (texts : List (List ℕ)) (n : ℕ) 
 abbrev pub NoOther : Fault → Type 0
 NoOther f = ⊥
 
+-- what a fault says of the texts of a command's words, where it has no further faults
 abbrev pub IsJudged : (List ℕ → Option (List ℕ)) → Option (List ℕ) → List (List ℕ) → List Input → Fault → Type 0
 IsJudged = IsJudgedOr NoOther

@@ -5,16 +5,17 @@ ghost use Rattle.input_texts.specs.Words.{HasText, HaveTexts, Unread};
 ghost use Rattle.journal_audit.specs.Gathering.{AreJournals};
 ghost use Rattle.journal_audit.specs.declared.fault.GatherFault.TheVariants as gather;
 ghost use Rattle.drink_commands.specs.Audit.{IsToldAs, journal_inputs};
-ghost use Rattle.drink_commands.specs.Fault.{IsAmong, IsFaultAt};
+ghost use Rattle.command_outputs.specs.Fault.{IsAmong, IsFaultAt};
 ghost use Rattle.drink_commands.specs.refinement.Journals.{GathersFirst, IsNamed, SaysFrom, SaysJournals, SaysOne, TakesAll, TakesOne};
 
-use crate::fault::{Fault, Remark, Why};
-use crate::input::{Input, MOST_JOURNAL};
-use crate::texts::{lines_above, text};
+use crate::limits::MOST_JOURNAL;
+use command_inputs::{Input, TextFault, at_line, lines_above, text};
+use command_outputs::Fault;
+use command_outputs::fault::Why;
 use input_texts::{Sources, StandardInput};
 use journal_audit::{GatherFault, Journals};
 use journal_diagnostics::of_journal;
-use journal_texts::JournalFault;
+use journal_texts::{JournalFault, JournalRefusal, JournalRule};
 use journal_weave::GivenJournal;
 use office_map::{OfficeId, Plan};
 use run_words::words::office_name;
@@ -124,6 +125,20 @@ fn refused(
     }
 }
 
+/// What people are told of one that is no journal.
+fn sentence(
+    alloc: Global,
+    text: &[u8],
+    plan: &Plan,
+    lines_above: u64,
+    refusal: JournalRefusal,
+) -> Result<String, AllocError> {
+    let place = at_line(alloc, refusal.line, lines_above)?;
+    let rule = refusal.rule;
+    let found = of_journal(alloc, text, plan, refusal)?;
+    format!(in alloc; "{place}{rule}: {found}")
+}
+
 /// One that is no journal.
 fn unread(
     alloc: Global,
@@ -139,8 +154,8 @@ fn unread(
         JournalFault::Memory => return Fault::Memory,
         JournalFault::Refused(refusal) => refusal,
     };
-    match of_journal(alloc, text, plan, refusal) {
-        Ok(text) => Fault::Refused(Why::Journal(place, refusal), Remark { lines_above, text }),
+    match sentence(alloc, text, plan, lines_above, refusal) {
+        Ok(said) => Fault::Refused(Why::Journal(place, refusal), said),
         Err(_) => Fault::Memory,
     }
 }
@@ -150,13 +165,7 @@ fn second(alloc: Global, plan: &Plan, place: usize, office: OfficeId) -> Fault
     ensures { IsFaultAt (Input.Journal place) (IsToldAs (gather.Twice office)) result }
 {
     match of_second(alloc, plan, office) {
-        Ok(text) => Fault::Refused(
-            Why::Twice(place),
-            Remark {
-                lines_above: 0,
-                text,
-            },
-        ),
+        Ok(said) => Fault::Refused(Why::Twice(place), said),
         Err(_) => Fault::Memory,
     }
 }
@@ -173,17 +182,19 @@ fn journal_text<S: Sources>(
     ensures fault { IfErr result (IsFaultAt (Input.Journal place) (λ _. ⊥)) }
 {
     let input = Input::Journal(place);
-    let text = text(alloc, sources, standard, word, input)?;
+    let text = text(alloc, sources, standard, word, input, MOST_JOURNAL)?;
     if text.len() > MOST_JOURNAL {
-        return Err(Fault::ReadFailed(input, ErrorKind::FileTooLarge));
+        let endless = TextFault::ReadFailed(input, ErrorKind::FileTooLarge);
+        return Err(Fault::Text(endless));
     }
     Ok(text)
 }
 
 /// What people are told of a second journal of an office.
 fn of_second(alloc: Global, plan: &Plan, office: OfficeId) -> Result<String, AllocError> {
+    let rule = JournalRule::JournalHeader;
     let name = office_name(plan, office);
     format!(in alloc;
-        "a journal of the office `{name}` is named before it, and an audit takes one of each office"
+        "{rule}: a journal of the office `{name}` is named before it, and an audit takes one of each office"
     )
 }

@@ -15,27 +15,29 @@
 //!   `stored_runs` promises (clause `runs`). Its faults say what the texts are, as those of `run` (clause `judged`), and what the store has
 //!   that isn't gone on from; then nothing is written, and the store is as it was (clause `leaves`).
 //! - [`commands::live::run`] is `drink live`, with the same clauses, of all offices.
-//! - [`telling::Telling`] says on a terminal how far a run is, and never waits for it.
-//! - [`program::perform`] carries a request out, from the texts that its words stand for (clause `done`); [`program::answer`]
-//!   does what the words of a command line ask for, with status 0 only where that was done (clause `done`), and [`run`]
-//!   hands it the files, the standard input and the output that the program was started with.
+//! - [`scripts::read_events`] and [`journals::read_journals`] read scripts and journals, which one command each takes.
 //!
-//! What the words of a command line ask for is in the crate `command_words`. What is printed, and which events a script means,
-//! is in `run_reports` and `script_runs`, which runs may be drawn in `random_runs`, what is told of offices that run in
-//! `office_runs`, what a fault says of the texts in `specs/Texts.antt`, and which texts words stand for in `input_texts`. Which
-//! bytes a file, the standard input or a terminal gives or takes is outside what is proved.
+//! Plans and sessions are read in `command_inputs`, and where outputs go is in `command_outputs`, with the fault of a command. What is
+//! printed, and which events a script means, is in `run_reports` and `script_runs`, which runs may be drawn in `random_runs`, what is
+//! told of offices that run in `office_runs`, `live_runs` and `stored_runs`, what a fault says of the texts in `specs/Texts.antt`, and
+//! which texts words stand for in `input_texts`.
+//!
+//! The commands are a library: a wrong body in a program costs the gate half as much again as one in a library, since a
+//! program's edits are checked with all that it links. A command gets what words name, and no readers: one function
+//! reads a word's text, whether it is a file or a part of the standard input, so each command's contract goes from its
+//! words to its report. Tests hand a command files, sockets and stores in memory. What a fault says of the texts
+//! (`Judges`) is one definition for all commands, by recursion on the list of a command's inputs: a text is at fault,
+//! or it is accepted and the rest is judged under what it means. A kind of input is a row of `Accepts` and of
+//! `Refuses`, and a command a file of its own with its list.
+//!
+//! Not said: which bytes a device gives; what was written where writing failed; anything of the texts where memory ran
+//! out, and that it ran out where that is said; which run `random` draws; what comes from a network, and which session
+//! comes first at a record; that a socket, a thread or a store couldn't be had, and that no socket was opened before a
+//! fault of the words (tests show it); that `--sync` is as asked for; that a file could be written later too; what
+//! help, the version and a fault say.
 #![tactic(auto)]
 
 pub mod commands;
-pub mod exit;
-pub mod fault;
-pub mod input;
-mod journal_files;
 pub mod journals;
-mod places;
-pub mod program;
-pub mod stores;
-pub mod telling;
-pub mod texts;
-
-pub use program::run;
+pub mod limits;
+pub mod scripts;

@@ -20,7 +20,8 @@ pub record IsOther (line : List ℕ) : Type 0 where
 abbrev pub ended : List (List ℕ) → List ℕ
 ended = flat_map (λ line. line ++ 10 ∷ [])
 
--- The text before the line of the cut, and the text after it. Where no line is that of the cut, all stands before it.
+-- A text is cut at its first line that is exactly ---: the text before that line, and the text after it. Where no line
+-- is that of the cut, all stands before it.
 pub data IsCut (text front back : List ℕ) : Type 0 where
   at_line : (others : List (List ℕ)) (line : List ℕ) → All IsOther others → IsCutLine line
       → text ≡ ended others ++ (line ++ 10 ∷ back) → front ≡ ended others → IsCut text front back

@@ -9,6 +9,7 @@ pub record Unread : Type 0 where
   pub parts : ℕ
   pub bytes : Option (List ℕ)
 
+-- the word stands for the standard input
 abbrev pub is_dash : List ℕ → Bool
 is_dash word = bytes_eq word (codes "-")
 
@@ -16,8 +17,9 @@ is_dash word = bytes_eq word (codes "-")
 abbrev pub unread : Option (List ℕ) → List (List ℕ) → Unread
 unread bytes words = record { parts = count_by is_dash words; bytes = bytes }
 
--- Of the last word that is - the text is all that is left of the standard input, and of one before it the text up to the
--- next cut. Of any other word it is that of the file of that name.
+-- The text of the next word, and what is left after it. Of the last word that is - the text is all that is left of the
+-- standard input, and of one before it the text up to the next cut. Of any other word it is that of the file of that
+-- name.
 pub data HasText (files : List ℕ → Option (List ℕ)) (u : Unread) (word text : List ℕ) (after : Unread) : Type 0 where
   file : word ≢ codes "-" → files word ≡ Some text → after ≡ u → HasText files u word text after
   last : word ≡ codes "-" → u.parts ≤ 1 → u.bytes ≡ Some text → after ≡ record { parts = 0; bytes = Some [] }
@@ -41,11 +43,11 @@ abbrev pub HaveFirstTexts : (List ℕ → Option (List ℕ)) → Option (List �
 HaveFirstTexts files standard words texts n =
     (n ≤ length words) × HaveTexts files (unread standard words) (take n words) (take n texts)
 
--- all of them have
+-- all words of a command have these texts
 abbrev pub StandFor : (List ℕ → Option (List ℕ)) → Option (List ℕ) → List (List ℕ) → List (List ℕ) → Type 0
 StandFor files standard words texts = HaveTexts files (unread standard words) words texts
 
--- the text of the first file of this name, where there is one
+-- of files in memory the text of the first of this name, where there is one
 abbrev pub text_named : List ℕ → List (List ℕ × List ℕ) → Option (List ℕ)
 text_named name [] = None
 text_named name (f ∷ fs) = if bytes_eq f.0 name then Some f.1 else text_named name fs

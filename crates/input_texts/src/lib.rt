@@ -9,6 +9,13 @@
 //!
 //! The standard input is read when its first part is asked for, and no further than that part's limit wants. A file is
 //! opened when its text is asked for.
+//!
+//! Of the standard input no more is read at a time than a part's limit and a line of a cut; what was read beyond the
+//! part is kept for the next one. So a plan is judged before the sessions are waited for, where they come later.
+//!
+//! Not said: which bytes a device gives; how much is asked of it (a private clause bounds one filling, a test an
+//! endless reader); what the words after a text past its limit have, since nothing is read after it; that a file has
+//! several names, but where the system tells it.
 #![tactic(auto)]
 
 mod cut;

@@ -7,6 +7,8 @@ use crate::fault::InputFault;
 use std::io::{ErrorKind, Read};
 
 /// After so many reads an input is taken to have no end.
+///
+/// `FileTooLarge` is the cause then.
 const READS: u32 = 1_000_000_000;
 
 /// How many bytes are asked for at a time.

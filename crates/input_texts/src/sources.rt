@@ -22,6 +22,9 @@ pub trait Sources {
         ensures { IfOk result (λ f. Self.File.remaining f ≡ file_text self.now name.now) };
 
     /// Opens the file of that name, where one is there. What is no file of a disk, as a pipe or a terminal, is none, and isn't opened.
+    ///
+    /// What a source's files have is known to its clauses, so what a run finds of a file that it will write is told by
+    /// them. A pipe would wait for its other end.
     fn find(&self, name: &str) -> io::Result<Option<Self::File>>
         ensures text { IfOk result (λ found. IfSome found (λ f. Self.File.remaining f ≡ file_text self.now name.now)) }
         ensures nowhere { IfOk result (λ found. IfNone found (file_text self.now name.now ≡ None)) };

@@ -1,9 +1,9 @@
 //! What is said of words of digits, and of the session whose text one is.
 
 use crate::journal::Refused;
-use diagnostics::of_sessions;
 use diagnostics::shown::{Quoted, word_at};
 use run_words::digits::bytes;
+use session_diagnostics::of_sessions;
 use session_language::{LangFault, SessionRefusal, read_sessions};
 use std::alloc::AllocError;
 

@@ -63,21 +63,30 @@ fn say_forms(said: &mut String) -> Result<(), AllocError> {
 
 /// What is at fault after a tag.
 fn say_event(said: &mut String, refused: Refused<'_>, words: &[&[u8]]) -> Result<(), AllocError> {
-    match word_at(words, 1) {
-        b"submit" => say_submit(said, refused, words),
-        b"do" => say_do(said, refused, words),
-        b"send" => say_send(said, refused, words),
-        b"took" => say_took(said, refused.line, words),
-        b"withdraw" => say_withdraw(said, refused.line, words),
-        b"" => {
-            said.push_str("nothing follows the tag; the lines are ")?;
-            say_forms(said)
-        }
-        other => {
-            say_word(said, "", other, " is no event; the lines are ")?;
-            say_forms(said)
-        }
+    let event = word_at(words, 1);
+    if is(event, "submit") {
+        say_submit(said, refused, words)
+    } else if is(event, "do") {
+        say_do(said, refused, words)
+    } else if is(event, "send") {
+        say_send(said, refused, words)
+    } else if is(event, "took") {
+        say_took(said, refused.line, words)
+    } else if is(event, "withdraw") {
+        say_withdraw(said, refused.line, words)
+    } else {
+        say_no_event(said, event)
     }
+}
+
+/// That the word after a tag, or no bytes where nothing follows, is no event.
+fn say_no_event(said: &mut String, word: &[u8]) -> Result<(), AllocError> {
+    if word.is_empty() {
+        said.push_str("nothing follows the tag; the lines are ")?;
+    } else {
+        say_word(said, "", word, " is no event; the lines are ")?;
+    }
+    say_forms(said)
 }
 
 fn say_submit(said: &mut String, refused: Refused<'_>, words: &[&[u8]]) -> Result<(), AllocError> {

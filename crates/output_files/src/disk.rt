@@ -52,6 +52,9 @@ impl<R: Files> Targets for Disk<'_, R> {
     }
 
     /// A fault that the system tells only when a file is closed isn't told: it is asked for none then.
+    ///
+    /// The kit closes files where they are dropped. A file isn't synced, which is a choice: nothing is started from
+    /// what is written here. An Ok says that the system took the whole text, as for the standard output.
     fn write_file(&mut self, name: &str, text: &[u8]) -> io::Result<()> {
         let mut file = fs::create(self.rt, name)?;
         write_whole(&mut file, text)
@@ -81,7 +84,7 @@ fn make_and_remove<R: Files>(rt: &R, name: &str) -> io::Result<()> {
 }
 
 /// All of the text goes out, and what a writer holds back of it too.
-pub(crate) fn write_whole<W: Write>(writer: &mut W, text: &[u8]) -> io::Result<()>
+pub fn write_whole<W: Write>(writer: &mut W, text: &[u8]) -> io::Result<()>
     ensures whole { OnOk result (Appends (W.contents writer.old) (W.contents writer.new) text.now) }
 {
     writer.write_all(text)?;

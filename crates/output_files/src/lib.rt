@@ -4,6 +4,12 @@
 //!   ghost `written`: an `Ok` adds the file (clause `adds`), and an `Err` adds none (clause `fails`).
 //! - A program's own is [`Disk`], of which nothing is known. [`InMemory`] keeps each file that was written, and may fail at a
 //!   call.
+//!
+//! Not said: what a disk has, and what a file has after a fault, since how much of the text went out isn't known; which
+//! folders were made, since a file can't be written where its folder isn't there; what a try answers, since whether a
+//! later writing succeeds isn't known. Tests show that a try leaves a disk as it is: a file that isn't there is made
+//! and removed, one that is there is opened for writing and keeps what it has.
+//! - [`write_whole`] writes a text to one writer (clause `whole`).
 #![tactic(auto)]
 
 mod disk;
@@ -12,6 +18,6 @@ mod targets;
 #[cfg(test)]
 mod tests;
 
-pub use disk::Disk;
+pub use disk::{Disk, write_whole};
 pub use memory::{InMemory, MemoryFile};
 pub use targets::Targets;

@@ -9,7 +9,7 @@ use std::io::{Error, ErrorKind};
 use std::marker::Model;
 
 /// A file that was written. Contracts see its name and its text.
-#[derive(Debug, Drop)]
+#[derive(Drop)]
 pub struct MemoryFile {
     name: String,
     text: Vec<u8>,

@@ -8,10 +8,10 @@ use Rattle.run_words.specs.Words.{office_name}
 use Rattle.journal_weave.specs.declared.given.GivenJournal.{GivenJournal}
 use Rattle.journal_audit.specs.Gathering.{AreGathered}
 use Rattle.drink_commands.specs.Audit.{Audits, JudgesAudit, JudgesJournals, RefusesJournal}
-use Rattle.drink_commands.specs.Fault.{IsFaultAt}
-use Rattle.drink_commands.specs.declared.input.Input.TheVariants as inputs
-use Rattle.drink_commands.specs.declared.fault.Fault.{Fault}
-use Rattle.drink_commands.specs.declared.fault.Fault.TheVariants.{Memory, NoJournal}
+use Rattle.command_outputs.specs.Fault.{IsFaultAt}
+use Rattle.command_inputs.specs.declared.input.Input.TheVariants as inputs
+use Rattle.command_outputs.specs.declared.fault.Fault.{Fault}
+use Rattle.command_outputs.specs.declared.fault.Fault.TheVariants.{Memory, NoJournal}
 
 -- it tells that no journal is of this office, or memory ran out
 abbrev pub IsNamed : PlanValue → ℕ → Fault → Type 0
@@ -34,10 +34,14 @@ module _ (files : List ℕ → Option (List ℕ)) (p : PlanValue) where
   TakesAll u [] slots v filled = (v ≡ u) × (filled ≡ slots)
   TakesAll u (word ∷ words) slots v filled = (mid : Unread) × (more : Slots) × TakesOne u word slots mid more × TakesAll mid words more v filled
 
+  -- the text of a word is refused as the one at that place, after those that are gathered
+  abbrev pub RefusesOne : Unread → List ℕ → ℕ → Slots → Fault → Type 0
+  RefusesOne u word place slots why = (text : List ℕ) (after : Unread) → HasText files u word text after
+      → (before rest : List (List ℕ)) → AreGathered p before slots → length before ≡ place → RefusesJournal p (before ++ text ∷ rest) place why
+
   -- a fault says what is so of the text of a word, as the one at that place
   abbrev pub SaysOne : Unread → List ℕ → ℕ → Slots → Fault → Type 0
-  SaysOne u word place slots = IsFaultAt (inputs.Journal place) (λ why. (text : List ℕ) (after : Unread) → HasText files u word text after
-      → (before rest : List (List ℕ)) → AreGathered p before slots → length before ≡ place → RefusesJournal p (before ++ text ∷ rest) place why)
+  SaysOne u word place slots = IsFaultAt (inputs.Journal place) (RefusesOne u word place slots)
 
   -- it says what is so of the texts of these words, whichever are known, of which the first is the one at that place
   abbrev pub SaysJournals : Unread → List (List ℕ) → ℕ → Slots → Fault → Type 0

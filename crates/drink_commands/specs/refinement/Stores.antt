@@ -2,10 +2,10 @@
 use Rattle.std.specs.Prelude.{◌≡◌}
 use Rattle.stored_runs.specs.declared.fault.KeptFault.{KeptFault}
 use Rattle.stored_runs.specs.declared.fault.KeptFault.TheVariants as kept
-use Rattle.drink_commands.specs.declared.fault.StoreRefusal.{StoreRefusal}
-use Rattle.drink_commands.specs.declared.fault.StoreRefusal.TheVariants as refusal
-use Rattle.drink_commands.specs.declared.fault.Fault.{Fault}
-use Rattle.drink_commands.specs.declared.fault.Fault.TheVariants.{Memory, NoStore, OtherSessions}
+use Rattle.command_outputs.specs.declared.fault.StoreRefusal.{StoreRefusal}
+use Rattle.command_outputs.specs.declared.fault.StoreRefusal.TheVariants as refusal
+use Rattle.command_outputs.specs.declared.fault.Fault.{Fault}
+use Rattle.command_outputs.specs.declared.fault.Fault.TheVariants.{Memory, NoStore, OtherSessions}
 
 -- as a line of it
 abbrev pub IsLineOf : KeptFault → StoreRefusal → Type 0

@@ -4,13 +4,14 @@ ghost use Rattle.std.specs.Prelude.{◌≡◌, ◌≤◌, ◌⊎◌, ◌∷◌, 
 ghost use Rattle.std.specs.String.{string_bytes};
 ghost use Rattle.input_texts.specs.Words.{StandFor};
 ghost use Rattle.drink_commands.specs.Audit.{Audits, IsJudgedAudit};
-ghost use Rattle.drink_commands.specs.Fault.{IsAmong, IsWriteFault};
+ghost use Rattle.command_outputs.specs.Fault.{IsAmong, IsWriteFault};
 ghost use Rattle.drink_commands.specs.refinement.Journals.{SaysAudit, TellsAudit};
 
-use crate::commands::{DONE, write_whole};
-use crate::fault::Fault;
+use crate::commands::DONE;
 use crate::journals::read_journals;
-use crate::texts::read_plan;
+use command_inputs::read_plan;
+use command_outputs::Fault;
+use command_outputs::output::write_whole;
 use input_texts::{Sources, StandardInput};
 use journal_audit::{Finding, audit};
 use std::alloc::{AllocError, Global};

@@ -2,14 +2,14 @@
 
 ghost use Rattle.std.specs.Prelude.{◌≡◌, ◌⊎◌, [], ◌∷◌, IfErr, IfOk, List, OnOk, ℕ};
 ghost use Rattle.input_texts.specs.Words.{StandFor};
-ghost use Rattle.drink_commands.specs.Fault.{IsWriteFault};
+ghost use Rattle.command_outputs.specs.Fault.{IsWriteFault};
 ghost use Rattle.drink_commands.specs.Random.{TellsRun};
 ghost use Rattle.drink_commands.specs.Texts.{IsJudged};
 
-use crate::commands::{DONE, write_whole};
-use crate::fault::Fault;
-use crate::input::Input;
-use crate::texts::{read_plan, read_programs};
+use crate::commands::DONE;
+use command_inputs::{Input, read_plan, read_programs};
+use command_outputs::Fault;
+use command_outputs::output::write_whole;
 use input_texts::{Sources, StandardInput};
 use random_runs::Schedule;
 use random_runs::run::report;

@@ -1,24 +1,17 @@
 //! The command `serial`.
 
-ghost use Rattle.std.specs.Prelude.{◌≡◌, ◌≤◌, ◌⊎◌, [], ◌∷◌, All, IfErr, IfOk, IsTrue, List, OnOk, length, true, ℕ};
-ghost use Rattle.std.specs.String.{string_bytes};
+ghost use Rattle.std.specs.Prelude.{◌≡◌, ◌⊎◌, [], ◌∷◌, IfErr, IfOk, List, OnOk, ℕ};
 ghost use Rattle.input_texts.specs.Words.{StandFor};
-ghost use Rattle.session_language.specs.Limits.{most_sessions};
-ghost use Rattle.session_language.specs.Program.{fits};
-ghost use Rattle.drink_commands.specs.Fault.{IsAmong, IsWriteFault};
-ghost use Rattle.drink_commands.specs.Serial.{Reports, serial_report};
+ghost use Rattle.command_outputs.specs.Fault.{IsAmong, IsWriteFault};
 ghost use Rattle.drink_commands.specs.Texts.{IsJudged};
+ghost use Rattle.serial_command.specs.Serial.{Reports};
 
-use crate::commands::{DONE, write_whole};
-use crate::fault::Fault;
-use crate::input::Input;
-use crate::texts::{read_plan, read_programs};
-use input_texts::{Sources, StandardInput};
-use office_map::Plan;
-use run_reports::report::report;
-use serial_replay::replay;
-use session_language::Program;
-use std::alloc::{AllocError, Global};
+use crate::commands::DONE;
+use command_inputs::Input;
+use command_outputs::Fault;
+use input_texts::Sources;
+use serial_command::fault::SerialFault;
+use std::alloc::Global;
 use std::io::Write;
 
 /// Runs the sessions alone, one after another, and writes what each did and the values that they leave. The plan is read
@@ -39,24 +32,9 @@ pub fn run<S: Sources, W: Write>(
     ensures input { IfErr result (IsAmong (Input.Plan ∷ Input.Sessions ∷ [])) }
     ensures unwritten { IfErr result (λ f. IsWriteFault f ⊎ (out.new ≡ out.old)) }
 {
-    let words = [plan, sessions];
-    let mut standard = StandardInput::new(alloc, sources.standard(), &words);
-    let plan = read_plan(alloc, sources, &mut standard, plan)?;
-    let programs = read_programs(alloc, sources, &mut standard, sessions, &plan)?;
-    let text = serial_report(alloc, &plan, programs)?;
-    write_whole(out, &text)?;
-    Ok(DONE)
-}
-
-/// The report of the serial run of sessions that fit a plan.
-fn serial_report(alloc: Global, plan: &Plan, programs: Vec<Program>) -> Result<String, AllocError>
-    requires fit { All (λ p. IsTrue (fits plan.now p)) programs.items }
-    requires few { length programs.items ≤ most_sessions }
-    ensures { IfOk result (λ text. string_bytes text ≡ serial_report plan.now programs.items) }
-{
-    let replay = replay::serial(alloc, plan, &programs)?;
-    // The report may be longer than the programs, whose memory it can take.
-    drop(programs);
-    let text = report(alloc, plan, &replay.outcomes, &replay.values)?;
-    Ok(text)
+    match serial_command::serial::run(alloc, sources, plan, sessions, out) {
+        Ok(()) => Ok(DONE),
+        Err(SerialFault::Text(fault)) => Err(Fault::Text(fault)),
+        Err(SerialFault::Output(kind)) => Err(Fault::WriteFailed(kind)),
+    }
 }

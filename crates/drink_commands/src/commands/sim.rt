@@ -2,19 +2,23 @@
 
 ghost use Rattle.std.specs.Prelude.{◌≡◌, ◌⊎◌, [], ◌∷◌, IfErr, IfOk, List, OnOk, ℕ};
 ghost use Rattle.std.specs.Option.{option_copied};
+ghost use Rattle.std.specs.String.{string_bytes};
+ghost use Rattle.std.specs.Io.KnownBytes.{Appends};
 ghost use Rattle.input_texts.specs.Words.{StandFor};
-ghost use Rattle.drink_commands.specs.Fault.{IsWriteFault};
+ghost use Rattle.command_outputs.specs.Fault.{IsWriteFault};
+ghost use Rattle.command_outputs.specs.Journals.{WritesFiles, files_of_world};
 ghost use Rattle.drink_commands.specs.Simulation.{Simulates};
 ghost use Rattle.drink_commands.specs.Texts.{IsJudged};
 
-use crate::commands::{DONE, write_whole};
-use crate::fault::Fault;
-use crate::input::Input;
-use crate::journal_files::write_world;
-use crate::texts::{read_events, read_plan, read_programs};
+use crate::commands::DONE;
+use crate::scripts::read_events;
+use command_inputs::{Input, read_plan, read_programs};
+use command_outputs::Fault;
+use command_outputs::journal_files::write_world;
+use command_outputs::output::write_whole;
 use input_texts::{Sources, StandardInput};
 use output_files::Targets;
-use script_runs::transcript::simulate;
+use script_runs::transcript::{Simulated, simulate};
 use std::alloc::Global;
 use std::io::Write;
 
@@ -47,6 +51,22 @@ pub fn run<S: Sources, T: Targets, W: Write>(
     let programs = read_programs(alloc, sources, &mut standard, sessions, &plan)?;
     let events = read_events(alloc, sources, &mut standard, script, &plan, &programs)?;
     let simulated = simulate(alloc, &plan, &programs, &events)?;
+    write_simulated(alloc, out, targets, journals, &simulated)
+}
+
+/// What is told of a script is written, and the journals of the world that it leads to. The answer is the exit status.
+fn write_simulated<T: Targets, W: Write>(
+    alloc: Global,
+    out: &mut W,
+    targets: &mut T,
+    journals: Option<&str>,
+    simulated: &Simulated,
+) -> Result<u8, Fault>
+    ensures written { OnOk result (Appends (W.contents out.old) (W.contents out.new) (string_bytes simulated.now.text)) }
+    ensures journals { OnOk result (WritesFiles (option_copied journals.entry) (λ place. files_of_world place simulated.now.world) (T.written targets.old) (T.written targets.new)) }
+    ensures status { IfOk result (λ status. status ≡ 0) }
+    ensures fault { IfErr result IsWriteFault }
+{
     write_whole(out, &simulated.text)?;
     write_world(alloc, targets, journals, &simulated.world)?;
     Ok(DONE)

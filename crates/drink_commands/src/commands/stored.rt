@@ -1,18 +1,19 @@
 //! The command `run` with a store.
 
 ghost use Rattle.std.specs.Prelude.{◌≡◌, ◌≤◌, ◌<◌, false, true, length, All, IsTrue, IfErr, IfOk, IfSome};
-ghost use Rattle.session_language.specs.Program.{fits};
+ghost use Rattle.session_programs.specs.Program.{fits};
 ghost use Rattle.stored_runs.specs.Keeping.{HasText};
-ghost use Rattle.drink_commands.specs.Places.{IsAnInput};
+ghost use Rattle.command_outputs.specs.Places.{IsAnInput};
 ghost use Rattle.drink_commands.specs.Stored.{EndsStored, IsEnd, IsEndedBy, IsJudgedStored, IsKept, IsNotHeld, IsRefusal, IsStoreFault, LeavesStored, RefusesStore, RunsStored};
 ghost use Rattle.drink_commands.specs.refinement.Stores.{IsToldOf};
 
 use crate::commands::run::office_to_run;
 use crate::commands::status_with;
-use crate::fault::{Fault, StoreRefusal};
-use crate::places::refuse_input;
-use crate::stores::{Found, Stores};
-use crate::texts::{read_plan, read_programs};
+use command_inputs::{read_plan, read_programs};
+use command_outputs::Fault;
+use command_outputs::fault::StoreRefusal;
+use command_outputs::places::refuse_input;
+use command_outputs::stores::{Found, Stores};
 use input_texts::{Sources, StandardInput, failure_kind};
 use journal_diagnostics::of_journal;
 use journal_stores::{OpenFault, Sync};
@@ -20,7 +21,7 @@ use journal_texts::JournalRefusal;
 use office_map::{OfficeId, Plan};
 use office_stations::{Around, Binds, Gate, Watch, at_address};
 use run_words::words::office_name;
-use session_language::Program;
+use session_programs::Program;
 use std::alloc::{AllocError, Global};
 use std::io::{ErrorKind, Write};
 use std::rt::Clock;

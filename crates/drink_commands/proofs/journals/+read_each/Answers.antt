@@ -2,7 +2,7 @@ use Rattle.std.proofs.Common.{◌≡◌, ◌+◌, ◌∷◌, length, map, ap, sy
 use Rattle.std.proofs.lemmas.List.{length-map}
 use Rattle.std.proofs.lemmas.Result.{err_from_is_err_and}
 use Rattle.drink_commands.specs.Audit.{journal_inputs}
-use Rattle.drink_commands.specs.Fault.{IsAmong}
+use Rattle.command_outputs.specs.Fault.{IsAmong}
 use Rattle.drink_commands.specs.refinement.Journals.{SaysJournals}
 use Rattle.drink_commands.proofs.JournalTexts.{among_next, says_first, says_next}
 use Rattle.drink_commands.proofs.Running.{err_both, err_more}

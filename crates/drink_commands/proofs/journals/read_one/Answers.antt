@@ -1,6 +1,8 @@
 use Rattle.std.proofs.Common.{◌∙◌, ◌∷◌, ◌++◌, [], length, subst}
 use Rattle.journal_audit.specs.Gathering.{AreGathered, IsRefusedAt}
-use Rattle.drink_commands.specs.declared.input.Input.TheVariants as inputs
+use Rattle.command_inputs.specs.declared.input.Input.TheVariants as inputs
+use Rattle.drink_commands.specs.Audit.{IsToldAs}
+use Rattle.drink_commands.specs.refinement.Journals.{RefusesOne}
 use Rattle.drink_commands.proofs.Faults.{weaker}
 use Rattle.drink_commands.proofs.journals.read_one.Goals as goal
 
@@ -11,7 +13,7 @@ returns-in-Ok-clause-taken g c = λ text after has.
 
 pub returns-clause-fault : goal.returns-clause-fault
 returns-clause-fault g c =
-    weaker (inputs.Journal c.args.place) _ _ c.refused.result
+    weaker (inputs.Journal c.args.place) (IsToldAs c.in-Err.fault) (RefusesOne (g.S.Sources.file_text c.args.sources.now) c.args.plan.now c.args.standard.now c.args.word.now c.args.place c.args.journals.now) c.refused.result
     (λ why told. λ text after has before rest h e.
     let it = c.in_ok-text.ensures.text text after has in
     let here = c.in-Err.ensures.refused before rest h in (

@@ -1,6 +1,6 @@
 use Rattle.std.proofs.Common.{map}
 use Rattle.std.proofs.lemmas.Result.{err_from_is_err_and}
-use Rattle.drink_commands.specs.declared.fault.Fault.TheVariants.{Memory}
+use Rattle.command_outputs.specs.declared.fault.Fault.TheVariants.{Memory, Text}
 use Rattle.drink_commands.proofs.JournalTexts.{at_journals, at_plan, audited, says_later}
 use Rattle.drink_commands.proofs.commands.audit.found.Goals as goal
 
@@ -9,7 +9,7 @@ returns-in_err-plan-clause-fault g c =
     let e = err_from_is_err_and c.from_residual.result c.from_residual.ensures.1 in
     let files = g.S.Sources.file_text c.args.sources.now in
     let words = map (λ w. w.now) c.args.journals.now in
-    rw (e.1, e.2) (at_plan files c.args.standard.now c.args.plan.now words c.in_err-plan.field-0.0 c.in_err-plan.ensures.fault)
+    rw (e.1, e.2) (at_plan files c.args.standard.now c.args.plan.now words (Text c.in_err-plan.field-0.0) c.in_err-plan.ensures.fault)
 
 pub returns-in_err-given-clause-fault : goal.returns-in_err-given-clause-fault
 returns-in_err-given-clause-fault g c =

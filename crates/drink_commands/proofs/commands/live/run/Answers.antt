@@ -3,17 +3,17 @@ use Rattle.std.specs.Option.{option_copied}
 use Rattle.office_runs.specs.Runs.{TellsJournals}
 use Rattle.std.proofs.Common.{◌∙◌, [], ◌∷◌, IfSome, Some, inl, inr, length, refl, subst, sym, ◌≤◌, rules}
 use Rattle.std.proofs.lemmas.Result.{err_from_is_err_and}
-use Rattle.drink_commands.specs.Fault.{IsOfRun}
-use Rattle.drink_commands.specs.Places.{AreFree, IsIn}
+use Rattle.command_outputs.specs.Fault.{IsOfRun}
+use Rattle.command_outputs.specs.Places.{AreFree, IsIn}
 use Rattle.drink_commands.specs.Run.{RefusesFolder}
 use Rattle.drink_commands.specs.Texts.{nothing}
-use Rattle.drink_commands.specs.declared.input.Input.TheVariants as inputs
-use Rattle.drink_commands.specs.declared.fault.Fault.TheVariants.{NoRun}
+use Rattle.command_inputs.specs.declared.input.Input.TheVariants as inputs
+use Rattle.command_outputs.specs.declared.fault.Fault.TheVariants.{NoRun, Text}
 use Rattle.drink_commands.proofs.Faults as texts
 use Rattle.drink_commands.proofs.Faults.{at_first, at_next, judged, plan_taken, sessions_taken}
 use Rattle.drink_commands.proofs.Reported.{folder_refused, ran_offices, started}
-use Rattle.drink_commands.proofs.Running.{at_end, at_input, at_place, err_more, is_end, is_place, is_some_copied, ok_more, one_at_most}
-use Rattle.drink_commands.proofs.JournalFiles.{few_journals}
+use Rattle.drink_commands.proofs.Running.{at_end, at_place, err_more, is_end, is_place, is_some_copied, ok_more, one_at_most}
+use Rattle.drink_commands.proofs.FewJournals.{few_journals}
 use Rattle.drink_commands.proofs.commands.live.run.Goals as goal
 
 pub write_ran-requires : goal.write_ran-requires
@@ -24,18 +24,18 @@ returns-in_err-plan-clause-judged g c =
     let e = err_from_is_err_and c.from_residual.result c.from_residual.ensures.1 in
     let files = g.S.Sources.file_text c.args.sources.now in
     rw (e.1, e.2)
-    (judged IsOfRun files (g.S.Sources.standard_text c.args.sources.now) c.new-standard.result (c.args.plan.now ∷ c.args.sessions.now ∷ []) (inputs.Plan ∷ inputs.Sessions ∷ []) c.in_err-plan.field-0.0 (search rules)
-    (at_first IsOfRun files c.new-standard.result c.args.plan.now (c.args.sessions.now ∷ []) nothing inputs.Plan (inputs.Sessions ∷ []) c.in_err-plan.field-0.0 c.in_err-plan.ensures.fault))
+    (judged IsOfRun files (g.S.Sources.standard_text c.args.sources.now) c.new-standard.result (c.args.plan.now ∷ c.args.sessions.now ∷ []) (inputs.Plan ∷ inputs.Sessions ∷ []) (Text c.in_err-plan.field-0.0) (search rules)
+    (at_first IsOfRun files c.new-standard.result c.args.plan.now (c.args.sessions.now ∷ []) nothing inputs.Plan (inputs.Sessions ∷ []) (Text c.in_err-plan.field-0.0) c.in_err-plan.ensures.fault))
 
 pub returns-in_err-programs-clause-judged : goal.returns-in_err-programs-clause-judged
 returns-in_err-programs-clause-judged g c =
     let e = err_from_is_err_and c.from_residual-in_err-programs.result c.from_residual-in_err-programs.ensures.1 in
     let files = g.S.Sources.file_text c.args.sources.now in
     rw (e.1, e.2)
-    (judged IsOfRun files (g.S.Sources.standard_text c.args.sources.now) c.new-standard.result (c.args.plan.now ∷ c.args.sessions.now ∷ []) (inputs.Plan ∷ inputs.Sessions ∷ []) c.in_err-programs.field-0.0 (search rules)
-    (at_next IsOfRun files c.new-standard.result c.read_plan.new.standard c.args.plan.now (c.args.sessions.now ∷ []) nothing (record nothing { plan = Some c.in_ok-plan.plan }) inputs.Plan (inputs.Sessions ∷ []) c.in_err-programs.field-0.0
+    (judged IsOfRun files (g.S.Sources.standard_text c.args.sources.now) c.new-standard.result (c.args.plan.now ∷ c.args.sessions.now ∷ []) (inputs.Plan ∷ inputs.Sessions ∷ []) (Text c.in_err-programs.field-0.0) (search rules)
+    (at_next IsOfRun files c.new-standard.result c.read_plan.new.standard c.args.plan.now (c.args.sessions.now ∷ []) nothing (record nothing { plan = Some c.in_ok-plan.plan }) inputs.Plan (inputs.Sessions ∷ []) (Text c.in_err-programs.field-0.0)
     (plan_taken files c.new-standard.result c.args.plan.now c.read_plan.new.standard c.in_ok-plan.plan c.in_ok-plan.ensures.meaning)
-    (at_first IsOfRun files c.read_plan.new.standard c.args.sessions.now [] (record nothing { plan = Some c.in_ok-plan.plan }) inputs.Sessions [] c.in_err-programs.field-0.0 c.in_err-programs.ensures.fault)))
+    (at_first IsOfRun files c.read_plan.new.standard c.args.sessions.now [] (record nothing { plan = Some c.in_ok-plan.plan }) inputs.Sessions [] (Text c.in_err-programs.field-0.0) c.in_err-programs.ensures.fault)))
 
 pub returns-in_err-look_at_folder-clause-judged : goal.returns-in_err-look_at_folder-clause-judged
 returns-in_err-look_at_folder-clause-judged g c =
@@ -89,12 +89,12 @@ returns-clause-status g c = ok_more c.write_ran.result _ _ (λ status h. subst (
 pub returns-in_err-plan-clause-leaves : goal.returns-in_err-plan-clause-leaves
 returns-in_err-plan-clause-leaves g c =
     let e = err_from_is_err_and c.from_residual.result c.from_residual.ensures.1 in
-    rw (e.1, e.2) (at_input _ (RefusesFolder (g.S.Sources.file_text c.args.sources.now) (g.S.Sources.standard_text c.args.sources.now) c.args.plan.now c.args.sessions.now (option_copied c.args.journals)) _ inputs.Plan _ c.in_err-plan.field-0.0 c.in_err-plan.ensures.fault (refl, refl))
+    rw (e.1, e.2) (refl, refl)
 
 pub returns-in_err-programs-clause-leaves : goal.returns-in_err-programs-clause-leaves
 returns-in_err-programs-clause-leaves g c =
     let e = err_from_is_err_and c.from_residual-in_err-programs.result c.from_residual-in_err-programs.ensures.1 in
-    rw (e.1, e.2) (at_input _ (RefusesFolder (g.S.Sources.file_text c.args.sources.now) (g.S.Sources.standard_text c.args.sources.now) c.args.plan.now c.args.sessions.now (option_copied c.args.journals)) _ inputs.Sessions _ c.in_err-programs.field-0.0 c.in_err-programs.ensures.fault (refl, refl))
+    rw (e.1, e.2) (refl, refl)
 
 pub returns-in_err-look_at_folder-clause-leaves : goal.returns-in_err-look_at_folder-clause-leaves
 returns-in_err-look_at_folder-clause-leaves g c =

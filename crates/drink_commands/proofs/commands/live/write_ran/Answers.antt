@@ -2,7 +2,7 @@ use Rattle.std.proofs.Common.{◌≡◌, [], get_or, length, map, rules, subst}
 use Rattle.std.specs.Option.{option_copied}
 use Rattle.std.specs.String.{string_bytes}
 use Rattle.std.specs.Io.KnownBytes.{Appends}
-use Rattle.drink_commands.specs.Journals.{WritesFiles, files_of}
+use Rattle.command_outputs.specs.Journals.{WritesFiles, files_of}
 use Rattle.drink_commands.specs.Run.{NoObstacle}
 use Rattle.drink_commands.proofs.Running.{at_end, err_more, ok_more}
 use Rattle.drink_commands.proofs.commands.live.write_ran.Goals as goal

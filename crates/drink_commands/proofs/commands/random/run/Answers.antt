@@ -1,8 +1,8 @@
 use Rattle.std.proofs.Common.{[], ◌∷◌, Some, refl, inl, inr, rules}
 use Rattle.std.proofs.lemmas.Result.{err_from_is_err_and}
 use Rattle.drink_commands.specs.Texts.{NoOther, nothing}
-use Rattle.drink_commands.specs.declared.input.Input.TheVariants as inputs
-use Rattle.drink_commands.specs.declared.fault.Fault.TheVariants.{Memory}
+use Rattle.command_inputs.specs.declared.input.Input.TheVariants as inputs
+use Rattle.command_outputs.specs.declared.fault.Fault.TheVariants.{Memory, Text}
 use Rattle.drink_commands.proofs.Faults.{at_end, at_first, at_next, judged, no_input, plan_taken, sessions_taken}
 use Rattle.drink_commands.proofs.Reported.{ran, started}
 use Rattle.drink_commands.proofs.commands.random.run.Goals as goal
@@ -12,18 +12,18 @@ returns-in_err-plan-clause-judged g c =
     let e = err_from_is_err_and c.from_residual.result c.from_residual.ensures.1 in
     let files = g.S.Sources.file_text c.args.sources.now in
     rw (e.1, e.2)
-    (judged NoOther files (g.S.Sources.standard_text c.args.sources.now) c.new-standard.result (c.args.plan.now ∷ c.args.sessions.now ∷ []) (inputs.Plan ∷ inputs.Sessions ∷ []) c.in_err-plan.field-0.0 (search rules)
-    (at_first NoOther files c.new-standard.result c.args.plan.now (c.args.sessions.now ∷ []) nothing inputs.Plan (inputs.Sessions ∷ []) c.in_err-plan.field-0.0 c.in_err-plan.ensures.fault))
+    (judged NoOther files (g.S.Sources.standard_text c.args.sources.now) c.new-standard.result (c.args.plan.now ∷ c.args.sessions.now ∷ []) (inputs.Plan ∷ inputs.Sessions ∷ []) (Text c.in_err-plan.field-0.0) (search rules)
+    (at_first NoOther files c.new-standard.result c.args.plan.now (c.args.sessions.now ∷ []) nothing inputs.Plan (inputs.Sessions ∷ []) (Text c.in_err-plan.field-0.0) c.in_err-plan.ensures.fault))
 
 pub returns-in_err-programs-clause-judged : goal.returns-in_err-programs-clause-judged
 returns-in_err-programs-clause-judged g c =
     let e = err_from_is_err_and c.from_residual-in_err-programs.result c.from_residual-in_err-programs.ensures.1 in
     let files = g.S.Sources.file_text c.args.sources.now in
     rw (e.1, e.2)
-    (judged NoOther files (g.S.Sources.standard_text c.args.sources.now) c.new-standard.result (c.args.plan.now ∷ c.args.sessions.now ∷ []) (inputs.Plan ∷ inputs.Sessions ∷ []) c.in_err-programs.field-0.0 (search rules)
-    (at_next NoOther files c.new-standard.result c.read_plan.new.standard c.args.plan.now (c.args.sessions.now ∷ []) nothing (record nothing { plan = Some c.in_ok-plan.plan }) inputs.Plan (inputs.Sessions ∷ []) c.in_err-programs.field-0.0
+    (judged NoOther files (g.S.Sources.standard_text c.args.sources.now) c.new-standard.result (c.args.plan.now ∷ c.args.sessions.now ∷ []) (inputs.Plan ∷ inputs.Sessions ∷ []) (Text c.in_err-programs.field-0.0) (search rules)
+    (at_next NoOther files c.new-standard.result c.read_plan.new.standard c.args.plan.now (c.args.sessions.now ∷ []) nothing (record nothing { plan = Some c.in_ok-plan.plan }) inputs.Plan (inputs.Sessions ∷ []) (Text c.in_err-programs.field-0.0)
     (plan_taken files c.new-standard.result c.args.plan.now c.read_plan.new.standard c.in_ok-plan.plan c.in_ok-plan.ensures.meaning)
-    (at_first NoOther files c.read_plan.new.standard c.args.sessions.now [] (record nothing { plan = Some c.in_ok-plan.plan }) inputs.Sessions [] c.in_err-programs.field-0.0 c.in_err-programs.ensures.fault)))
+    (at_first NoOther files c.read_plan.new.standard c.args.sessions.now [] (record nothing { plan = Some c.in_ok-plan.plan }) inputs.Sessions [] (Text c.in_err-programs.field-0.0) c.in_err-programs.ensures.fault)))
 
 pub returns-in_err-text-clause-judged : goal.returns-in_err-text-clause-judged
 returns-in_err-text-clause-judged g c =

@@ -2,16 +2,16 @@ use Rattle.std.specs.Option.{option_copied}
 use Rattle.office_runs.specs.Runs.{TellsCourse}
 use Rattle.std.proofs.Common.{◌≡◌, ◌∙◌, [], ◌∷◌, Some, inl, inr, refl, subst, sym, ◌≤◌, rules}
 use Rattle.std.proofs.lemmas.Result.{err_from_is_err_and}
-use Rattle.drink_commands.specs.Fault.{IsOfRun}
-use Rattle.drink_commands.specs.Places.{IsFree, IsObstacle}
+use Rattle.command_outputs.specs.Fault.{IsOfRun}
+use Rattle.command_outputs.specs.Places.{IsFree, IsObstacle}
 use Rattle.drink_commands.specs.Run.{RefusesFile}
 use Rattle.drink_commands.specs.Texts.{nothing}
-use Rattle.drink_commands.specs.declared.input.Input.TheVariants as inputs
-use Rattle.drink_commands.specs.declared.fault.Fault.TheVariants.{NoRun}
+use Rattle.command_inputs.specs.declared.input.Input.TheVariants as inputs
+use Rattle.command_outputs.specs.declared.fault.Fault.TheVariants.{NoRun, Text}
 use Rattle.drink_commands.proofs.Faults as texts
 use Rattle.drink_commands.proofs.Faults.{at_first, at_next, sessions_taken}
 use Rattle.drink_commands.proofs.Reported.{file_refused, ran_office, started}
-use Rattle.drink_commands.proofs.Running.{at_end, at_input, at_later, at_office, at_place, at_plan, at_word, err_more, is_end, is_place, judged, is_some_copied, ok_more, one_at_most}
+use Rattle.drink_commands.proofs.Running.{at_end, at_later, at_office, at_place, at_plan, at_word, err_more, is_end, is_place, judged, is_some_copied, ok_more, one_at_most}
 use Rattle.drink_commands.proofs.commands.run.run.Goals as goal
 
 pub returns-in_err-plan-clause-judged : goal.returns-in_err-plan-clause-judged
@@ -19,8 +19,8 @@ returns-in_err-plan-clause-judged g c =
     let e = err_from_is_err_and c.from_residual.result c.from_residual.ensures.1 in
     let files = g.S.Sources.file_text c.args.sources.now in
     rw (e.1, e.2)
-    (judged IsOfRun files c.args.office.now (g.S.Sources.standard_text c.args.sources.now) c.new-standard.result c.args.plan.now c.args.sessions.now c.in_err-plan.field-0.0 (search rules)
-    (at_plan IsOfRun files c.args.office.now c.new-standard.result c.args.plan.now c.args.sessions.now c.in_err-plan.field-0.0 c.in_err-plan.ensures.fault))
+    (judged IsOfRun files c.args.office.now (g.S.Sources.standard_text c.args.sources.now) c.new-standard.result c.args.plan.now c.args.sessions.now (Text c.in_err-plan.field-0.0) (search rules)
+    (at_plan IsOfRun files c.args.office.now c.new-standard.result c.args.plan.now c.args.sessions.now (Text c.in_err-plan.field-0.0) c.in_err-plan.ensures.fault))
 
 pub returns-in_err-me-clause-judged : goal.returns-in_err-me-clause-judged
 returns-in_err-me-clause-judged g c =
@@ -35,9 +35,9 @@ returns-in_err-programs-clause-judged g c =
     let e = err_from_is_err_and c.from_residual-in_err-programs.result c.from_residual-in_err-programs.ensures.1 in
     let files = g.S.Sources.file_text c.args.sources.now in
     rw (e.1, e.2)
-    (judged IsOfRun files c.args.office.now (g.S.Sources.standard_text c.args.sources.now) c.new-standard.result c.args.plan.now c.args.sessions.now c.in_err-programs.field-0.0 (search rules)
-    (at_later IsOfRun files c.args.office.now c.new-standard.result c.read_plan.new.standard c.args.plan.now c.args.sessions.now c.in_ok-plan.plan c.in_ok-me.me c.in_err-programs.field-0.0 c.in_ok-plan.ensures.meaning c.in_ok-me.ensures.office c.in_ok-me.ensures.reached
-    (at_first IsOfRun files c.read_plan.new.standard c.args.sessions.now [] (record nothing { plan = Some c.in_ok-plan.plan }) inputs.Sessions [] c.in_err-programs.field-0.0 c.in_err-programs.ensures.fault)))
+    (judged IsOfRun files c.args.office.now (g.S.Sources.standard_text c.args.sources.now) c.new-standard.result c.args.plan.now c.args.sessions.now (Text c.in_err-programs.field-0.0) (search rules)
+    (at_later IsOfRun files c.args.office.now c.new-standard.result c.read_plan.new.standard c.args.plan.now c.args.sessions.now c.in_ok-plan.plan c.in_ok-me.me (Text c.in_err-programs.field-0.0) c.in_ok-plan.ensures.meaning c.in_ok-me.ensures.office c.in_ok-me.ensures.reached
+    (at_first IsOfRun files c.read_plan.new.standard c.args.sessions.now [] (record nothing { plan = Some c.in_ok-plan.plan }) inputs.Sessions [] (Text c.in_err-programs.field-0.0) c.in_err-programs.ensures.fault)))
 
 pub returns-in_err-look_at_file-clause-judged : goal.returns-in_err-look_at_file-clause-judged
 returns-in_err-look_at_file-clause-judged g c =
@@ -88,7 +88,7 @@ returns-clause-status g c = ok_more c.write_ran.result _ _ (λ status h. subst (
 pub returns-in_err-plan-clause-leaves : goal.returns-in_err-plan-clause-leaves
 returns-in_err-plan-clause-leaves g c =
     let e = err_from_is_err_and c.from_residual.result c.from_residual.ensures.1 in
-    rw (e.1, e.2) (at_input _ (RefusesFile (g.S.Sources.file_text c.args.sources.now) (g.S.Sources.standard_text c.args.sources.now) c.args.plan.now c.args.office.now c.args.sessions.now (option_copied c.args.journal)) _ inputs.Plan _ c.in_err-plan.field-0.0 c.in_err-plan.ensures.fault (refl, refl))
+    rw (e.1, e.2) (refl, refl)
 
 pub returns-in_err-me-clause-leaves : goal.returns-in_err-me-clause-leaves
 returns-in_err-me-clause-leaves g c =
@@ -98,7 +98,7 @@ returns-in_err-me-clause-leaves g c =
 pub returns-in_err-programs-clause-leaves : goal.returns-in_err-programs-clause-leaves
 returns-in_err-programs-clause-leaves g c =
     let e = err_from_is_err_and c.from_residual-in_err-programs.result c.from_residual-in_err-programs.ensures.1 in
-    rw (e.1, e.2) (at_input _ (RefusesFile (g.S.Sources.file_text c.args.sources.now) (g.S.Sources.standard_text c.args.sources.now) c.args.plan.now c.args.office.now c.args.sessions.now (option_copied c.args.journal)) _ inputs.Sessions _ c.in_err-programs.field-0.0 c.in_err-programs.ensures.fault (refl, refl))
+    rw (e.1, e.2) (refl, refl)
 
 pub returns-in_err-look_at_file-clause-leaves : goal.returns-in_err-look_at_file-clause-leaves
 returns-in_err-look_at_file-clause-leaves g c =

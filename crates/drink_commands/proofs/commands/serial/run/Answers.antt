@@ -1,82 +1,15 @@
-use Rattle.std.proofs.Common.{[], ◌∷◌, Some, refl, inl, inr, rules}
-use Rattle.std.proofs.lemmas.Result.{err_from_is_err_and}
-use Rattle.drink_commands.specs.Texts.{NoOther, nothing}
-use Rattle.drink_commands.specs.declared.input.Input.TheVariants as inputs
-use Rattle.drink_commands.specs.declared.fault.Fault.TheVariants.{Memory}
-use Rattle.drink_commands.proofs.Faults.{among, at_end, at_first, at_next, judged, no_input, plan_taken, sessions_taken}
-use Rattle.drink_commands.proofs.Reported.{reported, started}
+use Rattle.std.proofs.Common.{[], ◌∷◌}
+use Rattle.command_inputs.specs.declared.input.Input.TheVariants as inputs
+use Rattle.serial_command.specs.declared.fault.SerialFault.TheVariants.{Text, Output}
+use Rattle.drink_commands.proofs.SerialTold.{judged_as}
 use Rattle.drink_commands.proofs.commands.serial.run.Goals as goal
 
-pub returns-in_err-plan-clause-judged : goal.returns-in_err-plan-clause-judged
-returns-in_err-plan-clause-judged g c =
-    let e = err_from_is_err_and c.from_residual.result c.from_residual.ensures.1 in
-    let files = g.S.Sources.file_text c.args.sources.now in
-    rw (e.1, e.2)
-    (judged NoOther files (g.S.Sources.standard_text c.args.sources.now) c.new-standard.result (c.args.plan.now ∷ c.args.sessions.now ∷ []) (inputs.Plan ∷ inputs.Sessions ∷ []) c.in_err-plan.field-0.0 (search rules)
-    (at_first NoOther files c.new-standard.result c.args.plan.now (c.args.sessions.now ∷ []) nothing inputs.Plan (inputs.Sessions ∷ []) c.in_err-plan.field-0.0 c.in_err-plan.ensures.fault))
+pub returns-in-Err-Text-clause-judged : goal.returns-in-Err-Text-clause-judged
+returns-in-Err-Text-clause-judged g c =
+    judged_as (g.S.Sources.file_text c.args.sources.now) (g.S.Sources.standard_text c.args.sources.now) (c.args.plan.now ∷ c.args.sessions.now ∷ []) (inputs.Plan ∷ inputs.Sessions ∷ []) (Text c.in-Err-Text.fault)
+    (rw c.in-Err-Text.field-0-is at c.in-Err-Text.ensures.judged)
 
-pub returns-in_err-programs-clause-judged : goal.returns-in_err-programs-clause-judged
-returns-in_err-programs-clause-judged g c =
-    let e = err_from_is_err_and c.from_residual-in_err-programs.result c.from_residual-in_err-programs.ensures.1 in
-    let files = g.S.Sources.file_text c.args.sources.now in
-    rw (e.1, e.2)
-    (judged NoOther files (g.S.Sources.standard_text c.args.sources.now) c.new-standard.result (c.args.plan.now ∷ c.args.sessions.now ∷ []) (inputs.Plan ∷ inputs.Sessions ∷ []) c.in_err-programs.field-0.0 (search rules)
-    (at_next NoOther files c.new-standard.result c.read_plan.new.standard c.args.plan.now (c.args.sessions.now ∷ []) nothing (record nothing { plan = Some c.in_ok-plan.plan }) inputs.Plan (inputs.Sessions ∷ []) c.in_err-programs.field-0.0
-    (plan_taken files c.new-standard.result c.args.plan.now c.read_plan.new.standard c.in_ok-plan.plan c.in_ok-plan.ensures.meaning)
-    (at_first NoOther files c.read_plan.new.standard c.args.sessions.now [] (record nothing { plan = Some c.in_ok-plan.plan }) inputs.Sessions [] c.in_err-programs.field-0.0 c.in_err-programs.ensures.fault)))
-
-pub returns-in_err-plan-clause-input : goal.returns-in_err-plan-clause-input
-returns-in_err-plan-clause-input g c =
-    let e = err_from_is_err_and c.from_residual.result c.from_residual.ensures.1 in
-    rw (e.1, e.2) (among (inputs.Plan ∷ inputs.Sessions ∷ []) inputs.Plan _ c.in_err-plan.field-0.0 (search rules) c.in_err-plan.ensures.fault)
-
-pub returns-in_err-programs-clause-input : goal.returns-in_err-programs-clause-input
-returns-in_err-programs-clause-input g c =
-    let e = err_from_is_err_and c.from_residual-in_err-programs.result c.from_residual-in_err-programs.ensures.1 in
-    rw (e.1, e.2) (among (inputs.Plan ∷ inputs.Sessions ∷ []) inputs.Sessions _ c.in_err-programs.field-0.0 (search rules) c.in_err-programs.ensures.fault)
-
-pub returns-in_err-text-clause-judged : goal.returns-in_err-text-clause-judged
-returns-in_err-text-clause-judged g c =
-    let e = err_from_is_err_and c.from_residual-in_err-text.result c.from_residual-in_err-text.ensures.1 in
-    let files = g.S.Sources.file_text c.args.sources.now in
-    rw (e.1, e.2)
-    (judged NoOther files (g.S.Sources.standard_text c.args.sources.now) c.new-standard.result (c.args.plan.now ∷ c.args.sessions.now ∷ []) (inputs.Plan ∷ inputs.Sessions ∷ []) Memory (search rules)
-    (at_first NoOther files c.new-standard.result c.args.plan.now (c.args.sessions.now ∷ []) nothing inputs.Plan (inputs.Sessions ∷ []) Memory tt))
-
-pub returns-in_err-write_whole-clause-judged : goal.returns-in_err-write_whole-clause-judged
-returns-in_err-write_whole-clause-judged g c =
-    let e = err_from_is_err_and c.from_residual-in_err-write_whole.result c.from_residual-in_err-write_whole.ensures.1 in
-    let files = g.S.Sources.file_text c.args.sources.now in
-    rw (e.1, e.2)
-    (judged NoOther files (g.S.Sources.standard_text c.args.sources.now) c.new-standard.result (c.args.plan.now ∷ c.args.sessions.now ∷ []) (inputs.Plan ∷ inputs.Sessions ∷ []) c.in_err-write_whole.field-0.0 (search rules)
-    (at_next NoOther files c.new-standard.result c.read_plan.new.standard c.args.plan.now (c.args.sessions.now ∷ []) nothing (record nothing { plan = Some c.in_ok-plan.plan }) inputs.Plan (inputs.Sessions ∷ []) c.in_err-write_whole.field-0.0
-    (plan_taken files c.new-standard.result c.args.plan.now c.read_plan.new.standard c.in_ok-plan.plan c.in_ok-plan.ensures.meaning)
-    (at_next NoOther files c.read_plan.new.standard c.read_programs.new.standard c.args.sessions.now [] (record nothing { plan = Some c.in_ok-plan.plan }) (record nothing { plan = Some c.in_ok-plan.plan; programs = Some c.in_ok-programs.programs.items }) inputs.Sessions [] c.in_err-write_whole.field-0.0
-    (sessions_taken files c.read_plan.new.standard c.args.sessions.now c.read_programs.new.standard c.in_ok-plan.plan c.in_ok-programs.programs.items c.in_ok-programs.ensures.meaning)
-    (at_end NoOther files c.read_programs.new.standard (record nothing { plan = Some c.in_ok-plan.plan; programs = Some c.in_ok-programs.programs.items }) c.in_err-write_whole.field-0.0 (inl (no_input c.in_err-write_whole.field-0.0 c.in_err-write_whole.ensures.fault))))))
-
-pub returns-clause-reports : goal.returns-clause-reports
-returns-clause-reports g c = λ plan_text sessions_text known.
-    let files = g.S.Sources.file_text c.args.sources.now in
-    reported files c.new-standard.result c.read_plan.new.standard c.read_programs.new.standard c.args.plan.now c.args.sessions.now plan_text sessions_text
-    c.in_ok-plan.plan c.in_ok-programs.programs.items (g.W.Write.contents c.args.out.now) (g.W.Write.contents c.write_whole.new.out) c.deref.result.now
-    c.in_ok-plan.ensures.meaning c.in_ok-programs.ensures.meaning
-    (started c.new-standard.result (g.S.Sources.standard_text c.args.sources.now) files (c.args.plan.now ∷ c.args.sessions.now ∷ []) (plan_text ∷ sessions_text ∷ []) (search rules) known) (search rules) c.in_ok-write_whole.ensures.written
-
-pub returns-in_err-plan-clause-unwritten : goal.returns-in_err-plan-clause-unwritten
-returns-in_err-plan-clause-unwritten g c =
-    let e = err_from_is_err_and c.from_residual.result c.from_residual.ensures.1 in
-    rw (e.1, e.2) (inr refl)
-
-pub returns-in_err-programs-clause-unwritten : goal.returns-in_err-programs-clause-unwritten
-returns-in_err-programs-clause-unwritten g c =
-    let e = err_from_is_err_and c.from_residual-in_err-programs.result c.from_residual-in_err-programs.ensures.1 in
-    rw (e.1, e.2) (inr refl)
-
-pub returns-in_err-text-clause-unwritten : goal.returns-in_err-text-clause-unwritten
-returns-in_err-text-clause-unwritten g c =
-    let e = err_from_is_err_and c.from_residual-in_err-text.result c.from_residual-in_err-text.ensures.1 in
-    rw (e.1, e.2) (inr refl)
-
-pub returns-clause-status : goal.returns-clause-status
-returns-clause-status g c = refl
+pub returns-in-Err-Output-clause-judged : goal.returns-in-Err-Output-clause-judged
+returns-in-Err-Output-clause-judged g c =
+    judged_as (g.S.Sources.file_text c.args.sources.now) (g.S.Sources.standard_text c.args.sources.now) (c.args.plan.now ∷ c.args.sessions.now ∷ []) (inputs.Plan ∷ inputs.Sessions ∷ []) (Output c.in-Err-Output.kind)
+    (rw c.in-Err-Output.field-0-is at c.in-Err-Output.ensures.judged)

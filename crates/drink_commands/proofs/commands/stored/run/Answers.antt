@@ -1,11 +1,11 @@
 use Rattle.std.proofs.Common.{[], Some, inl, inr, refl, subst, sym, ◌≤◌, rules}
 use Rattle.std.proofs.lemmas.Result.{err_from_is_err_and}
-use Rattle.drink_commands.specs.Fault.{IsOfStoredRun}
-use Rattle.drink_commands.specs.Places.{IsAnInput}
+use Rattle.command_outputs.specs.Fault.{IsOfStoredRun}
+use Rattle.command_outputs.specs.Places.{IsAnInput}
 use Rattle.drink_commands.specs.Stored.{IsEndedBy, IsNotHeld, RefusesStore, RunsStored}
 use Rattle.stored_runs.specs.declared.fault.StoredFault.{StoredFault}
-use Rattle.drink_commands.specs.declared.input.Input.TheVariants as inputs
-use Rattle.drink_commands.specs.declared.fault.Fault.TheVariants.{NoRun}
+use Rattle.command_inputs.specs.declared.input.Input.TheVariants as inputs
+use Rattle.command_outputs.specs.declared.fault.Fault.TheVariants.{NoRun, Text}
 use Rattle.drink_commands.specs.Texts.{nothing}
 use Rattle.drink_commands.proofs.Faults.{at_first}
 use Rattle.drink_commands.proofs.Running.{at_later, at_plan, at_word, err_more, judged, ok_more, one_at_most}
@@ -16,8 +16,8 @@ pub returns-in_err-plan-clause-judged : goal.returns-in_err-plan-clause-judged
 returns-in_err-plan-clause-judged g c =
     let e = err_from_is_err_and c.from_residual.result c.from_residual.ensures.1 in
     rw (e.1, e.2)
-    (judged IsOfStoredRun (g.S.Sources.file_text c.args.sources.now) c.args.office.now (g.S.Sources.standard_text c.args.sources.now) c.new-standard.result c.args.plan.now c.args.sessions.now c.in_err-plan.field-0.0 (search rules)
-    (at_plan IsOfStoredRun (g.S.Sources.file_text c.args.sources.now) c.args.office.now c.new-standard.result c.args.plan.now c.args.sessions.now c.in_err-plan.field-0.0 c.in_err-plan.ensures.fault))
+    (judged IsOfStoredRun (g.S.Sources.file_text c.args.sources.now) c.args.office.now (g.S.Sources.standard_text c.args.sources.now) c.new-standard.result c.args.plan.now c.args.sessions.now (Text c.in_err-plan.field-0.0) (search rules)
+    (at_plan IsOfStoredRun (g.S.Sources.file_text c.args.sources.now) c.args.office.now c.new-standard.result c.args.plan.now c.args.sessions.now (Text c.in_err-plan.field-0.0) c.in_err-plan.ensures.fault))
 
 pub returns-in_err-me-clause-judged : goal.returns-in_err-me-clause-judged
 returns-in_err-me-clause-judged g c =
@@ -30,9 +30,9 @@ pub returns-in_err-programs-clause-judged : goal.returns-in_err-programs-clause-
 returns-in_err-programs-clause-judged g c =
     let e = err_from_is_err_and c.from_residual-in_err-programs.result c.from_residual-in_err-programs.ensures.1 in
     rw (e.1, e.2)
-    (judged IsOfStoredRun (g.S.Sources.file_text c.args.sources.now) c.args.office.now (g.S.Sources.standard_text c.args.sources.now) c.new-standard.result c.args.plan.now c.args.sessions.now c.in_err-programs.field-0.0 (search rules)
-    (at_later IsOfStoredRun (g.S.Sources.file_text c.args.sources.now) c.args.office.now c.new-standard.result c.read_plan.new.standard c.args.plan.now c.args.sessions.now c.in_ok-plan.plan c.in_ok-me.me c.in_err-programs.field-0.0 c.in_ok-plan.ensures.meaning c.in_ok-me.ensures.office c.in_ok-me.ensures.reached
-    (at_first IsOfStoredRun (g.S.Sources.file_text c.args.sources.now) c.read_plan.new.standard c.args.sessions.now [] (record nothing { plan = Some c.in_ok-plan.plan }) inputs.Sessions [] c.in_err-programs.field-0.0 c.in_err-programs.ensures.fault)))
+    (judged IsOfStoredRun (g.S.Sources.file_text c.args.sources.now) c.args.office.now (g.S.Sources.standard_text c.args.sources.now) c.new-standard.result c.args.plan.now c.args.sessions.now (Text c.in_err-programs.field-0.0) (search rules)
+    (at_later IsOfStoredRun (g.S.Sources.file_text c.args.sources.now) c.args.office.now c.new-standard.result c.read_plan.new.standard c.args.plan.now c.args.sessions.now c.in_ok-plan.plan c.in_ok-me.me (Text c.in_err-programs.field-0.0) c.in_ok-plan.ensures.meaning c.in_ok-me.ensures.office c.in_ok-me.ensures.reached
+    (at_first IsOfStoredRun (g.S.Sources.file_text c.args.sources.now) c.read_plan.new.standard c.args.sessions.now [] (record nothing { plan = Some c.in_ok-plan.plan }) inputs.Sessions [] (Text c.in_err-programs.field-0.0) c.in_err-programs.ensures.fault)))
 
 pub returns-in_err-refuse_input-clause-judged : goal.returns-in_err-refuse_input-clause-judged
 returns-in_err-refuse_input-clause-judged g c =

@@ -1,0 +1,45 @@
+//! Why a system refuses something, for people.
+
+use std::io::ErrorKind;
+
+/// Why an input can't be read.
+pub fn read_cause(kind: ErrorKind) -> &'static str {
+    match kind {
+        ErrorKind::NotFound => "no such file",
+        ErrorKind::IsADirectory => "it is a folder",
+        ErrorKind::NotADirectory => "a part of its path is no folder",
+        ErrorKind::FilesystemLoop => "its symbolic links lead round in a ring",
+        ErrorKind::InvalidFilename => "its name is too long",
+        ErrorKind::InvalidInput => "no file can have this name",
+        ErrorKind::FileTooLarge => "it has no end",
+        ErrorKind::WouldBlock => "nothing is there yet, and it does not wait",
+        _ => device_cause(kind),
+    }
+}
+
+/// Why the output can't be written.
+pub fn write_cause(kind: ErrorKind) -> &'static str {
+    match kind {
+        ErrorKind::StorageFull => "no space is left on its device",
+        ErrorKind::QuotaExceeded => "the user's share of its disk is used up",
+        ErrorKind::FileTooLarge => "a file may not be so long",
+        ErrorKind::ReadOnlyFilesystem => "its disk may only be read",
+        ErrorKind::WriteZero => "its device takes no more",
+        ErrorKind::WouldBlock => "its device has no room now, and does not wait",
+        ErrorKind::BrokenPipe => "its reader has gone away",
+        _ => device_cause(kind),
+    }
+}
+
+/// What may fail at any device.
+fn device_cause(kind: ErrorKind) -> &'static str {
+    match kind {
+        ErrorKind::PermissionDenied => "permission denied",
+        ErrorKind::NotConnected => "it is closed",
+        ErrorKind::TimedOut => "its device did not answer in time",
+        ErrorKind::ResourceBusy => "its device is in use",
+        ErrorKind::StaleNetworkFileHandle => "its server has it no more",
+        ErrorKind::OutOfMemory => "out of memory",
+        _ => "its device fails",
+    }
+}

@@ -1,0 +1,2 @@
+pub mod JournalFiles
+pub mod Obstacles

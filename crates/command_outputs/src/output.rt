@@ -1,0 +1,20 @@
+//! The output of a command.
+
+ghost use Rattle.std.specs.Prelude.{◌≡◌, IfErr, OnOk};
+ghost use Rattle.std.specs.Io.KnownBytes.{Appends};
+ghost use Rattle.command_outputs.specs.Fault.{IsWriteFault};
+
+use crate::fault::Fault;
+use input_texts::failure_kind;
+use std::io::Write;
+
+/// The whole text goes out.
+pub fn write_whole<W: Write>(out: &mut W, text: &str) -> Result<(), Fault>
+    ensures written { OnOk result (Appends (W.contents out.old) (W.contents out.new) text.now) }
+    ensures fault { IfErr result IsWriteFault }
+{
+    match output_files::write_whole(out, text.as_bytes()) {
+        Ok(()) => Ok(()),
+        Err(error) => Err(Fault::WriteFailed(failure_kind(&error))),
+    }
+}

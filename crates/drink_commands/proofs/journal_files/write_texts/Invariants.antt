@@ -1,8 +1,0 @@
-use Rattle.std.proofs.Common.{[], get_or, map}
-use Rattle.std.specs.String.{string_bytes}
-use Rattle.output_files.specs.Written.{AddsFiles}
-use Rattle.drink_commands.specs.Journals.{files_of}
-use Rattle.drink_commands.proofs.journal_files.write_texts.Given as goal
-
-abbrev pub invariant-loop-a : goal.invariant-loop-a
-invariant-loop-a g l = AddsFiles (g.T.Targets.written l.fn.targets) (g.T.Targets.written l.targets) (files_of l.folder l.fn.plan (λ a. get_or (map string_bytes l.fn.texts) a []) l.a)

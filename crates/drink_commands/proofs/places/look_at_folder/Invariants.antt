@@ -1,5 +1,0 @@
-use Rattle.drink_commands.specs.Places.{AreFree}
-use Rattle.drink_commands.proofs.places.look_at_folder.Given as goal
-
-abbrev pub invariant-loop-a : goal.invariant-loop-a
-invariant-loop-a g l = AreFree (g.S.Sources.file_text l.fn.sources) l.fn.one l.fn.other l.fn.plan l.a l.folder

@@ -1,9 +1,0 @@
--- Which text is accepted as which plan.
-use Rattle.std.specs.Prelude.{◌≡◌, ℕ, List, Ok}
-use Rattle.office_map.specs.PlanValue.{PlanValue}
-use Rattle.office_map.specs.PlanText.{plan_of}
-use Rattle.office_map.specs.Precedence.{HasOrder}
-
--- its lines mean the plan, and the plan has no ring
-abbrev pub IsAcceptedAs : List ℕ → PlanValue → Type 0
-IsAcceptedAs text p = (plan_of text ≡ Ok p) × HasOrder p

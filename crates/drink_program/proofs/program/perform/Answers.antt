@@ -1,0 +1,62 @@
+use Rattle.std.proofs.Common.{ℕ, List, ◌∷◌, map, subst, IfErr}
+use Rattle.input_texts.specs.Words.{StandFor}
+use Rattle.drink_commands.specs.Audit.{Audits, IsJudgedAudit}
+use Rattle.drink_program.proofs.Done.{keeps, ok_more, with_files}
+use Rattle.drink_program.proofs.program.perform.Goals as goal
+
+pub returns-in-Serial : goal.returns-in-Serial
+returns-in-Serial g c = record {
+  done = rw c.in-Serial.is (with_files c.run.result _ _ (keeps _) c.run.ensures.reports);
+  status = rw c.in-Serial.is c.run.ensures.status;
+  judged = rw c.in-Serial.is c.run.ensures.judged;
+}
+
+pub returns-in-Sim : goal.returns-in-Sim
+returns-in-Sim g c = record {
+  done = rw c.in-Sim.is c.run-in-Sim.ensures.simulates;
+  status = rw c.in-Sim.is c.run-in-Sim.ensures.status;
+  judged = rw c.in-Sim.is c.run-in-Sim.ensures.judged;
+}
+
+pub returns-in-Random : goal.returns-in-Random
+returns-in-Random g c = record {
+  done = rw c.in-Random.is (with_files c.run-in-Random.result _ _ (keeps _) c.run-in-Random.ensures.tells);
+  status = rw c.in-Random.is c.run-in-Random.ensures.status;
+  judged = rw c.in-Random.is c.run-in-Random.ensures.judged;
+}
+
+pub returns-in-Run : goal.returns-in-Run
+returns-in-Run g c = record {
+  done = rw c.in-Run.is c.run-in-Run.ensures.runs;
+  status = rw c.in-Run.is c.run-in-Run.ensures.status;
+  judged = rw c.in-Run.is c.run-in-Run.ensures.judged;
+}
+
+pub returns-in-RunStored : goal.returns-in-RunStored
+returns-in-RunStored g c = record {
+  done = rw c.in-RunStored.is (ok_more c.run-in-RunStored.result _ _ (λ status h. (keeps _, h)) c.run-in-RunStored.ensures.runs);
+  status = rw c.in-RunStored.is c.run-in-RunStored.ensures.status;
+  judged = rw c.in-RunStored.is c.run-in-RunStored.ensures.judged;
+}
+
+pub returns-in-Live : goal.returns-in-Live
+returns-in-Live g c = record {
+  done = rw c.in-Live.is c.run-in-Live.ensures.runs;
+  status = rw c.in-Live.is c.run-in-Live.ensures.status;
+  judged = rw c.in-Live.is c.run-in-Live.ensures.judged;
+}
+
+pub returns-in-Audit : goal.returns-in-Audit
+returns-in-Audit g c =
+    let files = g.S.Sources.file_text c.args.sources.now in
+    let standard = g.S.Sources.standard_text c.args.sources.now in
+    let plan = c.in-Audit.plan.now in
+    record {
+      done = rw c.in-Audit.is (ok_more c.run-in-Audit.result _ _ (λ status h. (
+        keeps _,
+        subst (λ js. (plan_text : List ℕ) (texts : List (List ℕ)) → StandFor files standard (plan ∷ map (λ w. w.now) js) (plan_text ∷ texts)
+            → Audits plan_text texts status (g.W.Write.contents c.args.out.now) (g.W.Write.contents c.run-in-Audit.new.out)) c.deref.ensures.value h,
+      )) c.run-in-Audit.ensures.audits);
+      status = rw c.in-Audit.is c.run-in-Audit.ensures.status;
+      judged = rw c.in-Audit.is (subst (λ js. IfErr c.run-in-Audit.result (IsJudgedAudit files standard plan (map (λ w. w.now) js))) c.deref.ensures.value c.run-in-Audit.ensures.judged);
+    }

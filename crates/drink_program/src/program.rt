@@ -1,0 +1,302 @@
+//! What the program does with its words, over what opens files, reads and prints.
+
+ghost use Rattle.std.specs.Prelude.{◌≡◌, IfErr, IfOk, map};
+ghost use Rattle.std.specs.String.{string_bytes};
+ghost use Rattle.drink_program.specs.Requests.{IsDone, IsJudgedFor, IsStatusOf, word_of};
+ghost use Rattle.drink_program.specs.Status.{IsAnswered, status_of};
+
+use crate::telling::{Telling, opened};
+use command_inputs::Input;
+use command_outputs::Fault;
+use command_outputs::stores::{StoreFiles, Stores};
+use command_words::command_line::{Request, command_line, help};
+use drink_commands::commands::{audit, live, random, run, serial, sim, stored};
+use input_texts::{Devices, Sources};
+use journal_stores::StoreFile;
+use office_stations::{Around, Binds, Gate, Open, UdpSockets, Watch};
+use output_files::{Disk, Targets};
+use random_runs::Schedule;
+pub use serial_command::answer::words;
+use serial_command::answer::{escaped, misused};
+use serial_command::exit::{Exit, FAILED, MISUSED, Said};
+use std::alloc::{AllocError, Global};
+use std::io;
+use std::io::{IsTerminal, Write};
+use std::net::Net;
+use std::os::fd::AsRawFd;
+use std::rt::{Clock, Env, Files};
+use std::sync::Wait;
+use std::thread::Threads;
+
+/// Does what the command line asks for, and answers the exit status: 0, 1 where the command fails or leaves sessions, and 2 where
+/// the command line is at fault. How far a run of offices is goes to the standard error, while that is a terminal and takes it at once;
+/// and there goes, whatever it is, what one left.
+pub fn run<R, E>(rt: &R, error: &E) -> u8
+where
+    R: AllocGlobal + Env + Files + std::io::Input + Print + Eprint,
+    R: Threads + Wait + Clock + Net + Sync,
+    R::File: AsRawFd + StoreFile,
+    E: IsTerminal,
+{
+    let devices = Devices::new(rt);
+    let mut disk = Disk::new(rt);
+    let mut stores = StoreFiles::new(rt);
+    let binds = UdpSockets::new(rt, rt.alloc());
+    let screen = if error.is_terminal() {
+        opened(rt).ok()
+    } else {
+        None
+    };
+    let watch = Telling::new(rt, rt.alloc(), screen.as_ref().map(|it| it.as_raw_fd()));
+    let around = Around {
+        binds: &binds,
+        gate: &Open,
+        watch: &watch,
+    };
+    let exit = match words(rt) {
+        Ok(words) => answer(
+            rt,
+            rt.alloc(),
+            words.as_slice(),
+            &devices,
+            &around,
+            &mut disk,
+            &mut stores,
+            &mut io::writer(rt),
+        ),
+        Err(exit) => exit,
+    };
+    exit.end(rt)
+}
+
+/// Does what these words ask for. The first of them is the program's name. The status is 0 only where what they ask for was
+/// done, without sessions that a run of offices leaves, or help or the version went out; and nothing is written where it is 2.
+pub fn answer<R, S, B, G, V, T, K, W>(
+    rt: &R,
+    alloc: Global,
+    words: &[String],
+    sources: &S,
+    around: &Around<'_, B, G, V>,
+    targets: &mut T,
+    stores: &mut K,
+    out: &mut W,
+) -> Exit
+where
+    R: Threads + Wait + Clock + Sync,
+    S: Sources,
+    B: Binds,
+    B::Socket: Send,
+    B::Alarm: Send,
+    G: Gate + Sync,
+    V: Watch + Sync,
+    T: Targets,
+    K: Stores,
+    W: Write,
+    ensures done { result.status ≡ 0 → IsAnswered B.Socket.tells (S.file_text sources.now) (S.standard_text sources.now) (K.has stores.old) (map string_bytes words.now) (W.contents out.old) (W.contents out.new) (T.written targets.old) (T.written targets.new) }
+    ensures unwritten { result.status ≡ 2 → (out.new ≡ out.old) × (targets.new ≡ targets.old) × (stores.new ≡ stores.old) }
+{
+    if words.len() < 2 {
+        return Exit::saying(MISUSED, help(alloc));
+    }
+    match command_line(alloc, words) {
+        Ok(request) => {
+            if has_dash(&request) {
+                return Exit::saying(MISUSED, no_dash(alloc, &request));
+            }
+            let result = perform(rt, alloc, &request, sources, around, targets, stores, out);
+            Exit {
+                status: status(&result),
+                said: said(alloc, &request, &result),
+            }
+        }
+        Err(error) => misused(alloc, &error, out),
+    }
+}
+
+/// Whether a request names `-` for the file of a journal or a store. That is the standard input elsewhere, and no file.
+fn has_dash(request: &Request<'_>) -> bool {
+    match request {
+        Request::Run {
+            journal: Some(file),
+            ..
+        } => *file == "-",
+        Request::RunStored { store, .. } => *store == "-",
+        _ => false,
+    }
+}
+
+/// What is said of such a request.
+fn no_dash(alloc: Global, request: &Request<'_>) -> Result<String, AllocError> {
+    let option = match request {
+        Request::RunStored { .. } => "--store",
+        _ => "--journal",
+    };
+    format!(in alloc;
+        "drink: {option} takes a file, and - is none: a file whose name is - is written ./- instead\n"
+    )
+}
+
+/// Carries a request out. The answer is the exit status.
+pub fn perform<R, S, B, G, V, T, K, W>(
+    rt: &R,
+    alloc: Global,
+    request: &Request,
+    sources: &S,
+    around: &Around<'_, B, G, V>,
+    targets: &mut T,
+    stores: &mut K,
+    out: &mut W,
+) -> Result<u8, Fault>
+where
+    R: Threads + Wait + Clock + Sync,
+    S: Sources,
+    B: Binds,
+    B::Socket: Send,
+    B::Alarm: Send,
+    G: Gate + Sync,
+    V: Watch + Sync,
+    T: Targets,
+    K: Stores,
+    W: Write,
+    ensures done { IfOk result (λ status. IsDone B.Socket.tells (S.file_text sources.now) (S.standard_text sources.now) (K.has stores.old) request.now status (W.contents out.old) (W.contents out.new) (T.written targets.old) (T.written targets.new)) }
+    ensures status { IfOk result (IsStatusOf request.now) }
+    ensures judged { IfErr result (IsJudgedFor (S.file_text sources.now) (S.standard_text sources.now) request.now) }
+{
+    match request {
+        Request::Serial { plan, sessions } => serial::run(alloc, sources, plan, sessions, out),
+        Request::Sim {
+            plan,
+            sessions,
+            script,
+            journals,
+        } => sim::run(
+            alloc, sources, plan, sessions, script, *journals, targets, out,
+        ),
+        Request::Random {
+            plan,
+            sessions,
+            seed,
+            loss,
+            steps,
+        } => {
+            let schedule = Schedule {
+                seed: *seed,
+                loss: *loss,
+                steps: *steps,
+            };
+            random::run(alloc, sources, plan, sessions, schedule, out)
+        }
+        Request::Run {
+            plan,
+            office,
+            sessions,
+            turns,
+            journal,
+        } => run::run(
+            rt, alloc, sources, plan, office, sessions, *turns, *journal, around, targets, out,
+        ),
+        Request::RunStored {
+            plan,
+            office,
+            sessions,
+            turns,
+            store,
+            sync,
+            new,
+        } => stored::run(
+            rt, alloc, sources, plan, office, sessions, *turns, store, *sync, *new, around, stores,
+            out,
+        ),
+        Request::Live {
+            plan,
+            sessions,
+            journals,
+        } => live::run(
+            rt, alloc, sources, plan, sessions, *journals, around, targets, out,
+        ),
+        Request::Audit { plan, journals } => audit::run(alloc, sources, plan, journals, out),
+    }
+}
+
+/// The exit status that a command's answer means.
+fn status(answer: &Result<u8, Fault>) -> u8
+    ensures { result ≡ status_of answer.now }
+{
+    match answer {
+        Ok(status) => *status,
+        Err(_) => FAILED,
+    }
+}
+
+/// What is said of a request's answer: nothing, or the fault after the word that it is about.
+fn said(alloc: Global, request: &Request, answer: &Result<u8, Fault>) -> Said {
+    match answer {
+        Ok(_) => Said::Nothing,
+        Err(fault) => said_of(alloc, fault, named(request, fault)),
+    }
+}
+
+/// The word of a request that a fault is about, or the file, if it is about one.
+fn named<'a>(request: &'a Request<'_>, fault: &'a Fault) -> Option<&'a str> {
+    match (request, fault) {
+        (Request::Run { office, .. } | Request::RunStored { office, .. }, Fault::NoSuchOffice(_)) =>
+            Some(*office),
+        (Request::RunStored { store, .. }, Fault::NoStore(_) | Fault::StoreFailed) => Some(*store),
+        (_, Fault::FileFailed(name, _) | Fault::NoPlace(name, _)) => Some(name.as_str()),
+        _ => match fault.input() {
+            Some(input) => Some(word_of(request, input)),
+            None => None,
+        },
+    }
+}
+
+/// What is said of a fault. A reader of the output that has gone away needs no telling.
+fn said_of(alloc: Global, fault: &Fault, name: Option<&str>) -> Said {
+    match fault {
+        Fault::WriteFailed(io::ErrorKind::BrokenPipe) => Said::Nothing,
+        _ => Said::of(fault_line(alloc, fault, name)),
+    }
+}
+
+fn fault_line(alloc: Global, fault: &Fault, name: Option<&str>) -> Result<String, AllocError> {
+    match name {
+        None => format!(in alloc; "drink: {fault}\n"),
+        Some(name) => {
+            let name = escaped(alloc, name)?;
+            format!(in alloc; "drink: {name}: {fault}\n")
+        }
+    }
+}
+
+/// The word that names an input in a request.
+fn word_of<'a>(request: &Request<'a>, input: Input) -> &'a str
+    ensures { result.now ≡ word_of request.now input }
+{
+    match request {
+        Request::Sim {
+            plan,
+            sessions,
+            script,
+            ..
+        } => match input {
+            Input::Plan => plan,
+            Input::Sessions => sessions,
+            Input::Script => script,
+            Input::Journal(_) => "",
+        },
+        Request::Serial { plan, sessions }
+        | Request::Random { plan, sessions, .. }
+        | Request::Run { plan, sessions, .. }
+        | Request::RunStored { plan, sessions, .. }
+        | Request::Live { plan, sessions, .. } => match input {
+            Input::Plan => plan,
+            Input::Sessions => sessions,
+            Input::Script | Input::Journal(_) => "",
+        },
+        Request::Audit { plan, journals } => match input {
+            Input::Plan => plan,
+            Input::Journal(k) if k < journals.len() => journals[k],
+            _ => "",
+        },
+    }
+}

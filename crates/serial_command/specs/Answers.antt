@@ -1,0 +1,30 @@
+-- What is done for the words of a command line.
+use Rattle.std.specs.Prelude.{◌≡◌, ◌⊎◌, ℕ, List, [], ◌∷◌, Option}
+use Rattle.clap.specs.Words.{IsAmong}
+use Rattle.clap.specs.declared.error.kind.ErrorKind.{ErrorKind}
+use Rattle.clap.specs.declared.error.kind.ErrorKind.TheVariants.{DisplayHelp, DisplayVersion}
+use Rattle.command_words.specs.CommandLine.{Asks, faults_of}
+use Rattle.command_words.specs.declared.command_line.Request.{Request}
+use Rattle.command_words.specs.declared.command_line.Request.TheVariants.{Serial}
+use Rattle.input_texts.specs.Words.{StandFor}
+use Rattle.serial_command.specs.Serial.{Reports}
+
+-- the report was written of the plan and the sessions that these words stand for
+abbrev pub IsReported : (List ℕ → Option (List ℕ)) → Option (List ℕ) → List ℕ → List ℕ → Option (List ℕ) → Option (List ℕ) → Type 0
+IsReported files standard plan sessions old new =
+    (plan_text sessions_text : List ℕ) → StandFor files standard (plan ∷ sessions ∷ []) (plan_text ∷ sessions_text ∷ []) → Reports plan_text sessions_text old new
+
+-- a request for a serial run was carried out; no other is
+abbrev pub IsDone : (List ℕ → Option (List ℕ)) → Option (List ℕ) → Request → Option (List ℕ) → Option (List ℕ) → Type 0
+IsDone files standard (Serial plan sessions) old new = IsReported files standard plan.now sessions.now old new
+IsDone files standard _ old new = ⊥
+
+-- what is printed for words that ask for help or for the version
+abbrev pub IsShown : ErrorKind → Type 0
+IsShown kind = (kind ≡ DisplayHelp) ⊎ (kind ≡ DisplayVersion)
+
+-- The words ask for a serial run that was done, or for help or the version.
+abbrev pub IsAnswered : (List ℕ → Option (List ℕ)) → Option (List ℕ) → List (List ℕ) → Option (List ℕ) → Option (List ℕ) → Type 0
+IsAnswered files standard words old new =
+    ((request : Request) × Asks words request × IsDone files standard request old new)
+    ⊎ ((kind : ErrorKind) × IsShown kind × IsAmong kind (faults_of words))

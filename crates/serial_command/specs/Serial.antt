@@ -1,0 +1,22 @@
+-- What the command `serial` prints.
+use Rattle.std.specs.Prelude.{◌≡◌, ℕ, List, Option, Ok}
+use Rattle.std.specs.Io.KnownBytes.{Appends}
+use Rattle.office_map.specs.PlanValue.{PlanValue}
+use Rattle.command_inputs.specs.Plans.{IsAcceptedAs}
+use Rattle.session_meaning.specs.ProgramValue.{ProgramValue}
+use Rattle.session_language.specs.Reading.{sessions_of}
+use Rattle.serial_replay.specs.Serial.{outcomes_of, map_of, start_map}
+use Rattle.session_reports.specs.Report.{report_of}
+
+-- the report of the programs' serial run from the plan's values
+abbrev pub serial_report : PlanValue → List ProgramValue → List ℕ
+serial_report p programs = report_of p (outcomes_of (start_map p) programs) (map_of (start_map p) programs)
+
+-- The two texts mean a plan and sessions under it, and the report of their serial run was written after what the
+-- writer held.
+pub record Reports (plan sessions : List ℕ) (old new : Option (List ℕ)) : Type 0 where
+  pub p : PlanValue
+  pub programs : List ProgramValue
+  pub is_plan : IsAcceptedAs plan p
+  pub are_sessions : sessions_of p sessions ≡ Ok programs
+  pub written : Appends old new (serial_report p programs)
