@@ -1,6 +1,6 @@
+use command_inputs::TextFault;
+use command_outputs::{Fault, fault};
 use drink_commands::commands::serial;
-use drink_commands::fault::{Fault, Why};
-use drink_commands::input::Input;
 use input_texts::Sources;
 use office_map as plans;
 use session_language as sessions;
@@ -34,9 +34,6 @@ pub fn strings(alloc: Global, words: &[&str]) -> Result<Vec<String>, AllocError>
 
 const PLAN: &str =
     "plan 1 run 42\noffice a -\noffice b -\npair a b fork a\nrecord x a b 100 at a\nrecord y a b 0 at b\n";
-
-const PLAN_OF_99: &str =
-    "plan 1 run 42\noffice a -\noffice b -\npair a b fork a\nrecord x a b 99 at a\nrecord y a b 0 at b\n";
 
 const MOVE: &str =
     "session a\nlet v = read x\nset x = v - 30\nset y = read y + 30\ngive read x\ngive read y\nend\n";
@@ -178,50 +175,22 @@ fn prints(rt: &(impl Abort + AllocGlobal), memory: &Memory<'_>, printed: &str) {
     assert_eq!(rt; out.as_slice(), printed.as_bytes());
 }
 
-/// A plan, sessions, and what is printed of them.
-static PRINTED: [(&str, &str, &str); 7] = [
-    (PLAN, MOVE, MOVED),
-    (PLAN, "", "value x 100\nvalue y 0\n"),
-    (
-        PLAN,
-        "session a\nlet i = 0\nrepeat 3\nlet i = i + 1\nif i * 2 > 3\ngive i\nelse\ngive -i\nend\nend\nend\n",
-        "a.1 done reads - writes - gives -1 2 3\nvalue x 100\nvalue y 0\n",
-    ),
-    (
-        PLAN,
-        "session a\nset x = 1\nset x = 9223372036854775807 + 1\nend\n",
-        "a.1 overflow reads x=100 writes - gives -\nvalue x 100\nvalue y 0\n",
-    ),
-    (
-        PLAN_OF_99,
-        "session a\nset x = read x - 100\nrequire read x >= 0 else 7\nend\n",
-        "a.1 refused 7 reads x=99 writes - gives -\nvalue x 99\nvalue y 0\n",
-    ),
-    (
-        PLAN,
-        "session a\nset x = read x - 100\nrequire read x >= 0 else 7\nend\n",
-        "a.1 done reads x=100 writes x=0 gives -\nvalue x 0\nvalue y 0\n",
-    ),
-    // Tickets are counted for each office.
-    (
-        PLAN,
-        "session b\ngive 1\nend\nsession a\nset x = -5\nend\nsession b\ngive read x\ngive -7\nend\n",
-        "b.1 done reads - writes - gives 1\na.1 done reads x=100 writes x=-5 gives -\nb.2 done reads x=-5 writes - gives -5 -7\nvalue x -5\nvalue y 0\n",
-    ),
-];
-
-#[test]
-fn prints_sessions_and_values(rt: HostRuntime) {
-    for (plan, sessions, printed) in &PRINTED {
-        let memory = Memory::new(plan, sessions, "");
-        prints(&rt, &memory, printed);
-    }
+/// Why the text of an input is refused.
+#[derive(Debug, Drop, PartialEq, Eq)]
+pub enum Why {
+    Plan(plans::PlanRefusal),
+    Ring,
+    Sessions(sessions::SessionRefusal),
+    Given(fault::Why),
 }
 
 /// Why the text of an input is refused, where it is.
-pub fn why(answer: Result<u8, Fault>) -> Option<Why> {
+pub fn reason(answer: Result<u8, Fault>) -> Option<Why> {
     match answer {
-        Err(Fault::Refused(why, _)) => Some(why),
+        Err(Fault::Text(TextFault::Plan(refusal, _))) => Some(Why::Plan(refusal)),
+        Err(Fault::Text(TextFault::Ring(_, _))) => Some(Why::Ring),
+        Err(Fault::Text(TextFault::Sessions(refusal, _))) => Some(Why::Sessions(refusal)),
+        Err(Fault::Refused(why, _)) => Some(Why::Given(why)),
         _ => None,
     }
 }
@@ -229,7 +198,7 @@ pub fn why(answer: Result<u8, Fault>) -> Option<Why> {
 /// That these texts are refused so, and nothing is written.
 fn refused(rt: &(impl Abort + AllocGlobal), plan: &str, sessions: &str, expected: Why) {
     let (result, out) = ran(rt.alloc(), plan, sessions);
-    assert_eq!(rt; why(result), Some(expected));
+    assert_eq!(rt; reason(result), Some(expected));
     assert_eq!(rt; out.len(), 0);
 }
 

@@ -9,12 +9,14 @@ use durable_turns::{Mail, TurnFault};
 use journal_stores::{MemoryStore, Store};
 use journal_texts::{add_header, read_journal, text, whole_lines};
 use locked_office::Desk;
+use memory_wires::MemoryWire;
 use office_map::{OfficeId, Plan};
 use office_restarts::reopened;
 use own_lock::Pass;
-use session_language::{Program, read_sessions};
+use session_language::read_sessions;
+use session_programs::Program;
 use site_core::{Office, Reply};
-use socket_pump::{MemoryWire, Pump, Turn};
+use socket_pump::{Pump, Turn};
 use std::alloc::Global;
 use std::process::Abort;
 use std::sync::Wait;
@@ -142,7 +144,7 @@ fn side_of(alloc: Global, office: Office, pump: Pump, store: MemoryStore) -> Res
                 pass,
                 pump,
                 wire: MemoryWire::new(alloc),
-                mail: Mail::new(),
+                mail: Mail::new(alloc),
                 store,
                 stood,
                 tickets,

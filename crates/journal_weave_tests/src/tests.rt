@@ -4,13 +4,15 @@ use frame_codec::{Frame, decode};
 use frame_world::WorldEvent;
 use journal_weave::{GivenJournal, WeaveFault, weave};
 use office_map::{OfficeId, Plan, RecordId};
-use session_language::{Program, read_sessions};
+use session_language::read_sessions;
+use session_programs::Program;
 use site_core::{Entry, Event, Reply, Rule};
 use std::alloc::{AllocError, Global};
 use std::fmt::Write;
 use std::process::Abort;
 use std::test::Fail;
 
+mod caller;
 mod drawn;
 mod found_again;
 mod long;

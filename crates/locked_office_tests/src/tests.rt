@@ -6,13 +6,16 @@ use frame_codec::{Frame, decode};
 use locked_office::{Desk, Stopped};
 use office_map::{OfficeId, Plan, RecordId};
 use own_lock::{Busy, Pass};
-use session_language::{End, Outcome, Program, RecordValues, read_sessions};
+use session_language::read_sessions;
+use session_meaning::{End, Outcome, RecordValues};
+use session_programs::Program;
 use site_core::{Entry, Office, Refusal, Reply};
 use std::alloc::{AllocError, Global};
 use std::process::Abort;
 use std::sync::Wait;
 use std::test::Fail;
 
+mod caller;
 mod threads;
 
 /// Two offices, and two records of theirs.

@@ -1,15 +1,16 @@
 use crate::tests::memory::{Comes, Mailbox, MemorySockets};
 use journal_texts::read_journal;
+use live_runs::live::live;
 use office_map::{OfficeId, Plan};
 use office_runs::Ran;
-use office_runs::live::live;
 use office_runs::run::run_office;
 use office_stations::{
     Around, Binds, Gate, Open, OpeningFault, Progress, Quiet, RunFault, UdpSockets, Watch,
     without_address,
 };
 use run_remarks::Unmet;
-use session_language::{Program, read_sessions};
+use session_language::read_sessions;
+use session_programs::Program;
 use std::alloc::Global;
 use std::io::ErrorKind;
 use std::rt::Clock;

@@ -1,7 +1,9 @@
 use bottle_values::Value;
 use frame_codec::{Frame, MAX_LENGTH, Msg, encode};
 use office_map::{OfficeId, Plan, RecordId};
-use session_language::{Outcome, Program, RecordValues, read_sessions};
+use session_language::read_sessions;
+use session_meaning::{Outcome, RecordValues};
+use session_programs::Program;
 use site_core::{Entry, Event, MAX_UNFINISHED, Office, Refusal, Reply, Rule};
 use std::alloc::{AllocError, Global};
 use std::fmt::Write;
@@ -9,6 +11,7 @@ use std::process::Abort;
 use std::test::Fail;
 use token_channel::ChannelFault;
 
+mod caller;
 mod refusal_order;
 mod rule_rows;
 mod shown;

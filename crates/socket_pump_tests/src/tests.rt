@@ -4,16 +4,19 @@ ghost use Rattle.own_lock.specs.Passes.{IsOf, AreIdle};
 use bottle_values::Value;
 use frame_codec::decode;
 use locked_office::Desk;
+use memory_wires::MemoryWire;
 use office_map::{OfficeId, Plan};
 use own_lock::Pass;
-use session_language::{Program, read_sessions};
+use session_language::read_sessions;
+use session_programs::Program;
 use site_core::{Office, Reply};
-use socket_pump::{MemoryWire, Pump, PumpFault, Turn, Wire};
+use socket_pump::{Pump, PumpFault, Turn, Wire};
 use std::alloc::Global;
 use std::process::Abort;
 use std::sync::Wait;
 use std::test::Fail;
 
+mod caller;
 mod sockets;
 
 /// Two offices, and two records of theirs.

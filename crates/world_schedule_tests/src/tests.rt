@@ -3,7 +3,9 @@
 use frame_codec::{Frame, MAX_LENGTH, encode};
 use frame_world::{NextStep, WorldEvent, WorldRefusal};
 use office_map::{OfficeId, Plan, RecordId};
-use session_language::{Outcome, Program, RecordValues, read_sessions};
+use session_language::read_sessions;
+use session_meaning::{Outcome, RecordValues};
+use session_programs::Program;
 use site_core::{Reply, Rule};
 use std::alloc::{AllocError, Global};
 use std::fmt::Write;
@@ -11,6 +13,7 @@ use std::process::Abort;
 use std::test::Fail;
 use world_schedule::{Finished, World};
 
+mod caller;
 mod drawn;
 mod foretold;
 mod settling;

@@ -1,8 +1,10 @@
+use crate::tests;
 use crate::tests::devices::Narrow;
-use crate::tests::{PLAN, why};
+use crate::tests::{PLAN, reason};
+use command_inputs::Input;
+use command_outputs::Fault;
+use command_outputs::fault::Why;
 use drink_commands::commands::audit;
-use drink_commands::fault::{Fault, Why};
-use drink_commands::input::Input;
 use input_texts::Texts;
 use journal_texts::{JournalRefusal, JournalRule};
 use std::alloc::Global;
@@ -71,7 +73,7 @@ fn journals_are_woven_in_any_order(rt: HostRuntime) {
 /// That it is refused so, and nothing is written.
 fn refused(rt: &(impl Abort + AllocGlobal), journals: &[&str], expected: Why) {
     let (result, out) = audited(rt.alloc(), "", "p", journals);
-    assert_eq!(rt; why(result), Some(expected));
+    assert_eq!(rt; reason(result), Some(tests::Why::Given(expected)));
     assert_eq!(rt; out.len(), 0);
 }
 

@@ -1,7 +1,7 @@
-use crate::tests::{MOVE, MOVED, Memory, PLAN, prints, why};
+use crate::tests::{MOVE, MOVED, Memory, PLAN, Why, prints, reason};
+use command_inputs::{Input, TextFault};
+use command_outputs::Fault;
 use drink_commands::commands::serial;
-use drink_commands::fault::{Fault, Why};
-use drink_commands::input::Input;
 use std::io;
 use std::io::{ErrorKind, Write};
 use std::process::Abort;
@@ -54,11 +54,11 @@ fn a_failing_read_is_told(rt: HostRuntime) {
         let mut memory = Memory::new(PLAN, MOVE, "");
         memory.step = 7;
         memory.fails_after = reads;
-        let failed = Fault::ReadFailed(Input::Plan, ErrorKind::BrokenPipe);
+        let failed = Fault::Text(TextFault::ReadFailed(Input::Plan, ErrorKind::BrokenPipe));
         fails(&rt, &memory, "s", failed);
     }
     let memory = Memory::new(PLAN, MOVE, "");
-    let failed = Fault::ReadFailed(Input::Sessions, ErrorKind::IsADirectory);
+    let failed = Fault::Text(TextFault::ReadFailed(Input::Sessions, ErrorKind::IsADirectory));
     fails(&rt, &memory, "folder", failed);
 }
 
@@ -90,7 +90,7 @@ fn a_refused_plan_leaves_the_sessions_unread(rt: HostRuntime) {
     let memory = Memory::new("plan 2", MOVE, "");
     let mut out = Vec::new(rt.alloc());
     let result = serial::run(rt.alloc(), &memory, "p", "missing", &mut out);
-    assert!(rt; matches!(why(result), Some(Why::Plan(_))));
+    assert!(rt; matches!(reason(result), Some(Why::Plan(_))));
 }
 
 #[test]
@@ -98,8 +98,8 @@ fn an_endless_reader_is_left(rt: HostRuntime) {
     let memory = Memory::new(PLAN, MOVE, "");
     let mut out = Vec::new(rt.alloc());
     let result = serial::run(rt.alloc(), &memory, "endless", "s", &mut out);
-    assert!(rt; matches!(why(result), Some(Why::Plan(_))));
+    assert!(rt; matches!(reason(result), Some(Why::Plan(_))));
     let result = serial::run(rt.alloc(), &memory, "p", "endless", &mut out);
-    assert!(rt; matches!(why(result), Some(Why::Sessions(_))));
+    assert!(rt; matches!(reason(result), Some(Why::Sessions(_))));
     assert_eq!(rt; out.len(), 0);
 }

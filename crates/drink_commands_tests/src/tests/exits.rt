@@ -1,10 +1,10 @@
 use crate::tests::ear::Ear;
 use crate::tests::sockets::answered;
 use crate::tests::{MOVE, Memory, PLAN, strings};
-use drink_commands::exit::{Exit, Said};
-use drink_commands::fault::Fault;
-use drink_commands::input::Input;
-use drink_commands::program;
+use command_inputs::{Input, TextFault};
+use command_outputs::Fault;
+use drink_program::exit::{Exit, Said};
+use drink_program::program;
 use std::alloc::Global;
 use std::env::FillError;
 use std::io;
@@ -27,10 +27,7 @@ fn ends(rt: &(impl Abort + AllocGlobal), exit: &Exit, status: u8, wanted: &str) 
 fn what_is_said_goes_out_with_the_status(rt: HostRuntime) -> Result<(), Fail> {
     let alloc = rt.alloc();
     for status in 0..3 {
-        let silent = Exit {
-            status,
-            said: Said::Nothing,
-        };
+        let silent = Exit::silent(status);
         ends(&rt, &silent, status, "");
         let short = Exit {
             status,
@@ -212,7 +209,11 @@ static WRITTEN: [(ErrorKind, &str); 4] = [
 #[test]
 fn causes_are_told(rt: HostRuntime) {
     for (kind, wanted) in &READ {
-        reads(&rt, &Fault::ReadFailed(Input::Plan, *kind), *wanted);
+        reads(
+            &rt,
+            &Fault::Text(TextFault::ReadFailed(Input::Plan, *kind)),
+            *wanted,
+        );
     }
     for (kind, wanted) in &WRITTEN {
         reads(&rt, &Fault::WriteFailed(*kind), *wanted);

@@ -2,9 +2,9 @@ use crate::tests::audits::{OF_A, OF_B};
 use crate::tests::shelves::NoStores;
 use crate::tests::sockets::Deaf;
 use crate::tests::{MOVE, Memory, PLAN, strings};
+use command_outputs::Fault;
 use drink_commands::commands::sim;
-use drink_commands::fault::Fault;
-use drink_commands::program::answer;
+use drink_program::program::answer;
 use office_stations::{Around, Open, Quiet};
 use output_files::InMemory;
 use std::io::ErrorKind;
@@ -142,7 +142,7 @@ fn an_office_leaves_its_journal(rt: HostRuntime) -> Result<(), Fail> {
             &mut NoStores,
             &mut out,
         );
-        assert_eq!(rt; exit.said.text(), *said);
+        assert_eq!(rt; exit.text(), *said);
         assert_eq!(rt;
             out.as_slice(),
             b"a.1 done reads - writes - gives 1\nunfinished 0\n".as_slice()

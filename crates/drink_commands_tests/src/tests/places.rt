@@ -1,7 +1,7 @@
 use crate::tests::shelves::NoStores;
 use crate::tests::sockets::Deaf;
 use crate::tests::strings;
-use drink_commands::program::answer;
+use drink_program::program::answer;
 use input_texts::Texts;
 use office_stations::{Around, Open, Quiet};
 use output_files::{InMemory, Targets};
@@ -135,11 +135,7 @@ fn answered(
         &mut out,
     );
     let written = out.len().saturating_add(files.files().len());
-    Ok((
-        exit.status,
-        written,
-        String::from_str(alloc, exit.said.text())?,
-    ))
+    Ok((exit.status, written, String::from_str(alloc, exit.text())?))
 }
 
 /// Files in memory with a folder `d`, of which the name is locked.

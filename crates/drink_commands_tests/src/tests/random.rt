@@ -1,7 +1,7 @@
-use crate::tests::{MOVE, Memory, PLAN, why};
+use crate::tests::{MOVE, Memory, PLAN, Why, reason};
+use command_inputs::{Input, TextFault};
+use command_outputs::Fault;
 use drink_commands::commands::random;
-use drink_commands::fault::{Fault, Why};
-use drink_commands::input::Input;
 use random_runs::Schedule;
 use std::alloc::Global;
 use std::io::ErrorKind;
@@ -78,12 +78,12 @@ fn refused_texts_are_told(rt: HostRuntime) -> Result<(), Fail> {
         steps: 10,
     };
     let (result, out) = ran(rt.alloc(), "plan 2", "x", schedule);
-    let Some(Why::Plan(_)) = why(result) else {
+    let Some(Why::Plan(_)) = reason(result) else {
         return Err(Fail::from("the plan isn't told"));
     };
     assert_eq!(rt; out.len(), 0);
     let (result, out) = ran(rt.alloc(), PLAN, "session c\nend\n", schedule);
-    let Some(Why::Sessions(refusal)) = why(result) else {
+    let Some(Why::Sessions(refusal)) = reason(result) else {
         return Err(Fail::from("the sessions aren't told"));
     };
     assert_eq!(rt; refusal.line, 1);
@@ -93,7 +93,7 @@ fn refused_texts_are_told(rt: HostRuntime) -> Result<(), Fail> {
     let result = random::run(rt.alloc(), &memory, "p", "nowhere", schedule, &mut out);
     assert_eq!(rt;
         result,
-        Err(Fault::ReadFailed(Input::Sessions, ErrorKind::NotFound))
+        Err(Fault::Text(TextFault::ReadFailed(Input::Sessions, ErrorKind::NotFound)))
     );
     assert_eq!(rt; out.len(), 0);
     Ok(())

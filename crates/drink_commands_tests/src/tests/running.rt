@@ -2,9 +2,9 @@ use crate::tests::ear::{Board, Ear};
 use crate::tests::shelves::NoStores;
 use crate::tests::sockets::{Deaf, Shut};
 use crate::tests::{MOVE, Memory, PLAN, strings};
-use drink_commands::exit::Exit;
-use drink_commands::program::answer;
-use drink_commands::telling::{Telling, show};
+use drink_program::exit::Exit;
+use drink_program::program::answer;
+use drink_program::telling::{Telling, show};
 use office_stations::{Around, Binds, Gate, Open, Progress, Quiet, UdpSockets, Watch};
 use output_files::InMemory;
 use std::alloc::Global;
@@ -61,7 +61,7 @@ where
         &mut out,
     );
     let (status, printed, said) = expected;
-    assert_eq!(rt; exit.said.text(), said);
+    assert_eq!(rt; exit.text(), said);
     assert_eq!(rt; out.as_slice(), printed.as_bytes());
     assert_eq!(rt; exit.status, status);
     Ok(())
@@ -317,7 +317,7 @@ fn live_finishes_three_sessions(rt: HostRuntime) -> Result<(), Fail> {
         &mut NoStores,
         &mut out,
     );
-    assert_eq!(rt; exit.said.text(), "");
+    assert_eq!(rt; exit.text(), "");
     assert_eq!(rt; exit.status, 0);
     let text = String::from_utf8(out)?;
     let begins = [

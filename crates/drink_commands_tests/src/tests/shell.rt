@@ -27,7 +27,7 @@ fn says(
     let exit = answered(rt, words.as_slice(), memory, &mut out);
     assert_eq!(rt; exit.status, status);
     assert_eq!(rt; out.as_slice(), printed.as_bytes());
-    assert_eq!(rt; exit.said.text(), said);
+    assert_eq!(rt; exit.text(), said);
     Ok(())
 }
 
@@ -115,7 +115,7 @@ fn fails(
     assert_eq!(rt; exit.status, 1);
     assert_eq!(rt; out.len(), 0);
     let expected = format!(in alloc; "drink: {said}\n")?;
-    assert_eq!(rt; exit.said.text(), expected.as_str());
+    assert_eq!(rt; exit.text(), expected.as_str());
     Ok(())
 }
 
@@ -271,7 +271,7 @@ fn goes(
     let exit = answered(rt, words.as_slice(), &memory, &mut out);
     assert_eq!(rt; exit.status, status);
     assert_eq!(rt; out.is_empty(), !goes_out);
-    let said = exit.said.text();
+    let said = exit.text();
     assert_eq!(rt; said.is_empty(), goes_out);
     // What the words lack is told as every fault is; without words it is the help that is told.
     assert_eq!(rt; said.starts_with("drink: "), !goes_out && words.len() > 1);

@@ -2,7 +2,7 @@
 
 ghost use Rattle.std.specs.Prelude.{◌≡◌, false};
 
-use drink_commands::stores::{Found, Stores};
+use command_outputs::stores::{Found, Stores};
 use journal_stores::{OpenFault, Store, StoreFailed, Sync};
 use std::alloc::Global;
 use std::cell::{Cell, RefCell};

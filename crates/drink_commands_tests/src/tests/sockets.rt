@@ -2,12 +2,13 @@
 
 use crate::tests::Memory;
 use crate::tests::shelves::NoStores;
-use drink_commands::exit::Exit;
-use drink_commands::program::answer;
+use drink_program::exit::Exit;
+use drink_program::program::answer;
+use memory_wires::MemoryWire;
 use office_map::OfficeId;
 use office_stations::{Around, Binds, Gate, Open, Quiet, Socket, Waits, Wakes};
 use output_files::InMemory;
-use socket_pump::{Contact, MemoryWire, Wire, WireFailed};
+use socket_pump::{Contact, Wire, WireFailed};
 use std::alloc::Global;
 use std::io;
 use std::io::{ErrorKind, Write};

@@ -1,7 +1,7 @@
 use crate::tests::shelves::{Bottom, Refusal, Shelf};
 use crate::tests::sockets::Deaf;
 use crate::tests::{Memory, strings};
-use drink_commands::program::answer;
+use drink_program::program::answer;
 use journal_stores::Sync;
 use office_stations::{Around, Open, Quiet};
 use output_files::InMemory;
@@ -58,7 +58,7 @@ fn asked(
         shelf,
         &mut out,
     );
-    let said = String::from_str(alloc, exit.said.text())?;
+    let said = String::from_str(alloc, exit.text())?;
     Ok((exit.status, String::from_utf8(out)?, said))
 }
 

@@ -4,10 +4,10 @@ use crate::tests::{Both, PAIR, Side, carry, open_both, open_side, programs, turn
 use durable_turns::TurnFault;
 use journal_stores::MemoryStore;
 use journal_weave::{GivenJournal, weave};
+use memory_wires::MemoryWire;
 use office_map::{OfficeId, Plan};
-use session_language::Program;
+use session_programs::Program;
 use site_core::{Entry, Event, Rule};
-use socket_pump::MemoryWire;
 use std::alloc::{AllocError, Global};
 use std::process::Abort;
 use std::sync::Wait;

@@ -6,7 +6,7 @@ use frame_codec::Frame;
 use frame_world::NextStep;
 use journal_weave::GivenJournal;
 use office_map::{OfficeId, Plan};
-use session_language::Program;
+use session_programs::Program;
 use site_core::{Entry, Event, Reply, Rule};
 use std::alloc::{AllocError, Global};
 use std::fmt::Write;

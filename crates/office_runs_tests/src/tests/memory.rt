@@ -3,9 +3,10 @@
 ghost use Rattle.std.specs.Prelude.{◌≡◌, OnOk, OnErr};
 
 use frame_codec::decode;
+use memory_wires::Datagram;
 use office_map::OfficeId;
 use office_stations::{Binds, Socket, Waits, Wakes};
-use socket_pump::{Contact, Datagram, Wire, WireFailed};
+use socket_pump::{Contact, Wire, WireFailed};
 use std::alloc::{AllocError, Global};
 use std::collections::VecDeque;
 use std::io;

@@ -2,7 +2,7 @@
 
 use super::{A, GIVES, PAIR, Step, What, event_of, offices, programs, submit, tell};
 use office_map::OfficeId;
-use session_language::Program;
+use session_programs::Program;
 use site_core::{MAX_ENTRIES, Office, Refusal, Reply};
 use std::alloc::{AllocError, Global};
 use std::process::Abort;

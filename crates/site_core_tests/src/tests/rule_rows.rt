@@ -1,5 +1,6 @@
-//! The rules, row by row: for each part of a guard offices at which that part alone is false, and for each rule offices at
-//! which the whole guard holds, with what such an office shows afterwards.
+//! The rules, row by row: for each rule offices at which its guard holds, with what such an office shows afterwards; and rules
+//! of an office, a record or a number that isn't there. Of each part of a guard a script of `scenarios/rules` comes to an
+//! office at which that part alone is false.
 
 use self::Step::{
     AskBottle, AskFork, BottleGiven, BottleWanted, Drink, Eat, Finish, ForkGiven, ForkWanted,
@@ -10,24 +11,22 @@ use super::{offices, programs};
 use bottle_values::Value;
 use frame_codec::{Frame, MAX_NUMBER, Msg};
 use office_map::{OfficeId, RecordId};
-use session_language::Program;
+use session_programs::Program;
 use site_core::{Event, Office, Refusal, Reply, Rule};
 use std::alloc::{AllocError, Global};
 use std::process::Abort;
 use std::test::Fail;
 
-/// The office that is looked at is `a`. It has the fork that it shares with `b`, and not the one that it shares with `c`; `d`
-/// is no neighbour. Of its records the bottles of `x` and `v` are here; `z` is a record of others.
+/// The office that is looked at is `a`. It has the fork that it shares with `b`, and not the one that it shares with `c`.
+/// Of its records the bottles of `x` and `v` are here; `z` is a record of others.
 const PLAN: &str =
-    "plan 1 run 42\noffice a -\noffice b -\noffice c -\noffice d -\npair a b fork a\npair a c fork c\npair b c fork c\nrecord x a b 100 at a\nrecord y a b 0 at b\nrecord v a c 9 at a\nrecord w a c 7 at c\nrecord z b c 5 at b\n";
+    "plan 1 run 42\noffice a -\noffice b -\noffice c -\npair a b fork a\npair a c fork c\npair b c fork c\nrecord x a b 100 at a\nrecord y a b 0 at b\nrecord v a c 9 at a\nrecord w a c 7 at c\nrecord z b c 5 at b\n";
 
 const A: u8 = 0;
 
 pub const B: u8 = 1;
 
 pub const C: u8 = 2;
-
-const D: u8 = 3;
 
 pub const X: u16 = 0;
 
@@ -80,15 +79,12 @@ pub enum Step {
     BottleGiven(u8, u16, i64),
 }
 
-/// The part of the guard that alone is false (none: all hold), what happened before, the rule or the withdrawal, and what is
+/// What isn't there (nothing: the guard holds), what happened before, the rule or the withdrawal, and what is
 /// told of it. Each rule's rows are lent by a function of their own: a long table is longer to prove than its parts.
 ///
 /// Where the guard holds, what the office shows afterwards is told: which rules may be done; the bottles that are here; of
 /// each neighbour the number of the first message that waits, how many wait, and how many of its messages were taken; how
 /// many sessions were submitted, and how those ended that finished; what the waiting messages say.
-///
-/// That a needed bottle is away and its office isn't thirsty never happens, nor that work has ended and its office isn't
-/// drinking: there two parts are false.
 struct Row(&'static str, &'static [Step], Step, &'static str);
 
 /// What is told where the guard is false, of an office that stays as it was.
@@ -96,99 +92,34 @@ const NOT_NOW: &str = "O1 NotNow";
 
 /// Start: tranquil, and a session waits. The first that waits becomes the current one; the office is thirsty and needs its records.
 fn start_rows() -> &'static [Row] {
-    static ROWS: [Row; 5] = [
-        Row(
-            "",
-            &[Submit(OF_Y), Submit(OF_NONE)],
-            Start,
-            "may hungry, askbottle y; here x=100 v=9; b 1 0 0; c 1 0 0; 2 submitted; sends",
-        ),
-        Row(
-            "tranquil",
-            &[Submit(OF_Y), Submit(OF_NONE), Start],
-            Start,
-            NOT_NOW,
-        ),
-        Row(
-            "tranquil",
-            &[Submit(OF_NONE), Submit(OF_NONE), Start, Drink],
-            Start,
-            NOT_NOW,
-        ),
-        Row("a session waits", &[], Start, NOT_NOW),
-        Row(
-            "a session waits",
-            &[Submit(OF_NONE), Start, Drink, Work(3), Finish],
-            Start,
-            NOT_NOW,
-        ),
-    ];
+    static ROWS: [Row; 1] = [Row(
+        "",
+        &[Submit(OF_Y), Submit(OF_NONE)],
+        Start,
+        "may hungry, askbottle y; here x=100 v=9; b 1 0 0; c 1 0 0; 2 submitted; sends",
+    )];
     &ROWS
 }
 
 /// Hungry: thinking, and thirsty. The office is hungry.
 fn hungry_rows() -> &'static [Row] {
-    static ROWS: [Row; 6] = [
-        Row(
-            "",
-            &[Submit(OF_Y), Start],
-            Hungry,
-            "may askfork c, askbottle y; here x=100 v=9; b 1 0 0; c 1 0 0; 1 submitted; sends",
-        ),
-        Row("thinking", &[Submit(OF_Y), Start, Hungry], Hungry, NOT_NOW),
-        Row(
-            "thinking",
-            &[Submit(OF_Y), Start, Hungry, AskFork(C), ForkGiven(C), Eat],
-            Hungry,
-            NOT_NOW,
-        ),
-        Row("thirsty", &[], Hungry, NOT_NOW),
-        Row("thirsty", &[Submit(OF_Y)], Hungry, NOT_NOW),
-        Row("thirsty", &[Submit(OF_NONE), Start, Drink], Hungry, NOT_NOW),
-    ];
+    static ROWS: [Row; 1] = [Row(
+        "",
+        &[Submit(OF_Y), Start],
+        Hungry,
+        "may askfork c, askbottle y; here x=100 v=9; b 1 0 0; c 1 0 0; 1 submitted; sends",
+    )];
     &ROWS
 }
 
 /// AskFork: hungry, the fork isn't held, its token is. The token is sent.
 fn ask_fork_rows() -> &'static [Row] {
-    static ROWS: [Row; 9] = [
+    static ROWS: [Row; 2] = [
         Row(
             "",
             &[Submit(OF_Y), Start, Hungry],
             AskFork(C),
             "may askbottle y; here x=100 v=9; b 1 0 0; c 1 1 0; 1 submitted; sends askfork to c",
-        ),
-        Row("hungry", &[], AskFork(C), NOT_NOW),
-        Row("hungry", &[Submit(OF_Y), Start], AskFork(C), NOT_NOW),
-        Row(
-            "hungry",
-            &[Submit(OF_NONE), Start, Drink],
-            AskFork(C),
-            NOT_NOW,
-        ),
-        Row(
-            "the fork isn't held",
-            &[Submit(OF_Y), Start, Hungry, ForkWanted(B)],
-            AskFork(B),
-            NOT_NOW,
-        ),
-        Row(
-            "the token is held",
-            &[Submit(OF_Y), Start, Hungry, AskFork(C)],
-            AskFork(C),
-            NOT_NOW,
-        ),
-        Row(
-            "a neighbour",
-            &[Submit(OF_Y), Start, Hungry],
-            AskFork(A),
-            NOT_NOW,
-        ),
-        Row(
-            "a neighbour",
-            &[Submit(OF_Y), Start, Hungry],
-            AskFork(D),
-            NOT_NOW,
         ),
         Row(
             "an office",
@@ -202,7 +133,7 @@ fn ask_fork_rows() -> &'static [Row] {
 
 /// GiveFork: not eating, the token is held, the fork is held and dirty. The fork is sent, the token stays.
 fn give_fork_rows() -> &'static [Row] {
-    static ROWS: [Row; 11] = [
+    static ROWS: [Row; 3] = [
         Row(
             "",
             &[ForkWanted(B)],
@@ -215,57 +146,6 @@ fn give_fork_rows() -> &'static [Row] {
             GiveFork(B),
             "may askfork b, askfork c, askbottle y; here x=100 v=9; b 1 1 1; c 1 0 0; 1 submitted; sends fork to b",
         ),
-        Row(
-            "not eating",
-            &[
-                Submit(OF_Y),
-                Start,
-                Hungry,
-                AskFork(C),
-                ForkGiven(C),
-                Eat,
-                ForkWanted(B),
-            ],
-            GiveFork(B),
-            NOT_NOW,
-        ),
-        Row(
-            "not eating",
-            &[
-                Submit(OF_Y),
-                Start,
-                Hungry,
-                AskFork(C),
-                ForkGiven(C),
-                Eat,
-                ForkWanted(C),
-            ],
-            GiveFork(C),
-            NOT_NOW,
-        ),
-        Row("the token is held", &[], GiveFork(B), NOT_NOW),
-        Row("the fork is held", &[], GiveFork(C), NOT_NOW),
-        Row(
-            "the fork is held",
-            &[ForkWanted(B), GiveFork(B)],
-            GiveFork(B),
-            NOT_NOW,
-        ),
-        Row(
-            "the fork is dirty",
-            &[
-                Submit(OF_Y),
-                Start,
-                Hungry,
-                AskFork(C),
-                ForkGiven(C),
-                ForkWanted(C),
-            ],
-            GiveFork(C),
-            NOT_NOW,
-        ),
-        Row("a neighbour", &[], GiveFork(A), NOT_NOW),
-        Row("a neighbour", &[], GiveFork(D), NOT_NOW),
         Row("an office", &[], GiveFork(200), NOT_NOW),
     ];
     &ROWS
@@ -273,7 +153,7 @@ fn give_fork_rows() -> &'static [Row] {
 
 /// Eat: hungry, and all forks are held. The office eats, and every fork of it is dirty: one that came clean is given afterwards.
 fn eat_rows() -> &'static [Row] {
-    static ROWS: [Row; 7] = [
+    static ROWS: [Row; 3] = [
         Row(
             "",
             &[Submit(OF_Y), Start, Hungry, AskFork(C), ForkGiven(C)],
@@ -309,54 +189,13 @@ fn eat_rows() -> &'static [Row] {
             GiveFork(C),
             "may work 1; here x=100 v=9; b 1 0 0; c 2 1 2; 1 submitted; sends fork to c",
         ),
-        Row(
-            "hungry",
-            &[
-                Submit(OF_NONE),
-                Start,
-                Hungry,
-                AskFork(C),
-                ForkGiven(C),
-                Eat,
-                Drink,
-                Leave,
-            ],
-            Eat,
-            NOT_NOW,
-        ),
-        Row(
-            "hungry",
-            &[Submit(OF_Y), Start, Hungry, AskFork(C), ForkGiven(C), Eat],
-            Eat,
-            NOT_NOW,
-        ),
-        Row(
-            "all forks are held",
-            &[Submit(OF_Y), Start, Hungry],
-            Eat,
-            NOT_NOW,
-        ),
-        Row(
-            "all forks are held",
-            &[
-                Submit(OF_Y),
-                Start,
-                Hungry,
-                ForkWanted(B),
-                GiveFork(B),
-                AskFork(C),
-                ForkGiven(C),
-            ],
-            Eat,
-            NOT_NOW,
-        ),
     ];
     &ROWS
 }
 
 /// Leave: eating, and not thirsty. The office thinks.
 fn leave_rows() -> &'static [Row] {
-    static ROWS: [Row; 5] = [
+    static ROWS: [Row; 2] = [
         Row(
             "",
             &[
@@ -387,73 +226,18 @@ fn leave_rows() -> &'static [Row] {
             Leave,
             "may; here x=100 v=9; b 1 0 0; c 2 0 1; 1 submitted; 0.1 Done reads writes gives 1; sends",
         ),
-        Row("eating", &[], Leave, NOT_NOW),
-        Row(
-            "eating",
-            &[Submit(OF_NONE), Start, Hungry, Drink],
-            Leave,
-            NOT_NOW,
-        ),
-        Row(
-            "not thirsty",
-            &[Submit(OF_Y), Start, Hungry, AskFork(C), ForkGiven(C), Eat],
-            Leave,
-            NOT_NOW,
-        ),
     ];
     &ROWS
 }
 
 /// AskBottle: thirsty, the record is needed, its bottle isn't held, its token is. The token is sent.
 fn ask_bottle_rows() -> &'static [Row] {
-    static ROWS: [Row; 9] = [
+    static ROWS: [Row; 2] = [
         Row(
             "",
             &[Submit(OF_Y), Start],
             AskBottle(Y),
             "may hungry; here x=100 v=9; b 1 1 0; c 1 0 0; 1 submitted; sends askbottle y to b",
-        ),
-        Row(
-            "thirsty, and the record is needed",
-            &[Submit(OF_Y)],
-            AskBottle(Y),
-            NOT_NOW,
-        ),
-        Row(
-            "thirsty, and the record is needed",
-            &[Submit(OF_NONE), Start, Drink],
-            AskBottle(Y),
-            NOT_NOW,
-        ),
-        Row(
-            "the record is needed",
-            &[Submit(OF_NONE), Start],
-            AskBottle(Y),
-            NOT_NOW,
-        ),
-        Row(
-            "the record is needed",
-            &[Submit(OF_Y), Start],
-            AskBottle(W),
-            NOT_NOW,
-        ),
-        Row(
-            "the bottle isn't held",
-            &[Submit(OF_X_Y), Start, BottleWanted(B, X)],
-            AskBottle(X),
-            NOT_NOW,
-        ),
-        Row(
-            "the token is held",
-            &[Submit(OF_Y), Start, AskBottle(Y)],
-            AskBottle(Y),
-            NOT_NOW,
-        ),
-        Row(
-            "a record of the office",
-            &[Submit(OF_Y), Start],
-            AskBottle(Z),
-            NOT_NOW,
         ),
         Row("a record", &[Submit(OF_Y), Start], AskBottle(NONE), NOT_NOW),
     ];
@@ -462,7 +246,7 @@ fn ask_bottle_rows() -> &'static [Row] {
 
 /// GiveBottle: the token is held, the bottle is held; not where the record is needed and the office drinks or has the pair's fork. The bottle is sent with its value, the token stays.
 fn give_bottle_rows() -> &'static [Row] {
-    static ROWS: [Row; 11] = [
+    static ROWS: [Row; 4] = [
         Row(
             "",
             &[BottleWanted(B, X)],
@@ -481,40 +265,6 @@ fn give_bottle_rows() -> &'static [Row] {
             GiveBottle(V),
             "may hungry, askbottle v; here x=100, v=9 leaves as 1; b 1 0 0; c 1 1 1; 1 submitted; sends bottle v=9 to c",
         ),
-        Row("the token is held", &[], GiveBottle(X), NOT_NOW),
-        Row("the bottle is held", &[], GiveBottle(Y), NOT_NOW),
-        Row(
-            "the bottle is held",
-            &[BottleWanted(B, X), GiveBottle(X)],
-            GiveBottle(X),
-            NOT_NOW,
-        ),
-        Row(
-            "not needed and drinking",
-            &[Submit(OF_V), Start, Drink, BottleWanted(C, V)],
-            GiveBottle(V),
-            NOT_NOW,
-        ),
-        Row(
-            "not needed with the fork",
-            &[Submit(OF_X_Y), Start, BottleWanted(B, X)],
-            GiveBottle(X),
-            NOT_NOW,
-        ),
-        Row(
-            "not needed with the fork",
-            &[
-                Submit(OF_V),
-                Start,
-                Hungry,
-                AskFork(C),
-                ForkGiven(C),
-                BottleWanted(C, V),
-            ],
-            GiveBottle(V),
-            NOT_NOW,
-        ),
-        Row("a record of the office", &[], GiveBottle(Z), NOT_NOW),
         Row("a record", &[], GiveBottle(NONE), NOT_NOW),
     ];
     &ROWS
@@ -522,7 +272,7 @@ fn give_bottle_rows() -> &'static [Row] {
 
 /// Drink: thirsty, and all needed bottles are held. The office drinks, and its session's work begins on their values.
 fn drink_rows() -> &'static [Row] {
-    static ROWS: [Row; 6] = [
+    static ROWS: [Row; 2] = [
         Row(
             "",
             &[Submit(OF_X), Start],
@@ -535,27 +285,13 @@ fn drink_rows() -> &'static [Row] {
             Drink,
             "may work 1; here x=100 y=5 v=9; b 2 0 1; c 1 0 0; 1 submitted; sends",
         ),
-        Row("thirsty", &[Submit(OF_NONE)], Drink, NOT_NOW),
-        Row("thirsty", &[Submit(OF_X), Start, Drink], Drink, NOT_NOW),
-        Row(
-            "all needed bottles are held",
-            &[Submit(OF_Y), Start],
-            Drink,
-            NOT_NOW,
-        ),
-        Row(
-            "all needed bottles are held",
-            &[Submit(OF_X_Y), Start],
-            Drink,
-            NOT_NOW,
-        ),
     ];
     &ROWS
 }
 
 /// Work: drinking, the work hasn't ended, and the piece has from 1 to 1,000 instructions. At most so many are done.
 fn work_rows() -> &'static [Row] {
-    static ROWS: [Row; 9] = [
+    static ROWS: [Row; 6] = [
         Row(
             "",
             &[Submit(OF_NONE), Start, Drink],
@@ -580,14 +316,6 @@ fn work_rows() -> &'static [Row] {
             Work(1000),
             "may finish; here x=100 v=9; b 1 0 0; c 1 0 0; 1 submitted; sends",
         ),
-        Row("drinking", &[Submit(OF_NONE)], Work(1), NOT_NOW),
-        Row("drinking", &[Submit(OF_NONE), Start], Work(1), NOT_NOW),
-        Row(
-            "the work hasn't ended",
-            &[Submit(OF_NONE), Start, Drink, Work(3)],
-            Work(1),
-            NOT_NOW,
-        ),
         Row("from 1", &[Submit(OF_NONE), Start, Drink], Work(0), NOT_NOW),
         Row(
             "to 1,000",
@@ -601,7 +329,7 @@ fn work_rows() -> &'static [Row] {
 
 /// Finish: drinking, and the work has ended. The writes go into the bottles, the outcome is kept; the office is tranquil and needs no record.
 fn finish_rows() -> &'static [Row] {
-    static ROWS: [Row; 7] = [
+    static ROWS: [Row; 3] = [
         Row(
             "",
             &[
@@ -634,30 +362,6 @@ fn finish_rows() -> &'static [Row] {
             GiveBottle(X),
             "may; here v=9, x=101 leaves as 1; b 1 1 1; c 1 0 0; 1 submitted; 0.1 Done reads 0=100 writes 0=101 gives; sends bottle x=101 to b",
         ),
-        Row(
-            "drinking, and the work has ended",
-            &[Submit(OF_NONE), Start],
-            Finish,
-            NOT_NOW,
-        ),
-        Row(
-            "drinking, and the work has ended",
-            &[Submit(OF_NONE), Start, Drink, Work(3), Finish],
-            Finish,
-            NOT_NOW,
-        ),
-        Row(
-            "the work has ended",
-            &[Submit(OF_NONE), Start, Drink],
-            Finish,
-            NOT_NOW,
-        ),
-        Row(
-            "the work has ended",
-            &[Submit(OF_NONE), Start, Drink, Work(2)],
-            Finish,
-            NOT_NOW,
-        ),
     ];
     &ROWS
 }
@@ -665,7 +369,7 @@ fn finish_rows() -> &'static [Row] {
 /// Withdraw: the ticket's session waits, or is the current one and the office is thirsty. It waits no more, or the office is
 /// tranquil and needs no record; forks and bottles stay.
 fn withdraw_rows() -> &'static [Row] {
-    static ROWS: [Row; 21] = [
+    static ROWS: [Row; 14] = [
         Row(
             "",
             &[Submit(OF_Y)],
@@ -759,51 +463,6 @@ fn withdraw_rows() -> &'static [Row] {
             "may givebottle x; here x=100 v=9; b 1 0 1; c 1 0 0; 1 submitted; sends",
         ),
         Row("waits or is the current one", &[], Withdraw(0), NOT_NOW),
-        Row("waits or is the current one", &[], Withdraw(1), NOT_NOW),
-        Row(
-            "waits or is the current one",
-            &[Submit(OF_Y), Start, Submit(OF_X)],
-            Withdraw(3),
-            NOT_NOW,
-        ),
-        Row(
-            "waits or is the current one",
-            &[Submit(OF_Y), Withdraw(1), Submit(OF_X)],
-            Withdraw(1),
-            NOT_NOW,
-        ),
-        Row(
-            "waits or is the current one",
-            &[Submit(OF_Y), Start, Withdraw(1), Submit(OF_X), Start],
-            Withdraw(1),
-            NOT_NOW,
-        ),
-        Row(
-            "waits or is the current one",
-            &[
-                Submit(OF_NONE),
-                Submit(OF_Y),
-                Start,
-                Drink,
-                Work(3),
-                Finish,
-                Start,
-            ],
-            Withdraw(1),
-            NOT_NOW,
-        ),
-        Row(
-            "the office is thirsty",
-            &[Submit(OF_NONE), Start, Drink],
-            Withdraw(1),
-            NOT_NOW,
-        ),
-        Row(
-            "the office is thirsty",
-            &[Submit(OF_NONE), Start, Drink, Work(3)],
-            Withdraw(1),
-            NOT_NOW,
-        ),
     ];
     &ROWS
 }

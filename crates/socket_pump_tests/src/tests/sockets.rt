@@ -5,7 +5,7 @@ use crate::tests::{
     value_after,
 };
 use office_map::OfficeId;
-use session_language::Program;
+use session_programs::Program;
 use socket_pump::{Contact, UdpWire};
 use std::alloc::Global;
 use std::io;

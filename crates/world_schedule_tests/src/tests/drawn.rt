@@ -1,14 +1,15 @@
 //! Drawn schedules, beside the serial run of the sessions that they finish.
 
 ghost use Rattle.std.specs.Prelude.{All, IfOk, IsTrue};
-ghost use Rattle.session_language.specs.Program.{fits};
+ghost use Rattle.session_programs.specs.Program.{fits};
 
 use super::foretold::{Seen, seen_of};
 use super::{describe_ending, goes_on, opened, programs_of, tell_values};
 use frame_world::WorldRefusal;
 use office_map::Plan;
 use serial_replay::{Replay, serial};
-use session_language::{Outcome, Program};
+use session_meaning::Outcome;
+use session_programs::Program;
 use site_core::Reply;
 use std::alloc::{AllocError, Global};
 use std::fmt::Write;

@@ -6,7 +6,7 @@ use frame_world::{WorldEvent, WorldRefusal};
 use office_map::{OfficeId, RecordId};
 use rand_core::utils::NextWord;
 use rand_pcg::Pcg64;
-use session_language::Program;
+use session_programs::Program;
 use site_core::{MAX_UNFINISHED, Office, Refusal, Reply, Rule};
 use std::alloc::{AllocError, Global};
 use world_schedule::World;

@@ -3,7 +3,7 @@
 use super::drawn::{session_of, settles, told_beside_alone};
 use super::{opened, programs_of};
 use office_map::{OfficeId, Plan};
-use session_language::Program;
+use session_programs::Program;
 use site_core::Reply;
 use std::alloc::{AllocError, Global};
 use std::fmt::Write;

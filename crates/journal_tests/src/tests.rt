@@ -1,0 +1,4 @@
+mod audit;
+mod restarts;
+mod stores;
+mod texts;

@@ -1,0 +1,5 @@
+//! A store in memory that fails, and stores in files.
+
+mod files;
+mod memory;
+mod noted;

@@ -1,0 +1,5 @@
+mod bottles;
+mod channels;
+mod forks;
+mod frames;
+mod links;

@@ -1,0 +1,3 @@
+mod masks;
+mod plans;
+mod values;

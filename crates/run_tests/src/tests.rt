@@ -1,0 +1,3 @@
+mod drawn;
+mod remarks;
+mod words;

@@ -1,0 +1,4 @@
+mod language;
+mod machine;
+mod meaning;
+mod replay;

@@ -1,0 +1,463 @@
+//! Sessions in pieces of 1, 2 and 1,000, with lengths and endings worked out by hand.
+
+use bottle_values::Value;
+use office_map::{Plan, RecordId};
+use session_language::{LangFault, SessionRefusal, read_sessions};
+use session_machine::{Code, Progress, Work};
+use session_meaning::{End, Ending, RecordValues, Statement};
+use session_programs::Program;
+use std::alloc::{AllocError, Global};
+use std::fmt::Write;
+use std::process::Abort;
+use std::test::Fail;
+
+mod drawn;
+mod draws;
+mod walk;
+
+const PLAN: &str =
+    "plan 1 run 42\noffice a -\noffice b -\npair a b fork a\nrecord x a b 100 at a\nrecord y a b 0 at b\n";
+
+/// More than the longest session.
+const MOST_PIECES: u32 = 100_000;
+
+/// Sessions, each with its length where x is 100 and y is 0, and how it ends.
+static SESSIONS: [(&str, u32, &str); 11] = [
+    ("session a\nend\n", 1, "done reads writes gives"),
+    (
+        "session a\nlet v = read x\nset x = v - 30\nset y = read y + 30\ngive read x\ngive read y\nend\n",
+        15,
+        "done reads 0=100 1=0 writes 0=70 1=30 gives 70 30",
+    ),
+    (
+        "session a\nset x = 1\ngive 2\nset x = 9223372036854775807 + 1\nend\n",
+        7,
+        "overflow reads 0=100 writes gives",
+    ),
+    (
+        "session a\ngive 3\nset y = 5\nrequire read y == 6 else 65535\ngive 4\nend\n",
+        8,
+        "refused 65535 reads 1=0 writes gives",
+    ),
+    (
+        "session b\ngive (1+2)*-(3)\nrequire 1 <= 2 else 9\nset y = read y - 1\nend\n",
+        16,
+        "done reads 1=0 writes 1=-1 gives -9",
+    ),
+    (
+        "session b\nlet m = -9223372036854775807 - 1\ngive m\ngive -m\nend\n",
+        9,
+        "overflow reads writes gives",
+    ),
+    (
+        "session a\nlet i = 0\nrepeat 3\nlet i = i + 1\nif i * 2 > 3\ngive i\nelse\ngive -i\nend\nend\nend\n",
+        44,
+        "done reads writes gives -1 2 3",
+    ),
+    (
+        "session a\nrepeat 2\nrepeat 3\ngive 1\nend\nend\nend\n",
+        24,
+        "done reads writes gives 1 1 1 1 1 1",
+    ),
+    (
+        "session a\nrepeat 3\nrepeat 0\ngive 1\nend\nend\nend\n",
+        8,
+        "done reads writes gives",
+    ),
+    (
+        "session a\nrepeat 0\nrepeat 3\ngive 1\nend\nend\nend\n",
+        2,
+        "done reads writes gives",
+    ),
+    (
+        "session a\nrepeat 2\nif 1 == 1\ngive 5\nrequire 1 == 2 else 7\nend\nend\nend\n",
+        11,
+        "refused 7 reads writes gives",
+    ),
+];
+
+/// Sessions at their limits and past them: lines, a line that opens a block and how often, the lines within, and lines
+/// after its `end`s. Each with its length and its ending, or with no length and the line and the rule that it breaks.
+type Limit = (
+    &'static str,
+    &'static str,
+    usize,
+    &'static str,
+    &'static str,
+    u32,
+    &'static str,
+);
+
+static LIMITS: [Limit; 22] = [
+    (
+        "",
+        "repeat 1\n",
+        8,
+        "give 1\n",
+        "",
+        19,
+        "done reads writes gives 1",
+    ),
+    ("", "repeat 1\n", 9, "give 1\n", "", 0, "10 TooDeep"),
+    (
+        "",
+        "if 1 < 2\n",
+        8,
+        "give 1\n",
+        "",
+        35,
+        "done reads writes gives 1",
+    ),
+    ("", "if 1 < 2\n", 9, "give 1\n", "", 0, "10 TooDeep"),
+    (
+        "let v = 0\n",
+        "repeat 2\n",
+        8,
+        "let v = v + 1\n",
+        "give v\n",
+        1_794,
+        "done reads writes gives 256",
+    ),
+    (
+        "",
+        "repeat 0\n",
+        1,
+        "give 1\n",
+        "",
+        2,
+        "done reads writes gives",
+    ),
+    (
+        "",
+        "repeat 1\n",
+        1,
+        "give 1\n",
+        "",
+        5,
+        "done reads writes gives 1",
+    ),
+    (
+        "",
+        "repeat 9999\n",
+        1,
+        "",
+        "",
+        10_001,
+        "done reads writes gives",
+    ),
+    ("", "repeat 10000\n", 1, "", "", 0, "4 TooLong"),
+    ("", "repeat 10001\n", 1, "", "", 0, "2 Syntax"),
+    (
+        "",
+        "repeat 99\n",
+        2,
+        "",
+        "",
+        10_001,
+        "done reads writes gives",
+    ),
+    ("", "repeat 100\n", 2, "", "", 0, "6 TooLong"),
+    (
+        "let i = 0\n",
+        "repeat 1999\n",
+        1,
+        "let i = i + 1\n",
+        "give i\n",
+        10_001,
+        "done reads writes gives 1999",
+    ),
+    (
+        "let i = 0\n",
+        "repeat 1999\n",
+        1,
+        "let i = i + 1\n",
+        "give -i\n",
+        0,
+        "7 TooLong",
+    ),
+    (
+        "set y = 1\n",
+        "repeat 62\n",
+        1,
+        "set y = read y * 2\n",
+        "give read y\n",
+        316,
+        "done reads 1=0 writes 1=4611686018427387904 gives 4611686018427387904",
+    ),
+    (
+        "set y = 1\n",
+        "repeat 63\n",
+        1,
+        "set y = read y * 2\n",
+        "give read y\n",
+        316,
+        "overflow reads 1=0 writes gives",
+    ),
+    (
+        "",
+        "repeat 64\n",
+        1,
+        "give 1\n",
+        "",
+        194,
+        "done reads writes gives 1 1 1 1 1 1 1 1 1 1 1 1 1 1 1 1 1 1 1 1 1 1 1 1 1 1 1 1 1 1 1 1 1 1 1 1 1 1 1 1 1 1 1 1 1 1 1 1 1 1 1 1 1 1 1 1 1 1 1 1 1 1 1 1",
+    ),
+    ("", "repeat 65\n", 1, "give 1\n", "", 0, "5 TooManyGives"),
+    ("", "repeat 10000\n", 8, "", "", 0, "18 TooLong"),
+    ("", "repeat 10000\n", 8, "give 1\n", "", 0, "19 TooLong"),
+    (
+        "repeat 0\n",
+        "repeat 10000\n",
+        7,
+        "give 1\n",
+        "end\n",
+        2,
+        "done reads writes gives",
+    ),
+    (
+        "if 1 > 2\n",
+        "repeat 0\n",
+        1,
+        "repeat 10000\nend\n",
+        "end\n",
+        5,
+        "done reads writes gives",
+    ),
+];
+
+/// Turns of a loop with nothing in it, as many as the code can count.
+static TURNS: [u16; 4] = [0, 10_000, 10_001, 65_535];
+
+#[test]
+fn sessions_end_at_their_lengths(rt: HostRuntime) -> Result<(), Fail> {
+    let plan = Plan::read(rt.alloc(), PLAN.as_bytes())?;
+    all_end(&rt, rt.alloc(), &plan)?;
+    Ok(())
+}
+
+fn all_end(rt: &impl Abort, alloc: Global, plan: &Plan) -> Result<(), AllocError> {
+    for (text, length, ending) in &SESSIONS {
+        ends(rt, alloc, plan, text, *length, ending)?;
+    }
+    for limit in &LIMITS {
+        limit_ends(rt, alloc, plan, limit)?;
+    }
+    for turns in &TURNS {
+        turns_end(rt, alloc, *turns)?;
+    }
+    Ok(())
+}
+
+fn limit_ends(
+    rt: &impl Abort,
+    alloc: Global,
+    plan: &Plan,
+    limit: &Limit,
+) -> Result<(), AllocError> {
+    let (before, opening, count, within, after, length, ending) = limit;
+    let text = nested(alloc, before, opening, *count, within, after)?;
+    ends(rt, alloc, plan, text.as_str(), *length, ending)
+}
+
+fn ends(
+    rt: &impl Abort,
+    alloc: Global,
+    plan: &Plan,
+    text: &str,
+    length: u32,
+    ending: &str,
+) -> Result<(), AllocError> {
+    let found = run_text(alloc, plan, text)?;
+    let expected = described(alloc, length, ending)?;
+    assert_eq!(rt; found.as_str(), expected.as_str(), "of {text}");
+    Ok(())
+}
+
+fn turns_end(rt: &impl Abort, alloc: Global, turns: u16) -> Result<(), AllocError> {
+    let found = run_turns(alloc, turns)?;
+    let length = u32::from(turns) + 2;
+    let expected = described(alloc, length, "done reads writes gives")?;
+    assert_eq!(rt; found.as_str(), expected.as_str(), "of {turns} turns");
+    Ok(())
+}
+
+/// A session with so many blocks in one another.
+fn nested(
+    alloc: Global,
+    before: &str,
+    opening: &str,
+    count: usize,
+    within: &str,
+    after: &str,
+) -> Result<String, AllocError> {
+    let mut text = String::from_str(alloc, "session a\n")?;
+    text.push_str(before)?;
+    for _ in 0..count {
+        text.push_str(opening)?;
+    }
+    text.push_str(within)?;
+    for _ in 0..count {
+        text.push_str("end\n")?;
+    }
+    text.push_str(after)?;
+    text.push_str("end\n")?;
+    Ok(text)
+}
+
+/// What is told of a session of this length: for pieces of 1, 2 and 1,000 how many there are, and the ending twice. Of
+/// no length, what is said of it.
+fn described(alloc: Global, length: u32, ending: &str) -> Result<String, AllocError> {
+    let mut text = String::new(alloc);
+    if length == 0 {
+        text.push_str(ending)?;
+        return Ok(text);
+    }
+    for size in [1, 2, 1_000] {
+        let pieces = length.div_ceil(size);
+        write!(text, "{pieces} {ending}; {ending}; ")?;
+    }
+    Ok(text)
+}
+
+fn run_text(alloc: Global, plan: &Plan, sessions: &str) -> Result<String, AllocError> {
+    let mut text = String::new(alloc);
+    match read_sessions(alloc, sessions.as_bytes(), plan) {
+        Ok(programs) => {
+            for program in &programs {
+                run_program(&mut text, alloc, program)?;
+            }
+        }
+        Err(LangFault::Refused(SessionRefusal { rule, line })) => write!(text, "{line} {rule:?}")?,
+        Err(LangFault::Memory) => return Err(AllocError),
+    }
+    Ok(text)
+}
+
+fn run_program(text: &mut String, alloc: Global, program: &Program) -> Result<(), AllocError> {
+    let code = Code::of(alloc, program)?;
+    let code = code.copy(alloc)?;
+    run(text, alloc, &code, program.needs())
+}
+
+fn run_turns(alloc: Global, turns: u16) -> Result<String, AllocError> {
+    let code = Code::of_statements(alloc, 0, &[Statement::Repeat(turns, Vec::new(alloc))])?;
+    let mut text = String::new(alloc);
+    run(&mut text, alloc, &code, &[])?;
+    Ok(text)
+}
+
+/// How many pieces of 1, 2 and 1,000 there were until the end, and how it ended.
+fn run(
+    text: &mut String,
+    alloc: Global,
+    code: &Code,
+    needs: &[RecordId],
+) -> Result<(), AllocError> {
+    for n in [1, 2, 1000] {
+        run_in_pieces(text, alloc, code, needs, n)?;
+    }
+    Ok(())
+}
+
+fn run_in_pieces(
+    text: &mut String,
+    alloc: Global,
+    code: &Code,
+    needs: &[RecordId],
+    n: u32,
+) -> Result<(), AllocError> {
+    let mut work = begun(alloc, code, needs)?;
+    if runs_to_end(text, &mut work, code, n)? {
+        describe_work(text, code, work)
+    } else {
+        Ok(())
+    }
+}
+
+fn begun(alloc: Global, code: &Code, needs: &[RecordId]) -> Result<Work, AllocError> {
+    let reads = first_values(alloc, needs)?;
+    Work::begin(alloc, code, reads)
+}
+
+/// The values of records as they are at first: 100 of x and 0 of y.
+fn first_values(alloc: Global, needs: &[RecordId]) -> Result<RecordValues, AllocError> {
+    let mut reads = RecordValues::new(alloc);
+    for id in needs {
+        let number = if id.number() == 0 { 100 } else { 0 };
+        reads.push(*id, Value::from(number))?;
+    }
+    Ok(reads)
+}
+
+/// Tells how many pieces of n there are until the end, or how it doesn't come as it should. Whether it comes so.
+fn runs_to_end(
+    text: &mut String,
+    work: &mut Work,
+    code: &Code,
+    n: u32,
+) -> Result<bool, AllocError> {
+    for k in 0..MOST_PIECES {
+        if let Progress::Ended = work.step(code, 0) {
+            text.push_str("ended by nothing")?;
+            return Ok(false);
+        }
+        if let Progress::Ended = work.step(code, n) {
+            write!(text, "{} ", k + 1)?;
+            return Ok(true);
+        }
+        if let Some(_) = work.ending() {
+            text.push_str("ended too soon")?;
+            return Ok(false);
+        }
+    }
+    text.push_str("not ended")?;
+    Ok(false)
+}
+
+/// Work that has ended stays as it is, and shows its ending and hands it out.
+fn describe_work(text: &mut String, code: &Code, mut work: Work) -> Result<(), AllocError> {
+    describe_shown(text, code, &mut work)?;
+    match work.ending() {
+        Some(_) => describe(text, &work.into_ending()),
+        None => Ok(()),
+    }
+}
+
+/// The ending that work shows when it was to go on again.
+fn describe_shown(text: &mut String, code: &Code, work: &mut Work) -> Result<(), AllocError> {
+    let Progress::Ended = work.step(code, 5) else {
+        return text.push_str("running again");
+    };
+    match work.ending() {
+        Some(ending) => describe(text, ending),
+        None => text.push_str("no ending"),
+    }
+}
+
+fn describe(text: &mut String, ending: &Ending) -> Result<(), AllocError> {
+    describe_end(text, ending.end)?;
+    text.push_str(" reads")?;
+    describe_values(text, ending.reads.as_slice())?;
+    text.push_str(" writes")?;
+    describe_values(text, ending.writes.as_slice())?;
+    text.push_str(" gives")?;
+    for value in ending.gives.as_slice() {
+        write!(text, " {}", value)?;
+    }
+    text.push_str("; ")
+}
+
+fn describe_end(text: &mut String, end: End) -> Result<(), AllocError> {
+    match end {
+        End::Done => text.push_str("done"),
+        End::Refused(code) => write!(text, "refused {code}"),
+        End::Overflow => text.push_str("overflow"),
+    }
+}
+
+fn describe_values(text: &mut String, values: &[(RecordId, Value)]) -> Result<(), AllocError> {
+    for (id, value) in values {
+        write!(text, " {}={}", id.number(), value)?;
+    }
+    Ok(())
+}

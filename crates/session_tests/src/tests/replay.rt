@@ -1,0 +1,170 @@
+use bottle_values::Value;
+use office_map::{Plan, RecordId};
+use serial_replay::{Replay, serial};
+use session_language::read_sessions;
+use session_meaning::{End, Ending, Outcome};
+use std::alloc::{AllocError, Global};
+use std::fmt::Write;
+use std::test::Fail;
+
+/// Two offices, and two records of theirs.
+const PAIR: &str =
+    "plan 1 run 42\noffice a -\noffice b -\npair a b fork a\nrecord x a b 100 at a\nrecord y a b 0 at b\n";
+
+/// Three offices in a row, with a record for each pair.
+const ROW: &str =
+    "plan 1 run 9\noffice a -\noffice b -\noffice c -\npair a b fork b\npair b c fork b\nrecord r a b 1 at a\nrecord s b c 2 at c\n";
+
+/// Sessions of the two offices, and what is told of them and of the records.
+static SESSIONS: [(&str, &str); 10] = [
+    (
+        "session a\nlet v = read x\nset x = v - 30\nset y = read y + 30\ngive read x\ngive read y\nend\n",
+        "a.1 done reads x=100 y=0 writes x=70 y=30 gives 70 30\nvalue x 70\nvalue y 30\n",
+    ),
+    ("", "value x 100\nvalue y 0\n"),
+    (
+        "session a\nset x = 1\nset x = 9223372036854775807 + 1\nend\n",
+        "a.1 overflow reads x=100 writes - gives -\nvalue x 100\nvalue y 0\n",
+    ),
+    (
+        "session a\nset x = read x - 100\nrequire read x >= 0 else 7\nend\n",
+        "a.1 done reads x=100 writes x=0 gives -\nvalue x 0\nvalue y 0\n",
+    ),
+    (
+        "session a\ngive 3\nset x = 5\nrequire read x == 6 else 65535\nend\nsession b\nset y = read x\nend\nsession a\nend\n",
+        "a.1 refused 65535 reads x=100 writes - gives -\nb.1 done reads x=100 y=0 writes y=100 gives -\na.2 done reads - writes - gives -\nvalue x 100\nvalue y 100\n",
+    ),
+    (
+        "session b\nset y = 4\nset y = read y * 2\nset x = read y\nend\n",
+        "b.1 done reads x=100 y=0 writes x=8 y=8 gives -\nvalue x 8\nvalue y 8\n",
+    ),
+    (
+        "session a\ngive 1 - 2 - 3\ngive 2 + 3 * 4\ngive -2 * 3\ngive --5\ngive (1+2)*-(3)\nend\n",
+        "a.1 done reads - writes - gives -4 14 -6 5 -9\nvalue x 100\nvalue y 0\n",
+    ),
+    (
+        "session a\nlet v = 1\nlet v = v + v\nlet w = v - 5\ngive w\ngive v\nend\n",
+        "a.1 done reads - writes - gives -3 2\nvalue x 100\nvalue y 0\n",
+    ),
+    (
+        "session a\nlet m = -9223372036854775807 - 1\nset x = m\ngive m\nend\nsession b\ngive -read x\nend\n",
+        "a.1 done reads x=100 writes x=-9223372036854775808 gives -9223372036854775808\nb.1 overflow reads x=-9223372036854775808 writes - gives -\nvalue x -9223372036854775808\nvalue y 0\n",
+    ),
+    (
+        "session a\nrequire 1 < 1 else 3\nend\nsession a\nrequire 1 <= 1 else 4\nrequire 2 > 1 else 5\nrequire 1 >= 1 else 6\nrequire 1 != 1 else 0\nend\n",
+        "a.1 refused 3 reads - writes - gives -\na.2 refused 0 reads - writes - gives -\nvalue x 100\nvalue y 0\n",
+    ),
+];
+
+#[test]
+fn sessions_of_two_offices(rt: HostRuntime) -> Result<(), Fail> {
+    for (sessions, expected) in &SESSIONS {
+        let told = told(rt.alloc(), PAIR, sessions)?;
+        assert_eq!(rt; told.as_str(), *expected, "of {sessions:?}");
+    }
+    Ok(())
+}
+
+#[test]
+fn a_false_require_leaves_the_values(rt: HostRuntime) -> Result<(), Fail> {
+    let plan =
+        "plan 1 run 42\noffice a -\noffice b -\npair a b fork a\nrecord x a b 99 at a\nrecord y a b 0 at b\n";
+    let sessions = "session a\nset x = read x - 100\nrequire read x >= 0 else 7\nend\n";
+    let told = told(rt.alloc(), plan, sessions)?;
+    let expected = "a.1 refused 7 reads x=99 writes - gives -\nvalue x 99\nvalue y 0\n";
+    assert_eq!(rt; told.as_str(), expected);
+    Ok(())
+}
+
+#[test]
+fn each_session_goes_on_from_the_one_before(rt: HostRuntime) -> Result<(), Fail> {
+    let sessions =
+        "session c\nset s = read s + 5\ngive read s\nend\nsession a\nset r = read r * 2\nset r = read r * 2\nset r = read r * 2\ngive read r\nend\nsession b\nset r = read r + read s\nset s = 0\ngive read r\nend\n";
+    let told = told(rt.alloc(), ROW, sessions)?;
+    let expected =
+        "c.1 done reads s=2 writes s=7 gives 7\na.1 done reads r=1 writes r=8 gives 8\nb.1 done reads r=8 s=7 writes r=15 s=0 gives 15\nvalue r 15\nvalue s 0\n";
+    assert_eq!(rt; told.as_str(), expected);
+    Ok(())
+}
+
+/// What a serial run of these sessions shows.
+fn told(alloc: Global, plan: &str, sessions: &str) -> Result<String, Fail> {
+    let plan = Plan::read(alloc, plan.as_bytes())?;
+    let programs = read_sessions(alloc, sessions.as_bytes(), &plan)?;
+    let replay = serial(alloc, &plan, programs.as_slice())?;
+    Ok(described(alloc, &plan, &replay)?)
+}
+
+fn described(alloc: Global, plan: &Plan, replay: &Replay) -> Result<String, AllocError> {
+    let mut text = String::new(alloc);
+    for outcome in &replay.outcomes {
+        describe_outcome(&mut text, plan, outcome)?;
+    }
+    let mut number = 0u16;
+    for value in &replay.values {
+        text.push_str("value ")?;
+        push_name(&mut text, plan, RecordId::new(number))?;
+        write!(text, " {}\n", value)?;
+        number = number.wrapping_add(1);
+    }
+    Ok(text)
+}
+
+fn describe_outcome(text: &mut String, plan: &Plan, outcome: &Outcome) -> Result<(), AllocError> {
+    if outcome.office.index() >= plan.offices() {
+        return text.push_str("no such office\n");
+    }
+    let office = plan.office_name(outcome.office);
+    let ticket = outcome.ticket;
+    write!(text, "{office}.{ticket} ")?;
+    describe_ending(text, plan, &outcome.ending)
+}
+
+fn describe_ending(text: &mut String, plan: &Plan, ending: &Ending) -> Result<(), AllocError> {
+    match ending.end {
+        End::Done => text.push_str("done")?,
+        End::Refused(code) => write!(text, "refused {code}")?,
+        End::Overflow => text.push_str("overflow")?,
+    }
+    text.push_str(" reads")?;
+    describe_records(text, plan, ending.reads.as_slice())?;
+    text.push_str(" writes")?;
+    describe_records(text, plan, ending.writes.as_slice())?;
+    text.push_str(" gives")?;
+    describe_values(text, ending.gives.as_slice())?;
+    text.push('\n')
+}
+
+fn describe_records(
+    text: &mut String,
+    plan: &Plan,
+    records: &[(RecordId, Value)],
+) -> Result<(), AllocError> {
+    if records.is_empty() {
+        return text.push_str(" -");
+    }
+    for (record, value) in records {
+        text.push(' ')?;
+        push_name(text, plan, *record)?;
+        write!(text, "={}", value)?;
+    }
+    Ok(())
+}
+
+fn describe_values(text: &mut String, values: &[Value]) -> Result<(), AllocError> {
+    if values.is_empty() {
+        return text.push_str(" -");
+    }
+    for value in values {
+        write!(text, " {}", value)?;
+    }
+    Ok(())
+}
+
+fn push_name(text: &mut String, plan: &Plan, record: RecordId) -> Result<(), AllocError> {
+    if record.index() < plan.records() {
+        text.push_str(plan.record_name(record))
+    } else {
+        text.push_str("?")
+    }
+}
