@@ -22,6 +22,12 @@ def program_of(words, check):
     return None
 
 
+def serial_of(words):
+    """The program of `serial` alone, where it is built."""
+    program = os.path.abspath(words[2] if len(words) > 2 else os.path.join(TOP, "crates", "serial_answer", "out", "serial_answer"))
+    return program if os.path.isfile(program) and os.access(program, os.X_OK) else None
+
+
 def free_ports(count):
     """Ports of this machine that nobody has now."""
     held = [socket.socket(socket.AF_INET, socket.SOCK_DGRAM) for _ in range(count)]
@@ -59,14 +65,19 @@ class Ran:
 
 
 class Check:
-    """What is tried, and how it went. `work` has the program under the name drink, through a link, and the examples."""
+    """What is tried, and how it went. `work` has the program under the name drink, through a link, and the examples. What `serial` answers,
+    and what it says, the program of that one command has to answer and say alike under the same name, where there is one."""
 
-    def __init__(self, program, work):
-        self.work, self.passed, self.failed, self.statuses = work, 0, 0, set()
+    def __init__(self, program, work, serial=None):
+        self.work, self.passed, self.failed, self.statuses, self.alike = work, 0, 0, set(), 0
+        self.serial = serial and os.path.join(work, "alone", "drink")
         self.program = os.path.join(work, "bin", "drink")
         self.link = os.path.join(work, "drink")
         os.mkdir(os.path.dirname(self.program))
         shutil.copy(program, self.program)
+        if serial:
+            os.mkdir(os.path.dirname(self.serial))
+            shutil.copy(serial, self.serial)
         os.symlink(os.path.join("bin", "drink"), self.link)
         os.symlink(os.path.join(TOP, "examples"), os.path.join(work, "examples"))
         os.mkdir(os.path.join(work, "folder"))
@@ -111,16 +122,31 @@ class Check:
         if "stdin" not in how:
             how["input"] = given
         is_drink = "program" not in how
-        try:
-            ran = subprocess.run([how.pop("program", self.link), *words], **how)
-        except subprocess.TimeoutExpired:
-            return Ran(None, b"", f"it had not ended after {how['timeout']} seconds".encode())
-        if is_drink:
-            self.statuses.add(ran.returncode)
-        return Ran(ran.returncode, ran.stdout or b"", ran.stderr or b"")
+        ran = ended(how.pop("program", self.link), words, how)
+        if is_drink and ran.status is not None:
+            self.statuses.add(ran.status)
+        if is_drink and self.serial and "stdin" not in how and words[:1] in (["serial"], [b"serial"]):
+            self.compare(words, ran, ended(self.serial, words, how))
+        return ran
+
+    def compare(self, words, ran, alone):
+        """Tells where the program of `serial` alone ends otherwise than the whole one."""
+        if (ran.status, ran.out, ran.err) == (alone.status, alone.out, alone.err):
+            self.alike += 1
+        else:
+            self.say(f"drink {shown(words)} by the program of serial alone", f"{ran} is wanted, and not {alone}")
 
     def shell(self, text, **how):
         return self.run(["-c", text], program="/bin/sh", **how)
+
+
+def ended(program, words, how):
+    """How a run of a program ends."""
+    try:
+        ran = subprocess.run([program, *words], **how)
+    except subprocess.TimeoutExpired:
+        return Ran(None, b"", f"it had not ended after {how['timeout']} seconds".encode())
+    return Ran(ran.returncode, ran.stdout or b"", ran.stderr or b"")
 
 
 def shown(what):

@@ -7,14 +7,18 @@ from concurrent.futures import ThreadPoolExecutor
 from common import HOST, free_ports
 from relays import Relay, audited, listed, write
 
-OFFICES, EACH, KILLS, SECONDS = ("o1", "o2", "o3", "o4"), 100, 200, 300
+OFFICES, EACH, KILLS, SECONDS = ("o1", "o2", "o3", "o4"), 200, 200, 300
 SYNC = {"o1": "data", "o2": "none", "o3": "data", "o4": "none"}
 # What a record has at first; so much that few of the amounts that are moved aren't there.
-START = 2000
-# A kill comes after some session was told, drawn before, and at most so many seconds more.
+START = 6000
+# A session has a loop of so many turns: so an office does few sessions in a turn, and is asked for its bottles before it has done all.
+IDLE = 9000
+# A kill comes after some session was told, drawn before, and at most so many seconds more; at once where the next is to come already.
 LATER = 0.04
-# How many seconds a datagram is on its way at most, so that sessions go on between kills.
-DELAY = 0.03
+# At least so many of the kills have to come while sessions go on.
+AMID = KILLS // 2
+# How many seconds a datagram is on its way at most: the longer, the more sessions an office does before it is asked for a bottle.
+DELAY = 0.002
 # How often an office stays away for a while once it was killed, and how often the system lost all but the first bytes of a line
 # that was on its way to the store; how many seconds it is away, at most.
 STAYS_AWAY, TEARS, AWAY = 1 / 8, 1 / 4, 0.3
@@ -62,7 +66,7 @@ class Session:
 
     def text(self):
         source, target, amount = self.source, self.target, self.amount
-        lines = (f"session {self.office}", f"require read {source} >= {amount} else 1", f"set {source} = read {source} - {amount}")
+        lines = (f"session {self.office}", f"require read {source} >= {amount} else 1", f"repeat {IDLE}", "end", f"set {source} = read {source} - {amount}")
         return "\n".join((*lines, f"set {target} = read {target} + {amount}", f"give read {target}", "end", ""))
 
     def line(self, ticket, values):
@@ -178,7 +182,9 @@ class Kills:
         write(self.path("sessions"), self.ledger.text())
         self.told, self.stores = {it: [] for it in OFFICES}, {it: b"" for it in OFFICES}
         self.lives, self.away, self.cuts, self.seen = {}, {}, [], {}
-        self.kills = self.amid = self.torn = self.lost = 0
+        self.kills = self.torn = self.lost = 0
+        # How many kills came in each quarter of the sessions that are told, and after the last.
+        self.quarters = [0] * 5
         self.notes = self.path("notes.so") if shutil.which("cc") else None
         if self.notes:
             with open(self.path("notes.c"), "wb") as file:
@@ -285,7 +291,7 @@ class Kills:
         self.look(office)
         self.left(office)
         self.kills += 1
-        self.amid += self.all_told() < len(OFFICES) * EACH
+        self.quarters[4 * self.all_told() // (len(OFFICES) * EACH)] += 1
         self.lose(office)
         self.away[office] = time.monotonic() + (self.draws.random() * AWAY if self.draws.random() < STAYS_AWAY else 0)
 
@@ -314,7 +320,7 @@ class Kills:
     def run(self):
         """Until all kills have come and all sessions were told."""
         count = len(OFFICES) * EACH
-        after = sorted(self.draws.randrange(count) for _ in range(KILLS))
+        after = [*sorted(self.draws.randrange(count) for _ in range(KILLS)), count + 1, count + 1]
         self.away, due, end = {it: 0 for it in OFFICES}, None, time.monotonic() + SECONDS
         while self.kills < KILLS or self.all_told() < count or self.away:
             wants(time.monotonic() < end, f"after {SECONDS} seconds {self.all_told()} sessions were told, and {self.kills} kills had come")
@@ -326,9 +332,10 @@ class Kills:
                 self.hear(office)
                 if life.process.poll() is not None:
                     raise Fault(f"{office} {life.ended()}")
-            if due is None and self.kills < KILLS and self.all_told() >= after[self.kills]:
+            if due is None and self.all_told() >= after[self.kills]:
                 due = time.monotonic() + self.draws.random() * LATER
-            if due and due <= time.monotonic() and self.lives:
+            is_late = self.all_told() >= after[self.kills + 1]
+            if due and (is_late or due <= time.monotonic()) and self.lives:
                 self.kill_some()
                 due = None
 
@@ -395,10 +402,12 @@ def offices_that_are_killed(program, place, seed):
         it.run()
         it.last_starts()
         it.reckoned(it.audits())
+        amid = sum(it.quarters[:4])
+        wants(amid >= AMID, f"{amid} kills came before the last session was told, and not {AMID}: sessions are too quick for this check")
         return []
     except Fault as fault:
         return [f"with the seed {seed}: {fault}"]
     finally:
         it.close()
         seconds = round(time.monotonic() - began)
-        print(f"seed {seed}: {it.kills} kills, {it.amid} of them before the last session was told, {len(it.cuts)} audits of a moment between, {it.torn} torn lines, {it.lost} losses of what didn't stand; {seconds} seconds", flush=True)
+        print(f"seed {seed}: {it.kills} kills, by quarters of the sessions told and after them {' '.join(map(str, it.quarters))}, {len(it.cuts)} audits of a moment between, {it.torn} torn lines, {it.lost} losses of what didn't stand; {seconds} seconds", flush=True)
