@@ -2,7 +2,7 @@
 # What `advance` takes in `drink sim`, where an office looks for its next rule: a line that finds none, at an office with
 # nothing to do and at one that waits for all its forks and bottles; and a rule, in a run in which office after office gets
 # all its forks and a bottle or two from each neighbour, by `advance` and by a line for each rule. On two offices with one
-# record, and on sixteen with 960. `docs/BENCHMARKS.md` has the figures. It needs a program that is built, awk, and for the
+# record, and on sixteen with 960. `README.md` beside it has the figures. It needs a program that is built, awk, and for the
 # counts of instructions valgrind. It fails only where the program doesn't run on a script as it is to.
 #
 #   sh bench/advance/run.sh [PROGRAM]        PROGRAM is crates/drink/out/drink where it is left out

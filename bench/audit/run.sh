@@ -1,7 +1,7 @@
 #!/bin/sh
 # What `drink audit` takes for journals of two offices, and of sixteen in a ring, up to the limit of a journal: time, whose growth
 # with twice the entries is to be seen, memory, and instructions; and what reading them takes by itself. Then the time for journals
-# that were made so that it might be long (crafted.py). `docs/BENCHMARKS.md` has the figures. It needs a program that is built, awk,
+# that were made so that it might be long (crafted.py). `README.md` beside it has the figures. It needs a program that is built, awk,
 # python3, and GNU time; for the counts of instructions valgrind. It fails only where the program doesn't audit the journals as it
 # is to: the report has to have each session and the values at last.
 #

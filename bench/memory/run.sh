@@ -1,7 +1,7 @@
 #!/bin/sh
 # How much memory `drink sim` takes for each line of a long script, of one kind of line after the other, and how long the line
 # and its answer are: the script is read whole, and what is printed is written when all is done.
-# `docs/BENCHMARKS.md` has the figures. It needs a program that is built, awk and GNU time. It fails only where the program
+# `README.md` beside it has the figures. It needs a program that is built, awk and GNU time. It fails only where the program
 # doesn't run on a script as it is to.
 #
 #   sh bench/memory/run.sh [PROGRAM]        PROGRAM is crates/drink/out/drink where it is left out

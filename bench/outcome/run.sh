@@ -6,7 +6,7 @@
 set -eu
 here=$(cd "$(dirname "$0")" && pwd)
 top=$here/../..
-uses="site_core session_language office_map"
+uses="site_core session_language session_programs office_map"
 . "$top/bench/shared/crate.sh"
 for finished in 100 1000 10000; do
     none=$(instructions "$finished" 0)

@@ -1,6 +1,6 @@
 #!/bin/sh
 # What `drink serial` takes on the largest inputs that its limits allow. Each row of the table that it prints is an input;
-# `docs/BENCHMARKS.md` says what they are. It needs a program that is built, awk, GNU date and GNU time, and for the
+# `README.md` beside it says what they are. It needs a program that is built, awk, GNU date and GNU time, and for the
 # counts of instructions valgrind. It prints figures, and fails only where the program doesn't run on an input as it is
 # to.
 #

@@ -2,7 +2,7 @@
 # What a step of `settle` takes in `drink sim`, and that it stays the same however many there are: of two and of four offices
 # in a ring, each two of which share a record, where a session sets both records of its office; and of sixteen offices, all
 # neighbours, each two of which share eight records, where a session sets one of every neighbour. In each round every office
-# submits a session, and all of them settle. `docs/BENCHMARKS.md` has the figures. It needs a program that is built, awk, and
+# submits a session, and all of them settle. `README.md` beside it has the figures. It needs a program that is built, awk, and
 # for the counts of instructions valgrind. It fails only where the program doesn't run on a script as it is to.
 #
 #   sh bench/settle/run.sh [PROGRAM]        PROGRAM is crates/drink/out/drink where it is left out

@@ -1,7 +1,7 @@
 # For the scripts that count the instructions of calls: builds the program bench.txt beside the script, which is no crate
-# of the repository, in a repository of its own. `here` is the script's folder, `top` the repository, and `uses` the
-# crates that the program names. Those and what they stand on are copied with what is proved of them already, which isn't
-# proved again.
+# of the repository, in a repository of its own, since the gate takes no source file outside a crate. `here` is the
+# script's folder, `top` the repository, and `uses` the crates that the program names. Those and what they stand on are copied
+# with what is proved of them already, which isn't proved again: so a figure comes in a minute or two.
 work=$(mktemp -d)
 trap 'rm -rf "$work"' EXIT
 program=$(basename "$here")_bench

@@ -1,7 +1,7 @@
 #!/bin/sh
 # What `drink sim` takes for a line of a long script: bottles go to and fro between offices in a ring, with a session at each
 # end, over frames of which some are lost and some come twice; and for a line that submits a heavy session, nearly always
-# where there is no room for it. `docs/BENCHMARKS.md` has the figures. It needs a program that is built, awk, and GNU time;
+# where there is no room for it. `README.md` beside it has the figures. It needs a program that is built, awk, and GNU time;
 # for the counts of instructions valgrind. It fails only where the program doesn't run on a script as it is to.
 #
 #   sh bench/sim/run.sh [PROGRAM]        PROGRAM is crates/drink/out/drink where it is left out

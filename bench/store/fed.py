@@ -1,6 +1,6 @@
 #!/usr/bin/env python3
 """What an office takes for a turn, and for a datagram, without a store and with one: instructions, the system's calls left out, and
-allocations.
+allocations, which are counted beside appends.
 
 usage: fed.py PROGRAM COUNTS.SO FOLDER
 
@@ -17,7 +17,7 @@ FEWER, MORE, MOST = 200, 1200, 32
 COUNT = struct.pack(">2sBBIBBQQ", b"DP", 1, 2, RUN, 1, 0, 0, 0)
 PLAN = "plan 1 run {run}\noffice a {host}:{own}\noffice b {host}:{other}\npair a b fork a\nrecord r a b 0 at a\n"
 # Where these counts stand in the file.
-COME, WAITS, ALLOCATIONS = 4, 8, 9
+COME, APPENDS, WAITS, ALLOCATIONS = 4, 5, 8, 9
 
 
 class Neighbour:
@@ -76,7 +76,7 @@ def instructions(way, turns, datagrams):
 
 
 def allocations(way, burst, count):
-    """The allocations for so many datagrams, in bursts, each once the one before was taken."""
+    """The allocations for so many datagrams, in bursts, each once the one before was taken; and the appends."""
     it, at = Neighbour(way), os.path.join(FOLDER, "fed.counts")
     if os.path.exists(at):
         os.remove(at)
@@ -103,14 +103,15 @@ def allocations(way, burst, count):
         came = 0
         # The first ones make room that later ones find.
         for limit in (count, 2 * count):
-            before = counts()[ALLOCATIONS]
+            before = counts()
             while came < limit:
                 it.send(burst)
                 came += burst
                 reached(COME, came)
                 time.sleep(0.002)
             time.sleep(0.1)
-        return counts()[ALLOCATIONS] - before
+        after = counts()
+        return tuple(after[it] - before[it] for it in (ALLOCATIONS, APPENDS))
     finally:
         process.kill()
         process.communicate()
@@ -128,12 +129,13 @@ def main():
             datagram = (instructions(way, FEWER + MORE, MOST * 50) - instructions(way, FEWER + MORE, 0)) // (MOST * 50)
             first = first or (turn, datagram)
             print(f"| {way} | {turn} | {turn - first[0]} | {datagram} | {datagram - first[1]} |")
-    print("\n| Store | Datagrams in a burst | Datagrams | Allocations | For a datagram | For a burst |")
-    print("|---|---|---|---|---|---|")
+    print("\n| Store | Datagrams in a burst | Datagrams | Appends | Allocations | For a datagram | For an append |")
+    print("|---|---|---|---|---|---|---|")
     for way in WAYS:
         for burst, count in ((1, 512), (MOST, 4096)):
-            found = allocations(way, burst, count)
-            print(f"| {way} | {burst} | {count} | {found} | {found / count:.3f} | {found * burst / count:.2f} |")
+            found, appends = allocations(way, burst, count)
+            for_each = f"{found / appends:.3f}" if appends else ""
+            print(f"| {way} | {burst} | {count} | {appends} | {found} | {found / count:.3f} | {for_each} |")
 
 
 PROGRAM, LIBRARY, FOLDER = sys.argv[1:]

@@ -94,17 +94,30 @@ def started(way, turns):
 
 
 def ran(way, turns):
-    """The counts of the offices in a run, and its seconds. How often bottles go to and fro differs from run to run: where these turns
-    end before all sessions have, it is run again with twice as many, and the first one is left out: so long runs are counted too rarely."""
+    """The counts of the offices in a run, and its seconds; None where its turns ended before all sessions had."""
     offices = started(way, turns)
     outs = [it.process.communicate() for it in offices]
     for it, (out, err) in zip(offices, outs):
         if it.process.returncode not in (0, 1) or b"\nunfinished " not in out or turns == MOST and it.process.returncode:
             sys.exit(f"ring.py: {way}, {turns} turns: status {it.process.returncode}, {out[-60:]!r}, {err!r}")
     if any(it.process.returncode for it in offices):
-        return ran(way, min(MOST, 2 * turns))
+        return None
     counts = [it.counts() for it in offices]
     return counts, (max(it["worked_last"] for it in counts) - max(it["begun"] for it in counts)) / 1e9
+
+
+def run_once_more(way, turns, runs):
+    """One more run, and the turns that it had. How often bottles go to and fro differs from run to run: where the turns of one end before
+    its sessions, all runs of this way are made again with twice as many. So none is left out because it is long."""
+    wanted = len(runs) + 1
+    while len(runs) < wanted:
+        if run := ran(way, turns):
+            runs.append(run)
+        else:
+            runs.clear()
+            turns = min(MOST, 2 * turns)
+            print(f"ring.py: {way}: all runs are made again, with {turns} turns", file=sys.stderr)
+    return turns
 
 
 def turns_of(way):
@@ -156,7 +169,7 @@ def main():
     runs = {it: [] for it in (*WAYS, "WAL", "DELETE")}
     for _ in range(RUNS):
         for way in WAYS:
-            runs[way].append(ran(way, turns[way]))
+            turns[way] = run_once_more(way, turns[way], runs[way])
         for mode in ("WAL", "DELETE"):
             runs[mode].append(([], sqlite(mode)))
     count = len(OFFICES) * EACH

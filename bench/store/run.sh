@@ -1,6 +1,6 @@
 #!/bin/sh
 # What a store costs an office: sessions a second of a ring of four offices, each a process, without a store and with one, beside
-# SQLite; the syncs of that; what a turn and a datagram take; and a start on a full journal. `docs/BENCHMARKS.md` has the figures. It
+# SQLite; the syncs of that; what a turn and a datagram take; and a start on a full journal. `README.md` beside it has the figures. It
 # needs a program that is built, python3, a C compiler, and GNU time; for the counts of instructions valgrind; and four processors
 # with no other work. Stores are made in the folder of temporary files (TMPDIR), so that is to be on a disk; it needs 1 GB. It fails
 # only where a session isn't done, a start tells other sessions than have finished, or syncs are other than they have to be: one for

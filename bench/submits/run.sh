@@ -1,7 +1,7 @@
 #!/bin/sh
 # What `drink sim` takes for a session that is submitted, done and told, office after office, and how that and the memory
 # grow with their number: a session of one statement, and one nearly as dear as a session may be that ends at its first
-# line, whose whole program is made code. `docs/BENCHMARKS.md` has the figures. It needs a program that is built, awk,
+# line, whose whole program is made code. `README.md` beside it has the figures. It needs a program that is built, awk,
 # and GNU time; for the counts of instructions valgrind. It fails only where the program doesn't run on a script as it is to.
 #
 #   sh bench/submits/run.sh [PROGRAM]        PROGRAM is crates/drink/out/drink where it is left out
