@@ -98,17 +98,22 @@ impl Channels {
         }
     }
 
-    /// Takes in a frame that the channel to that office passes: what it was, and the messages that are taken with it.
-    pub fn accept(&mut self, v: OfficeId, frame: &Frame) -> (Arrival, ArrayVec<Msg, MAX_KEPT>)
+    /// Takes in a frame that the channel to that office passes: what it was. The messages that are taken with it are in `taken` then.
+    pub fn accept(
+        &mut self,
+        v: OfficeId,
+        frame: &Frame,
+        taken: &mut ArrayVec<Msg, MAX_KEPT>,
+    ) -> Arrival
         requires there { is_some (slot_at self.old v) ≡ true }
         requires passes { (c : ChannelState) → slot_at self.old v ≡ Some c → channel_fault c frame.now ≡ None }
         ensures within { v < length self.old }
-        ensures arrival { (c : ChannelState) → slot_at self.old v ≡ Some c → result.0 ≡ arrival_at c.link frame.now }
-        ensures messages { (c : ChannelState) → slot_at self.old v ≡ Some c → result.1.items ≡ taken_with c frame.now }
+        ensures arrival { (c : ChannelState) → slot_at self.old v ≡ Some c → result ≡ arrival_at c.link frame.now }
+        ensures messages { (c : ChannelState) → slot_at self.old v ≡ Some c → taken.new.items ≡ taken_with c frame.now }
         ensures slots { self.new ≡ set self.old v (slot_taking (slot_at self.old v) frame.now) }
     {
         match &mut self.slots[v.index()] {
-            Some(channel) => channel.accept(frame),
+            Some(channel) => channel.accept(frame, taken),
             None => unreachable!(),
         }
     }

@@ -15,6 +15,7 @@ ghost use Rattle.neighbour_pairs.specs.Pairs.{Pairs, opened, frame_on, after_for
 ghost use Rattle.neighbour_pairs.specs.refinement.PairsOfCode.{pairs_of, IsOf, HaveRoom, MayBring, MayAllBring, forks_came, bottles_came};
 
 use crate::channels::Channels;
+use arrayvec::ArrayVec;
 use bottle_values::Value;
 use dining_core::{MaskedTable, NotNow, Table};
 use drinking_core::{Bar, MaskedBar};
@@ -27,7 +28,7 @@ use token_channel::laws::{
     what_follows_was_away, what_is_shared_stays,
 };
 use token_channel::{Channel, ChannelFault};
-use window_link::{Arrival, LinkFault};
+use window_link::{Arrival, LinkFault, MAX_KEPT};
 
 /// The forks and bottles of an office, and the channels to its neighbours.
 #[derive(Drop)]
@@ -37,6 +38,8 @@ pub struct Pairs {
     table: MaskedTable,
     bar: MaskedBar,
     channels: Channels,
+    /// The messages that were taken with the last frame. It is room that is used again, and no contract sees it.
+    taken: ArrayVec<Msg, MAX_KEPT>,
 }
 
 impl Model for Pairs {
@@ -68,6 +71,7 @@ impl Pairs {
             table,
             bar,
             channels,
+            taken: ArrayVec::new(),
         })
     }
 
@@ -361,8 +365,8 @@ impl Pairs {
         what_follows_is_held();
         what_is_shared_stays();
         let v = OfficeId::new(frame.from());
-        let (arrival, messages) = self.channels.accept(v, frame);
-        take_in(&mut self.table, &mut self.bar, v, messages.as_slice());
+        let arrival = self.channels.accept(v, frame, &mut self.taken);
+        take_in(&mut self.table, &mut self.bar, v, self.taken.as_slice());
         arrival
     }
 }

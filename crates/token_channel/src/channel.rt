@@ -1,6 +1,6 @@
 //! One end of the channel between two neighbours.
 
-ghost use Rattle.std.specs.Prelude.{◌≡◌, ◌+◌, ◌*◌, ◌<◌, ◌≤◌, ◌^◌, ◌↔◌, ◌∷◌, ◌||◌, length, IsTrue, IsErr, IfOk, IfErr, OnOk, OnErr, None, true, false};
+ghost use Rattle.std.specs.Prelude.{◌≡◌, ◌+◌, ◌*◌, ◌<◌, ◌≤◌, ◌^◌, ◌↔◌, ◌++◌, ◌||◌, length, IsTrue, IsErr, IfOk, IfErr, OnOk, OnErr, None, true, false};
 ghost use Rattle.std.specs.Result.{result_err};
 ghost use Rattle.office_map.specs.PlanValue.{are_neighbours, records_between};
 ghost use Rattle.window_link.specs.Windows.{used};
@@ -149,7 +149,8 @@ impl Channel {
         ensures unchanged { OnErr result (self.new ≡ self.old) }
     {
         self.check(frame)?;
-        let (arrival, messages) = self.accept(frame);
+        let mut messages = ArrayVec::new();
+        let arrival = self.accept(frame, &mut messages);
         match arrival {
             Arrival::Acked => Ok(Taken::Acked),
             Arrival::Fresh(_) => Ok(Taken::Fresh(messages)),
@@ -175,19 +176,22 @@ impl Channel {
         Ok(())
     }
 
-    /// Takes in a frame that [`Channel::check`] passes, as [`Channel::take`] does: what it was, and the messages that are taken
-    /// with it. Those are none, or its own and after it what was kept, up to the first gap or breach.
-    pub fn accept(&mut self, frame: &Frame) -> (Arrival, ArrayVec<Msg, MAX_KEPT>)
+    /// Takes in a frame that [`Channel::check`] passes, as [`Channel::take`] does: what it was. The messages that are taken with it, and
+    /// no others, are in `taken` then: none, or its own and after it what was kept, up to the first gap or breach.
+    ///
+    /// Who takes in many frames lends the same room each time: a vector of fixed room is filled when it is made.
+    pub fn accept(&mut self, frame: &Frame, taken: &mut ArrayVec<Msg, MAX_KEPT>) -> Arrival
         requires { channel_fault self.old frame.now ≡ None }
-        ensures arrival { result.0 ≡ arrival_at self.old.link frame.now }
-        ensures messages { result.1.items ≡ taken_with self.old frame.now }
+        ensures arrival { result ≡ arrival_at self.old.link frame.now }
+        ensures messages { taken.new.items ≡ taken_with self.old frame.now }
         ensures channel { self.new ≡ after_taking self.old frame.now }
-        ensures held { (t : Thing) → holds self.new.places t ≡ (waits t result.1.items || holds self.old.places t) }
+        ensures held { (t : Thing) → holds self.new.places t ≡ (waits t taken.new.items || holds self.old.places t) }
     {
         let arrival = self.arrive(frame);
         // A copy, since the borrow checker takes an arrival that was passed for lent.
         let told = arrival;
-        (told, self.settle(arrival))
+        self.settle(arrival, taken);
+        told
     }
 
     // The frame's own message alone: what it brings is held.
@@ -203,29 +207,31 @@ impl Channel {
     }
 
     // The messages that are taken with what arrived, which is held by now: none, or that one and what follows it.
-    fn settle(&mut self, arrival: Arrival) -> ArrayVec<Msg, MAX_KEPT>
-        ensures messages { result.items ≡ with_following arrival (following most_following self.old) }
+    fn settle(&mut self, arrival: Arrival, taken: &mut ArrayVec<Msg, MAX_KEPT>)
+        ensures messages { taken.new.items ≡ with_following arrival (following most_following self.old) }
         ensures channel { self.new ≡ settled arrival self.old }
     {
+        taken.clear();
         match arrival {
-            Arrival::Fresh(first) => self.follow_all(first),
-            _ => ArrayVec::new(),
+            Arrival::Fresh(first) => {
+                taken.push(first);
+                self.follow_all(taken);
+            }
+            _ => {}
         }
     }
 
-    fn follow_all(&mut self, first: Msg) -> ArrayVec<Msg, MAX_KEPT>
-        ensures messages { result.items ≡ first ∷ following most_following self.old }
+    fn follow_all(&mut self, taken: &mut ArrayVec<Msg, MAX_KEPT>)
+        requires { length taken.old.items ≡ 1 }
+        ensures messages { taken.new.items ≡ taken.old.items ++ following most_following self.old }
         ensures channel { self.new ≡ followed most_following self.old }
     {
-        let mut taken = ArrayVec::new();
-        taken.push(first);
         for _ in 1..MAX_KEPT {
             match self.follow() {
                 Some(msg) => taken.push(msg),
                 None => break,
             }
         }
-        taken
     }
 
     // Takes what is kept of the next number, so that it is held. What would be a breach is thrown out.

@@ -13,10 +13,10 @@ loop-preserved c =
     let some : follows s ≡ Some m = sym c.follow.ensures.follows ∙ c.in-Some.is in (
       c.loop.invariant.0 ∙ ap (λ (l : List Msg). c.loop.taken.items ++ l) (message_follows s (most_following + 1 - c.loop.counter) left m more some)
           ∙ sym (append_assoc c.loop.taken.items (m ∷ []) (following left (after_kept s)))
-          ∙ ap (λ (l : List Msg). l ++ following left (after_kept s)) (sym c.push-in-Some.ensures.items)
-          ∙ ap (λ (x : ChannelState). c.push-in-Some.new.self.items ++ following left x) (sym c.follow.ensures.channel),
+          ∙ ap (λ (l : List Msg). l ++ following left (after_kept s)) (sym c.push.ensures.items)
+          ∙ ap (λ (x : ChannelState). c.push.new.self.items ++ following left x) (sym c.follow.ensures.channel),
       c.loop.invariant.1 ∙ followed_more s (most_following + 1 - c.loop.counter) left m more some ∙ ap (λ (x : ChannelState). followed left x) (sym c.follow.ensures.channel),
-      omega (arith, c.loop.invariant.2, ap length c.push-in-Some.ensures.items, length-append c.loop.taken.items (m ∷ [])),
+      omega (arith, c.loop.invariant.2, ap length c.push.ensures.items, length-append c.loop.taken.items (m ∷ [])),
     )
 
 pub returns-in-None-clause-messages : goal.returns-in-None-clause-messages

@@ -10,7 +10,7 @@ pub returns-in-Fresh-clause-taken : goal.returns-in-Fresh-clause-taken
 returns-in-Fresh-clause-taken c =
     let fresh = sym c.in-Fresh.is ∙ c.accept-arrival.ensures.arrival in
     let ms = following most_following (after_frame c.args.self.now c.args.frame.now) in
-    subst (λ (a : Arrival). Tells (Fresh c.accept-arrival.result.1) a ms) fresh (c.accept-arrival.ensures.messages ∙ ap (λ (a : Arrival). with_following a ms) (sym fresh))
+    subst (λ (a : Arrival). Tells (Fresh c.accept-arrival.new.taken) a ms) fresh (c.accept-arrival.ensures.messages ∙ ap (λ (a : Arrival). with_following a ms) (sym fresh))
 
 pub returns-in-Fresh-clause-held : goal.returns-in-Fresh-clause-held
 returns-in-Fresh-clause-held c t = c.accept-arrival.ensures.held t
