@@ -1,28 +1,16 @@
 //! What a plan says of one office, one pair and one record.
 
-ghost use Rattle.std.specs.Prelude.{◌≡◌, IfOk};
+ghost use Rattle.std.specs.Prelude.{◌≡◌};
 
 use crate::ids::OfficeId;
 use crate::word::Word;
 use bottle_values::Value;
-use std::alloc::{AllocError, Global};
 
 /// An office's name, and its address or `-`.
 #[derive(Drop)]
 pub struct OfficeEntry {
     pub name: Word,
     pub address: Word,
-}
-
-impl OfficeEntry {
-    /// An entry equal to this one.
-    pub fn copy(&self, alloc: Global) -> Result<OfficeEntry, AllocError>
-        ensures { IfOk result (λ o. o ≡ self.now) }
-    {
-        let name = self.name.copy(alloc)?;
-        let address = self.address.copy(alloc)?;
-        Ok(OfficeEntry { name, address })
-    }
 }
 
 /// Two neighbours in the order of their line, and which of them has the fork at the start.
@@ -115,19 +103,5 @@ impl RecordEntry {
         } else {
             self.second
         }
-    }
-
-    /// An entry equal to this one.
-    pub fn copy(&self, alloc: Global) -> Result<RecordEntry, AllocError>
-        ensures { IfOk result (λ r. r ≡ self.now) }
-    {
-        let name = self.name.copy(alloc)?;
-        Ok(RecordEntry {
-            name,
-            first: self.first,
-            second: self.second,
-            value: self.value,
-            starts_at_first: self.starts_at_first,
-        })
     }
 }

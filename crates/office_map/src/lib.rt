@@ -29,7 +29,8 @@
 //! it has no ring (clause `accepted`), so that its offices have an order ([`Plan::order`]).
 //! Contracts see a plan as its tables alone, one
 //! `Rattle.office_map.specs.PlanValue.PlanValue`. A record is found by its name in
-//! constant time, and an office's neighbours and records are stored lists.
+//! constant time, and an office's neighbours and records are stored lists. Copies of a plan
+//! share all of it ([`Plan::copy`]).
 //!
 //! It stands on `text_lines`, for lines, words, names and numbers, on `bottle_values`, for what an
 //! answer is unless memory runs out, and on `thiserror`, for the messages of its faults. Definitions:
@@ -42,8 +43,8 @@
 //! - `specs/Address.antt`: which words are addresses.
 //! - `specs/Limits.antt`: the limits; the code has its own, [`limits`].
 //!
-//! Not said: which of several rings is told; that a record is found in constant time; that a plan has the office or the
-//! record of a number in hand. `Memory` may stand in place of each answer.
+//! Not said: which of several rings is told; that a record is found in constant time; that a copy takes no memory; that a plan
+//! has the office or the record of a number in hand. `Memory` may stand in place of each answer.
 #![tactic(auto)]
 
 mod address;

@@ -12,11 +12,21 @@ use crate::read::read_entries;
 use bottle_values::Value;
 use std::alloc::{AllocError, Global};
 use std::marker::Model;
+use std::sync::Arc;
 
 /// An accepted plan, seen as its tables. Offices and records are numbered from 0 in the
 /// order of their lines.
+///
+/// Each office keeps a plan, and nothing ever changes one. So copies share what the plan says: a
+/// plan is one word, and its copy counts one owner more; the count is one that threads may share.
 #[derive(Drop)]
 pub struct Plan {
+    said: Arc<Said>,
+}
+
+/// What a plan says: its tables, and what is found from them once, when it is read.
+#[derive(Drop)]
+struct Said {
     tables: PlanEntries,
     index: Vec<OfficeIndex>,
     order: Vec<OfficeId>,
@@ -24,6 +34,7 @@ pub struct Plan {
 
 impl Model for Plan {
     ghost use Rattle.std.specs.Prelude.{◌≡◌};
+    ghost use Rattle.std.specs.Arc.{arc_value};
     ghost use Rattle.office_map.specs.PlanValue.{PlanValue};
     ghost use Rattle.office_map.specs.refinement.OfficeIndex.{index_of};
     ghost use Rattle.office_map.specs.Precedence.{IsLeastFirst};
@@ -31,9 +42,9 @@ impl Model for Plan {
 
     ghost Value = { PlanValue };
 
-    ghost view = { λ p. p.tables };
+    ghost view = { λ p. (arc_value p.said).tables };
 
-    ghost invariant = { λ p. (p.index.items ≡ index_of p.tables) × IsLeastFirst p.tables p.order.items × IsComplete p.tables };
+    ghost invariant = { λ p. ((arc_value p.said).index.items ≡ index_of (arc_value p.said).tables) × IsLeastFirst (arc_value p.said).tables (arc_value p.said).order.items × IsComplete (arc_value p.said).tables };
 }
 
 impl Plan {
@@ -55,24 +66,24 @@ impl Plan {
         let tables = read_entries(alloc, text)?;
         let order = order(alloc, &tables)?;
         let index = index(alloc, &tables)?;
-        Ok(Plan {
+        let said = Said {
             tables,
             index,
             order,
-        })
+        };
+        let said = Arc::new(alloc, said)?;
+        Ok(Plan { said })
     }
 
     /// A plan equal to this one.
-    pub fn copy(&self, alloc: Global) -> Result<Plan, AllocError>
+    ///
+    /// It shares what this one says, so that it takes no memory. It is refused only where a plan
+    /// has as many owners as can be counted.
+    pub fn copy(&self, _alloc: Global) -> Result<Plan, AllocError>
         ensures { IfOk result (λ p. p ≡ self.now) }
     {
-        let tables = self.tables.copy(alloc)?;
-        let index = index(alloc, &tables)?;
-        let order = Vec::from_slice(alloc, &self.order)?;
         Ok(Plan {
-            tables,
-            index,
-            order,
+            said: Arc::try_clone(&self.said)?,
         })
     }
 
@@ -81,14 +92,14 @@ impl Plan {
     pub fn order(&self, alloc: Global) -> Result<Vec<OfficeId>, AllocError>
         ensures { IfOk result (λ v. IsLeastFirst self.now v.items) }
     {
-        Vec::from_slice(alloc, self.order.as_slice())
+        Vec::from_slice(alloc, self.said.order.as_slice())
     }
 
     /// The run's number, which stands in every frame.
     pub fn run(&self) -> u32
         ensures { result ≡ self.now.run }
     {
-        self.tables.run()
+        self.said.tables.run()
     }
 
     /// How many offices there are.
@@ -98,7 +109,7 @@ impl Plan {
         ensures consistent { IsConsistent self.now }
         ensures accepted { IsAccepted self.now }
     {
-        self.tables.offices().len()
+        self.said.tables.offices().len()
     }
 
     /// How many records there are.
@@ -106,7 +117,7 @@ impl Plan {
         ensures count { result ≡ length self.now.records }
         ensures numbered { result < 2 ^ 16 }
     {
-        self.tables.records().len()
+        self.said.tables.records().len()
     }
 
     /// The neighbours of an office, the least number first.
@@ -117,7 +128,7 @@ impl Plan {
         ensures offices { All (λ other. other < length self.now.offices) result.now }
         ensures consistent { IsConsistent self.now }
     {
-        self.index[id.index()].neighbours()
+        self.office_index(id).neighbours()
     }
 
     /// The records of an office, the least number first.
@@ -129,14 +140,14 @@ impl Plan {
         ensures few { length result.now ≤ most_offices * most_pair_records }
         ensures increase { AllPairs (λ r s. r < s) result.now }
     {
-        self.index[id.index()].records()
+        self.office_index(id).records()
     }
 
     /// Whether these two are neighbours.
     pub fn are_neighbours(&self, a: OfficeId, b: OfficeId) -> bool
         ensures { result ≡ are_neighbours self.now a b }
     {
-        self.tables.are_neighbours(a, b)
+        self.said.tables.are_neighbours(a, b)
     }
 
     /// The end of two neighbours at which their fork starts.
@@ -145,14 +156,14 @@ impl Plan {
         ensures end { fork_end_of self.now a b ≡ Some result }
         ensures either { (result ≡ a) ⊎ (result ≡ b) }
     {
-        self.tables.fork_end(a, b)
+        self.said.tables.fork_end(a, b)
     }
 
     /// Whether this office is an end of this record; false where the plan has no such record.
     pub fn has_end(&self, id: RecordId, office: OfficeId) -> bool
         ensures { result ≡ is_end self.now id office }
     {
-        self.tables.has_end(id, office)
+        self.said.tables.has_end(id, office)
     }
 
     /// The ends of a record, in the order of its line.
@@ -227,21 +238,29 @@ impl Plan {
     pub fn office_named(&self, name: &str) -> Option<OfficeId>
         ensures { result ≡ office_named self.now name.now }
     {
-        self.tables.office_named(name)
+        self.said.tables.office_named(name)
     }
 
     /// The record with this name.
     pub fn record_named(&self, name: &str) -> Option<RecordId>
         ensures { result ≡ record_named self.now name.now }
     {
-        self.tables.record_named(name)
+        self.said.tables.record_named(name)
+    }
+
+    fn office_index(&self, id: OfficeId) -> &OfficeIndex
+        requires { id < length self.now.offices }
+        ensures lists { result.now ≡ (neighbours_of self.now id, records_of self.now id) }
+        ensures consistent { IsConsistent self.now }
+    {
+        &self.said.index[id.index()]
     }
 
     fn office(&self, id: OfficeId) -> &OfficeEntry
         requires { id < length self.now.offices }
         ensures { slice_get self.now.offices id ≡ Some result.now }
     {
-        &self.tables.offices()[id.index()]
+        &self.said.tables.offices()[id.index()]
     }
 
     fn record(&self, r: RecordId) -> &RecordEntry
@@ -249,6 +268,6 @@ impl Plan {
         ensures entry { slice_get self.now.records r ≡ Some result.now }
         ensures ends { HasEnds self.now result.now.first result.now.second }
     {
-        &self.tables.records()[r.index()]
+        &self.said.tables.records()[r.index()]
     }
 }

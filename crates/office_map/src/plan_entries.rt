@@ -1,7 +1,7 @@
 //! The tables of a plan, while its lines are read and afterwards.
 
 ghost use Rattle.bottle_values.specs.Values.{Number};
-ghost use Rattle.std.specs.Prelude.{◌≡◌, ◌<◌, [], length, Some, IfOk, IsTrue};
+ghost use Rattle.std.specs.Prelude.{◌≡◌, ◌<◌, [], length, Some, IsTrue};
 ghost use Rattle.std.specs.List.{list_any};
 ghost use Rattle.std.specs.Str.{bytes_eq};
 ghost use Rattle.office_map.specs.refinement.RecordCounts.{pair_index};
@@ -16,7 +16,7 @@ use crate::new_entries::{NewOffice, NewPair, NewRecord};
 use crate::records::RecordTable;
 use crate::word::Word;
 use bottle_values::Value;
-use std::alloc::{AllocError, Global};
+use std::alloc::Global;
 use std::marker::Model;
 
 /// How many places there are for any two offices.
@@ -279,22 +279,6 @@ impl PlanEntries {
     {
         self.counts[pair_index(a, b)] as usize
     }
-
-    pub fn copy(&self, alloc: Global) -> Result<PlanEntries, AllocError>
-        ensures { IfOk result (λ t. t ≡ self.now) }
-    {
-        let offices = copied(alloc, &self.offices)?;
-        let pairs = Vec::from_slice(alloc, &self.pairs)?;
-        let records = self.records.copy(alloc)?;
-        Ok(PlanEntries {
-            run: self.run,
-            offices,
-            pairs,
-            records,
-            counts: self.counts,
-            joined: self.joined,
-        })
-    }
 }
 
 /// Where what is kept of two offices stands.
@@ -308,14 +292,4 @@ fn pair_index(a: OfficeId, b: OfficeId) -> usize
     } else {
         MOST_OFFICES * b.index() + a.index()
     }
-}
-
-fn copied(alloc: Global, offices: &[OfficeEntry]) -> Result<Vec<OfficeEntry>, AllocError>
-    ensures { IfOk result (λ v. v.items ≡ offices.now) }
-{
-    let mut copy = Vec::new(alloc);
-    for office in offices {
-        copy.push(office.copy(alloc)?)?;
-    }
-    Ok(copy)
 }

@@ -1,6 +1,6 @@
 //! The records of a plan, by number and by name.
 
-ghost use Rattle.std.specs.Prelude.{◌≡◌, ◌∷◌, [], ◌++◌, ◌<◌, length, slice_get, Some, OnOk, OnErr, IfOk, position};
+ghost use Rattle.std.specs.Prelude.{◌≡◌, ◌∷◌, [], ◌++◌, ◌<◌, length, slice_get, Some, OnOk, OnErr, position};
 ghost use Rattle.std.specs.Str.{bytes_eq};
 ghost use Rattle.office_map.specs.declared.entries.RecordEntry.{RecordEntry};
 
@@ -72,17 +72,5 @@ impl RecordTable {
         self.numbers.entry(name)?.or_insert(number);
         self.entries.push(entry)?;
         Ok(())
-    }
-
-    pub fn copy(&self, alloc: Global) -> Result<RecordTable, AllocError>
-        requires { length self.now < 65536 }
-        ensures { IfOk result (λ t. t ≡ self.now) }
-    {
-        let mut copy = RecordTable::new(alloc);
-        for entry in &self.entries {
-            let entry = entry.copy(alloc)?;
-            copy.push(alloc, entry)?;
-        }
-        Ok(copy)
     }
 }

@@ -43,10 +43,4 @@ impl Word {
     {
         is_same_word(self.as_str().as_bytes(), text.as_bytes())
     }
-
-    pub fn copy(&self, alloc: Global) -> Result<Word, AllocError>
-        ensures { IfOk result (λ w. w ≡ self.now) }
-    {
-        Word::of(alloc, self.as_str())
-    }
 }

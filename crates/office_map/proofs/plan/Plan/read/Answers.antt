@@ -11,11 +11,11 @@ returns-in_err-tables-clause-line c =
 pub returns-clause-accepted : goal.returns-clause-accepted
 returns-clause-accepted c =
     let complete : IsComplete c.in_ok-tables.tables = complete_plan c.args.text.now c.in_ok-tables.tables c.in_ok-tables.ensures in
-    record {
+    rw c.in_ok-said.ensures.ok record {
       consistent = complete.0;
       two_offices = complete.1;
       no_ring = record { order = c.in_ok-order.order.items; is = c.in_ok-order.ensures.is_order };
     }
 
 pub invariant_of-result : goal.invariant_of-result
-invariant_of-result c = (c.in_ok-index.ensures, c.in_ok-order.ensures, complete_plan c.args.text.now c.in_ok-tables.tables c.in_ok-tables.ensures)
+invariant_of-result c = rw c.in_ok-said.ensures.ok (c.in_ok-index.ensures, c.in_ok-order.ensures, complete_plan c.args.text.now c.in_ok-tables.tables c.in_ok-tables.ensures)
