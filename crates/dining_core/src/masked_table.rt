@@ -1,6 +1,7 @@
 //! A table with masks beside it: what is done next of it, without a look at each neighbour.
 
 ghost use Rattle.std.specs.Prelude.{◌≡◌, ◌<◌, ◌↔◌, ℕ, length, IsErr, IfOk, OnOk, OnErr, true, false, ◌&&◌};
+ghost use Rattle.std.specs.List.{list_all};
 ghost use Rattle.bit_masks.specs.Sets.{is_in16, IsLeast};
 ghost use Rattle.bottle_values.specs.Lists.{is_among};
 ghost use Rattle.dining_core.specs.Diners.{BecomeHungry, AskFork, GiveFork, Eat, Leave, may, act, with_token, with_fork, diner_at_start};
@@ -20,8 +21,8 @@ use std::marker::Model;
 ///
 /// Flags stand twice: the plain type keeps its contracts and proofs, each call is the plain one and a bit or a word
 /// more, and what comes next is found in a word. The masks are in the type's invariant, and no contract mentions them.
-/// To take the flags out of the places is a step of its own: `finish` and `withdraw` of a bar would gain by it, which
-/// go through all places.
+/// Of a bar the records that are needed stand in a mask alone, since all of them are freed at once; a table has nothing
+/// of this kind but what eating makes dirty.
 #[derive(Drop)]
 pub struct MaskedTable {
     table: Table,
@@ -49,7 +50,7 @@ impl MaskedTable {
         ensures { IfOk result (λ t. diner_of t ≡ diner_at_start plan.now id) }
     {
         let table = Table::open(alloc, plan, id)?;
-        let near = near_in(&table);
+        let near = near_in(plan.neighbours(id));
         let held = held_in(&table);
         let tokens = tokens_in(&table);
         Ok(MaskedTable {
@@ -90,6 +91,20 @@ impl MaskedTable {
         self.near.and(self.tokens.and_not(self.held)).first()
     }
 
+    /// Whether [`MaskedTable::eat`] would be done now.
+    pub fn may_eat(&self) -> bool
+        ensures { result ≡ may (diner_of self.now) Eat }
+    {
+        matches!(self.table.phase(), Phase::Hungry) && self.has_all()
+    }
+
+    // Whether the fork of each neighbour is here.
+    fn has_all(&self) -> bool
+        ensures { result ≡ list_all (diner_of self.now).held (diner_of self.now).neighbours }
+    {
+        self.near.and_not(self.held).first().is_none()
+    }
+
     /// A thinking office that is thirsty becomes hungry.
     pub fn hungry(&mut self, thirsty: bool) -> Result<(), NotNow>
         ensures not_now { IsErr result ↔ (may (diner_of self.old) (BecomeHungry thirsty) ≡ false) }
@@ -128,7 +143,10 @@ impl MaskedTable {
         ensures done { OnOk result (diner_of self.new ≡ act (diner_of self.old) Eat) }
         ensures unchanged { OnErr result (self.new ≡ self.old) }
     {
-        self.table.eat()?;
+        if !self.may_eat() {
+            return Err(NotNow);
+        }
+        self.table.begin_to_eat();
         self.clean = Mask16::empty();
         Ok(())
     }
@@ -165,11 +183,11 @@ impl MaskedTable {
     }
 }
 
-fn near_in(table: &Table) -> Mask16
-    ensures { Tells result (is_among (diner_of table.now).neighbours) }
+fn near_in(neighbours: &[OfficeId]) -> Mask16
+    ensures { Tells result (is_among neighbours.now) }
 {
     let mut mask = Mask16::empty();
-    for v in table.neighbours() {
+    for v in neighbours {
         mask.set(v.number() as u32);
     }
     mask

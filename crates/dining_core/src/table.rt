@@ -175,9 +175,16 @@ impl Table {
         if !self.may_eat() {
             return Err(NotNow);
         }
+        self.begin_to_eat();
+        Ok(())
+    }
+
+    // The office eats, whatever its guard says, and each of its forks is dirty.
+    pub(crate) fn begin_to_eat(&mut self)
+        ensures { diner_of self.new ≡ act (diner_of self.old) Eat }
+    {
         self.phase = Phase::Eating;
         places::use_all(&mut self.places);
-        Ok(())
     }
 
     /// An eating office that isn't thirsty thinks again.

@@ -1,16 +1,18 @@
 -- What a changed bar means, and that it stays kept.
-use Rattle.std.proofs.Common.{◌≡◌, ℕ, zero, suc, ◌+◌, ◌-◌, ◌<◌, ◌≤◌, Bool, true, false, ◌&&◌, cond, List, [], ◌∷◌, length, Option, None, Some, is_some, refl, sym, ap, ◌∙◌, arith, ⊎_elim, set}
+use Rattle.std.proofs.Common.{◌≡◌, ℕ, zero, suc, ◌<◌, Bool, true, false, ◌&&◌, cond, List, [], ◌∷◌, length, Option, is_some, refl, sym, ap, ◌∙◌, subst, arith, ⊎_elim, set}
 use Rattle.std.proofs.lemmas.Bool.{eq-eqb, ne_eqb, cases_eq}
 use Rattle.std.proofs.lemmas.List.{get_or-set_same, get_or-set_other, length-set}
 use mathlib.Core.Path.{fun_ext}
+use Rattle.bit_masks.specs.declared.mask128.Mask128.{Mask128}
 use Rattle.bottle_values.specs.Values.{Value}
 use Rattle.bottle_values.specs.Maps.{put}
 use Rattle.drinking_core.specs.declared.phase.Phase.{Phase}
 use Rattle.drinking_core.specs.declared.shared_bottle.SharedBottle.{SharedBottle}
 use Rattle.drinking_core.specs.Drinkers.{Drinker}
-use Rattle.drinking_core.specs.refinement.Bars.{drinker_of, place_at, nothing, needed_in, bottle_in, token_in, peer_in, is_missing, IsBarOf}
-use Rattle.drinking_core.proofs.MissingCount.{count_set, count_at, here_counts, away_counts}
-use Rattle.bottle_values.specs.Lists.{num}
+use Rattle.drinking_core.specs.refinement.Bars.{drinker_of, place_at, nothing, bottle_in, token_in, peer_in, IsBarOf}
+use Rattle.drinking_core.specs.refinement.Masks.{spot_in, bit_in, Tells}
+use Rattle.drinking_core.proofs.MaskUpdates.{IsPut, bit_put, same_place, Tells_held}
+use Rattle.bottle_values.specs.Lists.{is_among}
 
 -- one place changed, and what is asked of it
 pub seen_put : {X : Type 0} (f : SharedBottle → X) (ps : List SharedBottle) (v : ℕ) (p : SharedBottle) → v < length ps → ◌≡◌ {A = ℕ → X} (λ u. f (place_at (set ps v p) u)) (put (λ u. f (place_at ps u)) v (f p))
@@ -39,23 +41,23 @@ made_same rs ph n n' b b' t t' p p' en eb et ep =
     (ap (λ x. made rs ph x b t p) en ∙ ap (λ x. made rs ph n' x t p) eb ∙ ap (λ x. made rs ph n' b' x p) et ∙ ap (λ x. made rs ph n' b' t' x) ep)
 
 -- a request token came or went
-pub token_put : (rs : List ℕ) (ph : Phase) (ps : List SharedBottle) (r : ℕ) (p : SharedBottle) (x : Bool) → r < length ps → p ≡ place_at ps r →
-    drinker_of (record { records = rs; phase = ph; places = set ps r (record { needed = p.needed; bottle = p.bottle; token = x; peer = p.peer }) }) ≡ record { records = rs; phase = ph; needed = needed_in ps; bottle = bottle_in ps; token = put (token_in ps) r x; peer = peer_in ps }
-token_put rs ph ps r p x lt is =
-    let q : SharedBottle = record { needed = p.needed; bottle = p.bottle; token = x; peer = p.peer } in
+pub token_put : (rs ss : List ℕ) (ph : Phase) (n : Mask128) (ps : List SharedBottle) (r : ℕ) (p : SharedBottle) (x : Bool) → r < length ps → p ≡ place_at ps r →
+    drinker_of (record { records = rs; spots = ss; phase = ph; needed = n; places = set ps r (record { bottle = p.bottle; token = x; peer = p.peer }) }) ≡ record { records = rs; phase = ph; needed = bit_in ss n; bottle = bottle_in ps; token = put (token_in ps) r x; peer = peer_in ps }
+token_put rs ss ph n ps r p x lt is =
+    let q : SharedBottle = record { bottle = p.bottle; token = x; peer = p.peer } in
     made_same rs ph _ _ _ _ _ _ _ _
-    (kept_put (λ (y : SharedBottle). y.needed) ps r q lt (ap (λ (y : SharedBottle). y.needed) (sym is)))
+    refl
     (kept_put (λ (y : SharedBottle). y.bottle) ps r q lt (ap (λ (y : SharedBottle). y.bottle) (sym is)))
     (seen_put (λ (y : SharedBottle). y.token) ps r q lt)
     (kept_put (λ (y : SharedBottle). y.peer) ps r q lt (ap (λ (y : SharedBottle). y.peer) (sym is)))
 
 -- a bottle came or went
-pub bottle_put : (rs : List ℕ) (ph : Phase) (ps : List SharedBottle) (r : ℕ) (p : SharedBottle) (x : Option Value) → r < length ps → p ≡ place_at ps r →
-    drinker_of (record { records = rs; phase = ph; places = set ps r (record { needed = p.needed; bottle = x; token = p.token; peer = p.peer }) }) ≡ record { records = rs; phase = ph; needed = needed_in ps; bottle = put (bottle_in ps) r x; token = token_in ps; peer = peer_in ps }
-bottle_put rs ph ps r p x lt is =
-    let q : SharedBottle = record { needed = p.needed; bottle = x; token = p.token; peer = p.peer } in
+pub bottle_put : (rs ss : List ℕ) (ph : Phase) (n : Mask128) (ps : List SharedBottle) (r : ℕ) (p : SharedBottle) (x : Option Value) → r < length ps → p ≡ place_at ps r →
+    drinker_of (record { records = rs; spots = ss; phase = ph; needed = n; places = set ps r (record { bottle = x; token = p.token; peer = p.peer }) }) ≡ record { records = rs; phase = ph; needed = bit_in ss n; bottle = put (bottle_in ps) r x; token = token_in ps; peer = peer_in ps }
+bottle_put rs ss ph n ps r p x lt is =
+    let q : SharedBottle = record { bottle = x; token = p.token; peer = p.peer } in
     made_same rs ph _ _ _ _ _ _ _ _
-    (kept_put (λ (y : SharedBottle). y.needed) ps r q lt (ap (λ (y : SharedBottle). y.needed) (sym is)))
+    refl
     (seen_put (λ (y : SharedBottle). y.bottle) ps r q lt)
     (kept_put (λ (y : SharedBottle). y.token) ps r q lt (ap (λ (y : SharedBottle). y.token) (sym is)))
     (kept_put (λ (y : SharedBottle). y.peer) ps r q lt (ap (λ (y : SharedBottle). y.peer) (sym is)))
@@ -66,45 +68,45 @@ token_within [] r e = cc
 token_within (p ∷ ps) zero e = omega arith
 token_within (p ∷ ps) (suc r) e = omega (arith, token_within ps r e)
 
--- one place changed, and not whether it is needed
-pub kept_set : (rs : List ℕ) (ph : Phase) (ps : List SharedBottle) (m m' r : ℕ) (p : SharedBottle) → IsBarOf rs ph ps m → r < length ps → p.needed ≡ needed_in ps r → m' + num (is_missing (place_at ps r)) ≡ m + num (is_missing p) →
-    IsBarOf rs ph (set ps r p) m'
-kept_set rs ph ps m m' r p k lt same e = record {
-  within = λ q a. omega (arith, k.within q a, length-set ps r p);
-  ours = λ q n. k.ours q (sym (at q) ∙ n);
-  idle = λ t q. at q ∙ k.idle t q;
-  counted = omega (arith, e, k.counted, count_set ps r p lt);
-}
-  where
-    at : (q : ℕ) → needed_in (set ps r p) q ≡ needed_in ps q
-    at q = ap (λ (f : ℕ → Bool). f q) (kept_put (λ (y : SharedBottle). y.needed) ps r p lt (sym same))
-
 -- a place that may be asked for, or is owed
-pub asked_token : (n h t : Bool) → (n && (h && t)) ≡ true → t ≡ true
-asked_token true true t e = e
-asked_token true false t e = cc
-asked_token false h t e = cc
+pub asked_token : (h t : Bool) → (h && t) ≡ true → t ≡ true
+asked_token true t e = e
+asked_token false t e = cc
 
 pub owed_parts : (t h : Bool) → (t && h) ≡ true → (t ≡ true) × (h ≡ true)
 owed_parts true h e = (refl, e)
 owed_parts false h e = cc
 
--- a bottle that comes was missing, where it is needed; one that goes is missing from then on
-abbrev with_bottle_place : SharedBottle → Option Value → SharedBottle
-with_bottle_place p x = record { needed = p.needed; bottle = x; token = p.token; peer = p.peer }
+-- ---- the bar stays kept
 
-pub enough : (rs : List ℕ) (ph : Phase) (ps : List SharedBottle) (m w r : ℕ) (p : SharedBottle) → IsBarOf rs ph ps m → r < length ps → p ≡ place_at ps r → is_some p.bottle ≡ false → w ≡ num p.needed → w ≤ m
-enough rs ph ps m w r p k lt is away e =
-    omega (arith, e, away_counts p.needed p.bottle away, ap (λ (y : SharedBottle). num (is_missing y)) is, count_at ps r lt, k.counted)
+within_set : (rs : List ℕ) (ps : List SharedBottle) (r : ℕ) (p : SharedBottle) → ((q : ℕ) → is_among rs q ≡ true → q < length ps) → (q : ℕ) → is_among rs q ≡ true → q < length (set ps r p)
+within_set rs ps r p within q a = omega (arith, within q a, length-set ps r p)
 
-pub kept_came : (rs : List ℕ) (ph : Phase) (ps : List SharedBottle) (m w r : ℕ) (p : SharedBottle) (v : Value) → IsBarOf rs ph ps m → r < length ps → p ≡ place_at ps r → is_some p.bottle ≡ false → w ≡ num p.needed →
-    IsBarOf rs ph (set ps r (record { needed = p.needed; bottle = Some v; token = p.token; peer = p.peer })) (m - w)
-kept_came rs ph ps m w r p v k lt is away e =
-    kept_set rs ph ps m (m - w) r (with_bottle_place p (Some v)) k lt (ap (λ (y : SharedBottle). y.needed) is)
-    (omega (arith, e, enough rs ph ps m w r p k lt is away e, away_counts p.needed p.bottle away, ap (λ (y : SharedBottle). num (is_missing y)) is, here_counts p.needed (Some v) refl))
+-- where a request token came or went
+pub kept_token : (rs ss : List ℕ) (n h : Mask128) (ps : List SharedBottle) (r : ℕ) (p : SharedBottle) (x : Bool) → IsBarOf rs ss n h ps → r < length ps → p ≡ place_at ps r →
+    IsBarOf rs ss n h (set ps r (record { bottle = p.bottle; token = x; peer = p.peer }))
+kept_token rs ss n h ps r p x k lt is = record {
+  spotted = k.spotted;
+  within = within_set rs ps r (record { bottle = p.bottle; token = x; peer = p.peer }) k.within;
+  ours = k.ours;
+  here = subst (λ (f : ℕ → Option Value). Tells rs h (λ q. is_some (f q))) (sym same) k.here;
+}
+  where
+    same : bottle_in (set ps r (record { bottle = p.bottle; token = x; peer = p.peer })) ≡ bottle_in ps
+    same = kept_put (λ (y : SharedBottle). y.bottle) ps r (record { bottle = p.bottle; token = x; peer = p.peer }) lt (ap (λ (y : SharedBottle). y.bottle) (sym is))
 
-pub kept_gone : (rs : List ℕ) (ph : Phase) (ps : List SharedBottle) (m w r : ℕ) (p : SharedBottle) → IsBarOf rs ph ps m → r < length ps → p ≡ place_at ps r → is_some p.bottle ≡ true → w ≡ num p.needed →
-    IsBarOf rs ph (set ps r (record { needed = p.needed; bottle = None; token = p.token; peer = p.peer })) (m + w)
-kept_gone rs ph ps m w r p k lt is here e =
-    kept_set rs ph ps m (m + w) r (with_bottle_place p None) k lt (ap (λ (y : SharedBottle). y.needed) is)
-    (omega (arith, e, here_counts p.needed p.bottle here, ap (λ (y : SharedBottle). num (is_missing y)) is, away_counts p.needed None refl))
+-- where a bottle came or went, and its bit with it
+pub kept_bottle : (rs ss : List ℕ) (n h h' : Mask128) (ps : List SharedBottle) (r : ℕ) (p : SharedBottle) (x : Option Value) → IsBarOf rs ss n h ps → r < length ps → IsPut h h' (spot_in ss r) (is_some x) →
+    IsBarOf rs ss n h' (set ps r (record { bottle = x; token = p.token; peer = p.peer }))
+kept_bottle rs ss n h h' ps r p x k lt put_there = record {
+  spotted = k.spotted;
+  within = within_set rs ps r (record { bottle = x; token = p.token; peer = p.peer }) k.within;
+  ours = k.ours;
+  here = subst (λ (f : ℕ → Option Value). Tells rs h' (λ q. is_some (f q))) (sym same) told;
+}
+  where
+    same : bottle_in (set ps r (record { bottle = x; token = p.token; peer = p.peer })) ≡ put (bottle_in ps) r x
+    same = seen_put (λ (y : SharedBottle). y.bottle) ps r (record { bottle = x; token = p.token; peer = p.peer }) lt
+
+    told : Tells rs h' (λ q. is_some (put (bottle_in ps) r x q))
+    told = Tells_held rs h' (bottle_in ps) r x (bit_put rs r (spot_in ss r) k.spotted.few (λ j low. same_place rs ss k.spotted j r low) h h' (λ q. is_some (bottle_in ps q)) (is_some x) k.here put_there)

@@ -1,4 +1,3 @@
-mod MissingCount
 mod BarUpdates
 mod OpeningRefines
 mod SessionUpdates
@@ -8,6 +7,5 @@ mod BottleLaws
 mod UnknownRecords
 mod BottlePlaces
 mod DrinkersNeeds
-mod FreedRecords
 mod Standstill
 mod MaskUpdates

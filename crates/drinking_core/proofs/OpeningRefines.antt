@@ -1,5 +1,5 @@
 -- The bar of an opening is the office that the plan opens.
-use Rattle.std.proofs.Common.{◌≡◌, ℕ, ◌<◌, Bool, true, false, cond, List, [], ◌∷◌, length, map, Option, None, Some, sym, ap, ◌∙◌, arith, ⊎_elim}
+use Rattle.std.proofs.Common.{◌≡◌, ℕ, ◌<◌, Bool, true, false, cond, List, [], ◌∷◌, length, map, Option, None, Some, is_some, sym, ap, ◌∙◌, subst, arith, ⊎_elim}
 use Rattle.std.specs.Prelude.{◌==◌, option_map, All}
 use Rattle.std.specs.List.{range_with_len}
 use Rattle.std.proofs.lemmas.Bool.{ne_eqb, eq-eqb, eqb-true, cases_lt, or_cases}
@@ -8,14 +8,16 @@ use Rattle.std.proofs.lemmas.List.Elements.{All-head, All-tail}
 use Rattle.std.proofs.lemmas.List.{get_or_past}
 use Rattle.std.proofs.lemmas.List.FromFn.{length-map-range_with_len, get_or-map-range_with_len}
 use mathlib.Core.Path.{fun_ext}
+use Rattle.bit_masks.specs.declared.mask128.Mask128.{Mask128}
 use Rattle.office_map.specs.declared.entries.RecordEntry.{RecordEntry}
 use Rattle.office_map.specs.PlanValue.{PlanValue, start_end, records_of, other_end}
 use Rattle.drinking_core.specs.declared.phase.Phase.TheVariants.{Tranquil}
 use Rattle.drinking_core.specs.declared.shared_bottle.SharedBottle.{SharedBottle}
 use Rattle.drinking_core.specs.Drinkers.{start_bottle, start_token, opened}
-use Rattle.drinking_core.specs.refinement.Bars.{start_place, place_at, nothing, drinker_of, needed_in, IsBarOf}
-use Rattle.drinking_core.proofs.MissingCount.{count_none}
+use Rattle.drinking_core.specs.refinement.Bars.{start_place, place_at, nothing, drinker_of, bottle_in, IsBarOf}
+use Rattle.drinking_core.specs.refinement.Masks.{AreSpots, Tells}
 use Rattle.drinking_core.proofs.BarUpdates.{made_same}
+use Rattle.drinking_core.proofs.MaskUpdates.{IsEmpty, none_in}
 use Rattle.bottle_values.specs.Lists.{is_among}
 use Rattle.std.specs.Option.{option_map_or}
 
@@ -49,15 +51,15 @@ start_at plan a r = ⊎_elim
     (cases_lt r (length plan.records))
   where
     none : ℕ → Option RecordEntry → SharedBottle
-    none a o = record { needed = false; bottle = start_bottle a o; token = start_token a o; peer = option_map_or (other_end a) o 0 }
+    none a o = record { bottle = start_bottle a o; token = start_token a o; peer = option_map_or (other_end a) o 0 }
 
-pub bar_starts : (plan : PlanValue) (a : ℕ) (rs : List ℕ) (ps : List SharedBottle) → rs ≡ records_of plan a → ps ≡ map (start_place plan a) (range_with_len 0 (length plan.records)) →
-    drinker_of (record { records = rs; phase = Tranquil; places = ps }) ≡ opened plan a
-bar_starts plan a rs ps ours places =
-    ap (λ l. drinker_of (record { records = l; phase = Tranquil; places = ps })) ours
-    ∙ ap (λ l. drinker_of (record { records = records_of plan a; phase = Tranquil; places = l })) places
+pub bar_starts : (plan : PlanValue) (a : ℕ) (rs ss : List ℕ) (n : Mask128) (ps : List SharedBottle) → rs ≡ records_of plan a → IsEmpty n → ps ≡ map (start_place plan a) (range_with_len 0 (length plan.records)) →
+    drinker_of (record { records = rs; spots = ss; phase = Tranquil; needed = n; places = ps }) ≡ opened plan a
+bar_starts plan a rs ss n ps ours empty places =
+    ap (λ l. drinker_of (record { records = l; spots = ss; phase = Tranquil; needed = n; places = ps })) ours
+    ∙ ap (λ l. drinker_of (record { records = records_of plan a; spots = ss; phase = Tranquil; needed = n; places = l })) places
     ∙ made_same (records_of plan a) Tranquil _ _ _ _ _ _ _ _
-    (fun_ext (λ r. ap (λ (p : SharedBottle). p.needed) (start_at plan a r)))
+    (fun_ext (none_in ss n empty))
     (fun_ext (λ r. ap (λ (p : SharedBottle). p.bottle) (start_at plan a r)))
     (fun_ext (λ r. ap (λ (p : SharedBottle). p.token) (start_at plan a r)))
     (fun_ext (λ r. ap (λ (p : SharedBottle). p.peer) (start_at plan a r)))
@@ -69,16 +71,14 @@ among_within n (r ∷ rs) q h e = ⊎_elim
     (λ s. among_within n rs q (All-tail (λ k. k < n) r rs h) s)
     (or_cases (r == q) (is_among rs q) e)
 
-pub kept_opening : (plan : PlanValue) (a : ℕ) (rs : List ℕ) (ps : List SharedBottle) → All (λ r. r < length plan.records) rs → ps ≡ map (start_place plan a) (range_with_len 0 (length plan.records)) → IsBarOf rs Tranquil ps 0
-kept_opening plan a rs ps h places = record {
-  within = λ q e. omega (arith, among_within (length plan.records) rs q h e, ap length places, length-map-range_with_len (start_place plan a) 0 (length plan.records));
-  ours = λ q n. absurd (no (sym (free q) ∙ n));
-  idle = λ t. free;
-  counted = sym (count_none ps free);
-}
+pub kept_opening : (plan : PlanValue) (a : ℕ) (rs own ss : List ℕ) (n h : Mask128) (ps : List SharedBottle) → rs ≡ own → AreSpots own ss → All (λ r. r < length plan.records) own → IsEmpty n → Tells own h (λ r. is_some (bottle_in ps r)) →
+    ps ≡ map (start_place plan a) (range_with_len 0 (length plan.records)) → IsBarOf rs ss n h ps
+kept_opening plan a rs own ss n h ps copied spots known empty tells places = subst (λ l. IsBarOf l ss n h ps) (sym copied) (record {
+  spotted = spots;
+  within = λ q e. omega (arith, among_within (length plan.records) own q known e, ap length places, length-map-range_with_len (start_place plan a) 0 (length plan.records));
+  ours = λ k low e. absurd (no (sym (empty k) ∙ e));
+  here = tells;
+})
   where
-    free : (q : ℕ) → needed_in ps q ≡ false
-    free q = ap (λ (l : List SharedBottle). needed_in l q) places ∙ ap (λ (p : SharedBottle). p.needed) (start_at plan a q)
-
     no : false ≡ true → ⊥
     no e = absurd cc

@@ -6,11 +6,13 @@ ghost use Rattle.std.specs.Option.{ForSome, option_copied};
 ghost use Rattle.dining_core.specs.refinement.Tables.{diner_of};
 ghost use Rattle.drinking_core.specs.Drinkers.{Start, AskBottle, GiveBottle, Drink, Finish, Withdraw, may, act, with_token, with_bottle, is_served, is_drinking, holds, opened};
 ghost use Rattle.drinking_core.specs.refinement.Bars.{drinker_of};
+ghost use Rattle.drinking_core.specs.refinement.Masks.{IsSpot, Tells};
 ghost use Rattle.bottle_values.specs.Lists.{is_among};
 
 use crate::phase::Phase;
-use crate::places;
 use crate::shared_bottle::SharedBottle;
+use crate::{places, spots};
+use bit_masks::Mask128;
 use bottle_values::Value;
 use dining_core::{NotNow, Table};
 use office_map::{OfficeId, Plan, RecordId};
@@ -19,16 +21,19 @@ use std::marker::Model;
 
 /// The bottles of an office: which are here with their values, and how far the office is with its current session.
 ///
-/// It keeps a place for each record of the plan, and how many needed bottles aren't here: else the guard of `drink`
-/// would look at up to 120 records. The invariant ties that count to the places, and no contract mentions it. A bottle
-/// and its value are one thing: an office has a value only where it has the bottle, so none that is out of date can be
-/// told or sent.
+/// It keeps a place for each record of the plan, and of its own records, as bits, which are needed and whose bottles
+/// are here. So the guard of `drink` is one comparison, and the end of a session one store: else each would look at up
+/// to 120 records. Whether a record is needed stands in its bit alone. That its bottle is here stands in the place too:
+/// the invariant ties the bit to it, and no contract mentions that bit. A bottle and its value are one thing: an office
+/// has a value only where it has the bottle, so none that is out of date can be told or sent.
 #[derive(Drop)]
 pub struct Bar {
     records: Vec<RecordId>,
+    spots: Vec<u8>,
     phase: Phase,
+    needed: Mask128,
+    held: Mask128,
     places: Vec<SharedBottle>,
-    missing: usize,
 }
 
 impl Model for Bar {
@@ -36,9 +41,9 @@ impl Model for Bar {
 
     ghost Value = { BarValue };
 
-    ghost view = { λ b. record { records = b.records.items; phase = b.phase; places = b.places.items } };
+    ghost view = { λ b. record { records = b.records.items; spots = b.spots.items; phase = b.phase; needed = b.needed; places = b.places.items } };
 
-    ghost invariant = { λ b. IsBarOf b.records.items b.phase b.places.items b.missing };
+    ghost invariant = { λ b. IsBarOf b.records.items b.spots.items b.needed b.held b.places.items };
 }
 
 impl Bar {
@@ -47,13 +52,18 @@ impl Bar {
         requires { id < length plan.now.offices }
         ensures { IfOk result (λ b. drinker_of b ≡ opened plan.now id) }
     {
-        let records = plan.records_of(id).to_vec(alloc)?;
+        let ours = plan.records_of(id);
+        let records = ours.to_vec(alloc)?;
+        let spots = spots::open(alloc, plan.records(), ours)?;
         let places = places::open(alloc, plan, id)?;
+        let held = places::held_in(&places, ours);
         Ok(Bar {
             records,
+            spots,
             phase: Phase::Tranquil,
+            needed: Mask128::empty(),
+            held,
             places,
-            missing: 0,
         })
     }
 
@@ -74,14 +84,14 @@ impl Bar {
     pub fn needs(&self, r: RecordId) -> bool
         ensures { result ≡ (drinker_of self.now).needed r }
     {
-        places::at(&self.places, r).needed
+        spots::has(&self.spots, self.needed, r)
     }
 
     /// Whether no bottle is missing that the current session needs.
     pub fn has_needed(&self) -> bool
         ensures { result ≡ list_all (is_served (drinker_of self.now)) (drinker_of self.now).records }
     {
-        self.missing == 0
+        self.needed.and_not(self.held).first().is_none()
     }
 
     /// The value of a bottle that is here.
@@ -113,11 +123,32 @@ impl Bar {
         places::at(&self.places, r).peer
     }
 
+    /// Where a record stands among the office's own.
+    pub(crate) fn spot(&self, r: RecordId) -> u32
+        ensures { IsSpot (drinker_of self.now).records r result }
+    {
+        spots::spot(&self.spots, r)
+    }
+
+    /// The bits of the records that the session needs.
+    pub(crate) fn needed(&self) -> Mask128
+        ensures { Tells (drinker_of self.now).records result (drinker_of self.now).needed }
+    {
+        self.needed
+    }
+
+    /// The bits of the bottles that are here.
+    pub(crate) fn held(&self) -> Mask128
+        ensures { Tells (drinker_of self.now).records result (holds (drinker_of self.now)) }
+    {
+        self.held
+    }
+
     /// Whether [`Bar::ask_bottle`] would be done now.
     pub fn may_ask_bottle(&self, r: RecordId) -> bool
         ensures { result ≡ may (drinker_of self.now) (AskBottle r) }
     {
-        self.phase.is_thirsty() && places::at(&self.places, r).is_askable()
+        self.phase.is_thirsty() && self.needs(r) && places::at(&self.places, r).is_askable()
     }
 
     /// Whether [`Bar::give_bottle`] would be done now.
@@ -159,7 +190,7 @@ impl Bar {
             return Err(NotNow);
         }
         self.phase = Phase::Thirsty;
-        self.missing = places::need_all(&mut self.places, records);
+        self.needed = spots::mask_of(&self.spots, records);
         Ok(())
     }
 
@@ -170,6 +201,9 @@ impl Bar {
         ensures unchanged { OnErr result (self.new ≡ self.old) }
     {
         if !self.phase.is_thirsty() {
+            return Err(NotNow);
+        }
+        if !self.needs(r) {
             return Err(NotNow);
         }
         let place = places::at(&self.places, r);
@@ -185,7 +219,6 @@ impl Bar {
 
     /// An office sends a bottle that is asked for, with its value, unless its session needs the bottle and works, or
     /// needs it and has the fork.
-    #[tactic(auto, using(crate::proofs::MissingCount::count_few))]
     pub fn give_bottle(&mut self, r: RecordId, table: &Table) -> Result<(), NotNow>
         ensures not_now { IsErr result ↔ (may (drinker_of self.old) (GiveBottle r (diner_of table.now).held) ≡ false) }
         ensures done { OnOk result (drinker_of self.new ≡ act (drinker_of self.old) (GiveBottle r (diner_of table.now).held)) }
@@ -198,7 +231,7 @@ impl Bar {
         if self.keeps(r, table) {
             return Err(NotNow);
         }
-        self.missing += place.weight();
+        self.held.clear(spots::spot(&self.spots, r));
         self.places[r.index()] = SharedBottle {
             bottle: None,
             ..place
@@ -212,7 +245,7 @@ impl Bar {
     {
         let place = places::at(&self.places, r);
         let is_drinking = self.phase.is_drinking();
-        place.needed && (is_drinking || table.holds(place.peer))
+        self.needs(r) && (is_drinking || table.holds(place.peer))
     }
 
     /// A thirsty office that has all bottles that its session needs begins to work.
@@ -249,8 +282,7 @@ impl Bar {
         }
         self.phase = Phase::Tranquil;
         places::write_all(&mut self.places, writes);
-        places::free_all(&mut self.places, &self.records);
-        self.missing = 0;
+        self.needed = Mask128::empty();
         Ok(())
     }
 
@@ -265,8 +297,7 @@ impl Bar {
             return Err(NotNow);
         }
         self.phase = Phase::Tranquil;
-        places::free_all(&mut self.places, &self.records);
-        self.missing = 0;
+        self.needed = Mask128::empty();
         Ok(())
     }
 
@@ -290,7 +321,7 @@ impl Bar {
         ensures { drinker_of self.new ≡ with_bottle (drinker_of self.old) r value }
     {
         let place = places::at(&self.places, r);
-        self.missing -= place.weight();
+        self.held.set(spots::spot(&self.spots, r));
         self.places[r.index()] = SharedBottle {
             bottle: Some(value),
             ..place

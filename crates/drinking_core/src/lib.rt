@@ -26,6 +26,7 @@ mod masked_bar;
 mod phase;
 mod places;
 mod shared_bottle;
+mod spots;
 
 pub use bar::Bar;
 pub use masked_bar::MaskedBar;

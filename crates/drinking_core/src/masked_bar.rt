@@ -1,14 +1,13 @@
 //! A bar with masks beside it: what is done next of it, without a look at each record.
 
-ghost use Rattle.std.specs.Prelude.{◌≡◌, ◌<◌, ◌≤◌, ◌↔◌, ◌≢◌, ℕ, length, find, IsErr, IfOk, OnOk, OnErr, All, AllPairs, true, false, ◌&&◌, ◌==◌};
-ghost use Rattle.std.specs.List.{list_any};
+ghost use Rattle.std.specs.Prelude.{◌≡◌, ◌<◌, ◌≤◌, ◌↔◌, ℕ, length, find, IsErr, IfOk, OnOk, OnErr, All, true, false};
 ghost use Rattle.std.specs.Option.{ForSome, option_copied};
 ghost use Rattle.bit_masks.specs.Sets.{is_in128};
 ghost use Rattle.bottle_values.specs.Lists.{is_among};
 ghost use Rattle.dining_core.specs.refinement.Tables.{diner_of};
 ghost use Rattle.drinking_core.specs.Drinkers.{Start, AskBottle, GiveBottle, Drink, Finish, Withdraw, may, act, with_token, with_bottle, holds, opened};
 ghost use Rattle.drinking_core.specs.refinement.Bars.{drinker_of};
-ghost use Rattle.drinking_core.specs.refinement.Masks.{spot_in, record_at, AreSpots, Tells};
+ghost use Rattle.drinking_core.specs.refinement.Masks.{record_at, Tells};
 
 use crate::bar::Bar;
 use bit_masks::Mask128;
@@ -18,26 +17,25 @@ use office_map::{OfficeId, Plan, RecordId};
 use std::alloc::{AllocError, Global};
 use std::marker::Model;
 
-/// A [`Bar`], and of the office's own records, each at its place among them, as bits: which bottles and which request tokens
-/// are here, and which records are needed.
+/// A [`Bar`], and of the office's own records, each at its place among them, as bits: which request tokens are here.
+///
+/// The bar itself has the bits of the records that are needed and of the bottles that are here. With those of the tokens
+/// what comes next is found in a word.
 #[derive(Drop)]
 pub struct MaskedBar {
     bar: Bar,
-    spots: Vec<u8>,
-    held: Mask128,
     tokens: Mask128,
-    needed: Mask128,
 }
 
 impl Model for MaskedBar {
     ghost use Rattle.drinking_core.specs.refinement.Bars.{BarValue, drinker_of};
-    ghost use Rattle.drinking_core.specs.refinement.Masks.{AreSpots, AreMasks};
+    ghost use Rattle.drinking_core.specs.refinement.Masks.{AreMasks};
 
     ghost Value = { BarValue };
 
     ghost view = { λ b. b.bar };
 
-    ghost invariant = { λ b. AreSpots (drinker_of b.bar).records b.spots.items × AreMasks (drinker_of b.bar) b.held b.tokens b.needed };
+    ghost invariant = { λ b. AreMasks (drinker_of b.bar) b.tokens };
 }
 
 impl MaskedBar {
@@ -47,16 +45,8 @@ impl MaskedBar {
         ensures { IfOk result (λ b. drinker_of b ≡ opened plan.now id) }
     {
         let bar = Bar::open(alloc, plan, id)?;
-        let spots = spots_of(alloc, plan.records(), plan.records_of(id))?;
-        let held = held_in(&bar);
-        let tokens = tokens_in(&bar);
-        Ok(MaskedBar {
-            bar,
-            spots,
-            held,
-            tokens,
-            needed: Mask128::empty(),
-        })
+        let tokens = tokens_in(&bar, plan.records_of(id));
+        Ok(MaskedBar { bar, tokens })
     }
 
     /// The bar.
@@ -73,9 +63,9 @@ impl MaskedBar {
     pub fn first_given(&self, table: &Table) -> Option<RecordId>
         ensures { result ≡ find (λ r. may (drinker_of self.now) (GiveBottle r (diner_of table.now).held)) (drinker_of self.now).records }
     {
-        let owed = self.held.and(self.tokens);
+        let owed = self.bar.held().and(self.tokens);
         if self.bar.phase().is_drinking() {
-            first_given_of(&self.bar, owed.and_not(self.needed), table)
+            first_given_of(&self.bar, owed.and_not(self.bar.needed()), table)
         } else {
             first_given_of(&self.bar, owed, table)
         }
@@ -88,7 +78,7 @@ impl MaskedBar {
         if !self.bar.phase().is_thirsty() {
             return None;
         }
-        let asked = self.needed.and(self.tokens).and_not(self.held);
+        let asked = self.bar.needed().and(self.tokens).and_not(self.bar.held());
         let Some(k) = asked.first() else {
             return None;
         };
@@ -106,9 +96,6 @@ impl MaskedBar {
         ensures unchanged { OnErr result (self.new ≡ self.old) }
     {
         self.bar.start(session)?;
-        if let Some(records) = session {
-            self.needed = mask_of(&self.spots, records);
-        }
         Ok(())
     }
 
@@ -119,7 +106,7 @@ impl MaskedBar {
         ensures unchanged { OnErr result (self.new ≡ self.old) }
     {
         self.bar.ask_bottle(r)?;
-        self.tokens.clear(spot(&self.spots, r));
+        self.tokens.clear(self.bar.spot(r));
         Ok(())
     }
 
@@ -131,7 +118,6 @@ impl MaskedBar {
         ensures unchanged { OnErr result (self.new ≡ self.old) }
     {
         self.bar.give_bottle(r, table)?;
-        self.held.clear(spot(&self.spots, r));
         Ok(())
     }
 
@@ -154,7 +140,6 @@ impl MaskedBar {
         ensures unchanged { OnErr result (self.new ≡ self.old) }
     {
         self.bar.finish(writes)?;
-        self.needed = Mask128::empty();
         Ok(())
     }
 
@@ -166,7 +151,6 @@ impl MaskedBar {
         ensures unchanged { OnErr result (self.new ≡ self.old) }
     {
         self.bar.withdraw()?;
-        self.needed = Mask128::empty();
         Ok(())
     }
 
@@ -177,7 +161,7 @@ impl MaskedBar {
         ensures { drinker_of self.new ≡ with_token (drinker_of self.old) r }
     {
         self.bar.got_token(r);
-        self.tokens.set(spot(&self.spots, r));
+        self.tokens.set(self.bar.spot(r));
     }
 
     /// A record's bottle came with this value.
@@ -187,65 +171,17 @@ impl MaskedBar {
         ensures { drinker_of self.new ≡ with_bottle (drinker_of self.old) r value }
     {
         self.bar.got_bottle(r, value);
-        self.held.set(spot(&self.spots, r));
     }
-}
-
-/// Where a record stands among the office's own; no place of a mask where it isn't one of them.
-fn spot(spots: &[u8], r: RecordId) -> u32
-    ensures { result ≡ spot_in spots.now r }
-{
-    match spots.get(r.index()) {
-        Some(spot) => *spot as u32,
-        None => 255,
-    }
-}
-
-/// The bits of these records.
-fn mask_of(spots: &[u8], records: &[RecordId]) -> Mask128
-    ensures { (k : ℕ) → k < 128 → is_in128 result k ≡ list_any (λ r. spot_in spots.now r == k) records.now }
-{
-    let mut mask = Mask128::empty();
-    for r in records {
-        mask.set(spot(spots, *r));
-    }
-    mask
-}
-
-/// Each record's place among these.
-fn spots_of(alloc: Global, count: usize, records: &[RecordId]) -> Result<Vec<u8>, AllocError>
-    requires within { All (λ r. r < count) records.now }
-    requires few { length records.now ≤ 128 }
-    requires increase { AllPairs (λ r s. r < s) records.now }
-    ensures { IfOk result (λ s. AreSpots records.now s.items) }
-{
-    let mut spots = vec![in alloc; 255u8; count]?;
-    for k in 0..records.len() {
-        spots[records[k].index()] = k as u8;
-    }
-    Ok(spots)
-}
-
-/// The bits of the bottles that are here.
-fn held_in(bar: &Bar) -> Mask128
-    requires { length (drinker_of bar.now).records ≤ 128 }
-    ensures { Tells (drinker_of bar.now).records result (holds (drinker_of bar.now)) }
-{
-    let mut mask = Mask128::empty();
-    for k in 0..bar.records().len() {
-        mask.put(k as u32, bar.holds(bar.records()[k]));
-    }
-    mask
 }
 
 /// The bits of the request tokens that are here.
-fn tokens_in(bar: &Bar) -> Mask128
-    requires { length (drinker_of bar.now).records ≤ 128 }
-    ensures { Tells (drinker_of bar.now).records result (drinker_of bar.now).token }
+fn tokens_in(bar: &Bar, records: &[RecordId]) -> Mask128
+    requires { length records.now ≤ 128 }
+    ensures { Tells records.now result (drinker_of bar.now).token }
 {
     let mut mask = Mask128::empty();
-    for k in 0..bar.records().len() {
-        mask.put(k as u32, bar.has_token(bar.records()[k]));
+    for k in 0..records.len() {
+        mask.put(k as u32, bar.has_token(records[k]));
     }
     mask
 }

@@ -1,14 +1,15 @@
 //! The places of a bar, one for each record of the plan.
 
-ghost use Rattle.std.specs.Prelude.{◌≡◌, ◌+◌, ◌<◌, length, map, slice_get, All, IfOk};
+ghost use Rattle.std.specs.Prelude.{◌≡◌, ◌<◌, ◌≤◌, length, map, is_some, slice_get, IfOk};
 ghost use Rattle.std.specs.List.{range_with_len};
 ghost use Rattle.std.proofs.Math.ListN.{set};
 ghost use Rattle.drinking_core.specs.Drinkers.{start_bottle, start_token};
-ghost use Rattle.drinking_core.specs.refinement.Bars.{place_at, start_place, needed_place, with_needed, written_place, with_writes, freed_place, with_freed, count_missing, is_missing};
-ghost use Rattle.bottle_values.specs.Lists.{num};
+ghost use Rattle.drinking_core.specs.refinement.Bars.{place_at, bottle_in, start_place, written_place, with_writes};
+ghost use Rattle.drinking_core.specs.refinement.Masks.{Tells};
 ghost use Rattle.office_map.specs.PlanValue.{peer};
 
 use crate::shared_bottle::SharedBottle;
+use bit_masks::Mask128;
 use bottle_values::Value;
 use office_map::{OfficeId, Plan, RecordId};
 use std::alloc::{AllocError, Global};
@@ -22,7 +23,6 @@ pub fn open(alloc: Global, plan: &Plan, id: OfficeId) -> Result<Vec<SharedBottle
     for r in 0..plan.records() {
         let record = RecordId::new(r as u16);
         places.push(SharedBottle {
-            needed: false,
             bottle: start_bottle(plan, id, record),
             token: starts_with_token(plan, id, record),
             peer: plan.other_end(record, id),
@@ -63,7 +63,6 @@ pub fn at(places: &[SharedBottle], r: RecordId) -> SharedBottle
     match places.get(r.index()) {
         Some(place) => *place,
         None => SharedBottle {
-            needed: false,
             bottle: None,
             token: false,
             peer: OfficeId::new(0),
@@ -71,53 +70,16 @@ pub fn at(places: &[SharedBottle], r: RecordId) -> SharedBottle
     }
 }
 
-/// These records are needed from now on. The answer is how many bottles are missing now that weren't before.
-#[tactic(auto, using(crate::proofs::MissingCount::count_more, crate::proofs::MissingCount::count_few))]
-pub fn need_all(places: &mut Vec<SharedBottle>, records: &[RecordId]) -> usize
-    requires { All (λ r. r < length places.old.items) records.now }
-    ensures places { places.new.items ≡ with_needed records.now places.old.items }
-    ensures missing { count_missing places.new.items ≡ count_missing places.old.items + result }
+/// The bits of the bottles of these records that are here.
+pub fn held_in(places: &[SharedBottle], records: &[RecordId]) -> Mask128
+    requires { length records.now ≤ 128 }
+    ensures { Tells records.now result (λ r. is_some (bottle_in places.now r)) }
 {
-    let mut missing = 0;
-    for r in records {
-        missing += need(places, *r);
+    let mut mask = Mask128::empty();
+    for k in 0..records.len() {
+        mask.put(k as u32, at(places, records[k]).bottle.is_some());
     }
-    missing
-}
-
-// The record is needed from now on; 1 where its bottle is missing now and wasn't before.
-fn need(places: &mut Vec<SharedBottle>, r: RecordId) -> usize
-    requires { r < length places.old.items }
-    ensures places { places.new.items ≡ set places.old.items r (needed_place (place_at places.old.items r)) }
-    ensures missing { num (is_missing (needed_place (place_at places.old.items r))) ≡ num (is_missing (place_at places.old.items r)) + result }
-{
-    let place = at(places, r);
-    places[r.index()] = SharedBottle {
-        needed: true,
-        ..place
-    };
-    if place.bottle.is_none() && !place.needed {
-        1
-    } else {
-        0
-    }
-}
-
-/// None of these records is needed from now on.
-pub fn free_all(places: &mut Vec<SharedBottle>, records: &[RecordId])
-    ensures { places.new.items ≡ with_freed records.now places.old.items }
-{
-    for r in records {
-        free(places, *r);
-    }
-}
-
-fn free(places: &mut Vec<SharedBottle>, r: RecordId)
-    ensures { places.new.items ≡ set places.old.items r (freed_place (place_at places.old.items r)) }
-{
-    if let Some(place) = places.get_mut(r.index()) {
-        place.needed = false;
-    }
+    mask
 }
 
 /// These values go into the bottles that are here.

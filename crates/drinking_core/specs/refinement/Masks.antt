@@ -1,8 +1,8 @@
--- The masks that the code keeps beside a bar: a bit for each of the office's own records.
-use Rattle.std.specs.Prelude.{◌≡◌, ℕ, ◌<◌, ◌≤◌, Bool, List, length, get_or}
+-- The masks that the code keeps beside an office's places: a bit for each of the office's own records.
+use Rattle.std.specs.Prelude.{◌≡◌, ℕ, ◌<◌, ◌≤◌, Bool, ◌==◌, ◌&&◌, nat_lt, List, length, get_or}
 use Rattle.bit_masks.specs.declared.mask128.Mask128.{Mask128}
 use Rattle.bit_masks.specs.Sets.{is_in128}
-use Rattle.drinking_core.specs.Drinkers.{Drinker, holds}
+use Rattle.drinking_core.specs.Drinkers.{Drinker}
 
 -- where a record stands among the office's own
 abbrev pub spot_in : List ℕ → ℕ → ℕ
@@ -17,11 +17,19 @@ pub record AreSpots (records spots : List ℕ) : Type 0 where
   pub of_place : (k : ℕ) → k < length records → spot_in spots (record_at records k) ≡ k
   pub of_spot : (r : ℕ) → spot_in spots r < length records → record_at records (spot_in spots r) ≡ r
 
+-- the place is the record's, if the record stands among these
+abbrev pub IsSpot : List ℕ → ℕ → ℕ → Type 0
+IsSpot records r spot = (k : ℕ) → k < length records → (k == spot) ≡ (record_at records k == r)
+
+-- whether the record's bit is set
+abbrev pub bit_in : List ℕ → Mask128 → ℕ → Bool
+bit_in spots m r = nat_lt (spot_in spots r) 128 && is_in128 m (spot_in spots r)
+
 -- the bits of the office's records tell what holds of them
 abbrev pub Tells : List ℕ → Mask128 → (ℕ → Bool) → Type 0
 Tells records m f = (k : ℕ) → k < length records → is_in128 m k ≡ f (record_at records k)
 
-pub record AreMasks (d : Drinker) (held tokens needed : Mask128) : Type 0 where
-  pub bottles : Tells d.records held (holds d)
+-- each record has a bit, and the bits tell whose request token is here
+pub record AreMasks (d : Drinker) (tokens : Mask128) : Type 0 where
+  pub few : length d.records ≤ 128
   pub requests : Tells d.records tokens d.token
-  pub needs : Tells d.records needed d.needed

@@ -6,7 +6,7 @@ use Rattle.bit_masks.specs.Sets.{is_in128, IsLeast}
 use Rattle.dining_core.specs.refinement.Tables.{diner_of}
 use Rattle.drinking_core.specs.Drinkers.{GiveBottle, may}
 use Rattle.drinking_core.specs.refinement.Bars.{drinker_of}
-use Rattle.drinking_core.proofs.MaskUpdates.{none_left, none_within, first_left}
+use Rattle.drinking_core.proofs.MaskUpdates.{none_left, none_within, first_left, left_fewer}
 use Rattle.drinking_core.proofs.masked_bar.first_given_of.Goals as goal
 
 pub returns-in_default-get : goal.returns-in_default-get
@@ -26,3 +26,9 @@ returns c =
     let d = drinker_of c.args.bar.now in
     sym (none_left (λ r. may d (GiveBottle r (diner_of c.args.table.now).held)) d.records c.left.left c.requires.few c.left.invariant
     (subst (λ o. IsLeast 128 (is_in128 c.left.left) o) c.in_default.is c.first.ensures))
+
+pub left-preserved : goal.left-preserved
+left-preserved c =
+    let d = drinker_of c.args.bar.now in
+    let read : slice_get d.records c.in-Some.k ≡ Some c.in-Some-get.r.now = subst (λ (l : List ℕ). slice_get l c.in-Some.k ≡ Some c.in-Some-get.r.now) c.records.ensures (slice_get_read _ _ _ _ refl c.in-Some-get.ensures.lookup.3.0 c.in-Some-get.ensures.lookup.1) in
+    left_fewer (λ r. may d (GiveBottle r (diner_of c.args.table.now).held)) d.records c.left.left c.clear.new.self c.in-Some.k c.in-Some-get.r.now c.left.invariant c.clear.ensures.cleared read (sym c.may_give_bottle.ensures ∙ c.if-may_give_bottle.false)

@@ -7,5 +7,6 @@ use Rattle.drinking_core.proofs.bar.Bar.has_needed.Goals as goal
 
 pub returns : goal.returns
 returns c =
-    has_needed_is c.self.inside.records.items c.self.inside.phase c.self.inside.places.items c.self.inside.missing c.self.invariant
+    let s = c.self.inside in
+    has_needed_is s.records.items s.spots.items s.needed s.held c.and_not.result s.places.items c.first.result c.is_none.result c.self.invariant c.and_not.ensures c.first.ensures c.is_none.ensures
     ∙ ap (λ (b : BarValue). list_all (is_served (drinker_of b)) b.records) c.self.view_is

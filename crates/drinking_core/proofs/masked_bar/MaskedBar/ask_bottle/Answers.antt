@@ -1,13 +1,8 @@
-use Rattle.std.proofs.Common.{◌≡◌, ap, sym, subst, ◌∙◌, false}
 use Rattle.drinking_core.specs.refinement.Bars.{drinker_of}
-use Rattle.drinking_core.specs.refinement.Masks.{spot_in}
-use Rattle.drinking_core.proofs.MaskUpdates.{IsMasked, IsPut, asked}
+use Rattle.drinking_core.proofs.MaskUpdates.{asked}
 use Rattle.drinking_core.proofs.masked_bar.MaskedBar.ask_bottle.Goals as goal
 
 pub invariant_of-self-2 : goal.invariant_of-self-2
 invariant_of-self-2 c =
     let s = c.self.inside in
-    let at : c.spot.result ≡ spot_in s.spots.items c.args.r = c.spot.ensures ∙ ap (λ l. spot_in l c.args.r) c.deref.ensures.value in
-    subst (λ d. IsMasked d s.spots.items s.held c.clear.new.self s.needed) (sym c.in_ok-ask_bottle.ensures.done)
-    (asked (drinker_of s.bar) s.spots.items s.held s.tokens s.needed c.clear.new.self c.args.r c.self.invariant
-    (subst (λ k. IsPut s.tokens c.clear.new.self k false) at c.clear.ensures.cleared))
+    asked (drinker_of s.bar) (drinker_of c.ask_bottle.new.self) s.tokens c.clear.new.self c.args.r c.spot.result c.self.invariant c.in_ok-ask_bottle.ensures.done c.spot.ensures c.clear.ensures.cleared

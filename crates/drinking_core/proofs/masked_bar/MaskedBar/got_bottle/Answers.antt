@@ -1,13 +1,10 @@
-use Rattle.std.proofs.Common.{◌≡◌, ap, sym, subst, ◌∙◌, true}
+use Rattle.std.proofs.Common.{sym, subst}
 use Rattle.drinking_core.specs.refinement.Bars.{drinker_of}
-use Rattle.drinking_core.specs.refinement.Masks.{spot_in}
-use Rattle.drinking_core.proofs.MaskUpdates.{IsMasked, IsPut, bottle_came}
+use Rattle.drinking_core.specs.refinement.Masks.{AreMasks}
+use Rattle.drinking_core.proofs.MaskUpdates.{bottle_came}
 use Rattle.drinking_core.proofs.masked_bar.MaskedBar.got_bottle.Goals as goal
 
 pub invariant_of-self : goal.invariant_of-self
 invariant_of-self c =
     let s = c.self.inside in
-    let at : c.spot.result ≡ spot_in s.spots.items c.args.r = c.spot.ensures ∙ ap (λ l. spot_in l c.args.r) c.deref.ensures.value in
-    subst (λ d. IsMasked d s.spots.items c.set.new.self s.tokens s.needed) (sym c.got_bottle.ensures)
-    (bottle_came (drinker_of s.bar) s.spots.items s.held s.tokens s.needed c.set.new.self c.args.r c.args.value c.self.invariant
-    (subst (λ k. IsPut s.held c.set.new.self k true) at c.set.ensures))
+    subst (λ d. AreMasks d s.tokens) (sym c.got_bottle.ensures) (bottle_came (drinker_of s.bar) s.tokens c.args.r c.args.value c.self.invariant)

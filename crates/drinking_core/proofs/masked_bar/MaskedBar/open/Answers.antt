@@ -1,10 +1,14 @@
-use Rattle.std.proofs.Common.{◌<◌, sym, subst}
-use Rattle.std.specs.Prelude.{All}
+use Rattle.std.proofs.Common.{◌≡◌, ◌≤◌, ℕ, List, length, sym, ap, ◌∙◌, subst}
+use Rattle.drinking_core.specs.Drinkers.{Drinker}
+use Rattle.drinking_core.specs.refinement.Bars.{drinker_of}
+use Rattle.drinking_core.specs.refinement.Masks.{Tells}
 use Rattle.drinking_core.proofs.masked_bar.MaskedBar.open.Goals as goal
 
-pub spots_of-requires : goal.spots_of-requires
-spots_of-requires c = record {
-  within = subst (λ n. All (λ r. r < n) c.records_of.result.now) (sym c.records.ensures.count) c.records_of.ensures.records;
-  few = c.records_of.ensures.few;
-  increase = c.records_of.ensures.increase;
-}
+pub invariant_of-result : goal.invariant_of-result
+invariant_of-result c =
+    let d = drinker_of c.in_ok-bar.bar in
+    let same : c.records_of.result.now ≡ d.records = c.records_of.ensures.all ∙ sym (ap (λ (x : Drinker). x.records) c.in_ok-bar.ensures) in
+    record {
+      few = subst (λ (l : List ℕ). length l ≤ 128) same c.records_of.ensures.few;
+      requests = subst (λ l. Tells l c.tokens_in-tokens.result d.token) same c.tokens_in-tokens.ensures;
+    }

@@ -3,7 +3,7 @@ use Rattle.std.specs.Prelude.{◌==◌}
 use Rattle.std.specs.List.{list_any}
 use Rattle.bit_masks.specs.Sets.{is_in128}
 use Rattle.drinking_core.specs.refinement.Masks.{spot_in}
-use Rattle.drinking_core.proofs.masked_bar.mask_of.Given as goal
+use Rattle.drinking_core.proofs.spots.mask_of.Given as goal
 
 abbrev pub invariant-loop-r : goal.invariant-loop-r
 invariant-loop-r l = (k : ℕ) → k < 128 → is_in128 l.mask k ≡ list_any (λ r. spot_in l.spots r == k) (take l.r-index l.records)

@@ -1,6 +1,6 @@
 use Rattle.std.proofs.Common.{◌≡◌, ◌<◌, ℕ, length}
 use Rattle.drinking_core.specs.refinement.Masks.{spot_in, record_at}
-use Rattle.drinking_core.proofs.masked_bar.spots_of.Given as goal
+use Rattle.drinking_core.proofs.spots.open.Given as goal
 
 abbrev pub invariant-loop-k : goal.invariant-loop-k
 invariant-loop-k l =

@@ -1,9 +1,0 @@
-use Rattle.std.proofs.Common.{◌≡◌, ◌<◌, ℕ}
-use Rattle.bit_masks.specs.Sets.{is_in128}
-use Rattle.drinking_core.specs.Drinkers.{holds}
-use Rattle.drinking_core.specs.refinement.Bars.{drinker_of}
-use Rattle.drinking_core.specs.refinement.Masks.{record_at}
-use Rattle.drinking_core.proofs.masked_bar.held_in.Given as goal
-
-abbrev pub invariant-loop-k : goal.invariant-loop-k
-invariant-loop-k l = (j : ℕ) → j < l.k → is_in128 l.mask j ≡ holds (drinker_of l.bar) (record_at (drinker_of l.bar).records j)
