@@ -1,4 +1,6 @@
 mod LoopTurns
+mod ProgramParts
+mod StackRoom
 mod StackEvaluation
 mod ReadsInOrder
 mod ValueTables

@@ -1,15 +1,18 @@
 -- The stack after an expression has its value on top.
-use Rattle.std.proofs.Common.{◌≡◌, List, [], ◌∷◌, ◌++◌, Result, Ok, Err, refl, sym, ap, ◌∙◌}
+use Rattle.std.proofs.Common.{◌≡◌, ℕ, ◌≤◌, List, [], ◌∷◌, ◌++◌, length, take, reverse, Result, Ok, Err, refl, ap, ◌∙◌, arith}
 use Rattle.bottle_values.specs.Values.{Value}
 use Rattle.bottle_values.specs.declared.ValueFault.{ValueFault}
-use Rattle.bottle_values.specs.Operations.{opposite}
+use Rattle.bottle_values.specs.Operations.{nought, opposite}
 use Rattle.session_meaning.specs.declared.node.Node.{Node}
 use Rattle.session_meaning.specs.declared.node.Node.TheVariants.{Negate, Apply}
 use Rattle.session_meaning.specs.declared.node.Operator.{Operator}
 use Rattle.session_meaning.specs.Tree.{Term, Constant, Var, ReadOf, Neg, Bin}
 use Rattle.session_meaning.specs.refinement.Postfix.{postfix}
 use Rattle.session_meaning.specs.Meaning.{Environment, value_of, apply, negated, both}
-use Rattle.serial_replay.specs.refinement.PostfixEvaluation.{after_node, after_nodes, and_after, on_top, last_of}
+use Rattle.session_programs.specs.WellFormed.{depth}
+use Rattle.session_programs.specs.Limits.{most_depth}
+use Rattle.serial_replay.specs.refinement.PostfixEvaluation.{after_node, after_nodes, and_after, on_top}
+use Rattle.serial_replay.proofs.StackRoom.{FindRoom, finds_room}
 
 and_after-alike : (o : Result (List Value) ValueFault) (f g : List Value → Result (List Value) ValueFault) → ((u : List Value) → f u ≡ g u) → and_after o f ≡ and_after o g
 and_after-alike (Err e) f g h = refl
@@ -37,7 +40,7 @@ operator_put d op st (Err e) b = refl
 operator_put d op st (Ok x) (Err e) = refl
 operator_put d op st (Ok x) (Ok y) = put_alone d st (apply op x y)
 
-pub worked_out : (d : Environment) (e : Term) (st : List Value) → after_nodes d (postfix e) st ≡ on_top st (value_of e d)
+worked_out : (d : Environment) (e : Term) (st : List Value) → after_nodes d (postfix e) st ≡ on_top st (value_of e d)
 worked_out d (Constant v) st = refl
 worked_out d (Var k) st = refl
 worked_out d (ReadOf r) st = refl
@@ -48,18 +51,15 @@ worked_out d (Bin op a b) st =
     (λ u. append d (postfix b) (Apply op ∷ []) u ∙ ap (λ o. and_after o (after_nodes d (Apply op ∷ []))) (worked_out d b u))
     ∙ operator_put d op st (value_of a d) (value_of b d)
 
--- a node that has a fault leaves it to the expression
-pub fault_worked_out : (d : Environment) (e : Term) (n : Node) (front rest : List Node) (st : List Value) (f : ValueFault) → front ≡ n ∷ rest → after_node d n st ≡ Err f → after_nodes d front st ≡ after_nodes d (postfix e) [] → Err f ≡ value_of e d
-fault_worked_out d e n front rest st f is fault so_far = by_value (value_of e d) (sym (ap (λ ns. after_nodes d ns st) is ∙ ap (λ o. and_after o (after_nodes d rest)) fault) ∙ so_far ∙ worked_out d e [])
-  where
-    by_value : (o : Result Value ValueFault) → Err f ≡ on_top [] o → Err f ≡ o
-    by_value (Err g) h = (cc)
-    by_value (Ok v) h = (cc)
+-- The nodes that are left leave the expression's value on a 0, where the stack is a top on the first k values of the
+-- array, the last one first.
+pub record IsSoFar (d : Environment) (e : Term) (rest : List Node) (top : Value) (below : List Value) (k : ℕ) : Type 0 where
+  pub room : FindRoom rest k
+  pub few : k ≤ most_depth
+  pub whole : length below ≡ most_depth
+  pub leaves : after_nodes d rest (top ∷ reverse (take k below)) ≡ on_top (nought ∷ []) (value_of e d)
 
--- what is on top after the last node is the value
-pub popped : (d : Environment) (e : Term) (front : List Node) (st : List Value) → front ≡ [] → after_nodes d front st ≡ after_nodes d (postfix e) [] → last_of st ≡ value_of e d
-popped d e front st is so_far = by_value (value_of e d) (sym (ap (λ ns. after_nodes d ns st) is) ∙ so_far ∙ worked_out d e [])
-  where
-    by_value : (v : Result Value ValueFault) → Ok st ≡ on_top [] v → last_of st ≡ v
-    by_value (Err e) h = absurd (cc)
-    by_value (Ok v) h = let one : st ≡ v ∷ [] = (cc) in ap last_of one
+pub begun : (d : Environment) (e : Term) (nodes : List Node) (top : Value) (below : List Value) → nodes ≡ postfix e → top ≡ nought → depth e ≤ most_depth → length below ≡ most_depth
+    → IsSoFar d e nodes top below 0
+begun d e nodes top below is none h whole =
+    rw (is, none) (record { room = finds_room e h; few = omega arith; whole = whole; leaves = worked_out d e (nought ∷ []) })

@@ -6,6 +6,7 @@ ghost use Rattle.session_meaning.specs.Meaning.{alone, begun, ending_of, Goes};
 ghost use Rattle.serial_replay.specs.refinement.WalkRefinement as walk;
 
 use crate::environment::Environment;
+use crate::evaluate::ROOM;
 use crate::stop::Stop;
 use crate::walk::walk_all;
 use bottle_values::Value;
@@ -22,8 +23,8 @@ pub fn alone(alloc: Global, program: &Program, values: &[Value]) -> Result<Endin
 {
     let reads = reads_of(alloc, program.needs(), values)?;
     let mut environment = begun(alloc, program, &reads)?;
-    let mut stack = Vec::new(alloc);
-    match walk_all(&mut environment, &mut stack, program.tree()) {
+    let mut below = [Value::from(0); ROOM];
+    match walk_all(&mut environment, &mut below, program.tree()) {
         Ok(()) => Ok(done(reads, environment)),
         Err(Stop::Ended(end)) => Ok(Ending {
             end,

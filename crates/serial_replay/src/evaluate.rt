@@ -1,87 +1,54 @@
 //! Expressions worked out.
 
-ghost use Rattle.std.specs.Prelude.{◌≡◌, ◌∷◌, IfOk, reverse, Ok};
+ghost use Rattle.std.specs.Prelude.{◌≡◌, ◌≤◌};
 ghost use Rattle.session_meaning.specs.Meaning.{value_of};
-ghost use Rattle.serial_replay.specs.refinement.PostfixEvaluation.{after_node, on_top, leaving, last_of};
+ghost use Rattle.session_programs.specs.WellFormed.{depth};
+ghost use Rattle.session_programs.specs.Limits.{most_depth};
 ghost use Rattle.serial_replay.specs.refinement.WalkRefinement.{environment_of};
 
 use crate::environment::Environment;
 use bottle_values::{Value, ValueFault};
 use session_meaning::{Expression, Node};
-use std::alloc::AllocError;
+use session_programs::limits::MOST_DEPTH;
 
-/// The value of an expression, worked out on a stack that is handed in for its memory, or why it has none.
+/// How many values there is room for below the top. An expression has no more operands at once than it is deep: the
+/// last one is the top, and below the first stands a 0.
+pub const ROOM: usize = MOST_DEPTH as usize;
+
+/// The value of an expression that is no deeper than those of programs, or why it has none. The array is handed in for
+/// its memory.
+///
+/// The top of the stack is a local, so that it stays in a register, and the array has what is below. The stack begins
+/// with a 0 that no operator takes: so there always is a top, and every operand puts one away.
+#[inline(always)]
 pub fn evaluate(
     environment: &Environment,
-    stack: &mut Vec<Value>,
+    below: &mut [Value; ROOM],
     e: &Expression,
-) -> Result<Result<Value, ValueFault>, AllocError>
-    ensures { IfOk result (λ o. o ≡ value_of e.now (environment_of environment.now)) }
+) -> Result<Value, ValueFault>
+    requires { depth e.now ≤ most_depth }
+    ensures { result ≡ value_of e.now (environment_of environment.now) }
 {
-    stack.clear();
+    let mut top = Value::from(0);
+    let mut waiting = 0;
     for node in e.nodes() {
-        if let Err(fault) = after_node(environment, stack, *node)? {
-            return Ok(Err(fault));
-        }
+        let operand = match *node {
+            Node::Literal(value) => value,
+            Node::Variable(place) => environment.variables.value(place),
+            Node::Read(id) => environment.records.value(id),
+            Node::Negate => {
+                top = top.neg()?;
+                continue;
+            }
+            Node::Apply(operator) => {
+                waiting -= 1;
+                top = operator.apply(below[waiting], top)?;
+                continue;
+            }
+        };
+        below[waiting] = top;
+        waiting += 1;
+        top = operand;
     }
-    Ok(last(stack))
-}
-
-/// The value that an expression left on the stack.
-fn last(stack: &mut Vec<Value>) -> Result<Value, ValueFault>
-    ensures { result ≡ last_of (reverse stack.old.items) }
-{
-    match stack.pop() {
-        Some(value) => Ok(value),
-        None => Err(ValueFault::Overflow),
-    }
-}
-
-/// Works out one node.
-fn after_node(
-    environment: &Environment,
-    stack: &mut Vec<Value>,
-    node: Node,
-) -> Result<Result<(), ValueFault>, AllocError>
-    ensures { IfOk result (λ r. after_node (environment_of environment.now) node (reverse stack.old.items) ≡ leaving r (reverse stack.new.items)) }
-{
-    match node {
-        Node::Literal(value) => push(stack, value),
-        Node::Variable(place) => push(stack, environment.variables.value(place)),
-        Node::Read(id) => push(stack, environment.records.value(id)),
-        Node::Negate => {
-            let Some(value) = stack.pop() else {
-                return Ok(Err(ValueFault::Overflow));
-            };
-            push_result(stack, value.neg())
-        }
-        Node::Apply(operator) => {
-            let Some(right) = stack.pop() else {
-                return Ok(Err(ValueFault::Overflow));
-            };
-            let Some(left) = stack.pop() else {
-                return Ok(Err(ValueFault::Overflow));
-            };
-            push_result(stack, operator.apply(left, right))
-        }
-    }
-}
-
-fn push(stack: &mut Vec<Value>, value: Value) -> Result<Result<(), ValueFault>, AllocError>
-    ensures { IfOk result (λ r. (r ≡ Ok tt) × (reverse stack.new.items ≡ value ∷ reverse stack.old.items)) }
-{
-    stack.push(value)?;
-    Ok(Ok(()))
-}
-
-fn push_result(
-    stack: &mut Vec<Value>,
-    value: Result<Value, ValueFault>,
-) -> Result<Result<(), ValueFault>, AllocError>
-    ensures { IfOk result (λ r. on_top (reverse stack.old.items) value ≡ leaving r (reverse stack.new.items)) }
-{
-    match value {
-        Ok(value) => push(stack, value),
-        Err(fault) => Ok(Err(fault)),
-    }
+    Ok(top)
 }

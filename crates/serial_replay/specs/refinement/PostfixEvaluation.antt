@@ -31,13 +31,3 @@ and_after (Ok st) go = go st
 abbrev pub after_nodes : Environment → List Node → List Value → Result (List Value) ValueFault
 after_nodes d [] st = Ok st
 after_nodes d (n ∷ ns) st = and_after (after_node d n st) (after_nodes d ns)
-
--- what the stack is like after a node that was worked out or had a fault
-abbrev pub leaving : Result (Unit {0}) ValueFault → List Value → Result (List Value) ValueFault
-leaving (Ok u) st = Ok st
-leaving (Err e) st = Err e
-
--- the value on top
-abbrev pub last_of : List Value → Result Value ValueFault
-last_of [] = Err Overflow
-last_of (v ∷ st) = Ok v

@@ -1,7 +1,9 @@
--- What a walk leaves, in the words of a session's meaning.
-use Rattle.std.specs.Prelude.{◌≡◌, Result, Ok, Err}
+-- What a walk leaves, in the words of a session's meaning, and what it walks over.
+use Rattle.std.specs.Prelude.{◌≡◌, ℕ, Result, Ok, Err}
 use Rattle.session_meaning.specs.Meaning as meaning
 use Rattle.session_meaning.specs.Meaning.{Step, Goes, Ends}
+use Rattle.session_meaning.specs.Tree.{Command, Block}
+use Rattle.session_programs.specs.WellFormed.{IsStatementOver, AreStatements}
 use Rattle.serial_replay.specs.declared.environment.Environment.{Environment}
 use Rattle.serial_replay.specs.declared.stop.Stop.{Stop}
 use Rattle.serial_replay.specs.declared.stop.Stop.TheVariants.{Ended, Memory}
@@ -15,3 +17,11 @@ abbrev pub Leaves : {T : Type 0} → Result T Stop → Environment → Step → 
 Leaves (Ok u) after step = step ≡ Goes (environment_of after)
 Leaves (Err (Ended e)) after step = step ≡ Ends e
 Leaves (Err Memory) after step = Unit {0}
+
+-- a statement of a program, with some blocks around it, where some variables are known
+abbrev pub IsOfProgram : Command → Type 0
+IsOfProgram c = (around : ℕ) × (known : ℕ) × IsStatementOver around known c
+
+-- statements of a program, one after another
+abbrev pub AreOfProgram : Block → Type 0
+AreOfProgram b = (around : ℕ) × (known : ℕ) × AreStatements around known b
