@@ -11,13 +11,13 @@ ghost use Rattle.session_programs.specs.Limits.{most_variables};
 
 use crate::fault::{SessionRule, Stop};
 use crate::limits::{MOST_BLOCKS, MOST_RECORDS, MOST_VARIABLES};
-use crate::names::position_of;
 use crate::parts::{Head, Parts};
 use crate::spoken::Spoken;
 use office_map::RecordId;
 use session_meaning::Statement;
 use session_meaning::needs::{add_reads, add_record};
 use std::alloc::{AllocError, Global};
+use text_lines::position_of;
 
 /// Adds the first line of a statement to the parts of a session.
 pub(crate) fn add_to(alloc: Global, parts: &mut Parts, spoken: Spoken<'_>) -> Result<(), Stop>

@@ -8,7 +8,6 @@ ghost use Rattle.session_language.specs.Lexer.{pieces_of};
 ghost use Rattle.session_language.specs.Names.{scope_of};
 ghost use Rattle.session_language.specs.Phrase.{phrase_at, Reads};
 
-use crate::guesses::Guesses;
 use crate::lexer::{Piece, Pieces};
 use crate::limits::PAST_DEPTH;
 use crate::scope::Scope;
@@ -16,6 +15,7 @@ use crate::summary::Summary;
 use crate::token::Next;
 use session_meaning::{Expression, Node, Operator};
 use std::alloc::{AllocError, Global};
+use text_lines::Guesses;
 
 /// A token whose names are known.
 #[derive(Clone, Copy)]

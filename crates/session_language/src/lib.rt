@@ -45,7 +45,6 @@ mod adding;
 mod builder;
 mod draft;
 mod fault;
-mod guesses;
 pub mod keyword;
 pub mod laws;
 pub mod lexer;

@@ -1,12 +1,9 @@
-//! The places of names.
+//! Tokens whose names are in their places.
 
-ghost use Rattle.std.specs.Prelude.{◌≡◌, true, map, position};
-ghost use Rattle.std.specs.Str.{bytes_eq};
-ghost use Rattle.std.specs.String.{string_bytes};
+ghost use Rattle.std.specs.Prelude.{◌≡◌, true};
 
 use crate::builder::Element;
 use session_meaning::Node;
-use text_lines::is_same_word;
 
 /// A token whose names are in their places, and whether they are known as a variable and as a record.
 #[derive(Clone, Copy)]
@@ -14,15 +11,6 @@ pub struct Placed {
     pub element: Element,
     pub knows_variable: bool,
     pub knows_record: bool,
-}
-
-/// The place of a name.
-pub fn position_of(names: &[String], name: &[u8]) -> Option<usize>
-    ensures { result ≡ position (λ v. bytes_eq v name.now) (map string_bytes names.now) }
-{
-    names
-        .iter()
-        .position(|v| is_same_word(v.as_str().as_bytes(), name))
 }
 
 pub(crate) fn known_node(node: Node) -> Placed

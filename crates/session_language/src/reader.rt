@@ -13,7 +13,6 @@ ghost use Rattle.session_language.specs.Reading.{nothing_read};
 use crate::builder::{Builder, Level, Stage, Sum};
 use crate::draft::{Draft, Ended};
 use crate::fault::{SessionRule, Stop};
-use crate::guesses::Guesses;
 use crate::keyword::{Keyword, keyword_of};
 use crate::lexer::{Piece, Pieces};
 use crate::limits::MOST_SESSIONS;
@@ -21,7 +20,7 @@ use office_map::Plan;
 use session_programs::Program;
 use std::alloc::Global;
 use std::mem;
-use text_lines::name;
+use text_lines::{Guesses, name};
 
 /// The sessions that are closed, the one that is open, and the builder of expressions.
 #[derive(Drop)]

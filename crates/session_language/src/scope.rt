@@ -4,12 +4,12 @@ ghost use Rattle.std.specs.Prelude.{◌≢◌, AllPairs, map};
 ghost use Rattle.std.specs.String.{string_bytes};
 
 use crate::builder::Element;
-use crate::guesses::Guesses;
 use crate::names::{Placed, known, known_node};
 use crate::token::{Operand, Token};
 use bottle_values::Value;
 use office_map::{OfficeId, Plan, RecordId};
 use session_meaning::Node;
+use text_lines::Guesses;
 
 /// The plan, the session's office, and the variables that earlier lines name.
 #[derive(Clone, Copy)]

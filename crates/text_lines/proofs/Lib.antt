@@ -2,3 +2,4 @@ mod Digits
 mod FirstLine
 mod FirstWord
 mod AsciiNames
+pub mod NamePlaces

@@ -6,6 +6,7 @@ ghost use Rattle.std.specs.List.{list_all};
 ghost use Rattle.text_lines.specs.Text.{is_name, name_of, is_keyword, is_name_byte};
 
 use crate::limits::MOST_LETTERS;
+use crate::line_words::is_same_word;
 
 /// A word as text, if it is a NAME.
 pub fn name(word: &[u8]) -> Option<&str>
@@ -50,20 +51,15 @@ fn has_name_bytes(word: &[u8]) -> bool
     word.iter().all(|b| b.is_ascii_alphanumeric() || *b == b'_')
 }
 
+/// The words that lines of sessions have of their own.
+const KEYWORDS: [&str; 10] = [
+    "session", "let", "set", "give", "require", "else", "if", "repeat", "end", "read",
+];
+
 fn is_keyword(word: &[u8]) -> bool
     ensures { result ≡ is_keyword word.now }
 {
-    match word {
-        b"session"
-        | b"let"
-        | b"set"
-        | b"give"
-        | b"require"
-        | b"else"
-        | b"if"
-        | b"repeat"
-        | b"end"
-        | b"read" => true,
-        _ => false,
-    }
+    KEYWORDS
+        .iter()
+        .any(|keyword| is_same_word(keyword.as_bytes(), word))
 }

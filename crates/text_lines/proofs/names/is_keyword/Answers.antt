@@ -1,5 +1,8 @@
-use Rattle.std.proofs.Common.{rules}
+use Rattle.std.proofs.Common.{rules, tests}
+use Rattle.std.specs.Str.{bytes_eq}
+use Rattle.std.proofs.lemmas.Iterator.{YieldsList-from_slice}
+use Rattle.std.proofs.lemmas.Iterator.Search.{any_from_yields_List}
 use Rattle.text_lines.proofs.names.is_keyword.Goals as goal
 
-pub returns-in_default-17 : goal.returns-in_default-17
-returns-in_default-17 c = search rules
+pub returns : goal.returns
+returns c = any_from_yields_List (λ k. bytes_eq k.now c.args.word.now) _ _ c.any.result c.any.ensures.ran (YieldsList-from_slice _ c.iter.ensures.rest) (λ x b q k. search (rules, tests))

@@ -3,8 +3,8 @@ use Rattle.std.specs.Str.{bytes_eq}
 use Rattle.std.specs.String.{string_bytes}
 use Rattle.std.proofs.lemmas.Iterator.{YieldsList-from_slice}
 use Rattle.std.proofs.lemmas.Iterator.Search.{position_from_yields_List}
-use Rattle.session_language.proofs.Places.{position-map}
-use Rattle.session_language.proofs.names.position_of.Goals as goal
+use Rattle.text_lines.proofs.NamePlaces.{position-map}
+use Rattle.text_lines.proofs.name_places.position_of.Goals as goal
 
 pub returns : goal.returns
 returns c =

@@ -4,14 +4,14 @@ ghost use Rattle.std.specs.Prelude.{◌≡◌, ◌≢◌, ◌<◌, ◌≤◌, Al
 ghost use Rattle.std.specs.Str.{bytes_eq};
 ghost use Rattle.std.specs.String.{string_bytes};
 
-use crate::names::position_of;
+use crate::name_places::position_of;
 
 /// For names of each key, where the last one stood that was found. A place may be of another list by now: it is only
 /// where to look first.
 ///
-/// There is a place for each of 64 keys. It is believed only where the name stands there, and since a session's
-/// variables differ, that is the name's place. A table that is always right would be one more thing to keep through
-/// each refusal.
+/// There is a place for each of 64 keys. It is believed only where the name stands there, and since the names of a list
+/// differ, that is the name's place. A table that is always right would be one more thing to keep through each change of
+/// the list, and each refusal of one.
 #[derive(Clone, Copy)]
 pub struct Guesses {
     last: [u8; 64],
@@ -39,7 +39,7 @@ impl Guesses {
     }
 }
 
-/// A number that names of a session seldom share.
+/// A number that names of one list seldom share.
 fn key_of(name: &[u8]) -> usize
     ensures { result < 64 }
 {

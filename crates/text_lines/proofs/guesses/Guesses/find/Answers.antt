@@ -2,8 +2,8 @@ use Rattle.std.proofs.Common.{ℕ, rules, ◌≡◌, ◌<◌, ◌∙◌, sym, ma
 use Rattle.std.specs.String.{string_bytes}
 use Rattle.std.proofs.lemmas.List.{length-map, get_or-map}
 use Rattle.std.proofs.lemmas.Slice.Eq.{bytes_eq-Decides}
-use Rattle.session_language.proofs.Places.{place_is}
-use Rattle.session_language.proofs.guesses.Guesses.find.Goals as goal
+use Rattle.text_lines.proofs.NamePlaces.{place_is}
+use Rattle.text_lines.proofs.guesses.Guesses.find.Goals as goal
 
 pub returns-then-eq : goal.returns-then-eq
 returns-then-eq c =
