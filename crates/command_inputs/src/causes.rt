@@ -17,6 +17,9 @@ pub fn read_cause(kind: ErrorKind) -> &'static str {
     }
 }
 
+/// What is said where the output can't be written, before the cause.
+pub const WRITE_FAILED: &str = "X5 WriteFailed: the output cannot be written";
+
 /// Why the output can't be written.
 pub fn write_cause(kind: ErrorKind) -> &'static str {
     match kind {

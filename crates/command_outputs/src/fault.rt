@@ -4,7 +4,7 @@ ghost use Rattle.std.specs.Prelude.{◌≡◌};
 ghost use Rattle.command_outputs.specs.declared.fault.Fault.TheVariants.{Memory, NoRun, Text};
 ghost use Rattle.command_outputs.specs.Fault.{input_of, refused_input};
 
-use command_inputs::causes::{read_cause, write_cause};
+use command_inputs::causes::{WRITE_FAILED, read_cause, write_cause};
 use command_inputs::{Input, TextFault};
 use journal_texts::{JournalRefusal, JournalRule};
 use office_stations::{OpeningFault, RunFault};
@@ -165,8 +165,9 @@ impl fmt::Display for Fault {
                 )
             }
             Fault::WriteFailed(kind) => {
+                let failed = WRITE_FAILED;
                 let cause = write_cause(*kind);
-                write!(f, "X5 WriteFailed: the output cannot be written: {cause}")
+                write!(f, "{failed}: {cause}")
             }
             Fault::FileFailed(_, kind) => {
                 let cause = file_cause(*kind);

@@ -17,8 +17,8 @@ use office_stations::{Around, Binds, Gate, Open, UdpSockets, Watch};
 use output_files::{Disk, Targets};
 use random_runs::Schedule;
 pub use serial_command::answer::words;
-use serial_command::answer::{escaped, misused};
-use serial_command::exit::{Exit, FAILED, MISUSED, Said};
+use serial_command::answer::{fault_line, misused};
+use serial_command::exit::{Exit, FAILED, MISUSED};
 use std::alloc::{AllocError, Global};
 use std::io;
 use std::io::{IsTerminal, Write};
@@ -229,9 +229,13 @@ fn status(answer: &Result<u8, Fault>) -> u8
 }
 
 /// What is said of a request's answer: nothing, or the fault after the word that it is about.
-fn said(alloc: Global, request: &Request, answer: &Result<u8, Fault>) -> Said {
+fn said(
+    alloc: Global,
+    request: &Request,
+    answer: &Result<u8, Fault>,
+) -> Result<String, AllocError> {
     match answer {
-        Ok(_) => Said::Nothing,
+        Ok(_) => Ok(String::new(alloc)),
         Err(fault) => said_of(alloc, fault, named(request, fault)),
     }
 }
@@ -251,20 +255,10 @@ fn named<'a>(request: &'a Request<'_>, fault: &'a Fault) -> Option<&'a str> {
 }
 
 /// What is said of a fault. A reader of the output that has gone away needs no telling.
-fn said_of(alloc: Global, fault: &Fault, name: Option<&str>) -> Said {
+fn said_of(alloc: Global, fault: &Fault, name: Option<&str>) -> Result<String, AllocError> {
     match fault {
-        Fault::WriteFailed(io::ErrorKind::BrokenPipe) => Said::Nothing,
-        _ => Said::of(fault_line(alloc, fault, name)),
-    }
-}
-
-fn fault_line(alloc: Global, fault: &Fault, name: Option<&str>) -> Result<String, AllocError> {
-    match name {
-        None => format!(in alloc; "drink: {fault}\n"),
-        Some(name) => {
-            let name = escaped(alloc, name)?;
-            format!(in alloc; "drink: {name}: {fault}\n")
-        }
+        Fault::WriteFailed(io::ErrorKind::BrokenPipe) => Ok(String::new(alloc)),
+        _ => fault_line(alloc, fault, name),
     }
 }
 

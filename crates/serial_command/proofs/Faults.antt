@@ -11,9 +11,7 @@ use Rattle.command_inputs.specs.declared.fault.TextFault.{TextFault}
 use Rattle.command_inputs.specs.declared.fault.TextFault.TheVariants.{Memory, ReadFailed, Plan, Ring, Sessions}
 use Rattle.command_inputs.specs.declared.input.Input.{Input}
 use Rattle.command_inputs.specs.declared.input.Input.TheVariants as inputs
-use Rattle.serial_command.specs.Texts.{Accepts, IsJudged, IsOf, IsOfOutput, Judges}
-use Rattle.serial_command.specs.declared.fault.SerialFault.{SerialFault}
-use Rattle.serial_command.specs.declared.fault.SerialFault.TheVariants.{Text, Output}
+use Rattle.serial_command.specs.Texts.{Accepts, AcceptsEach, AreAccepted, IsJudged, Judges}
 
 weaker : (input : Input) (P Q : TextFault → Type 0) (f : TextFault) → ((f : TextFault) → P f → Q f) → IsAtInput input P f → IsAtInput input Q f
 weaker input P Q Memory k h = tt
@@ -40,11 +38,11 @@ RefusesWord files u word plan why = (text : List ℕ) (after : Unread) → HasTe
 
 -- at either of a plan and sessions
 pub among_plan : (files : List ℕ → Option (List ℕ)) (u : Unread) (word : List ℕ) (f : TextFault) → IsAtInput inputs.Plan (RefusesWord files u word None) f
-    → IsOf Asked (Text f)
+    → IsOneOf Asked f
 among_plan files u word f h = among Asked inputs.Plan (RefusesWord files u word None) f (0, omega arith, refl) h
 
 pub among_sessions : (files : List ℕ → Option (List ℕ)) (u : Unread) (word : List ℕ) (p : PlanValue) (f : TextFault)
-    → IsAtInput inputs.Sessions (RefusesWord files u word (Some p)) f → IsOf Asked (Text f)
+    → IsAtInput inputs.Sessions (RefusesWord files u word (Some p)) f → IsOneOf Asked f
 among_sessions files u word p f h = among Asked inputs.Sessions (RefusesWord files u word (Some p)) f (1, omega arith, refl) h
 
 contains_more : (input : Input) (asked : List Input) (x : Input) → Contains asked x → Contains (input ∷ asked) x
@@ -57,18 +55,17 @@ one_more input asked (Plan r said) h = contains_more input asked inputs.Plan h
 one_more input asked (Ring r said) h = contains_more input asked inputs.Plan h
 one_more input asked (Sessions r said) h = contains_more input asked inputs.Sessions h
 
-among_more : (input : Input) (asked : List Input) (f : SerialFault) → IsOf asked f → IsOf (input ∷ asked) f
-among_more input asked (Text f) h = one_more input asked f h
-among_more input asked (Output cause) h = tt
-
--- the writing failed, and no input is at fault
-pub no_input : (f : SerialFault) → IsOfOutput f → IsOf [] f
-no_input (Text f) h = absurd h
-no_input (Output cause) h = tt
-
-at_input : (plan : Option PlanValue) (asked : List Input) (f : SerialFault) → Judges plan asked [] f → IsOf asked f
+at_input : (plan : Option PlanValue) (asked : List Input) (f : TextFault) → Judges plan asked [] f → IsOneOf asked f
 at_input plan [] f h = h
 at_input plan (input ∷ asked) f h = h
+
+-- where memory ran out, nothing is said
+judges_memory : (plan : Option PlanValue) (input : Input) (asked : List Input) (texts : List (List ℕ)) → Judges plan (input ∷ asked) texts Memory
+judges_memory plan input asked [] = tt
+judges_memory plan input asked (text ∷ texts) = inl tt
+
+pub judged_memory : (files : List ℕ → Option (List ℕ)) (standard : Option (List ℕ)) (words : List (List ℕ)) → IsJudged files standard words Asked Memory
+judged_memory files standard words texts n known = judges_memory None inputs.Plan (inputs.Sessions ∷ []) (take n texts)
 
 -- what the text of a word is, where it was accepted, and what is left then
 abbrev IsTaken : (List ℕ → Option (List ℕ)) → Unread → List ℕ → Unread → Input → Option PlanValue → Option PlanValue → Type 0
@@ -77,33 +74,44 @@ IsTaken files u word v input plan next = (text : List ℕ) (after : Unread) → 
 
 module _ (files : List ℕ → Option (List ℕ)) where
   -- a fault says what is so of the texts of these words, whichever are known
-  abbrev SaysTexts : Unread → List (List ℕ) → Option PlanValue → List Input → SerialFault → Type 0
+  abbrev SaysTexts : Unread → List (List ℕ) → Option PlanValue → List Input → TextFault → Type 0
   SaysTexts u words plan asked f = (texts : List (List ℕ)) (n : ℕ) → HaveTexts files u (take n words) (take n texts) → Judges plan asked (take n texts) f
 
   -- at the first of the words
   at_first : (u : Unread) (word : List ℕ) (words : List (List ℕ)) (plan : Option PlanValue) (input : Input) (asked : List Input) (f : TextFault)
       → IsAtInput input (RefusesWord files u word plan) f
-      → SaysTexts u (word ∷ words) plan (input ∷ asked) (Text f)
+      → SaysTexts u (word ∷ words) plan (input ∷ asked) f
   at_first u word words plan input asked f h texts zero has = among (input ∷ asked) input (RefusesWord files u word plan) f (0, omega arith, refl) h
   at_first u word words plan input asked f h [] (suc n) has = absurd has
   at_first u word words plan input asked f h (text ∷ texts) (suc n) (after, has, more) = inl (weaker input (RefusesWord files u word plan) (RefusesText plan text) f (λ why refused. refused text after has) h)
 
   -- at a later one, where the text of the first is accepted
-  at_next : (u v : Unread) (word : List ℕ) (words : List (List ℕ)) (plan next : Option PlanValue) (input : Input) (asked : List Input) (f : SerialFault)
+  at_next : (u v : Unread) (word : List ℕ) (words : List (List ℕ)) (plan next : Option PlanValue) (input : Input) (asked : List Input) (f : TextFault)
       → IsTaken files u word v input plan next → SaysTexts v words next asked f → SaysTexts u (word ∷ words) plan (input ∷ asked) f
-  at_next u v word words plan next input asked f taken later texts zero has = among_more input asked f (at_input next asked f (later [] 0 tt))
+  at_next u v word words plan next input asked f taken later texts zero has = one_more input asked f (at_input next asked f (later [] 0 tt))
   at_next u v word words plan next input asked f taken later [] (suc n) has = absurd has
   at_next u v word words plan next input asked f taken later (text ∷ texts) (suc n) (after, has, more) =
       let it = taken text after has in
       inr (next, it.0, later texts n (subst (λ s. HaveTexts files s (take n words) (take n texts)) (sym it.1) more))
 
-  -- at none of them: all are accepted
-  at_end : (u : Unread) (plan : Option PlanValue) (f : SerialFault) → IsOf [] f → SaysTexts u [] plan [] f
-  at_end u plan f h texts zero has = h
-  at_end u plan f h [] (suc n) has = h
-  at_end u plan f h (text ∷ texts) (suc n) has = absurd has
+  -- the texts of these words are accepted, whichever are known
+  abbrev AcceptsTexts : Unread → List (List ℕ) → Option PlanValue → List Input → Type 0
+  AcceptsTexts u words plan asked = (texts : List (List ℕ)) (n : ℕ) → HaveTexts files u (take n words) (take n texts) → AcceptsEach plan asked (take n texts)
 
-  judged : (standard : Option (List ℕ)) (u : Unread) (words : List (List ℕ)) (asked : List Input) (f : SerialFault) → u ≡ unread standard words
+  accepts_next : (u v : Unread) (word : List ℕ) (words : List (List ℕ)) (plan next : Option PlanValue) (input : Input) (asked : List Input)
+      → IsTaken files u word v input plan next → AcceptsTexts v words next asked → AcceptsTexts u (word ∷ words) plan (input ∷ asked)
+  accepts_next u v word words plan next input asked taken later texts zero has = tt
+  accepts_next u v word words plan next input asked taken later [] (suc n) has = absurd has
+  accepts_next u v word words plan next input asked taken later (text ∷ texts) (suc n) (after, has, more) =
+      let it = taken text after has in
+      (next, it.0, later texts n (subst (λ s. HaveTexts files s (take n words) (take n texts)) (sym it.1) more))
+
+  accepts_none : (u : Unread) (plan : Option PlanValue) → AcceptsTexts u [] plan []
+  accepts_none u plan texts zero has = tt
+  accepts_none u plan [] (suc n) has = tt
+  accepts_none u plan (text ∷ texts) (suc n) has = absurd has
+
+  judged : (standard : Option (List ℕ)) (u : Unread) (words : List (List ℕ)) (asked : List Input) (f : TextFault) → u ≡ unread standard words
       → SaysTexts u words None asked f → IsJudged files standard words asked f
   judged standard u words asked f e says texts n known =
       says texts n (subst (λ s. HaveTexts files s (take n words) (take n texts)) (sym e) known.1)
@@ -125,27 +133,27 @@ module _ (files : List ℕ → Option (List ℕ)) where
   -- at the plan
   pub at_plan : (standard : Option (List ℕ)) (u : Unread) (plan sessions : List ℕ) (f : TextFault) → u ≡ unread standard (plan ∷ sessions ∷ [])
       → IsAtInput inputs.Plan (RefusesWord files u plan None) f
-      → IsJudged files standard (plan ∷ sessions ∷ []) Asked (Text f)
-  at_plan standard u plan sessions f e h = judged standard u (plan ∷ sessions ∷ []) Asked (Text f) e (at_first u plan (sessions ∷ []) None inputs.Plan (inputs.Sessions ∷ []) f h)
+      → IsJudged files standard (plan ∷ sessions ∷ []) Asked f
+  at_plan standard u plan sessions f e h = judged standard u (plan ∷ sessions ∷ []) Asked f e (at_first u plan (sessions ∷ []) None inputs.Plan (inputs.Sessions ∷ []) f h)
 
   -- at the sessions
   pub at_sessions : (standard : Option (List ℕ)) (u v : Unread) (plan sessions : List ℕ) (p : PlanValue) (f : TextFault) → u ≡ unread standard (plan ∷ sessions ∷ [])
       → TakesPlan u plan v p
       → IsAtInput inputs.Sessions (RefusesWord files v sessions (Some p)) f
-      → IsJudged files standard (plan ∷ sessions ∷ []) Asked (Text f)
-  at_sessions standard u v plan sessions p f e taken h =
-      judged standard u (plan ∷ sessions ∷ []) Asked (Text f) e
-      (at_next u v plan (sessions ∷ []) None (Some p) inputs.Plan (inputs.Sessions ∷ []) (Text f) (plan_taken u plan v p taken)
-      (at_first v sessions [] (Some p) inputs.Sessions [] f h))
-
-  -- after both
-  pub at_neither : (standard : Option (List ℕ)) (u v w : Unread) (plan sessions : List ℕ) (p : PlanValue) (programs : List ProgramValue) (f : SerialFault)
-      → u ≡ unread standard (plan ∷ sessions ∷ []) → TakesPlan u plan v p → TakesSessions v sessions w p programs → IsOf [] f
       → IsJudged files standard (plan ∷ sessions ∷ []) Asked f
-  at_neither standard u v w plan sessions p programs f e taken more h =
+  at_sessions standard u v plan sessions p f e taken h =
       judged standard u (plan ∷ sessions ∷ []) Asked f e
       (at_next u v plan (sessions ∷ []) None (Some p) inputs.Plan (inputs.Sessions ∷ []) f (plan_taken u plan v p taken)
-      (at_next v w sessions [] (Some p) (Some p) inputs.Sessions [] f (sessions_taken v sessions w p programs more) (at_end w (Some p) f h)))
+      (at_first v sessions [] (Some p) inputs.Sessions [] f h))
+
+  -- both are accepted
+  pub both_accepted : (standard : Option (List ℕ)) (u v w : Unread) (plan sessions : List ℕ) (p : PlanValue) (programs : List ProgramValue)
+      → u ≡ unread standard (plan ∷ sessions ∷ []) → TakesPlan u plan v p → TakesSessions v sessions w p programs
+      → AreAccepted files standard (plan ∷ sessions ∷ []) Asked
+  both_accepted standard u v w plan sessions p programs e taken more texts n known =
+      accepts_next u v plan (sessions ∷ []) None (Some p) inputs.Plan (inputs.Sessions ∷ []) (plan_taken u plan v p taken)
+      (accepts_next v w sessions [] (Some p) (Some p) inputs.Sessions [] (sessions_taken v sessions w p programs more) (accepts_none w (Some p)))
+      texts n (subst (λ s. HaveTexts files s (take n (plan ∷ sessions ∷ [])) (take n texts)) (sym e) known.1)
 
   -- what both mean
   pub both_mean : (standard : Option (List ℕ)) (u v w : Unread) (plan sessions : List ℕ) (p : PlanValue) (programs : List ProgramValue)

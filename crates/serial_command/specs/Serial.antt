@@ -12,11 +12,14 @@ use Rattle.session_reports.specs.Report.{report_of}
 abbrev pub serial_report : PlanValue → List ProgramValue → List ℕ
 serial_report p programs = report_of p (outcomes_of (start_map p) programs) (map_of (start_map p) programs)
 
--- The two texts mean a plan and sessions under it, and the report of their serial run was written after what the
--- writer held.
-pub record Reports (plan sessions : List ℕ) (old new : Option (List ℕ)) : Type 0 where
+-- The two texts mean a plan and sessions under it, and this is the report of their serial run.
+pub record IsReportOf (plan sessions report : List ℕ) : Type 0 where
   pub p : PlanValue
   pub programs : List ProgramValue
   pub is_plan : IsAcceptedAs plan p
   pub are_sessions : sessions_of p sessions ≡ Ok programs
-  pub written : Appends old new (serial_report p programs)
+  pub is_report : report ≡ serial_report p programs
+
+-- That report was written after what the writer held.
+abbrev pub Reports : List ℕ → List ℕ → Option (List ℕ) → Option (List ℕ) → Type 0
+Reports plan sessions old new = (report : List ℕ) × IsReportOf plan sessions report × Appends old new report

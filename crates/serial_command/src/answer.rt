@@ -1,19 +1,22 @@
 //! What the words of a command line ask for, done where that is `serial`.
 
-ghost use Rattle.std.specs.Prelude.{◌≡◌, ◌≤◌, map};
+ghost use Rattle.std.specs.Prelude.{◌≡◌, ◌≤◌, ◌⊎◌, [], ◌∷◌, map};
+ghost use Rattle.std.specs.Io.KnownBytes.{Appends};
 ghost use Rattle.std.specs.String.{string_bytes};
 ghost use Rattle.clap.specs.Values.{kind_of};
 ghost use Rattle.serial_command.specs.Answers.{IsAnswered, IsDone, IsReported, IsShown};
+ghost use Rattle.serial_command.specs.Texts.{AreAccepted};
 
-use crate::exit::{DONE, Exit, FAILED, MISUSED, Said};
-use crate::fault::SerialFault;
-use crate::output::write_out;
+use crate::exit::{DONE, Exit, FAILED, MISUSED};
 use crate::serial;
 use clap::error::ErrorKind;
-use command_inputs::Input;
+use command_inputs::causes::{WRITE_FAILED, write_cause};
+use command_inputs::{Input, TextFault};
 use command_words::command_line::{Request, command_line, help};
-use input_texts::{Devices, Sources};
+use input_texts::{Devices, Sources, failure_kind};
+use output_files::write_whole;
 use std::alloc::{AllocError, Global};
+use std::fmt::Display;
 use std::io;
 use std::io::Write;
 use std::rt::{Env, Files};
@@ -40,8 +43,15 @@ pub fn words<R: AllocGlobal + Env>(rt: &R) -> Result<Vec<String>, Exit> {
             Err(_) => Err(Exit::out_of_memory()),
         },
         Err(e) if e.kind() == io::ErrorKind::OutOfMemory => Err(Exit::out_of_memory()),
-        Err(_) => Err(Exit::no_text()),
+        Err(_) => Err(Exit::saying(MISUSED, no_text(rt.alloc()))),
     }
+}
+
+fn no_text(alloc: Global) -> Result<String, AllocError> {
+    String::from_str(
+        alloc,
+        "drink: the command line is not UTF-8, and file names have to be\n",
+    )
 }
 
 /// Does what these words ask for, where that is a serial run. The first of them is the program's name. The status is 0 only where it
@@ -80,7 +90,7 @@ fn perform<S: Sources, W: Write>(
     }
 }
 
-/// The serial run of the plan and the sessions that these words stand for.
+/// The serial run of the plan and the sessions that these words stand for. Nothing is written before both are judged.
 fn report<S: Sources, W: Write>(
     alloc: Global,
     plan: &str,
@@ -90,13 +100,14 @@ fn report<S: Sources, W: Write>(
 ) -> Exit
     ensures done { result.status ≡ 0 → IsReported (S.file_text sources.now) (S.standard_text sources.now) plan.now sessions.now (W.contents out.old) (W.contents out.new) }
     ensures status { result.status ≤ 1 }
+    ensures unwritten { (out.new ≡ out.old) ⊎ AreAccepted (S.file_text sources.now) (S.standard_text sources.now) (plan.now ∷ sessions.now ∷ []) (Input.Plan ∷ Input.Sessions ∷ []) }
 {
-    match serial::run(alloc, sources, plan, sessions, out) {
-        Ok(()) => Exit::silent(DONE),
-        Err(fault) => Exit {
-            status: FAILED,
-            said: said_of(alloc, &fault, named(plan, sessions, &fault)),
-        },
+    match serial::run(alloc, sources, plan, sessions) {
+        Ok(text) => write_out(alloc, &text, out),
+        Err(fault) => {
+            let line = fault_line(alloc, &fault, named(plan, sessions, &fault));
+            Exit::saying(FAILED, line)
+        }
     }
 }
 
@@ -105,10 +116,7 @@ fn another_command(alloc: Global) -> Result<String, AllocError> {
 }
 
 /// The word that a fault is about, if it is about one.
-fn named<'a>(plan: &'a str, sessions: &'a str, fault: &SerialFault) -> Option<&'a str> {
-    let SerialFault::Text(fault) = fault else {
-        return None;
-    };
+fn named<'a>(plan: &'a str, sessions: &'a str, fault: &TextFault) -> Option<&'a str> {
     match fault.input() {
         Some(Input::Plan) => Some(plan),
         Some(Input::Sessions) => Some(sessions),
@@ -116,17 +124,10 @@ fn named<'a>(plan: &'a str, sessions: &'a str, fault: &SerialFault) -> Option<&'
     }
 }
 
-/// What is said of a fault. A reader of the output that has gone away needs no telling.
-fn said_of(alloc: Global, fault: &SerialFault, name: Option<&str>) -> Said {
-    match fault {
-        SerialFault::Output(io::ErrorKind::BrokenPipe) => Said::Nothing,
-        _ => Said::of(fault_line(alloc, fault, name)),
-    }
-}
-
-fn fault_line(
+/// The line that is said of a fault, after the word or the file that it is about.
+pub fn fault_line<F: Display>(
     alloc: Global,
-    fault: &SerialFault,
+    fault: &F,
     name: Option<&str>,
 ) -> Result<String, AllocError> {
     match name {
@@ -140,7 +141,7 @@ fn fault_line(
 
 /// A file's name as people are shown it: with its control characters escaped, so that a fault is one line and a terminal
 /// shows it as it is.
-pub fn escaped(alloc: Global, name: &str) -> Result<String, AllocError> {
+fn escaped(alloc: Global, name: &str) -> Result<String, AllocError> {
     let mut shown = String::new(alloc);
     for c in name.chars() {
         if c.is_control() {
@@ -179,14 +180,28 @@ fn misuse(alloc: Global, error: &clap::Error) -> Result<String, AllocError> {
 fn shown<W: Write>(alloc: Global, error: &clap::Error, out: &mut W) -> Exit
     ensures { result.status ≤ 1 }
 {
-    let Ok(text) = error.to_string(alloc) else {
-        return Exit::out_of_memory();
-    };
-    match write_out(out, &text) {
-        Ok(()) => Exit::silent(DONE),
-        Err(fault) => Exit {
-            status: FAILED,
-            said: said_of(alloc, &fault, None),
+    match error.to_string(alloc) {
+        Ok(text) => write_out(alloc, &text, out),
+        Err(_) => Exit::out_of_memory(),
+    }
+}
+
+/// The whole text goes out, or it is said why it can't. A reader of the output that has gone away needs no telling.
+fn write_out<W: Write>(alloc: Global, text: &str, out: &mut W) -> Exit
+    ensures written { result.status ≡ 0 → Appends (W.contents out.old) (W.contents out.new) text.now }
+    ensures status { result.status ≤ 1 }
+{
+    match write_whole(out, text.as_bytes()) {
+        Ok(()) => Exit::silent(alloc, DONE),
+        Err(error) => match failure_kind(&error) {
+            io::ErrorKind::BrokenPipe => Exit::silent(alloc, FAILED),
+            kind => Exit::saying(FAILED, write_failed(alloc, kind)),
         },
     }
+}
+
+fn write_failed(alloc: Global, kind: io::ErrorKind) -> Result<String, AllocError> {
+    let failed = WRITE_FAILED;
+    let cause = write_cause(kind);
+    format!(in alloc; "drink: {failed}: {cause}\n")
 }

@@ -2,7 +2,7 @@
 
 ghost use Rattle.std.specs.Prelude.{◌≡◌, ◌⊎◌};
 
-use std::alloc::AllocError;
+use std::alloc::{AllocError, Global};
 
 /// The exit status of a command that did what it was asked for.
 pub const DONE: u8 = 0;
@@ -13,52 +13,22 @@ pub const FAILED: u8 = 1;
 /// The exit status where the command line is at fault.
 pub const MISUSED: u8 = 2;
 
-/// What is said on the standard error.
-#[derive(Drop)]
-pub enum Said {
-    Nothing,
-    Text(String),
-    /// That memory ran out, which takes none.
-    OutOfMemory,
-    /// That the command line is no text, which takes no memory either.
-    NoText,
-}
-
-impl Said {
-    /// This text, or that there was no memory for it.
-    pub fn of(text: Result<String, AllocError>) -> Said {
-        match text {
-            Ok(text) => Said::Text(text),
-            Err(_) => Said::OutOfMemory,
-        }
-    }
-
-    /// The text, empty where there is none.
-    fn text(&self) -> &str {
-        match self {
-            Said::Nothing => "",
-            Said::Text(text) => text.as_str(),
-            Said::OutOfMemory => "drink: out of memory\n",
-            Said::NoText => "drink: the command line is not UTF-8, and file names have to be\n",
-        }
-    }
-}
-
 /// The exit status, and what is said on the standard error.
 #[derive(Drop)]
 pub struct Exit {
     pub status: u8,
-    pub said: Said,
+    /// The text, which is empty where nothing is said. An `Err` is that memory ran out, which takes none to say.
+    pub said: Result<String, AllocError>,
 }
 
 impl Exit {
     /// A status alone.
-    pub fn silent(status: u8) -> Exit
+    pub fn silent(alloc: Global, status: u8) -> Exit
         ensures { result.status ≡ status }
     {
         Exit {
             status,
-            said: Said::Nothing,
+            said: Ok(String::new(alloc)),
         }
     }
 
@@ -68,15 +38,7 @@ impl Exit {
     {
         Exit {
             status: FAILED,
-            said: Said::OutOfMemory,
-        }
-    }
-
-    /// That the command line is no text.
-    pub fn no_text() -> Exit {
-        Exit {
-            status: MISUSED,
-            said: Said::NoText,
+            said: Err(AllocError),
         }
     }
 
@@ -87,7 +49,7 @@ impl Exit {
         match text {
             Ok(text) => Exit {
                 status,
-                said: Said::Text(text),
+                said: Ok(text),
             },
             Err(_) => Exit::out_of_memory(),
         }
@@ -95,7 +57,10 @@ impl Exit {
 
     /// What is said on the standard error.
     pub fn text(&self) -> &str {
-        self.said.text()
+        match &self.said {
+            Ok(text) => text.as_str(),
+            Err(_) => "drink: out of memory\n",
+        }
     }
 
     /// Says what is to be said, and answers the exit status.

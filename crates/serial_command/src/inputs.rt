@@ -5,10 +5,9 @@ ghost use Rattle.input_texts.specs.Words.{StandFor};
 ghost use Rattle.session_language.specs.Limits.{most_sessions};
 ghost use Rattle.session_programs.specs.Program.{fits};
 ghost use Rattle.session_language.specs.Reading.{sessions_of};
+ghost use Rattle.command_inputs.specs.Fault.{IsOneOf};
 ghost use Rattle.command_inputs.specs.Plans.{IsAcceptedAs};
-ghost use Rattle.serial_command.specs.Texts.{IsJudged, IsOf};
-ghost use Rattle.serial_command.specs.declared.fault.SerialFault.{SerialFault};
-ghost use Rattle.serial_command.specs.declared.fault.SerialFault.TheVariants.{Text};
+ghost use Rattle.serial_command.specs.Texts.{AreAccepted, IsJudged};
 
 use command_inputs::{Input, TextFault, read_plan, read_programs};
 use input_texts::{Sources, StandardInput};
@@ -36,12 +35,9 @@ pub fn read_inputs<S: Sources>(
         → IsAcceptedAs plan_text i.plan × (sessions_of i.plan sessions_text ≡ Ok i.programs.items)) }
     ensures fit { IfOk result (λ i. All (λ p. IsTrue (fits i.plan p)) i.programs.items) }
     ensures few { IfOk result (λ i. length i.programs.items ≤ most_sessions) }
-    ensures judged { IfErr result (λ f. IsJudged (S.file_text sources.now) (S.standard_text sources.now) (plan.now ∷ sessions.now ∷ []) (Input.Plan ∷ Input.Sessions ∷ []) (Text f)) }
-    ensures input { IfErr result (λ f. IsOf (Input.Plan ∷ Input.Sessions ∷ []) (Text f)) }
-
-    // A fault that comes after them is of no input.
-    ensures accepted { IfOk result (λ _. (f : SerialFault) → IsOf [] f
-        → IsJudged (S.file_text sources.now) (S.standard_text sources.now) (plan.now ∷ sessions.now ∷ []) (Input.Plan ∷ Input.Sessions ∷ []) f) }
+    ensures accepted { IfOk result (λ _. AreAccepted (S.file_text sources.now) (S.standard_text sources.now) (plan.now ∷ sessions.now ∷ []) (Input.Plan ∷ Input.Sessions ∷ [])) }
+    ensures judged { IfErr result (IsJudged (S.file_text sources.now) (S.standard_text sources.now) (plan.now ∷ sessions.now ∷ []) (Input.Plan ∷ Input.Sessions ∷ [])) }
+    ensures input { IfErr result (IsOneOf (Input.Plan ∷ Input.Sessions ∷ [])) }
 {
     let words = [plan, sessions];
     let mut standard = StandardInput::new(alloc, sources.standard(), &words);

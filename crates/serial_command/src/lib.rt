@@ -1,7 +1,7 @@
 //! The command `serial`: the sessions alone, one after another, and what each did.
 //!
-//! - [`serial::run`] writes the report of the serial run of the sessions that its words stand for (clause `reports`), and nothing
-//!   where an input is refused (clause `unwritten`). Its faults say what the texts are (clause `judged`).
+//! - [`serial::run`] answers the report of the serial run of the sessions that its words stand for (clause `report`). Where it does,
+//!   their texts are accepted (clause `accepted`), and its faults say what the texts are (clause `judged`).
 //! - [`answer::answer`] does what the words of a command line ask for, where that is `serial`, with status 0 only where it was done
 //!   (clause `done`); [`run`] hands it the files, the standard input and the output that the program was started with.
 //! - [`exit`] is how a program ends: its status, and what is said on the standard error.
@@ -12,9 +12,7 @@
 
 pub mod answer;
 pub mod exit;
-pub mod fault;
 pub mod inputs;
-mod output;
 pub mod serial;
 
 pub use answer::run;

@@ -1,43 +1,39 @@
 //! The run of sessions one after another, and its report.
 
-ghost use Rattle.std.specs.Prelude.{◌≡◌, ◌≤◌, ◌⊎◌, [], ◌∷◌, All, IfErr, IfOk, IsTrue, List, OnOk, length, true, ℕ};
+ghost use Rattle.std.specs.Prelude.{◌≡◌, ◌≤◌, [], ◌∷◌, All, IfErr, IfOk, IsTrue, List, length, true, ℕ};
 ghost use Rattle.std.specs.String.{string_bytes};
 ghost use Rattle.input_texts.specs.Words.{StandFor};
 ghost use Rattle.session_language.specs.Limits.{most_sessions};
 ghost use Rattle.session_programs.specs.Program.{fits};
-ghost use Rattle.serial_command.specs.Serial.{Reports, serial_report};
-ghost use Rattle.serial_command.specs.Texts.{IsJudged, IsOf, IsOfOutput};
+ghost use Rattle.command_inputs.specs.Fault.{IsOneOf};
+ghost use Rattle.serial_command.specs.Serial.{IsReportOf, serial_report};
+ghost use Rattle.serial_command.specs.Texts.{AreAccepted, IsJudged};
 
-use crate::fault::SerialFault;
 use crate::inputs::{Inputs, read_inputs};
-use crate::output::write_out;
-use command_inputs::Input;
+use command_inputs::{Input, TextFault};
 use input_texts::Sources;
 use serial_replay::replay;
 use session_reports::report::report;
 use std::alloc::{AllocError, Global};
-use std::io::Write;
 
-/// Runs the sessions alone, one after another, and writes what each did and the values that they leave. The plan is read
-/// and judged before the sessions are read, and nothing is written before both are judged.
-pub fn run<S: Sources, W: Write>(
+/// Runs the sessions alone, one after another, and answers the text that tells what each did and the values that they leave. The plan
+/// is read and judged before the sessions are read.
+pub fn run<S: Sources>(
     alloc: Global,
     sources: &S,
     plan: &str,
     sessions: &str,
-    out: &mut W,
-) -> Result<(), SerialFault>
-    ensures reports { OnOk result ((plan_text sessions_text : List ℕ)
+) -> Result<String, TextFault>
+    ensures report { IfOk result (λ text. (plan_text sessions_text : List ℕ)
         → StandFor (S.file_text sources.now) (S.standard_text sources.now) (plan.now ∷ sessions.now ∷ []) (plan_text ∷ sessions_text ∷ [])
-        → Reports plan_text sessions_text (W.contents out.old) (W.contents out.new)) }
+        → IsReportOf plan_text sessions_text (string_bytes text)) }
+    ensures accepted { IfOk result (λ _. AreAccepted (S.file_text sources.now) (S.standard_text sources.now) (plan.now ∷ sessions.now ∷ []) (Input.Plan ∷ Input.Sessions ∷ [])) }
     ensures judged { IfErr result (IsJudged (S.file_text sources.now) (S.standard_text sources.now) (plan.now ∷ sessions.now ∷ []) (Input.Plan ∷ Input.Sessions ∷ [])) }
-    ensures input { IfErr result (IsOf (Input.Plan ∷ Input.Sessions ∷ [])) }
-    ensures unwritten { IfErr result (λ f. IsOfOutput f ⊎ (out.new ≡ out.old)) }
+    ensures input { IfErr result (IsOneOf (Input.Plan ∷ Input.Sessions ∷ [])) }
 {
     let found = read_inputs(alloc, sources, plan, sessions)?;
     let text = serial_report(alloc, found)?;
-    write_out(out, &text)?;
-    Ok(())
+    Ok(text)
 }
 
 /// The report of the serial run of sessions that fit a plan.

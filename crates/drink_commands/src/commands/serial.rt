@@ -9,8 +9,8 @@ ghost use Rattle.serial_command.specs.Serial.{Reports};
 use crate::commands::DONE;
 use command_inputs::Input;
 use command_outputs::Fault;
+use command_outputs::output::write_whole;
 use input_texts::Sources;
-use serial_command::fault::SerialFault;
 use std::alloc::Global;
 use std::io::Write;
 
@@ -32,9 +32,7 @@ pub fn run<S: Sources, W: Write>(
     ensures input { IfErr result (IsAmong (Input.Plan ∷ Input.Sessions ∷ [])) }
     ensures unwritten { IfErr result (λ f. IsWriteFault f ⊎ (out.new ≡ out.old)) }
 {
-    match serial_command::serial::run(alloc, sources, plan, sessions, out) {
-        Ok(()) => Ok(DONE),
-        Err(SerialFault::Text(fault)) => Err(Fault::Text(fault)),
-        Err(SerialFault::Output(kind)) => Err(Fault::WriteFailed(kind)),
-    }
+    let text = serial_command::serial::run(alloc, sources, plan, sessions)?;
+    write_whole(out, &text)?;
+    Ok(DONE)
 }

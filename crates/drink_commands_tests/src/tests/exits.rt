@@ -3,9 +3,9 @@ use crate::tests::sockets::answered;
 use crate::tests::{MOVE, Memory, PLAN, strings};
 use command_inputs::{Input, TextFault};
 use command_outputs::Fault;
-use drink_program::exit::{Exit, Said};
+use drink_program::exit::Exit;
 use drink_program::program;
-use std::alloc::Global;
+use std::alloc::{AllocError, Global};
 use std::env::FillError;
 use std::io;
 use std::io::{ErrorKind, Write};
@@ -27,16 +27,16 @@ fn ends(rt: &(impl Abort + AllocGlobal), exit: &Exit, status: u8, wanted: &str) 
 fn what_is_said_goes_out_with_the_status(rt: HostRuntime) -> Result<(), Fail> {
     let alloc = rt.alloc();
     for status in 0..3 {
-        let silent = Exit::silent(status);
+        let silent = Exit::silent(alloc, status);
         ends(&rt, &silent, status, "");
         let short = Exit {
             status,
-            said: Said::OutOfMemory,
+            said: Err(AllocError),
         };
         ends(&rt, &short, status, "drink: out of memory\n");
         let told = Exit {
             status,
-            said: Said::Text(String::from_str(alloc, "drink: a\n")?),
+            said: Ok(String::from_str(alloc, "drink: a\n")?),
         };
         ends(&rt, &told, status, "drink: a\n");
     }

@@ -1,6 +1,6 @@
 use Rattle.std.proofs.Common.{rules}
 use Rattle.std.proofs.lemmas.Result.{err_from_is_err_and}
-use Rattle.serial_command.proofs.Faults.{among_plan, among_sessions, at_neither, at_plan, at_sessions, both_mean}
+use Rattle.serial_command.proofs.Faults.{among_plan, among_sessions, at_plan, at_sessions, both_accepted, both_mean}
 use Rattle.serial_command.proofs.inputs.read_inputs.Goals as goal
 
 pub returns-in_err-plan-clause-judged : goal.returns-in_err-plan-clause-judged
@@ -32,6 +32,6 @@ returns-clause-meaning g c = λ plan_text sessions_text known.
     c.in_ok-plan.plan c.in_ok-programs.programs.items (search rules) c.in_ok-plan.ensures.meaning c.in_ok-programs.ensures.meaning plan_text sessions_text known
 
 pub returns-clause-accepted : goal.returns-clause-accepted
-returns-clause-accepted g c = λ f h.
-    at_neither (g.S.Sources.file_text c.args.sources.now) (g.S.Sources.standard_text c.args.sources.now) c.new-standard.result c.read_plan.new.standard c.read_programs.new.standard c.args.plan.now c.args.sessions.now
-    c.in_ok-plan.plan c.in_ok-programs.programs.items f (search rules) c.in_ok-plan.ensures.meaning c.in_ok-programs.ensures.meaning h
+returns-clause-accepted g c =
+    both_accepted (g.S.Sources.file_text c.args.sources.now) (g.S.Sources.standard_text c.args.sources.now) c.new-standard.result c.read_plan.new.standard c.read_programs.new.standard c.args.plan.now c.args.sessions.now
+    c.in_ok-plan.plan c.in_ok-programs.programs.items (search rules) c.in_ok-plan.ensures.meaning c.in_ok-programs.ensures.meaning
