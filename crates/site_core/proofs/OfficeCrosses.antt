@@ -74,7 +74,7 @@ channels_send : IsSend Channels.the_row
 channels_send = search (channel.the_send, sendable, crosses) depth 40
 
 pairs_send : IsSend Pairs.the_row
-pairs_send = search (plan.the_send, office_id.the_send, table.the_send, bar.the_send, channels_send, sendable, crosses) depth 40
+pairs_send = search (plan.the_send, office_id.the_send, table.the_send, bar.the_send, channels_send, sendable, crosses) depth 60 fits 20000
 
 pub office_send : IsSend Office.the_row
 office_send = search (pairs_send, agenda_send, journal_send, sendable, crosses) depth 40

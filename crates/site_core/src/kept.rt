@@ -8,10 +8,7 @@ use office_map::{OfficeId, Plan};
 use own_lock::Kept;
 
 /// Its key is its plan and its number, and its entries are those of its journal. It fits where the journal is legal; that it
-/// is the office at the end of that journal holds of every office.
-///
-/// An office fits where its journal is legal. That it is the office at that journal's end is the invariant of its type,
-/// so nobody has to show it.
+/// is the office at that journal's end is the invariant of its type, so nobody has to show it.
 impl Kept for Office {
     type Key = (Plan, OfficeId);
 

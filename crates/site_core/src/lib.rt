@@ -28,23 +28,17 @@
 //!   [`Office::submit`], [`Office::act`], [`Office::send`], [`Office::take`], [`Office::withdraw`] for one kind of them): `Steps` says
 //!   which reply or refusal it gets, and that an accepted one adds its one entry and a refused one nothing.
 //! - What an office answers is `answer`, in `specs/Offices.antt`; `may` and `act` there are the guard and the effect of each [`Rule`].
-//!   They hand the rows of forks to `dining_core`, those of bottles to `drinking_core`, the numbering of messages to `window_link`, and
-//!   what a frame may bring to `token_channel`: no row stands twice. A session's work is that of `session_machine`.
-//! - What is shared with neighbours is that of `neighbour_pairs`, the sessions are those of `session_agenda`.
+//!   What is shared with neighbours is that of `neighbour_pairs`, which says whose each row is; the sessions are those of
+//!   `session_agenda`, and a session's work is that of `session_machine`.
 //! - The journal is legal ([`Office::journal`]): each entry has the reply that the office gives there. [`Office::enabled`] tells a
 //!   rule's guard, [`Office::next_rule`] the first rule that may be done in the order of `specs/RuleOrder.antt`, and each reader what
 //!   the office at the end of its journal has.
 //! - An office is `own_lock`'s `Kept`: it can be shared under that crate's lock.
-//! - [`Office::receive`] takes bytes; those that are no frame are refused for what is wrong with them. Who has read them already hands
-//!   in what was read, by [`Office::take_read`].
+//! - [`Office::receive`] takes bytes, and [`Office::take_read`] what was read of them already.
 //!
-//! `Memory` is answered only where an event would be accepted, and then nothing changed. `proofs/OfficeLimits.antt` has that no link
-//! runs out of numbers before the journal is full.
-//!
-//! Table, bar and channels each keep what is held here in the form that they need; that they agree is the invariant of `Pairs`
-//! (`neighbour_pairs`, `specs/refinement/PairsOfCode.antt`), and no contract of an office mentions it.
-//!
-//! An event is checked, then there has to be room in the journal, then what takes memory is made, and only then something changes.
+//! An event is checked, then there has to be room in the journal, then what takes memory is made, and only then something changes. So
+//! `Memory` is answered only where the event would be accepted. `proofs/OfficeLimits.antt` has that no link runs out of numbers before
+//! the journal is full.
 //!
 //! Tickets number the sessions as they were submitted, and none is given twice. Those of the finished sessions, of the current one and
 //! of those that wait rise in this order, with gaps where sessions were withdrawn.

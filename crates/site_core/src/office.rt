@@ -121,8 +121,7 @@ impl Office {
         Ok(Reply::Ticket(ticket))
     }
 
-    /// Withdraws the session with that ticket, which waits, or waits for its bottles. It is neither finished nor unfinished
-    /// then, and its ticket isn't given again.
+    /// Withdraws the session with that ticket, which waits, or waits for its bottles. It is neither finished nor unfinished then.
     ///
     /// # Errors
     /// `NotNow` where no session with that ticket waits, and the current one isn't that or drinks; then `JournalFull`, then
@@ -258,14 +257,11 @@ impl Office {
         self.agenda.outcomes()
     }
 
-    /// How the session with that ticket ended; none where it hasn't finished, or was withdrawn.
-    ///
-    /// Tickets rise, but with gaps where sessions were withdrawn: so the ticket is looked for, by halving, and no place
-    /// is reckoned from its number.
+    /// How the session with that ticket ended; none where it hasn't finished, or was withdrawn. Tickets have gaps, so no place is
+    /// reckoned from the number: it is looked for, by halving.
     pub fn outcome(&self, ticket: u32) -> Option<&Outcome>
         ensures { option_copied result ≡ outcome_with (office_of self.now).agenda.outcomes ticket }
     {
-        // Sessions finish in the order of their tickets.
         sessions_go_in_order();
         let outcomes = self.outcomes();
         match outcomes.binary_search_by_key(&ticket, |outcome| outcome.ticket) {
@@ -315,8 +311,6 @@ impl Office {
     }
 
     /// The number and the value of the message with a record's bottle that waits for the record's other end, if one waits.
-    ///
-    /// A relation tells it: the message of that number waits, with that value; or no message waits with that bottle.
     pub fn waiting_value(&self, r: RecordId) -> Option<(u64, Value)>
         ensures told { is_end self.now.plan r self.now.me ≡ true → TellsBottle ((office_of self.now).pairs.link (peer self.now.plan self.now.me r)) r result }
         ensures once { is_end self.now.plan r self.now.me ≡ true → count_carrying (things.Bottle r) ((office_of self.now).pairs.link (peer self.now.plan self.now.me r)).sending.waiting ≤ 1 }

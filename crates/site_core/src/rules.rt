@@ -203,9 +203,8 @@ pub fn withdraw(pairs: &mut Pairs, agenda: &mut Agenda, ticket: u32) -> Result<(
     Ok(())
 }
 
-/// Why an event is refused for which there is no room: its guard comes first.
-///
-/// Room for the entry is made first; where there is some, the guard is looked at once, by the rule itself.
+/// Why an event is refused for which there is no room: its guard comes first. Where there is room, the guard is looked at once, by
+/// the rule itself.
 pub fn unless_guarded(guard: bool, refusal: Refusal) -> Refusal
     ensures { result ≡ (if guard then refusal else refusals.NotNow) }
 {
