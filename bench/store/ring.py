@@ -7,12 +7,13 @@ Each office has a record with each of its neighbours; each session adds 1 to one
 begin their first turn together (counts.c); its time is taken from there to the last wait of an office that had more to do. All has to
 finish. FOLDER has what a run makes, so it says how fast a disk is.
 """
-import os, socket, sqlite3, statistics, struct, subprocess, sys, time
+import os, socket, sqlite3, struct, subprocess, sys, time
 
 OFFICES, EACH, RUNS = ("o0", "o1", "o2", "o3"), 1024, 5
 NAMES = ("begun", "worked_last", "data_sent_last", "datagrams_sent", "datagrams_come", "appends", "appended_bytes", "syncs", "waits", "allocations")
 WAYS = {"without": [], "none": ["--sync", "none"], "data": ["--sync", "data"]}
-# A run is over when no message was sent for so many seconds. Others may take longer: so many times as many turns, and some more.
+# A run is over when no message was sent for so many seconds. Others may take longer: so many times as many turns, and some more. A run
+# whose turns end before its sessions counts as longer than all others, so that medians stand as long as fewer than half are such.
 QUIET, TIMES, LATER, MOST = 1.0, 3, 200, 100_000
 # So many rounds of sessions, one at each office, are SQLite's transactions.
 ROUNDS = 128
@@ -107,17 +108,20 @@ def ran(way, turns):
 
 
 def run_once_more(way, turns, runs):
-    """One more run, and the turns that it had. How often bottles go to and fro differs from run to run: where the turns of one end before
-    its sessions, all runs of this way are made again with twice as many. So none is left out because it is long."""
-    wanted = len(runs) + 1
-    while len(runs) < wanted:
-        if run := ran(way, turns):
-            runs.append(run)
-        else:
-            runs.clear()
-            turns = min(MOST, 2 * turns)
-            print(f"ring.py: {way}: all runs are made again, with {turns} turns", file=sys.stderr)
+    """One more run, and the turns that the next of this way has. How often bottles go to and fro differs from run to run, and turns with
+    it. Where so many were cut short that no median is known, all are made again, with twice as many."""
+    runs.append(ran(way, turns))
+    if runs.count(None) <= RUNS // 2:
+        return turns
+    runs.clear()
+    turns = min(MOST, 2 * turns)
+    print(f"ring.py: {way}: all runs are made again, with {turns} turns", file=sys.stderr)
     return turns
+
+
+def median(runs, of):
+    """The median of what these runs have, where those that were cut short have more than any other."""
+    return sorted(of(it) if it else float("inf") for it in runs)[len(runs) // 2]
 
 
 def turns_of(way):
@@ -167,27 +171,27 @@ def sqlite(mode):
 def main():
     turns = {it: turns_of(it) for it in WAYS}
     runs = {it: [] for it in (*WAYS, "WAL", "DELETE")}
-    for _ in range(RUNS):
-        for way in WAYS:
-            turns[way] = run_once_more(way, turns[way], runs[way])
-        for mode in ("WAL", "DELETE"):
-            runs[mode].append(([], sqlite(mode)))
+    while lacking := [it for it in runs if len(runs[it]) < RUNS]:
+        for way in lacking:
+            if way in WAYS:
+                turns[way] = run_once_more(way, turns[way], runs[way])
+            else:
+                runs[way].append(([], sqlite(way)))
     count = len(OFFICES) * EACH
-    rate = lambda way: count / statistics.median(seconds for _, seconds in runs[way])
-    print("| Store | Sessions a second | By those without | Turns | Appends | Syncs | Bytes appended |")
-    print("|---|---|---|---|---|---|---|")
+    rate = lambda way: count / median(runs[way], lambda run: run[1])
+    print("| Store | Sessions a second | By those without | Turns | Appends | Syncs | Bytes appended | Runs cut short |")
+    print("|---|---|---|---|---|---|---|---|")
     for way in WAYS:
-        all_counts = [counts for counts, _ in runs[way]]
-        sums = {name: statistics.median(sum(it[name] for it in counts) for counts in all_counts) for name in NAMES}
-        print(f"| {way} | {rate(way):.0f} | {rate(way) / rate('without'):.2f} | {sums['waits']:.0f} | {sums['appends']:.0f} | {sums['syncs']:.0f} | {sums['appended_bytes']:.0f} |")
-        for counts in all_counts:
+        sums = {name: median(runs[way], lambda run: sum(it[name] for it in run[0])) for name in NAMES}
+        print(f"| {way} | {rate(way):.0f} | {rate(way) / rate('without'):.2f} | {sums['waits']:.0f} | {sums['appends']:.0f} | {sums['syncs']:.0f} | {sums['appended_bytes']:.0f} | {runs[way].count(None)} of {RUNS} |")
+        for counts, _ in filter(None, runs[way]):
             for it in counts:
                 if way == "data" and it["syncs"] != it["appends"]:
                     sys.exit(f"ring.py: {it['syncs']} syncs, and {it['appends']} appends")
                 if way == "none" and it["syncs"]:
                     sys.exit(f"ring.py: {it['syncs']} syncs, where none are asked for")
     for mode in ("WAL", "DELETE"):
-        print(f"| SQLite, journal mode {mode} | {rate(mode):.0f} | {rate(mode) / rate('without'):.2f} | | | | |")
+        print(f"| SQLite, journal mode {mode} | {rate(mode):.0f} | {rate(mode) / rate('without'):.2f} | | | | | |")
 
 
 PROGRAM, LIBRARY, FOLDER = sys.argv[1:]
