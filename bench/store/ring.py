@@ -42,14 +42,19 @@ def sessions(office):
 
 
 class Office:
-    """A process of an office, with its counts."""
+    """A process of an office, with its counts. What it prints goes into a file: who read it from a pipe would work beside the offices."""
 
     def __init__(self, at, words):
-        self.counts_file = at
+        self.counts_file, self.printed_file = at, f"{at}.printed"
         if os.path.exists(at):
             os.remove(at)
         env = {**os.environ, "LD_PRELOAD": LIBRARY, "COUNTS": at, "START": os.path.join(FOLDER, "start"), "OFFICES": str(len(OFFICES))}
-        self.process = subprocess.Popen(words, stdin=subprocess.DEVNULL, stdout=subprocess.PIPE, stderr=subprocess.PIPE, env=env)
+        with open(self.printed_file, "wb") as printed:
+            self.process = subprocess.Popen(words, stdin=subprocess.DEVNULL, stdout=printed, stderr=subprocess.STDOUT, env=env)
+
+    def printed(self):
+        with open(self.printed_file, "rb") as file:
+            return file.read()
 
     def counts(self):
         try:
@@ -97,10 +102,10 @@ def started(way, turns):
 def ran(way, turns):
     """The counts of the offices in a run, and its seconds; None where its turns ended before all sessions had."""
     offices = started(way, turns)
-    outs = [it.process.communicate() for it in offices]
-    for it, (out, err) in zip(offices, outs):
-        if it.process.returncode not in (0, 1) or b"\nunfinished " not in out or turns == MOST and it.process.returncode:
-            sys.exit(f"ring.py: {way}, {turns} turns: status {it.process.returncode}, {out[-60:]!r}, {err!r}")
+    for it in offices:
+        status, out = it.process.wait(), it.printed()
+        if status not in (0, 1) or b"\nunfinished " not in out or turns == MOST and status:
+            sys.exit(f"ring.py: {way}, {turns} turns: status {status}, {out[-200:]!r}")
     if any(it.process.returncode for it in offices):
         return None
     counts = [it.counts() for it in offices]
@@ -138,7 +143,7 @@ def turns_of(way):
     finally:
         for it in offices:
             it.process.kill()
-            it.process.communicate()
+            it.process.wait()
     return min(MOST, TIMES * max(it["waits"] for it in counts) + LATER)
 
 
