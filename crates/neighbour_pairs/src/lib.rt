@@ -7,7 +7,8 @@
 //!   the invariant, and which pairs the code means (`pairs_of`), stand in `specs/refinement/PairsOfCode.antt`.
 //! - A frame that comes is first looked at ([`Pairs::check`]: the fault is `frame_fault`), and one without a fault is taken
 //!   ([`Pairs::take`]): what it brings is held, and after it what was kept, up to the first gap or breach (`after_taking`).
-//! - [`Pairs::first_given`] and the three beside it tell the least record or neighbour of whom a rule may be done.
+//! - [`Pairs::first_given`] and the three beside it tell the least record or neighbour of whom a rule may be done, and
+//!   [`Pairs::may_eat`] whether all forks are here of an office that waits for them.
 //!
 //! No call takes memory but [`Pairs::open`]. No row stands twice: those of forks are of `dining_core`, those of bottles of
 //! `drinking_core`, the numbers of messages are of `window_link`, and what a frame may bring is of `token_channel`.

@@ -146,6 +146,13 @@ impl Pairs {
         }
     }
 
+    /// Whether [`Pairs::eat`] would be done now.
+    pub fn may_eat(&self) -> bool
+        ensures { result ≡ forks.may (pairs_of self.now).diner forks.Eat }
+    {
+        self.table.may_eat()
+    }
+
     /// The offices with which this one shares a fork, the least number first.
     pub fn neighbours(&self) -> &[OfficeId]
         ensures { result.now ≡ neighbours_of self.now.plan self.now.me }

@@ -160,7 +160,7 @@ pub fn may(pairs: &Pairs, agenda: &Agenda, rule: &Rule) -> bool
         Rule::GiveFork(v) => {
             pairs.plan().are_neighbours(pairs.me(), v) && pairs.table().may_give_fork(v)
         }
-        Rule::Eat => pairs.table().may_eat(),
+        Rule::Eat => pairs.may_eat(),
         Rule::Leave => pairs.table().may_leave(thirsty),
         Rule::AskBottle(r) => {
             pairs.plan().has_end(r, pairs.me()) && pairs.bar().may_ask_bottle(r)
