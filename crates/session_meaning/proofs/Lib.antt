@@ -5,3 +5,4 @@ mod EndingLaws
 mod WorkedExamples
 mod session_measures
 mod working_copies
+pub mod Refilled

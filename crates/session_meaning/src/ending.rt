@@ -55,6 +55,15 @@ impl RecordValues {
         }
     }
 
+    /// No record yet, with room for so many.
+    pub fn with_capacity(alloc: Global, many: usize) -> Result<RecordValues, AllocError>
+        ensures { IfOk result (λ v. v ≡ []) }
+    {
+        Ok(RecordValues {
+            records: Vec::with_capacity(alloc, many)?,
+        })
+    }
+
     /// These records with their values, in the same memory.
     pub(crate) fn of(records: Vec<(RecordId, Value)>) -> RecordValues
         ensures { result ≡ records.items }

@@ -20,7 +20,7 @@ impl Model for Variables {
 }
 
 impl Variables {
-    ghost use Rattle.std.specs.Prelude.{◌≡◌, IfOk, replicate, slice_set};
+    ghost use Rattle.std.specs.Prelude.{◌≡◌, [], IfOk, OnOk, OnErr, replicate, slice_set};
     ghost use Rattle.std.specs.List.{slice_index_or};
     ghost use Rattle.bottle_values.specs.Operations.{nought};
 
@@ -31,6 +31,16 @@ impl Variables {
         Ok(Variables {
             values: vec![in alloc; Value::from(0); count]?,
         })
+    }
+
+    /// So many variables, each 0, in the same memory as far as that reaches. Where memory runs out, none is left.
+    pub fn restart(&mut self, count: usize) -> Result<(), AllocError>
+        ensures begun { OnOk result (self.new ≡ replicate count nought) }
+        ensures none_left { OnErr result (self.new ≡ []) }
+    {
+        self.values.clear();
+        self.values.resize(count, Value::from(0))?;
+        Ok(())
     }
 
     /// The value of a variable, and 0 of one that isn't there.

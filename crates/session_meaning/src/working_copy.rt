@@ -1,11 +1,15 @@
 //! A session's working copy of records.
 
 use crate::ending::RecordValues;
-use crate::slots::{Slot, are_sorted, first_value, put_writes, set_slot, slots_of, sorted_value};
+use crate::slots::{
+    Slot, are_sorted, first_value, put_writes, set_slot, slots_in, slots_of, sorted_value,
+    with_room, writes_in,
+};
 use bottle_values::Value;
 use office_map::RecordId;
 use std::alloc::{AllocError, Global};
 use std::marker::Model;
+use std::mem;
 
 /// A session's working copy of the records that it needs, with the memory that its writes need. Contracts see the list
 /// of its slots. Where the records are in order of number, one is found by halving.
@@ -35,7 +39,7 @@ impl Model for WorkingCopy {
 }
 
 impl WorkingCopy {
-    ghost use Rattle.std.specs.Prelude.{◌≡◌, IfOk, map};
+    ghost use Rattle.std.specs.Prelude.{◌≡◌, [], IfOk, OnOk, OnErr, map};
     ghost use Rattle.session_meaning.specs.Meaning.{slot_of, value_in, set_in, writes_of};
 
     /// The copy as the session begins.
@@ -44,6 +48,45 @@ impl WorkingCopy {
     {
         let slots = slots_of(alloc, reads.as_slice())?;
         let writes = Vec::with_capacity(alloc, slots.len())?;
+        let is_sorted = are_sorted(&slots);
+        Ok(WorkingCopy {
+            slots,
+            is_sorted,
+            writes,
+        })
+    }
+
+    /// The copy as another session begins, in the same memory as far as that reaches. Where memory runs out, no record is left.
+    pub fn restart(&mut self, alloc: Global, reads: &RecordValues) -> Result<(), AllocError>
+        ensures begun { OnOk result (self.new ≡ map slot_of reads.now) }
+        ensures none_left { OnErr result (self.new ≡ []) }
+    {
+        let before = mem::replace(self, WorkingCopy::empty(alloc));
+        *self = before.again(reads)?;
+        Ok(())
+    }
+
+    /// A copy of no record. It takes no memory.
+    fn empty(alloc: Global) -> WorkingCopy
+        ensures { result ≡ [] }
+    {
+        WorkingCopy {
+            slots: Vec::new(alloc),
+            is_sorted: false,
+            writes: Vec::new(alloc),
+        }
+    }
+
+    fn again(self, reads: &RecordValues) -> Result<WorkingCopy, AllocError>
+        ensures { IfOk result (λ w. w ≡ map slot_of reads.now) }
+    {
+        let WorkingCopy {
+            slots,
+            is_sorted: _,
+            writes,
+        } = self;
+        let slots = slots_in(slots, reads.as_slice())?;
+        let writes = with_room(writes, slots.len())?;
         let is_sorted = are_sorted(&slots);
         Ok(WorkingCopy {
             slots,
@@ -70,7 +113,15 @@ impl WorkingCopy {
         set_slot(&mut self.slots, id, value);
     }
 
-    /// The records that were set, with their last values.
+    /// The records that were set, with their last values, in memory of their own.
+    pub fn writes(&self, alloc: Global) -> Result<RecordValues, AllocError>
+        ensures { IfOk result (λ v. v ≡ writes_of self.now) }
+    {
+        let writes = writes_in(alloc, &self.slots)?;
+        Ok(RecordValues::of(writes))
+    }
+
+    /// The records that were set, with their last values, in the copy's own memory: it takes none.
     pub fn into_writes(self) -> RecordValues
         ensures { result ≡ writes_of self }
     {
