@@ -15,7 +15,7 @@ use crate::limits::{LONGEST_PIECE, MAX_UNFINISHED};
 use crate::session::Session;
 use bottle_values::Value;
 use office_map::{OfficeId, RecordId};
-use session_machine::{Code, Work};
+use session_machine::{Code, Spare, Work};
 use session_meaning::{Ending, Outcome, RecordValues};
 use session_programs::Program;
 use std::alloc::{AllocError, Global};
@@ -41,6 +41,8 @@ pub struct Agenda {
     tickets: u32,
     current: Phase,
     outcomes: Vec<Outcome>,
+    /// The memory of the work that ended last, in which the next begins. No contract sees it.
+    spare: Option<Spare>,
 }
 
 impl Model for Agenda {
@@ -68,6 +70,7 @@ impl Agenda {
             tickets: 0,
             current: Phase::Idle,
             outcomes: Vec::new(alloc),
+            spare: None,
         }
     }
 
@@ -189,7 +192,8 @@ impl Agenda {
             return Ok(());
         };
         let code = Code::of(alloc, &session.program)?;
-        let work = Work::begin(alloc, &code, reads)?;
+        let spare = mem::replace(&mut self.spare, None);
+        let work = Work::begin_in(alloc, spare, &code, reads)?;
         let gathering = mem::replace(&mut self.current, Phase::Idle);
         self.current = working(gathering, code, work);
         Ok(())
@@ -250,7 +254,8 @@ impl Agenda {
         requires room { 0 < self.old.room }
         ensures { (a : sessions.Agenda) → Means self.old a → Means self.new (finished me a) }
     {
-        if let Phase::Working(session, _, work) = mem::replace(&mut self.current, Phase::Idle) {
+        if let Phase::Working(session, _, mut work) = mem::replace(&mut self.current, Phase::Idle) {
+            self.spare = work.take_spare();
             if work.ending().is_some() {
                 self.outcomes.push_reserved(Outcome {
                     office: me,

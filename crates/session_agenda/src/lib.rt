@@ -6,7 +6,8 @@
 //! - A session waits ([`Agenda::submit`]), becomes the current one ([`Agenda::start`]), waits for its bottles, works on a
 //!   copy of their values ([`Agenda::begin`], [`Agenda::work`]) and finishes with its outcome ([`Agenda::finish`]). One that
 //!   hasn't begun to work may be withdrawn, and then has none.
-//! - A session's work is that of `session_machine`, in pieces of at most [`LONGEST_PIECE`] instructions.
+//! - A session's work is that of `session_machine`, in pieces of at most [`LONGEST_PIECE`] instructions. It begins in the
+//!   memory of the work before it, and by the code that its program brings; where it brings none, that is made for it.
 //!
 //! Memory is taken by [`Agenda::submit`], [`Agenda::begin`] and [`Agenda::make_room`] alone, before anything changes.
 #![tactic(auto)]

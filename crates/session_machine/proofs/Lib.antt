@@ -1,12 +1,10 @@
-mod CodeStands
-mod EmittedCodeStands
-mod NodesOfTerm
 mod ClosedCode
 mod NearRecords
 mod ExpressionDepth
 mod RunsMeaning
 mod EndsAtLength
 mod WorkInPieces
-mod ProgramsHaveRoom
 mod InstructionCounts
 mod WorkPhases
+mod EndingParts
+mod Counts

@@ -1,4 +1,3 @@
-pub mod Room
 pub mod Pieces
 pub mod Progress
 pub mod refinement

@@ -1,9 +1,7 @@
 pub mod Instructions
-pub mod Emission
-pub mod NodeEmission
-pub mod Closed
 pub mod Session
 pub mod Work
 pub mod NearRecords
 pub mod StateOfCode
 pub mod PhaseOfCode
+pub mod Counting

@@ -1,39 +1,42 @@
-//! Flat code of sessions, and their work in pieces.
+//! The work of sessions in pieces, by their flat code.
 //!
-//! - [`Code::of`] makes the code of a program: lines that each say what to do and which line comes next. One line is
-//!   one count of a session's length (`length_on`, in `session_meaning`'s `specs/Length.antt`).
+//! - [`Code`] is that of `session_programs`: lines that each say what to do and which line comes next. One line is one
+//!   count of a session's length (`length_on`, in `session_meaning`'s `specs/Length.antt`).
 //! - [`Work`] is a session on its way through that code. `begin` takes all the memory that it needs, `step` does so
-//!   many lines, and `ending` and `into_ending` tell how the session ended; they take none.
+//!   many lines, and `ending` and `into_ending` tell how the session ended; they need none more.
+//! - Work that ended leaves its memory for other work ([`Work::take_spare`], [`Work::begin_in`]). What such work does is
+//!   what it does in memory of its own: the clauses of `begin_in` are those of `begin`.
 //! - Whatever the sizes of the pieces, the work has ended exactly when together they are at least as long as the
 //!   session on what it read, and then it ended as the program does alone: `AnyPiecesGiveTheMeaning`, in
 //!   `specs/Pieces.antt`, over the clauses `code`, `begun`, `piece` and `shown`. A caller that keeps what its work is
 //!   (`work_of`) has the same from the clauses `work`, `progress` and `ending` of each call.
-//! - What code and machine are is in `specs/refinement`: `Emission.antt` and `Instructions.antt`.
+//! - What the machine is is in `specs/refinement/Instructions.antt`.
 //!
 //! An office that gives each of its sessions some instructions at a time can stop between any two of them, and that
 //! changes nothing. What a session keeps, its working copy of the records and its variables, is a type of
 //! `session_meaning`, as for `serial_replay`; neither crate knows the other, and both end as `alone` says.
 //!
 //! Not said: how long an instruction takes on a machine, and anything of a step with the code of another program. The
-//! law asks for room (`HasRoom`), which `Code::of` tells of every program (clause `room`). That a step takes no memory
+//! law asks for room (`HasRoom`), which `Code::of` tells of every program (clause `room`). That a step needs no memory
 //! isn't a clause: [`Work::step`] has no allocator and no answer for want of memory, and its contract holds in every
-//! case.
+//! case. The one that ends a session takes some where there is some, so that an ending is no larger than what it says;
+//! else the ending stays in the memory that the work began with.
 #![tactic(auto)]
 
-mod code;
+mod counters;
 mod ended;
 mod environment;
-mod instruction;
 pub mod laws;
 mod machine;
 mod phase;
 mod progress;
 mod records;
-mod register;
+mod spare;
 mod state;
 mod way;
 mod work;
 
-pub use crate::code::Code;
 pub use crate::progress::Progress;
+pub use crate::spare::Spare;
 pub use crate::work::Work;
+pub use session_programs::Code;

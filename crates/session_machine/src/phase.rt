@@ -1,11 +1,12 @@
 //! What work keeps.
 
-use crate::code::Code;
-use crate::ended::ended;
+use crate::ended::closed;
 use crate::machine::tick_all;
 use crate::progress::Progress;
+use crate::spare::Spare;
 use crate::state::State;
 use session_meaning::{End, Ending, RecordValues};
+use session_programs::Code;
 use std::alloc::Global;
 use std::mem;
 
@@ -34,17 +35,26 @@ impl Phase {
         }
     }
 
-    /// The session that runs has ended like this.
-    pub fn close(&mut self, alloc: Global, end: End)
+    /// The session that runs has ended like this. What its work needs no longer is left for other work.
+    pub fn close(&mut self, alloc: Global, end: End) -> Option<Spare>
         ensures { work_in self.new ≡ work_with (Some end) self.old }
     {
-        *self = match mem::replace(self, Phase::Moved) {
+        let before = mem::replace(self, Phase::Moved);
+        let (next, spare) = before.after(alloc, end);
+        *self = next;
+        spare
+    }
+
+    fn after(self, alloc: Global, end: End) -> (Phase, Option<Spare>)
+        ensures { work_in result.0 ≡ work_with (Some end) self }
+    {
+        match self {
             Phase::AtWork(reads, state) => {
-                let State { environment, .. } = Box::into_inner(state);
-                Phase::Over(ended(alloc, end, reads, environment))
+                let (ending, spare) = closed(alloc, end, reads, state);
+                (Phase::Over(ending), spare)
             }
-            other => other,
-        };
+            other => (other, None),
+        }
     }
 
     /// Whether the session's work goes on.

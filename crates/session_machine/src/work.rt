@@ -5,18 +5,21 @@ ghost use Rattle.std.specs.Option.{option_copied};
 ghost use Rattle.bottle_values.specs.Values as bottle;
 ghost use Rattle.session_meaning.specs.ProgramValue.{ProgramValue};
 ghost use Rattle.session_meaning.specs.Meaning.{alone};
-ghost use Rattle.session_machine.specs.Room.{HasRoom};
+ghost use Rattle.session_programs.specs.Room.{HasRoom};
 ghost use Rattle.session_machine.specs.Pieces.{ending_after};
 ghost use Rattle.session_machine.specs.Progress.{progress_by};
-ghost use Rattle.session_machine.specs.refinement.Work.{code_of, begun_on, piece, work_of, ending_in, IsOver};
+ghost use Rattle.session_programs.specs.refinement.Listing.{code_of};
+ghost use Rattle.session_machine.specs.refinement.Work.{begun_on, piece, work_of, ending_in, IsOver};
 
-use crate::code::Code;
-use crate::machine::opened;
+use crate::machine::opened_in;
 use crate::phase::Phase;
 use crate::progress::Progress;
+use crate::spare::Spare;
 use session_meaning::{Ending, RecordValues};
+use session_programs::Code;
 use std::alloc::{AllocError, Global};
 use std::marker::Model;
+use std::mem;
 
 /// Work on a session.
 ///
@@ -26,6 +29,8 @@ use std::marker::Model;
 pub struct Work {
     alloc: Global,
     phase: Phase,
+    /// What is left once it ended. No contract sees it.
+    spare: Option<Spare>,
 }
 
 impl Model for Work {
@@ -45,11 +50,32 @@ impl Work {
         ensures begun { IfOk result (λ w. w ≡ begun_on code.now reads) }
         ensures work { (p : ProgramValue) → code.now ≡ code_of p → IfOk result (λ w. w ≡ work_of p reads 0) }
     {
-        let state = opened(alloc, code, &reads)?;
+        Work::begin_in(alloc, None, code, reads)
+    }
+
+    /// The same, in the memory of work that ended, as far as that reaches.
+    pub fn begin_in(
+        alloc: Global,
+        spare: Option<Spare>,
+        code: &Code,
+        reads: RecordValues,
+    ) -> Result<Work, AllocError>
+        ensures begun { IfOk result (λ w. w ≡ begun_on code.now reads) }
+        ensures work { (p : ProgramValue) → code.now ≡ code_of p → IfOk result (λ w. w ≡ work_of p reads 0) }
+    {
+        let state = opened_in(alloc, spare, code, &reads)?;
         Ok(Work {
             alloc,
             phase: Phase::AtWork(reads, state),
+            spare: None,
         })
+    }
+
+    /// The memory of work that ended, for other work; none where it hasn't, or what it wrote and gave stands there.
+    pub fn take_spare(&mut self) -> Option<Spare>
+        ensures { self.new ≡ self.old }
+    {
+        mem::replace(&mut self.spare, None)
     }
 
     /// Does n instructions of the code that the work began with, or as many as there are.
@@ -65,7 +91,7 @@ impl Work {
         match self.phase.advance(code, n) {
             None => self.phase.progress(),
             Some(end) => {
-                self.phase.close(self.alloc, end);
+                self.spare = self.phase.close(self.alloc, end);
                 self.phase.progress()
             }
         }
@@ -89,7 +115,12 @@ impl Work {
         ensures shown { Some result ≡ ending_in self }
         ensures ending { (p : ProgramValue) (reads : List (ℕ × bottle.Value)) (k : ℕ) → HasRoom p → self ≡ work_of p reads k → result ≡ alone p reads }
     {
-        match self.phase {
+        let Work {
+            alloc: _,
+            phase,
+            spare: _,
+        } = self;
+        match phase {
             Phase::Over(ending) => ending,
             _ => unreachable!(),
         }

@@ -2,3 +2,8 @@ pub mod Texts
 pub mod LastNode
 pub mod SizeStep
 pub mod ExtentBoundsSize
+pub mod NodesOfTerm
+pub mod CodeStands
+pub mod EmittedCodeStands
+pub mod ClosedCode
+pub mod ProgramsHaveRoom

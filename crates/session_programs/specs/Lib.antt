@@ -2,4 +2,5 @@ pub mod Limits
 pub mod Text
 pub mod Program
 pub mod WellFormed
+pub mod Room
 pub mod refinement

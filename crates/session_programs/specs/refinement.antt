@@ -1,1 +1,5 @@
 pub mod TextSizes
+pub mod Emission
+pub mod NodeEmission
+pub mod Closed
+pub mod Listing

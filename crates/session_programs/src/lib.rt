@@ -7,18 +7,30 @@
 //!   `canonical`).
 //! - [`are_too_long`] says whether a session of these statements would be longer than one may be. The limits are in
 //!   `specs/Limits.antt` (the code has its own, [`limits`]).
+//! - [`Code`] is the flat code of a session: lines that each say what to do and which line comes next. One line is one count of a
+//!   session's length (`length_on`, in `session_meaning`'s `specs/Length.antt`). [`Program::with_code`] and [`with_codes`] put
+//!   it beside a program, for as often as the program is submitted; [`Code::of`] takes it from there, or makes it. Which code a
+//!   tree has is in `specs/refinement/Emission.antt`, and that every program is within the machine's limits is `HasRoom`
+//!   (`specs/Room.antt`, clause `room` of [`Code::of`]).
 //!
 //! It stands on `session_meaning`, which has the tree, what a session does alone, and its measures. Nothing here knows how a text
 //! is read: that is `session_language`, above, which reads the canonical text of a program as that program.
 #![tactic(auto)]
 
+mod code;
+mod coding;
+mod instruction;
 pub mod limits;
 mod listing;
 mod program;
 mod rank;
+mod register;
 mod sizes;
 mod text;
 mod words;
 
-pub use crate::program::Program;
+pub use crate::code::Code;
+pub use crate::instruction::{Instruction, Line};
+pub use crate::program::{Program, with_codes};
+pub use crate::register::Register;
 pub use crate::sizes::are_too_long;

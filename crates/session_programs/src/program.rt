@@ -1,6 +1,6 @@
 //! A session's program.
 
-ghost use Rattle.std.specs.Prelude.{◌≡◌, ◌↔◌, ℕ, IfOk, IsTrue, Contains, map};
+ghost use Rattle.std.specs.Prelude.{◌≡◌, ◌↔◌, ℕ, IfOk, IfSome, IsTrue, Contains, map};
 ghost use Rattle.std.specs.List.Sorted.{IsStrictlyIncreasing};
 ghost use Rattle.std.specs.List.{list_all};
 ghost use Rattle.std.specs.String.{string_bytes};
@@ -9,7 +9,9 @@ ghost use Rattle.session_meaning.specs.refinement.TreeOfStatements.{block_of};
 ghost use Rattle.session_meaning.specs.Needs.{needs_of};
 ghost use Rattle.session_meaning.specs.Naming.{BlockNames};
 ghost use Rattle.session_programs.specs.WellFormed.{IsWellFormed};
+ghost use Rattle.session_programs.specs.refinement.Listing.{code_of};
 
+use crate::code::Code;
 use crate::listing::session_text;
 use crate::words::{RecordNames, Words};
 use office_map::{OfficeId, Plan, RecordId};
@@ -23,11 +25,16 @@ use std::sync::Arc;
 /// larger than others.
 ///
 /// A submitted program stands in the office's journal and in its queue, in a world's event and in journals that were
-/// handed in, and nothing ever changes it. So a program is one word, and its copy counts one owner more; the count is
-/// one that threads may share.
+/// handed in, and nothing ever changes it. So a program is two words, and its copy counts one owner more of each; the
+/// counts are such that threads may share.
+///
+/// Its code may stand beside it, so that a session that is submitted again and again isn't made code again: whoever reads
+/// sessions to submit them asks for that once ([`Program::with_code`]). Whether it is there, no contract sees; that it is
+/// this program's is an invariant.
 #[derive(Drop)]
 pub struct Program {
     said: Arc<Said>,
+    code: Option<Code>,
 }
 
 /// What a program says.
@@ -43,7 +50,7 @@ struct Said {
 }
 
 impl Model for Program {
-    ghost use Rattle.std.specs.Prelude.{◌≡◌, map};
+    ghost use Rattle.std.specs.Prelude.{◌≡◌, IfSome, map};
     ghost use Rattle.std.specs.Arc.{arc_value};
     ghost use Rattle.std.specs.String.{string_bytes};
     ghost use Rattle.std.specs.Coded.{Coded, codes};
@@ -53,6 +60,7 @@ impl Model for Program {
     ghost use Rattle.session_meaning.specs.refinement.TreeOfStatements.{block_of};
     ghost use Rattle.session_meaning.specs.Needs.{needs_of};
     ghost use Rattle.session_programs.specs.WellFormed.{IsWellFormed};
+    ghost use Rattle.session_programs.specs.refinement.Listing.{code_of};
 
     ghost Value = { ProgramValue };
 
@@ -60,7 +68,8 @@ impl Model for Program {
 
     ghost view = { λ p. record { office = (arc_value p.said).office; variables = map string_bytes (arc_value p.said).variables.items; body = block_of (arc_value p.said).statements.items } };
 
-    ghost invariant = { λ p. ((arc_value p.said).needs.items ≡ needs_of (block_of (arc_value p.said).statements.items)) × IsWellFormed (record { office = (arc_value p.said).office; variables = map string_bytes (arc_value p.said).variables.items; body = block_of (arc_value p.said).statements.items }) };
+    ghost invariant = { λ p. ((arc_value p.said).needs.items ≡ needs_of (block_of (arc_value p.said).statements.items)) × IsWellFormed (record { office = (arc_value p.said).office; variables = map string_bytes (arc_value p.said).variables.items; body = block_of (arc_value p.said).statements.items })
+        × IfSome p.code (λ c. c ≡ code_of (record { office = (arc_value p.said).office; variables = map string_bytes (arc_value p.said).variables.items; body = block_of (arc_value p.said).statements.items })) };
 }
 
 impl Program {
@@ -89,6 +98,7 @@ impl Program {
         };
         Ok(Program {
             said: Arc::new(alloc, said)?,
+            code: None,
         })
     }
 
@@ -154,9 +164,51 @@ impl Program {
     pub fn copy(&self) -> Result<Program, AllocError>
         ensures { IfOk result (λ p. p ≡ self.now) }
     {
+        let said = Arc::try_clone(&self.said)?;
+        let code = same_code(&self.code)?;
+        Ok(Program { said, code })
+    }
+
+    /// The same program, with its code beside it, which its copies share.
+    pub fn with_code(&self, alloc: Global) -> Result<Program, AllocError>
+        ensures { IfOk result (λ p. p ≡ self.now) }
+    {
+        let said = Arc::try_clone(&self.said)?;
+        let code = Code::of(alloc, self)?;
         Ok(Program {
-            said: Arc::try_clone(&self.said)?,
+            said,
+            code: Some(code),
         })
+    }
+
+    /// Its code, where that stands beside it.
+    pub fn code(&self) -> Option<&Code>
+        ensures { IfSome result (λ c. c.now ≡ code_of self.now) }
+    {
+        match &self.code {
+            Some(code) => Some(code),
+            None => None,
+        }
+    }
+}
+
+/// The same programs, each with its code beside it.
+pub fn with_codes(alloc: Global, programs: &[Program]) -> Result<Vec<Program>, AllocError>
+    ensures { IfOk result (λ v. v.items ≡ programs.now) }
+{
+    let mut coded = Vec::with_capacity(alloc, programs.len())?;
+    for program in programs {
+        coded.push(program.with_code(alloc)?)?;
+    }
+    Ok(coded)
+}
+
+fn same_code(code: &Option<Code>) -> Result<Option<Code>, AllocError>
+    ensures { IfOk result (λ c. c ≡ code.now) }
+{
+    match code {
+        Some(code) => Ok(Some(code.shared()?)),
+        None => Ok(None),
     }
 }
 

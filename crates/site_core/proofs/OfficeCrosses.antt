@@ -15,7 +15,8 @@ use Rattle.session_meaning.proofs.tree.Statement.TheLaws.TheKnot.{send-Statement
 use Rattle.session_meaning.specs.contracts.tree.Statement as Statement
 use Rattle.session_programs.specs.contracts.program.Program as Program
 use Rattle.session_programs.specs.contracts.program.Said as Said
-use Rattle.session_machine.proofs.code.Code.TheSendSync as code
+use Rattle.session_programs.proofs.code.Code.TheSendSync as code
+use Rattle.session_machine.proofs.spare.Spare.TheSendSync as spare
 use Rattle.session_machine.proofs.work.Work.TheSendSync as work
 use Rattle.session_agenda.specs.contracts.session.Session as Session
 use Rattle.session_agenda.specs.contracts.agenda.Phase as Phase
@@ -43,7 +44,7 @@ said_sync : IsSync (Said.the_field).row
 said_sync = search (statement_sync, office_id.the_sync, record_id.the_sync, sendable, crosses) depth 40
 
 program_send : IsSend Program.the_row
-program_send = search (said_send, said_sync, sendable, crosses) depth 40
+program_send = search (said_send, said_sync, code.the_send, sendable, crosses) depth 40
 
 -- a struct or an enum is sent as it is, and as the field of another
 session_send : IsSend (Session.the_field).row
@@ -53,7 +54,7 @@ phase_send : IsSend (Phase.the_field).row
 phase_send = search (session_send, code.the_send, work.the_send, sendable, crosses) depth 40
 
 agenda_send : IsSend Agenda.the_row
-agenda_send = search (session_send, phase_send, outcome.the_field_send, sendable, crosses) depth 40
+agenda_send = search (session_send, phase_send, outcome.the_field_send, spare.the_field_send, sendable, crosses) depth 40
 
 rule_send : IsSend (Rule.the_field).row
 rule_send = search (office_id.the_send, record_id.the_send, sendable, crosses) depth 40

@@ -72,7 +72,7 @@ fn gather(alloc: Global, bar: &Bar, agenda: &mut Agenda) -> Result<(), AllocErro
 fn values_of(alloc: Global, bar: &Bar, needs: &[RecordId]) -> Result<RecordValues, AllocError>
     ensures { IfOk result (λ v. v ≡ reads_of needs.now (offices.value_in (drinker_of bar.now))) }
 {
-    let mut reads = RecordValues::new(alloc);
+    let mut reads = RecordValues::with_capacity(alloc, needs.len())?;
     for r in needs {
         let value = bar.value(*r).unwrap_or(Value::from(0));
         reads.push(*r, value)?;

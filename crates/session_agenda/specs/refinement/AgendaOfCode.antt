@@ -2,9 +2,9 @@
 use Rattle.std.specs.Prelude.{◌≡◌, ℕ, List}
 use Rattle.bottle_values.specs.Values.{Value}
 use Rattle.session_meaning.specs.declared.ending.Outcome.{Outcome}
-use Rattle.session_machine.specs.Room.{HasRoom}
-use Rattle.session_machine.specs.refinement.Session.{CodeValue}
-use Rattle.session_machine.specs.refinement.Work.{WorkValue, code_of, work_of}
+use Rattle.session_programs.specs.Room.{HasRoom}
+use Rattle.session_programs.specs.refinement.Listing.{CodeValue, code_of}
+use Rattle.session_machine.specs.refinement.Work.{WorkValue, work_of}
 use Rattle.session_agenda.specs.declared.session.Session.{Session}
 use Rattle.session_agenda.specs.declared.agenda.Phase.{Phase}
 use Rattle.session_agenda.specs.declared.agenda.Phase.TheVariants as phase

@@ -1,9 +1,10 @@
-//! Sessions in pieces of 1, 2 and 1,000, with lengths and endings worked out by hand.
+//! Sessions in pieces of 1, 2 and 1,000, with lengths and endings worked out by hand. Each begins in the memory that the one
+//! before it left.
 
 use bottle_values::Value;
 use office_map::{Plan, RecordId};
 use session_language::{LangFault, SessionRefusal, read_sessions};
-use session_machine::{Code, Progress, Work};
+use session_machine::{Code, Progress, Spare, Work};
 use session_meaning::{End, Ending, RecordValues, Statement};
 use session_programs::Program;
 use std::alloc::{AllocError, Global};
@@ -236,14 +237,15 @@ fn sessions_end_at_their_lengths(rt: HostRuntime) -> Result<(), Fail> {
 }
 
 fn all_end(rt: &impl Abort, alloc: Global, plan: &Plan) -> Result<(), AllocError> {
+    let mut spare = None;
     for (text, length, ending) in &SESSIONS {
-        ends(rt, alloc, plan, text, *length, ending)?;
+        ends(rt, alloc, plan, &mut spare, text, *length, ending)?;
     }
     for limit in &LIMITS {
-        limit_ends(rt, alloc, plan, limit)?;
+        limit_ends(rt, alloc, plan, &mut spare, limit)?;
     }
     for turns in &TURNS {
-        turns_end(rt, alloc, *turns)?;
+        turns_end(rt, alloc, &mut spare, *turns)?;
     }
     Ok(())
 }
@@ -252,29 +254,36 @@ fn limit_ends(
     rt: &impl Abort,
     alloc: Global,
     plan: &Plan,
+    spare: &mut Option<Spare>,
     limit: &Limit,
 ) -> Result<(), AllocError> {
     let (before, opening, count, within, after, length, ending) = limit;
     let text = nested(alloc, before, opening, *count, within, after)?;
-    ends(rt, alloc, plan, text.as_str(), *length, ending)
+    ends(rt, alloc, plan, spare, text.as_str(), *length, ending)
 }
 
 fn ends(
     rt: &impl Abort,
     alloc: Global,
     plan: &Plan,
+    spare: &mut Option<Spare>,
     text: &str,
     length: u32,
     ending: &str,
 ) -> Result<(), AllocError> {
-    let found = run_text(alloc, plan, text)?;
+    let found = run_text(alloc, plan, spare, text)?;
     let expected = described(alloc, length, ending)?;
     assert_eq!(rt; found.as_str(), expected.as_str(), "of {text}");
     Ok(())
 }
 
-fn turns_end(rt: &impl Abort, alloc: Global, turns: u16) -> Result<(), AllocError> {
-    let found = run_turns(alloc, turns)?;
+fn turns_end(
+    rt: &impl Abort,
+    alloc: Global,
+    spare: &mut Option<Spare>,
+    turns: u16,
+) -> Result<(), AllocError> {
+    let found = run_turns(alloc, spare, turns)?;
     let length = u32::from(turns) + 2;
     let expected = described(alloc, length, "done reads writes gives")?;
     assert_eq!(rt; found.as_str(), expected.as_str(), "of {turns} turns");
@@ -319,12 +328,17 @@ fn described(alloc: Global, length: u32, ending: &str) -> Result<String, AllocEr
     Ok(text)
 }
 
-fn run_text(alloc: Global, plan: &Plan, sessions: &str) -> Result<String, AllocError> {
+fn run_text(
+    alloc: Global,
+    plan: &Plan,
+    spare: &mut Option<Spare>,
+    sessions: &str,
+) -> Result<String, AllocError> {
     let mut text = String::new(alloc);
     match read_sessions(alloc, sessions.as_bytes(), plan) {
         Ok(programs) => {
             for program in &programs {
-                run_program(&mut text, alloc, program)?;
+                run_program(&mut text, alloc, spare, program)?;
             }
         }
         Err(LangFault::Refused(SessionRefusal { rule, line })) => write!(text, "{line} {rule:?}")?,
@@ -333,16 +347,24 @@ fn run_text(alloc: Global, plan: &Plan, sessions: &str) -> Result<String, AllocE
     Ok(text)
 }
 
-fn run_program(text: &mut String, alloc: Global, program: &Program) -> Result<(), AllocError> {
-    let code = Code::of(alloc, program)?;
+/// By the code that stands beside the program, and not by one that is made for it.
+fn run_program(
+    text: &mut String,
+    alloc: Global,
+    spare: &mut Option<Spare>,
+    program: &Program,
+) -> Result<(), AllocError> {
+    let program = program.with_code(alloc)?;
+    let copy = program.copy()?;
+    let code = Code::of(alloc, &copy)?;
     let code = code.copy(alloc)?;
-    run(text, alloc, &code, program.needs())
+    run(text, alloc, spare, &code, copy.needs())
 }
 
-fn run_turns(alloc: Global, turns: u16) -> Result<String, AllocError> {
+fn run_turns(alloc: Global, spare: &mut Option<Spare>, turns: u16) -> Result<String, AllocError> {
     let code = Code::of_statements(alloc, 0, &[Statement::Repeat(turns, Vec::new(alloc))])?;
     let mut text = String::new(alloc);
-    run(&mut text, alloc, &code, &[])?;
+    run(&mut text, alloc, spare, &code, &[])?;
     Ok(text)
 }
 
@@ -350,11 +372,12 @@ fn run_turns(alloc: Global, turns: u16) -> Result<String, AllocError> {
 fn run(
     text: &mut String,
     alloc: Global,
+    spare: &mut Option<Spare>,
     code: &Code,
     needs: &[RecordId],
 ) -> Result<(), AllocError> {
     for n in [1, 2, 1000] {
-        run_in_pieces(text, alloc, code, needs, n)?;
+        run_in_pieces(text, alloc, spare, code, needs, n)?;
     }
     Ok(())
 }
@@ -362,21 +385,28 @@ fn run(
 fn run_in_pieces(
     text: &mut String,
     alloc: Global,
+    spare: &mut Option<Spare>,
     code: &Code,
     needs: &[RecordId],
     n: u32,
 ) -> Result<(), AllocError> {
-    let mut work = begun(alloc, code, needs)?;
+    let mut work = begun(alloc, spare.take(), code, needs)?;
     if runs_to_end(text, &mut work, code, n)? {
+        *spare = work.take_spare();
         describe_work(text, code, work)
     } else {
         Ok(())
     }
 }
 
-fn begun(alloc: Global, code: &Code, needs: &[RecordId]) -> Result<Work, AllocError> {
+fn begun(
+    alloc: Global,
+    spare: Option<Spare>,
+    code: &Code,
+    needs: &[RecordId],
+) -> Result<Work, AllocError> {
     let reads = first_values(alloc, needs)?;
-    Work::begin(alloc, code, reads)
+    Work::begin_in(alloc, spare, code, reads)
 }
 
 /// The values of records as they are at first: 100 of x and 0 of y.
