@@ -17,7 +17,7 @@ use input_texts::{InputFault, Sources, StandardInput};
 use office_map::{Plan, PlanFault, PlanRefusal, RING_RULE, Ring};
 use session_diagnostics::of_sessions;
 use session_language::{LangFault, SessionRefusal, read_sessions};
-use session_programs::Program;
+use session_programs::{Program, with_codes};
 use std::alloc::{AllocError, Global};
 use std::io::Read;
 
@@ -165,6 +165,26 @@ pub fn read_programs<S: Sources>(
         }
         Err(LangFault::Memory) => Err(TextFault::Memory),
     }
+}
+
+/// The same programs, each with its code beside it: for a command that submits them to offices, some maybe again and again.
+pub fn read_coded_programs<S: Sources>(
+    alloc: Global,
+    sources: &S,
+    standard: &mut StandardInput<S::Standard>,
+    word: &str,
+    plan: &Plan,
+) -> Result<Vec<Program>, TextFault>
+    ensures meaning { IfOk result (λ v. (text : List ℕ) (after : Unread) → HasText (S.file_text sources.now) standard.old word.now text after
+        → (sessions_of plan.now text ≡ Ok v.items) × (standard.new ≡ after)) }
+    ensures fit { IfOk result (λ v. All (λ p. IsTrue (fits plan.now p)) v.items) }
+    ensures few { IfOk result (λ v. length v.items ≤ most_sessions) }
+    ensures fault { IfErr result (IsAtInput Input.Sessions (λ why. (text : List ℕ) (after : Unread)
+        → HasText (S.file_text sources.now) standard.old word.now text after → RefusesText (Some plan.now) text why)) }
+{
+    let programs = read_programs(alloc, sources, standard, word, plan)?;
+    let coded = with_codes(alloc, &programs)?;
+    Ok(coded)
 }
 
 fn sessions_sentence(

@@ -7,7 +7,7 @@ ghost use Rattle.drink_commands.specs.Random.{TellsRun};
 ghost use Rattle.drink_commands.specs.Texts.{IsJudged};
 
 use crate::commands::DONE;
-use command_inputs::{Input, read_plan, read_programs};
+use command_inputs::{Input, read_coded_programs, read_plan};
 use command_outputs::Fault;
 use command_outputs::output::write_whole;
 use input_texts::{Sources, StandardInput};
@@ -38,7 +38,7 @@ pub fn run<S: Sources, W: Write>(
     let words = [plan, sessions];
     let mut standard = StandardInput::new(alloc, sources.standard(), &words);
     let plan = read_plan(alloc, sources, &mut standard, plan)?;
-    let programs = read_programs(alloc, sources, &mut standard, sessions, &plan)?;
+    let programs = read_coded_programs(alloc, sources, &mut standard, sessions, &plan)?;
     let text = report(alloc, &plan, &programs, schedule)?;
     write_whole(out, &text)?;
     Ok(DONE)

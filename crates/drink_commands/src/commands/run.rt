@@ -10,7 +10,7 @@ ghost use Rattle.drink_commands.specs.Run.{EndsWith, IsCutBy, IsJudgedRun, IsRea
 ghost use Rattle.drink_commands.specs.Texts.{NoOther};
 
 use crate::commands::ended;
-use command_inputs::{read_plan, read_programs};
+use command_inputs::{read_coded_programs, read_plan};
 use command_outputs::Fault;
 use command_outputs::journal_files::write_each;
 use command_outputs::output::write_whole;
@@ -66,7 +66,7 @@ where
     let mut standard = StandardInput::new(alloc, sources.standard(), &words);
     let plan = read_plan(alloc, sources, &mut standard, plan)?;
     let me = office_to_run(alloc, &plan, office)?;
-    let programs = read_programs(alloc, sources, &mut standard, sessions, &plan)?;
+    let programs = read_coded_programs(alloc, sources, &mut standard, sessions, &plan)?;
     look_at_file(
         alloc, sources, targets, plan_word, sessions, &plan, me, journal,
     )?;

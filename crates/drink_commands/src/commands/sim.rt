@@ -12,7 +12,7 @@ ghost use Rattle.drink_commands.specs.Texts.{IsJudged};
 
 use crate::commands::DONE;
 use crate::scripts::read_events;
-use command_inputs::{Input, read_plan, read_programs};
+use command_inputs::{Input, read_coded_programs, read_plan};
 use command_outputs::Fault;
 use command_outputs::journal_files::write_world;
 use command_outputs::output::write_whole;
@@ -48,7 +48,7 @@ pub fn run<S: Sources, T: Targets, W: Write>(
     let words = [plan, sessions, script];
     let mut standard = StandardInput::new(alloc, sources.standard(), &words);
     let plan = read_plan(alloc, sources, &mut standard, plan)?;
-    let programs = read_programs(alloc, sources, &mut standard, sessions, &plan)?;
+    let programs = read_coded_programs(alloc, sources, &mut standard, sessions, &plan)?;
     let events = read_events(alloc, sources, &mut standard, script, &plan, &programs)?;
     let simulated = simulate(alloc, &plan, &programs, &events)?;
     write_simulated(alloc, out, targets, journals, &simulated)

@@ -9,7 +9,7 @@ ghost use Rattle.drink_commands.specs.refinement.Stores.{IsToldOf};
 
 use crate::commands::run::office_to_run;
 use crate::commands::status_with;
-use command_inputs::{read_plan, read_programs};
+use command_inputs::{read_coded_programs, read_plan};
 use command_outputs::Fault;
 use command_outputs::fault::StoreRefusal;
 use command_outputs::places::refuse_input;
@@ -68,7 +68,7 @@ where
     let mut standard = StandardInput::new(alloc, sources.standard(), &words);
     let plan = read_plan(alloc, sources, &mut standard, plan)?;
     let me = office_to_run(alloc, &plan, office)?;
-    let programs = read_programs(alloc, sources, &mut standard, sessions, &plan)?;
+    let programs = read_coded_programs(alloc, sources, &mut standard, sessions, &plan)?;
     refuse_input(alloc, sources, plan_word, sessions, store)?;
     let mut station = at_address(rt, alloc, &plan, me, around.binds)?;
     let (kept, mut held) = hold(alloc, stores, store, sync, is_new, &plan, me, &programs)?;

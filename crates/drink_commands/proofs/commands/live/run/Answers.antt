@@ -45,9 +45,9 @@ returns-in_err-look_at_folder-clause-judged g c =
     (judged IsOfRun files (g.S.Sources.standard_text c.args.sources.now) c.new-standard.result (c.args.plan.now ∷ c.args.sessions.now ∷ []) (inputs.Plan ∷ inputs.Sessions ∷ []) c.in_err-look_at_folder.field-0.0 (search rules)
     (at_next IsOfRun files c.new-standard.result c.read_plan.new.standard c.args.plan.now (c.args.sessions.now ∷ []) nothing (record nothing { plan = Some c.in_ok-plan.plan }) inputs.Plan (inputs.Sessions ∷ []) c.in_err-look_at_folder.field-0.0
     (plan_taken files c.new-standard.result c.args.plan.now c.read_plan.new.standard c.in_ok-plan.plan c.in_ok-plan.ensures.meaning)
-    (at_next IsOfRun files c.read_plan.new.standard c.read_programs.new.standard c.args.sessions.now [] (record nothing { plan = Some c.in_ok-plan.plan }) (record nothing { plan = Some c.in_ok-plan.plan; programs = Some c.in_ok-programs.programs.items }) inputs.Sessions [] c.in_err-look_at_folder.field-0.0
-    (sessions_taken files c.read_plan.new.standard c.args.sessions.now c.read_programs.new.standard c.in_ok-plan.plan c.in_ok-programs.programs.items c.in_ok-programs.ensures.meaning)
-    (texts.at_end IsOfRun files c.read_programs.new.standard (record nothing { plan = Some c.in_ok-plan.plan; programs = Some c.in_ok-programs.programs.items }) c.in_err-look_at_folder.field-0.0 (is_place (λ name why. IfSome (option_copied c.args.journals) (λ place. IsIn files c.args.plan.now c.args.sessions.now c.in_ok-plan.plan place name why)) c.in_err-look_at_folder.field-0.0 c.in_err-look_at_folder.ensures.fault)))))
+    (at_next IsOfRun files c.read_plan.new.standard c.read_coded_programs.new.standard c.args.sessions.now [] (record nothing { plan = Some c.in_ok-plan.plan }) (record nothing { plan = Some c.in_ok-plan.plan; programs = Some c.in_ok-programs.programs.items }) inputs.Sessions [] c.in_err-look_at_folder.field-0.0
+    (sessions_taken files c.read_plan.new.standard c.args.sessions.now c.read_coded_programs.new.standard c.in_ok-plan.plan c.in_ok-programs.programs.items c.in_ok-programs.ensures.meaning)
+    (texts.at_end IsOfRun files c.read_coded_programs.new.standard (record nothing { plan = Some c.in_ok-plan.plan; programs = Some c.in_ok-programs.programs.items }) c.in_err-look_at_folder.field-0.0 (is_place (λ name why. IfSome (option_copied c.args.journals) (λ place. IsIn files c.args.plan.now c.args.sessions.now c.in_ok-plan.plan place name why)) c.in_err-look_at_folder.field-0.0 c.in_err-look_at_folder.ensures.fault)))))
 
 pub returns-in_err-ran-clause-judged : goal.returns-in_err-ran-clause-judged
 returns-in_err-ran-clause-judged g c =
@@ -57,9 +57,9 @@ returns-in_err-ran-clause-judged g c =
     (judged IsOfRun files (g.S.Sources.standard_text c.args.sources.now) c.new-standard.result (c.args.plan.now ∷ c.args.sessions.now ∷ []) (inputs.Plan ∷ inputs.Sessions ∷ []) (NoRun c.in_err-ran.field-0.0) (search rules)
     (at_next IsOfRun files c.new-standard.result c.read_plan.new.standard c.args.plan.now (c.args.sessions.now ∷ []) nothing (record nothing { plan = Some c.in_ok-plan.plan }) inputs.Plan (inputs.Sessions ∷ []) (NoRun c.in_err-ran.field-0.0)
     (plan_taken files c.new-standard.result c.args.plan.now c.read_plan.new.standard c.in_ok-plan.plan c.in_ok-plan.ensures.meaning)
-    (at_next IsOfRun files c.read_plan.new.standard c.read_programs.new.standard c.args.sessions.now [] (record nothing { plan = Some c.in_ok-plan.plan }) (record nothing { plan = Some c.in_ok-plan.plan; programs = Some c.in_ok-programs.programs.items }) inputs.Sessions [] (NoRun c.in_err-ran.field-0.0)
-    (sessions_taken files c.read_plan.new.standard c.args.sessions.now c.read_programs.new.standard c.in_ok-plan.plan c.in_ok-programs.programs.items c.in_ok-programs.ensures.meaning)
-    (texts.at_end IsOfRun files c.read_programs.new.standard (record nothing { plan = Some c.in_ok-plan.plan; programs = Some c.in_ok-programs.programs.items }) (NoRun c.in_err-ran.field-0.0) (inr (inl tt))))))
+    (at_next IsOfRun files c.read_plan.new.standard c.read_coded_programs.new.standard c.args.sessions.now [] (record nothing { plan = Some c.in_ok-plan.plan }) (record nothing { plan = Some c.in_ok-plan.plan; programs = Some c.in_ok-programs.programs.items }) inputs.Sessions [] (NoRun c.in_err-ran.field-0.0)
+    (sessions_taken files c.read_plan.new.standard c.args.sessions.now c.read_coded_programs.new.standard c.in_ok-plan.plan c.in_ok-programs.programs.items c.in_ok-programs.ensures.meaning)
+    (texts.at_end IsOfRun files c.read_coded_programs.new.standard (record nothing { plan = Some c.in_ok-plan.plan; programs = Some c.in_ok-programs.programs.items }) (NoRun c.in_err-ran.field-0.0) (inr (inl tt))))))
 
 pub returns-clause-judged : goal.returns-clause-judged
 returns-clause-judged g c =
@@ -68,9 +68,9 @@ returns-clause-judged g c =
     (judged IsOfRun files (g.S.Sources.standard_text c.args.sources.now) c.new-standard.result (c.args.plan.now ∷ c.args.sessions.now ∷ []) (inputs.Plan ∷ inputs.Sessions ∷ []) f (search rules)
     (at_next IsOfRun files c.new-standard.result c.read_plan.new.standard c.args.plan.now (c.args.sessions.now ∷ []) nothing (record nothing { plan = Some c.in_ok-plan.plan }) inputs.Plan (inputs.Sessions ∷ []) f
     (plan_taken files c.new-standard.result c.args.plan.now c.read_plan.new.standard c.in_ok-plan.plan c.in_ok-plan.ensures.meaning)
-    (at_next IsOfRun files c.read_plan.new.standard c.read_programs.new.standard c.args.sessions.now [] (record nothing { plan = Some c.in_ok-plan.plan }) (record nothing { plan = Some c.in_ok-plan.plan; programs = Some c.in_ok-programs.programs.items }) inputs.Sessions [] f
-    (sessions_taken files c.read_plan.new.standard c.args.sessions.now c.read_programs.new.standard c.in_ok-plan.plan c.in_ok-programs.programs.items c.in_ok-programs.ensures.meaning)
-    (texts.at_end IsOfRun files c.read_programs.new.standard (record nothing { plan = Some c.in_ok-plan.plan; programs = Some c.in_ok-programs.programs.items }) f (is_end _ f h)))))) c.write_ran.ensures.leaves
+    (at_next IsOfRun files c.read_plan.new.standard c.read_coded_programs.new.standard c.args.sessions.now [] (record nothing { plan = Some c.in_ok-plan.plan }) (record nothing { plan = Some c.in_ok-plan.plan; programs = Some c.in_ok-programs.programs.items }) inputs.Sessions [] f
+    (sessions_taken files c.read_plan.new.standard c.args.sessions.now c.read_coded_programs.new.standard c.in_ok-plan.plan c.in_ok-programs.programs.items c.in_ok-programs.ensures.meaning)
+    (texts.at_end IsOfRun files c.read_coded_programs.new.standard (record nothing { plan = Some c.in_ok-plan.plan; programs = Some c.in_ok-programs.programs.items }) f (is_end _ f h)))))) c.write_ran.ensures.leaves
 
 pub returns-clause-runs : goal.returns-clause-runs
 returns-clause-runs g c =
@@ -78,7 +78,7 @@ returns-clause-runs g c =
     ok_more c.write_ran.result _ _ (λ status h. λ plan_text sessions_text known. (
       c.in_ok-ran.ran,
       h.0,
-      (ran_offices (AreFree files c.args.plan.now c.args.sessions.now) files c.new-standard.result c.read_plan.new.standard c.read_programs.new.standard c.args.plan.now c.args.sessions.now plan_text sessions_text c.in_ok-plan.plan c.in_ok-programs.programs.items c.deref.result.now (option_copied c.args.journals) c.in_ok-ran.ran (g.W.Write.contents c.args.out.now) (g.W.Write.contents c.write_ran.new.out) (g.T.Targets.written c.args.targets.now) (g.T.Targets.written c.write_ran.new.targets)
+      (ran_offices (AreFree files c.args.plan.now c.args.sessions.now) files c.new-standard.result c.read_plan.new.standard c.read_coded_programs.new.standard c.args.plan.now c.args.sessions.now plan_text sessions_text c.in_ok-plan.plan c.in_ok-programs.programs.items c.deref.result.now (option_copied c.args.journals) c.in_ok-ran.ran (g.W.Write.contents c.args.out.now) (g.W.Write.contents c.write_ran.new.out) (g.T.Targets.written c.args.targets.now) (g.T.Targets.written c.write_ran.new.targets)
           c.in_ok-plan.ensures.meaning c.in_ok-programs.ensures.meaning
           (started c.new-standard.result (g.S.Sources.standard_text c.args.sources.now) files (c.args.plan.now ∷ c.args.sessions.now ∷ []) (plan_text ∷ sessions_text ∷ []) (search rules) known) c.deref.ensures.value c.in_ok-look_at_folder.ensures.free (subst (λ wanted. TellsJournals c.in_ok-plan.plan (range_with_len 0 (length c.in_ok-plan.plan.offices)) (length c.deref.result.now) wanted c.in_ok-ran.ran) (c.is_some.ensures ∙ is_some_copied c.args.journals) c.in_ok-ran.ensures.tells) h.1 h.2),
     )) c.write_ran.ensures.done
@@ -113,7 +113,7 @@ returns-clause-leaves g c =
     err_more c.write_ran.result _ _ (λ f h. at_end _ (RefusesFolder (g.S.Sources.file_text c.args.sources.now) (g.S.Sources.standard_text c.args.sources.now) c.args.plan.now c.args.sessions.now (option_copied c.args.journals)) _ _ f h (λ cause h. λ plan_text sessions_text known. (
       c.in_ok-ran.ran,
       h.0,
-      (ran_offices (AreFree files c.args.plan.now c.args.sessions.now) files c.new-standard.result c.read_plan.new.standard c.read_programs.new.standard c.args.plan.now c.args.sessions.now plan_text sessions_text c.in_ok-plan.plan c.in_ok-programs.programs.items c.deref.result.now (option_copied c.args.journals) c.in_ok-ran.ran (g.W.Write.contents c.args.out.now) (g.W.Write.contents c.write_ran.new.out) (g.T.Targets.written c.args.targets.now) (g.T.Targets.written c.write_ran.new.targets)
+      (ran_offices (AreFree files c.args.plan.now c.args.sessions.now) files c.new-standard.result c.read_plan.new.standard c.read_coded_programs.new.standard c.args.plan.now c.args.sessions.now plan_text sessions_text c.in_ok-plan.plan c.in_ok-programs.programs.items c.deref.result.now (option_copied c.args.journals) c.in_ok-ran.ran (g.W.Write.contents c.args.out.now) (g.W.Write.contents c.write_ran.new.out) (g.T.Targets.written c.args.targets.now) (g.T.Targets.written c.write_ran.new.targets)
           c.in_ok-plan.ensures.meaning c.in_ok-programs.ensures.meaning
           (started c.new-standard.result (g.S.Sources.standard_text c.args.sources.now) files (c.args.plan.now ∷ c.args.sessions.now ∷ []) (plan_text ∷ sessions_text ∷ []) (search rules) known) c.deref.ensures.value c.in_ok-look_at_folder.ensures.free (subst (λ wanted. TellsJournals c.in_ok-plan.plan (range_with_len 0 (length c.in_ok-plan.plan.offices)) (length c.deref.result.now) wanted c.in_ok-ran.ran) (c.is_some.ensures ∙ is_some_copied c.args.journals) c.in_ok-ran.ensures.tells) h.1 h.2),
     ))) c.write_ran.ensures.leaves

@@ -41,14 +41,14 @@ returns-in_err-write_whole-clause-judged g c =
     (judged NoOther files (g.S.Sources.standard_text c.args.sources.now) c.new-standard.result (c.args.plan.now ∷ c.args.sessions.now ∷ []) (inputs.Plan ∷ inputs.Sessions ∷ []) c.in_err-write_whole.field-0.0 (search rules)
     (at_next NoOther files c.new-standard.result c.read_plan.new.standard c.args.plan.now (c.args.sessions.now ∷ []) nothing (record nothing { plan = Some c.in_ok-plan.plan }) inputs.Plan (inputs.Sessions ∷ []) c.in_err-write_whole.field-0.0
     (plan_taken files c.new-standard.result c.args.plan.now c.read_plan.new.standard c.in_ok-plan.plan c.in_ok-plan.ensures.meaning)
-    (at_next NoOther files c.read_plan.new.standard c.read_programs.new.standard c.args.sessions.now [] (record nothing { plan = Some c.in_ok-plan.plan }) (record nothing { plan = Some c.in_ok-plan.plan; programs = Some c.in_ok-programs.programs.items }) inputs.Sessions [] c.in_err-write_whole.field-0.0
-    (sessions_taken files c.read_plan.new.standard c.args.sessions.now c.read_programs.new.standard c.in_ok-plan.plan c.in_ok-programs.programs.items c.in_ok-programs.ensures.meaning)
-    (at_end NoOther files c.read_programs.new.standard (record nothing { plan = Some c.in_ok-plan.plan; programs = Some c.in_ok-programs.programs.items }) c.in_err-write_whole.field-0.0 (inl (no_input c.in_err-write_whole.field-0.0 c.in_err-write_whole.ensures.fault))))))
+    (at_next NoOther files c.read_plan.new.standard c.read_coded_programs.new.standard c.args.sessions.now [] (record nothing { plan = Some c.in_ok-plan.plan }) (record nothing { plan = Some c.in_ok-plan.plan; programs = Some c.in_ok-programs.programs.items }) inputs.Sessions [] c.in_err-write_whole.field-0.0
+    (sessions_taken files c.read_plan.new.standard c.args.sessions.now c.read_coded_programs.new.standard c.in_ok-plan.plan c.in_ok-programs.programs.items c.in_ok-programs.ensures.meaning)
+    (at_end NoOther files c.read_coded_programs.new.standard (record nothing { plan = Some c.in_ok-plan.plan; programs = Some c.in_ok-programs.programs.items }) c.in_err-write_whole.field-0.0 (inl (no_input c.in_err-write_whole.field-0.0 c.in_err-write_whole.ensures.fault))))))
 
 pub returns-clause-tells : goal.returns-clause-tells
 returns-clause-tells g c = λ plan_text sessions_text known.
     let files = g.S.Sources.file_text c.args.sources.now in
-    ran files c.new-standard.result c.read_plan.new.standard c.read_programs.new.standard c.args.plan.now c.args.sessions.now plan_text sessions_text
+    ran files c.new-standard.result c.read_plan.new.standard c.read_coded_programs.new.standard c.args.plan.now c.args.sessions.now plan_text sessions_text
     c.in_ok-plan.plan c.in_ok-programs.programs.items c.deref.result.now c.args.schedule.loss (g.W.Write.contents c.args.out.now) (g.W.Write.contents c.write_whole.new.out) c.deref-2.result.now
     c.in_ok-plan.ensures.meaning c.in_ok-programs.ensures.meaning
     (started c.new-standard.result (g.S.Sources.standard_text c.args.sources.now) files (c.args.plan.now ∷ c.args.sessions.now ∷ []) (plan_text ∷ sessions_text ∷ []) (search rules) known) c.deref.ensures.value (search rules) c.in_ok-write_whole.ensures.written

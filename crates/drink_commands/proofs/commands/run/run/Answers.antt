@@ -46,9 +46,9 @@ returns-in_err-look_at_file-clause-judged g c =
     rw (e.1, e.2)
     (judged IsOfRun files c.args.office.now (g.S.Sources.standard_text c.args.sources.now) c.new-standard.result c.args.plan.now c.args.sessions.now c.in_err-look_at_file.field-0.0 (search rules)
     (at_later IsOfRun files c.args.office.now c.new-standard.result c.read_plan.new.standard c.args.plan.now c.args.sessions.now c.in_ok-plan.plan c.in_ok-me.me c.in_err-look_at_file.field-0.0 c.in_ok-plan.ensures.meaning c.in_ok-me.ensures.office c.in_ok-me.ensures.reached
-    (at_next IsOfRun files c.read_plan.new.standard c.read_programs.new.standard c.args.sessions.now [] (record nothing { plan = Some c.in_ok-plan.plan }) (record nothing { plan = Some c.in_ok-plan.plan; programs = Some c.in_ok-programs.programs.items }) inputs.Sessions [] c.in_err-look_at_file.field-0.0
-    (sessions_taken files c.read_plan.new.standard c.args.sessions.now c.read_programs.new.standard c.in_ok-plan.plan c.in_ok-programs.programs.items c.in_ok-programs.ensures.meaning)
-    (texts.at_end IsOfRun files c.read_programs.new.standard (record nothing { plan = Some c.in_ok-plan.plan; programs = Some c.in_ok-programs.programs.items }) c.in_err-look_at_file.field-0.0 (is_place (λ name why. (option_copied c.args.journal ≡ Some name) × IsObstacle files c.args.plan.now c.args.sessions.now c.in_ok-plan.plan why c.in_ok-me.me name) c.in_err-look_at_file.field-0.0 c.in_err-look_at_file.ensures.fault)))))
+    (at_next IsOfRun files c.read_plan.new.standard c.read_coded_programs.new.standard c.args.sessions.now [] (record nothing { plan = Some c.in_ok-plan.plan }) (record nothing { plan = Some c.in_ok-plan.plan; programs = Some c.in_ok-programs.programs.items }) inputs.Sessions [] c.in_err-look_at_file.field-0.0
+    (sessions_taken files c.read_plan.new.standard c.args.sessions.now c.read_coded_programs.new.standard c.in_ok-plan.plan c.in_ok-programs.programs.items c.in_ok-programs.ensures.meaning)
+    (texts.at_end IsOfRun files c.read_coded_programs.new.standard (record nothing { plan = Some c.in_ok-plan.plan; programs = Some c.in_ok-programs.programs.items }) c.in_err-look_at_file.field-0.0 (is_place (λ name why. (option_copied c.args.journal ≡ Some name) × IsObstacle files c.args.plan.now c.args.sessions.now c.in_ok-plan.plan why c.in_ok-me.me name) c.in_err-look_at_file.field-0.0 c.in_err-look_at_file.ensures.fault)))))
 
 pub returns-in_err-ran-clause-judged : goal.returns-in_err-ran-clause-judged
 returns-in_err-ran-clause-judged g c =
@@ -57,9 +57,9 @@ returns-in_err-ran-clause-judged g c =
     rw (e.1, e.2)
     (judged IsOfRun files c.args.office.now (g.S.Sources.standard_text c.args.sources.now) c.new-standard.result c.args.plan.now c.args.sessions.now (NoRun c.in_err-ran.field-0.0) (search rules)
     (at_later IsOfRun files c.args.office.now c.new-standard.result c.read_plan.new.standard c.args.plan.now c.args.sessions.now c.in_ok-plan.plan c.in_ok-me.me (NoRun c.in_err-ran.field-0.0) c.in_ok-plan.ensures.meaning c.in_ok-me.ensures.office c.in_ok-me.ensures.reached
-    (at_next IsOfRun files c.read_plan.new.standard c.read_programs.new.standard c.args.sessions.now [] (record nothing { plan = Some c.in_ok-plan.plan }) (record nothing { plan = Some c.in_ok-plan.plan; programs = Some c.in_ok-programs.programs.items }) inputs.Sessions [] (NoRun c.in_err-ran.field-0.0)
-    (sessions_taken files c.read_plan.new.standard c.args.sessions.now c.read_programs.new.standard c.in_ok-plan.plan c.in_ok-programs.programs.items c.in_ok-programs.ensures.meaning)
-    (texts.at_end IsOfRun files c.read_programs.new.standard (record nothing { plan = Some c.in_ok-plan.plan; programs = Some c.in_ok-programs.programs.items }) (NoRun c.in_err-ran.field-0.0) (inr (inl tt))))))
+    (at_next IsOfRun files c.read_plan.new.standard c.read_coded_programs.new.standard c.args.sessions.now [] (record nothing { plan = Some c.in_ok-plan.plan }) (record nothing { plan = Some c.in_ok-plan.plan; programs = Some c.in_ok-programs.programs.items }) inputs.Sessions [] (NoRun c.in_err-ran.field-0.0)
+    (sessions_taken files c.read_plan.new.standard c.args.sessions.now c.read_coded_programs.new.standard c.in_ok-plan.plan c.in_ok-programs.programs.items c.in_ok-programs.ensures.meaning)
+    (texts.at_end IsOfRun files c.read_coded_programs.new.standard (record nothing { plan = Some c.in_ok-plan.plan; programs = Some c.in_ok-programs.programs.items }) (NoRun c.in_err-ran.field-0.0) (inr (inl tt))))))
 
 pub returns-clause-judged : goal.returns-clause-judged
 returns-clause-judged g c =
@@ -67,9 +67,9 @@ returns-clause-judged g c =
     err_more c.write_ran.result _ _ (λ f h.
     (judged IsOfRun files c.args.office.now (g.S.Sources.standard_text c.args.sources.now) c.new-standard.result c.args.plan.now c.args.sessions.now f (search rules)
     (at_later IsOfRun files c.args.office.now c.new-standard.result c.read_plan.new.standard c.args.plan.now c.args.sessions.now c.in_ok-plan.plan c.in_ok-me.me f c.in_ok-plan.ensures.meaning c.in_ok-me.ensures.office c.in_ok-me.ensures.reached
-    (at_next IsOfRun files c.read_plan.new.standard c.read_programs.new.standard c.args.sessions.now [] (record nothing { plan = Some c.in_ok-plan.plan }) (record nothing { plan = Some c.in_ok-plan.plan; programs = Some c.in_ok-programs.programs.items }) inputs.Sessions [] f
-    (sessions_taken files c.read_plan.new.standard c.args.sessions.now c.read_programs.new.standard c.in_ok-plan.plan c.in_ok-programs.programs.items c.in_ok-programs.ensures.meaning)
-    (texts.at_end IsOfRun files c.read_programs.new.standard (record nothing { plan = Some c.in_ok-plan.plan; programs = Some c.in_ok-programs.programs.items }) f (is_end _ f h)))))) c.write_ran.ensures.leaves
+    (at_next IsOfRun files c.read_plan.new.standard c.read_coded_programs.new.standard c.args.sessions.now [] (record nothing { plan = Some c.in_ok-plan.plan }) (record nothing { plan = Some c.in_ok-plan.plan; programs = Some c.in_ok-programs.programs.items }) inputs.Sessions [] f
+    (sessions_taken files c.read_plan.new.standard c.args.sessions.now c.read_coded_programs.new.standard c.in_ok-plan.plan c.in_ok-programs.programs.items c.in_ok-programs.ensures.meaning)
+    (texts.at_end IsOfRun files c.read_coded_programs.new.standard (record nothing { plan = Some c.in_ok-plan.plan; programs = Some c.in_ok-programs.programs.items }) f (is_end _ f h)))))) c.write_ran.ensures.leaves
 
 pub returns-clause-runs : goal.returns-clause-runs
 returns-clause-runs g c =
@@ -77,7 +77,7 @@ returns-clause-runs g c =
     ok_more c.write_ran.result _ _ (λ status h. λ plan_text sessions_text known. (
       c.in_ok-ran.ran,
       h.0,
-      (ran_office g.B.Socket.Wire.tells (IsFree files c.args.plan.now c.args.sessions.now) files c.new-standard.result c.read_plan.new.standard c.read_programs.new.standard c.args.plan.now c.args.office.now c.args.sessions.now plan_text sessions_text c.in_ok-plan.plan c.in_ok-me.me c.in_ok-programs.programs.items c.deref.result.now c.args.turns (option_copied c.args.journal) c.in_ok-ran.ran (g.W.Write.contents c.args.out.now) (g.W.Write.contents c.write_ran.new.out) (g.T.Targets.written c.args.targets.now) (g.T.Targets.written c.write_ran.new.targets)
+      (ran_office g.B.Socket.Wire.tells (IsFree files c.args.plan.now c.args.sessions.now) files c.new-standard.result c.read_plan.new.standard c.read_coded_programs.new.standard c.args.plan.now c.args.office.now c.args.sessions.now plan_text sessions_text c.in_ok-plan.plan c.in_ok-me.me c.in_ok-programs.programs.items c.deref.result.now c.args.turns (option_copied c.args.journal) c.in_ok-ran.ran (g.W.Write.contents c.args.out.now) (g.W.Write.contents c.write_ran.new.out) (g.T.Targets.written c.args.targets.now) (g.T.Targets.written c.write_ran.new.targets)
           c.in_ok-plan.ensures.meaning c.in_ok-me.ensures.office c.in_ok-me.ensures.reached c.in_ok-programs.ensures.meaning
           (started c.new-standard.result (g.S.Sources.standard_text c.args.sources.now) files (c.args.plan.now ∷ c.args.sessions.now ∷ []) (plan_text ∷ sessions_text ∷ []) (search rules) known) c.deref.ensures.value c.in_ok-look_at_file.ensures.free (subst (λ wanted. TellsCourse g.B.Socket.Wire.tells c.in_ok-plan.plan c.in_ok-me.me c.deref.result.now c.args.turns wanted c.in_ok-ran.ran) (c.is_some.ensures ∙ is_some_copied c.args.journal) c.in_ok-ran.ensures.ran) h.1 h.2),
     )) c.write_ran.ensures.done
@@ -117,7 +117,7 @@ returns-clause-leaves g c =
     err_more c.write_ran.result _ _ (λ f h. at_end _ (RefusesFile (g.S.Sources.file_text c.args.sources.now) (g.S.Sources.standard_text c.args.sources.now) c.args.plan.now c.args.office.now c.args.sessions.now (option_copied c.args.journal)) _ _ f h (λ cause h. λ plan_text sessions_text known. (
       c.in_ok-ran.ran,
       h.0,
-      (ran_office g.B.Socket.Wire.tells (IsFree files c.args.plan.now c.args.sessions.now) files c.new-standard.result c.read_plan.new.standard c.read_programs.new.standard c.args.plan.now c.args.office.now c.args.sessions.now plan_text sessions_text c.in_ok-plan.plan c.in_ok-me.me c.in_ok-programs.programs.items c.deref.result.now c.args.turns (option_copied c.args.journal) c.in_ok-ran.ran (g.W.Write.contents c.args.out.now) (g.W.Write.contents c.write_ran.new.out) (g.T.Targets.written c.args.targets.now) (g.T.Targets.written c.write_ran.new.targets)
+      (ran_office g.B.Socket.Wire.tells (IsFree files c.args.plan.now c.args.sessions.now) files c.new-standard.result c.read_plan.new.standard c.read_coded_programs.new.standard c.args.plan.now c.args.office.now c.args.sessions.now plan_text sessions_text c.in_ok-plan.plan c.in_ok-me.me c.in_ok-programs.programs.items c.deref.result.now c.args.turns (option_copied c.args.journal) c.in_ok-ran.ran (g.W.Write.contents c.args.out.now) (g.W.Write.contents c.write_ran.new.out) (g.T.Targets.written c.args.targets.now) (g.T.Targets.written c.write_ran.new.targets)
           c.in_ok-plan.ensures.meaning c.in_ok-me.ensures.office c.in_ok-me.ensures.reached c.in_ok-programs.ensures.meaning
           (started c.new-standard.result (g.S.Sources.standard_text c.args.sources.now) files (c.args.plan.now ∷ c.args.sessions.now ∷ []) (plan_text ∷ sessions_text ∷ []) (search rules) known) c.deref.ensures.value c.in_ok-look_at_file.ensures.free (subst (λ wanted. TellsCourse g.B.Socket.Wire.tells c.in_ok-plan.plan c.in_ok-me.me c.deref.result.now c.args.turns wanted c.in_ok-ran.ran) (c.is_some.ensures ∙ is_some_copied c.args.journal) c.in_ok-ran.ensures.ran) h.1 h.2),
     ))) c.write_ran.ensures.leaves

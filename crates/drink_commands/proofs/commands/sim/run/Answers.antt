@@ -40,10 +40,10 @@ returns-in_err-events-clause-judged g c =
     (judged NoOther files (g.S.Sources.standard_text c.args.sources.now) c.new-standard.result (c.args.plan.now ∷ c.args.sessions.now ∷ c.args.script.now ∷ []) (inputs.Plan ∷ inputs.Sessions ∷ inputs.Script ∷ []) c.in_err-events.field-0.0 (search rules)
     (at_next NoOther files c.new-standard.result c.read_plan.new.standard c.args.plan.now (c.args.sessions.now ∷ c.args.script.now ∷ []) nothing (record nothing { plan = Some c.in_ok-plan.plan }) inputs.Plan (inputs.Sessions ∷ inputs.Script ∷ []) c.in_err-events.field-0.0
     (plan_taken files c.new-standard.result c.args.plan.now c.read_plan.new.standard c.in_ok-plan.plan c.in_ok-plan.ensures.meaning)
-    (at_next NoOther files c.read_plan.new.standard c.read_programs.new.standard c.args.sessions.now (c.args.script.now ∷ []) (record nothing { plan = Some c.in_ok-plan.plan }) (record nothing { plan = Some c.in_ok-plan.plan; programs = Some c.in_ok-programs.programs.items }) inputs.Sessions (inputs.Script ∷ []) c.in_err-events.field-0.0
-    (sessions_taken files c.read_plan.new.standard c.args.sessions.now c.read_programs.new.standard c.in_ok-plan.plan c.in_ok-programs.programs.items c.in_ok-programs.ensures.meaning)
-    (at_first NoOther files c.read_programs.new.standard c.args.script.now [] (record nothing { plan = Some c.in_ok-plan.plan; programs = Some c.in_ok-programs.programs.items }) inputs.Script [] c.in_err-events.field-0.0
-    (subst (λ ps. IsFaultAt inputs.Script (λ why. (text : List ℕ) (after : Unread) → HasText files c.read_programs.new.standard c.args.script.now text after
+    (at_next NoOther files c.read_plan.new.standard c.read_coded_programs.new.standard c.args.sessions.now (c.args.script.now ∷ []) (record nothing { plan = Some c.in_ok-plan.plan }) (record nothing { plan = Some c.in_ok-plan.plan; programs = Some c.in_ok-programs.programs.items }) inputs.Sessions (inputs.Script ∷ []) c.in_err-events.field-0.0
+    (sessions_taken files c.read_plan.new.standard c.args.sessions.now c.read_coded_programs.new.standard c.in_ok-plan.plan c.in_ok-programs.programs.items c.in_ok-programs.ensures.meaning)
+    (at_first NoOther files c.read_coded_programs.new.standard c.args.script.now [] (record nothing { plan = Some c.in_ok-plan.plan; programs = Some c.in_ok-programs.programs.items }) inputs.Script [] c.in_err-events.field-0.0
+    (subst (λ ps. IsFaultAt inputs.Script (λ why. (text : List ℕ) (after : Unread) → HasText files c.read_coded_programs.new.standard c.args.script.now text after
     → Refuses (record nothing { plan = Some c.in_ok-plan.plan; programs = Some ps }) text why) c.in_err-events.field-0.0) c.deref.ensures.value c.in_err-events.ensures.fault)))))
 
 pub returns-in_err-simulated-clause-judged : goal.returns-in_err-simulated-clause-judged
@@ -61,10 +61,10 @@ returns-clause-judged g c =
     (judged NoOther files (g.S.Sources.standard_text c.args.sources.now) c.new-standard.result (c.args.plan.now ∷ c.args.sessions.now ∷ c.args.script.now ∷ []) (inputs.Plan ∷ inputs.Sessions ∷ inputs.Script ∷ []) f (search rules)
     (at_next NoOther files c.new-standard.result c.read_plan.new.standard c.args.plan.now (c.args.sessions.now ∷ c.args.script.now ∷ []) nothing (record nothing { plan = Some c.in_ok-plan.plan }) inputs.Plan (inputs.Sessions ∷ inputs.Script ∷ []) f
     (plan_taken files c.new-standard.result c.args.plan.now c.read_plan.new.standard c.in_ok-plan.plan c.in_ok-plan.ensures.meaning)
-    (at_next NoOther files c.read_plan.new.standard c.read_programs.new.standard c.args.sessions.now (c.args.script.now ∷ []) (record nothing { plan = Some c.in_ok-plan.plan }) (record nothing { plan = Some c.in_ok-plan.plan; programs = Some c.in_ok-programs.programs.items }) inputs.Sessions (inputs.Script ∷ []) f
-    (sessions_taken files c.read_plan.new.standard c.args.sessions.now c.read_programs.new.standard c.in_ok-plan.plan c.in_ok-programs.programs.items c.in_ok-programs.ensures.meaning)
-    (at_next NoOther files c.read_programs.new.standard c.read_events.new.standard c.args.script.now [] (record nothing { plan = Some c.in_ok-plan.plan; programs = Some c.in_ok-programs.programs.items }) (record { plan = Some c.in_ok-plan.plan; programs = Some c.in_ok-programs.programs.items; acts = Some (acts_with c.deref.result.now c.in_ok-events.events.items) }) inputs.Script [] f
-    (script_taken files c.read_programs.new.standard c.args.script.now c.read_events.new.standard c.in_ok-plan.plan c.in_ok-programs.programs.items (acts_with c.deref.result.now c.in_ok-events.events.items)
+    (at_next NoOther files c.read_plan.new.standard c.read_coded_programs.new.standard c.args.sessions.now (c.args.script.now ∷ []) (record nothing { plan = Some c.in_ok-plan.plan }) (record nothing { plan = Some c.in_ok-plan.plan; programs = Some c.in_ok-programs.programs.items }) inputs.Sessions (inputs.Script ∷ []) f
+    (sessions_taken files c.read_plan.new.standard c.args.sessions.now c.read_coded_programs.new.standard c.in_ok-plan.plan c.in_ok-programs.programs.items c.in_ok-programs.ensures.meaning)
+    (at_next NoOther files c.read_coded_programs.new.standard c.read_events.new.standard c.args.script.now [] (record nothing { plan = Some c.in_ok-plan.plan; programs = Some c.in_ok-programs.programs.items }) (record { plan = Some c.in_ok-plan.plan; programs = Some c.in_ok-programs.programs.items; acts = Some (acts_with c.deref.result.now c.in_ok-events.events.items) }) inputs.Script [] f
+    (script_taken files c.read_coded_programs.new.standard c.args.script.now c.read_events.new.standard c.in_ok-plan.plan c.in_ok-programs.programs.items (acts_with c.deref.result.now c.in_ok-events.events.items)
     (λ text after has. subst (λ ps. IsScript c.in_ok-plan.plan ps text (acts_with c.deref.result.now c.in_ok-events.events.items) × (c.read_events.new.standard ≡ after)) c.deref.ensures.value (c.in_ok-events.ensures.meaning text after has)))
     (at_end NoOther files c.read_events.new.standard (record { plan = Some c.in_ok-plan.plan; programs = Some c.in_ok-programs.programs.items; acts = Some (acts_with c.deref.result.now c.in_ok-events.events.items) }) f (inl (no_input f h)))))))) c.write_simulated.ensures.fault
 
@@ -72,7 +72,7 @@ pub returns-clause-simulates : goal.returns-clause-simulates
 returns-clause-simulates g c =
     let files = g.S.Sources.file_text c.args.sources.now in
     on_both c.write_simulated.result _ _ _ (λ written journals plan_text sessions_text script_text known.
-    simulated files c.new-standard.result c.read_plan.new.standard c.read_programs.new.standard c.read_events.new.standard c.args.plan.now c.args.sessions.now c.args.script.now
+    simulated files c.new-standard.result c.read_plan.new.standard c.read_coded_programs.new.standard c.read_events.new.standard c.args.plan.now c.args.sessions.now c.args.script.now
     plan_text sessions_text script_text c.in_ok-plan.plan c.in_ok-programs.programs.items (acts_with c.deref.result.now c.in_ok-events.events.items) (acts_with c.deref-2.result.now c.deref-3.result.now)
     (option_copied c.args.journals) (g.W.Write.contents c.args.out.now) (g.W.Write.contents c.write_simulated.new.out) (g.T.Targets.written c.args.targets.now) (g.T.Targets.written c.write_simulated.new.targets) (string_bytes c.in_ok-simulated.simulated.text)
     c.in_ok-plan.ensures.meaning c.in_ok-programs.ensures.meaning

@@ -38,33 +38,33 @@ pub returns-in_err-refuse_input-clause-judged : goal.returns-in_err-refuse_input
 returns-in_err-refuse_input-clause-judged g c =
     let e = err_from_is_err_and c.from_residual-in_err-refuse_input.result c.from_residual-in_err-refuse_input.ensures.1 in
     rw (e.1, e.2)
-    (later (g.S.Sources.file_text c.args.sources.now) (g.S.Sources.standard_text c.args.sources.now) c.new-standard.result c.read_plan.new.standard c.read_programs.new.standard c.args.plan.now c.args.office.now c.args.sessions.now c.in_ok-plan.plan c.in_ok-me.me c.in_ok-programs.programs.items c.in_err-refuse_input.field-0.0 (search rules)
+    (later (g.S.Sources.file_text c.args.sources.now) (g.S.Sources.standard_text c.args.sources.now) c.new-standard.result c.read_plan.new.standard c.read_coded_programs.new.standard c.args.plan.now c.args.office.now c.args.sessions.now c.in_ok-plan.plan c.in_ok-me.me c.in_ok-programs.programs.items c.in_err-refuse_input.field-0.0 (search rules)
     c.in_ok-plan.ensures.meaning c.in_ok-me.ensures.office c.in_ok-me.ensures.reached c.in_ok-programs.ensures.meaning (is_place (IsAnInput (g.S.Sources.file_text c.args.sources.now) c.args.plan.now c.args.sessions.now c.args.store.now) c.in_err-refuse_input.field-0.0 c.in_err-refuse_input.ensures.fault))
 
 pub returns-in_err-station-clause-judged : goal.returns-in_err-station-clause-judged
 returns-in_err-station-clause-judged g c =
     let e = err_from_is_err_and c.from_residual-in_err-station.result c.from_residual-in_err-station.ensures.1 in
     rw (e.1, e.2)
-    (later (g.S.Sources.file_text c.args.sources.now) (g.S.Sources.standard_text c.args.sources.now) c.new-standard.result c.read_plan.new.standard c.read_programs.new.standard c.args.plan.now c.args.office.now c.args.sessions.now c.in_ok-plan.plan c.in_ok-me.me c.in_ok-programs.programs.items (NoRun c.in_err-station.field-0.0) (search rules)
+    (later (g.S.Sources.file_text c.args.sources.now) (g.S.Sources.standard_text c.args.sources.now) c.new-standard.result c.read_plan.new.standard c.read_coded_programs.new.standard c.args.plan.now c.args.office.now c.args.sessions.now c.in_ok-plan.plan c.in_ok-me.me c.in_ok-programs.programs.items (NoRun c.in_err-station.field-0.0) (search rules)
     c.in_ok-plan.ensures.meaning c.in_ok-me.ensures.office c.in_ok-me.ensures.reached c.in_ok-programs.ensures.meaning (inr (inl (inl tt))))
 
 pub returns-in_err-kept-clause-judged : goal.returns-in_err-kept-clause-judged
 returns-in_err-kept-clause-judged g c =
     let e = err_from_is_err_and c.from_residual-in_err-kept.result c.from_residual-in_err-kept.ensures.1 in
     rw (e.1, e.2)
-    (later (g.S.Sources.file_text c.args.sources.now) (g.S.Sources.standard_text c.args.sources.now) c.new-standard.result c.read_plan.new.standard c.read_programs.new.standard c.args.plan.now c.args.office.now c.args.sessions.now c.in_ok-plan.plan c.in_ok-me.me c.in_ok-programs.programs.items c.in_err-kept.field-0.0 (search rules)
+    (later (g.S.Sources.file_text c.args.sources.now) (g.S.Sources.standard_text c.args.sources.now) c.new-standard.result c.read_plan.new.standard c.read_coded_programs.new.standard c.args.plan.now c.args.office.now c.args.sessions.now c.in_ok-plan.plan c.in_ok-me.me c.in_ok-programs.programs.items c.in_err-kept.field-0.0 (search rules)
     c.in_ok-plan.ensures.meaning c.in_ok-me.ensures.office c.in_ok-me.ensures.reached c.in_ok-programs.ensures.meaning (is_store _ c.args.is_new (IsNotHeld (g.K.Stores.has c.args.stores.now c.args.store.now) c.args.is_new c.in_ok-plan.plan c.in_ok-me.me c.deref.result.now) c.in_err-kept.field-0.0 c.in_err-kept.ensures.fault))
 
 pub returns-in_err-ended-clause-judged : goal.returns-in_err-ended-clause-judged
 returns-in_err-ended-clause-judged g c =
     let e = err_from_is_err_and c.from_residual-in_err-ended.result c.from_residual-in_err-ended.ensures.1 in
     rw (e.1, e.2)
-    (later (g.S.Sources.file_text c.args.sources.now) (g.S.Sources.standard_text c.args.sources.now) c.new-standard.result c.read_plan.new.standard c.read_programs.new.standard c.args.plan.now c.args.office.now c.args.sessions.now c.in_ok-plan.plan c.in_ok-me.me c.in_ok-programs.programs.items (NoRun c.in_err-ended.field-0.0) (search rules)
+    (later (g.S.Sources.file_text c.args.sources.now) (g.S.Sources.standard_text c.args.sources.now) c.new-standard.result c.read_plan.new.standard c.read_coded_programs.new.standard c.args.plan.now c.args.office.now c.args.sessions.now c.in_ok-plan.plan c.in_ok-me.me c.in_ok-programs.programs.items (NoRun c.in_err-ended.field-0.0) (search rules)
     c.in_ok-plan.ensures.meaning c.in_ok-me.ensures.office c.in_ok-me.ensures.reached c.in_ok-programs.ensures.meaning (inr (inl (inl tt))))
 
 pub returns-clause-judged : goal.returns-clause-judged
 returns-clause-judged g c =
-    err_more c.end-2.result _ _ (λ f h. later (g.S.Sources.file_text c.args.sources.now) (g.S.Sources.standard_text c.args.sources.now) c.new-standard.result c.read_plan.new.standard c.read_programs.new.standard c.args.plan.now c.args.office.now c.args.sessions.now c.in_ok-plan.plan c.in_ok-me.me c.in_ok-programs.programs.items f (search rules)
+    err_more c.end-2.result _ _ (λ f h. later (g.S.Sources.file_text c.args.sources.now) (g.S.Sources.standard_text c.args.sources.now) c.new-standard.result c.read_plan.new.standard c.read_coded_programs.new.standard c.args.plan.now c.args.office.now c.args.sessions.now c.in_ok-plan.plan c.in_ok-me.me c.in_ok-programs.programs.items f (search rules)
     c.in_ok-plan.ensures.meaning c.in_ok-me.ensures.office c.in_ok-me.ensures.reached c.in_ok-programs.ensures.meaning (is_end c.in_ok-ended.ended f h)) c.end-2.ensures.cut
 
 pub returns-in_err-me-clause-leaves : goal.returns-in_err-me-clause-leaves
@@ -99,7 +99,7 @@ returns-in_err-kept-clause-leaves g c =
     let Not = RefusesStore files standard has c.args.is_new c.args.plan.now c.args.office.now c.args.sessions.now in
     let Stands : StoredFault → Type 0 = λ cause. RunsStored g.B.Socket.Wire.tells files standard has c.args.is_new c.args.plan.now c.args.office.now c.args.sessions.now c.args.store.now c.args.turns (IsEndedBy cause) (g.W.Write.contents c.args.out.now) (g.W.Write.contents c.args.out.now) in
     rw (e.1, e.2) (at_store _ _ Input c.args.is_new Not Stands (IsNotHeld has c.args.is_new c.in_ok-plan.plan c.in_ok-me.me c.deref.result.now)
-    (not_held files standard c.new-standard.result c.read_plan.new.standard c.read_programs.new.standard c.args.plan.now c.args.office.now c.args.sessions.now c.in_ok-plan.plan c.in_ok-me.me c.in_ok-programs.programs.items c.deref.result.now (search rules)
+    (not_held files standard c.new-standard.result c.read_plan.new.standard c.read_coded_programs.new.standard c.args.plan.now c.args.office.now c.args.sessions.now c.in_ok-plan.plan c.in_ok-me.me c.in_ok-programs.programs.items c.deref.result.now (search rules)
     c.in_ok-plan.ensures.meaning c.in_ok-me.ensures.office c.in_ok-programs.ensures.meaning c.deref.ensures.value has c.args.is_new) c.in_err-kept.field-0.0 c.in_err-kept.ensures.fault refl)
 
 pub returns-in_err-ended-clause-leaves : goal.returns-in_err-ended-clause-leaves
@@ -118,7 +118,7 @@ returns-clause-runs g c =
       λ a_text b_text known. (
         c.in_ok-ended.ended,
         h,
-        went_on files standard c.new-standard.result c.read_plan.new.standard c.read_programs.new.standard c.args.plan.now c.args.office.now c.args.sessions.now c.in_ok-plan.plan c.in_ok-me.me c.in_ok-programs.programs.items c.deref.result.now (search rules)
+        went_on files standard c.new-standard.result c.read_plan.new.standard c.read_coded_programs.new.standard c.args.plan.now c.args.office.now c.args.sessions.now c.in_ok-plan.plan c.in_ok-me.me c.in_ok-programs.programs.items c.deref.result.now (search rules)
             c.in_ok-plan.ensures.meaning c.in_ok-me.ensures.office c.in_ok-programs.ensures.meaning c.deref.ensures.value g.B.Socket.Wire.tells has c.args.is_new c.args.turns c.in_ok-kept.kept _ _ _ c.in_ok-ended.ended _ _ c.deref-2.result.now
             c.deref-2.ensures.value c.in_ok-me.ensures.reached c.in_ok-kept.ensures.kept c.in_ok-ended.ensures.goes_on a_text b_text known,
       ),
@@ -141,7 +141,7 @@ returns-clause-leaves g c =
       λ a_text b_text known. (
         c.in_ok-ended.ended,
         by,
-        went_on files standard c.new-standard.result c.read_plan.new.standard c.read_programs.new.standard c.args.plan.now c.args.office.now c.args.sessions.now c.in_ok-plan.plan c.in_ok-me.me c.in_ok-programs.programs.items c.deref.result.now (search rules)
+        went_on files standard c.new-standard.result c.read_plan.new.standard c.read_coded_programs.new.standard c.args.plan.now c.args.office.now c.args.sessions.now c.in_ok-plan.plan c.in_ok-me.me c.in_ok-programs.programs.items c.deref.result.now (search rules)
             c.in_ok-plan.ensures.meaning c.in_ok-me.ensures.office c.in_ok-programs.ensures.meaning c.deref.ensures.value g.B.Socket.Wire.tells has c.args.is_new c.args.turns c.in_ok-kept.kept _ _ _ c.in_ok-ended.ended _ _ c.deref-2.result.now
             c.deref-2.ensures.value c.in_ok-me.ensures.reached c.in_ok-kept.ensures.kept c.in_ok-ended.ensures.goes_on a_text b_text known,
       ),
