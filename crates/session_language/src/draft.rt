@@ -15,7 +15,8 @@ use crate::scope::Scope;
 use crate::spoken::{Spoken, speak};
 use office_map::{OfficeId, Plan};
 use session_meaning::measures::block_gives;
-use session_programs::{Program, are_too_long};
+use session_programs::Program;
+use session_sizes::are_too_long;
 use std::alloc::Global;
 
 /// A session that is open, after each of its lines.

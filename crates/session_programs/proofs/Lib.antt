@@ -1,7 +1,5 @@
 pub mod Texts
 pub mod LastNode
-pub mod SizeStep
-pub mod ExtentBoundsSize
 pub mod NodesOfTerm
 pub mod CodeStands
 pub mod EmittedCodeStands

@@ -88,6 +88,7 @@ term_text w (Bin op.Minus a b) = term_text w a ++ (operator_text op.Minus ++ pro
 abbrev pub operation_text : Words → Operator → Term → Term → List ℕ
 operation_text w o a b = term_text w (Bin o a b)
 
+-- how a comparison is written, between its two sides
 abbrev pub comparison_text : Comparison → List ℕ
 comparison_text Equal = codes " == "
 comparison_text NotEqual = codes " != "

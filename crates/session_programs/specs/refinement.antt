@@ -1,4 +1,3 @@
-pub mod TextSizes
 pub mod Emission
 pub mod NodeEmission
 pub mod Closed

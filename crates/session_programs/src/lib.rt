@@ -5,8 +5,8 @@
 //! - `needs` are the records that it reads or sets anywhere (`all`, `in_order`, `named`), `fits` says whether a plan has its office
 //!   and its records, and `text` is its canonical text under such a plan (`text_under`, in `specs/Program.antt`; clause
 //!   `canonical`).
-//! - [`are_too_long`] says whether a session of these statements would be longer than one may be. The limits are in
-//!   `specs/Limits.antt` (the code has its own, [`limits`]).
+//! - The limits are in `specs/Limits.antt` (the code has its own, [`limits`]). Whether a session keeps those of its length, its
+//!   statements, its cost and its bytes of text, is looked at in `session_sizes`, above.
 //! - [`Code`] is the flat code of a session: lines that each say what to do and which line comes next. One line is one count of a
 //!   session's length (`length_on`, in `session_meaning`'s `specs/Length.antt`). [`Program::with_code`] and [`with_codes`] put
 //!   it beside a program, for as often as the program is submitted; [`Code::of`] takes it from there, or makes it. Which code a
@@ -25,12 +25,13 @@ mod listing;
 mod program;
 mod rank;
 mod register;
-mod sizes;
 mod text;
 mod words;
 
 pub use crate::code::Code;
 pub use crate::instruction::{Instruction, Line};
+pub use crate::listing::comparison_text;
 pub use crate::program::{Program, with_codes};
+pub use crate::rank::Rank;
 pub use crate::register::Register;
-pub use crate::sizes::are_too_long;
+pub use crate::text::magnitude;

@@ -167,7 +167,8 @@ fn write_condition(out: &mut String, words: &Words<'_>, c: &Condition) -> Result
     write_expression(out, words, &c.right)
 }
 
-pub(crate) fn comparison_text(comparison: Comparison) -> &'static str
+/// How a comparison is written between its two sides, with a space before and after it.
+pub fn comparison_text(comparison: Comparison) -> &'static str
     ensures { result.now ≡ comparison_text comparison }
 {
     match comparison {

@@ -110,7 +110,7 @@ fn write_literal(out: &mut String, value: Value) -> Result<(), AllocError>
 }
 
 /// The number of a literal, which has no sign.
-pub(crate) fn magnitude(number: i64) -> u64
+pub fn magnitude(number: i64) -> u64
     ensures { result ≡ magnitude number }
 {
     if number < 0 { 0 } else { number as u64 }

@@ -5,8 +5,8 @@ use Rattle.session_programs.specs.Text.{wide_words}
 use Rattle.session_meaning.specs.refinement.TreeOfStatements.{test_of, command_of, block_of}
 use Rattle.session_meaning.specs.declared.tree.Statement.TheViews.{the_lemmas}
 use Rattle.session_meaning.specs.refinement.RowLaws.{row_block_is}
-use Rattle.session_programs.proofs.SizeStep.{when_bytes, choice_bytes, loop_bytes}
-use Rattle.session_programs.proofs.sizes.+size.Goals as goal
+use Rattle.session_sizes.proofs.SizeStep.{when_bytes, choice_bytes, loop_bytes}
+use Rattle.session_sizes.proofs.sizes.+size.Goals as goal
 
 pub statement_size-returns-in_ok-body-in-If : goal.statement_size-returns-in_ok-body-in-If
 statement_size-returns-in_ok-body-in-If t c =

@@ -1,8 +1,8 @@
 use Rattle.std.proofs.Common.{◌-◌, arith, refl, take}
 use Rattle.std.specs.Vec.{vec_len}
 use Rattle.session_programs.specs.declared.rank.Rank.TheVariants.{Factor}
-use Rattle.session_programs.proofs.SizeStep.{last_replaced, signed}
-use Rattle.session_programs.proofs.sizes.with_sign.Goals as goal
+use Rattle.session_sizes.proofs.SizeStep.{last_replaced, signed}
+use Rattle.session_sizes.proofs.sizes.with_sign.Goals as goal
 
 pub returns : goal.returns
 returns c w st h g =

@@ -1,6 +1,6 @@
 use Rattle.std.proofs.Common.{◌≡◌, ◌≤◌, ◌+◌, length}
 use Rattle.std.specs.Fmt.{decimal}
-use Rattle.session_programs.proofs.sizes.digits.Given as goal
+use Rattle.session_sizes.proofs.sizes.digits.Given as goal
 
 -- the digits that were counted, and those that are left, are all of them
 abbrev pub invariant-loop-rest : goal.invariant-loop-rest

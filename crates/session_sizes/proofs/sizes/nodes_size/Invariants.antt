@@ -2,8 +2,8 @@ use Rattle.std.proofs.Common.{◌≡◌, ◌≤◌, [], min, map, take}
 use Rattle.std.specs.String.{string_bytes}
 use Rattle.session_meaning.specs.refinement.Postfix.{push_nodes}
 use Rattle.session_programs.specs.Text.{wide_words}
-use Rattle.session_programs.specs.refinement.TextSizes.{ranks_of, bytes_of}
-use Rattle.session_programs.proofs.sizes.nodes_size.Given as goal
+use Rattle.session_sizes.specs.refinement.TextSizes.{ranks_of, bytes_of}
+use Rattle.session_sizes.proofs.sizes.nodes_size.Given as goal
 
 -- what the nodes so far leave
 abbrev pub invariant-loop-node : goal.invariant-loop-node

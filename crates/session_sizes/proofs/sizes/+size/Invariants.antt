@@ -2,7 +2,7 @@ use Rattle.std.proofs.Common.{◌≡◌, ◌≤◌, ◌+◌, min, drop, length, 
 use Rattle.std.specs.String.{string_bytes}
 use Rattle.session_meaning.specs.refinement.TreeOfStatements.{block_of}
 use Rattle.session_programs.specs.Text.{wide_words, block_text}
-use Rattle.session_programs.proofs.sizes.+size.Given as goal
+use Rattle.session_sizes.proofs.sizes.+size.Given as goal
 
 -- the bytes so far, and those of the statements that are left, make those of all
 abbrev pub invariant-block_size-loop-statement : goal.invariant-block_size-loop-statement

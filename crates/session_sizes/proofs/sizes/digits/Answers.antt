@@ -1,7 +1,7 @@
 use Rattle.std.proofs.Common.{arith}
 use Rattle.std.proofs.lemmas.Fmt.{length-decimal-le}
 use Rattle.itoa.proofs.Decimal.{length_one, length_step_wide}
-use Rattle.session_programs.proofs.sizes.digits.Goals as goal
+use Rattle.session_sizes.proofs.sizes.digits.Goals as goal
 
 pub overflow_add-count : goal.overflow_add-count
 overflow_add-count c =

@@ -1,7 +1,7 @@
 use Rattle.std.proofs.Common.{◌-◌, arith, refl, take, rules}
 use Rattle.std.specs.Vec.{vec_len}
-use Rattle.session_programs.proofs.SizeStep.{last_replaced, operated}
-use Rattle.session_programs.proofs.sizes.with_operator.Goals as goal
+use Rattle.session_sizes.proofs.SizeStep.{last_replaced, operated}
+use Rattle.session_sizes.proofs.sizes.with_operator.Goals as goal
 
 pub returns : goal.returns
 returns c w st h g =

@@ -2,8 +2,8 @@ use Rattle.std.proofs.Common.{[], map, take}
 use Rattle.std.specs.String.{string_bytes}
 use Rattle.session_meaning.specs.refinement.Postfix.{push_nodes}
 use Rattle.session_programs.specs.Text.{wide_words}
-use Rattle.session_programs.proofs.SizeStep.{one_more}
-use Rattle.session_programs.proofs.sizes.nodes_size.Goals as goal
+use Rattle.session_sizes.proofs.SizeStep.{one_more}
+use Rattle.session_sizes.proofs.sizes.nodes_size.Goals as goal
 
 pub loop-node-preserved : goal.loop-node-preserved
 loop-node-preserved c =

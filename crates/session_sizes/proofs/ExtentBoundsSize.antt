@@ -19,8 +19,8 @@ use Rattle.session_meaning.specs.Measures.{nodes, test_nodes, block_cost, block_
 use Rattle.session_meaning.specs.refinement.Extent.{extent, block_extent}
 use Rattle.session_programs.specs.WellFormed.{IsUnsigned, IsLiteral, IsOver, IsTestOver, IsStatementOver, known_after, known_after_block, AreStatements}
 use Rattle.session_programs.specs.Text.{Words, magnitude, literal, variable_name, wide_words, rank_of, term_text, comparison_text, test_text, let_text, set_text, require_text, line, command_text, block_text, session_text}
-use Rattle.session_programs.specs.refinement.TextSizes.{around_factor, around_product, around_both}
-use Rattle.session_programs.proofs.SizeStep.{factor_bytes, operation_bytes}
+use Rattle.session_sizes.specs.refinement.TextSizes.{around_factor, around_product, around_both}
+use Rattle.session_sizes.proofs.SizeStep.{factor_bytes, operation_bytes}
 
 little_around : (r : Rank) → around_factor r ≤ 2
 little_around Factor = omega arith

@@ -11,15 +11,13 @@ ghost use Rattle.session_programs.specs.WellFormed.{IsDeclared};
 ghost use Rattle.session_meaning.specs.Tree.{Term, Bin};
 ghost use Rattle.session_meaning.specs.refinement.Postfix.{push_node, push_nodes};
 ghost use Rattle.session_programs.specs.Text.{Words, wide_words, literal, variable_name, rank_of, term_text, test_text, command_text, block_text, session_text};
-ghost use Rattle.session_programs.specs.refinement.TextSizes.{ranks_of, bytes_of, around_factor, around_product, around_both};
+ghost use Rattle.session_sizes.specs.refinement.TextSizes.{ranks_of, bytes_of, around_factor, around_product, around_both};
 
 use crate::limits::{MOST_BYTES, MOST_COST, MOST_STATEMENTS, PAST_BYTES, SHORT_EXTENT};
-use crate::listing::comparison_text;
-use crate::rank::Rank;
-use crate::text::magnitude;
 use bottle_values::Value;
 use session_meaning::measures::{block_cost, block_extent, block_statements};
 use session_meaning::{Condition, Expression, Node, Operator, Statement};
+use session_programs::{Rank, comparison_text, magnitude};
 use std::alloc::{AllocError, Global};
 
 /// Whether statements over these variables are past one of the limits of a session's length. Their text is measured only

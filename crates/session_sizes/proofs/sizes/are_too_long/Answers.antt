@@ -3,8 +3,8 @@ use Rattle.std.specs.String.{string_bytes}
 use Rattle.session_meaning.specs.Measures.{block_statements, block_cost}
 use Rattle.session_meaning.specs.refinement.TreeOfStatements.{block_of}
 use Rattle.session_meaning.specs.refinement.Extent.{block_extent}
-use Rattle.session_programs.proofs.ExtentBoundsSize.{short_by_extent}
-use Rattle.session_programs.proofs.sizes.are_too_long.Goals as goal
+use Rattle.session_sizes.proofs.ExtentBoundsSize.{short_by_extent}
+use Rattle.session_sizes.proofs.sizes.are_too_long.Goals as goal
 
 pub returns-then-block_extent-le-SHORT_EXTENT : goal.returns-then-block_extent-le-SHORT_EXTENT
 returns-then-block_extent-le-SHORT_EXTENT c =

@@ -12,7 +12,7 @@ use Rattle.session_meaning.specs.Tree.{Term, Bin, Test, When, Choice, Loop, Bloc
 use Rattle.session_meaning.specs.declared.node.Node.{Node}
 use Rattle.session_meaning.specs.refinement.Postfix.{push_node, push_nodes, postfix, push_nodes-append, push_nodes-postfix}
 use Rattle.session_programs.specs.Text.{Words, rank_of, term_text, factor_text, product_text, operator_text, test_text, line, command_text, block_text}
-use Rattle.session_programs.specs.refinement.TextSizes.{ranks_of, bytes_of, around_factor, around_product, around_both}
+use Rattle.session_sizes.specs.refinement.TextSizes.{ranks_of, bytes_of, around_factor, around_product, around_both}
 use Rattle.session_programs.proofs.LastNode.{same_last}
 
 pub factor_bytes : (r : Rank) (text : List ℕ) → length (factor_text r text) ≡ around_factor r + length text

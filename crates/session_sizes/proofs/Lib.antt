@@ -1,0 +1,2 @@
+pub mod SizeStep
+pub mod ExtentBoundsSize
