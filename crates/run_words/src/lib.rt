@@ -1,7 +1,7 @@
 //! The words that scripts and journals share, read and written.
 //!
-//! - [`words`] has the words of offices, records and counted numbers. A line of words with a space between is cut into these
-//!   words again ([`laws::lines_are_cut_into_their_words`]).
+//! - [`words`] has the words of offices, records and counted numbers, and adds a number's digits. A line of words with a space
+//!   between is cut into these words again ([`laws::lines_are_cut_into_their_words`]).
 //! - [`rules`] has the words of a rule, which read back as that rule ([`laws::rules_read_back`]).
 //! - [`replies`] has the words of a reply, and which reply a word says of a frame that came.
 //! - [`digits`] has bytes as digits, two for each byte, and which frame a word of digits spells.

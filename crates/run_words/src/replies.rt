@@ -9,7 +9,7 @@ ghost use Rattle.run_words.specs.Words.{line_of_words};
 ghost use Rattle.run_words.specs.Replies.{frame_words, reply_words, arrival_named, ReplyReadsBack};
 
 use crate::digits::add_frame_digits;
-use crate::words::is;
+use crate::words::{add_number, is};
 use frame_codec::Frame;
 use site_core::Reply;
 use std::alloc::AllocError;
@@ -36,7 +36,8 @@ fn add_ticket(text: &mut String, number: Option<usize>, ticket: u32) -> Result<(
     ensures words { OnOk result (string_bytes text.new ≡ string_bytes text.old ++ line_of_words (reply_words number (replies.Ticket ticket))) }
     ensures range { ticket < 2 ^ 32 }
 {
-    write!(text, "ticket {ticket}")
+    text.push_str("ticket ")?;
+    add_number(text, u64::from(ticket))
 }
 
 fn add_frame(text: &mut String, number: Option<usize>, frame: &Frame) -> Result<(), AllocError>
@@ -61,7 +62,9 @@ fn add_numbered(text: &mut String, number: usize, frame: &Frame) -> Result<(), A
     ensures words { OnOk result (string_bytes text.new ≡ string_bytes text.old ++ line_of_words (frame_words (Some number) (frame_digits frame.now))) }
     ensures reads_back { OnOk result (IsFrameWord (frame_digits frame.now) (said.Spelled frame.now)) }
 {
-    write!(text, "frame {number} ")?;
+    text.push_str("frame ")?;
+    add_number(text, number as u64)?;
+    text.push_str(" ")?;
     add_frame_digits(text, frame)
 }
 

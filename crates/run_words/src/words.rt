@@ -6,6 +6,7 @@ ghost use Rattle.run_words.specs.Words.{office_by, record_by, count_by};
 
 use office_map::{OfficeId, Plan, RecordId};
 pub use session_reports::names::{office_name, record_name};
+pub use session_reports::numbers::add_number;
 use text_lines::{name, number};
 
 /// Whether a word is this text.

@@ -1,12 +1,12 @@
 -- A script, read line by line.
-use Rattle.std.proofs.Common.{◌≡◌, ◌≢◌, ℕ, List, [], ◌∷◌, ◌++◌, length, map, true, Option, Some, None, is_some, refl, sym, ap, ap₂, ◌∙◌, append_assoc, arith, Bor}
+use Rattle.std.proofs.Common.{◌≡◌, ℕ, List, [], ◌∷◌, ◌++◌, map, true, Option, Some, None, is_some, refl, sym, ap, ap₂, ◌∙◌, append_assoc}
 use Rattle.std.specs.List.{cons_option}
 use Rattle.std.proofs.lemmas.List.{map-append}
 use Rattle.std.proofs.lemmas.List.Elements.{filter_map-append}
 use Rattle.office_map.specs.PlanValue.{PlanValue}
 use Rattle.session_meaning.specs.ProgramValue.{ProgramValue}
 use Rattle.script_runs.specs.declared.event.ScriptEvent.{ScriptEvent}
-use Rattle.script_runs.specs.Script.{Act, act_of, act_with, acts_with, said_by, AreActs}
+use Rattle.script_runs.specs.Script.{Act, act_of, act_with, acts_with, AreActs}
 
 -- the lines before the rest mean these events
 pub record Walked (p : PlanValue) (programs : List ProgramValue) (all rest : List (ℕ × List ℕ)) (events : List ScriptEvent) : Type 0 where
@@ -35,13 +35,3 @@ further p programs all rest more number line e events grown first means there g 
       split = w.split ∙ ap (λ r. w.before ++ r) first ∙ sym (append_assoc w.before ((number, line) ∷ []) more);
       good = both ∙ sym (ap (map Some) longer);
     }
-
--- lines of other lengths than those of the forms
-pub means_nothing : (p : PlanValue) (words : List (Bor (List ℕ))) → length words ≢ 2 → length words ≢ 3 → length words ≢ 4
-    → said_by p (map (λ w. w.now) words) ≡ None
-means_nothing p [] h k l = refl
-means_nothing p (a ∷ []) h k l = refl
-means_nothing p (a ∷ b ∷ []) h k l = absurd (omega arith)
-means_nothing p (a ∷ b ∷ c ∷ []) h k l = absurd (omega arith)
-means_nothing p (a ∷ b ∷ c ∷ d ∷ []) h k l = absurd (omega arith)
-means_nothing p (a ∷ b ∷ c ∷ d ∷ e ∷ more) h k l = refl

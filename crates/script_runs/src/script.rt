@@ -1,7 +1,8 @@
 //! Scripts: the events that a text means.
 
-ghost use Rattle.std.specs.Prelude.{◌≡◌, Bool, IfOk, IfErr, IfSome, List, is_some, map, option_map, true, ℕ};
+ghost use Rattle.std.specs.Prelude.{◌≡◌, Bool, IfOk, IfErr, IfSome, List, is_some, option_map, true, ℕ};
 ghost use Rattle.office_map.specs.PlanText.{and_then};
+ghost use Rattle.text_lines.specs.Text.{words_of};
 ghost use Rattle.script_runs.specs.Script.{IsScript, IsFaultOf, act_of, said_of, said_by, act_with, acts_with, numbered_line, submit_of, nth, deliver_of, settle_of, office_line, long_line, done_by, advanced_by, withdrawn_by, sent_by};
 
 use crate::event::ScriptEvent;
@@ -12,8 +13,8 @@ use run_words::rules::{rule_named, rule_with};
 use run_words::words::{count_by, great_count_by, is, office_by};
 use session_programs::Program;
 use site_core::Rule;
-use std::alloc::{AllocError, Global};
-use text_lines::{Statements, is_plain, number, words};
+use std::alloc::Global;
+use text_lines::{Statements, first_word, is_plain, number};
 
 /// The events that a script means under a plan, where these are the programs of the file of sessions.
 ///
@@ -42,7 +43,7 @@ pub fn events(
         number: 1,
     };
     while let Some((line, statement)) = left.next() {
-        match event(alloc, plan, programs, statement)? {
+        match event(plan, programs, statement) {
             Some(event) => events.push(event)?,
             None => return Err(ScriptFault::Refused(ScriptRefusal { line })),
         }
@@ -51,17 +52,11 @@ pub fn events(
 }
 
 /// The event that a line says, where it says one and its session is in the file.
-fn event(
-    alloc: Global,
-    plan: &Plan,
-    programs: &[Program],
-    line: &[u8],
-) -> Result<Option<ScriptEvent>, AllocError>
-    ensures meaning { IfOk result (λ o. act_of plan.now programs.now line.now ≡ and_then o (act_with programs.now)) }
-    ensures there { IfOk result (λ o. IfSome o (λ e. is_some (act_with programs.now e) ≡ true)) }
+fn event(plan: &Plan, programs: &[Program], line: &[u8]) -> Option<ScriptEvent>
+    ensures meaning { act_of plan.now programs.now line.now ≡ and_then result (act_with programs.now) }
+    ensures there { IfSome result (λ e. is_some (act_with programs.now e) ≡ true) }
 {
-    let said = said(alloc, plan, line)?;
-    Ok(there(programs, said))
+    there(programs, said(plan, line))
 }
 
 /// What a line says, where its session is in the file.
@@ -90,24 +85,30 @@ pub(crate) fn nth(programs: &[Program], n: u64) -> Option<&Program>
 
 /// What a line says.
 #[tactic(auto, unfolding(crate::specs::Script::said_of))]
-fn said(alloc: Global, plan: &Plan, line: &[u8]) -> Result<Option<ScriptEvent>, AllocError>
-    ensures { IfOk result (λ e. e ≡ said_of plan.now line.now) }
+fn said(plan: &Plan, line: &[u8]) -> Option<ScriptEvent>
+    ensures { result ≡ said_of plan.now line.now }
 {
     if !is_plain(line) {
-        return Ok(None);
+        return None;
     }
-    let words = words(alloc, line)?;
-    Ok(said_by(plan, &words))
+    said_by(plan, line)
 }
 
-fn said_by(plan: &Plan, words: &[&[u8]]) -> Option<ScriptEvent>
-    ensures { result ≡ said_by plan.now (map (λ w. w.now) words.now) }
+/// What the words of a line say. They are read one after another, and no list of them is made.
+fn said_by(plan: &Plan, line: &[u8]) -> Option<ScriptEvent>
+    ensures { result ≡ said_by plan.now (words_of line.now) }
 {
-    match words.len() {
-        2 => numbered_line(words[0], words[1]),
-        3 => office_line(plan, words[0], words[1], words[2]),
-        4 => long_line(plan, words[0], words[1], words[2], words[3]),
-        _ => None,
+    let (keyword, left) = first_word(line)?;
+    let (a, left) = first_word(left)?;
+    let Some((b, left)) = first_word(left) else {
+        return numbered_line(keyword, a);
+    };
+    let Some((c, left)) = first_word(left) else {
+        return office_line(plan, keyword, a, b);
+    };
+    match first_word(left) {
+        Some(_) => None,
+        None => long_line(plan, keyword, a, b, c),
     }
 }
 

@@ -7,6 +7,7 @@ ghost use Rattle.bottle_values.specs.Printed.{value_text};
 ghost use Rattle.session_reports.specs.Report.{end_text, listed, record_text, title, outcome_line, unfinished_line, value_at, value_line, value_lines, report_of};
 
 use crate::names::{office_name, record_name};
+use crate::numbers::add_number;
 use bottle_values::Value;
 use itoa::Buffer;
 use office_map::{Plan, RecordId};
@@ -47,9 +48,10 @@ pub fn add_outcome(text: &mut String, plan: &Plan, outcome: &Outcome) -> Result<
 fn add_title(text: &mut String, plan: &Plan, outcome: &Outcome) -> Result<(), AllocError>
     ensures { OnOk result (string_bytes text.new ≡ string_bytes text.old ++ title plan.now outcome.now) }
 {
-    let office = office_name(plan, outcome.office);
-    let ticket = outcome.ticket;
-    write!(text, "{office}.{ticket} ")?;
+    text.push_str(office_name(plan, outcome.office))?;
+    text.push_str(".")?;
+    add_number(text, u64::from(outcome.ticket))?;
+    text.push_str(" ")?;
     add_end(text, outcome.ending.end)
 }
 

@@ -11,8 +11,8 @@ loop-line-preserved c =
     record {
       short = c.loop-line.invariant.short;
       fits = c.in-Some.ensures.fits;
-      walked = further c.args.plan.now ps (statements c.args.text.now) _ _ c.in-Some.line c.in-Some.statement.now c.in-Some-2.event c.loop-line.events.items c.push.new.self.items
-          c.in-Some.ensures.gives (c.in_ok-event.ensures.meaning ∙ ap (λ o. and_then o (act_with ps)) c.in-Some-2.is)
-          (subst (λ o. IfSome o (λ e. is_some (act_with ps e) ≡ true)) c.in-Some-2.is c.in_ok-event.ensures.there)
-          c.in_ok-push-in-Some-2.ensures.items c.loop-line.invariant.walked;
+      walked = further c.args.plan.now ps (statements c.args.text.now) _ _ c.in-Some.line c.in-Some.statement.now c.in-Some-event.event c.loop-line.events.items c.push.new.self.items
+          c.in-Some.ensures.gives (c.event.ensures.meaning ∙ ap (λ o. and_then o (act_with ps)) c.in-Some-event.is)
+          (subst (λ o. IfSome o (λ e. is_some (act_with ps e) ≡ true)) c.in-Some-event.is c.event.ensures.there)
+          c.in_ok-push-in-Some-event.ensures.items c.loop-line.invariant.walked;
     }
