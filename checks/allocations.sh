@@ -3,8 +3,9 @@
 # has to say that memory ran out and nothing else, with status 1 and nothing written, or to end as a run that is refused
 # nothing. An office that runs may be cut short besides: then it prints what stands, and says so; and where its socket lacked
 # memory, it names the address. Where journals are written to files, a file that lacks memory may be told after all was printed, and
-# each file that is there is whole. A store is as it was where nothing was done, or made and empty. It fails where one doesn't, and where a run has no allocation that could be refused. It needs a
-# program that is built, and a C compiler. checks/program calls it.
+# each file that is there is whole. Where a long transcript is written in parts, those before stand, and it is told as a fault of
+# the output. A store is as it was where nothing was done, or made and empty. It fails where one doesn't, and where a run has no
+# allocation that could be refused. It needs a program that is built, and a C compiler. checks/program calls it.
 #
 #   sh checks/allocations.sh [PROGRAM]        PROGRAM is crates/drink/out/drink where it is left out
 set -eu
@@ -84,7 +85,7 @@ row() {
         [ -s "$work/told" ] || break
         if did_nothing "$@"; then
             :
-        elif was_cut_short "$@" || lacked_a_file; then
+        elif was_cut_short "$@" || lacked_a_file || wrote_parts "$@"; then
             cut=$((cut + 1))
         elif [ "$status" -eq "$wanted" ] && cmp -s "$work/out" "$work/out.wanted" && { cmp -s "$work/err" "$work/err.wanted" || says_no_remarks; } && has_all_files; then
             answered=$((answered + 1))
@@ -128,6 +129,11 @@ lacked_a_file() {
     for file in "$work/left"/*; do
         [ ! -e "$file" ] || cmp -s "$file" "$work/left.wanted/${file##*/}" || return 1
     done
+}
+
+# Whether parts of a long transcript were written, and memory that ran out then is told as a fault of the writing.
+wrote_parts() {
+    [ "${1-}" = sim ] && [ "$status" -eq 1 ] && [ -s "$work/out" ] && has_no_files && head -c "$(wc -c < "$work/out")" "$work/out.wanted" | cmp -s - "$work/out" && says "drink: X5 WriteFailed: .*: out of memory"
 }
 
 has_no_files() {
@@ -178,6 +184,8 @@ for example in branch_ledger lease_table shared_stock; do
 done
 stock=$examples/shared_stock
 row "sim, shared_stock" sim "$stock/plan.txt" "$stock/sessions.txt" "$stock/script.txt"
+awk 'BEGIN { for (i = 0; i < 3000; i++) print "send shop depot 0" }' > "$work/long"
+row "sim, a transcript of several parts" sim "$stock/plan.txt" "$stock/sessions.txt" "$work/long"
 row "random, shared_stock" random "$stock/plan.txt" "$stock/sessions.txt" --seed 1 --loss 20 --steps 300
 # Addresses of this machine that no other run has.
 here=127.$((200 + $$ % 50)).$(($$ / 256 % 256)).$(($$ % 256))

@@ -1,5 +1,5 @@
 -- What a command wrote is what its texts mean.
-use Rattle.std.proofs.Common.{◌≡◌, ℕ, Bool, List, [], ◌∷◌, length, map, get_or, Option, Some, is_some, IfSome, sym, subst, ap, ◌∙◌}
+use Rattle.std.proofs.Common.{◌≡◌, ℕ, Bool, List, [], ◌∷◌, length, map, get_or, Option, Some, is_some, IfSome, sym, subst}
 use Rattle.std.specs.List.{range_with_len}
 use Rattle.std.specs.String.{string_bytes}
 use Rattle.std.specs.Io.KnownBytes.{Appends}
@@ -43,12 +43,12 @@ ran files u v w a b a_text b_text p programs seen loss old new printed plan sess
     }
 
 pub simulated : (files : List ℕ → Option (List ℕ)) (u v w x : Unread) (a b c a_text b_text c_text : List ℕ) (p : PlanValue)
-    (programs : List ProgramValue) (acts run : List Act) (folder : Option (List ℕ)) (old new : Option (List ℕ)) (kept left : Option (List File)) (printed : List ℕ)
+    (programs : List ProgramValue) (acts run : List Act) (folder : Option (List ℕ)) (old new : Option (List ℕ)) (kept left : Option (List File))
     → TakesPlan files u a v p → TakesSessions files v b w p programs → TakesScript files w c x p programs acts
     → HaveTexts files u (a ∷ b ∷ c ∷ []) (a_text ∷ b_text ∷ c_text ∷ [])
-    → run ≡ acts → IsSerialRun (run_of (opening p) run) → printed ≡ transcript p run → Appends old new printed
+    → run ≡ acts → IsSerialRun (run_of (opening p) run) → Appends old new (transcript p run)
     → WritesFiles folder (λ place. files_of_world place (run_of (opening p) run)) kept left → Simulates a_text b_text c_text folder old new kept left
-simulated files u v w x a b c a_text b_text c_text p programs acts run folder old new kept left printed plan sessions script (after, has, (next, has_next, (last, has_last, more))) same serial e written journals =
+simulated files u v w x a b c a_text b_text c_text p programs acts run folder old new kept left plan sessions script (after, has, (next, has_next, (last, has_last, more))) same serial written journals =
     let it = plan a_text after has in
     let then_it = sessions b_text next (subst (λ s. HasText files s b b_text next) (sym it.1) has_next) in
     record {
@@ -58,7 +58,7 @@ simulated files u v w x a b c a_text b_text c_text p programs acts run folder ol
       is_plan = it.0;
       are_sessions = then_it.0;
       is_script = (script c_text last (subst (λ s. HasText files s c c_text last) (sym then_it.1) has_last)).0;
-      written = subst (λ t. Appends old new t) (e ∙ ap (transcript p) same) written;
+      written = subst (λ xs. Appends old new (transcript p xs)) same written;
       serial = subst (λ xs. IsSerialRun (run_of (opening p) xs)) same serial;
       journals = subst (λ xs. WritesFiles folder (λ place. files_of_world place (run_of (opening p) xs)) kept left) same journals;
     }

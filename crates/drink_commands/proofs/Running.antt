@@ -224,9 +224,9 @@ pub ok_more : {A : Type 0} (r : Result A Fault) (P Q : A → Type 0) → ((x : A
 ok_more (Ok x) P Q k h = k x h
 ok_more (Err f) P Q k h = tt
 
-pub on_both : {A : Type 0} (r : Result A Fault) (P Q S : Type 0) → (P → Q → S) → OnOk r P → OnOk r Q → OnOk r S
-on_both (Ok x) P Q S k h j = k h j
-on_both (Err f) P Q S k h j = tt
+pub on_three : {A : Type 0} (r : Result A Fault) (P Q R S : Type 0) → (P → Q → R → S) → OnOk r P → OnOk r Q → OnOk r R → OnOk r S
+on_three (Ok x) P Q R S k h j l = k h j l
+on_three (Err f) P Q R S k h j l = tt
 
 pub one_at_most : (left : ℕ) → status_with left ≤ 1
 one_at_most zero = omega arith

@@ -1,5 +1,6 @@
 use crate::disk::{Disk, write_whole};
 use crate::memory::InMemory;
+use crate::outgoing::{Outgoing, PART};
 use crate::targets::Targets;
 use std::alloc::{AllocError, Global};
 use std::fmt::Write as FmtWrite;
@@ -61,6 +62,51 @@ fn a_fault_of_a_writer_is_told(rt: HostRuntime) {
             assert_eq!(rt; slow.flushed, 9);
         }
     }
+}
+
+// Lines of ten bytes: a part is the first 6,554 of them, which are 65,540 bytes.
+#[test]
+fn a_long_text_goes_out_in_parts(rt: HostRuntime) -> Result<(), AllocError> {
+    let mut out = Vec::new(rt.alloc());
+    let mut told = Outgoing::new(rt.alloc());
+    for i in 0..20_000 {
+        assert_eq!(rt; told.went, i >= 6554);
+        told.text.push_str("123456789\n")?;
+        assert!(rt; told.write_part(&mut out).is_ok());
+        assert!(rt; told.text.len() < PART);
+    }
+    assert_eq!(rt; out.len(), 196_620);
+    assert!(rt; told.write_rest(&mut out).is_ok());
+    assert_eq!(rt; out.len(), 200_000);
+    let mut left = out.as_slice();
+    for _ in 0..20_000 {
+        let rest = left.strip_prefix(b"123456789\n".as_slice());
+        left = rest.unwrap_or(b"another line".as_slice());
+    }
+    assert_eq!(rt; left.len(), 0);
+    Ok(())
+}
+
+#[test]
+fn a_part_that_fails_is_told(rt: HostRuntime) -> Result<(), AllocError> {
+    let mut slow = Slow {
+        held: Vec::new(rt.alloc()),
+        flushed: 0,
+        calls: 0,
+        fails_after: 100,
+    };
+    let mut told = Outgoing::new(rt.alloc());
+    for _ in 0..6554 {
+        assert!(rt; told.write_part(&mut slow).is_ok());
+        assert!(rt; !told.went);
+        told.text.push_str("123456789\n")?;
+    }
+    assert_eq!(rt; slow.calls, 0);
+    let went = told.write_part(&mut slow).map_err(|e| e.kind());
+    assert_eq!(rt; went, Err(ErrorKind::StorageFull));
+    assert!(rt; told.went);
+    assert_eq!(rt; slow.held.len(), 150);
+    Ok(())
 }
 
 fn ask<T: Targets>(target: &mut T, name: &str, text: Option<&str>) -> Result<(), ErrorKind> {

@@ -8,11 +8,9 @@ use Rattle.std.proofs.lemmas.Option.{slice_get_within, get_or_from_slice_get}
 use Rattle.session_meaning.specs.declared.ending.End.TheVariants.{Done}
 use Rattle.session_meaning.specs.declared.ending.Outcome.{Outcome}
 
--- three parts, added one after the other
-pub three_added : (old a b c first second third : List ℕ) → first ≡ old ++ a → second ≡ first ++ b → third ≡ second ++ c → third ≡ old ++ (a ++ (b ++ c))
-three_added old a b c first second third e f g =
-    let two : second ≡ old ++ (a ++ b) = f ∙ ap (λ t. t ++ b) e ∙ append_assoc old a b in
-    g ∙ ap (λ t. t ++ c) two ∙ append_assoc old (a ++ b) c ∙ ap (λ t. old ++ t) (append_assoc a b c)
+-- two parts, added one after the other
+pub both_added : (old a b first second : List ℕ) → first ≡ old ++ a → second ≡ first ++ b → second ≡ old ++ (a ++ b)
+both_added old a b first second e f = f ∙ ap (λ t. t ++ b) e ∙ append_assoc old a b
 
 -- one line more
 pub line_more : (f : Outcome → List ℕ) (xs : List Outcome) (i : ℕ) (x : Outcome) (old new : List ℕ) → slice_get xs i ≡ Some x → new ≡ old ++ f x → (start : List ℕ) → old ≡ start ++ flat_map f (take i xs) → new ≡ start ++ flat_map f (take (i + 1) xs)

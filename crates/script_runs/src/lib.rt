@@ -2,10 +2,10 @@
 //!
 //! - [`script::events`] reads a script: the events that its lines say, or its first faulty line (clauses `meaning`,
 //!   `fault`). An event names its session by its number in the file.
-//! - [`transcript::simulate`] runs one from the plan's opening, and answers the world that it leads to (clauses `world`,
-//!   `plan`) and what is printed: a line for each event, and then the report of that world (clause `text`). What the report
-//!   tells of sessions and values is what these sessions do alone, one after another in the order of the report (clause
-//!   `serial`).
+//! - [`transcript::simulate`] runs one from the plan's opening, writes what is printed as it comes, a line for each event, and
+//!   then the report of the world that it leads to (clause `written`), and answers that world (clauses `world`, `plan`). What the
+//!   report tells of sessions and values is what these sessions do alone, one after another in the order of the report (clause
+//!   `serial`). Where memory runs out before a part of it went out, nothing was written (clause `unwritten`).
 //! - [`laws`] says that the line which prints an event reads back as that event, that an office which is told to advance
 //!   does the rules that come next (`specs/Advancing.antt`), and that a world which is told to settle takes the steps that
 //!   come next, and tells just how many they are (`specs/Settling.antt`).

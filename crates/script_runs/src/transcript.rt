@@ -1,15 +1,18 @@
 //! Simulations, and what is printed of them.
 
-ghost use Rattle.std.specs.Prelude.{◌≡◌, ◌++◌, ◌∷◌, [], IfOk, OnOk};
+ghost use Rattle.std.specs.Prelude.{◌≡◌, ◌++◌, ◌∷◌, [], codes, false, IfOk, IfErr, OnOk};
+ghost use Rattle.std.specs.Fmt.{decimal};
 ghost use Rattle.std.specs.List.{flat_map};
 ghost use Rattle.std.specs.String.{string_bytes};
+ghost use Rattle.std.specs.Io.KnownBytes.{Appends, append_known};
 ghost use Rattle.frame_world.specs.declared.event.WorldEvent.TheVariants as events;
 ghost use Rattle.frame_world.specs.Worlds.{opening, happens};
 ghost use Rattle.frame_world.specs.Standstill.{place_of, IsStep, IsNextMessage};
 ghost use Rattle.script_runs.specs.Script.{act_with, acts_with};
 ghost use Rattle.script_runs.specs.Runs.{as_said, run_of, all_told, at_most, does, delivered, stepped};
 ghost use Rattle.script_runs.specs.Script as scripts;
-ghost use Rattle.script_runs.specs.Transcript.{told_line, said_line, transcript, IsSerialRun};
+ghost use Rattle.run_reports.specs.Telling.{Unwritten};
+ghost use Rattle.script_runs.specs.Transcript.{told_line, told_report, said_line, transcript, IsSerialRun};
 ghost use Rattle.script_runs.specs.refinement.Steps.{Answers, Says, Answered, AnswersStep};
 
 use crate::event::ScriptEvent;
@@ -17,44 +20,45 @@ use crate::said::Said;
 use crate::script::nth;
 use frame_world::{NextStep, WorldRefusal};
 use office_map::{OfficeId, Plan};
-use run_reports::world::add_world;
+use output_files::Outgoing;
+use run_reports::TellingFault;
+use run_reports::telling::{out_of_memory, tell_world, write_on};
 use run_words::replies::add_reply;
+use run_words::words::add_number;
 use session_programs::Program;
 use site_core::Reply;
 use std::alloc::{AllocError, Global};
+use std::io::Write;
 use world_schedule::{Resting, World};
 
-/// A run from a plan's opening.
-#[derive(Drop)]
-pub struct Simulated {
-    /// What is printed of it: a line for each event, and then the report of the world, which has the finished sessions in
-    /// finishing order, how many submitted ones haven't finished, and the records' values.
-    pub text: String,
-    /// The world that it led to.
-    pub world: World,
-}
-
-/// Runs events, one after the other, from the plan's opening. The sessions that they submit are those of these programs. One
-/// that isn't there is no event.
-pub fn simulate(
+/// Runs events, one after the other, from the plan's opening, and writes what is printed of it as it comes: a line for each event,
+/// and then the report of the world, which has the finished sessions in finishing order, how many submitted ones haven't finished,
+/// and the records' values. The sessions that they submit are those of these programs. One that isn't there is no event. The answer
+/// is the world to which they led.
+pub fn simulate<W: Write>(
     alloc: Global,
     plan: &Plan,
     programs: &[Program],
     events: &[ScriptEvent],
-) -> Result<Simulated, AllocError>
-    ensures text { IfOk result (λ run. string_bytes run.text ≡ transcript plan.now (acts_with programs.now events.now)) }
-    ensures world { IfOk result (λ run. run.world ≡ run_of (opening plan.now) (acts_with programs.now events.now)) }
-    ensures plan { IfOk result (λ run. run.world.plan ≡ plan.now) }
+    out: &mut W,
+) -> Result<World, TellingFault>
+    ensures written { OnOk result (Appends (W.contents out.old) (W.contents out.new) (transcript plan.now (acts_with programs.now events.now))) }
+    ensures world { IfOk result (λ world. world ≡ run_of (opening plan.now) (acts_with programs.now events.now)) }
+    ensures plan { IfOk result (λ world. world.plan ≡ plan.now) }
     ensures serial { IfOk result (λ _. IsSerialRun (run_of (opening plan.now) (acts_with programs.now events.now))) }
+    ensures unwritten { IfErr result (Unwritten (out.new ≡ out.old)) }
 {
-    let mut world = World::open(alloc, plan.copy(alloc)?)?;
-    let mut text = String::new(alloc);
-    for event in events {
-        add_event(&mut text, &mut world, programs, *event)?;
-    }
-    add_world(&mut text, &world, world.unfinished())?;
+    let mut world = opened(alloc, plan)?;
+    tell_run(alloc, &mut world, programs, events, out)?;
     is_serial(&world);
-    Ok(Simulated { text, world })
+    Ok(world)
+}
+
+/// The world as a plan starts it.
+fn opened(alloc: Global, plan: &Plan) -> Result<World, AllocError>
+    ensures { IfOk result (λ world. world ≡ opening plan.now) }
+{
+    World::open(alloc, plan.copy(alloc)?)
 }
 
 /// What the report tells is a serial run.
@@ -62,6 +66,53 @@ fn is_serial(world: &World)
     ensures { IsSerialRun world.now }
 {
     world.is_serial();
+}
+
+/// Events happen in the world, one after the other, and their lines go out, and then its report.
+fn tell_run<W: Write>(
+    alloc: Global,
+    world: &mut World,
+    programs: &[Program],
+    events: &[ScriptEvent],
+    out: &mut W,
+) -> Result<(), TellingFault>
+    ensures written { OnOk result (Appends (W.contents out.old) (W.contents out.new) (flat_map told_line (all_told world.old (acts_with programs.now events.now)) ++ told_report (run_of world.old (acts_with programs.now events.now)))) }
+    ensures world { OnOk result (world.new ≡ run_of world.old (acts_with programs.now events.now)) }
+    ensures unwritten { IfErr result (Unwritten (out.new ≡ out.old)) }
+{
+    let mut told = Outgoing::new(alloc);
+    for event in events {
+        tell_event(&mut told, world, programs, *event, out)?;
+    }
+    tell_report(world, told, out)
+}
+
+/// The report of the world, with how many submitted sessions haven't finished.
+fn tell_report<W: Write>(world: &World, told: Outgoing, out: &mut W) -> Result<(), TellingFault>
+    ensures written { OnOk result (Appends (append_known (W.contents out.old) (string_bytes told.text)) (W.contents out.new) (told_report world.now)) }
+    ensures unwritten { IfErr result (Unwritten ((told.went ≡ false) × (out.new ≡ out.old))) }
+{
+    tell_world(world, world.unfinished(), told, out)
+}
+
+/// An event happens in the world, and its line is on its way.
+fn tell_event<W: Write>(
+    told: &mut Outgoing,
+    world: &mut World,
+    programs: &[Program],
+    event: ScriptEvent,
+    out: &mut W,
+) -> Result<(), TellingFault>
+    ensures line { OnOk result (Appends (append_known (W.contents out.old) (string_bytes told.old.text)) (append_known (W.contents out.new) (string_bytes told.new.text)) (flat_map told_line (all_told world.old (acts_with programs.now (event ∷ []))))) }
+    ensures world { OnOk result (world.new ≡ run_of world.old (acts_with programs.now (event ∷ []))) }
+    ensures before { told.new.went ≡ false → told.old.went ≡ false }
+    ensures still { told.new.went ≡ false → out.new ≡ out.old }
+    ensures fault { IfErr result (Unwritten (told.new.went ≡ false)) }
+{
+    match add_event(&mut told.text, world, programs, event) {
+        Ok(()) => write_on(told, out),
+        Err(_) => Err(out_of_memory(told.went)),
+    }
 }
 
 /// An event happens in the world, and its line is added.
@@ -204,7 +255,7 @@ fn add_said(
 {
     match said {
         Ok(Said::Replied(reply)) => add_reply(text, Some(frames), &reply)?,
-        Ok(Said::Rules(n)) => write!(text, "rules {n}")?,
+        Ok(Said::Rules(n)) => add_rules(text, n)?,
         Ok(Said::Settled(n)) => write!(text, "settled {n} finished")?,
         Ok(Said::Open(n)) => write!(text, "settled {n} open")?,
         Err(refusal) => {
@@ -212,4 +263,12 @@ fn add_said(
         }
     }
     text.push_str("\n")
+}
+
+/// How many rules an office did.
+fn add_rules(text: &mut String, n: u16) -> Result<(), AllocError>
+    ensures { OnOk result (string_bytes text.new ≡ string_bytes text.old ++ (codes "rules " ++ decimal n)) }
+{
+    text.push_str("rules ")?;
+    add_number(text, u64::from(n))
 }

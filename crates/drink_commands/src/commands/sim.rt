@@ -2,10 +2,13 @@
 
 ghost use Rattle.std.specs.Prelude.{◌≡◌, ◌⊎◌, [], ◌∷◌, IfErr, IfOk, List, OnOk, ℕ};
 ghost use Rattle.std.specs.Option.{option_copied};
-ghost use Rattle.std.specs.String.{string_bytes};
 ghost use Rattle.std.specs.Io.KnownBytes.{Appends};
 ghost use Rattle.input_texts.specs.Words.{StandFor};
-ghost use Rattle.command_outputs.specs.Fault.{IsWriteFault};
+ghost use Rattle.frame_world.specs.Worlds.{opening};
+ghost use Rattle.script_runs.specs.Runs.{run_of};
+ghost use Rattle.script_runs.specs.Script.{acts_with};
+ghost use Rattle.script_runs.specs.Transcript.{transcript, IsSerialRun};
+ghost use Rattle.command_outputs.specs.Fault.{IsAmong, IsWriteFault};
 ghost use Rattle.command_outputs.specs.Journals.{WritesFiles, files_of_world};
 ghost use Rattle.drink_commands.specs.Simulation.{Simulates};
 ghost use Rattle.drink_commands.specs.Texts.{IsJudged};
@@ -15,16 +18,21 @@ use crate::scripts::read_events;
 use command_inputs::{Input, read_coded_programs, read_plan};
 use command_outputs::Fault;
 use command_outputs::journal_files::write_world;
-use command_outputs::output::write_whole;
 use input_texts::{Sources, StandardInput};
+use office_map::Plan;
 use output_files::Targets;
-use script_runs::transcript::{Simulated, simulate};
+use run_reports::TellingFault;
+use script_runs::ScriptEvent;
+use script_runs::transcript::simulate;
+use session_programs::Program;
 use std::alloc::Global;
 use std::io::Write;
+use world_schedule::World;
 
 /// Runs a script on the world of a plan, and writes a line for each event and then what the finished sessions did, how many
 /// submitted ones haven't finished, and the values. Each input is read and judged before the next one is read, and nothing is
-/// run or written before all are judged. A refused event is told in its line, and is no fault. Where a folder is named for them, the
+/// run or written before all are judged. A refused event is told in its line, and is no fault. The lines go out while it runs, in
+/// parts; memory that runs out after one did is a fault of the writing. Where a folder is named for them, the
 /// offices' journals are written then, each to its file. The answer is the exit status.
 pub fn run<S: Sources, T: Targets, W: Write>(
     alloc: Global,
@@ -50,24 +58,45 @@ pub fn run<S: Sources, T: Targets, W: Write>(
     let plan = read_plan(alloc, sources, &mut standard, plan)?;
     let programs = read_coded_programs(alloc, sources, &mut standard, sessions, &plan)?;
     let events = read_events(alloc, sources, &mut standard, script, &plan, &programs)?;
-    let simulated = simulate(alloc, &plan, &programs, &events)?;
-    write_simulated(alloc, out, targets, journals, &simulated)
+    tell(alloc, &plan, &programs, &events, journals, targets, out)
 }
 
-/// What is told of a script is written, and the journals of the world that it leads to. The answer is the exit status.
-fn write_simulated<T: Targets, W: Write>(
+/// What is told of a script's run is written as it runs, and then the journals of the world that it leads to. The answer is the exit
+/// status.
+fn tell<T: Targets, W: Write>(
     alloc: Global,
+    plan: &Plan,
+    programs: &[Program],
+    events: &[ScriptEvent],
+    journals: Option<&str>,
+    targets: &mut T,
     out: &mut W,
+) -> Result<u8, Fault>
+    ensures written { OnOk result (Appends (W.contents out.old) (W.contents out.new) (transcript plan.now (acts_with programs.now events.now))) }
+    ensures serial { OnOk result (IsSerialRun (run_of (opening plan.now) (acts_with programs.now events.now))) }
+    ensures journals { OnOk result (WritesFiles (option_copied journals.entry) (λ place. files_of_world place (run_of (opening plan.now) (acts_with programs.now events.now))) (T.written targets.old) (T.written targets.new)) }
+    ensures status { IfOk result (λ status. status ≡ 0) }
+    ensures fault { IfErr result (IsAmong []) }
+    ensures unwritten { IfErr result (λ f. IsWriteFault f ⊎ ((out.new ≡ out.old) × (targets.new ≡ targets.old))) }
+{
+    match simulate(alloc, plan, programs, events, out) {
+        Ok(world) => write_journals(alloc, targets, journals, &world),
+        Err(TellingFault::Memory) => Err(Fault::Memory),
+        Err(TellingFault::WriteFailed(kind)) => Err(Fault::WriteFailed(kind)),
+    }
+}
+
+/// The journals of a world are written, where a folder is named for them. The answer is the exit status.
+fn write_journals<T: Targets>(
+    alloc: Global,
     targets: &mut T,
     journals: Option<&str>,
-    simulated: &Simulated,
+    world: &World,
 ) -> Result<u8, Fault>
-    ensures written { OnOk result (Appends (W.contents out.old) (W.contents out.new) (string_bytes simulated.now.text)) }
-    ensures journals { OnOk result (WritesFiles (option_copied journals.entry) (λ place. files_of_world place simulated.now.world) (T.written targets.old) (T.written targets.new)) }
+    ensures journals { OnOk result (WritesFiles (option_copied journals.entry) (λ place. files_of_world place world.now) (T.written targets.old) (T.written targets.new)) }
     ensures status { IfOk result (λ status. status ≡ 0) }
     ensures fault { IfErr result IsWriteFault }
 {
-    write_whole(out, &simulated.text)?;
-    write_world(alloc, targets, journals, &simulated.world)?;
+    write_world(alloc, targets, journals, world)?;
     Ok(DONE)
 }

@@ -1,6 +1,4 @@
 use Rattle.std.specs.Option.{option_copied}
-use Rattle.std.specs.String.{string_bytes}
-use Rattle.command_outputs.specs.Journals.{WritesFiles, files_of_world}
 use Rattle.std.proofs.Common.{◌≡◌, ℕ, List, [], ◌∷◌, Some, sym, subst, ap₂, ◌∙◌, refl, inl, inr, rules}
 use Rattle.std.proofs.lemmas.Result.{err_from_is_err_and}
 use Rattle.script_runs.specs.Script.{IsScript, acts_with}
@@ -8,10 +6,10 @@ use Rattle.input_texts.specs.Words.{HasText, Unread}
 use Rattle.command_outputs.specs.Fault.{IsFaultAt}
 use Rattle.drink_commands.specs.Texts.{NoOther, Refuses, nothing}
 use Rattle.command_inputs.specs.declared.input.Input.TheVariants as inputs
-use Rattle.command_outputs.specs.declared.fault.Fault.TheVariants.{Memory, Text}
-use Rattle.drink_commands.proofs.Faults.{at_end, at_first, at_next, judged, no_input, plan_taken, script_taken, sessions_taken}
+use Rattle.command_outputs.specs.declared.fault.Fault.TheVariants.{Text}
+use Rattle.drink_commands.proofs.Faults.{at_end, at_first, at_next, judged, plan_taken, script_taken, sessions_taken}
 use Rattle.drink_commands.proofs.Reported.{simulated, started}
-use Rattle.drink_commands.proofs.Running.{err_more, on_both}
+use Rattle.drink_commands.proofs.Running.{err_more, on_three}
 use Rattle.drink_commands.proofs.commands.sim.run.Goals as goal
 
 pub returns-in_err-plan-clause-judged : goal.returns-in_err-plan-clause-judged
@@ -46,18 +44,10 @@ returns-in_err-events-clause-judged g c =
     (subst (λ ps. IsFaultAt inputs.Script (λ why. (text : List ℕ) (after : Unread) → HasText files c.read_coded_programs.new.standard c.args.script.now text after
     → Refuses (record nothing { plan = Some c.in_ok-plan.plan; programs = Some ps }) text why) c.in_err-events.field-0.0) c.deref.ensures.value c.in_err-events.ensures.fault)))))
 
-pub returns-in_err-simulated-clause-judged : goal.returns-in_err-simulated-clause-judged
-returns-in_err-simulated-clause-judged g c =
-    let e = err_from_is_err_and c.from_residual-in_err-simulated.result c.from_residual-in_err-simulated.ensures.1 in
-    let files = g.S.Sources.file_text c.args.sources.now in
-    rw (e.1, e.2)
-    (judged NoOther files (g.S.Sources.standard_text c.args.sources.now) c.new-standard.result (c.args.plan.now ∷ c.args.sessions.now ∷ c.args.script.now ∷ []) (inputs.Plan ∷ inputs.Sessions ∷ inputs.Script ∷ []) Memory (search rules)
-    (at_first NoOther files c.new-standard.result c.args.plan.now (c.args.sessions.now ∷ c.args.script.now ∷ []) nothing inputs.Plan (inputs.Sessions ∷ inputs.Script ∷ []) Memory tt))
-
 pub returns-clause-judged : goal.returns-clause-judged
 returns-clause-judged g c =
     let files = g.S.Sources.file_text c.args.sources.now in
-    err_more c.write_simulated.result _ _ (λ f h.
+    err_more c.tell.result _ _ (λ f h.
     (judged NoOther files (g.S.Sources.standard_text c.args.sources.now) c.new-standard.result (c.args.plan.now ∷ c.args.sessions.now ∷ c.args.script.now ∷ []) (inputs.Plan ∷ inputs.Sessions ∷ inputs.Script ∷ []) f (search rules)
     (at_next NoOther files c.new-standard.result c.read_plan.new.standard c.args.plan.now (c.args.sessions.now ∷ c.args.script.now ∷ []) nothing (record nothing { plan = Some c.in_ok-plan.plan }) inputs.Plan (inputs.Sessions ∷ inputs.Script ∷ []) f
     (plan_taken files c.new-standard.result c.args.plan.now c.read_plan.new.standard c.in_ok-plan.plan c.in_ok-plan.ensures.meaning)
@@ -66,21 +56,21 @@ returns-clause-judged g c =
     (at_next NoOther files c.read_coded_programs.new.standard c.read_events.new.standard c.args.script.now [] (record nothing { plan = Some c.in_ok-plan.plan; programs = Some c.in_ok-programs.programs.items }) (record { plan = Some c.in_ok-plan.plan; programs = Some c.in_ok-programs.programs.items; acts = Some (acts_with c.deref.result.now c.in_ok-events.events.items) }) inputs.Script [] f
     (script_taken files c.read_coded_programs.new.standard c.args.script.now c.read_events.new.standard c.in_ok-plan.plan c.in_ok-programs.programs.items (acts_with c.deref.result.now c.in_ok-events.events.items)
     (λ text after has. subst (λ ps. IsScript c.in_ok-plan.plan ps text (acts_with c.deref.result.now c.in_ok-events.events.items) × (c.read_events.new.standard ≡ after)) c.deref.ensures.value (c.in_ok-events.ensures.meaning text after has)))
-    (at_end NoOther files c.read_events.new.standard (record { plan = Some c.in_ok-plan.plan; programs = Some c.in_ok-programs.programs.items; acts = Some (acts_with c.deref.result.now c.in_ok-events.events.items) }) f (inl (no_input f h)))))))) c.write_simulated.ensures.fault
+    (at_end NoOther files c.read_events.new.standard (record { plan = Some c.in_ok-plan.plan; programs = Some c.in_ok-programs.programs.items; acts = Some (acts_with c.deref.result.now c.in_ok-events.events.items) }) f (inl h))))))) c.tell.ensures.fault
 
 pub returns-clause-simulates : goal.returns-clause-simulates
 returns-clause-simulates g c =
     let files = g.S.Sources.file_text c.args.sources.now in
-    on_both c.write_simulated.result _ _ _ (λ written journals plan_text sessions_text script_text known.
+    let acts = acts_with c.deref-2.result.now c.deref-3.result.now in
+    on_three c.tell.result _ _ _ _ (λ written serial journals plan_text sessions_text script_text known.
     simulated files c.new-standard.result c.read_plan.new.standard c.read_coded_programs.new.standard c.read_events.new.standard c.args.plan.now c.args.sessions.now c.args.script.now
-    plan_text sessions_text script_text c.in_ok-plan.plan c.in_ok-programs.programs.items (acts_with c.deref.result.now c.in_ok-events.events.items) (acts_with c.deref-2.result.now c.deref-3.result.now)
-    (option_copied c.args.journals) (g.W.Write.contents c.args.out.now) (g.W.Write.contents c.write_simulated.new.out) (g.T.Targets.written c.args.targets.now) (g.T.Targets.written c.write_simulated.new.targets) (string_bytes c.in_ok-simulated.simulated.text)
+    plan_text sessions_text script_text c.in_ok-plan.plan c.in_ok-programs.programs.items (acts_with c.deref.result.now c.in_ok-events.events.items) acts
+    (option_copied c.args.journals) (g.W.Write.contents c.args.out.now) (g.W.Write.contents c.tell.new.out) (g.T.Targets.written c.args.targets.now) (g.T.Targets.written c.tell.new.targets)
     c.in_ok-plan.ensures.meaning c.in_ok-programs.ensures.meaning
     (λ text after has. subst (λ ps. IsScript c.in_ok-plan.plan ps text (acts_with c.deref.result.now c.in_ok-events.events.items) × (c.read_events.new.standard ≡ after)) c.deref.ensures.value (c.in_ok-events.ensures.meaning text after has))
     (started c.new-standard.result (g.S.Sources.standard_text c.args.sources.now) files (c.args.plan.now ∷ c.args.sessions.now ∷ c.args.script.now ∷ []) (plan_text ∷ sessions_text ∷ script_text ∷ []) (search rules) known)
-    (ap₂ acts_with (c.deref-2.ensures.value ∙ sym c.deref.ensures.value) c.deref-3.ensures.value) c.in_ok-simulated.ensures.serial c.in_ok-simulated.ensures.text written
-    (subst (λ w. WritesFiles (option_copied c.args.journals) (λ place. files_of_world place w) (g.T.Targets.written c.args.targets.now) (g.T.Targets.written c.write_simulated.new.targets)) c.in_ok-simulated.ensures.world journals))
-    c.write_simulated.ensures.written c.write_simulated.ensures.journals
+    (ap₂ acts_with (c.deref-2.ensures.value ∙ sym c.deref.ensures.value) c.deref-3.ensures.value) serial written journals)
+    c.tell.ensures.written c.tell.ensures.serial c.tell.ensures.journals
 
 pub returns-in_err-plan-clause-unwritten : goal.returns-in_err-plan-clause-unwritten
 returns-in_err-plan-clause-unwritten g c =
@@ -97,13 +87,8 @@ returns-in_err-events-clause-unwritten g c =
     let e = err_from_is_err_and c.from_residual-in_err-events.result c.from_residual-in_err-events.ensures.1 in
     rw (e.1, e.2) (inr (refl, refl))
 
-pub returns-in_err-simulated-clause-unwritten : goal.returns-in_err-simulated-clause-unwritten
-returns-in_err-simulated-clause-unwritten g c =
-    let e = err_from_is_err_and c.from_residual-in_err-simulated.result c.from_residual-in_err-simulated.ensures.1 in
-    rw (e.1, e.2) (inr (refl, refl))
-
 pub returns-clause-status : goal.returns-clause-status
-returns-clause-status g c = c.write_simulated.ensures.status
+returns-clause-status g c = c.tell.ensures.status
 
 pub returns-clause-unwritten : goal.returns-clause-unwritten
-returns-clause-unwritten g c = err_more c.write_simulated.result _ _ (λ f h. inl h) c.write_simulated.ensures.fault
+returns-clause-unwritten g c = c.tell.ensures.unwritten
