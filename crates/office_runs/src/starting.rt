@@ -54,7 +54,7 @@ pub fn start_client<'x, E, R, A, G>(
     shared: &'x Shared,
 ) -> Task<ClientEnd, SubmitsAt<'x>>
 where
-    R: Wait + Clock + Sync,
+    R: Wait + Sync,
     A: Wakes + Send + 'x,
     G: Gate + Sync,
     ensures desk { result.desk.value ≡ arc_value client.desk }

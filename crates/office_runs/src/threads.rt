@@ -27,14 +27,11 @@ use std::net::SocketAddr;
 use std::rt::Clock;
 use std::snapshot::Snapshot;
 use std::sync::{Arc, Wait};
-use std::thread::{Promise, sleep};
-use std::time::{Duration, Instant};
+use std::thread::Promise;
+use std::time::Instant;
 
 /// The most turns of an office.
 const MOST_TURNS: u64 = 100_000;
-
-/// How long a client waits before it looks again whether its office's queue has room, in milliseconds.
-const NEXT_LOOK: u64 = 1;
 
 /// Who turns an office that has done nothing.
 ///
@@ -263,6 +260,7 @@ fn turn_all<R: Wait + Clock, S: Socket, G: Gate, W: Watch>(
                 return Some(fault);
             }
         };
+        shared.room(me).set_finished(station.finished());
         station.tell(plan, me, leads, watch, shared);
         count += turn.counted(MOST_TURNS);
     }
@@ -271,8 +269,8 @@ fn turn_all<R: Wait + Clock, S: Socket, G: Gate, W: Watch>(
 
 impl<A: Wakes> Client<A> {
     /// Submits the sessions of the office, in order, as it takes them, and wakes who turns it; until all are submitted, the run is
-    /// over, or nobody turns the office any more.
-    pub fn submit<R: Wait + Clock>(self, rt: &R, programs: &[Program], shared: &Shared) -> ClientEnd
+    /// over, or nobody turns the office any more. Then it stays to wake who turns it at the run's end.
+    pub fn submit<R: Wait>(self, rt: &R, programs: &[Program], shared: &Shared) -> ClientEnd
         ensures submitted { HasSubmitted (arc_value self.desk) programs.now result.fault result.pass }
     {
         let Client {
@@ -282,11 +280,14 @@ impl<A: Wakes> Client<A> {
             alarm,
         } = self;
         let fault = submit_all(rt, me, &desk, &mut pass, &alarm, programs, shared);
+        stay(rt, me, &alarm, shared);
         ClientEnd { pass, fault }
     }
 }
 
-fn submit_all<R: Wait + Clock, A: Wakes>(
+/// While there is no room for the next session it sleeps, until half of those that an office takes at once have finished, the run is
+/// over, or nobody turns the office any more. Where none is left it sleeps once too, until one of these comes.
+fn submit_all<R: Wait, A: Wakes>(
     rt: &R,
     me: OfficeId,
     desk: &Desk,
@@ -306,6 +307,7 @@ fn submit_all<R: Wait + Clock, A: Wakes>(
         if next >= programs.len() || shared.is_over() || shared.has_ended(me) {
             return None;
         }
+        let since = shared.room(me).finished();
         match submit_some(rt, desk, pass, me, programs, &mut next) {
             Ok(()) => {}
             Err(fault) => {
@@ -314,7 +316,24 @@ fn submit_all<R: Wait + Clock, A: Wakes>(
             }
         }
         alarm.wake();
-        sleep(rt, Duration::from_millis(NEXT_LOOK));
+        shared.room(me).wait_for_more(rt, since);
     }
     unreachable!()
+}
+
+/// Stays until nobody turns the office any more, and wakes who turns it as soon as the run is over.
+///
+/// So nobody waits out a poll at a run's end. It is over before who submits is woken, and then the alarm rings. An alarm ends the
+/// wait that goes on, or else the next one: either who turns the office looked after the run was over, and turns no more, or the wait
+/// after that look ends. It rings for nothing once it is gone, so it is kept until who turns the office has ended.
+fn stay<R: Wait, A: Wakes>(rt: &R, me: OfficeId, alarm: &A, shared: &Shared) {
+    for _ in rt.forever() {
+        if shared.has_ended(me) {
+            return;
+        }
+        if shared.is_over() {
+            alarm.wake();
+        }
+        shared.room(me).wait(rt);
+    }
 }

@@ -583,6 +583,33 @@ fn a_run_of_all_ends(rt: HostRuntime) -> Result<(), Fail> {
     Ok(())
 }
 
+/// Over sockets at which who waits sleeps until something comes or it is woken, a run of all ends: who submits more sessions than an
+/// office takes is woken when there is room, and wakes who turns it; and who ends the last session wakes all others.
+#[test]
+fn whoever_waits_is_woken(rt: HostRuntime) -> Result<(), Fail> {
+    let alloc = rt.alloc();
+    let plan = plan(alloc, ROW)?;
+    let mut text = String::new(alloc);
+    for _ in 0..300 {
+        text.push_str(GIVE)?;
+    }
+    text.push_str(ROW_SESSIONS)?;
+    let programs = programs(alloc, &plan, text.as_str())?;
+    let boxes = Mailbox::some(alloc)?;
+    let binds = MemorySockets::to_which(&rt, alloc, &boxes, Comes::FramesAlone);
+    let around = Around {
+        binds: &binds,
+        gate: &Open,
+        watch: &Quiet,
+    };
+    let ran = live(&rt, alloc, &plan, &programs, false, &around);
+    for mailbox in boxes.as_slice() {
+        assert_eq!(rt; mailbox.forgotten.load(Ordering::SeqCst), 0);
+    }
+    assert_eq!(rt; ran.map(|ran| (ran.unfinished, ran.fault)), Ok((0, None)));
+    Ok(())
+}
+
 /// What the journal of the office alone is, which has so many turns and whose socket fails at that call: where it fails at
 /// once, the session was submitted, and no rule was done.
 static ALONE: [(u64, u64, &str); 3] = [

@@ -8,12 +8,12 @@
 //! - [`Binds`], [`Socket`], [`Wakes`]: what is needed of a network. [`UdpSockets`] is UDP; tests have sockets in memory.
 //! - [`Gate`]: is called before each turn, so that a test can hold an office.
 //! - [`Watch`]: is told once a second how far a run is, and of neighbours that were never reached or heard; [`Shared`] is what
-//!   several offices know of that.
+//!   several offices know of that, and in the [`Room`]s of it sleeps who submits more sessions than an office takes at once.
 //!
 //! How often a turn comes, and that a datagram arrives, is no promise.
 //!
 //! Not said: that an address is one of this machine's; that nothing was waited for at the socket but by
-//! [`Station::wait`]; over UDP, what the system was asked, and how long it waited.
+//! [`Station::wait`]; over UDP, what the system was asked, and how long it waited; that who sleeps in a room wakes. Tests show the last.
 #![tactic(auto)]
 
 mod address;
@@ -24,6 +24,7 @@ mod gate;
 mod hearing;
 mod opening;
 mod pace;
+mod room;
 mod sessions;
 mod shared;
 mod socket;
@@ -40,6 +41,7 @@ pub use crate::gate::{Gate, Open};
 pub use crate::hearing::{Hearing, Ways};
 pub use crate::opening::OpeningFault;
 pub use crate::pace::{Pace, TimedTurn};
+pub use crate::room::Room;
 pub use crate::sessions::{add_lines, count_finished, count_of};
 pub use crate::shared::Shared;
 pub use crate::socket::{Binds, Socket, Wakes};

@@ -1,13 +1,19 @@
 //! What the threads of a run share. No claim rests on it.
 
 use crate::fault::RunFault;
+use crate::room::Room;
 use crate::watch::Progress;
 use office_map::OfficeId;
 use socket_pump::Turn;
+use std::array;
 use std::sync::atomic::{AtomicU64, Ordering};
 use std::sync::{Mutex, Wait};
 
-/// How far a run is.
+/// How far a run is, and who sleeps until it is further.
+///
+/// Who turns an office sleeps at its socket, and who submits its sessions in its room. Whatever ends the run, or an office's turns, is
+/// written down here before those in the rooms are woken who have to see it, and they wake who sleeps at a socket: only they have an
+/// alarm of it.
 #[derive(Drop)]
 pub struct Shared {
     sessions: u64,
@@ -21,6 +27,8 @@ pub struct Shared {
     fault: Mutex<Option<RunFault>>,
     /// The offices that nobody turns any more, a bit each.
     ended: AtomicU64,
+    /// One for each office that a plan may have.
+    rooms: [Room; 16],
 }
 
 impl Shared {
@@ -35,7 +43,13 @@ impl Shared {
             stopped: AtomicU64::new(0),
             fault: Mutex::new(None),
             ended: AtomicU64::new(0),
+            rooms: array::from_fn(|_| Room::new()),
         }
+    }
+
+    /// The room of who submits this office's sessions.
+    pub fn room(&self, me: OfficeId) -> &Room {
+        &self.rooms[me.index() % 16]
     }
 
     pub fn note(&self, turn: &Turn) {
@@ -52,9 +66,12 @@ impl Shared {
         }
     }
 
-    /// So many sessions more have finished.
+    /// So many sessions more have finished. Who ends the last one wakes the others.
     pub fn finish(&self, count: u64) {
         self.finished.fetch_add(count, Ordering::SeqCst);
+        if count > 0 && self.is_over() {
+            self.wake_all();
+        }
     }
 
     /// All sessions have finished, or the run ends before that.
@@ -63,7 +80,7 @@ impl Shared {
             || self.stopped.load(Ordering::SeqCst) > 0
     }
 
-    /// The run ends before its time, for this or for what was found earlier.
+    /// The run ends before its time, for this or for what was found earlier, and the others are woken.
     pub fn fail<R: Wait>(&self, rt: &R, fault: RunFault) {
         let mut first = self.fault.lock(rt);
         if first.is_none() {
@@ -71,6 +88,14 @@ impl Shared {
         }
         drop(first);
         self.stopped.store(1, Ordering::SeqCst);
+        self.wake_all();
+    }
+
+    /// Wakes whoever submits sessions.
+    fn wake_all(&self) {
+        for room in &self.rooms {
+            room.wake();
+        }
     }
 
     /// Why it ended before its time, if it did.
@@ -78,10 +103,11 @@ impl Shared {
         *self.fault.lock(rt)
     }
 
-    /// Nobody turns the office any more.
+    /// Nobody turns the office any more. Who submits its sessions is woken.
     pub fn end(&self, me: OfficeId) {
         self.ended
             .fetch_or(1 << (me.number() % 64), Ordering::SeqCst);
+        self.room(me).wake();
     }
 
     pub fn has_ended(&self, me: OfficeId) -> bool {

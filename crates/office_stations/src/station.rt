@@ -116,6 +116,11 @@ impl<S: Socket> Station<S> {
         self.told = finished;
     }
 
+    /// How many of its sessions have been told as finished.
+    pub fn finished(&self) -> u64 {
+        self.told as u64
+    }
+
     /// One turn, after one wait for what comes, and when it was; and the sessions are counted that finished by it.
     pub fn turn<R: Wait + Clock>(
         &mut self,

@@ -14,16 +14,21 @@ use std::net::{Ipv4Addr, SocketAddr};
 use std::rt::Clock;
 use std::sync::atomic::{AtomicU64, Ordering};
 use std::sync::{Mutex, Wait};
-use std::thread::{sleep, yield_now};
-use std::time::Duration;
+use std::thread::{Parker, sleep, yield_now};
+use std::time::{Duration, Instant};
 
-/// The datagrams that came to a socket and weren't received, how long it was to wait, in milliseconds, and whether its alarm is
-/// gone.
+/// What is more than any wait for something that comes takes.
+const LONG: Duration = Duration::from_secs(10);
+
+/// The datagrams that came to a socket and weren't received, how long it was to wait, in milliseconds, whether its alarm is gone,
+/// where who waits at it sleeps, and whether one slept there for long.
 #[derive(Drop)]
 pub(crate) struct Mailbox {
     came: Mutex<VecDeque<Datagram>>,
     pub(crate) waited: AtomicU64,
     pub(crate) gone: AtomicU64,
+    sleeper: Parker,
+    pub(crate) forgotten: AtomicU64,
 }
 
 impl Mailbox {
@@ -35,9 +40,26 @@ impl Mailbox {
                 came: Mutex::new(VecDeque::new(alloc)),
                 waited: AtomicU64::new(0),
                 gone: AtomicU64::new(0),
+                sleeper: Parker::new(),
+                forgotten: AtomicU64::new(0),
             })?;
         }
         Ok(boxes)
+    }
+
+    // Sleeps until something comes or the alarm rings. Once neither did for long, it sleeps no more.
+    fn sleep<R: Wait + Clock>(&self, rt: &R) {
+        if self.forgotten.load(Ordering::SeqCst) > 0 {
+            yield_now();
+            return;
+        }
+        let Ok(before) = Instant::now(rt) else {
+            return;
+        };
+        self.sleeper.park_timeout(rt, LONG);
+        if before.elapsed(rt).is_ok_and(|slept| slept >= LONG) {
+            self.forgotten.store(1, Ordering::SeqCst);
+        }
     }
 }
 
@@ -46,6 +68,8 @@ impl Mailbox {
 pub(crate) enum Comes {
     /// What is sent to it.
     Frames,
+    /// The same, and who waits at it sleeps until something comes or it is woken, however short the wait is to be.
+    FramesAlone,
     /// One byte, which is no frame, as often as it is asked.
     Noise,
     /// Nothing, and nobody waits at it.
@@ -147,7 +171,7 @@ pub(crate) struct MemorySocket<'a, R: Wait + Clock> {
     contacts: [Contact; 16],
 }
 
-/// Nobody sleeps at a socket in memory. It says at the mailbox when it is gone, and who submits the office's sessions with it.
+/// What wakes who sleeps at a socket in memory. It says at the mailbox when it is gone, and who submits the office's sessions with it.
 pub(crate) struct Alarm<'a> {
     mailbox: Option<&'a Mailbox>,
 }
@@ -162,7 +186,11 @@ impl<'a> Drop for Alarm<'a> {
 }
 
 impl<'a> Wakes for Alarm<'a> {
-    fn wake(&self) {}
+    fn wake(&self) {
+        if let Some(mailbox) = self.mailbox {
+            mailbox.sleeper.unpark();
+        }
+    }
 }
 
 impl<'a, R: Wait + Clock> Binds for MemorySockets<'a, R> {
@@ -219,6 +247,17 @@ impl<'a, R: Wait + Clock> MemorySocket<'a, R> {
         }
         self.failures = self.failures.saturating_add(1);
         Err(WireFailed)
+    }
+
+    // Waits at its mailbox, for so many milliseconds at most, if nobody sleeps there.
+    fn rest(&self, mailbox: &Mailbox, most: u64) {
+        if most == 0 || self.comes == Comes::Nothing {
+            yield_now();
+        } else if self.comes == Comes::FramesAlone {
+            mailbox.sleep(self.rt);
+        } else {
+            sleep(self.rt, Duration::from_millis(1));
+        }
     }
 
     fn hear(&mut self, bytes: &[u8])
@@ -293,6 +332,7 @@ impl<'a, R: Wait + Clock> Wire for MemorySocket<'a, R> {
         let mut came = mailbox.came.lock(self.rt);
         // Where there is no room it is lost.
         let _ = came.push_back(datagram);
+        mailbox.sleeper.unpark();
         Ok(())
     }
 }
@@ -319,11 +359,7 @@ impl<'a, R: Wait + Clock> Socket for MemorySocket<'a, R> {
         self.waits = self.waits.and(most);
         if let Some(mailbox) = self.boxes.get(self.own) {
             mailbox.waited.fetch_add(most, Ordering::SeqCst);
-        }
-        if most > 0 && self.comes != Comes::Nothing {
-            sleep(self.rt, Duration::from_millis(1));
-        } else {
-            yield_now();
+            self.rest(mailbox, most);
         }
         Ok(())
     }
