@@ -1,8 +1,9 @@
 #!/bin/sh
 # Counts the instructions and the allocations of a take and a give of the office of a desk that nobody else uses: what a run
-# with 10,000 of both has more than one with none. And measures the calls a second of one, two and four threads, at a desk and
-# at an office under a mutex of the standard library: a million calls among them that ask what waits for a neighbour, or that
-# make a frame for it. Needs rt and valgrind.
+# with 10,000 of both has more than one with none. Measures the calls a second of one, two, four and eight threads, at a desk and
+# at an office under a mutex of the standard library: a million calls among them that ask what waits for a neighbour, which is the
+# cheapest call of all, or that make a frame for it. And what four threads that wait take of the processors while a fifth holds the
+# office for a second. Needs rt, valgrind and GNU time.
 #
 #   sh bench/desk/run.sh
 set -eu
@@ -28,7 +29,18 @@ rate() {
     done | awk '{ print int(1000000 * 1000 / $2) }' | sort -n | sed -n 5p
 }
 for call in ask send; do
-    for threads in 1 2 4; do
-        echo "$call, $threads threads: thousands of calls a second: desk $(rate desk $threads $call), mutex $(rate mutex $threads $call)"
+    for threads in 1 2 4 8; do
+        desk=$(rate desk $threads $call)
+        mutex=$(rate mutex $threads $call)
+        echo "$call, $threads threads: thousands of calls a second: desk $desk, mutex $mutex: $((desk * 100 / mutex)) hundredths"
     done
 done
+
+# Less a run that makes no call: a ninth of nine runs, since one is told to ten milliseconds.
+spent() {
+    for _ in 1 2 3 4 5 6 7 8 9; do
+        /usr/bin/time -o "$work/spent" -f '%U %S' "$built" "$1" 5 > /dev/null
+        cat "$work/spent"
+    done | awk '{ sum += $1 + $2 } END { printf "%d", 1000 * sum / 9 }'
+}
+echo "four threads that wait for a second: $(($(spent hold) - $(spent none))) milliseconds of the processors"

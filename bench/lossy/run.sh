@@ -1,12 +1,29 @@
 #!/bin/sh
 # How many frames are made for a finished session, where a third is lost and the others overtake each other: of two offices for
-# three seeds, and of 16 for one. Needs the program, built or PROGRAM, and python3.
+# three seeds, and of 16 for one. And what such a script takes, of 16 offices and 960 records: instructions for a line, less the run
+# on an empty script. It needs a program that is built, python3, and GNU time; for the counts of instructions valgrind.
 #
-#   sh bench/lossy/run.sh [PROGRAM]
+#   sh bench/lossy/run.sh [PROGRAM]        PROGRAM is crates/drink/out/drink where it is left out
+#
+# The long script is written round by round, by what the program answers to it so far, which takes some minutes.
 set -eu
 here=$(cd "$(dirname "$0")" && pwd)
-program=${1:-$here/../../crates/drink/out/drink}
+top=$here/../..
+. "$top/bench/shared/program.sh"
+. "$top/bench/shared/sim.sh"
 for seed in 1 2 3; do
     echo "2 offices, seed $seed: $(python3 "$here/frames.py" "$program" 2 "$seed")"
 done
 echo "16 offices, seed 1: $(python3 "$here/frames.py" "$program" 16 1)"
+
+# Of these lines the last ones are left out for the shorter script.
+lines=$(python3 "$here/frames.py" "$program" 16 1 200000 "$work")
+cp "$work/script" "$work/whole"
+: > "$work/script"
+none=$(instructions)
+printf '\n| %s | %s | %s | %s |\n' Lines 'Memory, KiB' Instructions 'For a line'
+for part in $((lines / 2)) "$lines"; do
+    head -n "$part" "$work/whole" > "$work/script"
+    all=$(instructions)
+    printf '| %s | %s | %s | %s |\n' "$part" "$(memory)" "$all" "$(for_each "$all" "$none" "$part")"
+done

@@ -1,5 +1,6 @@
 #!/bin/sh
-# What `drink serial` takes on the largest inputs that its limits allow. Each row of the table that it prints is an input;
+# What `drink serial` takes on the largest inputs that its limits allow, and on 1,024 sessions of four usual kinds. Each row of the
+# tables that it prints is an input;
 # `README.md` beside it says what they are. It needs a program that is built, awk, GNU date and GNU time, and for the
 # counts of instructions valgrind. It prints figures, and fails only where the program doesn't run on an input as it is
 # to.
@@ -249,3 +250,62 @@ for kind in spaced mixed limit numbers variables reads nested statements gives c
 done
 sessions_input parentheses
 row parentheses 1 sessions "$none"
+
+# 1,024 sessions of a kind. `small`, on a ring of four offices: each adds to its office's record with the next one, and every second
+# one to that with the one before. The others are on the whole plan. `light`: each adds to two records and gives one. `wide`: each adds
+# to 16 records and gives four. `heavy`: each works nearly as long as a session may, in a loop over five long sums.
+cat > "$work/usual.awk" <<'AWK'
+function name(i) { return substr("abcdefghijklmnop", i + 1, 1) }
+function pair(i, j) { return i < j ? name(i) name(j) : name(j) name(i) }
+function adds(record) { return "set " record " = read " record " + 1\n" }
+function small(i, n) {
+    return adds(pair(i, (i + 1) % 4) 0) (n % 2 ? adds(pair(i, (i + 3) % 4) 0) : "") "give read " pair(i, (i + 1) % 4) 0 "\n"
+}
+function light(i, n) {
+    return adds(pair(i, (i + 1 + n % 15) % 16) n % 8) adds(pair(i, (i + 1 + (n + 1) % 15) % 16) n % 8) "give read " pair(i, (i + 1 + n % 15) % 16) n % 8 "\n"
+}
+function wide(i, n,    body, front, j, k) {
+    for (j = 0; j < 2; j++) {
+        front = pair(i, (i + 1 + (n + j) % 15) % 16)
+        for (k = 0; k < 8; k++) body = body adds(front k)
+        for (k = 0; k < 2; k++) body = body "give read " front k "\n"
+    }
+    return body
+}
+function heavy(    sum, body, k) {
+    for (k = 0; k < 31; k++) sum = sum " + 1"
+    for (k = 0; k < 5; k++) body = body "let v = v" sum "\n"
+    return "let v = 0\nrepeat 30\n" body "end\ngive v\n"
+}
+BEGIN {
+    offices = kind == "small" ? 4 : 16
+    for (k = 0; k < 1024; k++) {
+        i = k % offices
+        n = int(k / offices)
+        if (kind == "small") body = small(i, n)
+        if (kind == "light") body = light(i, n)
+        if (kind == "wide") body = wide(i, n)
+        if (kind == "heavy") body = heavy()
+        printf "session %s\n%send\n", name(i), body
+    }
+}
+AWK
+
+echo
+echo "| 1,024 sessions | Records of the plan | Bytes | Milliseconds | Memory, KiB | Instructions, with the plan's |"
+echo "|---|---|---|---|---|---|"
+for kind in small light wide heavy; do
+    input=$work/usual.$kind
+    mkdir "$input"
+    if [ "$kind" = small ]; then
+        printf 'plan 1 run 1\noffice a -\noffice b -\noffice c -\noffice d -\n' > "$input/plan"
+        for both in 'a b' 'b c' 'c d' 'a d'; do
+            set -- $both
+            printf 'pair %s %s fork %s\nrecord %s%s0 %s %s 0 at %s\n' "$1" "$2" "$1" "$1" "$2" "$1" "$2" "$1" >> "$input/plan"
+        done
+    else
+        plan 8 0 > "$input/plan"
+    fi
+    awk -v kind="$kind" -f "$work/usual.awk" > "$input/sessions"
+    echo "| $kind | $(grep -c '^record' "$input/plan") | $(bytes "$input/sessions") | $(milliseconds "$input" 0) | $(memory "$input" 0) | $(instructions "$input" 0) |"
+done

@@ -2,8 +2,10 @@
 # What a step of `settle` takes in `drink sim`, and that it stays the same however many there are: of two and of four offices
 # in a ring, each two of which share a record, where a session sets both records of its office; and of sixteen offices, all
 # neighbours, each two of which share eight records, where a session sets one of every neighbour. In each round every office
-# submits a session, and all of them settle. `README.md` beside it has the figures. It needs a program that is built, awk, and
-# for the counts of instructions valgrind. It fails only where the program doesn't run on a script as it is to.
+# submits a session, and all of them settle. And what forty times settling takes, where before each of them every one of the sixteen
+# offices submits as many sessions as it takes, on a record each: 40,960 together. `README.md` beside it has the figures. It needs a
+# program that is built, awk, and GNU time; for the counts of instructions valgrind. It fails only where the program doesn't run on
+# a script as it is to.
 #
 #   sh bench/settle/run.sh [PROGRAM]        PROGRAM is crates/drink/out/drink where it is left out
 set -eu
@@ -57,4 +59,37 @@ for row in '2 1 ring 100' '2 1 ring 200' '4 1 ring 100' '4 1 ring 200' '16 8 all
     more=-
     [ "$all" = - ] || more=$((all - none))
     printf '| %s | %s | %s | %s | %s |\n' "$1" "$(grep -c ^record "$work/plan")" "$steps" "$more" "$(for_each "$all" "$none" "$steps")"
+done
+
+# For each of 16 offices 64 sessions, each of which sets one of its records, one after the other.
+plan 16 8 all
+awk 'BEGIN {
+    for (n = 0; n < 64; n++) for (me = 0; me < 16; me++) {
+        v = (me + 1 + n % 15) % 16
+        name = "r" (me < v ? me "_" v : v "_" me) "_" int(n / 15) % 8
+        print "session o" me "\nset " name " = read " name " + 1\nend"
+    }
+}' > "$work/sessions"
+
+# SESSIONS TIMES: so often all of them are submitted, and settle.
+submitted() {
+    awk -v sessions="$1" -v times="$2" 'BEGIN {
+        for (turn = 0; turn < times; turn++) {
+            for (n = 1; n <= sessions; n++) print "submit " n
+            print "settle 1000000"
+        }
+    }'
+}
+
+: > "$work/script"
+none=$(instructions)
+printf '\n| %s | %s | %s | %s | %s |\n' Settled Sessions Steps 'Memory, KiB' Instructions
+for times in 20 40; do
+    submitted 1024 "$times" > "$work/script"
+    prints 'unfinished 0'
+    steps=$(awk '/^settled .* finished$/ { steps += $2 } END { print steps }' "$work/printed")
+    all=$(instructions)
+    more=-
+    [ "$all" = - ] || more=$((all - none))
+    printf '| %s | %s | %s | %s | %s |\n' "$times" "$((1024 * times))" "$steps" "$(memory)" "$more"
 done

@@ -1,7 +1,8 @@
 # For the scripts that count the instructions of calls: builds the program bench.txt beside the script, which is no crate
 # of the repository, in a repository of its own, since the gate takes no source file outside a crate. `here` is the
 # script's folder, `top` the repository, and `uses` the crates that the program names. Those and what they stand on are copied
-# with what is proved of them already, which isn't proved again: so a figure comes in a minute or two.
+# with what is proved of them already, which isn't proved again: so a figure comes in a minute or two. Where it can't be built the
+# script ends with status 3.
 work=$(mktemp -d)
 trap 'rm -rf "$work"' EXIT
 program=$(basename "$here")_bench
@@ -34,7 +35,7 @@ if [ -d "$here/proofs" ]; then
 fi
 echo "$program: $uses" >> "$work/crates.txt"
 cd "$work/crates/$program"
-rt run > "$work/log" 2>&1 || { cat "$work/log"; exit 1; }
+rt run > "$work/log" 2>&1 || { cat "$work/log"; echo "$0: $program doesn't build" >&2; exit 3; }
 
 # The instructions of a run with these words.
 instructions() {

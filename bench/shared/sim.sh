@@ -22,6 +22,18 @@ memory() {
     fi
 }
 
+# The milliseconds of a processor that a run takes, the median of five, or -.
+milliseconds() {
+    if [ -x /usr/bin/time ]; then
+        for _ in 1 2 3 4 5; do
+            /usr/bin/time -o "$work/took" -f '%U %S' "$program" sim "$work/plan" "$work/sessions" "$work/script" > /dev/null
+            awk '{ printf "%d\n", 1000 * ($1 + $2) + 0.5 }' "$work/took"
+        done | sort -n | sed -n 3p
+    else
+        echo -
+    fi
+}
+
 # ALL NONE COUNT: what one of so many takes, or -.
 for_each() {
     if [ "$1" = - ]; then

@@ -89,14 +89,14 @@ for_a_line() {
     fi
 }
 
-printf '| %s | %s | %s | %s | %s |\n' Offices Lines 'Memory, KiB' Instructions 'For a line'
+printf '| %s | %s | %s | %s | %s | %s |\n' Offices Lines 'Milliseconds' 'Memory, KiB' Instructions 'For a line'
 for offices in 2 16; do
     ring "$offices"
     : > "$work/script"
     none=$(instructions)
     for lines in 10000 100000 500000 1000000; do
         script "$offices" "$lines" > "$work/script"
-        printf '| %s | %s | %s | %s |\n' "$offices" "$lines" "$(memory)" "$(for_a_line "$(instructions)" "$none" "$lines")"
+        printf '| %s | %s | %s | %s | %s |\n' "$offices" "$lines" "$(milliseconds)" "$(memory)" "$(for_a_line "$(instructions)" "$none" "$lines")"
     done
 done
 
