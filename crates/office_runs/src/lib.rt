@@ -25,8 +25,8 @@
 //! Not said: how long a round waits for what comes, how many rounds there are that don't count, and that the clock
 //! tells the time; when the system lets a socket fail; that what other offices did is a schedule with a told journal;
 //! that a journal has all that was written. Which of several faults was found first is a matter of time. Tests show
-//! that it is told, that one ends the others' work at once, that the gate is asked before each turn, that an office has
-//! 100,000 turns, and that its sockets are of this machine alone.
+//! that it is told, that one ends the others' work at once, that whoever sleeps is woken, that the gate is asked before
+//! each turn, that an office has 100,000 turns, and that its sockets are of this machine alone.
 #![tactic(auto)]
 
 mod finished;
