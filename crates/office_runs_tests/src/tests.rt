@@ -21,6 +21,7 @@ use std::thread::{Threads, yield_now};
 use std::time::{Duration, Instant};
 
 mod memory;
+mod rooms;
 
 /// Three offices in a row, with a record of each pair.
 const ROW: &str =

@@ -15,11 +15,11 @@ const NEVER: u64 = u64::MAX;
 
 /// How many sessions of an office have finished, as who turns it tells, and where who submits them sleeps.
 ///
-/// No wake is lost. There are two to a room: one tells, and one sleeps. What is told is written first, and then `wake` gives the
-/// parker's token, which stays until a sleep takes it. So who wakes looks again, and whatever was written after that look ends the
-/// next sleep at once. Only `set_finished` gives no token where nobody asked for one. There each writes its own word before it reads the
-/// other's, and all steps have one order: either who turns the office finds what is wanted and wakes, or who waits finds it done and
-/// doesn't sleep.
+/// No wake is lost. One thread sleeps in a room. Whoever has something to tell it writes that first, and then gives the parker's
+/// token, which stays until a sleep takes it; and who wakes looks again. So whatever was written after the last look ends the next
+/// sleep at once. Only `set_finished` gives no token where none was asked for. There each of the two writes its own word before it
+/// reads the other's, and all steps have one order: either who turns the office finds how many are wanted, and wakes, or who waits
+/// finds that so many have finished, and doesn't sleep.
 #[derive(Drop)]
 pub struct Room {
     finished: AtomicU64,
