@@ -15,18 +15,22 @@ built=$work/crates/$program/out/$program
 
 # The allocations of a run with these words.
 allocations() {
-    valgrind "$built" "$@" 2>&1 | sed -n 's/.*total heap usage: \([0-9,]*\) allocs.*/\1/p' | tr -d ,
+    valgrind "$built" "$@" > "$work/said" 2>&1 || exit 1
+    sed -n 's/.*total heap usage: \([0-9,]*\) allocs.*/\1/p' "$work/said" | tr -d ,
 }
 
 none=$(instructions take 1 0)
 all=$(instructions take 1 10000)
-echo "take and give: $(((all - none) / 10000)) instructions, $(($(allocations take 1 10000) - $(allocations take 1 0))) allocations in 10,000"
+fewer=$(allocations take 1 0)
+more=$(allocations take 1 10000)
+echo "take and give: $(((all - none) / 10000)) instructions, $((more - fewer)) allocations in 10,000"
 
 # WHERE THREADS CALL: the median of nine runs, in thousands of calls a second.
 rate() {
     for _ in 1 2 3 4 5 6 7 8 9; do
-        "$built" "$1" "$2" $((1000000 / $2)) "$3"
-    done | awk '{ print int(1000000 * 1000 / $2) }' | sort -n | sed -n 5p
+        "$built" "$1" "$2" $((1000000 / $2)) "$3" || exit 1
+    done > "$work/written"
+    awk '{ print int(1000000 * 1000 / $2) }' "$work/written" | sort -n | sed -n 5p
 }
 for call in ask send; do
     for threads in 1 2 4 8; do
@@ -36,11 +40,15 @@ for call in ask send; do
     done
 done
 
-# Less a run that makes no call: a ninth of nine runs, since one is told to ten milliseconds.
+# WHAT: the milliseconds that it takes of the processors with five threads: a ninth of nine runs, since one is told to ten milliseconds.
 spent() {
     for _ in 1 2 3 4 5 6 7 8 9; do
-        /usr/bin/time -o "$work/spent" -f '%U %S' "$built" "$1" 5 > /dev/null
-        cat "$work/spent"
-    done | awk '{ sum += $1 + $2 } END { printf "%d", 1000 * sum / 9 }'
+        /usr/bin/time -o "$work/took" -f '%U %S' "$built" "$1" 5 > /dev/null || exit 1
+        cat "$work/took"
+    done > "$work/spent"
+    awk '{ sum += $1 + $2 } END { printf "%d", 1000 * sum / 9 }' "$work/spent"
 }
-echo "four threads that wait for a second: $(($(spent hold) - $(spent none))) milliseconds of the processors"
+# What four of them take that wait, less a run that makes no call.
+none=$(spent none)
+hold=$(spent hold)
+echo "four threads that wait while a fifth holds the office for a second: $((hold - none)) milliseconds of the processors"

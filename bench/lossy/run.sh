@@ -12,9 +12,11 @@ top=$here/../..
 . "$top/bench/shared/program.sh"
 . "$top/bench/shared/sim.sh"
 for seed in 1 2 3; do
-    echo "2 offices, seed $seed: $(python3 "$here/frames.py" "$program" 2 "$seed")"
+    frames=$(python3 "$here/frames.py" "$program" 2 "$seed")
+    echo "2 offices, seed $seed: $frames"
 done
-echo "16 offices, seed 1: $(python3 "$here/frames.py" "$program" 16 1)"
+frames=$(python3 "$here/frames.py" "$program" 16 1)
+echo "16 offices, seed 1: $frames"
 
 # Of these lines the last ones are left out for the shorter script.
 lines=$(python3 "$here/frames.py" "$program" 16 1 200000 "$work")
@@ -25,5 +27,6 @@ printf '\n| %s | %s | %s | %s |\n' Lines 'Memory, KiB' Instructions 'For a line'
 for part in $((lines / 2)) "$lines"; do
     head -n "$part" "$work/whole" > "$work/script"
     all=$(instructions)
-    printf '| %s | %s | %s | %s |\n' "$part" "$(memory)" "$all" "$(for_each "$all" "$none" "$part")"
+    most=$(memory)
+    printf '| %s | %s | %s | %s |\n' "$part" "$most" "$all" "$(for_each "$all" "$none" "$part")"
 done

@@ -1,9 +1,8 @@
 #!/bin/sh
-# What `drink serial` takes on the largest inputs that its limits allow, and on 1,024 sessions of four usual kinds. Each row of the
-# tables that it prints is an input;
-# `README.md` beside it says what they are. It needs a program that is built, awk, GNU date and GNU time, and for the
-# counts of instructions valgrind. It prints figures, and fails only where the program doesn't run on an input as it is
-# to.
+# What `drink serial` takes on the largest inputs that its limits allow, and on 1,024 sessions of four usual kinds. Each row of
+# the tables that it prints is an input; `README.md` beside it says what they are. It needs a program that is built, awk, GNU
+# date and GNU time, and for the counts of instructions valgrind. It prints figures, and fails only where the program doesn't
+# run on an input as it is to.
 #
 #   sh bench/serial/run.sh [PROGRAM]        PROGRAM is crates/drink/out/drink where it is left out
 set -eu
@@ -307,5 +306,6 @@ for kind in small light wide heavy; do
         plan 8 0 > "$input/plan"
     fi
     awk -v kind="$kind" -f "$work/usual.awk" > "$input/sessions"
+    check 0 "$program" serial "$input/plan" "$input/sessions"
     echo "| $kind | $(grep -c '^record' "$input/plan") | $(bytes "$input/sessions") | $(milliseconds "$input" 0) | $(memory "$input" 0) | $(instructions "$input" 0) |"
 done

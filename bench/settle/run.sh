@@ -89,7 +89,8 @@ for times in 20 40; do
     prints 'unfinished 0'
     steps=$(awk '/^settled .* finished$/ { steps += $2 } END { print steps }' "$work/printed")
     all=$(instructions)
+    most=$(memory)
     more=-
     [ "$all" = - ] || more=$((all - none))
-    printf '| %s | %s | %s | %s | %s |\n' "$times" "$((1024 * times))" "$steps" "$(memory)" "$more"
+    printf '| %s | %s | %s | %s | %s |\n' "$times" "$((1024 * times))" "$steps" "$most" "$more"
 done

@@ -37,8 +37,11 @@ echo "$program: $uses" >> "$work/crates.txt"
 cd "$work/crates/$program"
 rt run > "$work/log" 2>&1 || { cat "$work/log"; echo "$0: $program doesn't build" >&2; exit 3; }
 
-# The instructions of a run with these words.
+# The instructions of a run with these words. Where the run fails, so does this.
 instructions() {
-    valgrind --tool=callgrind --callgrind-out-file="$work/profile" "$work/crates/$program/out/$program" "$@" 2>&1 |
-        sed -n 's/.*Collected : //p'
+    valgrind --tool=callgrind --callgrind-out-file="$work/profile" "$work/crates/$program/out/$program" "$@" > "$work/said" 2>&1 || {
+        cat "$work/said" >&2
+        exit 1
+    }
+    sed -n 's/.*Collected : //p' "$work/said"
 }

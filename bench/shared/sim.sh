@@ -1,13 +1,19 @@
 # For the scripts that run `drink sim`: what a run takes on what is in the files `plan`, `sessions` and `script` of the
 # folder `work`. `program` is the program.
 
+# Each of these runs the program, and fails where that does.
+
+sim() {
+    "$@" "$program" sim "$work/plan" "$work/sessions" "$work/script" > /dev/null || exit 1
+}
+
 # The instructions of a run, or -.
 instructions() {
     if command -v valgrind > /dev/null; then
-        valgrind --tool=callgrind --callgrind-out-file="$work/callgrind" "$program" sim "$work/plan" "$work/sessions" "$work/script" > /dev/null 2> "$work/log"
+        sim valgrind --tool=callgrind --callgrind-out-file="$work/callgrind" 2> "$work/log"
         sed -n 's/.*Collected : \([0-9]*\).*/\1/p' "$work/log"
     else
-        "$program" sim "$work/plan" "$work/sessions" "$work/script" > /dev/null
+        sim env
         echo -
     fi
 }
@@ -15,7 +21,7 @@ instructions() {
 # The most memory of a run, in KiB, or -.
 memory() {
     if [ -x /usr/bin/time ]; then
-        /usr/bin/time -v "$program" sim "$work/plan" "$work/sessions" "$work/script" > /dev/null 2> "$work/log"
+        sim /usr/bin/time -v 2> "$work/log"
         sed -n 's/.*Maximum resident set size (kbytes): //p' "$work/log"
     else
         echo -
@@ -26,9 +32,10 @@ memory() {
 milliseconds() {
     if [ -x /usr/bin/time ]; then
         for _ in 1 2 3 4 5; do
-            /usr/bin/time -o "$work/took" -f '%U %S' "$program" sim "$work/plan" "$work/sessions" "$work/script" > /dev/null
+            sim /usr/bin/time -o "$work/took" -f '%U %S'
             awk '{ printf "%d\n", 1000 * ($1 + $2) + 0.5 }' "$work/took"
-        done | sort -n | sed -n 3p
+        done > "$work/times"
+        sort -n "$work/times" | sed -n 3p
     else
         echo -
     fi

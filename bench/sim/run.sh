@@ -89,14 +89,17 @@ for_a_line() {
     fi
 }
 
-printf '| %s | %s | %s | %s | %s | %s |\n' Offices Lines 'Milliseconds' 'Memory, KiB' Instructions 'For a line'
+printf '| %s | %s | %s | %s | %s | %s |\n' Offices Lines Milliseconds 'Memory, KiB' Instructions 'For a line'
 for offices in 2 16; do
     ring "$offices"
     : > "$work/script"
     none=$(instructions)
     for lines in 10000 100000 500000 1000000; do
         script "$offices" "$lines" > "$work/script"
-        printf '| %s | %s | %s | %s | %s |\n' "$offices" "$lines" "$(milliseconds)" "$(memory)" "$(for_a_line "$(instructions)" "$none" "$lines")"
+        took=$(milliseconds)
+        most=$(memory)
+        all=$(instructions)
+        printf '| %s | %s | %s | %s | %s |\n' "$offices" "$lines" "$took" "$most" "$(for_a_line "$all" "$none" "$lines")"
     done
 done
 
@@ -106,6 +109,9 @@ cp "$work/heavy" "$work/sessions"
 submits 64 > "$work/script"
 few=$(instructions)
 printf '\n| %s | %s | %s | %s | %s |\n' 'Lines that submit a heavy session' Bytes 'Memory, KiB' Instructions 'For a line'
-printf '| 64 | %s | %s | - | - |\n' "$(wc -c < "$work/script")" "$(memory)"
+most=$(memory)
+printf '| 64 | %s | %s | - | - |\n' "$(wc -c < "$work/script")" "$most"
 submits 100000 > "$work/script"
-printf '| 100000 | %s | %s | %s |\n' "$(wc -c < "$work/script")" "$(memory)" "$(for_a_line "$(instructions)" "$few" 99936)"
+most=$(memory)
+all=$(instructions)
+printf '| 100000 | %s | %s | %s |\n' "$(wc -c < "$work/script")" "$most" "$(for_a_line "$all" "$few" 99936)"
