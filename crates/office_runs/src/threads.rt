@@ -323,9 +323,10 @@ fn submit_all<R: Wait, A: Wakes>(
 
 /// Stays until nobody turns the office any more, and wakes who turns it as soon as the run is over.
 ///
-/// So nobody waits out a poll at a run's end. It is over before who submits is woken, and then the alarm rings. An alarm ends the
-/// wait that goes on, or else the next one: either who turns the office looked after the run was over, and turns no more, or the wait
-/// after that look ends. It rings for nothing once it is gone, so it is kept until who turns the office has ended.
+/// So nobody waits out a poll at a run's end. That the run is over is written down before who submits is woken, and then the alarm
+/// rings. It ends the wait that goes on at the socket, or else the next one. So who turns the office either looks after the end was
+/// written, and turns no more, or waits after its look, and that wait ends. Only the alarm can do that, and it is gone with who has
+/// it: so this one stays until nobody turns the office.
 fn stay<R: Wait, A: Wakes>(rt: &R, me: OfficeId, alarm: &A, shared: &Shared) {
     for _ in rt.forever() {
         if shared.has_ended(me) {
