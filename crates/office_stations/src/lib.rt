@@ -8,7 +8,7 @@
 //! - [`Binds`], [`Socket`], [`Wakes`]: what is needed of a network. [`UdpSockets`] is UDP; tests have sockets in memory.
 //! - [`Gate`]: is called before each turn, so that a test can hold an office.
 //! - [`Watch`]: is told once a second how far a run is, and of neighbours that were never reached or heard; [`Shared`] is what
-//!   several offices know of that, and in the [`Room`]s of it sleeps who submits more sessions than an office takes at once.
+//!   several offices know of that. Who submits an office's sessions sleeps there in the office's [`Room`], while it takes no more.
 //!
 //! How often a turn comes, and that a datagram arrives, is no promise.
 //!
