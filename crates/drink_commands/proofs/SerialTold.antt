@@ -49,5 +49,5 @@ accepts_as known (input ∷ asked) (text ∷ texts) f h (plan, good, more) =
 
 -- where the writing failed, all of them are accepted
 pub written_as : (files : List ℕ → Option (List ℕ)) (standard : Option (List ℕ)) (words : List (List ℕ)) (asked : List Input) (f : Fault)
-    → IsWriteFault f → serial.AreAccepted files standard words asked → IsJudged files standard words asked f
+    → IsWriteFault f → serial.HaveAcceptedTexts files standard words asked → IsJudged files standard words asked f
 written_as files standard words asked f h good texts n known = accepts_as nothing asked (take n texts) f h (good texts n known)

@@ -11,7 +11,7 @@ use Rattle.command_inputs.specs.declared.fault.TextFault.{TextFault}
 use Rattle.command_inputs.specs.declared.fault.TextFault.TheVariants.{Memory, ReadFailed, Plan, Ring, Sessions}
 use Rattle.command_inputs.specs.declared.input.Input.{Input}
 use Rattle.command_inputs.specs.declared.input.Input.TheVariants as inputs
-use Rattle.serial_command.specs.Texts.{Accepts, AcceptsEach, AreAccepted, IsJudged, Judges}
+use Rattle.serial_command.specs.Texts.{Accepts, AcceptsEach, HaveAcceptedTexts, IsJudged, Judges}
 
 weaker : (input : Input) (P Q : TextFault → Type 0) (f : TextFault) → ((f : TextFault) → P f → Q f) → IsAtInput input P f → IsAtInput input Q f
 weaker input P Q Memory k h = tt
@@ -149,7 +149,7 @@ module _ (files : List ℕ → Option (List ℕ)) where
   -- both are accepted
   pub both_accepted : (standard : Option (List ℕ)) (u v w : Unread) (plan sessions : List ℕ) (p : PlanValue) (programs : List ProgramValue)
       → u ≡ unread standard (plan ∷ sessions ∷ []) → TakesPlan u plan v p → TakesSessions v sessions w p programs
-      → AreAccepted files standard (plan ∷ sessions ∷ []) Asked
+      → HaveAcceptedTexts files standard (plan ∷ sessions ∷ []) Asked
   both_accepted standard u v w plan sessions p programs e taken more texts n known =
       accepts_next u v plan (sessions ∷ []) None (Some p) inputs.Plan (inputs.Sessions ∷ []) (plan_taken u plan v p taken)
       (accepts_next v w sessions [] (Some p) (Some p) inputs.Sessions [] (sessions_taken v sessions w p programs more) (accepts_none w (Some p)))

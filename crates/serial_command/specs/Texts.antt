@@ -35,8 +35,8 @@ Judges plan (input ∷ asked) (text ∷ texts) f =
     IsAtInput input (RefusesText plan text) f ⊎ ((next : Option PlanValue) × Accepts plan input text next × Judges next asked texts f)
 
 -- the words of a command with these inputs have accepted texts, whichever of them are known
-abbrev pub AreAccepted : (List ℕ → Option (List ℕ)) → Option (List ℕ) → List (List ℕ) → List Input → Type 0
-AreAccepted files standard words asked = (texts : List (List ℕ)) (n : ℕ) → HaveFirstTexts files standard words texts n
+abbrev pub HaveAcceptedTexts : (List ℕ → Option (List ℕ)) → Option (List ℕ) → List (List ℕ) → List Input → Type 0
+HaveAcceptedTexts files standard words asked = (texts : List (List ℕ)) (n : ℕ) → HaveFirstTexts files standard words texts n
     → AcceptsEach None asked (take n texts)
 
 -- what a fault says of these words

@@ -5,7 +5,7 @@ ghost use Rattle.std.specs.Io.KnownBytes.{Appends};
 ghost use Rattle.std.specs.String.{string_bytes};
 ghost use Rattle.clap.specs.Values.{kind_of};
 ghost use Rattle.serial_command.specs.Answers.{IsAnswered, IsDone, IsReported, IsShown};
-ghost use Rattle.serial_command.specs.Texts.{AreAccepted};
+ghost use Rattle.serial_command.specs.Texts.{HaveAcceptedTexts};
 
 use crate::exit::{DONE, Exit, FAILED, MISUSED};
 use crate::serial;
@@ -100,7 +100,7 @@ fn report<S: Sources, W: Write>(
 ) -> Exit
     ensures done { result.status ≡ 0 → IsReported (S.file_text sources.now) (S.standard_text sources.now) plan.now sessions.now (W.contents out.old) (W.contents out.new) }
     ensures status { result.status ≤ 1 }
-    ensures unwritten { (out.new ≡ out.old) ⊎ AreAccepted (S.file_text sources.now) (S.standard_text sources.now) (plan.now ∷ sessions.now ∷ []) (Input.Plan ∷ Input.Sessions ∷ []) }
+    ensures unwritten { (out.new ≡ out.old) ⊎ HaveAcceptedTexts (S.file_text sources.now) (S.standard_text sources.now) (plan.now ∷ sessions.now ∷ []) (Input.Plan ∷ Input.Sessions ∷ []) }
 {
     match serial::run(alloc, sources, plan, sessions) {
         Ok(text) => write_out(alloc, &text, out),

@@ -7,7 +7,7 @@ ghost use Rattle.session_programs.specs.Program.{fits};
 ghost use Rattle.session_language.specs.Reading.{sessions_of};
 ghost use Rattle.command_inputs.specs.Fault.{IsOneOf};
 ghost use Rattle.command_inputs.specs.Plans.{IsAcceptedAs};
-ghost use Rattle.serial_command.specs.Texts.{AreAccepted, IsJudged};
+ghost use Rattle.serial_command.specs.Texts.{HaveAcceptedTexts, IsJudged};
 
 use command_inputs::{Input, TextFault, read_plan, read_programs};
 use input_texts::{Sources, StandardInput};
@@ -35,7 +35,7 @@ pub fn read_inputs<S: Sources>(
         → IsAcceptedAs plan_text i.plan × (sessions_of i.plan sessions_text ≡ Ok i.programs.items)) }
     ensures fit { IfOk result (λ i. All (λ p. IsTrue (fits i.plan p)) i.programs.items) }
     ensures few { IfOk result (λ i. length i.programs.items ≤ most_sessions) }
-    ensures accepted { IfOk result (λ _. AreAccepted (S.file_text sources.now) (S.standard_text sources.now) (plan.now ∷ sessions.now ∷ []) (Input.Plan ∷ Input.Sessions ∷ [])) }
+    ensures accepted { IfOk result (λ _. HaveAcceptedTexts (S.file_text sources.now) (S.standard_text sources.now) (plan.now ∷ sessions.now ∷ []) (Input.Plan ∷ Input.Sessions ∷ [])) }
     ensures judged { IfErr result (IsJudged (S.file_text sources.now) (S.standard_text sources.now) (plan.now ∷ sessions.now ∷ []) (Input.Plan ∷ Input.Sessions ∷ [])) }
     ensures input { IfErr result (IsOneOf (Input.Plan ∷ Input.Sessions ∷ [])) }
 {

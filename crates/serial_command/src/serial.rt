@@ -7,7 +7,7 @@ ghost use Rattle.session_language.specs.Limits.{most_sessions};
 ghost use Rattle.session_programs.specs.Program.{fits};
 ghost use Rattle.command_inputs.specs.Fault.{IsOneOf};
 ghost use Rattle.serial_command.specs.Serial.{IsReportOf, serial_report};
-ghost use Rattle.serial_command.specs.Texts.{AreAccepted, IsJudged};
+ghost use Rattle.serial_command.specs.Texts.{HaveAcceptedTexts, IsJudged};
 
 use crate::inputs::{Inputs, read_inputs};
 use command_inputs::{Input, TextFault};
@@ -27,7 +27,7 @@ pub fn run<S: Sources>(
     ensures report { IfOk result (λ text. (plan_text sessions_text : List ℕ)
         → StandFor (S.file_text sources.now) (S.standard_text sources.now) (plan.now ∷ sessions.now ∷ []) (plan_text ∷ sessions_text ∷ [])
         → IsReportOf plan_text sessions_text (string_bytes text)) }
-    ensures accepted { IfOk result (λ _. AreAccepted (S.file_text sources.now) (S.standard_text sources.now) (plan.now ∷ sessions.now ∷ []) (Input.Plan ∷ Input.Sessions ∷ [])) }
+    ensures accepted { IfOk result (λ _. HaveAcceptedTexts (S.file_text sources.now) (S.standard_text sources.now) (plan.now ∷ sessions.now ∷ []) (Input.Plan ∷ Input.Sessions ∷ [])) }
     ensures judged { IfErr result (IsJudged (S.file_text sources.now) (S.standard_text sources.now) (plan.now ∷ sessions.now ∷ []) (Input.Plan ∷ Input.Sessions ∷ [])) }
     ensures input { IfErr result (IsOneOf (Input.Plan ∷ Input.Sessions ∷ [])) }
 {
