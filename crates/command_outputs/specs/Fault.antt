@@ -3,7 +3,6 @@ use Rattle.std.specs.Prelude.{◌≡◌, ◌⊎◌, ℕ, List, Contains, Option,
 use Rattle.std.specs.String.{string_bytes}
 use Rattle.command_inputs.specs.declared.input.Input.{Input}
 use Rattle.command_inputs.specs.declared.input.Input.TheVariants as inputs
-use Rattle.command_inputs.specs.declared.fault.TextFault.{TextFault}
 use Rattle.command_inputs.specs.Fault.{IsAtInput, IsOneOf, input_at}
 use Rattle.command_outputs.specs.declared.fault.Why.{Why}
 use Rattle.command_outputs.specs.declared.fault.Why.TheVariants.{Script, Journal, Twice}

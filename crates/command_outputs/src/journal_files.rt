@@ -1,10 +1,8 @@
 //! The journals of offices, as they are written to files.
 
-ghost use Rattle.std.specs.Prelude.{◌≡◌, ◌<◌, ◌≤◌, ◌∷◌, ◌++◌, [], get_or, length, map, IfErr, IfOk, Ok, OnOk};
+ghost use Rattle.std.specs.Prelude.{◌≡◌, ◌<◌, ◌≤◌, ◌∷◌, [], get_or, length, map, IfErr, IfOk, Ok, OnOk};
 ghost use Rattle.std.specs.Option.{option_copied};
 ghost use Rattle.std.specs.String.{string_bytes};
-ghost use Rattle.site_core.specs.Journals.{IsLegal};
-ghost use Rattle.journal_texts.specs.Written.{journal_text};
 ghost use Rattle.output_files.specs.Written.{AddsFiles, KeepsFiles};
 ghost use Rattle.command_outputs.specs.Fault.{IsWriteFault};
 ghost use Rattle.command_outputs.specs.Journals.{WritesFiles, file_name, files_of, files_of_world, text_at};

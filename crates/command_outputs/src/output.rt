@@ -1,6 +1,6 @@
 //! The output of a command.
 
-ghost use Rattle.std.specs.Prelude.{◌≡◌, IfErr, OnOk};
+ghost use Rattle.std.specs.Prelude.{IfErr, OnOk};
 ghost use Rattle.std.specs.Io.KnownBytes.{Appends};
 ghost use Rattle.command_outputs.specs.Fault.{IsWriteFault};
 

@@ -1,9 +1,8 @@
 //! Where the journals of a run go, which is looked at before it begins.
 
-ghost use Rattle.std.specs.Prelude.{◌≡◌, ◌≢◌, ◌⊎◌, ◌<◌, Some, None, IfErr, IfNone, IfOk, IfSome, List, ℕ, length, false, true, Bool, if◌then◌else◌};
+ghost use Rattle.std.specs.Prelude.{◌≡◌, ◌⊎◌, ◌<◌, Some, None, IfErr, IfNone, IfOk, IfSome, List, ℕ, length, false, true, if◌then◌else◌};
 ghost use Rattle.std.specs.Option.{option_copied};
 ghost use Rattle.std.specs.Str.{bytes_eq};
-ghost use Rattle.journal_texts.specs.Written.{header_line};
 ghost use Rattle.command_outputs.specs.Fault.{IsPlaceFault};
 ghost use Rattle.command_outputs.specs.Journals.{file_name};
 ghost use Rattle.command_outputs.specs.Places.{AreFree, HasTextOf, IsAnInput, IsFailed, IsFree, IsIn, IsObstacle, IsOther, IsUnheld};

@@ -1,7 +1,7 @@
 -- What is so of the texts of journals that are read one after another, those that are known.
 use Rattle.std.proofs.Common.{◌≡◌, ◌⊎◌, ◌+◌, ◌-◌, ◌<◌, ◌≤◌, ℕ, zero, suc, List, [], ◌∷◌, ◌++◌, length, take, Contains, Option, Bool, true, false, if◌then◌else◌, refl, sym, subst, ap, ◌∙◌, append_assoc, arith, inl, inr}
 use Rattle.std.proofs.lemmas.List.{append-nil}
-use Rattle.input_texts.specs.Words.{HasText, HaveTexts, Unread, unread}
+use Rattle.input_texts.specs.Words.{HaveTexts, Unread, unread}
 use Rattle.office_map.specs.PlanValue.{PlanValue}
 use Rattle.journal_weave.specs.declared.given.GivenJournal.{GivenJournal}
 use Rattle.journal_audit.specs.Gathering.{AreGathered, AreJournals, Lacks}

@@ -1,6 +1,5 @@
 use Rattle.std.proofs.Common.{Some, refl, subst}
 use Rattle.std.proofs.lemmas.Result.{err_from_is_err_and}
-use Rattle.script_runs.specs.Limits as scripts
 use Rattle.script_runs.specs.Script.{IsScript, RefusesScript, acts_with}
 use Rattle.command_inputs.specs.Texts.{WasRead}
 use Rattle.command_inputs.specs.declared.input.Input.TheVariants as inputs
