@@ -1,6 +1,7 @@
 //! Which refusal is told where two apply at once.
 
-use super::{A, GIVES, PAIR, Step, What, event_of, offices, programs, submit, tell};
+use super::rows::{Step, What, event_of, tell};
+use super::{A, GIVES, PAIR, offices, programs, submit};
 use office_map::OfficeId;
 use session_programs::Program;
 use site_core::{MAX_ENTRIES, Office, Refusal, Reply};

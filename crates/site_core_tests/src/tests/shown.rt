@@ -1,6 +1,6 @@
 //! What an office shows.
 
-use super::describe;
+use super::endings::describe;
 use super::rule_rows::Step::{
     AskBottle, AskFork, Drink, Eat, Finish, GiveBottle, GiveFork, Hungry, Leave, Start, Work,
 };

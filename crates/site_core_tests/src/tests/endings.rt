@@ -1,0 +1,40 @@
+//! How sessions end, as a text.
+
+use bottle_values::Value;
+use session_meaning::{Outcome, RecordValues};
+use std::alloc::AllocError;
+use std::fmt::Write;
+
+pub fn describe(text: &mut String, outcomes: &[Outcome]) -> Result<(), AllocError> {
+    for outcome in outcomes {
+        describe_one(text, outcome)?;
+    }
+    Ok(())
+}
+
+fn describe_one(text: &mut String, outcome: &Outcome) -> Result<(), AllocError> {
+    let office = outcome.office.number();
+    let ticket = outcome.ticket;
+    let end = outcome.ending.end;
+    write!(text, "{office}.{ticket} {end:?} reads")?;
+    tell_values(text, &outcome.ending.reads)?;
+    text.push_str(" writes")?;
+    tell_values(text, &outcome.ending.writes)?;
+    text.push_str(" gives")?;
+    tell_gives(text, outcome.ending.gives.as_slice())?;
+    text.push_str("; ")
+}
+
+fn tell_values(text: &mut String, values: &RecordValues) -> Result<(), AllocError> {
+    for (r, value) in values.as_slice() {
+        write!(text, " {}={}", r.number(), value)?;
+    }
+    Ok(())
+}
+
+fn tell_gives(text: &mut String, gives: &[Value]) -> Result<(), AllocError> {
+    for value in gives {
+        write!(text, " {}", value)?;
+    }
+    Ok(())
+}

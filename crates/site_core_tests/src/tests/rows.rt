@@ -1,0 +1,394 @@
+//! Two offices, step by step: what each step is answered, and how their sessions end.
+
+use super::endings::describe;
+use super::{A, GIVES, MOVE, PAIR, offices, programs};
+use frame_codec::{Frame, MAX_LENGTH, encode};
+use office_map::{OfficeId, RecordId};
+use session_programs::Program;
+use site_core::{Event, Office, Refusal, Reply, Rule};
+use std::alloc::{AllocError, Global};
+use std::fmt::Write;
+use std::test::Fail;
+
+/// The same as `PAIR`, with the fork at the other.
+const FORK_AT_B: &str =
+    "plan 1 run 42\noffice a -\noffice b -\npair a b fork b\nrecord x a b 100 at a\nrecord y a b 0 at b\n";
+
+/// Three records, all of them at the other office.
+const ALL_AT_B: &str =
+    "plan 1 run 42\noffice a -\noffice b -\npair a b fork a\nrecord x a b 1 at b\nrecord y a b 2 at b\nrecord z a b 3 at b\n";
+
+/// Two offices that share nothing.
+const ALONE: &str = "plan 1 run 7\noffice a -\noffice b -\n";
+
+const READS_ALL: &str = "session a\ngive read x + read y + read z\nend\n";
+
+/// Two sessions of one record.
+const TWO_OF_X: &str = "session a\nset x = 1\nend\nsession a\ngive read x\nend\n";
+
+/// The second office of each plan.
+const B: usize = 1;
+
+/// What a step is: a session is submitted, by its place in the text; a rule, with its record or its size; the message of that
+/// place is framed for the other office; the frame of that place is taken by its addressee; the session with that ticket is
+/// withdrawn; the next rule.
+#[derive(Clone, Copy)]
+pub enum What {
+    Submit,
+    Start,
+    Hungry,
+    AskFork,
+    GiveFork,
+    Eat,
+    Leave,
+    AskBottle,
+    GiveBottle,
+    Drink,
+    Work,
+    Finish,
+    Send,
+    Deliver,
+    Withdraw,
+    Next,
+}
+
+/// What is done, at which office, and a number.
+#[derive(Clone, Copy)]
+pub struct Step(pub What, pub usize, pub u16);
+
+/// A plan, sessions, steps, and what is answered. A frame is told by its number and its count.
+static ROWS: [(&str, &str, &[Step], &str); 7] = [
+    (
+        PAIR,
+        MOVE,
+        &[
+            Step(What::Submit, A, 0),
+            Step(What::Start, A, 0),
+            Step(What::Hungry, A, 0),
+            Step(What::Eat, A, 0),
+            Step(What::AskBottle, A, 1),
+            Step(What::Send, A, 1),
+            Step(What::Deliver, 0, 1),
+            Step(What::GiveBottle, B, 1),
+            Step(What::Send, B, 1),
+            Step(What::Deliver, 0, 2),
+            Step(What::Drink, A, 0),
+            Step(What::Leave, A, 0),
+            Step(What::Work, A, 100),
+            Step(What::Finish, A, 0),
+            Step(What::Deliver, 0, 2),
+        ],
+        "ticket 1; done; done; done; done; frame 1 0; taken; done; frame 1 1; taken; done; done; done; done; repeat; 0.1 Done reads 0=100 1=0 writes 0=70 1=30 gives 70 30; ",
+    ),
+    (
+        ALL_AT_B,
+        READS_ALL,
+        &[
+            Step(What::Submit, A, 0),
+            Step(What::Start, A, 0),
+            Step(What::AskBottle, A, 0),
+            Step(What::AskBottle, A, 1),
+            Step(What::AskBottle, A, 2),
+            Step(What::Send, A, 1),
+            Step(What::Send, A, 2),
+            Step(What::Send, A, 3),
+            Step(What::Deliver, 0, 3),
+            Step(What::Deliver, 0, 1),
+            Step(What::Deliver, 0, 2),
+            Step(What::Send, A, 3),
+            Step(What::Deliver, 0, 4),
+            Step(What::Deliver, 0, 4),
+            Step(What::Send, A, 4),
+            Step(What::Send, A, 0),
+            Step(What::Deliver, 0, 5),
+            Step(What::GiveBottle, B, 2),
+        ],
+        "ticket 1; done; done; done; done; frame 1 0; frame 2 0; frame 3 0; kept; taken; taken; frame 3 0; repeat; repeat; refused O1 NotNow; frame 0 0; acked; done; ",
+    ),
+    (
+        PAIR,
+        GIVES,
+        &[
+            Step(What::Submit, B, 1),
+            Step(What::Start, B, 0),
+            Step(What::Hungry, B, 0),
+            Step(What::AskFork, B, 0),
+            Step(What::Send, B, 1),
+            Step(What::Deliver, 0, 1),
+            Step(What::GiveFork, A, 0),
+            Step(What::Send, A, 1),
+            Step(What::Deliver, 0, 2),
+            Step(What::Submit, A, 0),
+            Step(What::Start, A, 0),
+            Step(What::Hungry, A, 0),
+            Step(What::AskFork, A, 0),
+            Step(What::Send, A, 2),
+            Step(What::Deliver, 0, 3),
+            Step(What::GiveFork, B, 0),
+            Step(What::Eat, B, 0),
+            Step(What::GiveFork, B, 0),
+            Step(What::Drink, B, 0),
+            Step(What::Leave, B, 0),
+            Step(What::GiveFork, B, 0),
+            Step(What::Send, B, 1),
+            Step(What::Deliver, 0, 4),
+            Step(What::Eat, A, 0),
+        ],
+        "ticket 1; done; done; done; frame 1 0; taken; done; frame 1 1; taken; ticket 1; done; done; done; frame 2 1; taken; refused O1 NotNow; done; refused O1 NotNow; done; done; done; frame 2 2; taken; done; ",
+    ),
+    (
+        FORK_AT_B,
+        GIVES,
+        &[
+            Step(What::Submit, A, 0),
+            Step(What::Next, A, 0),
+            Step(What::Hungry, A, 0),
+            Step(What::Next, A, 0),
+            Step(What::Next, A, 0),
+            Step(What::Next, A, 0),
+            Step(What::Next, A, 0),
+            Step(What::Next, A, 0),
+            Step(What::Send, A, 1),
+            Step(What::Deliver, 0, 1),
+            Step(What::Next, B, 0),
+            Step(What::Next, B, 0),
+            Step(What::Send, B, 1),
+            Step(What::Deliver, 0, 2),
+            Step(What::Next, A, 0),
+            Step(What::Next, A, 0),
+            Step(What::Next, A, 0),
+        ],
+        "ticket 1; Start done; done; Drink done; Work(256) done; Finish done; AskFork(OfficeId { number: 1 }) done; none; frame 1 0; taken; GiveFork(OfficeId { number: 0 }) done; none; frame 1 1; taken; Eat done; Leave done; none; 0.1 Done reads writes gives 1; ",
+    ),
+    (
+        PAIR,
+        MOVE,
+        &[
+            Step(What::Submit, A, 0),
+            Step(What::Next, A, 0),
+            Step(What::Next, A, 0),
+            Step(What::Next, A, 0),
+            Step(What::Next, A, 0),
+            Step(What::Next, A, 0),
+            Step(What::Send, A, 1),
+            Step(What::Deliver, 0, 1),
+            Step(What::Next, B, 0),
+            Step(What::Send, B, 1),
+            Step(What::Deliver, 0, 2),
+            Step(What::Next, A, 0),
+            Step(What::Next, A, 0),
+            Step(What::Next, A, 0),
+            Step(What::Next, A, 0),
+            Step(What::Next, A, 0),
+        ],
+        "ticket 1; Start done; Hungry done; Eat done; AskBottle(RecordId { number: 1 }) done; none; frame 1 0; taken; GiveBottle(RecordId { number: 1 }) done; frame 1 1; taken; Drink done; Work(256) done; Finish done; Leave done; none; 0.1 Done reads 0=100 1=0 writes 0=70 1=30 gives 70 30; ",
+    ),
+    (
+        ALONE,
+        GIVES,
+        &[
+            Step(What::Submit, B, 0),
+            Step(What::Submit, A, 0),
+            Step(What::Start, A, 0),
+            Step(What::Hungry, A, 0),
+            Step(What::Eat, A, 0),
+            Step(What::Drink, A, 0),
+            Step(What::Leave, A, 0),
+            Step(What::Work, A, 0),
+            Step(What::Work, A, 1001),
+            Step(What::Work, A, 9),
+            Step(What::Work, A, 9),
+            Step(What::AskFork, A, 0),
+            Step(What::GiveBottle, A, 0),
+            Step(What::Send, A, 0),
+            Step(What::Finish, A, 0),
+            Step(What::Finish, A, 0),
+        ],
+        "refused O2 NotOurs; ticket 1; done; done; done; done; done; refused O1 NotNow; refused O1 NotNow; done; refused O1 NotNow; refused O1 NotNow; refused O1 NotNow; refused O1 NotNow; done; refused O1 NotNow; 0.1 Done reads writes gives 1; ",
+    ),
+    (
+        PAIR,
+        TWO_OF_X,
+        &[
+            Step(What::Submit, A, 0),
+            Step(What::Submit, A, 1),
+            Step(What::Start, A, 0),
+            Step(What::Withdraw, A, 1),
+            Step(What::Withdraw, A, 1),
+            Step(What::Start, A, 0),
+            Step(What::Drink, A, 0),
+            Step(What::Withdraw, A, 2),
+            Step(What::Work, A, 100),
+            Step(What::Finish, A, 0),
+        ],
+        "ticket 1; ticket 2; done; done; refused O1 NotNow; done; done; refused O1 NotNow; done; done; 0.2 Done reads 0=100 writes gives 100; ",
+    ),
+];
+
+#[test]
+fn offices_do_as_the_rows_say(rt: HostRuntime) -> Result<(), Fail> {
+    for (plan, sessions, steps, expected) in &ROWS {
+        let told = played(rt.alloc(), plan, sessions, steps)?;
+        assert_eq!(rt; told.as_str(), *expected);
+    }
+    Ok(())
+}
+
+/// What the offices of the plan answer to these steps, and how their sessions end.
+fn played(alloc: Global, plan: &str, sessions: &str, steps: &[Step]) -> Result<String, Fail> {
+    let programs = programs(alloc, plan, sessions)?;
+    let mut text = String::new(alloc);
+    play(alloc, &mut text, plan, &programs, steps)?;
+    Ok(text)
+}
+
+fn play(
+    alloc: Global,
+    text: &mut String,
+    plan: &str,
+    programs: &[Program],
+    steps: &[Step],
+) -> Result<(), Fail> {
+    let mut offices = offices(alloc, plan)?;
+    take_steps(alloc, text, &mut offices, programs, steps)?;
+    describe_all(text, &offices)
+}
+
+fn take_steps(
+    alloc: Global,
+    text: &mut String,
+    offices: &mut Vec<Office>,
+    programs: &[Program],
+    steps: &[Step],
+) -> Result<(), Fail> {
+    let mut frames = Vec::new(alloc);
+    for step in steps {
+        take_step(text, offices, &mut frames, programs, *step)?;
+    }
+    Ok(())
+}
+
+/// Takes a step, tells what is answered, and keeps the frame that is made.
+fn take_step(
+    text: &mut String,
+    offices: &mut Vec<Office>,
+    frames: &mut Vec<Frame>,
+    programs: &[Program],
+    step: Step,
+) -> Result<(), Fail> {
+    let Step(what, at, n) = step;
+    let reply = match what {
+        What::Deliver => delivered(offices, frames, n as usize),
+        What::Next => return Ok(next(text, offices, at)?),
+        _ => match event_of(programs, step)? {
+            Some(event) => handed(offices, at, &event),
+            None => return Err(Fail::from("an event")),
+        },
+    };
+    if let Ok(Reply::Frame(frame)) = &reply {
+        frames.push(*frame)?;
+    }
+    Ok(tell(text, &reply)?)
+}
+
+/// An event is handed to an office.
+fn handed(offices: &mut Vec<Office>, at: usize, event: &Event) -> Result<Reply, Refusal> {
+    match offices.get_mut(at) {
+        Some(office) => office.step(0, event),
+        None => Err(Refusal::NotNow),
+    }
+}
+
+/// A frame goes over the wire to its addressee.
+fn delivered(offices: &mut Vec<Office>, frames: &[Frame], k: usize) -> Result<Reply, Refusal> {
+    let Some(frame) = frames.get(k.saturating_sub(1)) else {
+        return Err(Refusal::NotNow);
+    };
+    let mut bytes = [0; MAX_LENGTH];
+    let length = encode(frame, &mut bytes);
+    match offices.get_mut(frame.to() as usize) {
+        Some(office) => office.receive(0, &bytes[..length]),
+        None => Err(Refusal::NotNow),
+    }
+}
+
+/// The office does the rule that comes next, which is told.
+fn next(text: &mut String, offices: &mut Vec<Office>, at: usize) -> Result<(), AllocError> {
+    match next_rule(offices, at) {
+        Some(rule) => {
+            write!(text, "{rule:?} ")?;
+            tell(text, &handed(offices, at, &Event::Do(rule)))
+        }
+        None => text.push_str("none; "),
+    }
+}
+
+fn next_rule(offices: &[Office], at: usize) -> Option<Rule> {
+    match offices.get(at) {
+        Some(office) => office.next_rule(),
+        None => None,
+    }
+}
+
+pub fn event_of(programs: &[Program], step: Step) -> Result<Option<Event>, AllocError> {
+    let Step(what, at, n) = step;
+    match what {
+        What::Submit => match programs.get(n as usize) {
+            Some(program) => Ok(Some(Event::Submit(program.copy()?))),
+            None => Ok(None),
+        },
+        What::Send => Ok(Some(Event::Send(other(at), n as usize))),
+        What::Withdraw => Ok(Some(Event::Withdraw(n as u32))),
+        _ => Ok(rule_of(step).map(Event::Do)),
+    }
+}
+
+fn rule_of(step: Step) -> Option<Rule> {
+    let Step(what, at, n) = step;
+    match what {
+        What::Start => Some(Rule::Start),
+        What::Hungry => Some(Rule::Hungry),
+        What::AskFork => Some(Rule::AskFork(other(at))),
+        What::GiveFork => Some(Rule::GiveFork(other(at))),
+        What::Eat => Some(Rule::Eat),
+        What::Leave => Some(Rule::Leave),
+        What::AskBottle => Some(Rule::AskBottle(RecordId::new(n))),
+        What::GiveBottle => Some(Rule::GiveBottle(RecordId::new(n))),
+        What::Drink => Some(Rule::Drink),
+        What::Work => Some(Rule::Work(n)),
+        What::Finish => Some(Rule::Finish),
+        _ => None,
+    }
+}
+
+fn other(at: usize) -> OfficeId {
+    OfficeId::new(if at == A { 1 } else { 0 })
+}
+
+pub fn tell(text: &mut String, reply: &Result<Reply, Refusal>) -> Result<(), AllocError> {
+    match reply {
+        Ok(Reply::Ticket(ticket)) => write!(text, "ticket {ticket}; "),
+        Ok(Reply::Done) => text.push_str("done; "),
+        Ok(Reply::Frame(frame)) => tell_frame(text, frame),
+        Ok(Reply::Acked) => text.push_str("acked; "),
+        Ok(Reply::Taken) => text.push_str("taken; "),
+        Ok(Reply::Repeat) => text.push_str("repeat; "),
+        Ok(Reply::Kept) => text.push_str("kept; "),
+        Ok(Reply::Early) => text.push_str("early; "),
+        Err(refusal) => write!(text, "refused {refusal}; "),
+    }
+}
+
+fn tell_frame(text: &mut String, frame: &Frame) -> Result<(), AllocError> {
+    let number = frame.number();
+    let count = frame.count();
+    write!(text, "frame {number} {count}; ")
+}
+
+/// How the sessions of the offices ended.
+fn describe_all(text: &mut String, offices: &[Office]) -> Result<(), Fail> {
+    for office in offices {
+        describe(text, office.outcomes())?;
+    }
+    Ok(())
+}
