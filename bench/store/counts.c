@@ -15,12 +15,15 @@
 #include <unistd.h>
 
 /* In this order ring.py reads them. Times are nanoseconds of a clock that all processes share: when the first wait began, when the
- * last one that may take no time at all did, which an office asks for where it has more to do, and when the last message was sent. */
+ * last one that may take no time at all did, which an office asks for where it has more to do, and when the last message was sent.
+ * The last three are how long the calls between those two took: of sendto, of write, and of waits. */
 struct counts {
     uint64_t begun, worked_last, data_sent_last, datagrams_sent, datagrams_come, appends, appended_bytes, syncs, waits, allocations;
+    uint64_t sending, writing, waiting;
 };
 
 static struct counts none, *counts = &none;
+static struct took { uint64_t sending, writing, waiting; } took;
 
 static uint64_t now(void) {
     struct timespec at;
@@ -49,9 +52,15 @@ static void wait_begins(int most) {
             ++*there;
             while (*there < all) usleep(100);
         }
+        took = (struct took){0};
         counts->begun = now();
     }
-    if (!most) counts->worked_last = now();
+    if (!most) {
+        counts->worked_last = now();
+        counts->sending = took.sending;
+        counts->writing = took.writing;
+        counts->waiting = took.waiting;
+    }
 }
 
 #define NEXT(call) \
@@ -61,8 +70,11 @@ static void wait_begins(int most) {
 ssize_t sendto(int s, const void *from, size_t size, int flags, const struct sockaddr *at, socklen_t length) {
     NEXT(sendto);
     counts->datagrams_sent++;
-    if (size > 26) counts->data_sent_last = now();
-    return next(s, from, size, flags, at, length);
+    uint64_t from_then = now();
+    if (size > 26) counts->data_sent_last = from_then;
+    ssize_t sent = next(s, from, size, flags, at, length);
+    took.sending += now() - from_then;
+    return sent;
 }
 ssize_t recvfrom(int s, void *to, size_t size, int flags, struct sockaddr *at, socklen_t *length) {
     NEXT(recvfrom);
@@ -82,7 +94,10 @@ ssize_t write(int file, const void *from, size_t size) {
             counts->appended_bytes += size;
         }
     }
-    return next(file, from, size);
+    uint64_t from_then = now();
+    ssize_t written = next(file, from, size);
+    took.writing += now() - from_then;
+    return written;
 }
 int fdatasync(int file) {
     NEXT(fdatasync);
@@ -92,12 +107,18 @@ int fdatasync(int file) {
 int epoll_wait(int at, struct epoll_event *events, int most, int wait) {
     NEXT(epoll_wait);
     wait_begins(wait);
-    return next(at, events, most, wait);
+    uint64_t from_then = now();
+    int got = next(at, events, most, wait);
+    took.waiting += now() - from_then;
+    return got;
 }
 int poll(struct pollfd *files, nfds_t count, int wait) {
     NEXT(poll);
     wait_begins(wait);
-    return next(files, count, wait);
+    uint64_t from_then = now();
+    int got = next(files, count, wait);
+    took.waiting += now() - from_then;
+    return got;
 }
 void *malloc(size_t size) {
     NEXT(malloc);

@@ -85,9 +85,9 @@ def allocations(way, burst, count):
     def counts():
         try:
             with open(at, "rb") as file:
-                return struct.unpack("10Q", file.read())
+                return struct.unpack("13Q", file.read())
         except (FileNotFoundError, struct.error):
-            return (0,) * 10
+            return (0,) * 13
 
     def reached(which, count):
         end = time.monotonic() + 60

@@ -9,8 +9,8 @@ finish. FOLDER has what a run makes, so it says how fast a disk is.
 """
 import os, socket, sqlite3, struct, subprocess, sys, time
 
-OFFICES, EACH, RUNS = ("o0", "o1", "o2", "o3"), 1024, 5
-NAMES = ("begun", "worked_last", "data_sent_last", "datagrams_sent", "datagrams_come", "appends", "appended_bytes", "syncs", "waits", "allocations")
+OFFICES, EACH, RUNS = ("o0", "o1", "o2", "o3"), 1024, 15
+NAMES = ("begun", "worked_last", "data_sent_last", "datagrams_sent", "datagrams_come", "appends", "appended_bytes", "syncs", "waits", "allocations", "sending", "writing", "waiting")
 WAYS = {"without": [], "none": ["--sync", "none"], "data": ["--sync", "data"]}
 # A run is over when no message was sent for so many seconds. Others may take longer: so many times as many turns, and some more. A run
 # whose turns end before its sessions counts as longer than all others, so that medians stand as long as fewer than half are such.
@@ -184,11 +184,12 @@ def main():
                 runs[way].append(([], sqlite(way)))
     count = len(OFFICES) * EACH
     rate = lambda way: count / median(runs[way], lambda run: run[1])
-    print("| Store | Sessions a second | By those without | Turns | Appends | Syncs | Bytes appended | Runs cut short |")
-    print("|---|---|---|---|---|---|---|---|")
+    print("| Store | Sessions a second | By those without | Turns | Appends | Syncs | Bytes appended | Milliseconds of an office: sending, writing, waiting | Runs cut short |")
+    print("|---|---|---|---|---|---|---|---|---|")
     for way in WAYS:
         sums = {name: median(runs[way], lambda run: sum(it[name] for it in run[0])) for name in NAMES}
-        print(f"| {way} | {rate(way):.0f} | {rate(way) / rate('without'):.2f} | {sums['waits']:.0f} | {sums['appends']:.0f} | {sums['syncs']:.0f} | {sums['appended_bytes']:.0f} | {runs[way].count(None)} of {RUNS} |")
+        took = ", ".join(f"{sums[it] / len(OFFICES) / 1e6:.1f}" for it in ("sending", "writing", "waiting"))
+        print(f"| {way} | {rate(way):.0f} | {rate(way) / rate('without'):.2f} | {sums['waits']:.0f} | {sums['appends']:.0f} | {sums['syncs']:.0f} | {sums['appended_bytes']:.0f} | {took} | {runs[way].count(None)} of {RUNS} |")
         for counts, _ in filter(None, runs[way]):
             for it in counts:
                 if way == "data" and it["syncs"] != it["appends"]:
@@ -196,7 +197,7 @@ def main():
                 if way == "none" and it["syncs"]:
                     sys.exit(f"ring.py: {it['syncs']} syncs, where none are asked for")
     for mode in ("WAL", "DELETE"):
-        print(f"| SQLite, journal mode {mode} | {rate(mode):.0f} | {rate(mode) / rate('without'):.2f} | | | | | |")
+        print(f"| SQLite, journal mode {mode} | {rate(mode):.0f} | {rate(mode) / rate('without'):.2f} | | | | | | |")
 
 
 PROGRAM, LIBRARY, FOLDER = sys.argv[1:]
