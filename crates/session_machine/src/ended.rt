@@ -1,6 +1,6 @@
 //! How work ended.
 
-ghost use Rattle.std.specs.Prelude.{◌≡◌, [], IfOk};
+ghost use Rattle.std.specs.Prelude.{◌≡◌, [], false};
 ghost use Rattle.session_meaning.specs.Meaning.{ending_of};
 ghost use Rattle.session_machine.specs.refinement.Session.{step_of};
 ghost use Rattle.session_machine.specs.refinement.StateOfCode.{environment_of};
@@ -9,12 +9,12 @@ use crate::environment::Environment;
 use crate::spare::Spare;
 use crate::state::State;
 use session_meaning::{End, Ending, Gives, RecordValues};
-use std::alloc::{AllocError, Global};
+use std::alloc::Global;
 
 /// The ending of a session that ended like this in this state, and the memory of its work, which other work may use.
 ///
-/// What it wrote and gave is copied, in memory of just its size. Where there is none, it stays in the work's own, and that
-/// isn't left for other work.
+/// It takes no memory: what the session wrote stands where room was kept for it as the work began. So does what it gave, and
+/// then no memory is left for other work, since that needs room for as much.
 #[tactic(auto, using(crate::proofs::EndingParts::put_together))]
 pub fn closed(
     alloc: Global,
@@ -24,17 +24,16 @@ pub fn closed(
 ) -> (Ending, Option<Spare>)
     ensures { result.0 ≡ ending_of reads (step_of end (environment_of state.value.environment)) }
 {
-    let Ok(writes) = written(alloc, end, &state.environment) else {
+    if has_given(end, &state.environment) {
         return in_its_own(alloc, end, reads, state);
-    };
-    let Ok(gives) = given(alloc, end, &state.environment) else {
-        return in_its_own(alloc, end, reads, state);
-    };
+    }
+    let mut state = state;
+    let writes = written(alloc, end, &mut state.environment);
     let ending = Ending {
         end,
         reads,
         writes,
-        gives,
+        gives: Gives::new(alloc),
     };
     (ending, Some(Spare { state }))
 }
@@ -52,23 +51,23 @@ fn in_its_own(
     (ended(alloc, end, reads, environment), None)
 }
 
-/// What a session wrote that ended like this with this environment, in memory of its own.
-fn written(alloc: Global, end: End, environment: &Environment) -> Result<RecordValues, AllocError>
-    ensures { IfOk result (λ w. w ≡ (ending_of [] (step_of end (environment_of environment.now))).writes) }
+/// Whether the ending of a session that ended like this with this environment has values that it gave.
+fn has_given(end: End, environment: &Environment) -> bool
+    ensures { result ≡ false → [] ≡ (ending_of [] (step_of end (environment_of environment.now))).gives }
 {
     match end {
-        End::Done => Ok(environment.records.writes(alloc)?),
-        End::Refused(_) | End::Overflow => Ok(RecordValues::new(alloc)),
+        End::Done => !environment.gives.is_empty(),
+        End::Refused(_) | End::Overflow => false,
     }
 }
 
-/// What it gave, in memory of its own.
-fn given(alloc: Global, end: End, environment: &Environment) -> Result<Gives, AllocError>
-    ensures { IfOk result (λ g. g ≡ (ending_of [] (step_of end (environment_of environment.now))).gives) }
+/// What a session wrote that ended like this with this environment.
+fn written(alloc: Global, end: End, environment: &mut Environment) -> RecordValues
+    ensures { result ≡ (ending_of [] (step_of end (environment_of environment.old))).writes }
 {
     match end {
-        End::Done => Ok(Gives::of(Vec::from_slice(alloc, &environment.gives)?)),
-        End::Refused(_) | End::Overflow => Ok(Gives::new(alloc)),
+        End::Done => environment.records.take_writes(alloc),
+        End::Refused(_) | End::Overflow => RecordValues::new(alloc),
     }
 }
 

@@ -18,9 +18,8 @@
 //!
 //! Not said: how long an instruction takes on a machine, and anything of a step with the code of another program. The
 //! law asks for room (`HasRoom`), which `Code::of` tells of every program (clause `room`). That a step needs no memory
-//! isn't a clause: [`Work::step`] has no allocator and no answer for want of memory, and its contract holds in every
-//! case. The one that ends a session takes some where there is some, so that an ending is no larger than what it says;
-//! else the ending stays in the memory that the work began with.
+//! isn't a clause: [`Work::step`] has no answer for want of memory. What a session wrote and gave stands where room was
+//! kept for it as the work began; work that gave leaves no memory for other work, since that needs room for as much.
 #![tactic(auto)]
 
 mod counters;

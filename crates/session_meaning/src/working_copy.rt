@@ -2,8 +2,7 @@
 
 use crate::ending::RecordValues;
 use crate::slots::{
-    Slot, are_sorted, first_value, put_writes, set_slot, slots_in, slots_of, sorted_value,
-    with_room, writes_in,
+    Slot, are_sorted, first_value, set_slot, slots_in, slots_of, sorted_value, with_room, writes_in,
 };
 use bottle_values::Value;
 use office_map::RecordId;
@@ -113,12 +112,36 @@ impl WorkingCopy {
         set_slot(&mut self.slots, id, value);
     }
 
-    /// The records that were set, with their last values, in memory of their own.
-    pub fn writes(&self, alloc: Global) -> Result<RecordValues, AllocError>
-        ensures { IfOk result (λ v. v ≡ writes_of self.now) }
+    /// The records that were set, with their last values, in the memory that was kept for them: it takes none. The copy has no
+    /// record then, and its other memory.
+    pub fn take_writes(&mut self, alloc: Global) -> RecordValues
+        ensures writes { result ≡ writes_of self.old }
+        ensures none_left { self.new ≡ [] }
     {
-        let writes = writes_in(alloc, &self.slots)?;
-        Ok(RecordValues::of(writes))
+        let before = mem::replace(self, WorkingCopy::empty(alloc));
+        let (writes, left) = before.parted(alloc);
+        *self = left;
+        writes
+    }
+
+    /// The records that were set, with their last values, and the memory that is left.
+    fn parted(self, alloc: Global) -> (RecordValues, WorkingCopy)
+        ensures writes { result.0 ≡ writes_of self }
+        ensures none_left { result.1 ≡ [] }
+    {
+        let WorkingCopy {
+            mut slots,
+            is_sorted: _,
+            writes,
+        } = self;
+        let writes = writes_in(&slots, writes);
+        slots.clear();
+        let left = WorkingCopy {
+            slots,
+            is_sorted: false,
+            writes: Vec::new(alloc),
+        };
+        (RecordValues::of(writes), left)
     }
 
     /// The records that were set, with their last values, in the copy's own memory: it takes none.
@@ -128,10 +151,8 @@ impl WorkingCopy {
         let WorkingCopy {
             slots,
             is_sorted: _,
-            mut writes,
+            writes,
         } = self;
-        put_writes(&slots, &mut writes);
-        writes.shrink_to_fit();
-        RecordValues::of(writes)
+        RecordValues::of(writes_in(&slots, writes))
     }
 }
