@@ -43,9 +43,11 @@
 //! Tickets number the sessions as they were submitted, and none is given twice. Those of the finished sessions, of the current one and
 //! of those that wait rise in this order, with gaps where sessions were withdrawn.
 //!
+//! Of a record with an end here, no more than one message with its bottle waits for the other end ([`Office::waiting_value`], clause
+//! `once`).
+//!
 //! Not said: that a rule which may be done is done; that a session finishes; that bottles which were asked for don't come once their
-//! session is withdrawn; that no more than one message with a bottle waits, which is the channel's to say (`Channel::waiting`, clause
-//! `apart`).
+//! session is withdrawn.
 #![tactic(auto)]
 
 mod event;
