@@ -17,8 +17,8 @@ use std::sync::{Mutex, Wait};
 use std::thread::{Parker, sleep, yield_now};
 use std::time::{Duration, Instant};
 
-/// What is more than any wait for something that comes takes.
-const LONG: Duration = Duration::from_secs(10);
+/// More seconds than any wait for something that comes takes.
+const LONG: u64 = 10;
 
 /// The datagrams that came to a socket and weren't received, how long it was to wait, in milliseconds, whether its alarm is gone,
 /// where who waits at it sleeps, and whether one slept there for long.
@@ -53,11 +53,12 @@ impl Mailbox {
             yield_now();
             return;
         }
+        let long = Duration::from_secs(LONG);
         let Ok(before) = Instant::now(rt) else {
             return;
         };
-        self.sleeper.park_timeout(rt, LONG);
-        if before.elapsed(rt).is_ok_and(|slept| slept >= LONG) {
+        self.sleeper.park_timeout(rt, long);
+        if before.elapsed(rt).is_ok_and(|slept| slept >= long) {
             self.forgotten.store(1, Ordering::SeqCst);
         }
     }
