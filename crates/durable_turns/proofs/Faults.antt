@@ -1,8 +1,8 @@
 -- Why a turn broke off.
 use Rattle.std.proofs.Common.{◌≡◌, ℕ, ◌≤◌, inl, inr, Bool, false, List, length, sym, subst, ◌∙◌}
-use Rattle.site_core.specs.declared.event.Entry.{Entry}
-use Rattle.site_core.specs.declared.reply.Refusal.{Refusal}
-use Rattle.site_core.specs.declared.reply.Refusal.TheVariants as refusal
+use Rattle.office_journal.specs.declared.event.Entry.{Entry}
+use Rattle.office_journal.specs.declared.reply.Refusal.{Refusal}
+use Rattle.office_journal.specs.declared.reply.Refusal.TheVariants as refusal
 use Rattle.site_core.specs.Limits.{most_entries}
 use Rattle.site_core.specs.Journals.{Site, LacksRoom}
 use Rattle.locked_office.specs.Calls.{Key, DeskPass, office_with}

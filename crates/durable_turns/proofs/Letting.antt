@@ -8,7 +8,7 @@ use Rattle.std.proofs.lemmas.List.Concat.{flat_map-append}
 use Rattle.std.proofs.lemmas.Option.{slice_get_within}
 use Rattle.bottle_values.specs.ListLaws.{get_left}
 use Rattle.office_map.specs.PlanValue.{PlanValue}
-use Rattle.site_core.specs.declared.event.Entry.{Entry}
+use Rattle.office_journal.specs.declared.event.Entry.{Entry}
 use Rattle.site_core.specs.Journals.{Site, Receives}
 use Rattle.locked_office.specs.Calls.{Key, DeskPass, Does, Looks}
 use Rattle.journal_stores.specs.Stores.{Stands, IsFound, Finds}

@@ -1,6 +1,6 @@
 ghost use Rattle.std.specs.Prelude.{◌≡◌, ◌≤◌, ◌<◌, List, Some, false, length, IfOk, IfSome};
 ghost use Rattle.own_lock.specs.Passes.{IsOf, AreFresh, fresh_pass};
-ghost use Rattle.site_core.specs.declared.event.Entry.{Entry as EntryView};
+ghost use Rattle.office_journal.specs.declared.event.Entry.{Entry as EntryView};
 ghost use Rattle.locked_office.specs.Calls.{tag_of};
 ghost use Rattle.journal_texts.specs.Written.{journal_text};
 ghost use Rattle.durable_turns.specs.Letting.{StoreHas};

@@ -12,13 +12,13 @@ use Rattle.dining_core.specs.Diners.{ForkRule}
 use Rattle.dining_core.specs.Diners as forks
 use Rattle.drinking_core.specs.Drinkers.{BottleRule}
 use Rattle.drinking_core.specs.Drinkers as bottles
-use Rattle.site_core.specs.declared.rule.Rule.{Rule}
-use Rattle.site_core.specs.declared.rule.Rule.TheVariants as rule
-use Rattle.site_core.specs.declared.event.Event as office
-use Rattle.site_core.specs.declared.event.Event.TheVariants as event
-use Rattle.site_core.specs.declared.reply.Reply.{Reply}
-use Rattle.site_core.specs.declared.reply.Reply.TheVariants as reply
-use Rattle.site_core.specs.declared.reply.Refusal.TheVariants as refused
+use Rattle.office_journal.specs.declared.rule.Rule.{Rule}
+use Rattle.office_journal.specs.declared.rule.Rule.TheVariants as rule
+use Rattle.office_journal.specs.declared.event.Event as office
+use Rattle.office_journal.specs.declared.event.Event.TheVariants as event
+use Rattle.office_journal.specs.declared.reply.Reply.{Reply}
+use Rattle.office_journal.specs.declared.reply.Reply.TheVariants as reply
+use Rattle.office_journal.specs.declared.reply.Refusal.TheVariants as refused
 use Rattle.site_core.specs.Replies.{reply_to}
 use Rattle.site_core.specs.Pairs.{Pairs, is_thirsty, after_fork_rule, after_bottle_rule, frame_fault, arrival_of, arrived, after_frame, follows, as_arrival, after_taking}
 use Rattle.site_core.specs.Agenda.{Idle, is_full, submitted, first_needs, writes_of, is_waiting, is_gathering, without_waiting, with_current}

@@ -15,11 +15,11 @@ use Rattle.token_channel.specs.Ends.{is_shared}
 use Rattle.token_channel.specs.Channels.{breach_among, unless_breach}
 use Rattle.dining_core.specs.Worlds as tables
 use Rattle.drinking_core.specs.Worlds as bars
-use Rattle.site_core.specs.declared.rule.Rule.{Rule}
-use Rattle.site_core.specs.declared.rule.Rule.TheVariants as rule
-use Rattle.site_core.specs.declared.event.Event as office
-use Rattle.site_core.specs.declared.event.Event.TheVariants as event
-use Rattle.site_core.specs.declared.reply.Reply.{Reply}
+use Rattle.office_journal.specs.declared.rule.Rule.{Rule}
+use Rattle.office_journal.specs.declared.rule.Rule.TheVariants as rule
+use Rattle.office_journal.specs.declared.event.Event as office
+use Rattle.office_journal.specs.declared.event.Event.TheVariants as event
+use Rattle.office_journal.specs.declared.reply.Reply.{Reply}
 use Rattle.site_core.specs.Replies.{reply_to}
 use Rattle.site_core.specs.Pairs.{Pairs, held, fork_sends, bottle_sends, arrival_of, follows as followed_by}
 use Rattle.site_core.specs.Offices.{Office, answer, frame_on}

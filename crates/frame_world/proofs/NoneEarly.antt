@@ -9,11 +9,11 @@ use Rattle.window_link.specs.Windows as windows
 use Rattle.window_link.specs.Links.{brings}
 use Rattle.window_link.specs.Limits.{most_kept}
 use Rattle.window_link.specs.WindowLaws.{Stands, stands}
-use Rattle.site_core.specs.declared.event.Event as office
-use Rattle.site_core.specs.declared.event.Event.TheVariants as event
-use Rattle.site_core.specs.declared.reply.Reply.{Reply}
-use Rattle.site_core.specs.declared.reply.Reply.TheVariants as reply
-use Rattle.site_core.specs.declared.reply.Refusal.TheVariants as refused
+use Rattle.office_journal.specs.declared.event.Event as office
+use Rattle.office_journal.specs.declared.event.Event.TheVariants as event
+use Rattle.office_journal.specs.declared.reply.Reply.{Reply}
+use Rattle.office_journal.specs.declared.reply.Reply.TheVariants as reply
+use Rattle.office_journal.specs.declared.reply.Refusal.TheVariants as refused
 use Rattle.site_core.specs.Limits.{most_entries}
 use Rattle.site_core.specs.Replies.{reply_to}
 use Rattle.site_core.specs.Offices.{Office, Answer, answer}

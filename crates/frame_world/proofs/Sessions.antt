@@ -26,11 +26,11 @@ use Rattle.drinking_core.specs.declared.phase.Phase.TheVariants.{Tranquil, Thirs
 use Rattle.drinking_core.specs.Drinkers.{Drinker, is_drinking, is_thirsty, holds, is_served}
 use Rattle.drinking_core.specs.Drinkers as bottles
 use Rattle.session_agenda.specs.declared.session.Session.{Session}
-use Rattle.site_core.specs.declared.rule.Rule.{Rule}
-use Rattle.site_core.specs.declared.rule.Rule.TheVariants as rule
-use Rattle.site_core.specs.declared.event.Event as office
-use Rattle.site_core.specs.declared.event.Event.TheVariants as event
-use Rattle.site_core.specs.declared.reply.Reply.{Reply}
+use Rattle.office_journal.specs.declared.rule.Rule.{Rule}
+use Rattle.office_journal.specs.declared.rule.Rule.TheVariants as rule
+use Rattle.office_journal.specs.declared.event.Event as office
+use Rattle.office_journal.specs.declared.event.Event.TheVariants as event
+use Rattle.office_journal.specs.declared.reply.Reply.{Reply}
 use Rattle.site_core.specs.Pairs.{Pairs, held, frame_fault, arrival_of, drinker_after, after_frame, follows, as_arrival, after_kept, after_taking}
 use Rattle.site_core.specs.Agenda.{Current, Idle, Gathering, Working, is_working, first_needs, started, begun, worked, writes_of}
 use Rattle.site_core.specs.Offices.{Office, opened, may, act, is_ours, value_in, answer}

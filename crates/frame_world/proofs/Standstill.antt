@@ -25,8 +25,8 @@ use Rattle.drinking_core.specs.Drinkers.{Drinker}
 use Rattle.drinking_core.specs.Worlds as bars
 use Rattle.drinking_core.specs.Standstill as bars_rest
 use Rattle.session_agenda.specs.declared.session.Session.{Session}
-use Rattle.site_core.specs.declared.rule.Rule.{Rule}
-use Rattle.site_core.specs.declared.rule.Rule.TheVariants as rule
+use Rattle.office_journal.specs.declared.rule.Rule.{Rule}
+use Rattle.office_journal.specs.declared.rule.Rule.TheVariants as rule
 use Rattle.site_core.specs.Limits.{usual_piece}
 use Rattle.site_core.specs.Agenda.{Current, Idle, Gathering, Working, unfinished, is_working, may_work, ending_of, writes_of, first_needs}
 use Rattle.site_core.specs.Pairs.{Pairs, is_thirsty}

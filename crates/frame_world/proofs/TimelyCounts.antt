@@ -8,7 +8,7 @@ use Rattle.frame_codec.specs.Frame.{Fields}
 use Rattle.office_map.specs.PlanValue.{PlanValue}
 use Rattle.window_link.specs.Windows.{used}
 use Rattle.window_link.specs.Links.{LinkState}
-use Rattle.site_core.specs.declared.event.Entry.{Entry}
+use Rattle.office_journal.specs.declared.event.Entry.{Entry}
 use Rattle.site_core.specs.Offices.{Office, answer}
 use Rattle.site_core.specs.Journals.{Site, office_of, next_or}
 use Rattle.site_core.specs.Growing.{link_at, Grows, LinksOnlyGrow}

@@ -6,8 +6,8 @@ use Rattle.frame_codec.specs.Frame.{Fields}
 use Rattle.office_map.specs.PlanValue.{PlanValue, are_neighbours, neighbours_of}
 use Rattle.office_map.specs.Consistency.{IsAccepted}
 use Rattle.window_link.specs.Windows.{used}
-use Rattle.site_core.specs.declared.rule.Rule.{Rule}
-use Rattle.site_core.specs.declared.reply.Reply.TheVariants as reply
+use Rattle.office_journal.specs.declared.rule.Rule.{Rule}
+use Rattle.office_journal.specs.declared.reply.Reply.TheVariants as reply
 use Rattle.site_core.specs.Limits.{most_entries}
 use Rattle.site_core.specs.Agenda.{unfinished}
 use Rattle.site_core.specs.Offices.{may}

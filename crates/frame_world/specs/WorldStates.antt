@@ -3,10 +3,10 @@ use Rattle.std.specs.Prelude.{◌≡◌, ◌⊎◌, ℕ, List, [], ◌∷◌, �
 use Rattle.bottle_values.specs.Maps.{put}
 use Rattle.frame_codec.specs.Frame.{Fields}
 use Rattle.office_map.specs.PlanValue.{PlanValue}
-use Rattle.site_core.specs.declared.event.Event as office
-use Rattle.site_core.specs.declared.event.Event.TheVariants as event
-use Rattle.site_core.specs.declared.event.Entry.{Entry}
-use Rattle.site_core.specs.declared.reply.Reply.{Reply}
+use Rattle.office_journal.specs.declared.event.Event as office
+use Rattle.office_journal.specs.declared.event.Event.TheVariants as event
+use Rattle.office_journal.specs.declared.event.Entry.{Entry}
+use Rattle.office_journal.specs.declared.reply.Reply.{Reply}
 use Rattle.site_core.specs.Offices.{Office, answer}
 use Rattle.site_core.specs.Offices as site
 use Rattle.frame_world.specs.Worlds.{World, Finished, site_at, office_at, frames_of, finished_by}

@@ -1,7 +1,7 @@
 -- Which texts are the journals of a plan's offices, and which of them is refused.
 use Rattle.std.specs.Prelude.{◌≡◌, ◌<◌, ℕ, Bool, List, ◌∷◌, ◌++◌, length, map, get_or, Option, None, Some, Contains, IsPermutation, filter_map}
 use Rattle.office_map.specs.PlanValue.{PlanValue}
-use Rattle.site_core.specs.declared.event.Entry.{Entry}
+use Rattle.office_journal.specs.declared.event.Entry.{Entry}
 use Rattle.journal_texts.specs.JournalText.{IsJournal, IsFaultOf}
 use Rattle.journal_weave.specs.declared.given.GivenJournal.{GivenJournal}
 use Rattle.journal_audit.specs.declared.fault.GatherFault.{GatherFault}

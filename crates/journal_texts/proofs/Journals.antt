@@ -4,7 +4,7 @@ use Rattle.std.specs.Prelude.{IfOk, IfErr}
 use Rattle.std.proofs.lemmas.List.{map-append, append-nil}
 use Rattle.office_map.specs.PlanValue.{PlanValue}
 use Rattle.text_lines.specs.Text.{statements}
-use Rattle.site_core.specs.declared.event.Entry.{Entry}
+use Rattle.office_journal.specs.declared.event.Entry.{Entry}
 use Rattle.journal_texts.specs.declared.fault.JournalRule.{JournalRule}
 use Rattle.journal_texts.specs.declared.fault.JournalRule.TheVariants.{Journal}
 use Rattle.journal_texts.specs.declared.fault.JournalFault.{JournalFault}

@@ -9,7 +9,7 @@ use Rattle.std.proofs.lemmas.List.Elements.{All-head, All-tail, All-cons, All-ni
 use Rattle.office_map.specs.PlanValue.{PlanValue}
 use Rattle.office_map.specs.Consistency.{IsConsistent}
 use Rattle.text_lines.specs.Text.{is_plain}
-use Rattle.site_core.specs.declared.event.Entry.{Entry}
+use Rattle.office_journal.specs.declared.event.Entry.{Entry}
 use Rattle.run_words.specs.Words.{line_of_words}
 use Rattle.run_words.proofs.LinesOfWords.{line_of}
 use Rattle.journal_texts.specs.Written.{header_words, header_line, entry_words, entry_line, lines_of, journal_text}

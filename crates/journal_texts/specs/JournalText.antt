@@ -5,7 +5,7 @@ use Rattle.std.specs.Str.{bytes_eq}
 use Rattle.office_map.specs.PlanValue.{PlanValue, office_named}
 use Rattle.text_lines.specs.Text.{name_of, number_of, statements}
 use Rattle.office_map.specs.PlanText.{and_then, plain_words}
-use Rattle.site_core.specs.declared.event.Entry.{Entry}
+use Rattle.office_journal.specs.declared.event.Entry.{Entry}
 use Rattle.journal_texts.specs.declared.fault.JournalRule.{JournalRule}
 use Rattle.journal_texts.specs.declared.fault.JournalRule.TheVariants.{Journal, JournalHeader}
 use Rattle.journal_texts.specs.declared.fault.JournalRefusal.{JournalRefusal}

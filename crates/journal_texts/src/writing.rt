@@ -5,7 +5,7 @@ ghost use Rattle.std.specs.Fmt.{decimal};
 ghost use Rattle.std.specs.String.{string_bytes};
 ghost use Rattle.session_programs.specs.Program.{fits};
 ghost use Rattle.site_core.specs.Journals.{IsLegal};
-ghost use Rattle.site_core.specs.declared.event.Event.TheVariants as events;
+ghost use Rattle.office_journal.specs.declared.event.Event.TheVariants as events;
 ghost use Rattle.run_words.specs.Digits.{frame_digits};
 ghost use Rattle.run_words.specs.Words.{line_of_words};
 ghost use Rattle.journal_texts.specs.JournalText.{IsJournal};

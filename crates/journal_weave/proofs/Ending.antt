@@ -7,7 +7,7 @@ use Rattle.std.proofs.lemmas.List.Sums.{sum_by-cons}
 use Rattle.std.proofs.Math.Seq.{take-length}
 use Rattle.std.specs.declared.cmp.Ordering.{Ordering}
 use Rattle.office_map.specs.PlanValue.{PlanValue}
-use Rattle.site_core.specs.declared.event.Entry.{Entry}
+use Rattle.office_journal.specs.declared.event.Entry.{Entry}
 use Rattle.frame_world.specs.declared.event.WorldEvent.{WorldEvent}
 use Rattle.frame_world.specs.Worlds.{opening, run_of}
 use Rattle.journal_weave.specs.declared.given.GivenJournal.{GivenJournal}

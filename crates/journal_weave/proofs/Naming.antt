@@ -3,8 +3,8 @@ use Rattle.std.proofs.Common.{◌≡◌, ℕ, ◌<◌, ◌≤◌, Bool, true, fa
 use Rattle.std.specs.Prelude.{IsTrue, is_some, IfSome, ◌↔◌}
 use Rattle.std.proofs.lemmas.Bool.{cases_lt, false≢true}
 use Rattle.frame_codec.specs.Frame.{Fields}
-use Rattle.site_core.specs.declared.event.Event.TheVariants as event
-use Rattle.site_core.specs.declared.event.Entry.{Entry}
+use Rattle.office_journal.specs.declared.event.Event.TheVariants as event
+use Rattle.office_journal.specs.declared.event.Entry.{Entry}
 use Rattle.journal_weave.specs.declared.given.GivenJournal.{GivenJournal}
 use Rattle.journal_weave.specs.Given.{told_in, Stands, HasMade, TakesNext, Waits, IsNamed}
 use Rattle.journal_weave.proofs.Limits.{told_at, lines_past}

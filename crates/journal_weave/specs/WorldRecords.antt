@@ -4,7 +4,7 @@ use Rattle.std.specs.Prelude.{◌≡◌, ◌==◌, ◌↔◌, ℕ, Bool, IsTrue,
 use Rattle.frame_codec.specs.Frame.{Fields}
 use Rattle.office_map.specs.PlanValue.{PlanValue}
 use Rattle.office_map.specs.Consistency.{IsConsistent}
-use Rattle.site_core.specs.declared.event.Entry.{Entry}
+use Rattle.office_journal.specs.declared.event.Entry.{Entry}
 use Rattle.frame_world.specs.declared.event.WorldEvent.{WorldEvent}
 use Rattle.frame_world.specs.Worlds.{World, Finished, opening, run_of, AreAccepted}
 use Rattle.frame_world.specs.Ways.{bottles_of}

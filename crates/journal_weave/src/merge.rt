@@ -3,8 +3,8 @@
 ghost use Rattle.std.specs.Prelude.{◌≡◌, ◌+◌, ◌<◌, ◌≤◌, ◌^◌, ◌++◌, ◌∷◌, [], true, false, ℕ, List, length, map, get_or, set, IfOk, OnOk};
 ghost use Rattle.office_map.specs.PlanValue.{PlanValue};
 ghost use Rattle.frame_codec.specs.Frame.{Fields};
-ghost use Rattle.site_core.specs.declared.event.Entry.{Entry};
-ghost use Rattle.site_core.specs.declared.event.Event.TheVariants as events;
+ghost use Rattle.office_journal.specs.declared.event.Entry.{Entry};
+ghost use Rattle.office_journal.specs.declared.event.Event.TheVariants as events;
 ghost use Rattle.frame_world.specs.Worlds.{frames_of};
 ghost use Rattle.journal_weave.specs.refinement.Following.{AreLimits};
 ghost use Rattle.journal_weave.specs.refinement.Merging.{Knows, CannotCome, IsFound, IsPushed, GoesOn, IsMerged, IsStuck, IsTold};

@@ -10,13 +10,13 @@ use Rattle.session_meaning.specs.declared.ending.Outcome.{Outcome}
 use Rattle.token_channel.specs.declared.fault.ChannelFault.{ChannelFault}
 use Rattle.frame_codec.specs.Frame.{Fields}
 use Rattle.own_lock.specs.Entries.{tagged}
-use Rattle.site_core.specs.declared.rule.Rule.{Rule}
-use Rattle.site_core.specs.declared.rule.Rule.TheVariants as rule
-use Rattle.site_core.specs.declared.event.Event.{Event}
-use Rattle.site_core.specs.declared.event.Event.TheVariants.{Submit, Do, Send, Took, Withdraw}
-use Rattle.site_core.specs.declared.event.Entry.{Entry}
-use Rattle.site_core.specs.declared.reply.Reply.TheVariants as reply
-use Rattle.site_core.specs.declared.reply.Refusal.TheVariants as refusal
+use Rattle.office_journal.specs.declared.rule.Rule.{Rule}
+use Rattle.office_journal.specs.declared.rule.Rule.TheVariants as rule
+use Rattle.office_journal.specs.declared.event.Event.{Event}
+use Rattle.office_journal.specs.declared.event.Event.TheVariants.{Submit, Do, Send, Took, Withdraw}
+use Rattle.office_journal.specs.declared.event.Entry.{Entry}
+use Rattle.office_journal.specs.declared.reply.Reply.TheVariants as reply
+use Rattle.office_journal.specs.declared.reply.Refusal.TheVariants as refusal
 use Rattle.session_agenda.specs.declared.session.Session.{Session}
 use Rattle.site_core.specs.Pairs.{frame_fault}
 use Rattle.site_core.specs.Agenda.{Agenda, is_full, submitted, started}

@@ -7,11 +7,11 @@ use Rattle.office_map.specs.PlanValue.{are_neighbours}
 use Rattle.window_link.specs.Windows.{Sending, used}
 use Rattle.window_link.specs.Links.{LinkState, frame_of}
 use Rattle.own_lock.specs.Passes.{LockView}
-use Rattle.site_core.specs.declared.event.Event.TheVariants.{Send}
-use Rattle.site_core.specs.declared.reply.Reply.{Reply}
-use Rattle.site_core.specs.declared.reply.Reply.TheVariants.{Frame}
-use Rattle.site_core.specs.declared.reply.Refusal.{Refusal}
-use Rattle.site_core.specs.declared.reply.Refusal.TheVariants.{NotNow, JournalFull}
+use Rattle.office_journal.specs.declared.event.Event.TheVariants.{Send}
+use Rattle.office_journal.specs.declared.reply.Reply.{Reply}
+use Rattle.office_journal.specs.declared.reply.Reply.TheVariants.{Frame}
+use Rattle.office_journal.specs.declared.reply.Refusal.{Refusal}
+use Rattle.office_journal.specs.declared.reply.Refusal.TheVariants.{NotNow, JournalFull}
 use Rattle.site_core.specs.Limits.{most_entries}
 use Rattle.site_core.specs.Offices.{Office, Answer, frame_on, framed, answer}
 use Rattle.site_core.specs.Journals.{Site, IsLegal, office_of, noted, recorded, Steps, StepsAddTheirEntry}

@@ -1,10 +1,10 @@
 -- Rules that are done one after the other.
 use Rattle.std.proofs.Common.{◌≡◌, ℕ, ◌+◌, ◌<◌, List, [], ◌∷◌, ◌++◌, length, Some, Err, refl, sym, ap, subst, ◌∙◌, arith, append_assoc, append-nil, length-append}
-use Rattle.site_core.specs.declared.event.Event.TheVariants.{Do}
-use Rattle.site_core.specs.declared.event.Entry.{Entry}
-use Rattle.site_core.specs.declared.reply.Reply.{Reply}
-use Rattle.site_core.specs.declared.reply.Refusal.{Refusal}
-use Rattle.site_core.specs.declared.rule.Rule.{Rule}
+use Rattle.office_journal.specs.declared.event.Event.TheVariants.{Do}
+use Rattle.office_journal.specs.declared.event.Entry.{Entry}
+use Rattle.office_journal.specs.declared.reply.Reply.{Reply}
+use Rattle.office_journal.specs.declared.reply.Refusal.{Refusal}
+use Rattle.office_journal.specs.declared.rule.Rule.{Rule}
 use Rattle.site_core.specs.Journals.{Site, noted, Steps, LacksRoom}
 use Rattle.site_core.specs.RulesInTurn.{extended, next_at, AreNext}
 use Rattle.locked_office.specs.Advance.{Advances}

@@ -1,8 +1,8 @@
 -- What doing the rules that come next leaves, and what it answers.
 use Rattle.std.specs.Prelude.{◌≡◌, ℕ, ◌<◌, ◌≤◌, List, length, None, Some, Result, Ok, Err}
-use Rattle.site_core.specs.declared.event.Event.TheVariants.{Do}
-use Rattle.site_core.specs.declared.event.Entry.{Entry}
-use Rattle.site_core.specs.declared.rule.Rule.{Rule}
+use Rattle.office_journal.specs.declared.event.Event.TheVariants.{Do}
+use Rattle.office_journal.specs.declared.event.Entry.{Entry}
+use Rattle.office_journal.specs.declared.rule.Rule.{Rule}
 use Rattle.site_core.specs.Journals.{Site, Steps, LacksRoom}
 use Rattle.site_core.specs.RulesInTurn.{extended, next_at, AreNext}
 use Rattle.locked_office.specs.declared.advance.Stopped.{Stopped}

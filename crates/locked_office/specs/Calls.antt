@@ -2,7 +2,7 @@
 use Rattle.std.specs.Prelude.{◌≡◌, ℕ, false, List, ◌++◌}
 use Rattle.office_map.specs.PlanValue.{PlanValue}
 use Rattle.own_lock.specs.Passes.{PassView, LockView, IsOf, pass_after_take}
-use Rattle.site_core.specs.declared.event.Entry.{Entry}
+use Rattle.office_journal.specs.declared.event.Entry.{Entry}
 use Rattle.site_core.specs.Journals.{Site, IsLegal}
 
 -- whose desk it is: the plan and the number of its office

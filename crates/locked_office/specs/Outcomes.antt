@@ -2,8 +2,8 @@
 use Rattle.std.specs.Prelude.{ℕ, Option, Result, Ok, Err, if◌then◌else◌}
 use Rattle.office_map.specs.PlanValue.{are_neighbours}
 use Rattle.session_meaning.specs.declared.ending.Outcome.{Outcome}
-use Rattle.site_core.specs.declared.reply.Refusal.{Refusal}
-use Rattle.site_core.specs.declared.reply.Refusal.TheVariants.{NotNow}
+use Rattle.office_journal.specs.declared.reply.Refusal.{Refusal}
+use Rattle.office_journal.specs.declared.reply.Refusal.TheVariants.{NotNow}
 use Rattle.site_core.specs.Readers.{outcome_with, waiting_on}
 use Rattle.site_core.specs.Journals.{Site, office_of}
 

@@ -3,9 +3,9 @@ use Rattle.std.specs.Prelude.{◌≡◌, ℕ, ◌<◌, ◌≤◌, true, length, 
 use Rattle.frame_codec.specs.Frame.{Fields}
 use Rattle.office_map.specs.PlanValue.{are_neighbours}
 use Rattle.window_link.specs.Windows.{used}
-use Rattle.site_core.specs.declared.event.Event.TheVariants.{Send}
-use Rattle.site_core.specs.declared.reply.Reply.TheVariants.{Frame}
-use Rattle.site_core.specs.declared.reply.Refusal.{Refusal}
+use Rattle.office_journal.specs.declared.event.Event.TheVariants.{Send}
+use Rattle.office_journal.specs.declared.reply.Reply.TheVariants.{Frame}
+use Rattle.office_journal.specs.declared.reply.Refusal.{Refusal}
 use Rattle.site_core.specs.Journals.{Site, noted, LacksRoom}
 use Rattle.site_core.specs.Growing.{link_to}
 

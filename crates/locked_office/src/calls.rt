@@ -3,7 +3,7 @@
 ghost use Rattle.std.specs.Prelude.{◌≡◌, ◌≢◌, ◌+◌, ◌≤◌, ◌↔◌, ℕ, [], true, None, IsTrue, IfOk, IfSome, OnErr, length, take, drop};
 ghost use Rattle.own_lock.specs.Entries.{AddsOnly};
 ghost use Rattle.own_lock.specs.Passes.{IsOf};
-ghost use Rattle.site_core.specs.declared.event.Event.TheVariants as events;
+ghost use Rattle.office_journal.specs.declared.event.Event.TheVariants as events;
 ghost use Rattle.site_core.specs.Journals.{IsLegal, Steps, TakesRead};
 ghost use Rattle.site_core.specs.Growing.{link_to};
 ghost use Rattle.site_core.specs.Limits.{most_entries};

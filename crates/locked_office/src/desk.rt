@@ -4,7 +4,7 @@ ghost use Rattle.std.specs.Prelude.{◌≡◌, ◌≢◌, ◌+◌, ◌<◌, ◌�
 ghost use mathlib.Core.List.{IsPrefix};
 ghost use Rattle.own_lock.specs.Entries.{longer, tagged};
 ghost use Rattle.own_lock.specs.Passes.{IsOf, AreFresh, AreIdle};
-ghost use Rattle.site_core.specs.declared.event.Event.TheVariants as events;
+ghost use Rattle.office_journal.specs.declared.event.Event.TheVariants as events;
 ghost use Rattle.site_core.specs.Journals.{IsLegal, Steps, TakesRead, Receives};
 ghost use Rattle.site_core.specs.Limits.{most_entries};
 ghost use Rattle.locked_office.specs.Calls.{Stays, Does, Looks, tag_of, office_with};

@@ -5,10 +5,10 @@ use Rattle.std.proofs.lemmas.List.{length-map, take-take, take-append-le, take_a
 use Rattle.std.proofs.lemmas.Option.{slice_get_within}
 use Rattle.office_map.specs.PlanValue.{PlanValue}
 use Rattle.site_core.specs.Limits.{most_entries}
-use Rattle.site_core.specs.declared.event.Entry.{Entry}
-use Rattle.site_core.specs.declared.reply.Reply.{Reply}
-use Rattle.site_core.specs.declared.reply.Refusal.{Refusal}
-use Rattle.site_core.specs.declared.reply.Refusal.TheVariants as refusal
+use Rattle.office_journal.specs.declared.event.Entry.{Entry}
+use Rattle.office_journal.specs.declared.reply.Reply.{Reply}
+use Rattle.office_journal.specs.declared.reply.Refusal.{Refusal}
+use Rattle.office_journal.specs.declared.reply.Refusal.TheVariants as refusal
 use Rattle.site_core.specs.Offices.{Office, answer, opened}
 use Rattle.site_core.specs.Journals.{Site, office_of, run_of, after, noted, recorded}
 use Rattle.journal_weave.specs.Weaving.{untagged}

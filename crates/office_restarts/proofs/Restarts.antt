@@ -8,7 +8,7 @@ use Rattle.bottle_values.specs.MapLaws.{put_cases, put_other, put_at, put_same}
 use Rattle.frame_codec.specs.Frame.{Fields}
 use Rattle.office_map.specs.PlanValue.{PlanValue}
 use Rattle.office_map.specs.Consistency.{IsConsistent}
-use Rattle.site_core.specs.declared.event.Entry.{Entry}
+use Rattle.office_journal.specs.declared.event.Entry.{Entry}
 use Rattle.frame_world.specs.declared.event.WorldEvent.{WorldEvent}
 use Rattle.journal_weave.specs.Weaving.{untagged, IsWoven}
 use Rattle.journal_weave.specs.Laws.{WovenIsSerial}

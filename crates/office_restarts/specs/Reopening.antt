@@ -1,7 +1,7 @@
 -- Which entries are the journal of an office, and which are not.
 use Rattle.std.specs.Prelude.{ℕ, ◌+◌, ◌<◌, List, length, take}
 use Rattle.office_map.specs.PlanValue.{PlanValue}
-use Rattle.site_core.specs.declared.event.Entry.{Entry}
+use Rattle.office_journal.specs.declared.event.Entry.{Entry}
 use Rattle.site_core.specs.Journals.{Site, IsLegal}
 use Rattle.office_restarts.specs.declared.fault.ReopenFault.{ReopenFault}
 use Rattle.office_restarts.specs.declared.fault.ReopenFault.TheVariants as fault

@@ -1,7 +1,7 @@
 -- What begins a legal journal is one.
 use Rattle.std.proofs.Common.{ℕ, List, [], ◌∷◌, ◌++◌, arith, length-append}
 use Rattle.office_map.specs.PlanValue.{PlanValue}
-use Rattle.site_core.specs.declared.event.Entry.{Entry}
+use Rattle.office_journal.specs.declared.event.Entry.{Entry}
 use Rattle.site_core.specs.Offices.{Office, opened}
 use Rattle.site_core.specs.Journals.{after, AreAccepted, IsLegal}
 use Rattle.office_restarts.specs.Reopening.{site_with}

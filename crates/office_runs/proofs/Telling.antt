@@ -15,7 +15,7 @@ use Rattle.office_runs.specs.declared.report.Ran.{Ran}
 use Rattle.office_stations.specs.Rounds.{Standing, Goes, of_office}
 use Rattle.std.proofs.lemmas.List.{append-nil, map-append}
 use Rattle.site_core.specs.Journals.{Site, IsLegal}
-use Rattle.site_core.specs.declared.event.Entry.{Entry}
+use Rattle.office_journal.specs.declared.event.Entry.{Entry}
 use Rattle.journal_texts.specs.JournalText.{IsJournal}
 use Rattle.journal_texts.specs.Written.{journal_text}
 use Rattle.office_stations.specs.Sessions.{count_of, finished_of}

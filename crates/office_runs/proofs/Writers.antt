@@ -9,7 +9,7 @@ use mathlib.Core.List.{IsPrefix}
 use Rattle.own_lock.specs.Entries.{tagged}
 use Rattle.own_lock.specs.Passes.{LockView, fresh_pass}
 use Rattle.office_map.specs.PlanValue.{PlanValue}
-use Rattle.site_core.specs.declared.event.Entry.{Entry}
+use Rattle.office_journal.specs.declared.event.Entry.{Entry}
 use Rattle.site_core.specs.Offices.{Office}
 use Rattle.site_core.specs.Journals.{Site, AreAccepted, IsLegal, after}
 use Rattle.locked_office.specs.Calls.{Key, DeskPass, Looks, office_with, tag_of}

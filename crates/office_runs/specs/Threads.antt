@@ -1,8 +1,8 @@
 -- What the threads of an office do: one turns it, and one submits its sessions.
 use Rattle.std.specs.Prelude.{◌≡◌, ◌<◌, ℕ, zero, suc, Bool, List, [], ◌++◌, map, All, Option, None, Some}
 use Rattle.session_meaning.specs.ProgramValue.{ProgramValue}
-use Rattle.site_core.specs.declared.event.Event.TheVariants.{Submit}
-use Rattle.site_core.specs.declared.event.Entry.{Entry}
+use Rattle.office_journal.specs.declared.event.Event.TheVariants.{Submit}
+use Rattle.office_journal.specs.declared.event.Entry.{Entry}
 use Rattle.site_core.specs.Journals.{Site}
 use Rattle.own_lock.specs.Entries.{tagged}
 use Rattle.locked_office.specs.Calls.{Key, DeskPass, tag_of}

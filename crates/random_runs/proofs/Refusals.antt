@@ -14,13 +14,13 @@ use Rattle.session_machine.specs.Pieces.{ending_after}
 use Rattle.token_channel.specs.declared.fault.ChannelFault.{ChannelFault}
 use Rattle.drinking_core.specs.Drinkers as bottles
 use Rattle.session_agenda.specs.declared.session.Session.{Session}
-use Rattle.site_core.specs.declared.rule.Rule.{Rule}
-use Rattle.site_core.specs.declared.rule.Rule.TheVariants as rule
-use Rattle.site_core.specs.declared.event.Event as office
-use Rattle.site_core.specs.declared.event.Event.TheVariants as event
-use Rattle.site_core.specs.declared.reply.Reply.{Reply}
-use Rattle.site_core.specs.declared.reply.Reply.TheVariants as reply
-use Rattle.site_core.specs.declared.reply.Refusal.TheVariants as refused
+use Rattle.office_journal.specs.declared.rule.Rule.{Rule}
+use Rattle.office_journal.specs.declared.rule.Rule.TheVariants as rule
+use Rattle.office_journal.specs.declared.event.Event as office
+use Rattle.office_journal.specs.declared.event.Event.TheVariants as event
+use Rattle.office_journal.specs.declared.reply.Reply.{Reply}
+use Rattle.office_journal.specs.declared.reply.Reply.TheVariants as reply
+use Rattle.office_journal.specs.declared.reply.Refusal.TheVariants as refused
 use Rattle.site_core.specs.Limits.{most_entries, most_unfinished}
 use Rattle.site_core.specs.Pairs.{frame_fault}
 use Rattle.site_core.specs.Agenda.{Agenda, Current, Idle, Gathering, Working, unfinished, unfinished_current, is_full, submitted, first_needs, started, begun, worked, writes_of}

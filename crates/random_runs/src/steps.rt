@@ -1,7 +1,7 @@
 //! One step of a random run.
 
 ghost use Rattle.std.specs.Prelude.{◌≢◌, ◌<◌, ℕ, Err, OnOk, length};
-ghost use Rattle.site_core.specs.declared.reply.Refusal.TheVariants as refused;
+ghost use Rattle.office_journal.specs.declared.reply.Refusal.TheVariants as refused;
 ghost use Rattle.frame_world.specs.declared.refusal.WorldRefusal.TheVariants as refusal;
 ghost use Rattle.random_runs.specs.refinement.Steps.{Steps};
 

@@ -3,11 +3,11 @@ use Rattle.std.specs.Prelude.{◌≡◌, ◌≢◌, ◌<◌, ◌≤◌, ℕ, ◌
 use Rattle.std.specs.List.{range_with_len}
 use Rattle.session_meaning.specs.Needs.{needs_of}
 use Rattle.session_meaning.specs.ProgramValue.{ProgramValue}
-use Rattle.site_core.specs.declared.event.Event.{Event}
-use Rattle.site_core.specs.declared.event.Event.TheVariants.{Submit}
-use Rattle.site_core.specs.declared.event.Entry.{Entry}
-use Rattle.site_core.specs.declared.reply.Reply.{Reply}
-use Rattle.site_core.specs.declared.reply.Reply.TheVariants.{Ticket}
+use Rattle.office_journal.specs.declared.event.Event.{Event}
+use Rattle.office_journal.specs.declared.event.Event.TheVariants.{Submit}
+use Rattle.office_journal.specs.declared.event.Entry.{Entry}
+use Rattle.office_journal.specs.declared.reply.Reply.{Reply}
+use Rattle.office_journal.specs.declared.reply.Reply.TheVariants.{Ticket}
 use Rattle.site_core.specs.Journals.{Site, office_of}
 use Rattle.site_core.specs.Readers.{outcome_with}
 use Rattle.run_remarks.specs.declared.left.WaitsFor.{WaitsFor}

@@ -4,8 +4,8 @@ use Rattle.std.specs.List.{list_all}
 use Rattle.std.specs.Fmt.{decimal}
 use Rattle.office_map.specs.PlanValue.{PlanValue}
 use Rattle.office_map.specs.Consistency.{IsConsistent}
-use Rattle.site_core.specs.declared.rule.Rule.{Rule}
-use Rattle.site_core.specs.declared.rule.Rule.TheVariants as rule
+use Rattle.office_journal.specs.declared.rule.Rule.{Rule}
+use Rattle.office_journal.specs.declared.rule.Rule.TheVariants as rule
 use Rattle.run_words.specs.Words.{office_name, record_name, is_word}
 use Rattle.run_words.specs.Rules.{rule_of, rule_words, IsRuleOf, RulesReadBack}
 use Rattle.run_words.proofs.NamesAndNumbers.{number_word, count_again, office_word, office_again, record_word, record_again}

@@ -2,7 +2,7 @@
 
 ghost use Rattle.std.specs.Prelude.{◌≡◌, ◌<◌, ◌^◌, ◌++◌, OnOk, Some, None};
 ghost use Rattle.std.specs.String.{string_bytes};
-ghost use Rattle.site_core.specs.declared.reply.Reply.TheVariants as replies;
+ghost use Rattle.office_journal.specs.declared.reply.Reply.TheVariants as replies;
 ghost use Rattle.run_words.specs.Digits.{frame_digits, IsFrameWord};
 ghost use Rattle.run_words.specs.declared.digits.FrameWord.TheVariants as said;
 ghost use Rattle.run_words.specs.Words.{line_of_words};

@@ -12,8 +12,8 @@ use Rattle.text_lines.specs.Text.{number_of, lines, says_something, statements_f
 use Rattle.session_meaning.specs.ProgramValue.{ProgramValue}
 use Rattle.session_language.proofs.canonical.Lexemes.{number_again}
 use Rattle.session_language.proofs.canonical.TextLines.{plainly, first_statement_is}
-use Rattle.site_core.specs.declared.rule.Rule.{Rule}
-use Rattle.site_core.specs.declared.rule.Rule.TheVariants as rule
+use Rattle.office_journal.specs.declared.rule.Rule.{Rule}
+use Rattle.office_journal.specs.declared.rule.Rule.TheVariants as rule
 use Rattle.run_words.specs.Words.{office_name, office_by, is_word}
 use Rattle.run_words.specs.Rules.{rule_of, rule_words}
 use Rattle.run_words.proofs.LinesOfWords.{line_of, lines_are_cut}

@@ -6,11 +6,11 @@ use Rattle.std.specs.Option.{option_or}
 use Rattle.std.proofs.lemmas.Bool.{eq-eqb}
 use Rattle.frame_codec.specs.Frame.{Fields}
 use Rattle.office_map.specs.PlanValue.{PlanValue, are_neighbours}
-use Rattle.site_core.specs.declared.event.Event.TheVariants as event
-use Rattle.site_core.specs.declared.rule.Rule.{Rule}
-use Rattle.site_core.specs.declared.reply.Reply.{Reply}
-use Rattle.site_core.specs.declared.reply.Reply.TheVariants as reply
-use Rattle.site_core.specs.declared.reply.Refusal.TheVariants as refused
+use Rattle.office_journal.specs.declared.event.Event.TheVariants as event
+use Rattle.office_journal.specs.declared.rule.Rule.{Rule}
+use Rattle.office_journal.specs.declared.reply.Reply.{Reply}
+use Rattle.office_journal.specs.declared.reply.Reply.TheVariants as reply
+use Rattle.office_journal.specs.declared.reply.Refusal.TheVariants as refused
 use Rattle.site_core.specs.Limits.{most_entries}
 use Rattle.site_core.specs.Agenda.{unfinished}
 use Rattle.site_core.specs.Offices.{frame_on, framed}

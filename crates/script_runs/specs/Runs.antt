@@ -1,7 +1,7 @@
 -- What a script's acts do to a world, and what is said of each.
 use Rattle.std.specs.Prelude.{ℕ, zero, suc, ◌+◌, nat_lt, if◌then◌else◌, List, [], ◌∷◌, length, Option, None, Some, Result, Ok, Err}
-use Rattle.site_core.specs.declared.rule.Rule.{Rule}
-use Rattle.site_core.specs.declared.reply.Reply.{Reply}
+use Rattle.office_journal.specs.declared.rule.Rule.{Rule}
+use Rattle.office_journal.specs.declared.reply.Reply.{Reply}
 use Rattle.site_core.specs.RuleOrder.{next_rule}
 use Rattle.frame_world.specs.declared.event.WorldEvent.TheVariants as happening
 use Rattle.frame_world.specs.declared.refusal.WorldRefusal.{WorldRefusal}

@@ -7,7 +7,7 @@ use Rattle.office_map.specs.PlanValue.{PlanValue}
 use Rattle.text_lines.specs.Text.{number_of, statements}
 use Rattle.office_map.specs.PlanText.{and_then, plain_words}
 use Rattle.session_meaning.specs.ProgramValue.{ProgramValue}
-use Rattle.site_core.specs.declared.rule.Rule.{Rule}
+use Rattle.office_journal.specs.declared.rule.Rule.{Rule}
 use Rattle.run_words.specs.Words.{office_by, count_by}
 use Rattle.run_words.specs.Rules.{rule_named, rule_with}
 use Rattle.frame_world.specs.declared.event.WorldEvent.{WorldEvent}

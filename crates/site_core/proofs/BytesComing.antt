@@ -3,10 +3,10 @@ use Rattle.std.proofs.Common.{◌≡◌, ℕ, List, Option, None, Some, Result, 
 use Rattle.frame_codec.specs.Frame.{Fields}
 use Rattle.frame_codec.specs.Version01.{Spells}
 use Rattle.frame_codec.specs.declared.fault.FrameFault.{FrameFault}
-use Rattle.site_core.specs.declared.event.Event.TheVariants as event
-use Rattle.site_core.specs.declared.reply.Reply.{Reply}
-use Rattle.site_core.specs.declared.reply.Refusal.{Refusal}
-use Rattle.site_core.specs.declared.reply.Refusal.TheVariants as refusal
+use Rattle.office_journal.specs.declared.event.Event.TheVariants as event
+use Rattle.office_journal.specs.declared.reply.Reply.{Reply}
+use Rattle.office_journal.specs.declared.reply.Refusal.{Refusal}
+use Rattle.office_journal.specs.declared.reply.Refusal.TheVariants as refusal
 use Rattle.site_core.specs.Journals.{Site, Adds, Enters, TakesRead, StepsAddTheirEntry, ReadIsReceived}
 
 entered : (s s' : Site) (tag : ℕ) (bytes : List ℕ) (f : Fields) (result : Result Reply Refusal) → Spells bytes f → Adds s tag (event.Took f) result s' → Enters s tag bytes result s'

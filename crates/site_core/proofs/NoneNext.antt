@@ -5,8 +5,8 @@ use Rattle.std.proofs.lemmas.Bool.{eqb-true}
 use Rattle.bottle_values.specs.Lists.{is_among}
 use Rattle.office_map.specs.PlanValue.{PlanValue, are_neighbours, neighbours_of, records_of, is_end}
 use Rattle.office_map.specs.Consistency.{IsConsistent}
-use Rattle.site_core.specs.declared.rule.Rule.{Rule}
-use Rattle.site_core.specs.declared.rule.Rule.TheVariants as rule
+use Rattle.office_journal.specs.declared.rule.Rule.{Rule}
+use Rattle.office_journal.specs.declared.rule.Rule.TheVariants as rule
 use Rattle.dining_core.specs.Diners as forks
 use Rattle.drinking_core.specs.Drinkers as bottles
 use Rattle.session_agenda.specs.Limits.{longest_piece}

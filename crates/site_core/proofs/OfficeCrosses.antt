@@ -21,14 +21,14 @@ use Rattle.session_machine.proofs.work.Work.TheSendSync as work
 use Rattle.session_agenda.specs.contracts.session.Session as Session
 use Rattle.session_agenda.specs.contracts.agenda.Phase as Phase
 use Rattle.session_agenda.specs.contracts.agenda.Agenda as Agenda
-use Rattle.site_core.specs.contracts.event.Event as Event
-use Rattle.site_core.specs.contracts.event.Entry as Entry
-use Rattle.site_core.specs.contracts.journal.Journal as Journal
+use Rattle.office_journal.specs.contracts.event.Event as Event
+use Rattle.office_journal.specs.contracts.event.Entry as Entry
+use Rattle.office_journal.specs.contracts.journal.Journal as Journal
 use Rattle.site_core.specs.contracts.office.Office as Office
 use Rattle.neighbour_pairs.specs.contracts.channels.Channels as Channels
 use Rattle.neighbour_pairs.specs.contracts.pairs.Pairs as Pairs
-use Rattle.site_core.specs.contracts.reply.Reply as Reply
-use Rattle.site_core.specs.contracts.rule.Rule as Rule
+use Rattle.office_journal.specs.contracts.reply.Reply as Reply
+use Rattle.office_journal.specs.contracts.rule.Rule as Rule
 
 statement_send : IsSend Statement.the_row
 statement_send = search (send-Statement, condition.the_send, expression.the_send, record_id.the_send, sendable, crosses) depth 40

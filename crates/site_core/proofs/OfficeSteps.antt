@@ -4,18 +4,18 @@ use Rattle.std.specs.Prelude.{nat_le, All, IsOk, OnErr}
 use Rattle.office_map.specs.PlanValue.{PlanValue, are_neighbours}
 use Rattle.window_link.specs.Windows.{used}
 use Rattle.site_core.specs.Limits.{most_entries}
-use Rattle.site_core.specs.declared.event.Event.{Event}
-use Rattle.site_core.specs.declared.event.Event.TheVariants as event
-use Rattle.site_core.specs.declared.event.Entry.{Entry}
+use Rattle.office_journal.specs.declared.event.Event.{Event}
+use Rattle.office_journal.specs.declared.event.Event.TheVariants as event
+use Rattle.office_journal.specs.declared.event.Entry.{Entry}
 use Rattle.session_agenda.specs.declared.session.Session.{Session}
-use Rattle.site_core.specs.declared.reply.Reply.{Reply}
-use Rattle.site_core.specs.declared.reply.Reply.TheVariants as reply
-use Rattle.site_core.specs.declared.reply.Refusal.{Refusal}
-use Rattle.site_core.specs.declared.reply.Refusal.TheVariants as refusal
+use Rattle.office_journal.specs.declared.reply.Reply.{Reply}
+use Rattle.office_journal.specs.declared.reply.Reply.TheVariants as reply
+use Rattle.office_journal.specs.declared.reply.Refusal.{Refusal}
+use Rattle.office_journal.specs.declared.reply.Refusal.TheVariants as refusal
 use Rattle.frame_codec.specs.Frame.{Fields}
 use Rattle.session_meaning.specs.ProgramValue.{ProgramValue}
 use Rattle.window_link.specs.declared.arrival.Arrival.{Arrival}
-use Rattle.site_core.specs.Replies.{reply_to}
+use Rattle.office_journal.specs.Replies.{reply_to}
 use Rattle.neighbour_pairs.specs.Pairs.{Pairs, frame_fault, arrival_of, after_taking}
 use Rattle.neighbour_pairs.specs.Pairs as pairs
 use Rattle.session_agenda.specs.Agenda.{Agenda}

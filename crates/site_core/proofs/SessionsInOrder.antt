@@ -27,13 +27,13 @@ use Rattle.token_channel.specs.declared.fault.ChannelFault.{ChannelFault}
 use Rattle.drinking_core.specs.Drinkers.{Drinker}
 use Rattle.drinking_core.specs.Drinkers as bottles
 use Rattle.session_agenda.specs.declared.session.Session.{Session}
-use Rattle.site_core.specs.declared.rule.Rule.{Rule}
-use Rattle.site_core.specs.declared.rule.Rule.TheVariants as rule
-use Rattle.site_core.specs.declared.event.Event.{Event}
-use Rattle.site_core.specs.declared.event.Event.TheVariants as event
-use Rattle.site_core.specs.declared.event.Entry.{Entry}
-use Rattle.site_core.specs.declared.reply.Reply.TheVariants as reply
-use Rattle.site_core.specs.declared.reply.Refusal.TheVariants as refusal
+use Rattle.office_journal.specs.declared.rule.Rule.{Rule}
+use Rattle.office_journal.specs.declared.rule.Rule.TheVariants as rule
+use Rattle.office_journal.specs.declared.event.Event.{Event}
+use Rattle.office_journal.specs.declared.event.Event.TheVariants as event
+use Rattle.office_journal.specs.declared.event.Entry.{Entry}
+use Rattle.office_journal.specs.declared.reply.Reply.TheVariants as reply
+use Rattle.office_journal.specs.declared.reply.Refusal.TheVariants as refusal
 use Rattle.neighbour_pairs.specs.Pairs.{Pairs, bottle_came, drinker_after, frame_fault, after_taking}
 use Rattle.session_agenda.specs.Agenda.{Agenda, Current, Idle, Gathering, Working, submitted, without_waiting, started, first_needs, begun, worked, writes_of, outcome_of, outcome_as, with_current}
 use Rattle.session_agenda.specs.Agenda as agenda

@@ -5,13 +5,13 @@ use Rattle.std.proofs.lemmas.Bool.Decides.{nat_tests}
 use Rattle.frame_codec.specs.Frame.{Fields}
 use Rattle.office_map.specs.PlanValue.{PlanValue, are_neighbours}
 use Rattle.token_channel.specs.declared.fault.ChannelFault.{ChannelFault}
-use Rattle.site_core.specs.declared.rule.Rule.{Rule}
-use Rattle.site_core.specs.declared.event.Event.{Event}
-use Rattle.site_core.specs.declared.event.Event.TheVariants as event
-use Rattle.site_core.specs.declared.reply.Reply.{Reply}
-use Rattle.site_core.specs.declared.reply.Reply.TheVariants as reply
-use Rattle.site_core.specs.declared.reply.Refusal.{Refusal}
-use Rattle.site_core.specs.declared.reply.Refusal.TheVariants as refusal
+use Rattle.office_journal.specs.declared.rule.Rule.{Rule}
+use Rattle.office_journal.specs.declared.event.Event.{Event}
+use Rattle.office_journal.specs.declared.event.Event.TheVariants as event
+use Rattle.office_journal.specs.declared.reply.Reply.{Reply}
+use Rattle.office_journal.specs.declared.reply.Reply.TheVariants as reply
+use Rattle.office_journal.specs.declared.reply.Refusal.{Refusal}
+use Rattle.office_journal.specs.declared.reply.Refusal.TheVariants as refusal
 use Rattle.site_core.specs.Limits.{most_entries}
 use Rattle.neighbour_pairs.specs.Pairs.{frame_fault}
 use Rattle.session_agenda.specs.Agenda.{is_full, submitted}

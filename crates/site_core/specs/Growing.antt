@@ -3,7 +3,7 @@ use Rattle.std.specs.Prelude.{ℕ, ◌≤◌, List, ◌++◌}
 use Rattle.office_map.specs.PlanValue.{PlanValue}
 use Rattle.window_link.specs.Windows.{used}
 use Rattle.window_link.specs.Links.{LinkState}
-use Rattle.site_core.specs.declared.event.Entry.{Entry}
+use Rattle.office_journal.specs.declared.event.Entry.{Entry}
 use Rattle.site_core.specs.Journals.{Site, office_of}
 
 -- an office's link to v, at the end of its journal

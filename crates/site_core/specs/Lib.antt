@@ -1,7 +1,8 @@
 pub use Rattle.neighbour_pairs.specs.Pairs
 pub use Rattle.session_agenda.specs.Agenda
+pub use Rattle.office_journal.specs.Replies
+pub use Rattle.office_journal.specs.RefusalText
 pub mod Limits
-pub mod Replies
 pub mod Offices
 pub mod Journals
 pub mod JournalLaws
@@ -11,5 +12,4 @@ pub mod RulesInTurn
 pub mod Readers
 pub mod Tickets
 pub mod Growing
-pub mod RefusalText
 pub mod refinement

@@ -10,15 +10,15 @@ use Rattle.token_channel.specs.declared.fault.ChannelFault.{ChannelFault}
 use Rattle.dining_core.specs.Diners as forks
 use Rattle.drinking_core.specs.Drinkers.{Drinker}
 use Rattle.drinking_core.specs.Drinkers as bottles
-use Rattle.site_core.specs.declared.rule.Rule.{Rule}
-use Rattle.site_core.specs.declared.rule.Rule.TheVariants as rule
-use Rattle.site_core.specs.declared.event.Event.{Event}
-use Rattle.site_core.specs.declared.event.Event.TheVariants as event
-use Rattle.site_core.specs.declared.reply.Reply.{Reply}
-use Rattle.site_core.specs.declared.reply.Reply.TheVariants as reply
-use Rattle.site_core.specs.declared.reply.Refusal.{Refusal}
-use Rattle.site_core.specs.declared.reply.Refusal.TheVariants as refusal
-use Rattle.site_core.specs.Replies.{reply_to}
+use Rattle.office_journal.specs.declared.rule.Rule.{Rule}
+use Rattle.office_journal.specs.declared.rule.Rule.TheVariants as rule
+use Rattle.office_journal.specs.declared.event.Event.{Event}
+use Rattle.office_journal.specs.declared.event.Event.TheVariants as event
+use Rattle.office_journal.specs.declared.reply.Reply.{Reply}
+use Rattle.office_journal.specs.declared.reply.Reply.TheVariants as reply
+use Rattle.office_journal.specs.declared.reply.Refusal.{Refusal}
+use Rattle.office_journal.specs.declared.reply.Refusal.TheVariants as refusal
+use Rattle.office_journal.specs.Replies.{reply_to}
 pub use Rattle.neighbour_pairs.specs.Pairs.{frame_on}
 use Rattle.neighbour_pairs.specs.Pairs.{Pairs, is_thirsty, after_fork_rule, after_bottle_rule, frame_fault, arrival_of, after_taking}
 use Rattle.neighbour_pairs.specs.Pairs as pairs

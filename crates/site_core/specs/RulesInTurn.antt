@@ -1,9 +1,9 @@
 -- Rules that an office does one after the other, each the one that comes next.
 use Rattle.std.specs.Prelude.{◌≡◌, ℕ, List, [], ◌∷◌, ◌++◌, Option, Some, Err}
-use Rattle.site_core.specs.declared.event.Event.TheVariants.{Do}
-use Rattle.site_core.specs.declared.event.Entry.{Entry}
-use Rattle.site_core.specs.declared.reply.Refusal.{Refusal}
-use Rattle.site_core.specs.declared.rule.Rule.{Rule}
+use Rattle.office_journal.specs.declared.event.Event.TheVariants.{Do}
+use Rattle.office_journal.specs.declared.event.Entry.{Entry}
+use Rattle.office_journal.specs.declared.reply.Refusal.{Refusal}
+use Rattle.office_journal.specs.declared.rule.Rule.{Rule}
 use Rattle.site_core.specs.RuleOrder.{next_rule}
 use Rattle.site_core.specs.Journals.{Site, office_of, Steps, LacksRoom}
 

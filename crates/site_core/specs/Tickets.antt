@@ -3,8 +3,8 @@ use Rattle.std.specs.Prelude.{◌≡◌, ℕ, ◌<◌, ◌≤◌, true, false, L
 use Rattle.office_map.specs.PlanValue.{PlanValue}
 use Rattle.session_meaning.specs.declared.ending.Outcome.{Outcome}
 use Rattle.session_agenda.specs.declared.session.Session.{Session}
-use Rattle.site_core.specs.declared.event.Event.TheVariants.{Withdraw}
-use Rattle.site_core.specs.declared.event.Entry.{Entry}
+use Rattle.office_journal.specs.declared.event.Event.TheVariants.{Withdraw}
+use Rattle.office_journal.specs.declared.event.Entry.{Entry}
 use Rattle.session_agenda.specs.Agenda.{Agenda, Current, Idle, Gathering, Working}
 use Rattle.site_core.specs.Offices.{Office, may_withdraw}
 use Rattle.site_core.specs.Journals.{Site, office_of}

@@ -1,2 +1,1 @@
-pub mod JournalOfCode
 pub mod OfficeOfCode

@@ -2,8 +2,8 @@
 
 ghost use Rattle.site_core.specs.Journals.{IsLegal};
 
-use crate::event::Entry;
 use crate::office::Office;
+use office_journal::Entry;
 use office_map::{OfficeId, Plan};
 use own_lock::Kept;
 

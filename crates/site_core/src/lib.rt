@@ -29,7 +29,7 @@
 //!   which reply or refusal it gets, and that an accepted one adds its one entry and a refused one nothing.
 //! - What an office answers is `answer`, in `specs/Offices.antt`; `may` and `act` there are the guard and the effect of each [`Rule`].
 //!   What is shared with neighbours is that of `neighbour_pairs`, which says whose each row is; the sessions are those of
-//!   `session_agenda`, and a session's work is that of `session_machine`.
+//!   `session_agenda`, and a session's work is that of `session_machine`. Rules, events, replies and the journal are `office_journal`'s.
 //! - The journal is legal ([`Office::journal`]): each entry has the reply that the office gives there. [`Office::enabled`] tells a
 //!   rule's guard, [`Office::next_rule`] the first rule that may be done in the order of `specs/RuleOrder.antt`, and each reader what
 //!   the office at the end of its journal has.
@@ -50,21 +50,14 @@
 //! session is withdrawn.
 #![tactic(auto)]
 
-mod event;
-mod journal;
 mod kept;
 pub mod laws;
 mod limits;
 mod office;
 mod order;
-mod reply;
-mod rule;
 mod rules;
 
-pub use crate::event::{Entry, Event};
-pub use crate::journal::Journal;
-pub use crate::limits::{MAX_ENTRIES, USUAL_PIECE};
+pub use crate::limits::USUAL_PIECE;
 pub use crate::office::Office;
-pub use crate::reply::{Refusal, Reply};
-pub use crate::rule::Rule;
+pub use office_journal::{Entry, Event, Journal, MAX_ENTRIES, Refusal, Reply, Rule};
 pub use session_agenda::{LONGEST_PIECE, MAX_UNFINISHED, Session};

@@ -2,7 +2,7 @@
 
 ghost use Rattle.std.specs.Prelude.{◌≡◌, ◌+◌, ◌<◌, ◌≤◌, Some, None, true, false, [], length, IfOk, IfSome, IfNone, if◌then◌else◌};
 ghost use Rattle.std.specs.Option.{option_copied};
-ghost use Rattle.site_core.specs.declared.event.Event.TheVariants as events;
+ghost use Rattle.office_journal.specs.declared.event.Event.TheVariants as events;
 ghost use Rattle.office_map.specs.PlanValue.{are_neighbours, is_end, peer};
 ghost use Rattle.token_channel.specs.declared.thing.Thing.TheVariants as things;
 ghost use Rattle.token_channel.specs.Things.{count_carrying};
@@ -14,15 +14,12 @@ ghost use Rattle.site_core.specs.RuleOrder.{next_rule, IsAtRest};
 ghost use Rattle.site_core.specs.Readers.{outcome_with, waiting_on};
 ghost use Rattle.site_core.specs.Journals.{office_of, IsLegal, Steps, TakesRead, Receives};
 
-use crate::event::{Entry, Event};
-use crate::journal::Journal;
 use crate::laws::{none_next_is_at_rest, sessions_go_in_order, what_is_read_is_received};
-use crate::reply::{Refusal, Reply};
-use crate::rule::Rule;
 use crate::{order, rules};
 use bottle_values::Value;
 use frame_codec::{Frame, FrameFault, decode};
 use neighbour_pairs::Pairs;
+use office_journal::{Entry, Event, Journal, Refusal, Reply, Rule};
 use office_map::{OfficeId, Plan, RecordId};
 use session_agenda::Agenda;
 use session_meaning::Outcome;

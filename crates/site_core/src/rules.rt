@@ -4,20 +4,19 @@ ghost use Rattle.std.specs.Prelude.{◌≡◌, ◌↔◌, ◌<◌, ◌⊎◌, �
 ghost use Rattle.bottle_values.specs.Maps.{reads_of};
 ghost use Rattle.dining_core.specs.Diners as forks;
 ghost use Rattle.drinking_core.specs.refinement.Bars.{drinker_of};
-ghost use Rattle.site_core.specs.declared.rule.Rule.TheVariants as rules;
-ghost use Rattle.site_core.specs.declared.reply.Refusal.TheVariants as refusals;
+ghost use Rattle.office_journal.specs.declared.rule.Rule.TheVariants as rules;
+ghost use Rattle.office_journal.specs.declared.reply.Refusal.TheVariants as refusals;
 ghost use Rattle.session_agenda.specs.Agenda as sessions;
 ghost use Rattle.site_core.specs.Offices as offices;
 ghost use Rattle.neighbour_pairs.specs.refinement.PairsOfCode.{pairs_of, IsOf, HaveRoom};
 ghost use Rattle.session_agenda.specs.refinement.AgendaOfCode.{Means};
 ghost use Rattle.site_core.specs.refinement.OfficeOfCode.{office_at, Stands, AreOurs};
 
-use crate::reply::Refusal;
-use crate::rule::Rule;
 use bottle_values::Value;
 use dining_core::NotNow;
 use drinking_core::Bar;
 use neighbour_pairs::Pairs;
+use office_journal::{Refusal, Rule};
 use office_map::RecordId;
 use session_agenda::Agenda;
 use session_meaning::RecordValues;

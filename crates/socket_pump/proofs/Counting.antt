@@ -7,11 +7,11 @@ use Rattle.frame_codec.specs.Frame.{Fields}
 use Rattle.frame_codec.specs.Version01.{spelling}
 use Rattle.office_map.specs.PlanValue.{are_neighbours}
 use Rattle.window_link.specs.Links.{ack_frame_of}
-use Rattle.site_core.specs.declared.event.Event.TheVariants.{Send}
-use Rattle.site_core.specs.declared.reply.Reply.{Reply}
-use Rattle.site_core.specs.declared.reply.Reply.TheVariants.{Frame}
-use Rattle.site_core.specs.declared.reply.Refusal.{Refusal}
-use Rattle.site_core.specs.declared.reply.Refusal.TheVariants as refusal
+use Rattle.office_journal.specs.declared.event.Event.TheVariants.{Send}
+use Rattle.office_journal.specs.declared.reply.Reply.{Reply}
+use Rattle.office_journal.specs.declared.reply.Reply.TheVariants.{Frame}
+use Rattle.office_journal.specs.declared.reply.Refusal.{Refusal}
+use Rattle.office_journal.specs.declared.reply.Refusal.TheVariants as refusal
 use Rattle.site_core.specs.Limits.{most_entries}
 use Rattle.site_core.specs.Offices.{Answer, framed, answer}
 use Rattle.site_core.specs.Growing.{link_to}

@@ -4,10 +4,10 @@ use Rattle.frame_codec.specs.Frame.{Fields}
 use Rattle.frame_codec.specs.Version01.{Spells}
 use Rattle.frame_codec.specs.declared.fault.FrameFault.{FrameFault}
 use Rattle.office_map.specs.PlanValue.{are_neighbours}
-use Rattle.site_core.specs.declared.event.Event.TheVariants.{Took}
-use Rattle.site_core.specs.declared.reply.Reply.{Reply}
-use Rattle.site_core.specs.declared.reply.Refusal.{Refusal}
-use Rattle.site_core.specs.declared.reply.Refusal.TheVariants as refusal
+use Rattle.office_journal.specs.declared.event.Event.TheVariants.{Took}
+use Rattle.office_journal.specs.declared.reply.Reply.{Reply}
+use Rattle.office_journal.specs.declared.reply.Refusal.{Refusal}
+use Rattle.office_journal.specs.declared.reply.Refusal.TheVariants as refusal
 use Rattle.site_core.specs.Pairs.{frame_fault}
 use Rattle.site_core.specs.Offices.{answer, unless_faulty}
 use Rattle.neighbour_pairs.specs.PairLaws.{passed}

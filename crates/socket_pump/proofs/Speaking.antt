@@ -4,8 +4,8 @@ use Rattle.std.specs.Prelude.{◌%◌}
 use Rattle.std.proofs.lemmas.Bool.{cases_eq, eq-eqb, ne_eqb}
 use Rattle.office_map.specs.PlanValue.{are_neighbours}
 use Rattle.window_link.specs.Windows.{used}
-use Rattle.site_core.specs.declared.reply.Refusal.{Refusal}
-use Rattle.site_core.specs.declared.reply.Refusal.TheVariants.{NotNow}
+use Rattle.office_journal.specs.declared.reply.Refusal.{Refusal}
+use Rattle.office_journal.specs.declared.reply.Refusal.TheVariants.{NotNow}
 use Rattle.site_core.specs.Journals.{Site}
 use Rattle.site_core.specs.Readers.{waiting_on}
 use Rattle.site_core.specs.Growing.{link_at, LinksOnlyGrow}

@@ -8,8 +8,8 @@ use Rattle.frame_codec.specs.Version01.{spelling}
 use Rattle.window_link.specs.Windows.{used}
 use Rattle.own_lock.specs.Passes.{pass_after_take}
 use Rattle.site_core.specs.Limits.{most_entries}
-use Rattle.site_core.specs.declared.event.Entry.{Entry}
-use Rattle.site_core.specs.declared.reply.Refusal.{Refusal}
+use Rattle.office_journal.specs.declared.event.Entry.{Entry}
+use Rattle.office_journal.specs.declared.reply.Refusal.{Refusal}
 use Rattle.site_core.specs.Journals.{Site, LacksRoom}
 use Rattle.site_core.specs.Growing.{link_at, Grows, LinksOnlyGrow}
 use Rattle.locked_office.specs.Calls.{Key, DeskPass, office_with, pass_after_adding, Does}

@@ -1,6 +1,6 @@
 -- What a pass knows after calls at its desk begins with what it knew before.
 use Rattle.std.proofs.Common.{◌≡◌, ℕ, List, [], ◌∷◌, ◌++◌, ap, ◌∙◌, append_assoc}
-use Rattle.site_core.specs.declared.event.Entry.{Entry}
+use Rattle.office_journal.specs.declared.event.Entry.{Entry}
 use Rattle.site_core.specs.Journals.{Site}
 use Rattle.locked_office.specs.Calls.{Key, DeskPass, Does}
 use Rattle.socket_pump.specs.Chains.{Made, Sees, MakesFrame, Sends}

@@ -4,7 +4,7 @@ ghost use Rattle.std.specs.Prelude.{◌≡◌, ◌<◌, ◌≤◌, ◌%◌, ◌�
 ghost use Rattle.office_map.specs.PlanValue.{are_neighbours};
 ghost use Rattle.own_lock.specs.Passes.{IsOf};
 ghost use Rattle.frame_codec.specs.Version01.{spelling};
-ghost use Rattle.site_core.specs.declared.reply.Refusal.TheVariants as refusals;
+ghost use Rattle.office_journal.specs.declared.reply.Refusal.TheVariants as refusals;
 ghost use Rattle.locked_office.specs.Calls.{Stays};
 ghost use Rattle.socket_pump.specs.Wires.{Accepts};
 ghost use Rattle.socket_pump.specs.Last.{last_of};

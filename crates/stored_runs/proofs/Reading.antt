@@ -3,7 +3,7 @@ use Rattle.std.proofs.Common.{◌≡◌, ℕ, Bool, List, [], ◌∷◌, ◌++�
 use Rattle.std.specs.Prelude.{IfErr}
 use Rattle.office_map.specs.PlanValue.{PlanValue}
 use Rattle.session_meaning.specs.ProgramValue.{ProgramValue}
-use Rattle.site_core.specs.declared.event.Entry.{Entry}
+use Rattle.office_journal.specs.declared.event.Entry.{Entry}
 use Rattle.site_core.specs.Journals.{Site, IsLegal}
 use Rattle.journal_texts.specs.declared.fault.JournalRefusal.{JournalRefusal}
 use Rattle.journal_texts.specs.JournalText.{IsJournal, RefusesJournal, ATextIsOneJournal, AFaultyTextIsNoJournal}

@@ -5,9 +5,9 @@ use Rattle.std.proofs.Math.Seq.{drop-cons}
 use Rattle.std.proofs.lemmas.Option.{slice_get_within, get_or_from_slice_get}
 use Rattle.std.proofs.lemmas.List.Concat.{flat_map-append}
 use Rattle.session_meaning.specs.ProgramValue.{ProgramValue}
-use Rattle.site_core.specs.declared.event.Event.{Event}
-use Rattle.site_core.specs.declared.event.Event.TheVariants.{Submit}
-use Rattle.site_core.specs.declared.event.Entry.{Entry}
+use Rattle.office_journal.specs.declared.event.Event.{Event}
+use Rattle.office_journal.specs.declared.event.Event.TheVariants.{Submit}
+use Rattle.office_journal.specs.declared.event.Entry.{Entry}
 use Rattle.bottle_values.specs.ListLaws.{first_more}
 use Rattle.office_stations.specs.Rounds.{of_office}
 use Rattle.stored_runs.specs.Keeping.{submitted, submitted_by, IsFirstOther}

@@ -7,7 +7,7 @@ use Rattle.std.specs.String.{string_bytes}
 use Rattle.office_map.specs.PlanValue.{PlanValue}
 use Rattle.session_meaning.specs.ProgramValue.{ProgramValue}
 use Rattle.session_meaning.specs.declared.ending.Outcome.{Outcome}
-use Rattle.site_core.specs.declared.event.Entry.{Entry}
+use Rattle.office_journal.specs.declared.event.Entry.{Entry}
 use Rattle.locked_office.specs.Calls.{Key, DeskPass, Looks, office_with}
 use Rattle.session_reports.specs.Report.{outcome_line, unfinished_line}
 use Rattle.socket_pump.specs.Wires.{Account}

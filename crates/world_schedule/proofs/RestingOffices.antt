@@ -9,12 +9,12 @@ use Rattle.frame_codec.specs.Frame.{Fields}
 use Rattle.office_map.specs.PlanValue.{are_neighbours, neighbours_of}
 use Rattle.window_link.specs.Windows.{used}
 use Rattle.window_link.specs.Links.{LinkState, frame_of}
-use Rattle.site_core.specs.declared.event.Event as office
-use Rattle.site_core.specs.declared.event.Event.TheVariants as event
-use Rattle.site_core.specs.declared.rule.Rule.{Rule}
-use Rattle.site_core.specs.declared.reply.Reply.{Reply}
-use Rattle.site_core.specs.declared.reply.Reply.TheVariants as reply
-use Rattle.site_core.specs.declared.reply.Refusal.TheVariants as refused
+use Rattle.office_journal.specs.declared.event.Event as office
+use Rattle.office_journal.specs.declared.event.Event.TheVariants as event
+use Rattle.office_journal.specs.declared.rule.Rule.{Rule}
+use Rattle.office_journal.specs.declared.reply.Reply.{Reply}
+use Rattle.office_journal.specs.declared.reply.Reply.TheVariants as reply
+use Rattle.office_journal.specs.declared.reply.Refusal.TheVariants as refused
 use Rattle.site_core.specs.Growing.{LinksOnlyGrow}
 use Rattle.site_core.specs.Limits.{most_entries}
 use Rattle.site_core.specs.Offices.{Office, answer, framed, frame_on}

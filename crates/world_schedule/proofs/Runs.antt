@@ -8,12 +8,12 @@ use Rattle.frame_codec.specs.Frame.{Fields}
 use Rattle.office_map.specs.PlanValue.{PlanValue, are_neighbours}
 use Rattle.token_channel.specs.declared.fault.ChannelFault.{ChannelFault}
 use Rattle.site_core.specs.Limits.{most_entries}
-use Rattle.site_core.specs.declared.event.Event.{Event}
-use Rattle.site_core.specs.declared.event.Event.TheVariants as event
-use Rattle.site_core.specs.declared.reply.Reply.{Reply}
-use Rattle.site_core.specs.declared.reply.Reply.TheVariants as reply
-use Rattle.site_core.specs.declared.reply.Refusal as offices
-use Rattle.site_core.specs.declared.reply.Refusal.TheVariants as refused
+use Rattle.office_journal.specs.declared.event.Event.{Event}
+use Rattle.office_journal.specs.declared.event.Event.TheVariants as event
+use Rattle.office_journal.specs.declared.reply.Reply.{Reply}
+use Rattle.office_journal.specs.declared.reply.Reply.TheVariants as reply
+use Rattle.office_journal.specs.declared.reply.Refusal as offices
+use Rattle.office_journal.specs.declared.reply.Refusal.TheVariants as refused
 use Rattle.site_core.specs.Pairs.{frame_fault}
 use Rattle.site_core.specs.Agenda.{is_full, submitted}
 use Rattle.site_core.specs.Offices.{Office, may, act, may_withdraw, withdrawn, is_ours, answer, framed, frame_on, unless_faulty}

@@ -1,7 +1,7 @@
 -- What the reader holds of a line, and of the lines so far.
 use Rattle.std.specs.Prelude.{◌≡◌, ℕ, List, [], ◌∷◌, ◌++◌, Bool, true, false, Option, Some, None}
 use Rattle.office_map.specs.PlanValue.{PlanValue}
-use Rattle.site_core.specs.declared.event.Entry.{Entry}
+use Rattle.office_journal.specs.declared.event.Entry.{Entry}
 use Rattle.journal_texts.specs.declared.line.Told.{Told}
 use Rattle.journal_texts.specs.declared.line.Told.TheVariants.{AnEntry, NoFrame}
 use Rattle.journal_texts.specs.declared.fault.JournalFault.{JournalFault}

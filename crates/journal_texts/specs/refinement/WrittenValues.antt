@@ -4,9 +4,9 @@ use Rattle.frame_codec.specs.Frame.{Fields}
 use Rattle.office_map.specs.PlanValue.{PlanValue}
 use Rattle.session_programs.specs.Program.{fits, text_under}
 use Rattle.session_language.specs.Reading.{sessions_of}
-use Rattle.site_core.specs.declared.event.Event.{Event}
-use Rattle.site_core.specs.declared.event.Event.TheVariants as event
-use Rattle.site_core.specs.declared.event.Entry.{Entry}
+use Rattle.office_journal.specs.declared.event.Event.{Event}
+use Rattle.office_journal.specs.declared.event.Event.TheVariants as event
+use Rattle.office_journal.specs.declared.event.Entry.{Entry}
 use Rattle.run_words.specs.Digits.{digits_of, frame_digits, bytes_in, IsFrameWord}
 use Rattle.run_words.specs.Replies.{ReplyReadsBack}
 use Rattle.run_words.specs.declared.digits.FrameWord.TheVariants.{Spelled}

@@ -1,7 +1,7 @@
 -- How far an office follows a journal by itself.
 use Rattle.std.specs.Prelude.{◌≡◌, ℕ, ◌<◌, ◌≤◌, List, length, map, take, get_or, slice_get, Some, Ok}
 use Rattle.office_map.specs.PlanValue.{PlanValue}
-use Rattle.site_core.specs.declared.event.Entry.{Entry}
+use Rattle.office_journal.specs.declared.event.Entry.{Entry}
 use Rattle.site_core.specs.Journals.{Site, noted, step}
 use Rattle.journal_weave.specs.Weaving.{untagged}
 

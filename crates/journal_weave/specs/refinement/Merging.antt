@@ -4,10 +4,10 @@ use Rattle.std.specs.BTreeMap.{get}
 use Rattle.std.specs.declared.cmp.Ordering.{Ordering}
 use Rattle.office_map.specs.PlanValue.{PlanValue}
 use Rattle.frame_codec.specs.Frame.{Fields}
-use Rattle.site_core.specs.declared.event.Event.{Event}
-use Rattle.site_core.specs.declared.event.Event.TheVariants as event
-use Rattle.site_core.specs.declared.event.Entry.{Entry}
-use Rattle.site_core.specs.declared.reply.Reply.{Reply}
+use Rattle.office_journal.specs.declared.event.Event.{Event}
+use Rattle.office_journal.specs.declared.event.Event.TheVariants as event
+use Rattle.office_journal.specs.declared.event.Entry.{Entry}
+use Rattle.office_journal.specs.declared.reply.Reply.{Reply}
 use Rattle.frame_world.specs.declared.event.WorldEvent.{WorldEvent}
 use Rattle.frame_world.specs.declared.event.WorldEvent.TheVariants as happening
 use Rattle.frame_world.specs.Worlds.{World, opening, frames_of, run_of, AreAccepted}

@@ -1,7 +1,7 @@
 -- A pass that holds the office of its desk.
 use Rattle.std.specs.Prelude.{◌≡◌, true, List, ◌++◌}
 use Rattle.own_lock.specs.Passes.{LockView, IsOf, pass_after_take}
-use Rattle.site_core.specs.declared.event.Entry.{Entry}
+use Rattle.office_journal.specs.declared.event.Entry.{Entry}
 use Rattle.site_core.specs.Journals.{Site}
 use Rattle.locked_office.specs.Calls.{Key, DeskPass, pass_after_adding}
 

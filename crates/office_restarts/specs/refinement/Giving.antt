@@ -1,6 +1,6 @@
 -- An entry that an office gives next.
 use Rattle.std.specs.Prelude.{◌≡◌, ◌<◌, Ok}
-use Rattle.site_core.specs.declared.event.Entry.{Entry}
+use Rattle.office_journal.specs.declared.event.Entry.{Entry}
 use Rattle.site_core.specs.Journals.{Site, noted, step}
 
 -- the office accepts the event of an entry with the entry's tag, and its reply is the entry's

@@ -3,7 +3,7 @@ use Rattle.std.specs.Prelude.{◌≡◌, ◌<◌, ℕ, Bool, true, false, List, 
 use Rattle.std.specs.List.{flat_map}
 use mathlib.Core.List.{IsPrefix}
 use Rattle.office_map.specs.PlanValue.{PlanValue}
-use Rattle.site_core.specs.declared.event.Entry.{Entry}
+use Rattle.office_journal.specs.declared.event.Entry.{Entry}
 use Rattle.site_core.specs.Journals.{Site, IsLegal}
 use Rattle.own_lock.specs.Entries.{tagged}
 use Rattle.locked_office.specs.Calls.{Key, tag_of}

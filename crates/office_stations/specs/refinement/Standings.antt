@@ -1,7 +1,7 @@
 -- Where an office stands, in parts, and what came of one session.
 use Rattle.std.specs.Prelude.{◌≡◌, ℕ, Bool, true, false, Result, Ok, Err}
 use Rattle.session_meaning.specs.ProgramValue.{ProgramValue}
-use Rattle.site_core.specs.declared.reply.Refusal.TheVariants as refusal
+use Rattle.office_journal.specs.declared.reply.Refusal.TheVariants as refusal
 use Rattle.locked_office.specs.Calls.{Key, DeskPass}
 use Rattle.socket_pump.specs.Wires.{Account}
 use Rattle.socket_pump.specs.Turns.{Times}

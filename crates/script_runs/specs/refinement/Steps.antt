@@ -1,7 +1,7 @@
 -- What a step of a script answers, and the world after it.
 use Rattle.std.specs.Prelude.{◌≡◌, Option, None, Some, Result, Err, ◌⊎◌}
-use Rattle.site_core.specs.declared.reply.Reply.{Reply}
-use Rattle.site_core.specs.declared.reply.Refusal.TheVariants as refused
+use Rattle.office_journal.specs.declared.reply.Reply.{Reply}
+use Rattle.office_journal.specs.declared.reply.Refusal.TheVariants as refused
 use Rattle.frame_world.specs.declared.refusal.WorldRefusal.{WorldRefusal}
 use Rattle.frame_world.specs.declared.refusal.WorldRefusal.TheVariants as refusal
 use Rattle.frame_world.specs.Worlds as worlds

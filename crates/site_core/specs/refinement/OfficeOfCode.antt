@@ -1,6 +1,6 @@
 -- The office that the code keeps beside its journal.
 use Rattle.std.specs.Prelude.{◌≡◌, true, List, All}
-use Rattle.site_core.specs.declared.event.Entry.{Entry}
+use Rattle.office_journal.specs.declared.event.Entry.{Entry}
 use Rattle.site_core.specs.Journals.{Site, office_of, IsLegal}
 use Rattle.session_agenda.specs.declared.session.Session.{Session}
 use Rattle.session_agenda.specs.Agenda.{Agenda}

@@ -3,8 +3,8 @@ use Rattle.std.specs.Prelude.{◌≡◌, ℕ, ◌<◌, ◌⊎◌, ◌↔◌, Boo
 use Rattle.frame_codec.specs.Frame.{Fields}
 use Rattle.frame_codec.specs.declared.fault.FrameFault.{FrameFault}
 use Rattle.office_map.specs.PlanValue.{are_neighbours}
-use Rattle.site_core.specs.declared.reply.Reply.{Reply}
-use Rattle.site_core.specs.declared.reply.Refusal.{Refusal}
+use Rattle.office_journal.specs.declared.reply.Reply.{Reply}
+use Rattle.office_journal.specs.declared.reply.Refusal.{Refusal}
 use Rattle.locked_office.specs.Calls.{Key}
 use Rattle.socket_pump.specs.Chains.{Heard, BringsMessage, Brought, Made, Sent}
 

@@ -1,9 +1,9 @@
 -- What each function of a turn does of it.
 use Rattle.std.specs.Prelude.{◌≡◌, ℕ, ◌≤◌, ◌<◌, Bool, true, false, List, [], ◌∷◌, ◌++◌, length, Option, Some, None, Result, Ok, Err}
 use Rattle.frame_codec.specs.Frame.{Fields}
-use Rattle.site_core.specs.declared.reply.Reply.{Reply}
-use Rattle.site_core.specs.declared.reply.Reply.TheVariants.{Frame}
-use Rattle.site_core.specs.declared.reply.Refusal.{Refusal}
+use Rattle.office_journal.specs.declared.reply.Reply.{Reply}
+use Rattle.office_journal.specs.declared.reply.Reply.TheVariants.{Frame}
+use Rattle.office_journal.specs.declared.reply.Refusal.{Refusal}
 use Rattle.window_link.specs.Windows.{used}
 use Rattle.site_core.specs.Growing.{link_at}
 use Rattle.locked_office.specs.Calls.{Key, DeskPass, office_with}

@@ -1,6 +1,6 @@
 -- What reading a store says of its parts.
 use Rattle.std.specs.Prelude.{◌≡◌, ◌≢◌, ℕ, List}
-use Rattle.site_core.specs.declared.event.Entry.{Entry}
+use Rattle.office_journal.specs.declared.event.Entry.{Entry}
 use Rattle.office_map.specs.PlanValue.{PlanValue}
 use Rattle.site_core.specs.Journals.{Site, IsLegal}
 use Rattle.stored_runs.specs.declared.fault.KeptFault.{KeptFault}

@@ -3,7 +3,7 @@ use Rattle.std.specs.Prelude.{◌≡◌, ◌⊎◌, ◌≤◌, ℕ, List, length
 use Rattle.std.specs.List.{flat_map}
 use Rattle.std.specs.Io.KnownBytes.{Appends}
 use Rattle.office_map.specs.PlanValue.{PlanValue}
-use Rattle.site_core.specs.declared.event.Entry.{Entry}
+use Rattle.office_journal.specs.declared.event.Entry.{Entry}
 use Rattle.locked_office.specs.Calls.{Key}
 use Rattle.session_reports.specs.Report.{outcome_line}
 use Rattle.office_stations.specs.declared.fault.RunFault.TheVariants as run

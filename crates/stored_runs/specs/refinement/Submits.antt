@@ -1,8 +1,8 @@
 -- What looking for the sessions that are left says of its parts.
 use Rattle.std.specs.Prelude.{◌≡◌, ◌⊎◌, ◌≤◌, ◌==◌, ℕ, true, List, [], length, drop, slice_get, Some}
 use Rattle.session_meaning.specs.ProgramValue.{ProgramValue}
-use Rattle.site_core.specs.declared.event.Event.TheVariants.{Submit}
-use Rattle.site_core.specs.declared.event.Entry.{Entry}
+use Rattle.office_journal.specs.declared.event.Event.TheVariants.{Submit}
+use Rattle.office_journal.specs.declared.event.Entry.{Entry}
 use Rattle.office_stations.specs.Rounds.{of_office}
 use Rattle.stored_runs.specs.declared.fault.KeptFault.{KeptFault}
 use Rattle.stored_runs.specs.declared.fault.KeptFault.TheVariants.{Memory, Faulty, OtherSessions}

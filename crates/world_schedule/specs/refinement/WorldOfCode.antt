@@ -5,8 +5,8 @@ use Rattle.office_map.specs.PlanValue.{PlanValue}
 use Rattle.office_map.specs.Consistency.{IsAccepted}
 use Rattle.session_meaning.specs.declared.ending.End.TheVariants.{Done}
 use Rattle.session_meaning.specs.Tree.{Nothing}
-use Rattle.site_core.specs.declared.event.Event.{Event}
-use Rattle.site_core.specs.declared.event.Entry.{Entry}
+use Rattle.office_journal.specs.declared.event.Event.{Event}
+use Rattle.office_journal.specs.declared.event.Entry.{Entry}
 use Rattle.site_core.specs.Offices.{Office, opened}
 use Rattle.site_core.specs.Journals.{Site, office_of, after, IsLegal}
 use Rattle.frame_world.specs.Worlds.{World, Finished, silent, finished_by}

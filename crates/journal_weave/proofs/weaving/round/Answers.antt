@@ -1,6 +1,6 @@
 use Rattle.std.proofs.Common.{◌≡◌, ℕ, ◌<◌, List, length, get_or, sym, ap, subst, ◌∙◌, arith}
 use Rattle.office_map.specs.PlanValue.{PlanValue}
-use Rattle.site_core.specs.declared.event.Entry.{Entry}
+use Rattle.office_journal.specs.declared.event.Entry.{Entry}
 use Rattle.journal_weave.specs.declared.given.GivenJournal.{GivenJournal}
 use Rattle.journal_weave.specs.declared.merge.Merge.{Merge}
 use Rattle.journal_weave.specs.Given.{entries_in, told_in}

@@ -1,5 +1,5 @@
 use Rattle.std.proofs.Common.{sym, Ok, Err, rules}
-use Rattle.site_core.specs.declared.event.Event.TheVariants.{Do}
+use Rattle.office_journal.specs.declared.event.Event.TheVariants.{Do}
 use Rattle.locked_office.proofs.Walk.{one_more, stops}
 use Rattle.locked_office.proofs.advance.do_rules.Goals as goal
 

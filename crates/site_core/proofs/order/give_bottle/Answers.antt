@@ -3,7 +3,7 @@ use Rattle.std.specs.Prelude.{option_map}
 use Rattle.std.specs.List.{range_with_len}
 use Rattle.office_map.specs.PlanValue.{is_end}
 use Rattle.drinking_core.specs.Drinkers as bottles
-use Rattle.site_core.specs.declared.rule.Rule.TheVariants.{GiveBottle}
+use Rattle.office_journal.specs.declared.rule.Rule.TheVariants.{GiveBottle}
 use Rattle.site_core.specs.Offices.{may}
 use Rattle.site_core.specs.refinement.OfficeOfCode.{office_at}
 use Rattle.site_core.proofs.FirstRule.{first_kept}

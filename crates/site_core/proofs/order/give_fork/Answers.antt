@@ -3,7 +3,7 @@ use Rattle.std.specs.Prelude.{option_map}
 use Rattle.std.specs.List.{range_with_len}
 use Rattle.office_map.specs.PlanValue.{are_neighbours}
 use Rattle.dining_core.specs.Diners as forks
-use Rattle.site_core.specs.declared.rule.Rule.TheVariants.{GiveFork}
+use Rattle.office_journal.specs.declared.rule.Rule.TheVariants.{GiveFork}
 use Rattle.site_core.specs.Offices.{may}
 use Rattle.site_core.specs.refinement.OfficeOfCode.{office_at}
 use Rattle.site_core.proofs.FirstRule.{first_kept}

@@ -1,7 +1,7 @@
 use Rattle.std.proofs.Common.{sym, ◌∙◌, map, List, [], ◌∷◌, ◌++◌}
 use Rattle.office_map.specs.PlanValue.{records_of, neighbours_of}
-use Rattle.site_core.specs.declared.rule.Rule.{Rule}
-use Rattle.site_core.specs.declared.rule.Rule.TheVariants.{Start, Hungry, AskFork, GiveFork, Eat, Leave, AskBottle, GiveBottle, Drink, Work, Finish}
+use Rattle.office_journal.specs.declared.rule.Rule.{Rule}
+use Rattle.office_journal.specs.declared.rule.Rule.TheVariants.{Start, Hungry, AskFork, GiveFork, Eat, Leave, AskBottle, GiveBottle, Drink, Work, Finish}
 use Rattle.site_core.specs.Limits.{usual_piece}
 use Rattle.site_core.specs.Offices.{may}
 use Rattle.neighbour_pairs.specs.refinement.PairsOfCode.{PairsValue}

@@ -1,6 +1,6 @@
 use Rattle.std.proofs.Common.{rules, ◌≡◌, List, false, ap, subst, ◌∙◌}
 use Rattle.site_core.specs.Journals.{Site}
-use Rattle.site_core.specs.declared.event.Entry.{Entry}
+use Rattle.office_journal.specs.declared.event.Entry.{Entry}
 use Rattle.office_restarts.specs.Reopening.{IsNoJournal}
 use Rattle.journal_texts.specs.JournalText.{IsFaultOf}
 use Rattle.stored_runs.proofs.Reading.{faulty, without_end, not_given, unlike}

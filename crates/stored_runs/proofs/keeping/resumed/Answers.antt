@@ -1,5 +1,5 @@
 use Rattle.std.proofs.Common.{List, subst}
-use Rattle.site_core.specs.declared.event.Entry.{Entry}
+use Rattle.office_journal.specs.declared.event.Entry.{Entry}
 use Rattle.office_stations.specs.Rounds.{of_office}
 use Rattle.stored_runs.specs.Keeping.{submitted}
 use Rattle.stored_runs.specs.refinement.Submits.{IsOtherOf}

@@ -2,7 +2,7 @@ use Rattle.std.proofs.Common.{rules, ◌≡◌, ℕ, List, length, drop, Option,
 use mathlib.Core.List.{IsPrefix}
 use Rattle.std.specs.Result.{result_err}
 use Rattle.session_meaning.specs.declared.ending.Outcome.{Outcome}
-use Rattle.site_core.specs.declared.event.Entry.{Entry}
+use Rattle.office_journal.specs.declared.event.Entry.{Entry}
 use Rattle.locked_office.specs.Calls.{Key, DeskPass, office_with}
 use Rattle.socket_pump.specs.Last.{last_of}
 use Rattle.durable_turns.specs.Letting.{LetsOut}

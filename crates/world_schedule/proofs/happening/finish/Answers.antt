@@ -1,8 +1,8 @@
 use Rattle.std.proofs.Common.{◌≡◌, ◌<◌, ℕ, List, ◌++◌, ◌∷◌, [], length, map, get_or, Ok, Err, arith, ap, sym, ◌∙◌}
 use Rattle.std.proofs.lemmas.List.{get_or_read, length_push}
 use Rattle.site_core.specs.Journals.{Site, office_of}
-use Rattle.site_core.specs.declared.event.Event.TheVariants as event
-use Rattle.site_core.specs.declared.rule.Rule.TheVariants as rule
+use Rattle.office_journal.specs.declared.event.Event.TheVariants as event
+use Rattle.office_journal.specs.declared.rule.Rule.TheVariants as rule
 use Rattle.frame_world.specs.declared.refusal.WorldRefusal.TheVariants as refusal
 use Rattle.world_schedule.specs.refinement.Handing.{passed_on}
 use Rattle.world_schedule.specs.Readers.{listed_as}

@@ -1,5 +1,5 @@
 use Rattle.std.proofs.Common.{Ok, Err, arith, ap, sym}
-use Rattle.site_core.specs.declared.event.Event.TheVariants as event
+use Rattle.office_journal.specs.declared.event.Event.TheVariants as event
 use Rattle.frame_world.specs.declared.refusal.WorldRefusal.TheVariants as refusal
 use Rattle.world_schedule.specs.refinement.Handing.{passed_on}
 use Rattle.world_schedule.proofs.Asking.{asked, asked_and_refused}

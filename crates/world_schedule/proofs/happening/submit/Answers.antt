@@ -1,5 +1,5 @@
 use Rattle.std.proofs.Common.{arith}
-use Rattle.site_core.specs.declared.event.Event.TheVariants as event
+use Rattle.office_journal.specs.declared.event.Event.TheVariants as event
 use Rattle.world_schedule.proofs.Asking.{asked}
 use Rattle.world_schedule.proofs.happening.submit.Goals as goal
 

@@ -1,7 +1,7 @@
 use Rattle.std.proofs.Common.{◌≡◌, ℕ, ◌-◌, ◌<◌, ◌≤◌, List, length, get_or}
 use Rattle.journal_weave.specs.contracts.key.FrameKeyOrd.TheImpl.{cmp-value}
 use Rattle.office_map.specs.PlanValue.{PlanValue}
-use Rattle.site_core.specs.declared.event.Entry.{Entry}
+use Rattle.office_journal.specs.declared.event.Entry.{Entry}
 use Rattle.journal_weave.specs.refinement.Following.{AreLimits}
 use Rattle.journal_weave.specs.refinement.Merging.{IsMerged, IsTold}
 use Rattle.journal_weave.proofs.merge.Merge.advance.Given as goal

@@ -1,6 +1,6 @@
 use Rattle.std.proofs.Common.{Err, cond, refl, ap, subst, ◌∙◌, ◌++◌, ◌∷◌, []}
-use Rattle.site_core.specs.declared.event.Event.TheVariants as event
-use Rattle.site_core.specs.declared.reply.Refusal.TheVariants as refusal
+use Rattle.office_journal.specs.declared.event.Event.TheVariants as event
+use Rattle.office_journal.specs.declared.reply.Refusal.TheVariants as refusal
 use Rattle.site_core.specs.Offices.{may, act}
 use Rattle.site_core.specs.Journals.{Steps}
 use Rattle.site_core.specs.refinement.OfficeOfCode.{site_of}

@@ -1,6 +1,6 @@
 use Rattle.std.proofs.Common.{ap, sym, ◌∙◌, ◌++◌, ◌∷◌, [], arith, rules}
-use Rattle.site_core.specs.declared.event.Event.TheVariants as event
-use Rattle.site_core.specs.declared.reply.Reply.TheVariants as reply
+use Rattle.office_journal.specs.declared.event.Event.TheVariants as event
+use Rattle.office_journal.specs.declared.reply.Reply.TheVariants as reply
 use Rattle.site_core.proofs.OfficeSteps.{few_tickets, submitted_session, not_err}
 use Rattle.site_core.proofs.office.Office.submit.Goals as goal
 

@@ -1,5 +1,5 @@
 use Rattle.std.proofs.Common.{Ok, ap, sym, subst, ◌∙◌, ◌++◌, ◌∷◌, [], rules}
-use Rattle.site_core.specs.declared.event.Event.TheVariants as event
+use Rattle.office_journal.specs.declared.event.Event.TheVariants as event
 use Rattle.site_core.specs.Journals.{Steps}
 use Rattle.site_core.specs.refinement.OfficeOfCode.{site_of}
 use Rattle.site_core.proofs.OfficeSteps.{taken_frame, taken_steps, not_err}

@@ -1,6 +1,6 @@
 use Rattle.std.proofs.Common.{◌≡◌, Some, ap, sym, subst, ◌∙◌}
 use Rattle.frame_codec.specs.Frame.{Fields}
-use Rattle.site_core.specs.declared.event.Event.TheVariants as event
+use Rattle.office_journal.specs.declared.event.Event.TheVariants as event
 use Rattle.frame_world.specs.declared.event.WorldEvent.TheVariants as happening
 use Rattle.frame_world.specs.Worlds.{World, OrMemory, handed, delivered, frame_at}
 use Rattle.world_schedule.specs.refinement.WorldOfCode.{world_in}

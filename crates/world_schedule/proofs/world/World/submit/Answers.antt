@@ -1,5 +1,5 @@
 use Rattle.std.proofs.Common.{refl, subst}
-use Rattle.site_core.specs.declared.event.Event.TheVariants as event
+use Rattle.office_journal.specs.declared.event.Event.TheVariants as event
 use Rattle.frame_world.specs.declared.event.WorldEvent.TheVariants as happening
 use Rattle.frame_world.specs.Worlds.{OrMemory, handed}
 use Rattle.world_schedule.specs.refinement.WorldOfCode.{world_in}

@@ -3,8 +3,8 @@
 ghost use Rattle.std.specs.Prelude.{◌≡◌, ◌≢◌, ◌<◌, ◌↔◌, ◌⊎◌, ◌++◌, ◌∷◌, [], length, take, drop, true, Err, IfOk, IfErr, OnOk, OnErr, nat_le};
 ghost use Rattle.std.specs.List.{slice_get};
 ghost use Rattle.std.specs.Option.{option_copied};
-ghost use Rattle.site_core.specs.Limits.{most_entries};
-ghost use Rattle.site_core.specs.declared.reply.Refusal.TheVariants as refusals;
+ghost use Rattle.office_journal.specs.Limits.{most_entries};
+ghost use Rattle.office_journal.specs.declared.reply.Refusal.TheVariants as refusals;
 
 use crate::event::Entry;
 use crate::limits::MAX_ENTRIES;
@@ -24,7 +24,7 @@ impl Model for Journal {
     ghost use Rattle.std.specs.Coded.{Coded, codes};
     ghost use Rattle.session_meaning.specs.declared.node.Node.{Node};
     ghost use Rattle.session_meaning.specs.refinement.TreeEncoding.{Mark, term_code, block_code};
-    ghost use Rattle.site_core.specs.refinement.JournalOfCode.{JournalValue};
+    ghost use Rattle.office_journal.specs.refinement.JournalOfCode.{JournalValue};
 
     ghost Value = { JournalValue };
 
@@ -35,7 +35,7 @@ impl Model for Journal {
 
 impl Journal {
     /// No entry yet.
-    pub(crate) fn new(alloc: Global) -> Journal
+    pub fn new(alloc: Global) -> Journal
         ensures { result.entries ≡ [] }
     {
         Journal {
@@ -72,7 +72,7 @@ impl Journal {
     ///
     /// # Errors
     /// `JournalFull` where no entry more is taken, or `Memory`. The entries stay.
-    pub(crate) fn make_room(&mut self) -> Result<(), Refusal>
+    pub fn make_room(&mut self) -> Result<(), Refusal>
         ensures full { (result ≡ Err refusals.JournalFull) ↔ (nat_le most_entries (length self.old.entries) ≡ true) }
         ensures known { IfErr result (λ e. (e ≡ refusals.JournalFull) ⊎ (e ≡ refusals.Memory)) }
         ensures room { OnOk result (0 < self.new.room) }
@@ -86,7 +86,7 @@ impl Journal {
     }
 
     /// Adds an entry at the end.
-    pub(crate) fn push(&mut self, entry: Entry)
+    pub fn push(&mut self, entry: Entry)
         requires { 0 < self.old.room }
         ensures { self.new.entries ≡ self.old.entries ++ entry ∷ [] }
     {

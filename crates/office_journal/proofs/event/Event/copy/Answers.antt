@@ -1,5 +1,5 @@
 use Rattle.std.proofs.Common.{sym}
-use Rattle.site_core.proofs.event.Event.copy.Goals as goal
+use Rattle.office_journal.proofs.event.Event.copy.Goals as goal
 
 pub returns-in-Send : goal.returns-in-Send
 returns-in-Send c = sym c.in-Send.is

@@ -2,7 +2,7 @@
 
 use office_map::{OfficeId, RecordId};
 
-/// A rule of an office. Its guard is `may`, and its effect `act`, in `specs/Offices.antt`.
+/// A rule of an office. Its guard is `may`, and its effect `act`, in `specs/Offices.antt` of `site_core`.
 #[derive(Clone, Copy, Debug, PartialEq, Eq)]
 pub enum Rule {
     /// The first waiting session becomes the current one.

@@ -3,8 +3,8 @@ use Rattle.std.specs.Prelude.{ℕ, List, codes}
 use Rattle.frame_codec.specs.FaultText as frames
 use Rattle.token_channel.specs.FaultText as channels
 use Rattle.dining_core.specs.FaultText.{not_now_text}
-use Rattle.site_core.specs.declared.reply.Refusal.{Refusal}
-use Rattle.site_core.specs.declared.reply.Refusal.TheVariants.{Frame, Channel, NotNow, NotOurs, QueueFull, JournalFull, Memory}
+use Rattle.office_journal.specs.declared.reply.Refusal.{Refusal}
+use Rattle.office_journal.specs.declared.reply.Refusal.TheVariants.{Frame, Channel, NotNow, NotOurs, QueueFull, JournalFull, Memory}
 
 -- the code and the name of an office's refusal
 abbrev pub refusal_text : Refusal → List ℕ

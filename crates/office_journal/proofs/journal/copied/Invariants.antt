@@ -1,5 +1,5 @@
 use Rattle.std.proofs.Common.{◌≡◌, take}
-use Rattle.site_core.proofs.journal.copied.Given as goal
+use Rattle.office_journal.proofs.journal.copied.Given as goal
 
 abbrev pub invariant-loop-entry : goal.invariant-loop-entry
 invariant-loop-entry l = l.copies.items ≡ take l.entry-index l.entries

@@ -1,9 +1,9 @@
 //! What an office answers.
 
-ghost use Rattle.site_core.specs.RefusalText.{refusal_text};
+ghost use Rattle.office_journal.specs.RefusalText.{refusal_text};
 ghost use Rattle.std.specs.Prelude.{◌≡◌, Some};
-ghost use Rattle.site_core.specs.Replies.{reply_to};
-ghost use Rattle.site_core.specs.declared.reply.Refusal.TheVariants as refusals;
+ghost use Rattle.office_journal.specs.Replies.{reply_to};
+ghost use Rattle.office_journal.specs.declared.reply.Refusal.TheVariants as refusals;
 
 use dining_core::NotNow;
 use frame_codec::{Frame, FrameFault};
@@ -36,7 +36,7 @@ pub enum Reply {
 
 impl Reply {
     /// The reply to what a frame was.
-    pub(crate) fn to(arrival: &Arrival) -> Reply
+    pub fn to(arrival: &Arrival) -> Reply
         ensures { result ≡ reply_to arrival.now }
     {
         match arrival {

@@ -1,9 +1,9 @@
 //! What happens at an office.
 
 ghost use Rattle.std.specs.Prelude.{◌≡◌, IfOk};
-ghost use Rattle.site_core.specs.Replies.{reply_to};
-ghost use Rattle.site_core.specs.declared.event.Event.TheVariants as events;
-ghost use Rattle.site_core.specs.declared.reply.Reply.TheVariants as replies;
+ghost use Rattle.office_journal.specs.Replies.{reply_to};
+ghost use Rattle.office_journal.specs.declared.event.Event.TheVariants as events;
+ghost use Rattle.office_journal.specs.declared.reply.Reply.TheVariants as replies;
 
 use crate::reply::Reply;
 use crate::rule::Rule;
@@ -69,7 +69,7 @@ impl Entry {
     }
 
     /// A session was submitted.
-    pub(crate) fn of_session(tag: u8, program: Program, ticket: u32) -> Entry
+    pub fn of_session(tag: u8, program: Program, ticket: u32) -> Entry
         ensures { result ≡ record { tag = tag; event = events.Submit program; reply = replies.Ticket ticket } }
     {
         Entry {
@@ -80,7 +80,7 @@ impl Entry {
     }
 
     /// A rule was done.
-    pub(crate) fn of_rule(tag: u8, rule: Rule) -> Entry
+    pub fn of_rule(tag: u8, rule: Rule) -> Entry
         ensures { result ≡ record { tag = tag; event = events.Do rule; reply = replies.Done } }
     {
         Entry {
@@ -91,7 +91,7 @@ impl Entry {
     }
 
     /// A session was withdrawn.
-    pub(crate) fn of_withdrawal(tag: u8, ticket: u32) -> Entry
+    pub fn of_withdrawal(tag: u8, ticket: u32) -> Entry
         ensures { result ≡ record { tag = tag; event = events.Withdraw ticket; reply = replies.Done } }
     {
         Entry {
@@ -102,7 +102,7 @@ impl Entry {
     }
 
     /// A frame was made.
-    pub(crate) fn of_frame(tag: u8, v: OfficeId, i: usize, frame: Frame) -> Entry
+    pub fn of_frame(tag: u8, v: OfficeId, i: usize, frame: Frame) -> Entry
         ensures { result ≡ record { tag = tag; event = events.Send v i; reply = replies.Frame frame } }
     {
         Entry {
@@ -113,7 +113,7 @@ impl Entry {
     }
 
     /// A frame came.
-    pub(crate) fn of_arrival(tag: u8, frame: Frame, arrival: &Arrival) -> Entry
+    pub fn of_arrival(tag: u8, frame: Frame, arrival: &Arrival) -> Entry
         ensures { result ≡ record { tag = tag; event = events.Took frame; reply = reply_to arrival.now } }
     {
         Entry {

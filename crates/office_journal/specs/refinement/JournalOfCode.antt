@@ -1,6 +1,6 @@
 -- The journal that the code keeps.
 use Rattle.std.specs.Prelude.{ℕ, List}
-use Rattle.site_core.specs.declared.event.Entry.{Entry}
+use Rattle.office_journal.specs.declared.event.Entry.{Entry}
 
 -- the entries, and how many more there is room for
 pub record JournalValue : Type 0 where

@@ -1,5 +1,5 @@
 use Rattle.std.proofs.Common.{rules}
-use Rattle.site_core.proofs.journal.Journal.make_room.Goals as goal
+use Rattle.office_journal.proofs.journal.Journal.make_room.Goals as goal
 
 pub returns-in_err-reserve-clause-full : goal.returns-in_err-reserve-clause-full
 returns-in_err-reserve-clause-full c = search rules

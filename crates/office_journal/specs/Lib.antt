@@ -1,0 +1,4 @@
+pub mod Limits
+pub mod Replies
+pub mod RefusalText
+pub mod refinement

@@ -1,0 +1,6 @@
+-- The limit of a journal.
+use Rattle.std.specs.Prelude.{ℕ}
+
+-- the most entries of a journal
+abbrev pub most_entries : ℕ
+most_entries = 1000000
