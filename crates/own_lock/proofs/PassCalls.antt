@@ -7,7 +7,7 @@ use Rattle.atomic_table.specs.Table.{Me, step, Allows, Final, Seen}
 use Rattle.atomic_table.specs.Seated.{TableId}
 use Rattle.own_lock.specs.declared.seat_view.SeatView.{SeatView}
 use Rattle.own_lock.specs.Entries.{tagged, AddsOnly}
-use Rattle.own_lock.specs.Rule.{LockRule}
+use Rattle.own_lock.specs.Rule.{room, place, LockRule}
 use Rattle.own_lock.specs.Passes.{PassView}
 use Rattle.own_lock.specs.refinement.Seats.{pass_view, HasOnePass}
 use Rattle.own_lock.specs.Steps.{rest, the_part, giver_view}
@@ -23,19 +23,19 @@ get_or-of_get_elem (x ∷ xs) (suc i) a d e = get_or-of_get_elem xs i a d e
 module _ {S K E : Type 0} (tag_of : E → ℕ) where
   -- a pass that holds nothing has no slot
   pub no_slot : (tag : ℕ) (name : TableId) (me : Me (Option S) (SeatView K E)) (p : PassView K E) → HasOnePass tag_of tag me → pass_view name me ≡ p → p.holds ≡ false → me.1 ≡ []
-  no_slot tag name me p has is idle = has.slots ∙ ap (λ b. if b then (0, None) ∷ [] else []) (ap (λ (q : PassView K E). q.holds) is ∙ idle)
+  no_slot tag name me p has is idle = has.slots ∙ ap (λ b. if b then (place, None) ∷ [] else []) (ap (λ (q : PassView K E). q.holds) is ∙ idle)
 
   -- and one that holds has the slot, in which there is now what was put there
   filled : (tag : ℕ) (name : TableId) (before after : Me (Option S) (SeatView K E)) (x : S) (p : PassView K E) → HasOnePass tag_of tag before → pass_view name before ≡ p → p.holds ≡ true
-      → after ≡ (before.0, (0, Some x) ∷ rest before.1) → after.1 ≡ (0, Some x) ∷ []
+      → after ≡ (before.0, (place, Some x) ∷ rest before.1) → after.1 ≡ (place, Some x) ∷ []
   filled tag name before after x p has is holds put =
-      let empty : before.1 ≡ (0, None) ∷ [] = has.slots ∙ ap (λ b. if b then (0, None) ∷ [] else []) (ap (λ (q : PassView K E). q.holds) is ∙ holds) in
-      ap (λ (m : Me (Option S) (SeatView K E)). m.1) put ∙ ap (λ (l : List (ℕ × Option S)). (0, Some x) ∷ rest l) empty
+      let empty : before.1 ≡ (place, None) ∷ [] = has.slots ∙ ap (λ b. if b then (place, None) ∷ [] else []) (ap (λ (q : PassView K E). q.holds) is ∙ holds) in
+      ap (λ (m : Me (Option S) (SeatView K E)). m.1) put ∙ ap (λ (l : List (ℕ × Option S)). (place, Some x) ∷ rest l) empty
 
   -- what a pass has of its own grows by what was added
   pub given_mine : (entries : S → List E) (tag : ℕ) (name : TableId) (before after last : Me (Option S) (SeatView K E)) (x held : S) (p : PassView K E) → HasOnePass tag_of tag before → pass_view name before ≡ p → p.holds ≡ true
-      → after ≡ (before.0, (0, Some x) ∷ rest before.1) → x ≡ held → AddsOnly tag_of p.tag p.seen (entries held)
-      → ((y : S) → after.1 ≡ (0, Some y) ∷ [] → last ≡ (giver_view tag_of after.0 (entries y), []))
+      → after ≡ (before.0, (place, Some x) ∷ rest before.1) → x ≡ held → AddsOnly tag_of p.tag p.seen (entries held)
+      → ((y : S) → after.1 ≡ (place, Some y) ∷ [] → last ≡ (giver_view tag_of after.0 (entries y), []))
       → (added : List E) → p.seen ++ added ≡ entries held → (the_part last.0).mine ≡ p.mine ++ added
   given_mine entries tag name before after last x held p has is holds put same adds gave added all =
       let part : tagged tag_of p.tag p.seen ≡ p.mine = subst (λ (q : PassView K E). tagged tag_of q.tag q.seen ≡ q.mine) is (ap (λ t. tagged tag_of t (the_part before.0).seen) has.tag_is ∙ has.own) in
@@ -51,8 +51,8 @@ module _ {S K E : Type 0} (tag_of : E → ℕ) (key : S → K) (entries : S → 
   Pass = PassView K E
 
   pub may_give : (id tag : ℕ) (name : TableId) (before after : Seat) (x held : S) (p : Pass) (j : K) → HasOnePass tag_of tag before → pass_view name before ≡ p → p.holds ≡ true → p.key ≡ Some j
-      → after ≡ (before.0, (0, Some x) ∷ rest before.1) → x ≡ held → fits held → key held ≡ j → AddsOnly tag_of p.tag p.seen (entries held)
-      → Allows (LockRule tag_of key entries fits k passes) 1 id after 0 (λ _. 0) (GaveBack tag_of entries (step 1 0 0 0 none) after)
+      → after ≡ (before.0, (place, Some x) ∷ rest before.1) → x ≡ held → fits held → key held ≡ j → AddsOnly tag_of p.tag p.seen (entries held)
+      → Allows (LockRule tag_of key entries fits k passes) room id after place (λ _. 0) (GaveBack tag_of entries (step room place 0 0 none) after)
   may_give id tag name before after x held p j has is holds own_key put same fit key_is adds =
       let view : before.0 ≡ after.0 = ap (λ (m : Seat). m.0) (sym put) in
       let v_is = sym is in
@@ -67,10 +67,10 @@ module _ {S K E : Type 0} (tag_of : E → ℕ) (key : S → K) (entries : S → 
       adds)
 
   pub closed : (id tag : ℕ) (name : TableId) (me : Seat) (p : Pass) (ws : List ℕ) (xs : List (Option S)) (word : ℕ) (state : Option S) (x given : S) (j : K) → HasOnePass tag_of tag me → pass_view name me ≡ p → p.key ≡ Some j
-      → Final (Seen (LockRule tag_of key entries fits k passes) id me.0) ws xs → get_elem? ws 0 ≡ some word → word ≡ 0 → get_elem? xs 0 ≡ some state → state ≡ Some x → given ≡ x
+      → Final (Seen (LockRule tag_of key entries fits k passes) id me.0) ws xs → get_elem? ws place ≡ some word → word ≡ 0 → get_elem? xs place ≡ some state → state ≡ Some x → given ≡ x
       → fits given × (key given ≡ j) × IsPrefix p.seen (entries given) × (tagged tag_of p.tag (entries given) ≡ p.mine)
   closed id tag name me p ws xs word state x given j has is own_key end word_is free state_is some_is given_is =
-      let last = closes tag_of key entries fits k passes id me.0 ws xs has.one end (get_or-of_get_elem ws 0 word 0 word_is ∙ free) in
+      let last = closes tag_of key entries fits k passes id me.0 ws xs has.one end (get_or-of_get_elem ws place word 0 word_is ∙ free) in
       let keys : Some (key last.0) ≡ Some j = sym last.3 ∙ (ap (λ (q : Pass). q.key) is ∙ own_key) in
       let found : state ≡ Some last.0 = some-injective _ _ (sym state_is ∙ last.1) in
       let x_is : Some x ≡ Some last.0 = sym some_is ∙ found in

@@ -1,5 +1,5 @@
 -- Each step at the lock's table keeps its rule.
-use Rattle.std.proofs.Common.{◌≡◌, ◌≢◌, ◌≤◌, ◌==◌, ◌+◌, ℕ, zero, suc, true, false, List, [], ◌∷◌, length, get_or, set, refl, ap, sym, subst, ◌∙◌, arith, length-set, get_or-set_same, eq-eqb, ne_eqb, Option, Some, None}
+use Rattle.std.proofs.Common.{◌≡◌, ◌≢◌, ◌≤◌, ◌==◌, ◌+◌, inl, inr, ℕ, zero, suc, true, false, List, [], ◌∷◌, length, get_or, set, refl, ap, sym, subst, ◌∙◌, arith, length-set, get_or-set_same, eq-eqb, ne_eqb, Option, Some, None}
 use mathlib.Core.Logic.{dite}
 use mathlib.Core.List.{IsPrefix}
 use mathlib.Core.Option.{some, none, some-injective, some-ne-none}
@@ -12,9 +12,9 @@ use Rattle.atomic_table.proofs.Lists.{set_here, set_else, set_again}
 use Rattle.own_lock.specs.declared.seat_view.Part.{Part}
 use Rattle.own_lock.specs.declared.seat_view.SeatView.{SeatView}
 use Rattle.own_lock.specs.Entries.{Every, longer, tagged, AddsOnly}
-use Rattle.own_lock.specs.Rule.{DistinctTags, PartAgrees, SeatAgrees, IsStateOf, LockRule, word_of}
-use Rattle.own_lock.specs.Steps.{rest, first_part, the_part, second_part, part_with, parts_from, opening_view, without_first, first_alone, joined_view, spent_view, holder_view, giver_view, told_view, Step, Deals, Takes, FindsTaken, LeavesWord, Gives, TakesIn, Tells, May, MayAll, table_after, table_after_all}
-use Rattle.own_lock.specs.refinement.Plays.{Tried, GaveBack, Told}
+use Rattle.own_lock.specs.Rule.{room, place, amid, awaited_word, DistinctTags, PartAgrees, SeatAgrees, IsStateOf, IsHeldWord, LockRule, word_of}
+use Rattle.own_lock.specs.Steps.{rest, first_part, the_part, second_part, part_with, parts_from, opening_view, without_first, first_alone, joined_view, spent_view, holder_view, giver_view, told_view, Step, Deals, Takes, FindsTaken, LeavesWord, Gives, TakesIn, Tells, May, MayAll, table_after, table_after_all, LeavesAwaited, GivesNothing}
+use Rattle.own_lock.specs.refinement.Plays.{Tried, Pressed, GaveBack, Told}
 use Rattle.own_lock.proofs.Prefixes.{IsPrefix-refl, IsPrefix-trans, longer-covers}
 use Rattle.own_lock.proofs.TaggedEntries.{Every-map, Every-zip, AddsOnly-prefix, tagged-adds_other, tagged-between}
 use Rattle.own_lock.proofs.Views.{get_elem-inside, each-set, each-snoc, HoldsAt-set, HoldsAt-snoc, moved, moved-here, moved-else}
@@ -50,36 +50,36 @@ module _ {S K E : Type 0} (tag_of : E → ℕ) (key : S → K) (entries : S → 
   key_of : (s : Table) (r : Rule s) (id : ℕ) (v : View) → get_elem? s.views id ≡ some v → v.parts ≡ the_part v ∷ [] → v.key ≡ Some k
   key_of s r id v at one = (r.views id v at).key (let some_part = ap length one in omega arith)
 
-  written : (s : Table) → Rule s → (m : ℕ) → get_or (set s.words 0 m) 0 0 ≡ m
-  written s r m = get_or-set_same s.words 0 m 0 (let one = r.one_word in omega arith)
+  written : (s : Table) → Rule s → (m : ℕ) → get_or (set s.words place m) place 0 ≡ m
+  written s r m = get_or-set_same s.words place m 0 (let one = r.word_room in omega arith)
 
   -- ---- a step that leaves the word, or finds it and leaves all
 
   word_again : (s : Table) (w : View) (id : ℕ) → Rule (with_views s (set s.views id w))
-      → Rule record { words = set s.words 0 (word_of s); homes = s.homes; views = set s.views id w }
-  word_again s w id r = subst (λ (ws : List ℕ). Rule record { words = ws; homes = s.homes; views = set s.views id w }) (sym (set-get_or s.words 0 0)) r
+      → Rule record { words = set s.words place (word_of s); homes = s.homes; views = set s.views id w }
+  word_again s w id r = subst (λ (ws : List ℕ). Rule record { words = ws; homes = s.homes; views = set s.views id w }) (sym (set-get_or s.words place 0)) r
 
-  unchanged : (s : Table) → Rule s → (id : ℕ) (me : Seat) → get_elem? s.views id ≡ some me.0 → Rule (stepped s 0 (word_of s) id me.1 me.0 keeps)
+  unchanged : (s : Table) → Rule s → (id : ℕ) (me : Seat) → get_elem? s.views id ≡ some me.0 → Rule (stepped s place (word_of s) id me.1 me.0 keeps)
   unchanged s r id me at = word_again s me.0 id (subst (λ (vs : List View). Rule (with_views s vs)) (sym (set_again s.views id me.0 at)) r)
 
   -- ---- the state is taken: the word was 0, and becomes another
 
   taken : (m : ℕ) → m ≢ 0 → (s : Table) (r : Rule s) (id : ℕ) (v : View) → get_elem? s.views id ≡ some v → v.parts ≡ the_part v ∷ []
-      → (x : S) → IsStateOf key entries fits k r.history x → word_of s ≡ 0 → Rule record { words = set s.words 0 m; homes = set s.homes 0 none; views = set s.views id (holder_view tag_of v (entries x)) }
+      → (x : S) → IsStateOf key entries fits k r.history x → word_of s ≡ 0 → Rule record { words = set s.words place m; homes = set s.homes place none; views = set s.views id (holder_view tag_of v (entries x)) }
   taken m not_free s r id v at one x is free =
       let w : View = holder_view tag_of v (entries x) in
       let known = one_part s r id v at one in
       let now = written s r m in
-      let not_now : get_or (set s.words 0 m) 0 0 ≢ 0 = λ zero_now. not_free (sym now ∙ zero_now) in
+      let not_now : get_or (set s.words place m) place 0 ≢ 0 = λ zero_now. not_free (sym now ∙ zero_now) in
       record {
         history = r.history;
         seat_of = r.seat_of;
         holder = id;
-        one_word = length-set s.words 0 m ∙ r.one_word;
-        one_slot = length-set s.homes 0 none ∙ r.one_slot;
+        word_room = length-set s.words place m ∙ r.word_room;
+        slot_room = length-set s.homes place none ∙ r.slot_room;
         free = λ zero_now. absurd (not_now zero_now);
         taken = λ _. (w, set_here s.views id w (get_elem-inside s.views id v at), refl);
-        views = each-set (SeatAgrees tag_of k passes r.history r.seat_of (get_or (set s.words 0 m) 0 0) id) s.views id w
+        views = each-set (SeatAgrees tag_of k passes r.history r.seat_of (get_or (set s.words place m) place 0) id) s.views id w
             record {
               distinct = (tt, tt);
               parts = (
@@ -99,22 +99,22 @@ module _ {S K E : Type 0} (tag_of : E → ℕ) (key : S → K) (entries : S → 
       }
 
   -- the word isn't 0, and becomes another that isn't
-  marked : (m : ℕ) → m ≢ 0 → (s : Table) → Rule s → word_of s ≢ 0 → Rule record { words = set s.words 0 m; homes = s.homes; views = s.views }
+  marked : (m : ℕ) → m ≢ 0 → (s : Table) → Rule s → word_of s ≢ 0 → Rule record { words = set s.words place m; homes = s.homes; views = s.views }
   marked m not_free s r busy =
-      let not_now : get_or (set s.words 0 m) 0 0 ≢ 0 = λ zero_now. not_free (sym (written s r m) ∙ zero_now) in
+      let not_now : get_or (set s.words place m) place 0 ≢ 0 = λ zero_now. not_free (sym (written s r m) ∙ zero_now) in
       record {
         history = r.history;
         seat_of = r.seat_of;
         holder = r.holder;
-        one_word = length-set s.words 0 m ∙ r.one_word;
-        one_slot = r.one_slot;
+        word_room = length-set s.words place m ∙ r.word_room;
+        slot_room = r.slot_room;
         free = λ zero_now. absurd (not_now zero_now);
         taken = λ _. r.taken busy;
         views = λ seat v at. let old = r.views seat v at in record { distinct = old.distinct; parts = old.parts; key = old.key; holding = λ h. let was = old.holding h in (not_now, was.1, was.2) };
       }
 
   pub presses : (id : ℕ) (me : Seat) → me.0.parts ≡ the_part me.0 ∷ [] → me.1 ≡ []
-      → Allows Rule 1 id me 0 (λ found. 2) (Tried tag_of key entries fits (step 1 0 2 0 none) me)
+      → Allows Rule room id me place (λ found. 2) (Pressed tag_of key entries fits (step room place 2 0 none) me)
   presses id me one bare s r slots at small = dite (ℕ_discrete (word_of s) 0)
       (λ free.
       let lies = r.free free in
@@ -122,31 +122,32 @@ module _ {S K E : Type 0} (tag_of : E → ℕ) (key : S → K) (entries : S → 
       let w : View = holder_view tag_of me.0 (entries x) in
       let known = one_part s r id me.0 at one in (
         w,
-        takes 0 (Some x),
+        takes place (Some x),
         lies.1,
         taken 2 (λ no. omega arith) s r id me.0 at one x lies.2 free,
         (
           (λ _. (
             x,
-            ap (λ c. (w, (0, Some x) ∷ c)) bare,
+            ap (λ c. (w, (place, Some x) ∷ c)) bare,
             lies.2.fit,
             key_of s r id me.0 at one ∙ ap Some (sym lies.2.key_is),
             subst (IsPrefix (the_part me.0).seen) (sym lies.2.entries_are) known.seen,
             ap (tagged tag_of (the_part me.0).tag) lies.2.entries_are ∙ sym known.mine,
           )),
-          λ busy. absurd (busy free),
+          (λ busy. absurd (busy free)),
+          refl,
         ),
       ))
       (λ busy. (
         me.0,
         keeps,
         tt,
-        subst (λ (vs : List View). Rule record { words = set s.words 0 2; homes = s.homes; views = vs }) (sym (set_again s.views id me.0 at)) (marked 2 (λ no. omega arith) s r busy),
-        ((λ free. absurd (busy free)), λ _. refl),
+        subst (λ (vs : List View). Rule record { words = set s.words place 2; homes = s.homes; views = vs }) (sym (set_again s.views id me.0 at)) (marked 2 (λ no. omega arith) s r busy),
+        ((λ free. absurd (busy free)), (λ _. refl), refl),
       ))
 
   pub tries : (id : ℕ) (me : Seat) → me.0.parts ≡ the_part me.0 ∷ [] → me.1 ≡ []
-      → Allows Rule 1 id me 0 (λ found. either (found == 0) 1 found) (Tried tag_of key entries fits (step 1 0 0 1 none) me)
+      → Allows Rule room id me place (λ found. either (found == 0) 1 found) (Tried tag_of key entries fits (step room place 0 1 none) me)
   tries id me one bare s r slots at small = dite (ℕ_discrete (word_of s) 0)
       (λ free.
       let lies = r.free free in
@@ -154,34 +155,36 @@ module _ {S K E : Type 0} (tag_of : E → ℕ) (key : S → K) (entries : S → 
       let w : View = holder_view tag_of me.0 (entries x) in
       let known = one_part s r id me.0 at one in (
         w,
-        takes 0 (Some x),
+        takes place (Some x),
         lies.1,
-        subst (λ b. Rule (stepped s 0 (either b 1 (word_of s)) id me.1 w (takes 0 (Some x)))) (sym (eq-eqb (word_of s) 0 free)) (taken 1 (λ no. omega arith) s r id me.0 at one x lies.2 free),
+        subst (λ b. Rule (stepped s place (either b 1 (word_of s)) id me.1 w (takes place (Some x)))) (sym (eq-eqb (word_of s) 0 free)) (taken 1 (λ no. omega arith) s r id me.0 at one x lies.2 free),
         (
           (λ _. (
             x,
-            ap (λ c. (w, (0, Some x) ∷ c)) bare,
+            ap (λ c. (w, (place, Some x) ∷ c)) bare,
             lies.2.fit,
             key_of s r id me.0 at one ∙ ap Some (sym lies.2.key_is),
             subst (IsPrefix (the_part me.0).seen) (sym lies.2.entries_are) known.seen,
             ap (tagged tag_of (the_part me.0).tag) lies.2.entries_are ∙ sym known.mine,
           )),
-          λ busy. absurd (busy free),
+          (λ busy. absurd (busy free)),
+          refl,
+          refl,
         ),
       ))
       (λ busy. (
         me.0,
         keeps,
         tt,
-        subst (λ b. Rule (stepped s 0 (either b 1 (word_of s)) id me.1 me.0 keeps)) (sym (ne_eqb (word_of s) 0 busy)) (unchanged s r id me at),
-        ((λ free. absurd (busy free)), λ _. refl),
+        subst (λ b. Rule (stepped s place (either b 1 (word_of s)) id me.1 me.0 keeps)) (sym (ne_eqb (word_of s) 0 busy)) (unchanged s r id me at),
+        ((λ free. absurd (busy free)), (λ _. refl), refl, refl),
       ))
 
   -- ---- the state is given back: the word becomes 0
 
   given : (s : Table) (r : Rule s) (id : ℕ) (v : View) (x : S) → get_elem? s.views id ≡ some v → v.parts ≡ the_part v ∷ [] → v.holds ≡ true
       → fits x → v.key ≡ Some (key x) → AddsOnly tag_of (the_part v).tag (the_part v).seen (entries x)
-      → Rule record { words = set s.words 0 0; homes = set s.homes 0 (some (Some x)); views = set s.views id (giver_view tag_of v (entries x)) }
+      → Rule record { words = set s.words place 0; homes = set s.homes place (some (Some x)); views = set s.views id (giver_view tag_of v (entries x)) }
   given s r id v x at one holds fit key_is adds =
       let p : Part E = the_part v in
       let known = one_part s r id v at one in
@@ -196,11 +199,11 @@ module _ {S K E : Type 0} (tag_of : E → ℕ) (key : S → K) (entries : S → 
         history = entries x;
         seat_of = r.seat_of;
         holder = r.holder;
-        one_word = length-set s.words 0 0 ∙ r.one_word;
-        one_slot = length-set s.homes 0 (some (Some x)) ∙ r.one_slot;
-        free = λ _. (x, set_here s.homes 0 (some (Some x)) (let one_slot = r.one_slot in omega arith), record { fit = fit; key_is = cc keys; entries_are = refl });
+        word_room = length-set s.words place 0 ∙ r.word_room;
+        slot_room = length-set s.homes place (some (Some x)) ∙ r.slot_room;
+        free = λ _. (x, set_here s.homes place (some (Some x)) (let slot_room = r.slot_room in omega arith), record { fit = fit; key_is = cc keys; entries_are = refl });
         taken = λ not_now. absurd (not_now now);
-        views = each-set (SeatAgrees tag_of k passes (entries x) r.seat_of (get_or (set s.words 0 0) 0 0) r.holder) s.views id (giver_view tag_of v (entries x))
+        views = each-set (SeatAgrees tag_of k passes (entries x) r.seat_of (get_or (set s.words place 0) place 0) r.holder) s.views id (giver_view tag_of v (entries x))
             record {
               distinct = (tt, tt);
               parts = (record { at = known.at; below = known.below; seen = IsPrefix-refl (entries x); mine = refl; own = refl }, tt);
@@ -222,15 +225,15 @@ module _ {S K E : Type 0} (tag_of : E → ℕ) (key : S → K) (entries : S → 
             });
       }
 
-  pub gives_back : (id : ℕ) (me : Seat) (x : S) → me.0.parts ≡ the_part me.0 ∷ [] → me.0.holds ≡ true → me.1 ≡ (0, Some x) ∷ [] → fits x → me.0.key ≡ Some (key x)
+  pub gives_back : (id : ℕ) (me : Seat) (x : S) → me.0.parts ≡ the_part me.0 ∷ [] → me.0.holds ≡ true → me.1 ≡ (place, Some x) ∷ [] → fits x → me.0.key ≡ Some (key x)
       → AddsOnly tag_of (the_part me.0).tag (the_part me.0).seen (entries x)
-      → Allows Rule 1 id me 0 (λ _. 0) (GaveBack tag_of entries (step 1 0 0 0 none) me)
+      → Allows Rule room id me place (λ _. 0) (GaveBack tag_of entries (step room place 0 0 none) me)
   gives_back id me x one holds carried fit key_is adds s r slots at small =
       let w : View = giver_view tag_of me.0 (entries x) in (
         w,
         gives,
         tt,
-        subst (λ (c : List (ℕ × Option S)). Rule (stepped s 0 0 id c w gives)) (sym carried) (given s r id me.0 x at one holds fit key_is adds),
+        subst (λ (c : List (ℕ × Option S)). Rule (stepped s place 0 id c w gives)) (sym carried) (given s r id me.0 x at one holds fit key_is adds),
         λ y lay. let values : Some y ≡ Some x = ap value_of (sym lay ∙ carried) in let same : y ≡ x = cc values in
             λ i. (giver_view tag_of me.0 (entries (sym same i)), ap rest carried i),
       )
@@ -254,8 +257,8 @@ module _ {S K E : Type 0} (tag_of : E → ℕ) (key : S → K) (entries : S → 
         history = r.history;
         seat_of = seat_of;
         holder = r.holder;
-        one_word = r.one_word;
-        one_slot = r.one_slot;
+        word_room = r.word_room;
+        slot_room = r.slot_room;
         free = r.free;
         taken = λ busy. HoldsAt-snoc (set s.views id left) r.holder right (HoldsAt-set s.views id r.holder v left at idle (r.taken busy));
         views = each-snoc Agrees (set s.views id left) right
@@ -307,8 +310,8 @@ module _ {S K E : Type 0} (tag_of : E → ℕ) (key : S → K) (entries : S → 
         history = r.history;
         seat_of = seat_of;
         holder = r.holder;
-        one_word = r.one_word;
-        one_slot = r.one_slot;
+        word_room = r.word_room;
+        slot_room = r.slot_room;
         free = r.free;
         taken = λ busy. HoldsAt-set (set s.views id both) other r.holder w spent_view there idle' (HoldsAt-set s.views id r.holder v both at idle (r.taken busy));
         views = each-set Agrees (set s.views id both) other spent_view
@@ -350,8 +353,8 @@ module _ {S K E : Type 0} (tag_of : E → ℕ) (key : S → K) (entries : S → 
           history = r.history;
           seat_of = r.seat_of;
           holder = r.holder;
-          one_word = r.one_word;
-          one_slot = r.one_slot;
+          word_room = r.word_room;
+          slot_room = r.slot_room;
           free = r.free;
           taken = λ busy. HoldsAt-set s.views id r.holder v (told_view v) at idle (r.taken busy);
           views = each-set (SeatAgrees tag_of k passes r.history r.seat_of (word_of s) r.holder) s.views id (told_view v)
@@ -370,7 +373,7 @@ module _ {S K E : Type 0} (tag_of : E → ℕ) (key : S → K) (entries : S → 
       )
 
   pub tells : (id : ℕ) (ok : Option K) (p q : Part E) (c : List (ℕ × Option S)) → let me : Seat = (record { key = ok; holds = false; parts = p ∷ q ∷ [] }, c) in
-      Allows Rule 1 id me 0 (λ found. found) (Told tag_of (step 1 0 0 0 none) me)
+      Allows Rule room id me place (λ found. found) (Told tag_of (step room place 0 0 none) me)
   tells id ok p q c s r slots at small =
       let v : View = record { key = ok; holds = false; parts = p ∷ q ∷ [] } in
       let t = told s r id v at refl refl in
@@ -396,13 +399,13 @@ module _ {S K E : Type 0} (tag_of : E → ℕ) (key : S → K) (entries : S → 
       record { distinct = distinct_from es passes 0; parts = agree_from es passes 0 (omega arith); key = λ _. refl; holding = λ no. absurd (cc no) }
   starts es v is (suc j) w e = absurd (some-ne-none w (sym e))
 
-  pub opens : (x : S) → fits x → key x ≡ k → Rule (opening (0 ∷ []) (Some x ∷ []) (opening_view tag_of k (entries x) passes))
+  pub opens : (x : S) → fits x → key x ≡ k → Rule (opening (amid 0 0) (amid None (Some x)) (opening_view tag_of k (entries x) passes))
   opens x fit key_is = record {
     history = entries x;
     seat_of = λ _. 0;
     holder = 0;
-    one_word = refl;
-    one_slot = refl;
+    word_room = refl;
+    slot_room = refl;
     free = λ _. (x, refl, record { fit = fit; key_is = key_is; entries_are = refl });
     taken = λ busy. absurd (busy refl);
     views = starts (entries x) (opening_view tag_of k (entries x) passes) refl;
@@ -410,16 +413,16 @@ module _ {S K E : Type 0} (tag_of : E → ℕ) (key : S → K) (entries : S → 
 
   -- ---- the end, at word 0
 
-  pub closes : (id : ℕ) (v : View) (ws : List ℕ) (xs : List (Option S)) → v.parts ≡ the_part v ∷ [] → Final (Seen Rule id v) ws xs → get_or ws 0 0 ≡ 0
-      → (x : S) × (get_elem? xs 0 ≡ some (Some x)) × fits x × (v.key ≡ Some (key x)) × IsPrefix (the_part v).seen (entries x) × (tagged tag_of (the_part v).tag (entries x) ≡ (the_part v).mine)
+  pub closes : (id : ℕ) (v : View) (ws : List ℕ) (xs : List (Option S)) → v.parts ≡ the_part v ∷ [] → Final (Seen Rule id v) ws xs → get_or ws place 0 ≡ 0
+      → (x : S) × (get_elem? xs place ≡ some (Some x)) × fits x × (v.key ≡ Some (key x)) × IsPrefix (the_part v).seen (entries x) × (tagged tag_of (the_part v).tag (entries x) ≡ (the_part v).mine)
   closes id v ws xs one end free =
       let s = end.0 in
       let r = end.1.0 in
       let at = end.1.1 in
-      let lies = r.free (ap (λ (l : List ℕ). get_or l 0 0) end.2 ∙ free) in
+      let lies = r.free (ap (λ (l : List ℕ). get_or l place 0) end.2 ∙ free) in
       let known = one_part s r id v at one in (
         lies.0,
-        end.4 0 (Some lies.0) lies.1,
+        end.4 place (Some lies.0) lies.1,
         lies.2.fit,
         key_of s r id v at one ∙ ap Some (sym lies.2.key_is),
         subst (IsPrefix (the_part v).seen) (sym lies.2.entries_are) known.seen,
@@ -428,15 +431,19 @@ module _ {S K E : Type 0} (tag_of : E → ℕ) (key : S → K) (entries : S → 
 
   -- ---- all of them
 
+  held_word : (m : ℕ) → IsHeldWord m → m ≢ 0
+  held_word m (inl one) = λ no. omega arith
+  held_word m (inr two) = λ no. omega arith
+
   pub LockRule-table_after : (s : Table) (t : Step S K E) → Rule s → May tag_of key entries fits s t → Rule (table_after tag_of entries s t)
   LockRule-table_after s (Deals seat v) r may = deals seat v (the_part v) (rest v.parts) may.1 may.2 s r may.0
   LockRule-table_after s (Takes word seat v x) r may =
       let lies = r.free may.2 in
       let values : Some lies.0 ≡ Some x = some-injective _ _ (some-injective _ _ (sym lies.1 ∙ may.4)) in
       let same : lies.0 ≡ x = cc values in
-      taken word may.3 s r seat v may.0 may.1.1 x (subst (IsStateOf key entries fits k r.history) same lies.2) may.2
+      taken word (held_word word may.3) s r seat v may.0 may.1.1 x (subst (IsStateOf key entries fits k r.history) same lies.2) may.2
   LockRule-table_after s (FindsTaken seat v) r may = r
-  LockRule-table_after s (LeavesWord word seat v) r may = marked word may.2 s r may.1
+  LockRule-table_after s (LeavesWord seat v) r may = marked awaited_word (λ no. omega arith) s r may.1
   LockRule-table_after s (Gives seat v x) r may = given s r seat v x may.0 may.2 may.1 may.3 may.4 may.5
   LockRule-table_after s (TakesIn seat v other w) r may =
       joins seat v other w may.1.0 may.1.1 may.3.0 may.3.1 s r may.0 may.4 (set_else s.views seat other (joined_view v w) may.4 ∙ may.2)
@@ -445,3 +452,34 @@ module _ {S K E : Type 0} (tag_of : E → ℕ) (key : S → K) (entries : S → 
   pub LockRule-table_after_all : (s : Table) (ts : List (Step S K E)) → Rule s → MayAll tag_of key entries fits s ts → Rule (table_after_all tag_of entries s ts)
   LockRule-table_after_all s [] r may = r
   LockRule-table_after_all s (t ∷ ts) r may = LockRule-table_after_all (table_after tag_of entries s t) ts (LockRule-table_after s t r may.0) may.1
+
+  -- ---- the word that was left
+
+  word_stays : (s : Table) (t : Step S K E) → Rule s → word_of s ≡ awaited_word → May tag_of key entries fits s t → GivesNothing t → word_of (table_after tag_of entries s t) ≡ awaited_word
+  word_stays s (Deals seat v) r is may nothing = is
+  word_stays s (Takes word seat v x) r is may nothing = let both : ◌≡◌ {A = ℕ} 0 2 = sym may.2 ∙ is in absurd (omega arith)
+  word_stays s (FindsTaken seat v) r is may nothing = is
+  word_stays s (LeavesWord seat v) r is may nothing = written s r awaited_word
+  word_stays s (Gives seat v x) r is may nothing = absurd nothing
+  word_stays s (TakesIn seat v other w) r is may nothing = is
+  word_stays s (Tells seat v) r is may nothing = is
+
+  word_stays_all : (s : Table) (ts : List (Step S K E)) → Rule s → word_of s ≡ awaited_word → MayAll tag_of key entries fits s ts → Every GivesNothing ts
+      → word_of (table_after_all tag_of entries s ts) ≡ awaited_word
+  word_stays_all s [] r is may nothing = is
+  word_stays_all s (t ∷ ts) r is may nothing =
+      word_stays_all (table_after tag_of entries s t) ts (LockRule-table_after s t r may.0) (word_stays s t r is may.0 nothing.0) may.1 nothing.1
+
+  leaves_word : (s : Table) (t : Step S K E) → Rule s → LeavesAwaited t → word_of (table_after tag_of entries s t) ≡ awaited_word
+  leaves_word s (Deals seat v) r leaves = absurd leaves
+  leaves_word s (Takes word seat v x) r leaves = written s r word ∙ leaves
+  leaves_word s (FindsTaken seat v) r leaves = absurd leaves
+  leaves_word s (LeavesWord seat v) r leaves = written s r awaited_word
+  leaves_word s (Gives seat v x) r leaves = absurd leaves
+  leaves_word s (TakesIn seat v other w) r leaves = absurd leaves
+  leaves_word s (Tells seat v) r leaves = absurd leaves
+
+  pub word_left_is_found : (s : Table) (t : Step S K E) (ts : List (Step S K E)) → Rule s → MayAll tag_of key entries fits s (t ∷ ts) → LeavesAwaited t → Every GivesNothing ts
+      → word_of (table_after_all tag_of entries s (t ∷ ts)) ≡ awaited_word
+  word_left_is_found s t ts r may leaves nothing =
+      word_stays_all (table_after tag_of entries s t) ts (LockRule-table_after s t r may.0) (leaves_word s t r leaves) may.1 nothing

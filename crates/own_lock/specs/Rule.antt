@@ -1,7 +1,7 @@
 -- The rule of the lock: what holds of its table between any two atomic steps.
--- The table has one word and one slot. At word 0 the state lies in the slot. At any other word one seat holds it.
+-- Of the table's words and slots one each is used. At word 0 the state lies in the slot. At any other word one seat holds it.
 -- The history is the list of all entries up to now: those of the state in the slot, or those that the state had when it was taken.
-use Rattle.std.specs.Prelude.{◌≡◌, ◌≢◌, ℕ, ◌<◌, true, List, [], ◌∷◌, length, slice_index, Option, Some}
+use Rattle.std.specs.Prelude.{◌≡◌, ◌≢◌, ℕ, ◌<◌, true, List, [], ◌∷◌, ◌⊎◌, length, slice_index, Option, Some}
 use mathlib.Core.List.{IsPrefix}
 use mathlib.Core.Option.{some}
 use lib.ListN.{get_elem?}
@@ -9,6 +9,34 @@ use Rattle.atomic_table.specs.Table.{State}
 use Rattle.own_lock.specs.declared.seat_view.Part.{Part}
 use Rattle.own_lock.specs.declared.seat_view.SeatView.{SeatView}
 use Rattle.own_lock.specs.Entries.{Every, tagged}
+
+-- How many words the table has, and as many slots.
+abbrev pub room : ℕ
+room = 15
+
+-- The word and the slot that are used: those in the middle. The others are there so that no other value lies on a cache line with it.
+abbrev pub place : ℕ
+place = 7
+
+-- a list of that room with y at the place that is used, and x at each other
+abbrev pub amid : {A : Type 0} → A → A → List A
+amid x y = x ∷ x ∷ x ∷ x ∷ x ∷ x ∷ x ∷ y ∷ x ∷ x ∷ x ∷ x ∷ x ∷ x ∷ x ∷ []
+
+-- What the word says: nobody holds the state,
+abbrev pub free_word : ℕ
+free_word = 0
+
+-- a pass holds it,
+abbrev pub taken_word : ℕ
+taken_word = 1
+
+-- or a pass holds it, and others may wait.
+abbrev pub awaited_word : ℕ
+awaited_word = 2
+
+-- the words of a state that a pass holds
+abbrev pub IsHeldWord : ℕ → Type 0
+IsHeldWord word = (word ≡ taken_word) ⊎ (word ≡ awaited_word)
 
 -- no tag stands twice
 abbrev pub DistinctTags : {E : Type 0} → List (Part E) → Type 0
@@ -40,7 +68,7 @@ pub record IsStateOf {S K E : Type 0} (key : S → K) (entries : S → List E) (
 
 module _ {S K E : Type 0} where
   abbrev pub word_of : State (Option S) (SeatView K E) → ℕ
-  word_of s = slice_index s.words 0
+  word_of s = slice_index s.words place
 
 module _ {K E : Type 0} where
   abbrev pub HoldsAt : List (SeatView K E) → ℕ → Type 0
@@ -53,8 +81,8 @@ pub record LockRule {S K E : Type 0} (tag_of : E → ℕ) (key : S → K) (entri
   pub history : List E
   pub seat_of : ℕ → ℕ
   pub holder : ℕ
-  pub one_word : length s.words ≡ 1
-  pub one_slot : length s.homes ≡ 1
-  pub free : word_of s ≡ 0 → (x : S) × (get_elem? s.homes 0 ≡ some (some (Some x))) × IsStateOf key entries fits k history x
+  pub word_room : length s.words ≡ room
+  pub slot_room : length s.homes ≡ room
+  pub free : word_of s ≡ 0 → (x : S) × (get_elem? s.homes place ≡ some (some (Some x))) × IsStateOf key entries fits k history x
   pub taken : word_of s ≢ 0 → HoldsAt s.views holder
   pub views : (seat : ℕ) (v : SeatView K E) → get_elem? s.views seat ≡ some v → SeatAgrees tag_of k passes history seat_of (word_of s) holder seat v

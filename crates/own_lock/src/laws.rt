@@ -1,7 +1,7 @@
 //! Laws of states with a history, and of the steps at a lock.
 
 ghost use Rattle.own_lock.specs.Entries.{ExtendingIsReflexive, ExtendingIsTransitive};
-ghost use Rattle.own_lock.specs.Steps.{StepsKeepTheRule, TheRuleHoldsThroughout};
+ghost use Rattle.own_lock.specs.Steps.{StepsKeepTheRule, TheRuleHoldsThroughout, WordLeftIsFound};
 
 use crate::kept::Kept;
 
@@ -27,4 +27,10 @@ pub fn steps_keep_the_rule<S: Kept>()
 /// there would say no more: some table under the rule can always be thought up, whatever the call answers.
 pub fn the_rule_holds_throughout<S: Kept>()
     ensures { TheRuleHoldsThroughout S.tag_of S.key S.entries S.fits }
+{}
+
+/// From a step that leaves word to the next giving back the word is 2, whatever others do: so no pass that gives the state
+/// back takes those that wait for none.
+pub fn word_left_is_found<S: Kept>()
+    ensures { WordLeftIsFound S.tag_of S.key S.entries S.fits }
 {}

@@ -13,8 +13,10 @@
 //! - The word is 0, 1, or 2 where passes may wait. A pass that finds the state taken tries a while. Then it
 //!   enters itself among those that wait, sets the word to 2 and parks. One that gives the state back and
 //!   finds 2 wakes the next of those that wait: going round in order of tags, the first after its own.
-//!   Proved is which tag comes next (`IsNextAfter`, in `specs/Waking.antt`), and that the lock keeps an
-//!   unparker for each pass. That a pass that waits wakes isn't proved: tests show it.
+//!   Proved is that whoever gives the state back finds 2 where a pass set it since the state was taken
+//!   (`WordLeftIsFound`), which tag comes next (`IsNextAfter`, in `specs/Waking.antt`), and that the lock
+//!   keeps an unparker for each pass. That a pass that waits wakes isn't proved: it is argued where it waits
+//!   (`take_later`, in `lock.rt`), and tests show it.
 //!
 //! No call but [`OwnLock::open`] takes memory, and none but [`OwnLock::take`] waits. Nothing is said of who
 //! gets the state first: one that tries may come before the one that was woken. It stands on `atomic_table`
@@ -42,8 +44,8 @@
 //! has its tag. Knowledge goes from pass to pass in two ways: by taking the state, and by `meet`, where one of them is
 //! given up.
 //!
-//! The lock is a table with one word and one slot: the word says whether the state is there, and the slot has it. The
-//! rule ties the views of all seats to one history. Seven kinds of steps change them, and each keeps the rule by a
+//! The lock is a table of which one word and one slot are used: the word says whether the state is there, and the slot has
+//! it. The others keep their cache lines free of what threads do elsewhere. The rule ties the views of all seats to one history. Seven kinds of steps change them, and each keeps the rule by a
 //! lemma of its own (`proofs/StepsKeepRule.antt`); there is no logic of memory above the table.
 //!
 //! Not said: that `take` returns, or who is next; that a pass which sleeps is woken; that `Busy`, and the `None` of
@@ -56,6 +58,7 @@ mod kept;
 pub mod laws;
 mod lock;
 mod pass;
+mod places;
 mod seat_view;
 mod table_rule;
 mod waking;

@@ -3,14 +3,16 @@
 ghost use Rattle.std.specs.Prelude.{◌≡◌, ◌<◌, ◌≤◌, ◌∷◌, ◌++◌, [], List, ℕ, true, false, Some, None, IfOk, IfErr, IfSome};
 ghost use mathlib.Core.List.{IsPrefix};
 ghost use Rattle.own_lock.specs.Entries.{longer, tagged, AddsOnly};
+ghost use Rattle.own_lock.specs.Rule.{room, place};
 ghost use Rattle.own_lock.specs.Passes.{IsOf, AreFresh, AreIdle, pass_after_take, pass_after_give};
 
 use crate::boxed::Boxed;
 use crate::held::Held;
 use crate::kept::Kept;
 use crate::pass::Pass;
+use crate::places::{PLACE, ROOM, free_rest, slots_with};
 use crate::seat_view::{Opening, SeatView};
-use crate::table_rule::{Deal, GiveBack, History, Tell, Together, Try};
+use crate::table_rule::{Deal, GiveBack, History, Press, Tell, Together, Try};
 use crate::waking::Waiters;
 use atomic_table::{Seat, Table};
 use std::alloc::{AllocError, Global};
@@ -21,9 +23,9 @@ use std::thread::yield_now;
 use thiserror::Error;
 
 // The words of the lock's table: nobody holds the state, a pass does, or a pass does and others may wait.
-const FREE: u64 = 0;
+pub(crate) const FREE: u64 = 0;
 
-const TAKEN: u64 = 1;
+pub(crate) const TAKEN: u64 = 1;
 
 pub(crate) const AWAITED: u64 = 2;
 
@@ -46,12 +48,13 @@ pub struct OwnLock<S: Kept> {
 impl<S: Kept> Model for OwnLock<S> {
     ghost use Rattle.std.specs.Prelude.{◌≡◌};
     ghost use Rattle.own_lock.specs.Passes.{LockView};
+    ghost use Rattle.own_lock.specs.Rule.{room};
 
     ghost Value = { LockView S.Key };
 
     ghost view = { λ l. record { name = l.table.shared.table_id; key = S.key l.table.shared.key.state.value } };
 
-    ghost invariant = { λ l. (l.table.shared.table_id.words ≡ 1) × (l.table.shared.table_id.slots ≡ 1) × (l.waiters ≡ l.table.shared.key.passes) };
+    ghost invariant = { λ l. (l.table.shared.table_id.words ≡ room) × (l.table.shared.table_id.slots ≡ room) × (l.waiters ≡ l.table.shared.key.passes) };
 }
 
 /// Another pass holds the state. Nothing changed.
@@ -87,9 +90,8 @@ impl<S: Kept> OwnLock<S> {
             passes,
         };
         let boxed = Boxed::new(alloc, state)?;
-        let mut slots = Vec::new(alloc);
-        slots.push(Some(boxed))?;
-        let Ok((table, mut seat)) = Table::new(alloc, &[FREE], slots, &opening) else {
+        let slots = slots_with(alloc, boxed)?;
+        let Ok((table, mut seat)) = Table::new(alloc, &[FREE; ROOM], slots, &opening) else {
             return Err(AllocError);
         };
         let mut all = Vec::new(alloc);
@@ -110,8 +112,7 @@ impl<S: Kept> OwnLock<S> {
     }
 
     /// Takes the state. While another pass holds it, waits.
-    ///
-    /// It tries a while first, since most holdings are shorter than a sleep.
+    #[inline(always)]
     pub fn take<R: Wait>(&self, rt: &R, pass: &mut Pass<S>) -> Held<S>
         requires of { IsOf self.now pass.old }
         requires idle { pass.old.holds ≡ false }
@@ -121,11 +122,45 @@ impl<S: Kept> OwnLock<S> {
         ensures fits { S.fits result }
         ensures key { S.key result ≡ self.now.key }
     {
+        match self.try_take(pass) {
+            Ok(held) => held,
+            Err(Busy) => self.take_later(rt, pass),
+        }
+    }
+
+    // Takes the state once a try found it taken: it tries a while, since most holdings are shorter than a sleep, and then
+    // waits among those that are woken.
+    //
+    // No wake is lost. A pass that parks has entered itself, set the word to 2 and found the state taken, in this order.
+    // From then on, until it is woken, the word is 2, or somebody owes a wake: who gave the state back, found 2 and hasn't
+    // woken anybody yet, or who was woken and hasn't set the word since.
+    // - The word goes from 2 to 0 alone, at a giving back that finds 2: others set it to 2 as well, or change it only where
+    //   it is 0 (`WordLeftIsFound`). Who gives back so looks for those that wait only afterwards, and sees the pass that
+    //   parks: it entered before it set the word, and leaves once it holds.
+    // - One that is woken finds a token at its parker, whether it has parked already or is about to, and sets the word next.
+    //   Either it finds the state taken, or it holds: the word is 2.
+    // - If the one that is woken took the state meanwhile, it did so by setting the word. So the word is 2, or its own giving
+    //   back has found that. The token is left over, and lets it look once more when it waits again.
+    // - A pass that tries and takes the state before the one that was woken sets the word to 1, and owes nothing: the other
+    //   still does.
+    // So while holders give back and threads run, one of those that wait looks again. It may find the state taken by one
+    // that tried, time and again: who is first isn't said.
+    #[cold]
+    #[inline(never)]
+    fn take_later<R: Wait>(&self, rt: &R, pass: &mut Pass<S>) -> Held<S>
+        requires of { IsOf self.now pass.old }
+        requires idle { pass.old.holds ≡ false }
+        ensures taken { pass.new ≡ pass_after_take pass.old (S.entries result) }
+        ensures begins { IsPrefix pass.old.seen (S.entries result) }
+        ensures mine { tagged S.tag_of pass.old.tag (S.entries result) ≡ pass.old.mine }
+        ensures fits { S.fits result }
+        ensures key { S.key result ≡ self.now.key }
+    {
         for _ in 0..TRIES {
+            yield_now();
             if let Ok(held) = self.try_take(pass) {
                 return held;
             }
-            yield_now();
         }
         self.waiters.enter(pass.tag);
         for _ in rt.forever() {
@@ -150,7 +185,7 @@ impl<S: Kept> OwnLock<S> {
         ensures busy { IfErr result (λ _. pass.new ≡ pass.old) }
     {
         let seat = &mut pass.seat;
-        let before = self.table.shared.swap::<Try<S>>(seat, 0, AWAITED);
+        let before = self.table.shared.swap::<Press<S>>(seat, PLACE, AWAITED);
         if before != FREE {
             return Err(Busy);
         }
@@ -161,6 +196,7 @@ impl<S: Kept> OwnLock<S> {
     ///
     /// # Errors
     /// `Busy` where another pass holds it.
+    #[inline(always)]
     pub fn try_take(&self, pass: &mut Pass<S>) -> Result<Held<S>, Busy>
         requires of { IsOf self.now pass.old }
         requires idle { pass.old.holds ≡ false }
@@ -175,7 +211,7 @@ impl<S: Kept> OwnLock<S> {
         let found = self
             .table
             .shared
-            .compare_exchange::<Try<S>>(seat, 0, FREE, TAKEN);
+            .compare_exchange::<Try<S>>(seat, PLACE, FREE, TAKEN);
         if found != FREE {
             return Err(Busy);
         }
@@ -183,20 +219,22 @@ impl<S: Kept> OwnLock<S> {
     }
 
     // The state, out of the slot that the seat has taken.
+    #[inline(always)]
     fn lift(&self, seat: &mut Seat<Option<Boxed<S>>, SeatView<S::Key, S::Entry>>) -> Held<S>
         requires of { seat.old.table_id ≡ self.now.name }
-        requires full { (x : S) × (seat.old.me.1 ≡ (0, Some x) ∷ []) }
+        requires full { (x : S) × (seat.old.me.1 ≡ (place, Some x) ∷ []) }
         ensures same { (seat.new.table_id ≡ seat.old.table_id) × (seat.new.id ≡ seat.old.id) }
-        ensures lifted { seat.old.me.1 ≡ (0, Some result) ∷ [] }
-        ensures empty { seat.new.me ≡ (seat.old.me.0, (0, None) ∷ []) }
+        ensures lifted { seat.old.me.1 ≡ (place, Some result) ∷ [] }
+        ensures empty { seat.new.me ≡ (seat.old.me.0, (place, None) ∷ []) }
     {
-        let Some(boxed) = self.table.shared.exchange(seat, 0, None) else {
+        let Some(boxed) = self.table.shared.exchange(seat, PLACE, None) else {
             unreachable!()
         };
         Held::new(boxed)
     }
 
     /// Puts the state back. The entries that were added to it are the pass's own.
+    #[inline(always)]
     pub fn give(&self, pass: &mut Pass<S>, held: Held<S>)
         requires of { IsOf self.now pass.old }
         requires holds { pass.old.holds ≡ true }
@@ -207,12 +245,17 @@ impl<S: Kept> OwnLock<S> {
         ensures mine { (added : List S.Entry) → pass.old.seen ++ added ≡ S.entries held → pass.new.mine ≡ pass.old.mine ++ added }
     {
         let boxed = held.into_boxed();
-        let empty = self.table.shared.exchange(&mut pass.seat, 0, Some(boxed));
-        drop(empty);
+        let None = self
+            .table
+            .shared
+            .exchange(&mut pass.seat, PLACE, Some(boxed))
+        else {
+            unreachable!()
+        };
         let found = self
             .table
             .shared
-            .swap::<GiveBack<S>>(&mut pass.seat, 0, FREE);
+            .swap::<GiveBack<S>>(&mut pass.seat, PLACE, FREE);
         if found == AWAITED {
             self.waiters.wake_after(pass.tag);
         }
@@ -239,7 +282,7 @@ impl<S: Kept> OwnLock<S> {
         self.table
             .shared
             .join_seat::<Together>(&mut second.seat, seat);
-        self.table.shared.load::<Tell<S>>(&mut second.seat, 0);
+        self.table.shared.load::<Tell<S>>(&mut second.seat, PLACE);
     }
 
     /// Ends the lock, and gives its state. There is none where a pass holds it.
@@ -257,9 +300,9 @@ impl<S: Kept> OwnLock<S> {
             parker: _,
         } = pass;
         let mut closed = table.close_with(seat);
-        let word = closed.word(0);
-        let state = closed.take(0);
-        closed.free();
+        let word = closed.word(PLACE);
+        let state = closed.take(PLACE);
+        free_rest(closed);
         match state {
             Some(boxed) if word == FREE => Some(boxed.into_state()),
             _ => None,

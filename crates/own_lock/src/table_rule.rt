@@ -2,7 +2,7 @@
 
 ghost use Rattle.own_lock.specs.Rule.{LockRule};
 ghost use Rattle.own_lock.specs.Steps.{opening_view, without_first, first_alone, joined_view, spent_view};
-ghost use Rattle.own_lock.specs.refinement.Plays.{Tried, GaveBack, Told};
+ghost use Rattle.own_lock.specs.refinement.Plays.{Tried, Pressed, GaveBack, Told};
 
 use crate::boxed::Boxed;
 use crate::kept::Kept;
@@ -42,13 +42,22 @@ impl<K, E> Join<SeatView<K, E>> for Together {
     ghost spent = { spent_view };
 }
 
-/// The word is set where it was 0.
+/// The word is set to 1 where it was 0.
 pub(crate) struct Try<S> {
     state: PhantomData<S>,
 }
 
 impl<S: Kept> Play<Option<Boxed<S>>, SeatView<S::Key, S::Entry>> for Try<S> {
     ghost then = { Tried S.tag_of S.key S.entries S.fits };
+}
+
+/// The word is set to 2.
+pub(crate) struct Press<S> {
+    state: PhantomData<S>,
+}
+
+impl<S: Kept> Play<Option<Boxed<S>>, SeatView<S::Key, S::Entry>> for Press<S> {
+    ghost then = { Pressed S.tag_of S.key S.entries S.fits };
 }
 
 /// The holder sets the word to 0.

@@ -3,6 +3,7 @@
 ghost use Rattle.std.specs.Prelude.{◌≡◌, ◌<◌, ℕ, ◌+◌, ◌==◌, IfOk, vec_len};
 ghost use Rattle.own_lock.specs.Waking.{waits_in, IsLeast, IsNextAfter};
 
+use crossbeam_utils::CachePadded;
 use crossbeam_utils::sync::{Parker, Unparker};
 use std::alloc::{AllocError, Global};
 use std::marker::Model;
@@ -14,8 +15,8 @@ use std::sync::atomic::Ordering::SeqCst;
 pub(crate) struct Waiters {
     // one for each pass, by its tag
     unparkers: Vec<Unparker>,
-    // a bit for each pass that waits, by its tag
-    pub(crate) waiting: AtomicU64,
+    // a bit for each pass that waits, by its tag; on a cache line of its own, since each call reads what lies beside
+    pub(crate) waiting: CachePadded<AtomicU64>,
 }
 
 impl Model for Waiters {
@@ -31,7 +32,7 @@ impl Waiters {
     {
         Waiters {
             unparkers: Vec::new(alloc),
-            waiting: AtomicU64::new(0),
+            waiting: CachePadded::new(AtomicU64::new(0)),
         }
     }
 
@@ -63,6 +64,8 @@ impl Waiters {
     /// One pass and not all: the others would wake to find the state taken. Going round, no tag waits behind the same
     /// others for ever. One that was woken leaves word again as it takes the state, so its own giving back wakes the
     /// next.
+    #[cold]
+    #[inline(never)]
     pub(crate) fn wake_after(&self, tag: u8)
         requires { tag < 16 }
     {

@@ -4,6 +4,7 @@ use Rattle.atomic_table.specs.Table.{Me}
 use Rattle.atomic_table.specs.Seated.{TableId}
 use Rattle.own_lock.specs.declared.seat_view.SeatView.{SeatView}
 use Rattle.own_lock.specs.Entries.{tagged}
+use Rattle.own_lock.specs.Rule.{place}
 use Rattle.own_lock.specs.Steps.{the_part}
 use Rattle.own_lock.specs.Passes.{PassView}
 
@@ -17,4 +18,4 @@ module _ {S K E : Type 0} where
     pub tag_is : (the_part me.0).tag ≡ tag
     pub below : tag < 16
     pub own : tagged tag_of tag (the_part me.0).seen ≡ (the_part me.0).mine
-    pub slots : me.1 ≡ (if me.0.holds then (0, None) ∷ [] else [])
+    pub slots : me.1 ≡ (if me.0.holds then (place, None) ∷ [] else [])

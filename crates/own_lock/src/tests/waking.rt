@@ -3,9 +3,10 @@ ghost use Rattle.std.specs.Thread.{IsSync};
 ghost use Rattle.own_lock.specs.Passes.{IsOf};
 
 use super::watch::{LOOKS, Watch};
-use super::{Log, add_held, last};
-use crate::lock::{AWAITED, Busy, OwnLock};
+use super::{Log, is_busy, last};
+use crate::lock::{AWAITED, Busy, FREE, OwnLock, TAKEN};
 use crate::pass::Pass;
+use crate::places::PLACE;
 use crate::waking::next_after;
 use std::sync::Wait;
 use std::sync::atomic::Ordering::SeqCst;
@@ -105,6 +106,54 @@ fn those_that_wait_are_woken_in_turn(rt: HostRuntime) -> Result<(), Fail> {
     Ok(())
 }
 
+// The lock's word.
+fn word_of(lock: &OwnLock<Log>) -> u64 {
+    lock.table.shared.peek(PLACE)
+}
+
+// The words that are left where one pass tries and holds, another tries, the other waits, the first gives the log back, and
+// the other takes it as one that waits does.
+fn words_left(lock: &OwnLock<Log>, mut a: Pass<Log>, mut b: Pass<Log>) -> [u64; 5]
+    requires a { IsOf lock.now a × (a.holds ≡ false) }
+    requires b { IsOf lock.now b × (b.holds ≡ false) }
+{
+    let Ok(held) = lock.try_take(&mut a) else {
+        return [FREE; 5];
+    };
+    let taken = word_of(lock);
+    let _ = is_busy(lock, &mut b);
+    let tried = word_of(lock);
+    let _ = waits(lock, &mut b);
+    let awaited = word_of(lock);
+    lock.give(&mut a, held);
+    let given = word_of(lock);
+    [taken, tried, awaited, given, pressed(lock, b)]
+}
+
+// The word while the pass holds the log that it took as one that waits does.
+fn pressed(lock: &OwnLock<Log>, mut pass: Pass<Log>) -> u64
+    requires of { IsOf lock.now pass }
+    requires idle { pass.holds ≡ false }
+{
+    let Ok(held) = lock.press(&mut pass) else {
+        return FREE;
+    };
+    let word = word_of(lock);
+    lock.give(&mut pass, held);
+    word
+}
+
+#[test]
+fn only_who_waits_leaves_word(rt: HostRuntime) -> Result<(), Fail> {
+    let (lock, mut passes) = OwnLock::open(rt.alloc(), Log::new(rt.alloc(), 7), 2)?;
+    let b = last(&lock, &mut passes).ok_or("two")?;
+    let a = last(&lock, &mut passes).ok_or("two")?;
+    let words = words_left(&lock, a, b);
+    assert_eq!(rt; words, [TAKEN, TAKEN, AWAITED, FREE, AWAITED]);
+    assert_eq!(rt; word_of(&lock), FREE);
+    Ok(())
+}
+
 // The bits of those that wait.
 fn waiting_at(lock: &OwnLock<Log>) -> u64 {
     lock.waiters.waiting.load(SeqCst)
@@ -113,7 +162,7 @@ fn waiting_at(lock: &OwnLock<Log>) -> u64 {
 // Whether the pass with the tag 1 comes to wait before long.
 fn comes_to_wait<R: Clock>(rt: &R, lock: &OwnLock<Log>) -> bool {
     for _ in 0..LOOKS {
-        if waiting_at(lock) == 0b10 && lock.table.shared.peek(0) == AWAITED {
+        if waiting_at(lock) == 0b10 && word_of(lock) == AWAITED {
             return true;
         }
         sleep(rt, Duration::from_millis(1));

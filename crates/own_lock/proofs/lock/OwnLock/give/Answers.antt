@@ -7,13 +7,13 @@ swap-found-requires g c = (
   search rules,
   search rules,
   rw c.self.invariant.1 (may_give _ _ _ _ _ _ _ _ _ _ _ _ _ _ _ c.pass.invariant c.pass.view_is c.requires.holds c.requires.of.1
-      c.exchange-empty.ensures.3 c.into_boxed-boxed.ensures c.requires.fits c.requires.key c.requires.adds),
+      c.exchange.ensures.3 c.into_boxed-boxed.ensures c.requires.fits c.requires.key c.requires.adds),
 )
 
 pub returns-clause-mine : goal.returns-clause-mine
 returns-clause-mine g c added is =
     given_mine _ _ _ _ _ _ _ _ _ _ c.pass.invariant c.pass.view_is c.requires.holds
-    c.exchange-empty.ensures.3 c.into_boxed-boxed.ensures c.requires.adds c.swap-found.ensures.2 added is
+    c.exchange.ensures.3 c.into_boxed-boxed.ensures c.requires.adds c.swap-found.ensures.2 added is
 
 pub invariant_of-pass : goal.invariant_of-pass
 invariant_of-pass c = search rules

@@ -1,4 +1,5 @@
-use Rattle.std.proofs.Common.{rules, ◌≡◌, ◌-◌, ◌+◌, ◌<◌, ℕ, arith, List, ◌∷◌, [], ◌++◌, Some, refl, ap, sym, subst, ◌∙◌}
+use Rattle.std.proofs.Common.{rules, ◌≡◌, ◌-◌, ◌+◌, ◌<◌, ℕ, arith, List, None, Some, refl, ap, sym, subst, ◌∙◌}
+use Rattle.own_lock.specs.Rule.{amid}
 use Rattle.own_lock.specs.Passes.{AreFresh}
 use Rattle.own_lock.proofs.StepsKeepRule.{opens, deals}
 use Rattle.own_lock.proofs.Dealing.{dealing, AreFresh-snoc, AreIdle-of_fresh, parts-dealing, without_first-dealing, HasOnePass-first, HasOnePass-last, pass_view-first, pass_view-last}
@@ -9,7 +10,7 @@ new-requires-2 g c =
     let x = c.of.result.value in
     let same : c.args.state ≡ x = sym c.of.ensures in
     let boxed : c.in_ok-boxed.boxed ≡ x = c.in_ok-boxed.ensures ∙ same in
-    let items : c.push.new.self.items ≡ Some x ∷ [] = c.in_ok-push.ensures.items ∙ (ap (λ l. l ++ Some c.in_ok-boxed.boxed ∷ []) c.new-slots.ensures.items ∙ ap (λ y. Some y ∷ []) boxed) in
+    let items : c.in_ok-slots.slots.items ≡ amid None (Some x) = c.in_ok-slots.ensures ∙ ap (λ y. amid None (Some y)) boxed in
     rw items (opens g.S.Kept.tag_of g.S.Kept.key g.S.Kept.entries g.S.Kept.fits (g.S.Kept.key x) c.args.passes x (subst g.S.Kept.fits same c.requires.fits) refl)
 
 pub split_seat-next-requires : goal.split_seat-next-requires
@@ -35,7 +36,7 @@ loop-tag-preserved g c =
       out.2 ∙ without_first-dealing g.S.Kept.tag_of (g.S.Kept.key x) (g.S.Kept.entries x) n _ c.loop-tag.tag _ me more (omega arith),
       AreFresh-snoc _ _ _ _ _ _ _ c.loop-tag.invariant.2
           (pass_view-first g.S.Kept.tag_of (g.S.Kept.key x) (g.S.Kept.entries x) n c.loop-tag.tag _ _ _ _ me more (out.3 ∙ c.loop-tag.invariant.0) out.4)
-          c.in_ok-push-2.ensures.items,
+          c.in_ok-push.ensures.items,
       c.in_ok-parker.ensures ∙ ap (λ n. n + 1) c.loop-tag.invariant.3,
     )
 
@@ -48,7 +49,7 @@ returns-clause-fresh g c =
     let some_pass = c.requires.some in
     let one : n ≡ 1 = omega arith in
     let me = c.loop-tag.invariant.1 ∙ ap (λ n. dealing g.S.Kept.tag_of (g.S.Kept.key x) es n c.loop-tag.tag) one in
-    let all = AreFresh-snoc _ _ _ _ _ _ _ c.loop-tag.invariant.2 (pass_view-last g.S.Kept.tag_of (g.S.Kept.key x) es c.loop-tag.tag _ _ _ me c.loop-tag.invariant.0) c.in_ok-push-3.ensures.items in
+    let all = AreFresh-snoc _ _ _ _ _ _ _ c.loop-tag.invariant.2 (pass_view-last g.S.Kept.tag_of (g.S.Kept.key x) es c.loop-tag.tag _ _ _ me c.loop-tag.invariant.0) c.in_ok-push-2.ensures.items in
     let count : c.loop-tag.tag + 1 ≡ c.args.passes = omega arith in
     let key = ap (λ o. g.S.Kept.key o.state.value) (sym c.in-Ok.ensures.ok.5) in
     let entries : es ≡ g.S.Kept.entries c.args.state = ap g.S.Kept.entries c.of.ensures in
