@@ -17,6 +17,7 @@ use std::test::Fail;
 
 mod caller;
 mod threads;
+mod waiting;
 
 /// Two offices, and two records of theirs.
 const PAIR: &str =
