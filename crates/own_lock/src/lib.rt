@@ -45,8 +45,9 @@
 //! given up.
 //!
 //! The lock is a table of which one word and one slot are used: the word says whether the state is there, and the slot has
-//! it. The others keep their cache lines free of what threads do elsewhere. The rule ties the views of all seats to one history. Seven kinds of steps change them, and each keeps the rule by a
-//! lemma of its own (`proofs/StepsKeepRule.antt`); there is no logic of memory above the table.
+//! it. The others keep their cache lines free of what threads do elsewhere. The rule ties the views of all seats to one
+//! history. Seven kinds of steps change them, and each keeps the rule by a lemma of its own (`proofs/StepsKeepRule.antt`);
+//! there is no logic of memory above the table.
 //!
 //! Not said: that `take` returns, or who is next; that a pass which sleeps is woken; that `Busy`, and the `None` of
 //! `close`, come only with a holder. Tests show the last three.

@@ -139,10 +139,11 @@ impl<S: Kept> OwnLock<S> {
     //   parks: it entered before it set the word, and leaves once it holds.
     // - One that is woken finds a token at its parker, whether it has parked already or is about to, and sets the word next.
     //   Either it finds the state taken, or it holds: the word is 2.
-    // - If the one that is woken took the state meanwhile, it did so by setting the word. So the word is 2, or its own giving
-    //   back has found that. The token is left over, and lets it look once more when it waits again.
-    // - A pass that tries and takes the state before the one that was woken sets the word to 1, and owes nothing: the other
-    //   still does.
+    // - If the one that is woken took the state meanwhile, between the look for those that wait and the wake, it did so by
+    //   setting the word to 2. From there on all of this holds without that wake: the word is 2 until its own giving back
+    //   finds that, and owes a wake in its turn. The token is left over, and lets it look once more when it waits again.
+    // - A pass that tries and takes the state before the one that was woken sets the word to 1, and owes nothing if it finds
+    //   1 as it gives the state back: the other still does.
     // So while holders give back and threads run, one of those that wait looks again. It may find the state taken by one
     // that tried, time and again: who is first isn't said.
     #[cold]

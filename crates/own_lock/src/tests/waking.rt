@@ -159,10 +159,10 @@ fn waiting_at(lock: &OwnLock<Log>) -> u64 {
     lock.waiters.waiting.load(SeqCst)
 }
 
-// Whether the pass with the tag 1 comes to wait before long.
-fn comes_to_wait<R: Clock>(rt: &R, lock: &OwnLock<Log>) -> bool {
+// Whether those passes come to wait before long, and have left word: a bit for each, by its tag.
+fn come_to_wait<R: Clock>(rt: &R, lock: &OwnLock<Log>, waiting: u64) -> bool {
     for _ in 0..LOOKS {
-        if waiting_at(lock) == 0b10 && word_of(lock) == AWAITED {
+        if waiting_at(lock) == waiting && word_of(lock) == AWAITED {
             return true;
         }
         sleep(rt, Duration::from_millis(1));
@@ -170,12 +170,14 @@ fn comes_to_wait<R: Clock>(rt: &R, lock: &OwnLock<Log>) -> bool {
     false
 }
 
-// Takes the log and gives it back once the other pass waits. It says whether that one came to wait, and whether it
-// took the log then without help.
+// Takes the log and gives it back once those passes wait. It says whether they came to wait, and whether the log was taken
+// as often then without help.
 fn hold_until_awaited<R: Wait + Clock>(
     rt: &R,
     lock: &OwnLock<Log>,
     mut pass: Pass<Log>,
+    waiting: u64,
+    takings: u64,
     watch: &Watch,
 ) -> (bool, bool)
     requires of { IsOf lock.now pass }
@@ -183,9 +185,9 @@ fn hold_until_awaited<R: Wait + Clock>(
 {
     let held = lock.take(rt, &mut pass);
     watch.tell();
-    let waits = comes_to_wait(rt, lock);
+    let wait = come_to_wait(rt, lock, waiting);
     lock.give(&mut pass, held);
-    (waits, watch.comes(rt, 2))
+    (wait, watch.comes(rt, takings))
 }
 
 // Takes the log after the other pass.
@@ -213,7 +215,7 @@ fn wait_in_a_thread<R: Threads + Wait + Clock + Sync>(
         rt,
         move || -> (bool, bool)
             requires { IsSync R.row × IsOf lock.now a × (a.holds ≡ false) }
-        { hold_until_awaited(rt, lock, a, watch) },
+        { hold_until_awaited(rt, lock, a, 0b10, 2, watch) },
         move || -> ()
             requires { IsSync R.row × IsOf lock.now b × (b.holds ≡ false) }
         { take_second(rt, lock, b, watch) },
@@ -229,6 +231,130 @@ fn a_pass_that_waits_is_woken(rt: HostRuntime) -> Result<(), Fail> {
     let a = last(&lock, &mut passes).ok_or("two")?;
     let (waits, woken) = wait_in_a_thread(&rt, &lock, a, b, &watch);
     assert!(rt; waits, "a pass waits and doesn't tell");
+    assert!(rt; woken, "a pass waits that nobody wakes");
+    assert_eq!(rt; waiting_at(&lock), 0);
+    Ok(())
+}
+
+fn take_in_two_threads<R: Threads + Wait + Clock + Sync>(
+    rt: &R,
+    lock: &OwnLock<Log>,
+    b: Pass<Log>,
+    c: Pass<Log>,
+    watch: &Watch,
+)
+    requires b { IsOf lock.now b × (b.holds ≡ false) }
+    requires c { IsOf lock.now c × (c.holds ≡ false) }
+{
+    let ((), ()) = join(
+        rt,
+        move || -> ()
+            requires { IsSync R.row × IsOf lock.now b × (b.holds ≡ false) }
+        { take_second(rt, lock, b, watch) },
+        move || -> ()
+            requires { IsSync R.row × IsOf lock.now c × (c.holds ≡ false) }
+        { take_second(rt, lock, c, watch) },
+    );
+}
+
+fn wait_in_two_threads<R: Threads + Wait + Clock + Sync>(
+    rt: &R,
+    lock: &OwnLock<Log>,
+    a: Pass<Log>,
+    b: Pass<Log>,
+    c: Pass<Log>,
+    watch: &Watch,
+) -> (bool, bool)
+    requires a { IsOf lock.now a × (a.holds ≡ false) }
+    requires b { IsOf lock.now b × (b.holds ≡ false) }
+    requires c { IsOf lock.now c × (c.holds ≡ false) }
+{
+    let (done, ()) = join(
+        rt,
+        move || -> (bool, bool)
+            requires { IsSync R.row × IsOf lock.now a × (a.holds ≡ false) }
+        { hold_until_awaited(rt, lock, a, 0b110, 3, watch) },
+        move || -> ()
+            requires { IsSync R.row × IsOf lock.now b × (b.holds ≡ false) × IsOf lock.now c × (c.holds ≡ false) }
+        { take_in_two_threads(rt, lock, b, c, watch) },
+    );
+    done
+}
+
+// One that is woken leaves word for the other as it takes the log: else nobody would wake that one.
+#[test]
+fn one_that_was_woken_wakes_the_other(rt: HostRuntime) -> Result<(), Fail> {
+    let (lock, mut passes) = OwnLock::open(rt.alloc(), Log::new(rt.alloc(), 7), 3)?;
+    let watch = Watch::new(rt.alloc(), &passes)?;
+    let c = last(&lock, &mut passes).ok_or("three")?;
+    let b = last(&lock, &mut passes).ok_or("three")?;
+    let a = last(&lock, &mut passes).ok_or("three")?;
+    let (wait, woken) = wait_in_two_threads(&rt, &lock, a, b, c, &watch);
+    assert!(rt; wait, "two passes wait and don't tell");
+    assert!(rt; woken, "a pass waits that nobody wakes");
+    assert_eq!(rt; waiting_at(&lock), 0);
+    Ok(())
+}
+
+// Wakes the pass with the tag 0, which waits, while this one, with the tag 1, holds the log and nobody has left word. It
+// says whether that one leaves word again, and whether it took the log in the end without help. The giving back before
+// wakes the tag 2, which doesn't wait in truth, so that the one that does goes on sleeping.
+fn wake_in_vain<R: Wait + Clock>(
+    rt: &R,
+    lock: &OwnLock<Log>,
+    mut pass: Pass<Log>,
+    watch: &Watch,
+) -> (bool, bool)
+    requires of { IsOf lock.now pass }
+    requires idle { pass.holds ≡ false }
+{
+    let held = lock.take(rt, &mut pass);
+    watch.tell();
+    let waits = come_to_wait(rt, lock, 0b1);
+    lock.waiters.enter(2);
+    lock.give(&mut pass, held);
+    lock.waiters.leave(2);
+    let Ok(held) = lock.try_take(&mut pass) else {
+        return (false, watch.comes(rt, 2));
+    };
+    watch.wake(0);
+    let again = come_to_wait(rt, lock, 0b1);
+    lock.give(&mut pass, held);
+    (waits && again, watch.comes(rt, 2))
+}
+
+fn wake_in_vain_beside<R: Threads + Wait + Clock + Sync>(
+    rt: &R,
+    lock: &OwnLock<Log>,
+    a: Pass<Log>,
+    b: Pass<Log>,
+    watch: &Watch,
+) -> (bool, bool)
+    requires a { IsOf lock.now a × (a.holds ≡ false) }
+    requires b { IsOf lock.now b × (b.holds ≡ false) }
+{
+    let (done, ()) = join(
+        rt,
+        move || -> (bool, bool)
+            requires { IsSync R.row × IsOf lock.now b × (b.holds ≡ false) }
+        { wake_in_vain(rt, lock, b, watch) },
+        move || -> ()
+            requires { IsSync R.row × IsOf lock.now a × (a.holds ≡ false) }
+        { take_second(rt, lock, a, watch) },
+    );
+    done
+}
+
+// A pass that is woken and finds the log taken leaves word before it sleeps again.
+#[test]
+fn one_that_was_woken_in_vain_leaves_word_again(rt: HostRuntime) -> Result<(), Fail> {
+    let (lock, mut passes) = OwnLock::open(rt.alloc(), Log::new(rt.alloc(), 7), 3)?;
+    let watch = Watch::new(rt.alloc(), &passes)?;
+    let _idle = last(&lock, &mut passes).ok_or("three")?;
+    let b = last(&lock, &mut passes).ok_or("three")?;
+    let a = last(&lock, &mut passes).ok_or("three")?;
+    let (leaves_word, woken) = wake_in_vain_beside(&rt, &lock, a, b, &watch);
+    assert!(rt; leaves_word, "a pass sleeps again and doesn't tell");
     assert!(rt; woken, "a pass waits that nobody wakes");
     assert_eq!(rt; waiting_at(&lock), 0);
     Ok(())

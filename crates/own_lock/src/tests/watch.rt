@@ -59,6 +59,13 @@ impl Watch {
         unreachable!()
     }
 
+    /// Wakes the pass with this tag, whether it waits or not.
+    pub fn wake(&self, tag: usize) {
+        if let Some(unparker) = self.unparkers.get(tag) {
+            unparker.unpark();
+        }
+    }
+
     fn wake_all(&self) {
         for unparker in &self.unparkers {
             unparker.unpark();
