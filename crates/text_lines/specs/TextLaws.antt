@@ -1,6 +1,6 @@
 -- What follows of lines, of lists that are cut, and of names.
 use Rattle.std.proofs.Common.{◌≡◌, ℕ, ◌+◌, ◌<◌, ◌≤◌, List, [], ◌∷◌, length, take, drop, Bool, true, false, Result, Ok, Err, Some, None, Bor, if◌then◌else◌, refl, sym, ap, ◌∙◌, arith}
-use Rattle.std.specs.List.{slice_split, before_first, after_first, position_or_len}
+use Rattle.std.specs.List.{list_all, slice_split, before_first, after_first, position_or_len}
 use Rattle.std.specs.Option.{option_copied}
 use Rattle.std.specs.Result.{MatchResult, result_ok}
 use Rattle.std.specs.Str.{IsUtf8}
@@ -8,7 +8,10 @@ use Rattle.std.specs.Str.Lines.{lines_of_parts, strip_carriage_return}
 use Rattle.std.proofs.lemmas.List.Splits.{slice_split_first, slice_split_none, length-slice_split}
 use Rattle.std.proofs.lemmas.List.Elements.{All-from_get_or}
 use Rattle.std.proofs.lemmas.List.Sums.{fails_before_first}
-use Rattle.text_lines.specs.Text.{lines, is_newline, is_name, name_of}
+use Rattle.std.proofs.lemmas.Bool.{and_parts, and_from}
+use Rattle.std.proofs.lemmas.Bool.Decides.{nat_tests}
+use Rattle.short_names.specs.Names.{is_short, is_short_byte}
+use Rattle.text_lines.specs.Text.{lines, is_newline, is_name, is_name_byte, name_of}
 
 -- a list, cut at the first element that passes
 pub cut_there : (p : ℕ → Bool) (word : List ℕ) (at : ℕ) (front back : List ℕ) → at ≡ position_or_len p word → at < length word → front ≡ take at word → back ≡ drop (at + 1) word → slice_split p word ≡ front ∷ slice_split p back
@@ -53,3 +56,19 @@ is_named word name h = by_test (is_name word) refl h
     by_test : (b : Bool) → is_name word ≡ b → (if b then Some word else None) ≡ Some name → is_name name ≡ true
     by_test true e k = let same : word ≡ name = (cc) in ap is_name (sym same) ∙ e
     by_test false e k = (cc)
+
+short_byte : (b : ℕ) → is_name_byte b ≡ true → is_short_byte b ≡ true
+short_byte b h = grind (arith, nat_tests)
+
+short_bytes : (word : List ℕ) → list_all is_name_byte word ≡ true → list_all is_short_byte word ≡ true
+short_bytes [] h = refl
+short_bytes (b ∷ bs) h =
+    let parts = and_parts (is_name_byte b) (list_all is_name_byte bs) h in
+    and_from (is_short_byte b) (list_all is_short_byte bs) (short_byte b parts.0) (short_bytes bs parts.1)
+
+-- a name is short
+pub name_is_short : (word : List ℕ) → is_name word ≡ true → is_short word ≡ true
+name_is_short [] h = (cc)
+name_is_short (b ∷ bs) h =
+    let parts = and_parts _ _ h in
+    and_from _ _ (and_parts _ _ parts.0).1 (short_bytes (b ∷ bs) (and_parts _ _ parts.1).0)

@@ -4,7 +4,8 @@ ghost use Rattle.std.specs.Prelude.{◌≡◌, ◌≢◌, ◌<◌, ◌≤◌, Al
 ghost use Rattle.std.specs.Str.{bytes_eq};
 ghost use Rattle.std.specs.String.{string_bytes};
 
-use crate::name_places::position_of;
+use crate::name_places::{place_of_name, position_of};
+use short_names::ShortName;
 
 /// For names of each key, where the last one stood that was found. A place may be of another list by now: it is only
 /// where to look first.
@@ -37,6 +38,28 @@ impl Guesses {
         self.last[key] = place as u8;
         Some(place)
     }
+
+    /// The place of a short name in a list of different ones.
+    pub fn find_name(&mut self, names: &[ShortName], name: &ShortName) -> Option<usize>
+        requires distinct { AllPairs (λ a b. a ≢ b) names.now }
+        requires few { length names.now ≤ 255 }
+        ensures { result ≡ position (λ v. bytes_eq v name.now) names.now }
+    {
+        let key = short_key(name);
+        let place = self.last[key] as usize;
+        if place < names.len() && names[place].is(name) {
+            return Some(place);
+        }
+        let place = place_of_name(names, name)?;
+        self.last[key] = place as u8;
+        Some(place)
+    }
+}
+
+fn short_key(name: &ShortName) -> usize
+    ensures { result < 64 }
+{
+    (name.key() >> 32) as usize % 64
 }
 
 /// A number that names of one list seldom share.

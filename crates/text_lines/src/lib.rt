@@ -4,9 +4,10 @@
 //! keeps its number in the text ([`Statements`]). It has words ([`words`], [`first_word`]), of which some are names ([`name`])
 //! or numbers ([`number`]), and may hold no byte but tabs and printable ASCII ([`is_plain`]). `docs/formats.md` has the rules.
 //!
-//! Where a name stands in a list of names is told by [`position_of`], and by [`Guesses`], which look first where it stood last.
+//! A name is kept as a [`ShortName`] ([`short_name`]). Where one stands in a list of names is told by [`place_of_name`], and by
+//! [`Guesses`], which look first where it stood last.
 //!
-//! It stands on `memchr`, for the ends of lines and of words. Definitions: `specs/Text.antt`. The limits of names and numbers are
+//! It stands on `short_names`, and on `memchr`, for the ends of lines and of words. Definitions: `specs/Text.antt`. The limits of names and numbers are
 //! [`limits`].
 #![tactic(auto)]
 
@@ -22,7 +23,8 @@ mod statements;
 pub use guesses::Guesses;
 pub use line_words::{first_word, is_same_word, words};
 pub use lines::{first_line, is_plain, is_plain_byte, place_of};
-pub use name_places::position_of;
-pub use names::{is_name, name};
+pub use name_places::{place_of_name, position_of};
+pub use names::{is_name, name, short_name};
 pub use numbers::{has_only_digits, number};
+pub use short_names::ShortName;
 pub use statements::Statements;

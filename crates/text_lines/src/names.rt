@@ -7,6 +7,7 @@ ghost use Rattle.text_lines.specs.Text.{is_name, name_of, is_keyword, is_name_by
 
 use crate::limits::MOST_LETTERS;
 use crate::line_words::is_same_word;
+use short_names::ShortName;
 
 /// A word as text, if it is a NAME.
 pub fn name(word: &[u8]) -> Option<&str>
@@ -14,6 +15,18 @@ pub fn name(word: &[u8]) -> Option<&str>
 {
     if is_name(word) {
         str::from_utf8(word).ok()
+    } else {
+        None
+    }
+}
+
+/// A word as a NAME, if it is one. Its letters are looked at once.
+#[tactic(auto, using(crate::specs::TextLaws::name_is_short))]
+pub fn short_name(word: &[u8]) -> Option<ShortName>
+    ensures { result ≡ name_of word.now }
+{
+    if is_name(word) {
+        Some(ShortName::packed(word))
     } else {
         None
     }
