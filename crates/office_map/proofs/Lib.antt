@@ -11,3 +11,5 @@ mod OrderOrRing
 mod RecordCountsKept
 mod OwnRecords
 mod RefusedLines
+mod ShortNames
+mod RecordChains

@@ -1,4 +1,5 @@
 pub mod RecordCounts
+pub mod RecordChains
 pub mod PlanReader
 pub mod OfficeIndex
 pub mod OrderSearch

@@ -5,11 +5,12 @@ ghost use Rattle.std.specs.Prelude.{◌≡◌};
 use crate::ids::OfficeId;
 use crate::word::Word;
 use bottle_values::Value;
+use text_lines::ShortName;
 
 /// An office's name, and its address or `-`.
 #[derive(Drop)]
 pub struct OfficeEntry {
-    pub name: Word,
+    pub name: ShortName,
     pub address: Word,
 }
 
@@ -59,7 +60,7 @@ impl PairEntry {
 /// bottle starts.
 #[derive(Drop)]
 pub struct RecordEntry {
-    pub name: Word,
+    pub name: ShortName,
     pub first: OfficeId,
     pub second: OfficeId,
     pub value: Value,

@@ -28,12 +28,13 @@
 //! different offices that are declared, nothing is declared twice, and no limit is passed. And
 //! it has no ring (clause `accepted`), so that its offices have an order ([`Plan::order`]).
 //! Contracts see a plan as its tables alone, one
-//! `Rattle.office_map.specs.PlanValue.PlanValue`. A record is found by its name in
-//! constant time, and an office's neighbours and records are stored lists. Copies of a plan
-//! share all of it ([`Plan::copy`]).
+//! `Rattle.office_map.specs.PlanValue.PlanValue`. A record is found by its name among those whose
+//! names have the same key, and an office's neighbours and records are stored lists. Copies of a
+//! plan share all of it ([`Plan::copy`]).
 //!
-//! It stands on `text_lines`, for lines, words, names and numbers, on `bottle_values`, for what an
-//! answer is unless memory runs out, and on `thiserror`, for the messages of its faults. Definitions:
+//! It stands on `text_lines`, for lines, words, names and numbers, on `short_names`, for names that are
+//! kept, on `bottle_values`, for what an answer is unless memory runs out, and on `thiserror`, for the
+//! messages of its faults. Definitions:
 //!
 //! - `specs/PlanText.antt`: which plan the lines of a text mean, what is their first fault, and
 //!   what reading answers.
@@ -43,7 +44,7 @@
 //! - `specs/Address.antt`: which words are addresses.
 //! - `specs/Limits.antt`: the limits; the code has its own, [`limits`].
 //!
-//! Not said: which of several rings is told; that a record is found in constant time; that a copy takes no memory; that a plan
+//! Not said: which of several rings is told; how many records are looked at where one is found by its name; that a copy takes no memory; that a plan
 //! has the office or the record of a number in hand. `Memory` may stand in place of each answer.
 #![tactic(auto)]
 

@@ -8,14 +8,14 @@ ghost use Rattle.office_map.specs.refinement.PlanReader.{seen};
 
 use crate::address::address;
 use crate::new_entries::{NewOffice, NewPair, NewRecord};
-use text_lines::{first_word, name, number};
+use text_lines::{first_word, number, short_name};
 
-/// What a line declares, with names as they stand in the text.
+/// What a line declares.
 #[derive(Clone, Copy)]
 pub(crate) enum Declaration<'a> {
     Office(NewOffice<'a>),
-    Pair(NewPair<'a>),
-    Record(NewRecord<'a>),
+    Pair(NewPair),
+    Record(NewRecord),
 }
 
 /// An office has three words, a pair five and a record seven.
@@ -46,26 +46,20 @@ fn office<'a>(keyword: &[u8], word: &'a [u8], place: &'a [u8]) -> Option<Declara
     if !is(keyword, "office") {
         return None;
     }
-    let name = name(word)?;
+    let name = short_name(word)?;
     let address = address(place)?;
     Some(Declaration::Office(NewOffice { name, address }))
 }
 
-fn pair<'a>(
-    keyword: &[u8],
-    a: &'a [u8],
-    b: &'a [u8],
-    fork: &[u8],
-    at: &[u8],
-) -> Option<Declaration<'a>>
+fn pair<'a>(keyword: &[u8], a: &[u8], b: &[u8], fork: &[u8], at: &[u8]) -> Option<Declaration<'a>>
     ensures { option_map seen result ≡ pair_line keyword.now a.now b.now fork.now at.now }
 {
     let fork_at_first = at == a;
     if !is(keyword, "pair") || !is(fork, "fork") || !(fork_at_first || at == b) {
         return None;
     }
-    let a = name(a)?;
-    let b = name(b)?;
+    let a = short_name(a)?;
+    let b = short_name(b)?;
     Some(Declaration::Pair(NewPair {
         a,
         b,
@@ -76,9 +70,9 @@ fn pair<'a>(
 #[tactic(auto, using(text_lines::specs::TextLaws::is_named))]
 fn record<'a>(
     keyword: &[u8],
-    word: &'a [u8],
-    a: &'a [u8],
-    b: &'a [u8],
+    word: &[u8],
+    a: &[u8],
+    b: &[u8],
     start: &[u8],
     at: &[u8],
     end: &[u8],
@@ -90,9 +84,9 @@ fn record<'a>(
     if !is(keyword, "record") || !is(at, "at") || !(starts_at_first || end == b) {
         return None;
     }
-    let record_name = name(word)?;
-    let a = name(a)?;
-    let b = name(b)?;
+    let record_name = short_name(word)?;
+    let a = short_name(a)?;
+    let b = short_name(b)?;
     let value = integer(start)?;
     Some(Declaration::Record(NewRecord {
         name: record_name,

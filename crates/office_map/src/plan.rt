@@ -13,6 +13,7 @@ use bottle_values::Value;
 use std::alloc::{AllocError, Global};
 use std::marker::Model;
 use std::sync::Arc;
+use text_lines::ShortName;
 
 /// An accepted plan, seen as its tables. Offices and records are numbered from 0 in the
 /// order of their lines.
@@ -238,11 +239,33 @@ impl Plan {
     pub fn office_named(&self, name: &str) -> Option<OfficeId>
         ensures { result ≡ office_named self.now name.now }
     {
-        self.said.tables.office_named(name)
+        let tables = &self.said.tables;
+        let Some(short) = ShortName::of(name.as_bytes()) else {
+            return None;
+        };
+        tables.office_named(&short)
     }
 
     /// The record with this name.
     pub fn record_named(&self, name: &str) -> Option<RecordId>
+        ensures { result ≡ record_named self.now name.now }
+    {
+        let tables = &self.said.tables;
+        let Some(short) = ShortName::of(name.as_bytes()) else {
+            return None;
+        };
+        tables.record_named(&short)
+    }
+
+    /// The office with this name, where it is kept as a short one.
+    pub fn office_of_name(&self, name: &ShortName) -> Option<OfficeId>
+        ensures { result ≡ office_named self.now name.now }
+    {
+        self.said.tables.office_named(name)
+    }
+
+    /// The record with this name, where it is kept as a short one.
+    pub fn record_of_name(&self, name: &ShortName) -> Option<RecordId>
         ensures { result ≡ record_named self.now name.now }
     {
         self.said.tables.record_named(name)

@@ -18,6 +18,7 @@ use crate::word::Word;
 use bottle_values::Value;
 use std::alloc::Global;
 use std::marker::Model;
+use text_lines::ShortName;
 
 /// How many places there are for any two offices.
 ///
@@ -108,7 +109,7 @@ impl PlanEntries {
     }
 
     /// The office with this name.
-    pub fn office_named(&self, name: &str) -> Option<OfficeId>
+    pub fn office_named(&self, name: &ShortName) -> Option<OfficeId>
         ensures { result ≡ office_named self.now name.now }
     {
         let place = self.offices.iter().position(|office| office.name.is(name))?;
@@ -116,7 +117,7 @@ impl PlanEntries {
     }
 
     /// The record with this name.
-    pub fn record_named(&self, name: &str) -> Option<RecordId>
+    pub fn record_named(&self, name: &ShortName) -> Option<RecordId>
         ensures { result ≡ record_named self.now name.now }
     {
         self.records.named(name)
@@ -165,14 +166,14 @@ impl PlanEntries {
         &mut self,
         alloc: Global,
         number: u64,
-        declaration: Declaration<'_>,
+        declaration: &Declaration<'_>,
     ) -> Result<(), PlanFault>
-        ensures { UnlessMemory (λ _. self.new) Fails result (at_line number (declare self.old (seen declaration.entry))) }
+        ensures { UnlessMemory (λ _. self.new) Fails result (at_line number (declare self.old (seen declaration.now))) }
     {
         match declaration {
             Declaration::Office(office) => self.add_office(alloc, number, office),
             Declaration::Pair(pair) => self.add_pair(number, pair),
-            Declaration::Record(record) => self.add_record(alloc, number, record),
+            Declaration::Record(record) => self.add_record(number, record),
         }
     }
 
@@ -180,31 +181,33 @@ impl PlanEntries {
         &mut self,
         alloc: Global,
         number: u64,
-        office: NewOffice<'_>,
+        office: &NewOffice<'_>,
     ) -> Result<(), PlanFault>
         ensures { UnlessMemory (λ _. self.new) Fails result
-            (at_line number (declare self.old (AnOffice office.entry.name.now office.entry.address.now))) }
+            (at_line number (declare self.old (AnOffice office.now.name office.now.address.now))) }
     {
-        if self.office_named(office.name).is_some() || self.is_address_taken(office.address) {
+        if self.office_named(&office.name).is_some() || self.is_address_taken(office.address) {
             return Err(refused(PlanRule::NameTwice, number));
         }
         if self.offices.len() >= MOST_OFFICES {
             return Err(refused(PlanRule::Limit, number));
         }
-        let name = Word::of(alloc, office.name)?;
         let address = Word::of(alloc, office.address)?;
-        self.offices.push(OfficeEntry { name, address })?;
+        self.offices.push(OfficeEntry {
+            name: office.name,
+            address,
+        })?;
         Ok(())
     }
 
-    fn add_pair(&mut self, number: u64, pair: NewPair<'_>) -> Result<(), PlanFault>
+    fn add_pair(&mut self, number: u64, pair: &NewPair) -> Result<(), PlanFault>
         ensures { UnlessMemory (λ _. self.new) Fails result
-            (at_line number (declare self.old (APair pair.entry.a.now pair.entry.b.now pair.entry.fork_at_first))) }
+            (at_line number (declare self.old (APair pair.now.a pair.now.b pair.now.fork_at_first))) }
     {
-        let Some(first) = self.office_named(pair.a) else {
+        let Some(first) = self.office_named(&pair.a) else {
             return Err(refused(PlanRule::UnknownName, number));
         };
-        let Some(second) = self.office_named(pair.b) else {
+        let Some(second) = self.office_named(&pair.b) else {
             return Err(refused(PlanRule::UnknownName, number));
         };
         if first == second {
@@ -222,38 +225,33 @@ impl PlanEntries {
         Ok(())
     }
 
-    fn add_record(
-        &mut self,
-        alloc: Global,
-        number: u64,
-        declared: NewRecord<'_>,
-    ) -> Result<(), PlanFault>
+    fn add_record(&mut self, number: u64, declared: &NewRecord) -> Result<(), PlanFault>
         ensures { UnlessMemory (λ _. self.new) Fails result
-            (at_line number (declare self.old (ARecord declared.entry.name.now declared.entry.a.now declared.entry.b.now (Number declared.entry.value) declared.entry.starts_at_first))) }
+            (at_line number (declare self.old (ARecord declared.now.name declared.now.a declared.now.b (Number declared.now.value) declared.now.starts_at_first))) }
     {
-        let Some(first) = self.office_named(declared.a) else {
+        let Some(first) = self.office_named(&declared.a) else {
             return Err(refused(PlanRule::UnknownName, number));
         };
-        let Some(second) = self.office_named(declared.b) else {
+        let Some(second) = self.office_named(&declared.b) else {
             return Err(refused(PlanRule::UnknownName, number));
         };
         if !self.are_neighbours(first, second) {
             return Err(refused(PlanRule::UnknownName, number));
         }
-        if self.record_named(declared.name).is_some() {
+        if self.record_named(&declared.name).is_some() {
             return Err(refused(PlanRule::NameTwice, number));
         }
         if self.records_between(first, second) >= MOST_PAIR_RECORDS {
             return Err(refused(PlanRule::Limit, number));
         }
         let entry = RecordEntry {
-            name: Word::of(alloc, declared.name)?,
+            name: declared.name,
             first,
             second,
             value: Value::from(declared.value),
             starts_at_first: declared.starts_at_first,
         };
-        self.records.push(alloc, entry)?;
+        self.records.push(entry)?;
         self.counts[pair_index(first, second)] += 1;
         Ok(())
     }

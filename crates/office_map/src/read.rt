@@ -78,7 +78,7 @@ fn read_line(
         return Err(refused(PlanRule::Line, number));
     }
     match declaration_in(line) {
-        Some(declaration) => tables.declare(alloc, number, declaration),
+        Some(declaration) => tables.declare(alloc, number, &declaration),
         None => Err(refused(PlanRule::Line, number)),
     }
 }

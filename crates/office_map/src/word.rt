@@ -1,13 +1,11 @@
-//! Words that a plan keeps.
+//! Addresses that a plan keeps.
 
 ghost use Rattle.std.specs.Prelude.{◌≡◌, IfOk};
-ghost use Rattle.std.specs.Str.{bytes_eq};
 
 use std::alloc::{AllocError, Global};
 use std::marker::Model;
-use text_lines::is_same_word;
 
-/// A name or an address, seen as its bytes.
+/// An address, or `-` for none, seen as its bytes.
 #[derive(Drop)]
 pub struct Word {
     text: String,
@@ -35,12 +33,5 @@ impl Word {
         ensures { result.now ≡ self.now }
     {
         self.text.as_str()
-    }
-
-    /// Whether the word is this text.
-    pub fn is(&self, text: &str) -> bool
-        ensures { result ≡ bytes_eq self.now text.now }
-    {
-        is_same_word(self.as_str().as_bytes(), text.as_bytes())
     }
 }

@@ -9,11 +9,11 @@ use Rattle.office_map.specs.declared.line.Declaration.TheVariants as variants
 use Rattle.office_map.specs.PlanValue.{PlanValue, are_neighbours}
 use Rattle.office_map.specs.PlanText.{Declaration, AnOffice, APair, ARecord}
 
--- the same without where the names lie in memory
+-- the same without where the address lies in memory
 abbrev pub seen : code.Declaration → Declaration
-seen (variants.Office o) = AnOffice o.name.now o.address.now
-seen (variants.Pair p) = APair p.a.now p.b.now p.fork_at_first
-seen (variants.Record r) = ARecord r.name.now r.a.now r.b.now (Number r.value) r.starts_at_first
+seen (variants.Office o) = AnOffice o.name o.address.now
+seen (variants.Pair p) = APair p.a p.b p.fork_at_first
+seen (variants.Record r) = ARecord r.name r.a r.b (Number r.value) r.starts_at_first
 
 -- what an error says of what reading gives; a ring is told by no line
 abbrev pub Fails : {A : Type 0} → PlanFault → Result A PlanRefusal → Type 0

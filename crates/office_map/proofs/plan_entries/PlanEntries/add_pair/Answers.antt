@@ -6,7 +6,7 @@ use Rattle.office_map.proofs.plan_entries.PlanEntries.add_pair.Goals as goal
 
 pub invariant_of-self-2 : goal.invariant_of-self-2
 invariant_of-self-2 c =
-    let added = pair_added _ c.args.self.now _ c.are_neighbours.result c.args.pair.a.now c.args.pair.b.now c.self.invariant.0 c.self.view_is (sym c.office_named.ensures ∙ c.in-Some.is) (sym c.office_named-2.ensures ∙ c.in-Some-office_named.is) (eqb-false _ _ (sym c.eq.ensures ∙ c.if-eq.false)) c.are_neighbours.ensures c.if-are_neighbours.false in
+    let added = pair_added _ c.args.self.now _ c.are_neighbours.result c.args.pair.now.a c.args.pair.now.b c.self.invariant.0 c.self.view_is (sym c.office_named.ensures ∙ c.in-Some.is) (sym c.office_named-2.ensures ∙ c.in-Some-office_named.is) (eqb-false _ _ (sym c.eq.ensures ∙ c.if-eq.false)) c.are_neighbours.ensures c.if-are_neighbours.false in
     let long : length c.self.inside.joined ≡ 256 = search rules in
     rw c.in_ok-push.ensures.items (
       added.0,

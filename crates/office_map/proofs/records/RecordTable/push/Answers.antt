@@ -1,13 +1,16 @@
-use Rattle.std.proofs.Common.{arith, ◌≡◌, ◌∙◌, length}
-use Rattle.std.specs.Str.{bytes_eq}
-use Rattle.std.specs.String.{string_bytes}
-use Rattle.std.proofs.lemmas.Map.Text.{text_keys}
-use Rattle.office_map.specs.declared.entries.RecordEntry.{RecordEntry}
-use Rattle.office_map.proofs.FirstPosition.{position_push}
+use Rattle.std.proofs.Common.{◌≡◌, ◌+◌, length, get_or, subst, arith}
+use Rattle.office_map.specs.refinement.RecordChains.{place_of_key, has_key, IsLastBelow}
+use Rattle.office_map.proofs.RecordChains.{chains_more, starts_more}
 use Rattle.office_map.proofs.records.RecordTable.push.Goals as goal
 
 pub invariant_of-self-2 : goal.invariant_of-self-2
-invariant_of-self-2 c = λ name.
-    let key : string_bytes c.in_ok-name.name ≡ c.args.entry.name = c.in_ok-name.ensures.ok ∙ c.as_str.ensures in
-    let number : length c.self.inside.entries.items ≡ c.new-number.result = omega (arith, c.self.inside.entries.ok.0) in
-    rw (c.in_ok-push.ensures.items, c.in_ok-reserve.ensures.items, position_push (λ (r : RecordEntry). bytes_eq r.name name), ← c.self.invariant name, number, ← key) (grind (arith, text_keys))
+invariant_of-self-2 c =
+    let records = c.self.inside.entries.items in
+    let key = c.key_place-key.result in
+    let last : IsLastBelow (has_key (place_of_key c.args.entry.name)) records (length records) (get_or c.self.inside.last key 0) =
+    subst (λ k. IsLastBelow (has_key k) records (length records) (get_or c.self.inside.last key 0)) c.key_place-key.ensures.place (c.self.invariant.1.starts key c.key_place-key.ensures.within) in
+    let count : c.len.result ≡ length records + 1 = omega (arith, c.len.ensures, c.in_ok-push-2.ensures.len, c.in_ok-reserve.ensures.len, c.self.inside.entries.ok.0) in
+    rw (c.in_ok-push-2.ensures.items, c.in_ok-reserve.ensures.items, c.in_ok-push.ensures.items) (
+      chains_more records c.self.inside.before.items c.args.entry (get_or c.self.inside.last key 0) c.self.invariant.0 last,
+      starts_more records c.self.inside.last c.args.entry key c.len.result c.self.invariant.1 c.key_place-key.ensures.place c.key_place-key.ensures.within count,
+    )

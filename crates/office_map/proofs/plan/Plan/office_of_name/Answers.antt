@@ -1,0 +1,4 @@
+use Rattle.office_map.proofs.plan.Plan.office_of_name.Goals as goal
+
+pub returns : goal.returns
+returns c = cc
