@@ -1,8 +1,7 @@
 -- What the names of an expression stand for where its line stands.
-use Rattle.std.specs.Prelude.{ℕ, pos, List, Option, Some, None, Bool, true, is_some, position, unwrap_or, if◌then◌else◌, map}
+use Rattle.std.specs.Prelude.{ℕ, pos, List, Option, Some, None, Bool, true, is_some, position, unwrap_or, if◌then◌else◌}
 use Rattle.std.specs.List.{list_all}
 use Rattle.std.specs.Str.{bytes_eq}
-use Rattle.std.specs.String.{string_bytes}
 use Rattle.office_map.specs.PlanValue.{PlanValue, record_named, is_end}
 use Rattle.bottle_values.specs.Values.{Number}
 use Rattle.session_meaning.specs.declared.node.Node.{Node}
@@ -21,7 +20,7 @@ pub record Scope : Type 0 where
   pub variables : List (List ℕ)
 
 abbrev pub scope_of : code.Scope → Scope
-scope_of s = record { plan = s.plan.now; office = s.office; variables = map string_bytes s.variables.now }
+scope_of s = record { plan = s.plan.now; office = s.office; variables = s.variables.now }
 
 abbrev pub variable_named : Scope → List ℕ → Option ℕ
 variable_named s name = position (λ v. bytes_eq v name) s.variables

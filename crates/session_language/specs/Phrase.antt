@@ -98,8 +98,8 @@ phrase_at ps = phrase_in (run false ps)
 -- the code's tokens
 abbrev pub leaf_of : code_operand.Operand → Operand
 leaf_of (operands.Number n) = ANumber n.value
-leaf_of (operands.Variable name) = AVariable name.now
-leaf_of (operands.Record name) = ARecord name.now
+leaf_of (operands.Variable name) = AVariable name
+leaf_of (operands.Record name) = ARecord name
 
 abbrev pub token_of : code_token.Token → Token
 token_of (tokens.Leaf x) = Leaf (leaf_of x)

@@ -1,7 +1,6 @@
 //! The first line of a statement that is added to the parts of an open session.
 
-ghost use Rattle.std.specs.Prelude.{◌≡◌, ◌≤◌, IfOk, map, vec_len, OnOk};
-ghost use Rattle.std.specs.String.{string_bytes};
+ghost use Rattle.std.specs.Prelude.{◌≡◌, ◌≤◌, IfOk, vec_len, OnOk};
 ghost use Rattle.session_language.specs.refinement.ResolvedStatements.{seen_spoken};
 ghost use Rattle.session_language.specs.refinement.PartsRefinement.{parts_of, with_variables};
 ghost use Rattle.session_language.specs.refinement.ReaderRefinement.{Stops};
@@ -17,12 +16,12 @@ use office_map::RecordId;
 use session_meaning::Statement;
 use session_meaning::needs::{add_reads, add_record};
 use std::alloc::{AllocError, Global};
-use text_lines::position_of;
+use text_lines::{ShortName, place_of_name};
 
 /// Adds the first line of a statement to the parts of a session.
-pub(crate) fn add_to(alloc: Global, parts: &mut Parts, spoken: Spoken<'_>) -> Result<(), Stop>
+pub(crate) fn add_to(alloc: Global, parts: &mut Parts, spoken: Spoken) -> Result<(), Stop>
     requires few { vec_len parts.old.variables ≤ most_variables }
-    ensures { UnlessMemory (λ _. parts_of parts.new) Stops result (add (parts_of parts.old) (seen_spoken spoken.entry)) }
+    ensures { UnlessMemory (λ _. parts_of parts.new) Stops result (add (parts_of parts.old) (seen_spoken spoken)) }
 {
     if opens_block(&spoken) && parts.outer.len() >= MOST_BLOCKS {
         return Err(Stop::Refused(SessionRule::TooDeep));
@@ -39,7 +38,7 @@ pub(crate) fn add_to(alloc: Global, parts: &mut Parts, spoken: Spoken<'_>) -> Re
 }
 
 /// Adds the records of the first line of a statement.
-fn add_needs(needs: &mut Vec<RecordId>, spoken: &Spoken<'_>) -> Result<(), AllocError>
+fn add_needs(needs: &mut Vec<RecordId>, spoken: &Spoken) -> Result<(), AllocError>
     ensures { OnOk result (needs.new.items ≡ named_after needs.old.items (seen_spoken spoken.now)) }
 {
     match spoken {
@@ -57,7 +56,7 @@ fn add_needs(needs: &mut Vec<RecordId>, spoken: &Spoken<'_>) -> Result<(), Alloc
     }
 }
 
-fn opens_block(spoken: &Spoken<'_>) -> bool
+fn opens_block(spoken: &Spoken) -> bool
     ensures { result ≡ opens_block (seen_spoken spoken.now) }
 {
     match spoken {
@@ -67,13 +66,13 @@ fn opens_block(spoken: &Spoken<'_>) -> bool
 }
 
 /// Puts a line in its place; the variable of a `let` is new where it was not there.
-fn place(alloc: Global, parts: &mut Parts, spoken: Spoken<'_>) -> Result<(), AllocError>
+fn place(alloc: Global, parts: &mut Parts, spoken: Spoken) -> Result<(), AllocError>
     requires { vec_len parts.old.variables ≤ most_variables }
-    ensures { OnOk result (parts_of parts.new ≡ with_line (with_variables (parts_of parts.old) (seen_spoken spoken.entry)) (seen_spoken spoken.entry)) }
+    ensures { OnOk result (parts_of parts.new ≡ with_line (with_variables (parts_of parts.old) (seen_spoken spoken)) (seen_spoken spoken)) }
 {
     match spoken {
         Spoken::Let(name, e) => {
-            let place = place_of(alloc, &mut parts.variables, name)?;
+            let place = place_of(&mut parts.variables, name)?;
             parts.push(Statement::Let(place, e))
         }
         Spoken::Set(id, e) => parts.push(Statement::Set(id, e)),
@@ -85,16 +84,16 @@ fn place(alloc: Global, parts: &mut Parts, spoken: Spoken<'_>) -> Result<(), All
 }
 
 /// The place of a variable, which is put at the end where it was not there.
-fn place_of(alloc: Global, variables: &mut Vec<String>, name: &str) -> Result<u8, AllocError>
+fn place_of(variables: &mut Vec<ShortName>, name: ShortName) -> Result<u8, AllocError>
     requires { vec_len variables.old ≤ most_variables }
-    ensures place { IfOk result (λ k. k ≡ place_of name.now (map string_bytes variables.new.items)) }
-    ensures variables { OnOk result (map string_bytes variables.new.items ≡ with_variable name.now (map string_bytes variables.old.items)) }
+    ensures place { IfOk result (λ k. k ≡ place_of name variables.new.items) }
+    ensures variables { OnOk result (variables.new.items ≡ with_variable name variables.old.items) }
 {
-    match position_of(variables, name.as_bytes()) {
+    match place_of_name(variables, &name) {
         Some(place) => Ok(place as u8),
         None => {
             let place = variables.len() as u8;
-            variables.push(String::from_str(alloc, name)?)?;
+            variables.push(name)?;
             Ok(place)
         }
     }

@@ -61,9 +61,9 @@ impl Draft {
     ///
     /// What the session needs and declares has to hold of it whenever a call returns, and nobody reads on after a
     /// refusal.
-    pub fn add(&mut self, alloc: Global, spoken: Spoken<'_>) -> Result<(), Stop>
+    pub fn add(&mut self, alloc: Global, spoken: Spoken) -> Result<(), Stop>
         requires { IsSpokenOver (vec_len self.old.parts.variables) (seen_spoken spoken) }
-        ensures { UnlessMemory (λ _. draft_of self.new) Stops result (add (draft_of self.old) (seen_spoken spoken.entry)) }
+        ensures { UnlessMemory (λ _. draft_of self.new) Stops result (add (draft_of self.old) (seen_spoken spoken)) }
     {
         let added = add_to(alloc, &mut self.parts, spoken);
         if let Err(stop) = added {

@@ -6,7 +6,7 @@ ghost use Rattle.session_language.specs.Lexer.{seen, Begins, one_byte, two_bytes
 ghost use Rattle.session_language.specs.Phrase.{run, Tells, IsShorter};
 
 use crate::token::{Next, Operand, Token, expression_symbol, is_read, operand_in};
-use text_lines::name;
+use text_lines::short_name;
 
 /// A symbol of the language.
 #[derive(Clone, Copy, PartialEq, Eq)]
@@ -112,7 +112,7 @@ impl<'a> Pieces<'a> {
         let Some(Piece::Word(word)) = self.next() else {
             return Next::Wrong;
         };
-        match name(word) {
+        match short_name(word) {
             Some(name) => Next::Token(Token::Leaf(Operand::Record(name))),
             None => Next::Wrong,
         }

@@ -12,6 +12,7 @@ use office_map::{OfficeId, RecordId};
 use session_meaning::{Condition, Statement};
 use std::alloc::{AllocError, Global};
 use std::mem;
+use text_lines::ShortName;
 
 /// How an open block begins: an `if`, before its `else` or after it, with its first part, or a
 /// `repeat`.
@@ -38,7 +39,7 @@ pub(crate) struct OpenBlock {
 #[derive(Drop)]
 pub(crate) struct Parts {
     pub office: OfficeId,
-    pub variables: Vec<String>,
+    pub variables: Vec<ShortName>,
     pub needs: Vec<RecordId>,
     pub outer: Vec<OpenBlock>,
     pub statements: Vec<Statement>,

@@ -1,7 +1,6 @@
 //! Sessions from texts, line by line.
 
 ghost use Rattle.std.specs.Prelude.{◌≡◌};
-ghost use Rattle.std.specs.Option.{option_copied};
 ghost use Rattle.office_map.specs.PlanValue.{PlanValue};
 ghost use Rattle.session_language.specs.Lexer.{pieces_of};
 ghost use Rattle.session_language.specs.Form.{name_alone, IsStatement};
@@ -20,7 +19,7 @@ use office_map::Plan;
 use session_programs::Program;
 use std::alloc::Global;
 use std::mem;
-use text_lines::{Guesses, name};
+use text_lines::{Guesses, ShortName, short_name};
 
 /// The sessions that are closed, the one that is open, and the builder of expressions.
 #[derive(Drop)]
@@ -107,7 +106,7 @@ impl Reader {
         if self.open_session.is_some() {
             return Err(Stop::Refused(SessionRule::Syntax));
         }
-        let Some(office) = plan.office_named(name) else {
+        let Some(office) = plan.office_of_name(&name) else {
             return Err(Stop::Refused(SessionRule::UnknownName));
         };
         if self.done.len() >= MOST_SESSIONS {
@@ -166,8 +165,8 @@ impl Reader {
 }
 
 /// A name, and nothing after it.
-fn name_alone(pieces: Pieces<'_>) -> Option<&str>
-    ensures { option_copied result ≡ name_alone (pieces_of pieces.entry.rest.now) }
+fn name_alone(pieces: Pieces<'_>) -> Option<ShortName>
+    ensures { result ≡ name_alone (pieces_of pieces.entry.rest.now) }
 {
     let mut rest = pieces;
     let Some(Piece::Word(word)) = rest.next() else {
@@ -176,5 +175,5 @@ fn name_alone(pieces: Pieces<'_>) -> Option<&str>
     if rest.next().is_some() {
         return None;
     }
-    name(word)
+    short_name(word)
 }

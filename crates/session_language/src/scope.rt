@@ -1,7 +1,6 @@
 //! What names stand for where a line stands.
 
-ghost use Rattle.std.specs.Prelude.{◌≢◌, AllPairs, map};
-ghost use Rattle.std.specs.String.{string_bytes};
+ghost use Rattle.std.specs.Prelude.{◌≢◌, AllPairs};
 
 use crate::builder::Element;
 use crate::names::{Placed, known, known_node};
@@ -9,15 +8,15 @@ use crate::token::{Operand, Token};
 use bottle_values::Value;
 use office_map::{OfficeId, Plan, RecordId};
 use session_meaning::Node;
-use text_lines::Guesses;
+use text_lines::{Guesses, ShortName};
 
 /// The plan, the session's office, and the variables that earlier lines name.
 #[derive(Clone, Copy)]
 pub struct Scope<'a> {
     pub plan: &'a Plan,
     pub office: OfficeId,
-    pub variables: &'a [String],
-    ghost distinct: { AllPairs (λ a b. a ≢ b) (map string_bytes variables.now) },
+    pub variables: &'a [ShortName],
+    ghost distinct: { AllPairs (λ a b. a ≢ b) variables.now },
 }
 
 impl Scope<'_> {
@@ -27,18 +26,18 @@ impl Scope<'_> {
     ghost use Rattle.session_language.specs.Spelling.{Leaf};
 
     /// The place of a variable.
-    pub fn variable_named(&self, guesses: &mut Guesses, name: &[u8]) -> Option<usize>
+    pub fn variable_named(&self, guesses: &mut Guesses, name: &ShortName) -> Option<usize>
         requires { length self.now.variables.now ≤ 255 }
         ensures { result ≡ variable_named (scope_of self.now) name.now }
     {
-        guesses.find(self.variables, name)
+        guesses.find_name(self.variables, name)
     }
 
     /// The record of this name, if it is of the session's office.
-    pub fn record_of(&self, name: &str) -> Option<RecordId>
+    pub fn record_of(&self, name: &ShortName) -> Option<RecordId>
         ensures { result ≡ record_of (scope_of self.now) name.now }
     {
-        let record = self.plan.record_named(name)?;
+        let record = self.plan.record_of_name(name)?;
         if self.plan.has_end(record, self.office) {
             Some(record)
         } else {
@@ -47,9 +46,9 @@ impl Scope<'_> {
     }
 
     /// A token with its names in their places. An unknown name is at place 0.
-    pub fn element(&self, guesses: &mut Guesses, token: Token<'_>) -> Placed
+    pub fn element(&self, guesses: &mut Guesses, token: Token) -> Placed
         requires { length self.now.variables.now ≤ 255 }
-        ensures { result ≡ placed_of (scope_of self.now) (token_of token.entry) }
+        ensures { result ≡ placed_of (scope_of self.now) (token_of token) }
     {
         match token {
             Token::Leaf(operand) => self.place(guesses, operand),
@@ -61,13 +60,13 @@ impl Scope<'_> {
         }
     }
 
-    fn place(&self, guesses: &mut Guesses, operand: Operand<'_>) -> Placed
+    fn place(&self, guesses: &mut Guesses, operand: Operand) -> Placed
         requires { length self.now.variables.now ≤ 255 }
-        ensures { result ≡ placed_of (scope_of self.now) (Leaf (leaf_of operand.entry)) }
+        ensures { result ≡ placed_of (scope_of self.now) (Leaf (leaf_of operand)) }
     {
         match operand {
             Operand::Number(n) => known_node(Node::Literal(Value::from(n.value as i64))),
-            Operand::Variable(name) => match self.variable_named(guesses, name) {
+            Operand::Variable(name) => match self.variable_named(guesses, &name) {
                 Some(place) => known_node(Node::Variable(place as u8)),
                 None => Placed {
                     element: Element::Operand(Node::Variable(0)),
@@ -75,7 +74,7 @@ impl Scope<'_> {
                     knows_record: true,
                 },
             },
-            Operand::Record(name) => match self.record_of(name) {
+            Operand::Record(name) => match self.record_of(&name) {
                 Some(record) => known_node(Node::Read(record)),
                 None => Placed {
                     element: Element::Operand(Node::Read(RecordId::new(0))),

@@ -20,12 +20,12 @@ use crate::summary::Summary;
 use office_map::RecordId;
 use session_meaning::{Comparison, Condition, Expression};
 use std::alloc::{AllocError, Global};
-use text_lines::{name, number};
+use text_lines::{ShortName, number, short_name};
 
-/// The first line of a statement; a variable that is let is still text.
+/// The first line of a statement; a variable that is let is still a name.
 #[derive(Drop)]
-pub enum Spoken<'a> {
-    Let(&'a str, Expression),
+pub enum Spoken {
+    Let(ShortName, Expression),
     Set(RecordId, Expression),
     Give(Expression),
     Require(Box<Condition>, u16),
@@ -50,11 +50,11 @@ fn alone(
 }
 
 /// Reads a name, `=` and an expression.
-fn assigned<'a>(
+fn assigned(
     builder: &mut Builder,
     scope: &Scope<'_>,
-    pieces: Pieces<'a>,
-) -> Result<Option<(&'a str, Summary)>, AllocError>
+    pieces: Pieces<'_>,
+) -> Result<Option<(ShortName, Summary)>, AllocError>
     requires { length scope.now.variables.now ≤ 255 }
     ensures { IfOk result (λ o. ReadsAssigned o (scope_of scope.now) builder.new.nodes.items (assigned (pieces_of pieces.entry.rest.now))) }
 {
@@ -65,7 +65,7 @@ fn assigned<'a>(
     let Some(Piece::Symbol(Symbol::Assign)) = rest.next() else {
         return Ok(None);
     };
-    let Some(name) = name(word) else {
+    let Some(name) = short_name(word) else {
         return Ok(None);
     };
     match alone(builder, scope, rest)? {
@@ -76,13 +76,13 @@ fn assigned<'a>(
 
 /// Reads the first line of a statement after a keyword. Of its faults the one that comes first in the order of
 /// the refusals is told.
-pub fn speak<'a>(
+pub fn speak(
     builder: &mut Builder,
     alloc: Global,
     scope: &Scope<'_>,
     keyword: Keyword,
-    pieces: Pieces<'a>,
-) -> Result<Spoken<'a>, Stop>
+    pieces: Pieces<'_>,
+) -> Result<Spoken, Stop>
     requires { length scope.now.variables.now ≤ 255 }
     ensures { UnlessMemory seen_spoken Stops result (spoken_after (scope_of scope.now) keyword (pieces_of pieces.entry.rest.now)) }
 {
@@ -100,12 +100,12 @@ pub fn speak<'a>(
 }
 
 #[tactic(auto, using(crate::proofs::session_reading::ResolveNames::is_postfix, crate::proofs::session_reading::ResolveNames::its_tree))]
-fn speak_let<'a>(
+fn speak_let(
     builder: &mut Builder,
     alloc: Global,
     scope: &Scope<'_>,
-    pieces: Pieces<'a>,
-) -> Result<Spoken<'a>, Stop>
+    pieces: Pieces<'_>,
+) -> Result<Spoken, Stop>
     requires { length scope.now.variables.now ≤ 255 }
     ensures { UnlessMemory seen_spoken Stops result (spoken_after (scope_of scope.now) Keyword.Let (pieces_of pieces.entry.rest.now)) }
 {
@@ -117,19 +117,19 @@ fn speak_let<'a>(
 }
 
 #[tactic(auto, using(crate::proofs::session_reading::ResolveNames::is_postfix, crate::proofs::session_reading::ResolveNames::its_tree))]
-fn speak_set<'a>(
+fn speak_set(
     builder: &mut Builder,
     alloc: Global,
     scope: &Scope<'_>,
-    pieces: Pieces<'a>,
-) -> Result<Spoken<'a>, Stop>
+    pieces: Pieces<'_>,
+) -> Result<Spoken, Stop>
     requires { length scope.now.variables.now ≤ 255 }
     ensures { UnlessMemory seen_spoken Stops result (spoken_after (scope_of scope.now) Keyword.Set (pieces_of pieces.entry.rest.now)) }
 {
     let Some((name, summary)) = assigned(builder, scope, pieces)? else {
         return Err(Stop::Refused(SessionRule::Syntax));
     };
-    let Some(record) = scope.record_of(name) else {
+    let Some(record) = scope.record_of(&name) else {
         return Err(Stop::Refused(without_record(summary)));
     };
     judge(summary)?;
@@ -137,12 +137,12 @@ fn speak_set<'a>(
 }
 
 #[tactic(auto, using(crate::proofs::session_reading::ResolveNames::is_postfix, crate::proofs::session_reading::ResolveNames::its_tree))]
-fn speak_give<'a>(
+fn speak_give(
     builder: &mut Builder,
     alloc: Global,
     scope: &Scope<'_>,
-    pieces: Pieces<'a>,
-) -> Result<Spoken<'a>, Stop>
+    pieces: Pieces<'_>,
+) -> Result<Spoken, Stop>
     requires { length scope.now.variables.now ≤ 255 }
     ensures { UnlessMemory seen_spoken Stops result (spoken_after (scope_of scope.now) Keyword.Give (pieces_of pieces.entry.rest.now)) }
 {
@@ -154,12 +154,12 @@ fn speak_give<'a>(
 }
 
 #[tactic(auto, using(crate::proofs::session_reading::ResolveNames::is_postfix, crate::proofs::session_reading::ResolveNames::its_tree))]
-fn speak_require<'a>(
+fn speak_require(
     builder: &mut Builder,
     alloc: Global,
     scope: &Scope<'_>,
-    pieces: Pieces<'a>,
-) -> Result<Spoken<'a>, Stop>
+    pieces: Pieces<'_>,
+) -> Result<Spoken, Stop>
     requires { length scope.now.variables.now ≤ 255 }
     ensures { UnlessMemory seen_spoken Stops result (spoken_after (scope_of scope.now) Keyword.Require (pieces_of pieces.entry.rest.now)) }
 {
@@ -201,12 +201,12 @@ fn compared(
 }
 
 #[tactic(auto, using(crate::proofs::session_reading::ResolveNames::is_postfix, crate::proofs::session_reading::ResolveNames::its_tree))]
-fn speak_if<'a>(
+fn speak_if(
     builder: &mut Builder,
     alloc: Global,
     scope: &Scope<'_>,
-    pieces: Pieces<'a>,
-) -> Result<Spoken<'a>, Stop>
+    pieces: Pieces<'_>,
+) -> Result<Spoken, Stop>
     requires { length scope.now.variables.now ≤ 255 }
     ensures { UnlessMemory seen_spoken Stops result (spoken_after (scope_of scope.now) Keyword.If (pieces_of pieces.entry.rest.now)) }
 {
@@ -227,7 +227,7 @@ fn speak_if<'a>(
     Ok(Spoken::If(condition))
 }
 
-fn speak_repeat<'a>(pieces: Pieces<'a>) -> Result<Spoken<'a>, Stop>
+fn speak_repeat(pieces: Pieces<'_>) -> Result<Spoken, Stop>
     ensures { (s : names.Scope) → UnlessMemory seen_spoken Stops result (spoken_after s Keyword.Repeat (pieces_of pieces.entry.rest.now)) }
 {
     match count_alone(pieces) {

@@ -5,19 +5,19 @@ ghost use Rattle.session_language.specs.Phrase.{leaf_of, token_of, operand_in, e
 
 use crate::lexer::{Piece, Symbol};
 use crate::number::Number;
-use text_lines::{is_name, number};
+use text_lines::{ShortName, number, short_name};
 
-/// A number, a variable, or `read` and a record; names as they stand in the text.
+/// A number, a variable, or `read` and a record.
 #[derive(Clone, Copy)]
-pub enum Operand<'a> {
+pub enum Operand {
     Number(Number),
-    Variable(&'a [u8]),
-    Record(&'a str),
+    Variable(ShortName),
+    Record(ShortName),
 }
 
 #[derive(Clone, Copy)]
-pub enum Token<'a> {
-    Leaf(Operand<'a>),
+pub enum Token {
+    Leaf(Operand),
     Plus,
     Minus,
     Times,
@@ -29,7 +29,7 @@ pub enum Token<'a> {
 /// with no name after it.
 #[derive(Clone, Copy)]
 pub enum Next<'a> {
-    Token(Token<'a>),
+    Token(Token),
     Stop(Option<Piece<'a>>),
     Wrong,
 }
@@ -41,20 +41,19 @@ pub(crate) fn is_read(word: &[u8]) -> bool
 }
 
 /// A number or a variable's name.
-pub(crate) fn operand_in(word: &[u8]) -> Option<Operand<'_>>
+pub(crate) fn operand_in(word: &[u8]) -> Option<Operand>
     ensures { option_map leaf_of result ≡ operand_in word.now }
 {
     if let Some(value) = number(word) {
         return Some(Operand::Number(Number { value }));
     }
-    if is_name(word) {
-        Some(Operand::Variable(word))
-    } else {
-        None
+    match short_name(word) {
+        Some(name) => Some(Operand::Variable(name)),
+        None => None,
     }
 }
 
-pub(crate) fn expression_symbol<'a>(symbol: Symbol) -> Option<Token<'a>>
+pub(crate) fn expression_symbol(symbol: Symbol) -> Option<Token>
     ensures { option_map token_of result ≡ expression_symbol symbol }
 {
     match symbol {

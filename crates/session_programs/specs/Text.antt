@@ -1,8 +1,7 @@
 -- The canonical text of expressions and sessions: one space between tokens, but none after ( and before ), and none
 -- after a leading minus; parentheses only where the grouping needs them; no blank line and no comment.
-use Rattle.std.specs.Prelude.{ℕ, ℤ, pos, negsuc, List, [], ◌∷◌, ◌++◌, codes, map, unwrap_or}
+use Rattle.std.specs.Prelude.{ℕ, ℤ, pos, negsuc, List, [], ◌∷◌, ◌++◌, codes, unwrap_or}
 use Rattle.std.specs.Fmt.{decimal}
-use Rattle.std.specs.String.{string_bytes}
 use Rattle.office_map.specs.PlanValue.{record_name_of}
 use Rattle.session_programs.specs.declared.words.Words as code_words
 use Rattle.session_programs.specs.declared.words.RecordNames.{RecordNames}
@@ -29,7 +28,7 @@ record_names (Of plan) r = unwrap_or (record_name_of plan.now r) []
 record_names Wide r = codes "0123456789abcdef"
 
 abbrev pub words_of : code_words.Words → Words
-words_of w = record { office = w.office.now; variables = map string_bytes w.variables.now; record_name = record_names w.records }
+words_of w = record { office = w.office.now; variables = w.variables.now; record_name = record_names w.records }
 
 abbrev pub variable_name : Words → ℕ → List ℕ
 variable_name w k = slice_index_or w.variables k []

@@ -1,6 +1,6 @@
 //! A session's program.
 
-ghost use Rattle.std.specs.Prelude.{◌≡◌, ◌↔◌, ℕ, IfOk, IfSome, IsTrue, Contains, map};
+ghost use Rattle.std.specs.Prelude.{◌≡◌, ◌↔◌, ℕ, IfOk, IfSome, IsTrue, Contains};
 ghost use Rattle.std.specs.List.Sorted.{IsStrictlyIncreasing};
 ghost use Rattle.std.specs.List.{list_all};
 ghost use Rattle.std.specs.String.{string_bytes};
@@ -20,6 +20,7 @@ use session_meaning::laws::needs_what_it_names;
 use std::alloc::{AllocError, Global};
 use std::marker::Model;
 use std::sync::Arc;
+use text_lines::ShortName;
 
 /// The program of a session. Its copies share what it says, so that a copy takes no memory, and an event with a program is no
 /// larger than others.
@@ -44,15 +45,14 @@ pub struct Program {
 #[derive(Drop)]
 struct Said {
     office: OfficeId,
-    variables: Vec<String>,
+    variables: Vec<ShortName>,
     needs: Vec<RecordId>,
     statements: Vec<Statement>,
 }
 
 impl Model for Program {
-    ghost use Rattle.std.specs.Prelude.{◌≡◌, IfSome, map};
+    ghost use Rattle.std.specs.Prelude.{◌≡◌, IfSome};
     ghost use Rattle.std.specs.Arc.{arc_value};
-    ghost use Rattle.std.specs.String.{string_bytes};
     ghost use Rattle.std.specs.Coded.{Coded, codes};
     ghost use Rattle.session_meaning.specs.ProgramValue.{ProgramValue};
     ghost use Rattle.session_meaning.specs.declared.node.Node.{Node};
@@ -66,10 +66,10 @@ impl Model for Program {
 
     ghost coded = { let nodes : Coded Node = Prim.hlevel codes in let marks : Coded Mark = Prim.hlevel (codes, term_code nodes) in Prim.hlevel (codes, block_code marks) };
 
-    ghost view = { λ p. record { office = (arc_value p.said).office; variables = map string_bytes (arc_value p.said).variables.items; body = block_of (arc_value p.said).statements.items } };
+    ghost view = { λ p. record { office = (arc_value p.said).office; variables = (arc_value p.said).variables.items; body = block_of (arc_value p.said).statements.items } };
 
-    ghost invariant = { λ p. ((arc_value p.said).needs.items ≡ needs_of (block_of (arc_value p.said).statements.items)) × IsWellFormed (record { office = (arc_value p.said).office; variables = map string_bytes (arc_value p.said).variables.items; body = block_of (arc_value p.said).statements.items })
-        × IfSome p.code (λ c. c ≡ code_of (record { office = (arc_value p.said).office; variables = map string_bytes (arc_value p.said).variables.items; body = block_of (arc_value p.said).statements.items })) };
+    ghost invariant = { λ p. ((arc_value p.said).needs.items ≡ needs_of (block_of (arc_value p.said).statements.items)) × IsWellFormed (record { office = (arc_value p.said).office; variables = (arc_value p.said).variables.items; body = block_of (arc_value p.said).statements.items })
+        × IfSome p.code (λ c. c ≡ code_of (record { office = (arc_value p.said).office; variables = (arc_value p.said).variables.items; body = block_of (arc_value p.said).statements.items })) };
 }
 
 impl Program {
@@ -80,13 +80,13 @@ impl Program {
     pub fn of(
         alloc: Global,
         office: OfficeId,
-        variables: Vec<String>,
+        variables: Vec<ShortName>,
         needs: Vec<RecordId>,
         statements: Vec<Statement>,
     ) -> Result<Program, AllocError>
         requires needed { needs.items ≡ needs_of (block_of statements.items) }
-        requires well_formed { IsWellFormed (record { office = office; variables = map string_bytes variables.items; body = block_of statements.items }) }
-        ensures { IfOk result (λ p. p ≡ record { office = office; variables = map string_bytes variables.items; body = block_of statements.items }) }
+        requires well_formed { IsWellFormed (record { office = office; variables = variables.items; body = block_of statements.items }) }
+        ensures { IfOk result (λ p. p ≡ record { office = office; variables = variables.items; body = block_of statements.items }) }
     {
         let mut statements = statements;
         statements.shrink_to_fit();
@@ -120,8 +120,8 @@ impl Program {
     }
 
     /// The names of its variables, in the order in which lines first let them.
-    pub fn variables(&self) -> &[String]
-        ensures { map string_bytes result.now ≡ self.now.variables }
+    pub fn variables(&self) -> &[ShortName]
+        ensures { result.now ≡ self.now.variables }
     {
         &self.said.variables
     }

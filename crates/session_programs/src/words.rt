@@ -1,6 +1,7 @@
 //! The words that stand for an office, variables and records in a text.
 
 use office_map::Plan;
+use text_lines::ShortName;
 
 /// Where records' names come from.
 #[derive(Clone, Copy)]
@@ -14,6 +15,6 @@ pub enum RecordNames<'a> {
 #[derive(Clone, Copy)]
 pub struct Words<'a> {
     pub office: &'a str,
-    pub variables: &'a [String],
+    pub variables: &'a [ShortName],
     pub records: RecordNames<'a>,
 }

@@ -1,8 +1,7 @@
 //! How long a session is, and how many bytes its canonical text has where each office and record has a name of 16: exact up
 //! to the limit, and one past it beyond. Each expression is summed in one pass over its nodes.
 
-ghost use Rattle.std.specs.Prelude.{◌≡◌, ◌≤◌, ◌++◌, ◌∷◌, [], IfOk, List, min, ◌+◌, length, map};
-ghost use Rattle.std.specs.String.{string_bytes};
+ghost use Rattle.std.specs.Prelude.{◌≡◌, ◌≤◌, ◌++◌, ◌∷◌, [], IfOk, List, min, ◌+◌, length};
 ghost use Rattle.std.specs.Fmt.{decimal};
 ghost use Rattle.session_meaning.specs.refinement.TreeOfStatements.{test_of, command_of, block_of};
 ghost use Rattle.session_programs.specs.Limits.{past_bytes};
@@ -19,16 +18,17 @@ use session_meaning::measures::{block_cost, block_extent, block_statements};
 use session_meaning::{Condition, Expression, Node, Operator, Statement};
 use session_programs::{Rank, comparison_text, magnitude};
 use std::alloc::{AllocError, Global};
+use text_lines::ShortName;
 
 /// Whether statements over these variables are past one of the limits of a session's length. Their text is measured only
 /// where they have many nodes.
 pub fn are_too_long(
     alloc: Global,
-    variables: &[String],
+    variables: &[ShortName],
     statements: &[Statement],
 ) -> Result<bool, AllocError>
-    requires { IsDeclared (map string_bytes variables.now) (block_of statements.now) }
-    ensures { IfOk result (λ b. b ≡ are_too_long (map string_bytes variables.now) (block_of statements.now)) }
+    requires { IsDeclared variables.now (block_of statements.now) }
+    ensures { IfOk result (λ b. b ≡ are_too_long variables.now (block_of statements.now)) }
 {
     if block_statements(statements) > MOST_STATEMENTS {
         return Ok(true);
@@ -45,10 +45,10 @@ pub fn are_too_long(
 /// The size of a session.
 fn session_size(
     alloc: Global,
-    variables: &[String],
+    variables: &[ShortName],
     statements: &[Statement],
 ) -> Result<u32, AllocError>
-    ensures { IfOk result (λ n. n ≡ min past_bytes (length (session_text (wide_words (map string_bytes variables.now)) (block_of statements.now)))) }
+    ensures { IfOk result (λ n. n ≡ min past_bytes (length (session_text (wide_words variables.now) (block_of statements.now)))) }
 {
     let mut ranks = Vec::new(alloc);
     Ok(sum(29, block_size(&mut ranks, variables, statements)?))
@@ -57,10 +57,10 @@ fn session_size(
 #[cycle(size)]
 fn block_size(
     ranks: &mut Vec<Rank>,
-    variables: &[String],
+    variables: &[ShortName],
     statements: &[Statement],
 ) -> Result<u32, AllocError>
-    ensures { IfOk result (λ n. n ≡ min past_bytes (length (block_text (wide_words (map string_bytes variables.now)) (block_of statements.now)))) }
+    ensures { IfOk result (λ n. n ≡ min past_bytes (length (block_text (wide_words variables.now) (block_of statements.now)))) }
 {
     let mut size = 0;
     for statement in statements {
@@ -72,10 +72,10 @@ fn block_size(
 #[cycle(size)]
 fn statement_size(
     ranks: &mut Vec<Rank>,
-    variables: &[String],
+    variables: &[ShortName],
     statement: &Statement,
 ) -> Result<u32, AllocError>
-    ensures { IfOk result (λ n. n ≡ min past_bytes (length (command_text (wide_words (map string_bytes variables.now)) (command_of statement.now)))) }
+    ensures { IfOk result (λ n. n ≡ min past_bytes (length (command_text (wide_words variables.now) (command_of statement.now)))) }
 {
     match statement {
         Statement::Let(place, e) => {
@@ -108,10 +108,10 @@ fn statement_size(
 
 fn condition_size(
     ranks: &mut Vec<Rank>,
-    variables: &[String],
+    variables: &[ShortName],
     c: &Condition,
 ) -> Result<u32, AllocError>
-    ensures { IfOk result (λ n. n ≡ min past_bytes (length (test_text (wide_words (map string_bytes variables.now)) (test_of c.now)))) }
+    ensures { IfOk result (λ n. n ≡ min past_bytes (length (test_text (wide_words variables.now) (test_of c.now)))) }
 {
     let left = expression_size(ranks, variables, &c.left)?;
     let right = expression_size(ranks, variables, &c.right)?;
@@ -122,10 +122,10 @@ fn condition_size(
 #[tactic(auto, using(crate::proofs::SizeStep::one_left))]
 fn expression_size(
     ranks: &mut Vec<Rank>,
-    variables: &[String],
+    variables: &[ShortName],
     e: &Expression,
 ) -> Result<u32, AllocError>
-    ensures { IfOk result (λ n. n ≡ min past_bytes (length (term_text (wide_words (map string_bytes variables.now)) e.now))) }
+    ensures { IfOk result (λ n. n ≡ min past_bytes (length (term_text (wide_words variables.now) e.now))) }
 {
     nodes_size(ranks, variables, e.nodes())
 }
@@ -133,10 +133,10 @@ fn expression_size(
 /// The bytes of what nodes in postfix order leave.
 fn nodes_size(
     ranks: &mut Vec<Rank>,
-    variables: &[String],
+    variables: &[ShortName],
     nodes: &[Node],
 ) -> Result<u32, AllocError>
-    ensures { IfOk result (λ n. n ≡ min past_bytes (bytes_of (wide_words (map string_bytes variables.now)) (push_nodes nodes.now []))) }
+    ensures { IfOk result (λ n. n ≡ min past_bytes (bytes_of (wide_words variables.now) (push_nodes nodes.now []))) }
 {
     ranks.clear();
     let mut size = 0;
@@ -150,12 +150,12 @@ fn nodes_size(
 fn with_node(
     ranks: &mut Vec<Rank>,
     size: u32,
-    variables: &[String],
+    variables: &[ShortName],
     node: Node,
 ) -> Result<u32, AllocError>
     requires size { size ≤ past_bytes }
-    ensures { (st : List Term) → ranks.old.items ≡ ranks_of st → size ≡ min past_bytes (bytes_of (wide_words (map string_bytes variables.now)) st) →
-        IfOk result (λ n. (ranks.new.items ≡ ranks_of (push_node node st)) × (n ≡ min past_bytes (bytes_of (wide_words (map string_bytes variables.now)) (push_node node st)))) }
+    ensures { (st : List Term) → ranks.old.items ≡ ranks_of st → size ≡ min past_bytes (bytes_of (wide_words variables.now) st) →
+        IfOk result (λ n. (ranks.new.items ≡ ranks_of (push_node node st)) × (n ≡ min past_bytes (bytes_of (wide_words variables.now) (push_node node st)))) }
 {
     match node {
         Node::Literal(value) => with_leaf(ranks, size, literal_size(value)),
@@ -243,11 +243,11 @@ fn around_product(rank: Rank) -> u32
 }
 
 /// The bytes of a variable's name.
-fn name_size(variables: &[String], place: u8) -> u32
-    ensures { result ≡ min past_bytes (length (variable_name (wide_words (map string_bytes variables.now)) place)) }
+fn name_size(variables: &[ShortName], place: u8) -> u32
+    ensures { result ≡ min past_bytes (length (variable_name (wide_words variables.now) place)) }
 {
     match variables.get(place as usize) {
-        Some(name) => at_most_past(name.as_str().len()),
+        Some(name) => at_most_past(name.len()),
         None => 0,
     }
 }

@@ -4,6 +4,7 @@ use Rattle.std.proofs.Crossing.{crosses}
 use Rattle.office_map.proofs.ids.OfficeId.TheSendSync as office_id
 use Rattle.office_map.proofs.ids.RecordId.TheSendSync as record_id
 use Rattle.frame_codec.proofs.frame.Frame.TheSendSync as frame
+use Rattle.short_names.proofs.short_name.ShortName.TheSendSync as short_name
 use Rattle.office_map.proofs.plan.Plan.TheSendSync as plan
 use Rattle.token_channel.proofs.channel.Channel.TheSendSync as channel
 use Rattle.dining_core.proofs.table.Table.TheSendSync as table
@@ -38,10 +39,10 @@ statement_sync = search (sync-Statement, condition.the_sync, expression.the_sync
 
 -- what a program says is lent to each thread that has a copy of it
 said_send : IsSend (Said.the_field).row
-said_send = search (statement_send, office_id.the_send, record_id.the_send, sendable, crosses) depth 40
+said_send = search (statement_send, office_id.the_send, record_id.the_send, short_name.the_send, sendable, crosses) depth 40
 
 said_sync : IsSync (Said.the_field).row
-said_sync = search (statement_sync, office_id.the_sync, record_id.the_sync, sendable, crosses) depth 40
+said_sync = search (statement_sync, office_id.the_sync, record_id.the_sync, short_name.the_sync, sendable, crosses) depth 40
 
 program_send : IsSend Program.the_row
 program_send = search (said_send, said_sync, code.the_send, sendable, crosses) depth 40

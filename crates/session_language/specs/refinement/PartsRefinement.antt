@@ -1,6 +1,5 @@
 -- What the parts of the code's open session are, in the words of reading.
 use Rattle.std.specs.Prelude.{List, map, reverse}
-use Rattle.std.specs.String.{string_bytes}
 use Rattle.session_language.specs.declared.parts.Head as code
 use Rattle.session_language.specs.declared.parts.Head.TheVariants as heads
 use Rattle.session_language.specs.declared.parts.OpenBlock as code_block
@@ -21,7 +20,7 @@ abbrev pub outer_of : List code_block.OpenBlock → List OpenBlock
 outer_of blocks = reverse (map open_block_of blocks)
 
 abbrev pub parts_of : code_parts.Parts → Draft
-parts_of d = record { office = d.office; variables = map string_bytes d.variables.items; named = d.needs.items; outer = outer_of d.outer.items; body = map command_of d.statements.items }
+parts_of d = record { office = d.office; variables = d.variables.items; named = d.needs.items; outer = outer_of d.outer.items; body = map command_of d.statements.items }
 
 -- a session with the variables after one more line
 abbrev pub with_variables : Draft → Spoken → Draft

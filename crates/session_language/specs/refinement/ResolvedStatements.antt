@@ -1,7 +1,6 @@
 -- What the code's readers of a line give, in the words of the forms of lines.
 use Rattle.std.specs.Prelude.{◌≡◌, ℕ, List, Option, Some, None, Result, Ok, not, nat_lt}
 use Rattle.std.specs.Option.{ok_or}
-use Rattle.std.specs.Borrow.{Bor}
 use Rattle.office_map.specs.PlanText.{◌>>=◌, ◌>>◌, refuse_if}
 use Rattle.session_meaning.specs.declared.node.Node.{Node}
 use Rattle.session_language.specs.declared.summary.Summary.{Summary}
@@ -23,12 +22,12 @@ ReadsAlone None s nodes read = read ≡ None
 ReadsAlone (Some x) s nodes read = (e : Phrase) × (read ≡ Some e) × Keeps x s nodes e
 
 -- a name and an expression
-abbrev pub ReadsAssigned : Option (Bor (List ℕ) × Summary) → Scope → List Node → Option (List ℕ × Phrase) → Type 0
+abbrev pub ReadsAssigned : Option (List ℕ × Summary) → Scope → List Node → Option (List ℕ × Phrase) → Type 0
 ReadsAssigned None s nodes read = read ≡ None
-ReadsAssigned (Some (name, x)) s nodes read = (e : Phrase) × (read ≡ Some (name.now, e)) × Keeps x s nodes e
+ReadsAssigned (Some (name, x)) s nodes read = (e : Phrase) × (read ≡ Some (name, e)) × Keeps x s nodes e
 
 abbrev pub seen_spoken : code.Spoken → Spoken
-seen_spoken (spoken.Let name e) = SpeaksLet name.now e
+seen_spoken (spoken.Let name e) = SpeaksLet name e
 seen_spoken (spoken.Set r e) = SpeaksSet r e
 seen_spoken (spoken.Give e) = SpeaksGive e
 seen_spoken (spoken.Require c code) = SpeaksDemand (test_of c.value) code

@@ -1,5 +1,4 @@
-use Rattle.std.proofs.Common.{◌≡◌, rules, arith, map}
-use Rattle.std.specs.String.{string_bytes}
+use Rattle.std.proofs.Common.{◌≡◌, rules, arith}
 use Rattle.session_meaning.specs.Tree.{When, Choice, Loop}
 use Rattle.session_programs.specs.Text.{wide_words}
 use Rattle.session_meaning.specs.refinement.TreeOfStatements.{test_of, command_of, block_of}
@@ -11,14 +10,14 @@ use Rattle.session_sizes.proofs.sizes.+size.Goals as goal
 pub statement_size-returns-in_ok-body-in-If : goal.statement_size-returns-in_ok-body-in-If
 statement_size-returns-in_ok-body-in-If t c =
     let e : command_of c.args.statement.now ≡ When (test_of c.deref-in-If.result.now) (block_of c.deref-in-If-2.result.now) = search (rules, the_lemmas, row_block_is) in
-    rw e (omega (arith, when_bytes (wide_words (map string_bytes c.args.variables.now)) (test_of c.deref-in-If.result.now) (block_of c.deref-in-If-2.result.now)))
+    rw e (omega (arith, when_bytes (wide_words c.args.variables.now) (test_of c.deref-in-If.result.now) (block_of c.deref-in-If-2.result.now)))
 
 pub statement_size-returns-in_ok-b-in-IfElse : goal.statement_size-returns-in_ok-b-in-IfElse
 statement_size-returns-in_ok-b-in-IfElse t c =
     let e : command_of c.args.statement.now ≡ Choice (test_of c.deref-in-IfElse.result.now) (block_of c.deref-in-IfElse-2.result.now) (block_of c.deref-in-IfElse-3.result.now) = search (rules, the_lemmas, row_block_is) in
-    rw e (omega (arith, choice_bytes (wide_words (map string_bytes c.args.variables.now)) (test_of c.deref-in-IfElse.result.now) (block_of c.deref-in-IfElse-2.result.now) (block_of c.deref-in-IfElse-3.result.now)))
+    rw e (omega (arith, choice_bytes (wide_words c.args.variables.now) (test_of c.deref-in-IfElse.result.now) (block_of c.deref-in-IfElse-2.result.now) (block_of c.deref-in-IfElse-3.result.now)))
 
 pub statement_size-returns-in_ok-body-in-Repeat : goal.statement_size-returns-in_ok-body-in-Repeat
 statement_size-returns-in_ok-body-in-Repeat t c =
     let e : command_of c.args.statement.now ≡ Loop c.in-Repeat.turns (block_of c.deref-in-Repeat.result.now) = search (rules, the_lemmas, row_block_is) in
-    rw e (omega (arith, loop_bytes (wide_words (map string_bytes c.args.variables.now)) c.in-Repeat.turns (block_of c.deref-in-Repeat.result.now)))
+    rw e (omega (arith, loop_bytes (wide_words c.args.variables.now) c.in-Repeat.turns (block_of c.deref-in-Repeat.result.now)))

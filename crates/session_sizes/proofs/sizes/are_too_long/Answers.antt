@@ -1,5 +1,4 @@
-use Rattle.std.proofs.Common.{◌≤◌, rules, sym, map}
-use Rattle.std.specs.String.{string_bytes}
+use Rattle.std.proofs.Common.{◌≤◌, rules, sym}
 use Rattle.session_meaning.specs.Measures.{block_statements, block_cost}
 use Rattle.session_meaning.specs.refinement.TreeOfStatements.{block_of}
 use Rattle.session_meaning.specs.refinement.Extent.{block_extent}
@@ -11,4 +10,4 @@ returns-then-block_extent-le-SHORT_EXTENT c =
     let few : block_statements (block_of c.args.statements.now) ≤ 256 = search rules in
     let cheap : block_cost (block_of c.args.statements.now) ≤ 10000 = search rules in
     let little : block_extent (block_of c.args.statements.now) ≤ 681 = search rules in
-    sym (short_by_extent (map string_bytes c.args.variables.now) (block_of c.args.statements.now) c.requires.names c.requires.statements few cheap little)
+    sym (short_by_extent c.args.variables.now (block_of c.args.statements.now) c.requires.names c.requires.statements few cheap little)

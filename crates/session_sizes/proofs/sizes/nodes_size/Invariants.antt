@@ -1,5 +1,4 @@
-use Rattle.std.proofs.Common.{◌≡◌, ◌≤◌, [], min, map, take}
-use Rattle.std.specs.String.{string_bytes}
+use Rattle.std.proofs.Common.{◌≡◌, ◌≤◌, [], min, take}
 use Rattle.session_meaning.specs.refinement.Postfix.{push_nodes}
 use Rattle.session_programs.specs.Text.{wide_words}
 use Rattle.session_sizes.specs.refinement.TextSizes.{ranks_of, bytes_of}
@@ -10,4 +9,4 @@ abbrev pub invariant-loop-node : goal.invariant-loop-node
 invariant-loop-node l =
     (l.size ≤ 16385)
     × ((l.ranks.items ≡ ranks_of (push_nodes (take l.node-index l.nodes) []))
-    × (l.size ≡ min 16385 (bytes_of (wide_words (map string_bytes l.variables)) (push_nodes (take l.node-index l.nodes) []))))
+    × (l.size ≡ min 16385 (bytes_of (wide_words l.variables) (push_nodes (take l.node-index l.nodes) []))))
