@@ -1,6 +1,6 @@
 //! The first line of a journal.
 
-ghost use Rattle.std.specs.Prelude.{◌≡◌, ◌&&◌, Some, codes, option_map};
+ghost use Rattle.std.specs.Prelude.{◌≡◌, ◌&&◌, Some, codes};
 ghost use Rattle.std.specs.Str.{bytes_eq};
 ghost use Rattle.text_lines.specs.Text.{words_of};
 ghost use Rattle.journal_texts.specs.JournalText.{header_said, header_of, office_of_header};
@@ -8,7 +8,7 @@ ghost use Rattle.journal_texts.specs.JournalText.{header_said, header_of, office
 use crate::fault::JournalRule;
 use crate::line::are;
 use office_map::{OfficeId, Plan};
-use text_lines::{first_word, is_plain, name, number};
+use text_lines::{ShortName, first_word, is_plain, number, short_name};
 
 /// Whose journal a first line begins, or what is wrong with it.
 ///
@@ -20,14 +20,14 @@ pub(crate) fn header(plan: &Plan, line: &[u8]) -> Result<OfficeId, JournalRule>
         return Err(JournalRule::Journal);
     }
     match run_and_name(line) {
-        Some((run, name)) => office_of(plan, run, name),
+        Some((run, name)) => office_of(plan, run, &name),
         None => Err(JournalRule::Journal),
     }
 }
 
 /// The run and the office's name, of a line that is `journal 1 run N office NAME`.
-fn run_and_name(line: &[u8]) -> Option<(u64, &str)>
-    ensures { option_map (λ h. (h.0, h.1.now)) result ≡ header_said (words_of line.now) }
+fn run_and_name(line: &[u8]) -> Option<(u64, ShortName)>
+    ensures { result ≡ header_said (words_of line.now) }
 {
     let (journal, left) = first_word(line)?;
     let (one, left) = first_word(left)?;
@@ -39,7 +39,7 @@ fn run_and_name(line: &[u8]) -> Option<(u64, &str)>
         return None;
     }
     let run = number(n)?;
-    let name = name(word)?;
+    let name = short_name(word)?;
     Some((run, name))
 }
 
@@ -51,11 +51,11 @@ fn is_header(journal: &[u8], one: &[u8], run: &[u8], office: &[u8]) -> bool
 }
 
 /// The office of that name, where the run is the plan's.
-fn office_of(plan: &Plan, run: u64, name: &str) -> Result<OfficeId, JournalRule>
+fn office_of(plan: &Plan, run: u64, name: &ShortName) -> Result<OfficeId, JournalRule>
     ensures { result ≡ office_of_header plan.now (Some (run, name.now)) }
 {
     if run != u64::from(plan.run()) {
         return Err(JournalRule::JournalHeader);
     }
-    plan.office_named(name).ok_or(JournalRule::JournalHeader)
+    plan.office_of_name(name).ok_or(JournalRule::JournalHeader)
 }

@@ -7,7 +7,7 @@ ghost use Rattle.run_words.specs.Words.{office_by, record_by, count_by};
 use office_map::{OfficeId, Plan, RecordId};
 pub use session_reports::names::{office_name, record_name};
 pub use session_reports::numbers::add_number;
-use text_lines::{name, number};
+use text_lines::{number, short_name};
 
 /// Whether a word is this text.
 pub fn is(word: &[u8], text: &str) -> bool
@@ -20,14 +20,16 @@ pub fn is(word: &[u8], text: &str) -> bool
 pub fn office_by(plan: &Plan, word: &[u8]) -> Option<OfficeId>
     ensures { result ≡ office_by plan.now word.now }
 {
-    plan.office_named(name(word)?)
+    let name = short_name(word)?;
+    plan.office_of_name(&name)
 }
 
 /// The record that a word names.
 pub fn record_by(plan: &Plan, word: &[u8]) -> Option<RecordId>
     ensures { result ≡ record_by plan.now word.now }
 {
-    plan.record_named(name(word)?)
+    let name = short_name(word)?;
+    plan.record_of_name(&name)
 }
 
 /// A number from 1 to the most.

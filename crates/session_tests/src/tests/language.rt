@@ -191,7 +191,7 @@ fn describe(text: &mut String, program: &Program) -> Result<(), AllocError> {
     }
     text.push_str(" variables")?;
     for name in program.variables() {
-        write!(text, " {name}")?;
+        write!(text, " {}", name.as_str())?;
     }
     write!(text, " statements {}\n", program.tree().len())
 }
