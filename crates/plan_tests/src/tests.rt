@@ -1,3 +1,4 @@
 mod masks;
+mod names;
 mod plans;
 mod values;
