@@ -1,10 +1,9 @@
 //! Where names were found last.
 
-ghost use Rattle.std.specs.Prelude.{◌≡◌, ◌≢◌, ◌<◌, ◌≤◌, AllPairs, length, map, position};
+ghost use Rattle.std.specs.Prelude.{◌≡◌, ◌≢◌, ◌<◌, ◌≤◌, AllPairs, length, position};
 ghost use Rattle.std.specs.Str.{bytes_eq};
-ghost use Rattle.std.specs.String.{string_bytes};
 
-use crate::name_places::{place_of_name, position_of};
+use crate::name_places::place_of_name;
 use short_names::ShortName;
 
 /// For names of each key, where the last one stood that was found. A place may be of another list by now: it is only
@@ -23,23 +22,7 @@ impl Guesses {
         Guesses { last: [0; 64] }
     }
 
-    /// The place of a name in a list of different names.
-    pub fn find(&mut self, names: &[String], name: &[u8]) -> Option<usize>
-        requires distinct { AllPairs (λ a b. a ≢ b) (map string_bytes names.now) }
-        requires few { length names.now ≤ 255 }
-        ensures { result ≡ position (λ v. bytes_eq v name.now) (map string_bytes names.now) }
-    {
-        let key = key_of(name);
-        let place = self.last[key] as usize;
-        if place < names.len() && names[place].as_str().as_bytes() == name {
-            return Some(place);
-        }
-        let place = position_of(names, name)?;
-        self.last[key] = place as u8;
-        Some(place)
-    }
-
-    /// The place of a short name in a list of different ones.
+    /// The place of a name in a list of different ones.
     pub fn find_name(&mut self, names: &[ShortName], name: &ShortName) -> Option<usize>
         requires distinct { AllPairs (λ a b. a ≢ b) names.now }
         requires few { length names.now ≤ 255 }
@@ -56,18 +39,9 @@ impl Guesses {
     }
 }
 
+/// A number that names of one list seldom share.
 fn short_key(name: &ShortName) -> usize
     ensures { result < 64 }
 {
     (name.key() >> 32) as usize % 64
-}
-
-/// A number that names of one list seldom share.
-fn key_of(name: &[u8]) -> usize
-    ensures { result < 64 }
-{
-    match name {
-        [] => 0,
-        [first, ..] => (*first as usize + 2 * name[name.len() - 1] as usize + name.len()) % 64,
-    }
 }

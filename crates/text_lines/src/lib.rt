@@ -7,8 +7,8 @@
 //! A name is kept as a [`ShortName`] ([`short_name`]). Where one stands in a list of names is told by [`place_of_name`], and by
 //! [`Guesses`], which look first where it stood last.
 //!
-//! It stands on `short_names`, and on `memchr`, for the ends of lines and of words. Definitions: `specs/Text.antt`. The limits of names and numbers are
-//! [`limits`].
+//! It stands on `short_names`, and on `memchr`, for the ends of lines and of words. Definitions: `specs/Text.antt`. The limits
+//! of names and numbers are [`limits`].
 #![tactic(auto)]
 
 mod guesses;
@@ -23,7 +23,7 @@ mod statements;
 pub use guesses::Guesses;
 pub use line_words::{first_word, is_same_word, words};
 pub use lines::{first_line, is_plain, is_plain_byte, place_of};
-pub use name_places::{place_of_name, position_of};
+pub use name_places::place_of_name;
 pub use names::{is_name, name, short_name};
 pub use numbers::{has_only_digits, number};
 pub use short_names::ShortName;
