@@ -1,6 +1,6 @@
 //! What an office shares with its neighbours.
 
-ghost use Rattle.std.specs.Prelude.{◌≡◌, ◌<◌, ◌&&◌, ◌↔◌, ℕ, Some, None, true, false, length, option_map, is_some, IsSome, IsErr, IfOk, OnOk, OnErr, All, if◌then◌else◌, find};
+ghost use Rattle.std.specs.Prelude.{◌≡◌, ◌<◌, ◌≤◌, ◌&&◌, ◌↔◌, ℕ, Some, None, true, false, length, option_map, is_some, IsSome, IfSome, IsErr, IfOk, OnOk, OnErr, All, if◌then◌else◌, find};
 ghost use Rattle.std.specs.Option.{ForSome, option_copied};
 ghost use Rattle.std.specs.Result.{result_err};
 ghost use Rattle.office_map.specs.PlanValue.{are_neighbours, is_end, peer, records_of, neighbours_of};
@@ -332,7 +332,8 @@ impl Pairs {
     /// The frame of the `i`-th message that waits for an office, from 1, or with 0 one of the count alone; none where there
     /// is no such neighbour or message.
     pub fn frame(&self, v: OfficeId, i: usize) -> Option<Frame>
-        ensures { result ≡ (if are_neighbours self.now.plan self.now.me v then frame_on ((pairs_of self.now).link v) i else None) }
+        ensures frame { result ≡ (if are_neighbours self.now.plan self.now.me v then frame_on ((pairs_of self.now).link v) i else None) }
+        ensures few { IfSome result (λ _. i ≤ 18) }
     {
         let channel = self.channel(v)?;
         if i == 0 {
