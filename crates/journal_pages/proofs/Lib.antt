@@ -1,0 +1,2 @@
+pub mod PackedFrames
+pub mod PagedEntries
