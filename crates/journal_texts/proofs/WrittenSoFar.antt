@@ -1,7 +1,6 @@
 -- The entries of a journal, written one after the other.
-use Rattle.std.proofs.Common.{◌≡◌, ℕ, ◌+◌, ◌-◌, ◌≤◌, drop, List, [], ◌∷◌, ◌++◌, length, take, Option, Some, None, sym, ap, ◌∙◌, subst, arith, append_assoc, inl, inr, Bor}
-use Rattle.std.specs.Prelude.{All, slice_get}
-use Rattle.std.specs.Option.{option_copied}
+use Rattle.std.proofs.Common.{◌≡◌, ℕ, ◌+◌, ◌-◌, ◌≤◌, drop, List, [], ◌∷◌, ◌++◌, length, take, Option, Some, None, sym, ap, ◌∙◌, subst, arith, append_assoc, inl, inr}
+use Rattle.std.specs.Prelude.{All, slice_get, option_map}
 use Rattle.std.proofs.lemmas.Bool.{cases_lt}
 use Rattle.std.proofs.lemmas.Grind.{flat_map-append}
 use Rattle.std.proofs.lemmas.List.{take_more, take_all, append-nil}
@@ -13,6 +12,9 @@ use Rattle.office_map.specs.Consistency.{IsConsistent}
 use Rattle.office_journal.specs.declared.event.Event.{Event}
 use Rattle.office_journal.specs.declared.event.Event.TheVariants as event
 use Rattle.office_journal.specs.declared.event.Entry.{Entry}
+use Rattle.office_journal.specs.declared.event.EntryRef.{EntryRef}
+use Rattle.office_journal.specs.Shown.{event_shown, entry_shown}
+use Rattle.office_journal.proofs.ShownEntries.{entry_in}
 use Rattle.office_journal.specs.declared.reply.Reply.{Reply}
 use Rattle.site_core.specs.Journals.{IsLegal}
 use Rattle.journal_texts.specs.Written.{header_line, entry_line, lines_of, journal_text}
@@ -31,15 +33,9 @@ has_text p (event.Withdraw t) r h = tt
 pub entry_at : (P : Entry → Type 0) (xs : List Entry) (i : ℕ) (x : Entry) → All P xs → slice_get xs i ≡ Some x → P x
 entry_at P xs i x all at = subst P (get_or_from_slice_get xs i x x at) (all i x (slice_get_within xs i x at))
 
--- what stands at a place
-pub entry_in : (xs : List Entry) (i : ℕ) (o : Option (Bor Entry)) (e : Bor Entry) → option_copied o ≡ slice_get xs i → o ≡ Some e → slice_get xs i ≡ Some e.now
-entry_in xs i o e h is = sym h ∙ ap option_copied is
-
-pub text_at : (p : PlanValue) (me : ℕ) (xs : List Entry) (i : ℕ) (o : Option (Bor Entry)) (e : Bor Entry) → IsConsistent p → IsLegal (record { plan = p; me = me; entries = xs }) → option_copied o ≡ slice_get xs i → o ≡ Some e → HasText p e.now.event
-text_at p me xs i o e ok legal h is = let x = entry_at (IsEntryOf p) xs i e.now (legal_entries p me xs ok legal) (entry_in xs i o e h is) in has_text p e.now.event e.now.reply x.event
-
-pub none_in : (xs : List Entry) (i : ℕ) (o : Option (Bor Entry)) → option_copied o ≡ slice_get xs i → o ≡ None → slice_get xs i ≡ None
-none_in xs i o h is = sym h ∙ ap option_copied is
+-- what stands at a place has a text
+pub text_at : (p : PlanValue) (me : ℕ) (xs : List Entry) (i : ℕ) (o : Option EntryRef) (e : EntryRef) → IsConsistent p → IsLegal (record { plan = p; me = me; entries = xs }) → option_map entry_shown o ≡ slice_get xs i → o ≡ Some e → HasText p (event_shown e.event)
+text_at p me xs i o e ok legal h is = let x = entry_at (IsEntryOf p) xs i (entry_shown e) (legal_entries p me xs ok legal) (entry_in xs i o e h is) in has_text p (event_shown e.event) e.reply x.event
 
 longer : (xs : List Entry) (i : ℕ) (x : Entry) → slice_get xs i ≡ Some x → take (i + 1) xs ≡ take i xs ++ x ∷ []
 longer xs i x at = take_more xs i x (slice_get_within xs i x at) ∙ ap (λ y. take i xs ++ y ∷ []) (get_or_from_slice_get xs i x x at)

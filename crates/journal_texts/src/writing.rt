@@ -5,6 +5,7 @@ ghost use Rattle.std.specs.Fmt.{decimal};
 ghost use Rattle.std.specs.String.{string_bytes};
 ghost use Rattle.session_programs.specs.Program.{fits};
 ghost use Rattle.site_core.specs.Journals.{IsLegal};
+ghost use Rattle.office_journal.specs.Shown.{event_shown, entry_shown};
 ghost use Rattle.office_journal.specs.declared.event.Event.TheVariants as events;
 ghost use Rattle.run_words.specs.Digits.{frame_digits};
 ghost use Rattle.run_words.specs.Words.{line_of_words};
@@ -21,7 +22,7 @@ use run_words::rules::add_rule;
 use run_words::words::office_name;
 use session_language::laws::reads_back;
 use session_programs::Program;
-use site_core::{Entry, Event, Journal};
+use site_core::{EntryRef, EventRef, Journal};
 use std::alloc::{AllocError, Global};
 
 /// The text of an office's journal: a first line, and then a line for each entry.
@@ -63,7 +64,7 @@ pub fn add_lines(
     let _ = plan.offices();
     let mut place = from;
     while let Some(entry) = journal.get(place) {
-        add_entry(alloc, text, plan, entry)?;
+        add_entry(alloc, text, plan, &entry)?;
         place += 1;
     }
     Ok(())
@@ -79,10 +80,15 @@ pub fn add_header(text: &mut String, plan: &Plan, office: OfficeId) -> Result<()
     write!(text, "journal 1 run {run} office {name}\n")
 }
 
-fn add_entry(alloc: Global, text: &mut String, plan: &Plan, entry: &Entry) -> Result<(), AllocError>
-    requires { HasText plan.now entry.now.event }
-    ensures line { OnOk result (string_bytes text.new ≡ string_bytes text.old ++ entry_line plan.now entry.now) }
-    ensures reads_back { OnOk result (EntryReadsBack plan.now entry.now) }
+fn add_entry(
+    alloc: Global,
+    text: &mut String,
+    plan: &Plan,
+    entry: &EntryRef<'_>,
+) -> Result<(), AllocError>
+    requires { HasText plan.now (event_shown entry.now.event) }
+    ensures line { OnOk result (string_bytes text.new ≡ string_bytes text.old ++ entry_line plan.now (entry_shown entry.now)) }
+    ensures reads_back { OnOk result (EntryReadsBack plan.now (entry_shown entry.now)) }
 {
     let tag = entry.tag;
     write!(text, "{tag} ")?;
@@ -93,20 +99,25 @@ fn add_entry(alloc: Global, text: &mut String, plan: &Plan, entry: &Entry) -> Re
     Ok(())
 }
 
-fn add_event(alloc: Global, text: &mut String, plan: &Plan, event: &Event) -> Result<(), AllocError>
-    requires { HasText plan.now event.now }
-    ensures words { OnOk result (string_bytes text.new ≡ string_bytes text.old ++ line_of_words (event_words plan.now event.now)) }
-    ensures reads_back { OnOk result (EventReadsBack plan.now event.now) }
+fn add_event(
+    alloc: Global,
+    text: &mut String,
+    plan: &Plan,
+    event: &EventRef<'_>,
+) -> Result<(), AllocError>
+    requires { HasText plan.now (event_shown event.now) }
+    ensures words { OnOk result (string_bytes text.new ≡ string_bytes text.old ++ line_of_words (event_words plan.now (event_shown event.now))) }
+    ensures reads_back { OnOk result (EventReadsBack plan.now (event_shown event.now)) }
 {
-    match event {
-        Event::Submit(program) => add_program(alloc, text, plan, program),
-        Event::Do(rule) => {
+    match *event {
+        EventRef::Submit(program) => add_program(alloc, text, plan, program),
+        EventRef::Do(rule) => {
             text.push_str("do ")?;
-            add_rule(text, plan, *rule)
+            add_rule(text, plan, rule)
         }
-        Event::Send(v, i) => add_send(text, plan, *v, *i),
-        Event::Took(frame) => add_frame(text, "took ", frame),
-        Event::Withdraw(ticket) => add_ticket(text, "withdraw ", *ticket),
+        EventRef::Send(v, i) => add_send(text, plan, v, i),
+        EventRef::Took(frame) => add_frame(text, "took ", &frame),
+        EventRef::Withdraw(ticket) => add_ticket(text, "withdraw ", ticket),
     }
 }
 

@@ -1,4 +1,5 @@
 pub mod Limits
 pub mod Replies
 pub mod RefusalText
+pub mod Shown
 pub mod refinement

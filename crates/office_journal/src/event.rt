@@ -1,9 +1,7 @@
 //! What happens at an office.
 
 ghost use Rattle.std.specs.Prelude.{◌≡◌, IfOk};
-ghost use Rattle.office_journal.specs.Replies.{reply_to};
-ghost use Rattle.office_journal.specs.declared.event.Event.TheVariants as events;
-ghost use Rattle.office_journal.specs.declared.reply.Reply.TheVariants as replies;
+ghost use Rattle.office_journal.specs.Shown.{event_shown, entry_shown};
 
 use crate::reply::Reply;
 use crate::rule::Rule;
@@ -11,7 +9,6 @@ use frame_codec::Frame;
 use office_map::OfficeId;
 use session_programs::Program;
 use std::alloc::AllocError;
-use window_link::Arrival;
 
 /// An event of an office.
 ///
@@ -48,6 +45,57 @@ impl Event {
     }
 }
 
+/// An event as a journal shows it, which keeps its program.
+#[derive(Clone, Copy)]
+pub enum EventRef<'a> {
+    /// A session is submitted.
+    Submit(&'a Program),
+    /// A rule is done.
+    Do(Rule),
+    /// A frame is made for a neighbour: of the i-th message that waits for it, from 1, or with 0 of the count alone.
+    Send(OfficeId, usize),
+    /// A frame comes.
+    Took(Frame),
+    /// The session with that ticket is withdrawn.
+    Withdraw(u32),
+}
+
+impl EventRef<'_> {
+    /// The same event, with a program of its own.
+    pub fn to_event(&self) -> Result<Event, AllocError>
+        ensures { IfOk result (λ e. e ≡ event_shown self.now) }
+    {
+        match *self {
+            EventRef::Submit(program) => Ok(Event::Submit(program.copy()?)),
+            EventRef::Do(rule) => Ok(Event::Do(rule)),
+            EventRef::Send(v, i) => Ok(Event::Send(v, i)),
+            EventRef::Took(frame) => Ok(Event::Took(frame)),
+            EventRef::Withdraw(ticket) => Ok(Event::Withdraw(ticket)),
+        }
+    }
+}
+
+/// An entry as a journal shows it. A journal keeps its entries in another form, and makes this of one that is asked for.
+#[derive(Clone, Copy)]
+pub struct EntryRef<'a> {
+    pub tag: u8,
+    pub event: EventRef<'a>,
+    pub reply: Reply,
+}
+
+impl EntryRef<'_> {
+    /// The same entry, with a program of its own.
+    pub fn to_entry(&self) -> Result<Entry, AllocError>
+        ensures { IfOk result (λ e. e ≡ entry_shown self.now) }
+    {
+        Ok(Entry {
+            tag: self.tag,
+            event: self.event.to_event()?,
+            reply: self.reply,
+        })
+    }
+}
+
 /// An event that an office accepted: who handed it in, and the reply.
 #[derive(Drop)]
 pub struct Entry {
@@ -66,60 +114,5 @@ impl Entry {
             event: self.event.copy()?,
             reply: self.reply,
         })
-    }
-
-    /// A session was submitted.
-    pub fn of_session(tag: u8, program: Program, ticket: u32) -> Entry
-        ensures { result ≡ record { tag = tag; event = events.Submit program; reply = replies.Ticket ticket } }
-    {
-        Entry {
-            tag,
-            event: Event::Submit(program),
-            reply: Reply::Ticket(ticket),
-        }
-    }
-
-    /// A rule was done.
-    pub fn of_rule(tag: u8, rule: Rule) -> Entry
-        ensures { result ≡ record { tag = tag; event = events.Do rule; reply = replies.Done } }
-    {
-        Entry {
-            tag,
-            event: Event::Do(rule),
-            reply: Reply::Done,
-        }
-    }
-
-    /// A session was withdrawn.
-    pub fn of_withdrawal(tag: u8, ticket: u32) -> Entry
-        ensures { result ≡ record { tag = tag; event = events.Withdraw ticket; reply = replies.Done } }
-    {
-        Entry {
-            tag,
-            event: Event::Withdraw(ticket),
-            reply: Reply::Done,
-        }
-    }
-
-    /// A frame was made.
-    pub fn of_frame(tag: u8, v: OfficeId, i: usize, frame: Frame) -> Entry
-        ensures { result ≡ record { tag = tag; event = events.Send v i; reply = replies.Frame frame } }
-    {
-        Entry {
-            tag,
-            event: Event::Send(v, i),
-            reply: Reply::Frame(frame),
-        }
-    }
-
-    /// A frame came.
-    pub fn of_arrival(tag: u8, frame: Frame, arrival: &Arrival) -> Entry
-        ensures { result ≡ record { tag = tag; event = events.Took frame; reply = reply_to arrival.now } }
-    {
-        Entry {
-            tag,
-            event: Event::Took(frame),
-            reply: Reply::to(arrival),
-        }
     }
 }

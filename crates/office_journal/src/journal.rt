@@ -1,21 +1,33 @@
 //! What an office accepted.
 
-ghost use Rattle.std.specs.Prelude.{◌≡◌, ◌≢◌, ◌<◌, ◌↔◌, ◌⊎◌, ◌++◌, ◌∷◌, [], length, take, drop, true, Err, IfOk, IfErr, OnOk, OnErr, nat_le};
+ghost use Rattle.std.specs.Prelude.{◌≡◌, ◌≢◌, ◌<◌, ◌≤◌, ◌-◌, ◌↔◌, ◌⊎◌, ◌++◌, ◌∷◌, [], length, take, drop, true, Err, IfOk, IfErr, OnOk, OnErr, nat_le, option_map, List};
 ghost use Rattle.std.specs.List.{slice_get};
-ghost use Rattle.std.specs.Option.{option_copied};
+ghost use Rattle.journal_pages.specs.declared.kind.Kind.TheVariants as kinds;
 ghost use Rattle.office_journal.specs.Limits.{most_entries};
+ghost use Rattle.office_journal.specs.Shown.{entry_shown};
+ghost use Rattle.office_journal.specs.declared.event.Entry.{Entry};
+ghost use Rattle.office_journal.specs.declared.event.Event.TheVariants as events;
+ghost use Rattle.office_journal.specs.declared.reply.Reply.TheVariants as replies;
 ghost use Rattle.office_journal.specs.declared.reply.Refusal.TheVariants as refusals;
+ghost use Rattle.office_journal.specs.refinement.PackedEntries.{entry_in};
 
-use crate::event::Entry;
+use crate::event::{Entry, EntryRef};
 use crate::limits::MAX_ENTRIES;
+use crate::packing;
 use crate::reply::Refusal;
+use journal_pages::{Packed, Pages};
+use session_programs::Program;
 use std::alloc::{AllocError, Global};
 use std::marker::Model;
 
 /// The entries of an office, the oldest first.
+///
+/// They are packed, in pages, and the programs of the sessions that were submitted stand beside in order. Readers are shown the entries
+/// that a contract sees.
 #[derive(Drop)]
 pub struct Journal {
-    entries: Vec<Entry>,
+    pages: Pages,
+    programs: Vec<Program>,
 }
 
 impl Model for Journal {
@@ -24,13 +36,15 @@ impl Model for Journal {
     ghost use Rattle.std.specs.Coded.{Coded, codes};
     ghost use Rattle.session_meaning.specs.declared.node.Node.{Node};
     ghost use Rattle.session_meaning.specs.refinement.TreeEncoding.{Mark, term_code, block_code};
-    ghost use Rattle.office_journal.specs.refinement.JournalOfCode.{JournalValue};
+    ghost use Rattle.office_journal.specs.refinement.JournalOfCode.{JournalValue, journal_of, AreKept};
 
     ghost Value = { JournalValue };
 
     ghost coded = { let nodes : Coded Node = Prim.hlevel codes in let marks : Coded Mark = Prim.hlevel (codes, term_code nodes) in Prim.hlevel (codes, block_code marks) };
 
-    ghost view = { λ j. record { entries = j.entries.items; room = vec_capacity j.entries - vec_len j.entries } };
+    ghost view = { λ j. journal_of j.pages j.programs.items (vec_capacity j.programs - vec_len j.programs) };
+
+    ghost invariant = { λ j. AreKept j.programs.items j.pages.entries };
 }
 
 impl Journal {
@@ -39,7 +53,8 @@ impl Journal {
         ensures { result.entries ≡ [] }
     {
         Journal {
-            entries: Vec::new(alloc),
+            pages: Pages::new(alloc),
+            programs: Vec::new(alloc),
         }
     }
 
@@ -47,14 +62,17 @@ impl Journal {
     pub fn len(&self) -> usize
         ensures { result ≡ length self.now.entries }
     {
-        self.entries.len()
+        self.pages.len()
     }
 
     /// The entry at this place, from 0.
-    pub fn get(&self, i: usize) -> Option<&Entry>
-        ensures { option_copied result ≡ slice_get self.now.entries i }
+    pub fn get(&self, i: usize) -> Option<EntryRef<'_>>
+        ensures { option_map entry_shown result ≡ slice_get self.now.entries i }
     {
-        self.entries.get(i)
+        match self.pages.get(i) {
+            Some(packed) => Some(packing::shown(packed, self.programs.as_slice())),
+            None => None,
+        }
     }
 
     /// Copies of the first so many entries from this place on, from 0; of fewer where the journal ends before. Where there is
@@ -63,9 +81,8 @@ impl Journal {
         ensures part { IfOk result (λ v. v.items ≡ take most (drop from self.now.entries)) }
         ensures memory { OnErr result (take most (drop from self.now.entries) ≢ []) }
     {
-        let all = self.entries.as_slice();
-        let rest = &all[from.min(all.len())..];
-        copied(alloc, &rest[..most.min(rest.len())])
+        let (first, end) = places(self.len(), from, most);
+        copied(alloc, self, first, end)
     }
 
     /// Makes room for one entry more.
@@ -78,33 +95,82 @@ impl Journal {
         ensures room { OnOk result (0 < self.new.room) }
         ensures unchanged { self.new.entries ≡ self.old.entries }
     {
-        if self.entries.len() >= MAX_ENTRIES {
+        if self.len() >= MAX_ENTRIES {
             return Err(Refusal::JournalFull);
         }
-        self.entries.reserve(1)?;
+        self.pages.make_room()?;
         Ok(())
     }
 
-    /// Adds an entry at the end.
-    pub fn push(&mut self, entry: Entry)
-        requires { 0 < self.old.room }
-        ensures { self.new.entries ≡ self.old.entries ++ entry ∷ [] }
+    /// Makes room for one program more. The entries stay, and so does their room.
+    pub fn make_room_for_program(&mut self) -> Result<(), AllocError>
+        ensures program { OnOk result (0 < self.new.programs) }
+        ensures room { self.new.room ≡ self.old.room }
+        ensures unchanged { self.new.entries ≡ self.old.entries }
     {
-        self.entries.push_reserved(entry);
+        self.programs.reserve(1)?;
+        Ok(())
+    }
+
+    /// Adds an entry at the end, which has no program.
+    pub fn push(&mut self, packed: Packed)
+        requires room { 0 < self.old.room }
+        requires plain { packed.kind ≢ kinds.Submitted }
+        ensures { self.new.entries ≡ self.old.entries ++ entry_in [] packed ∷ [] }
+    {
+        self.pages.push(packed);
+    }
+
+    /// Adds the entry of a session that was submitted, with its program.
+    pub fn push_session(&mut self, tag: u8, program: Program, ticket: u32)
+        requires room { 0 < self.old.room }
+        requires program { 0 < self.old.programs }
+        requires tag { tag < 16 }
+        ensures { self.new.entries ≡ self.old.entries ++ record { tag = tag; event = events.Submit program; reply = replies.Ticket ticket } ∷ [] }
+    {
+        // There are no more programs than entries, and pages have few of these.
+        let _ = self.pages.len();
+        let place = self.programs.len() as u32;
+        let entry = packing::of_session(tag, ticket, place);
+        self.programs.push_reserved(program);
+        self.pages.push(entry);
     }
 }
 
-/// The same entries, in memory of their own.
-fn copied(alloc: Global, entries: &[Entry]) -> Result<Vec<Entry>, AllocError>
-    ensures same { IfOk result (λ v. v.items ≡ entries.now) }
-    ensures memory { OnErr result (entries.now ≢ []) }
+/// The place of the first entry of a part, and that after the last, of so many in all.
+fn places(all: usize, from: usize, most: usize) -> (usize, usize)
+    ensures part { (es : List Entry) → all ≡ length es → take (result.1 - result.0) (drop result.0 es) ≡ take most (drop from es) }
+    ensures ordered { result.0 ≤ result.1 }
+    ensures within { result.1 ≤ all }
 {
-    if entries.is_empty() {
+    let first = from.min(all);
+    let count = most.min(all - first);
+    (first, first + count)
+}
+
+/// Copies of the entries from one place to another. Where that is the same, no memory is taken.
+#[tactic(auto, using(crate::proofs::KeptEntries::none_taken))]
+fn copied(
+    alloc: Global,
+    journal: &Journal,
+    from: usize,
+    end: usize,
+) -> Result<Vec<Entry>, AllocError>
+    requires ordered { from ≤ end }
+    requires within { end ≤ length journal.now.entries }
+    ensures same { IfOk result (λ v. v.items ≡ take (end - from) (drop from journal.now.entries)) }
+    ensures memory { OnErr result (from < end) }
+{
+    if from == end {
         return Ok(Vec::new(alloc));
     }
-    let mut copies = Vec::with_capacity(alloc, entries.len())?;
-    for entry in entries {
-        copies.push(entry.copy()?)?;
+    let mut copies = Vec::with_capacity(alloc, end - from)?;
+    for place in from..end {
+        let Some(entry) = journal.get(place) else {
+            unreachable!()
+        };
+        let copy = entry.to_entry()?;
+        copies.push(copy)?;
     }
     Ok(copies)
 }

@@ -2,21 +2,26 @@
 //!
 //! - A [`Rule`] is what an office does left to itself, an [`Event`] what happens at it, and a [`Reply`] or a [`Refusal`] what it
 //!   answers. Which of them it answers is no matter here: `site_core` says it.
-//! - An [`Entry`] is an event that was accepted, with who handed it in, and the reply.
-//! - A [`Journal`] is a list of entries, at most [`MAX_ENTRIES`] of them.
+//! - An [`Entry`] is an event that was accepted, with who handed it in, and the reply. A contract sees a journal as a list of them.
+//! - A [`Journal`] has at most [`MAX_ENTRIES`] entries. It keeps each in 32 bytes, in the pages of `journal_pages`, and the programs of
+//!   the sessions that were submitted beside (`entry_in`, in `specs/refinement/PackedEntries.antt`). [`packing`] makes that form of an
+//!   event. A reader is shown an [`EntryRef`], which borrows the program of a submitted session from the journal (`entry_shown`, in
+//!   `specs/Shown.antt`).
 //!
-//! [`Journal::make_room`] takes the memory of an entry before it is made, or refuses: a full journal as `JournalFull`, and no memory
-//! as `Memory`. The entries stay.
+//! [`Journal::make_room`] takes the memory of an entry before it is made, and [`Journal::make_room_for_program`] that of a program. The
+//! first refuses a full journal as `JournalFull`. The entries stay, whatever is refused.
 #![tactic(auto)]
 
 mod event;
 mod journal;
 mod limits;
+pub mod packing;
 mod reply;
 mod rule;
 
-pub use crate::event::{Entry, Event};
+pub use crate::event::{Entry, EntryRef, Event, EventRef};
 pub use crate::journal::Journal;
 pub use crate::limits::MAX_ENTRIES;
 pub use crate::reply::{Refusal, Reply};
 pub use crate::rule::Rule;
+pub use journal_pages::ENTRY_BYTES;

@@ -1,19 +1,11 @@
 -- The program of a ticket, looked for entry by entry.
-use Rattle.std.proofs.Common.{◌≡◌, ℕ, ◌+◌, List, [], ◌∷◌, drop, refl, zero, suc, Option, Some, None, sym, ap, ◌∙◌, Bor}
+use Rattle.std.proofs.Common.{◌≡◌, ℕ, ◌+◌, List, [], ◌∷◌, drop, refl, zero, suc, Option, Some, None, sym, ap, ◌∙◌}
 use Rattle.std.specs.Prelude.{slice_get}
-use Rattle.std.specs.Option.{option_copied}
 use Rattle.std.proofs.lemmas.List.{drop_more}
 use Rattle.std.proofs.lemmas.Option.{none-some, slice_get_within, get_or_from_slice_get}
 use Rattle.session_meaning.specs.ProgramValue.{ProgramValue}
 use Rattle.office_journal.specs.declared.event.Entry.{Entry}
 use Rattle.run_remarks.specs.Left.{or_else, program_with, submitted_as}
-
--- what stands at a place
-pub entry_in : (xs : List Entry) (i : ℕ) (o : Option (Bor Entry)) (e : Bor Entry) → option_copied o ≡ slice_get xs i → o ≡ Some e → slice_get xs i ≡ Some e.now
-entry_in xs i o e h is = sym h ∙ ap option_copied is
-
-pub none_in : (xs : List Entry) (i : ℕ) (o : Option (Bor Entry)) → option_copied o ≡ slice_get xs i → o ≡ None → slice_get xs i ≡ None
-none_in xs i o h is = sym h ∙ ap option_copied is
 
 -- what is left of a list, where its next element is known
 pub rest_at : (xs : List Entry) (i : ℕ) (x : Entry) → slice_get xs i ≡ Some x → drop i xs ≡ x ∷ drop (i + 1) xs

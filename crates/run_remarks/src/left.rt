@@ -2,11 +2,12 @@
 
 ghost use Rattle.std.specs.Prelude.{◌≡◌, filter, IfOk};
 ghost use Rattle.std.specs.Option.{option_copied};
+ghost use Rattle.office_journal.specs.Shown.{event_shown};
 ghost use Rattle.run_remarks.specs.Left.{left_of, is_left, is_away, submitted_as, program_with, missing, IsWaitFor};
 
 use office_map::RecordId;
 use session_programs::Program;
-use site_core::{Entry, Event, Journal, Office, Reply};
+use site_core::{EntryRef, EventRef, Journal, Office, Reply};
 use std::alloc::{AllocError, Global};
 
 /// What a session waits for that is left.
@@ -103,7 +104,7 @@ fn program_with(journal: &Journal, ticket: u32) -> Option<&Program>
     let _ = journal.len();
     let mut place = 0;
     while let Some(entry) = journal.get(place) {
-        if let Some(program) = submitted_as(ticket, entry) {
+        if let Some(program) = submitted_as(ticket, &entry) {
             return Some(program);
         }
         place += 1;
@@ -112,11 +113,11 @@ fn program_with(journal: &Journal, ticket: u32) -> Option<&Program>
 }
 
 /// The program that an entry submits, if its reply is this ticket.
-fn submitted_as(ticket: u32, entry: &Entry) -> Option<&Program>
-    ensures { option_copied result ≡ submitted_as ticket entry.now.event entry.now.reply }
+fn submitted_as<'a>(ticket: u32, entry: &EntryRef<'a>) -> Option<&'a Program>
+    ensures { option_copied result ≡ submitted_as ticket (event_shown entry.now.event) entry.now.reply }
 {
-    match (&entry.event, &entry.reply) {
-        (Event::Submit(program), Reply::Ticket(n)) if *n == ticket => Some(program),
+    match (entry.event, entry.reply) {
+        (EventRef::Submit(program), Reply::Ticket(n)) if n == ticket => Some(program),
         _ => None,
     }
 }

@@ -3,9 +3,9 @@ use denote.Param.Send.{IsSend, IsSync, sendable}
 use Rattle.std.proofs.Crossing.{crosses}
 use Rattle.office_map.proofs.ids.OfficeId.TheSendSync as office_id
 use Rattle.office_map.proofs.ids.RecordId.TheSendSync as record_id
-use Rattle.frame_codec.proofs.frame.Frame.TheSendSync as frame
 use Rattle.short_names.proofs.short_name.ShortName.TheSendSync as short_name
 use Rattle.office_map.proofs.plan.Plan.TheSendSync as plan
+use Rattle.journal_pages.proofs.pages.Pages.TheSendSync as pages
 use Rattle.token_channel.proofs.channel.Channel.TheSendSync as channel
 use Rattle.dining_core.proofs.table.Table.TheSendSync as table
 use Rattle.drinking_core.proofs.bar.Bar.TheSendSync as bar
@@ -22,14 +22,10 @@ use Rattle.session_machine.proofs.work.Work.TheSendSync as work
 use Rattle.session_agenda.specs.contracts.session.Session as Session
 use Rattle.session_agenda.specs.contracts.agenda.Phase as Phase
 use Rattle.session_agenda.specs.contracts.agenda.Agenda as Agenda
-use Rattle.office_journal.specs.contracts.event.Event as Event
-use Rattle.office_journal.specs.contracts.event.Entry as Entry
 use Rattle.office_journal.specs.contracts.journal.Journal as Journal
 use Rattle.site_core.specs.contracts.office.Office as Office
 use Rattle.neighbour_pairs.specs.contracts.channels.Channels as Channels
 use Rattle.neighbour_pairs.specs.contracts.pairs.Pairs as Pairs
-use Rattle.office_journal.specs.contracts.reply.Reply as Reply
-use Rattle.office_journal.specs.contracts.rule.Rule as Rule
 
 statement_send : IsSend Statement.the_row
 statement_send = search (send-Statement, condition.the_send, expression.the_send, record_id.the_send, sendable, crosses) depth 40
@@ -57,20 +53,8 @@ phase_send = search (session_send, code.the_send, work.the_send, sendable, cross
 agenda_send : IsSend Agenda.the_row
 agenda_send = search (session_send, phase_send, outcome.the_field_send, spare.the_field_send, sendable, crosses) depth 40
 
-rule_send : IsSend (Rule.the_field).row
-rule_send = search (office_id.the_send, record_id.the_send, sendable, crosses) depth 40
-
-reply_send : IsSend (Reply.the_field).row
-reply_send = search (frame.the_send, sendable, crosses) depth 40
-
-event_send : IsSend (Event.the_field).row
-event_send = search (program_send, rule_send, frame.the_send, office_id.the_send, sendable, crosses) depth 40
-
-entry_send : IsSend (Entry.the_field).row
-entry_send = search (event_send, reply_send, sendable, crosses) depth 40
-
 journal_send : IsSend Journal.the_row
-journal_send = search (entry_send, sendable, crosses) depth 40
+journal_send = search (pages.the_send, program_send, sendable, crosses) depth 40
 
 channels_send : IsSend Channels.the_row
 channels_send = search (channel.the_send, sendable, crosses) depth 40

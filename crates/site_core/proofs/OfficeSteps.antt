@@ -51,6 +51,10 @@ have_room p v entries h = λ u. omega (arith, numbers_in_range p v entries h u)
 pub are_ours : (p : PairsValue) (v : AgendaValue) (entries : List Entry) → IsAtEnd p v entries → AreOurs p v
 are_ours p v entries h = subst (All (λ (s : Session). is_ours p.plan p.me s.program ≡ true)) (sym h.stands.1.queue) (within (site_of p entries)).ours
 
+-- one entry more, where room was made for it
+pub noted_more : (xs ys zs : List Entry) (x e : Entry) → zs ≡ ys ++ x ∷ [] → ys ≡ xs → x ≡ e → zs ≡ xs ++ e ∷ []
+noted_more xs ys zs x e is same told = is ∙ ap (λ l. l ++ x ∷ []) same ∙ ap (λ y. xs ++ y ∷ []) told
+
 -- an accepted event, and its entry
 pub goes_on : (p p' : PairsValue) (v v' : AgendaValue) (entries entries' : List Entry) (tag : ℕ) (e : Event) (r : Reply) (o : Office) → IsAtEnd p v entries → IsOf p.plan p.me p' →
     answer p.plan p.me (office_of (site_of p entries)) e ≡ Ok (r, o) → Stands p' v' o → tag < 16 → nat_le most_entries (length entries) ≡ false → entries' ≡ entries ++ record { tag = tag; event = e; reply = r } ∷ [] → IsAtEnd p' v' entries'

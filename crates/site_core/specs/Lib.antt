@@ -2,6 +2,7 @@ pub use Rattle.neighbour_pairs.specs.Pairs
 pub use Rattle.session_agenda.specs.Agenda
 pub use Rattle.office_journal.specs.Replies
 pub use Rattle.office_journal.specs.RefusalText
+pub use Rattle.office_journal.specs.Shown
 pub mod Limits
 pub mod Offices
 pub mod Journals

@@ -19,7 +19,7 @@ use crate::{order, rules};
 use bottle_values::Value;
 use frame_codec::{Frame, FrameFault, decode};
 use neighbour_pairs::Pairs;
-use office_journal::{Entry, Event, Journal, Refusal, Reply, Rule};
+use office_journal::{Event, Journal, Refusal, Reply, Rule, packing};
 use office_map::{OfficeId, Plan, RecordId};
 use session_agenda::Agenda;
 use session_meaning::Outcome;
@@ -84,7 +84,7 @@ impl Office {
             return Err(rules::unless_guarded(enabled, refusal));
         }
         rules::do_rule(self.alloc, &mut self.pairs, &mut self.agenda, &rule)?;
-        let entry = Entry::of_rule(tag, rule);
+        let entry = packing::of_rule(tag, rule);
         self.journal.push(entry);
         Ok(Reply::Done)
     }
@@ -111,10 +111,10 @@ impl Office {
             return Err(Refusal::QueueFull);
         }
         self.journal.make_room()?;
+        self.journal.make_room_for_program()?;
         let copy = program.copy()?;
         let ticket = self.agenda.submit(program)?;
-        let entry = Entry::of_session(tag, copy, ticket);
-        self.journal.push(entry);
+        self.journal.push_session(tag, copy, ticket);
         Ok(Reply::Ticket(ticket))
     }
 
@@ -133,7 +133,7 @@ impl Office {
             return Err(rules::unless_guarded(withdrawable, refusal));
         }
         rules::withdraw(&mut self.pairs, &mut self.agenda, ticket)?;
-        let entry = Entry::of_withdrawal(tag, ticket);
+        let entry = packing::of_withdrawal(tag, ticket);
         self.journal.push(entry);
         Ok(Reply::Done)
     }
@@ -150,7 +150,7 @@ impl Office {
             return Err(Refusal::NotNow);
         };
         self.journal.make_room()?;
-        let entry = Entry::of_frame(tag, v, i, frame);
+        let entry = packing::of_frame(tag, v, i, &frame);
         self.journal.push(entry);
         Ok(Reply::Frame(frame))
     }
@@ -170,7 +170,7 @@ impl Office {
         }
         self.journal.make_room()?;
         let arrival = self.pairs.take(frame);
-        let entry = Entry::of_arrival(tag, *frame, &arrival);
+        let entry = packing::of_arrival(tag, frame, &arrival);
         self.journal.push(entry);
         Ok(Reply::to(&arrival))
     }

@@ -10,7 +10,7 @@ use crate::fault::KeptFault;
 use office_map::{OfficeId, Plan};
 use session_language::laws::reads_back;
 use session_programs::Program;
-use site_core::{Event, Journal};
+use site_core::{EventRef, Journal};
 use std::alloc::{AllocError, Global};
 
 /// The place in the list after the office's sessions that this journal submitted, where those begin its own of the list.
@@ -54,8 +54,8 @@ fn submitted_at(journal: &Journal, place: usize) -> Option<&Program>
     let Some(entry) = journal.get(place) else {
         unreachable!()
     };
-    match &entry.event {
-        Event::Submit(program) => Some(program),
+    match entry.event {
+        EventRef::Submit(program) => Some(program),
         _ => None,
     }
 }

@@ -3,7 +3,7 @@
 use super::{A, PAIR, act, hand_in, offices, take};
 use frame_codec::{Frame, Msg};
 use office_map::{OfficeId, RecordId};
-use site_core::{Entry, Event, Office, Refusal, Reply, Rule};
+use site_core::{EntryRef, Event, Office, Refusal, Reply, Rule};
 use std::process::Abort;
 use std::test::Fail;
 use token_channel::ChannelFault;
@@ -73,7 +73,7 @@ fn tell_of_journal<R: Abort>(rt: &R, office: &Office) {
     }
 }
 
-fn tag_of(entry: Option<&Entry>) -> Option<u8> {
+fn tag_of(entry: Option<EntryRef<'_>>) -> Option<u8> {
     entry.map(|entry| entry.tag)
 }
 

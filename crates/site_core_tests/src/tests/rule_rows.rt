@@ -12,7 +12,7 @@ use bottle_values::Value;
 use frame_codec::{Frame, MAX_NUMBER, Msg};
 use office_map::{OfficeId, RecordId};
 use session_programs::Program;
-use site_core::{Event, Office, Refusal, Reply, Rule};
+use site_core::{Event, EventRef, Office, Refusal, Reply, Rule};
 use std::alloc::{AllocError, Global};
 use std::process::Abort;
 use std::test::Fail;
@@ -631,8 +631,8 @@ fn is_entered(office: &Office, entries: usize, event: &Event) -> bool {
     };
     let alone = journal.get(entries.saturating_add(1)).is_none();
     let same = match (&entry.event, event) {
-        (Event::Do(done), Event::Do(rule)) => *done == *rule,
-        (Event::Withdraw(done), Event::Withdraw(ticket)) => *done == *ticket,
+        (EventRef::Do(done), Event::Do(rule)) => *done == *rule,
+        (EventRef::Withdraw(done), Event::Withdraw(ticket)) => *done == *ticket,
         _ => false,
     };
     alone && same && entry.tag == TAG && entry.reply == Reply::Done

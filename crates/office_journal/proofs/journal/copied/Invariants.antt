@@ -1,5 +1,5 @@
-use Rattle.std.proofs.Common.{◌≡◌, take}
+use Rattle.std.proofs.Common.{◌≡◌, ◌-◌, take, drop}
 use Rattle.office_journal.proofs.journal.copied.Given as goal
 
-abbrev pub invariant-loop-entry : goal.invariant-loop-entry
-invariant-loop-entry l = l.copies.items ≡ take l.entry-index l.entries
+abbrev pub invariant-loop-place : goal.invariant-loop-place
+invariant-loop-place l = l.copies.items ≡ take (l.place - l.from) (drop l.from l.journal.entries)

@@ -1,10 +1,10 @@
-use Rattle.std.proofs.Common.{Err, cond, refl, ap, subst, ◌∙◌, ◌++◌, ◌∷◌, []}
+use Rattle.std.proofs.Common.{Err, cond, refl, ap, subst, ◌∙◌}
 use Rattle.office_journal.specs.declared.event.Event.TheVariants as event
 use Rattle.office_journal.specs.declared.reply.Refusal.TheVariants as refusal
 use Rattle.site_core.specs.Offices.{may, act}
 use Rattle.site_core.specs.Journals.{Steps}
 use Rattle.site_core.specs.refinement.OfficeOfCode.{site_of}
-use Rattle.site_core.proofs.OfficeSteps.{have_room, are_ours, no_room_for, done_event, told_of, not_err, err_is}
+use Rattle.site_core.proofs.OfficeSteps.{have_room, are_ours, no_room_for, done_event, told_of, not_err, err_is, noted_more}
 use Rattle.site_core.proofs.office.Office.act.Goals as goal
 
 pub returns-in-Err : goal.returns-in-Err
@@ -28,4 +28,4 @@ invariant_of-self-2 c =
     let s = c.self.inside in
     done_event s.pairs c.do_rule.new.pairs s.agenda c.do_rule.new.agenda s.journal.entries c.push.new.self.entries c.args.tag (event.Do c.args.rule) (λ o. may s.pairs.plan s.pairs.me o c.args.rule) (λ o. act s.pairs.me o c.args.rule) (λ o. refl) c.self.invariant c.in_ok-do_rule.ensures.office
     (λ a m e. not_err _ _ ((c.in_ok-do_rule.ensures.not_now a m).1 e)) c.in_ok-do_rule.ensures.done c.requires (λ e. not_err _ _ (c.in_default.ensures.full.1 e))
-    (c.push.ensures ∙ ap (λ l. l ++ c.of_rule-entry.result ∷ []) c.make_room-room.ensures.unchanged ∙ ap (λ x. s.journal.entries ++ x ∷ []) c.of_rule-entry.ensures)
+    (noted_more _ _ _ _ _ c.push.ensures c.make_room-room.ensures.unchanged c.of_rule-entry.ensures.entry)

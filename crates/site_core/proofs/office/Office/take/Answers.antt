@@ -1,8 +1,8 @@
-use Rattle.std.proofs.Common.{Ok, ap, sym, subst, ◌∙◌, ◌++◌, ◌∷◌, [], rules}
+use Rattle.std.proofs.Common.{Ok, sym, subst, rules}
 use Rattle.office_journal.specs.declared.event.Event.TheVariants as event
 use Rattle.site_core.specs.Journals.{Steps}
 use Rattle.site_core.specs.refinement.OfficeOfCode.{site_of}
-use Rattle.site_core.proofs.OfficeSteps.{taken_frame, taken_steps, not_err}
+use Rattle.site_core.proofs.OfficeSteps.{taken_frame, taken_steps, not_err, noted_more}
 use Rattle.site_core.proofs.office.Office.take.Goals as goal
 
 pub invariant_of-self-2 : goal.invariant_of-self-2
@@ -10,7 +10,7 @@ invariant_of-self-2 c =
     let s = c.self.inside in
     taken_frame s.pairs c.take-arrival.new.self s.agenda s.journal.entries c.push.new.self.entries c.args.tag c.args.frame.now c.take-arrival.result c.self.invariant c.take-arrival.ensures.office (sym c.in_default.ensures.fault)
     c.take-arrival.ensures.arrival c.take-arrival.ensures.taken c.requires (λ e. not_err _ _ (c.in_ok-make_room.ensures.full.1 e))
-    (c.push.ensures ∙ ap (λ l. l ++ c.of_arrival-entry.result ∷ []) c.in_ok-make_room.ensures.unchanged ∙ ap (λ x. s.journal.entries ++ x ∷ []) c.of_arrival-entry.ensures)
+    (noted_more _ _ _ _ _ c.push.ensures c.in_ok-make_room.ensures.unchanged c.of_arrival-entry.ensures.entry)
 
 pub returns : goal.returns
 returns c =
@@ -18,7 +18,7 @@ returns c =
     subst (λ x. Steps x c.args.tag (event.Took c.args.frame.now) (Ok c.to.result) (site_of c.take-arrival.new.self c.push.new.self.entries)) c.self.view_is
     (taken_steps s.pairs c.take-arrival.new.self s.agenda s.journal.entries c.push.new.self.entries c.args.tag c.args.frame.now c.take-arrival.result c.to.result c.self.invariant c.take-arrival.ensures.office (sym c.in_default.ensures.fault)
     c.take-arrival.ensures.arrival c.to.ensures (λ e. not_err _ _ (c.in_ok-make_room.ensures.full.1 e))
-    (c.push.ensures ∙ ap (λ l. l ++ c.of_arrival-entry.result ∷ []) c.in_ok-make_room.ensures.unchanged ∙ ap (λ x. s.journal.entries ++ x ∷ []) c.of_arrival-entry.ensures))
+    (noted_more _ _ _ _ _ c.push.ensures c.in_ok-make_room.ensures.unchanged c.of_arrival-entry.ensures.entry))
 
 pub returns-in_err-make_room : goal.returns-in_err-make_room
 returns-in_err-make_room c = search rules

@@ -1,0 +1,3 @@
+pub mod ShownEntries
+pub mod KeptEntries
+mod PackedKinds
