@@ -8,6 +8,7 @@ use std::test::Fail;
 
 mod caller;
 mod endings;
+mod long;
 mod queue;
 mod readers;
 mod refusal_order;
