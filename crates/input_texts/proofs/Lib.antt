@@ -1,4 +1,5 @@
 mod CutAtLine
 mod CutOfPrefix
 mod ReadOn
+mod ReadInto
 mod WordText

@@ -2,10 +2,10 @@
 use Rattle.std.proofs.Common.{◌≡◌, ◌⊎◌, ◌+◌, ◌≤◌, ℕ, List, [], ◌++◌, length, Option, Some, None, refl, sym, subst, ap, ◌∙◌, append_assoc, arith, length-append, inl, inr}
 use Rattle.std.proofs.lemmas.List.{append-nil}
 use Rattle.std.proofs.lemmas.Option.{none-some, same_Some}
-use Rattle.std.specs.Io.KnownBytes.{Consumes, Keeps}
+use Rattle.std.specs.Io.KnownBytes.{Consumes, IsAtEnd, Keeps}
 use Rattle.input_texts.specs.Cut.{IsCut}
 use Rattle.input_texts.specs.Words.{IsReadUpTo}
-use Rattle.input_texts.specs.refinement.Reading.{IsFilled, left}
+use Rattle.input_texts.specs.refinement.Reading.{Grows, IsFilled, left}
 use Rattle.input_texts.proofs.CutOfPrefix.{cut_of_prefix}
 
 -- of a text that is known the buffer has the beginning, and the reader the rest
@@ -54,17 +54,14 @@ all_read limit old new before bytes rest filled known =
 
 -- ---- one read more
 
-abbrev pub Grown : Option (List ℕ) → Option (List ℕ) → List ℕ → List ℕ → Type 0
-Grown old new before bytes = (got : List ℕ) × (bytes ≡ before ++ got) × Consumes old new got
-
 consumed_more : (old mid new : Option (List ℕ)) (got part : List ℕ) → Consumes old mid got → Consumes mid new part → Consumes old new (got ++ part)
 consumed_more None mid new got part h k = tt
 consumed_more (Some xs) None new got part h k = absurd h
 consumed_more (Some xs) (Some ys) None got part h k = absurd k
 consumed_more (Some xs) (Some ys) (Some zs) got part h k = h ∙ ap (λ y. got ++ y) k ∙ sym (append_assoc got part zs)
 
-pub more_read : (old mid new : Option (List ℕ)) (before bytes part grown : List ℕ) → Grown old mid before bytes → Consumes mid new part
-    → grown ≡ bytes ++ part → Grown old new before grown
+pub more_read : (old mid new : Option (List ℕ)) (before bytes part grown : List ℕ) → Grows old mid before bytes → Consumes mid new part
+    → grown ≡ bytes ++ part → Grows old new before grown
 more_read old mid new before bytes part grown (got, e, h) k g =
     (got ++ part, g ∙ ap (λ b. b ++ part) e ∙ append_assoc before got part, consumed_more old mid new got part h k)
 
@@ -74,5 +71,16 @@ consumed_none (Some xs) None new got h k = absurd h
 consumed_none (Some xs) (Some ys) None got h k = absurd k
 consumed_none (Some xs) (Some ys) (Some zs) got h k = h ∙ ap (λ y. got ++ y) (sym k)
 
-pub none_read : (old mid new : Option (List ℕ)) (before bytes : List ℕ) → Grown old mid before bytes → Keeps mid new → Grown old new before bytes
+pub none_read : (old mid new : Option (List ℕ)) (before bytes : List ℕ) → Grows old mid before bytes → Keeps mid new → Grows old new before bytes
 none_read old mid new before bytes (got, e, h) k = (got, e, consumed_none old mid new got h k)
+
+-- one buffer after the other
+pub grows_on : (old mid new : Option (List ℕ)) (before bytes grown : List ℕ) → Grows old mid before bytes → Grows mid new bytes grown → Grows old new before grown
+grows_on old mid new before bytes grown h (part, e, k) = more_read old mid new before bytes part grown h k e
+
+pub as_filled : (old new : Option (List ℕ)) (before bytes : List ℕ) (most : ℕ) → Grows old new before bytes → (most ≤ length bytes) ⊎ IsAtEnd new → IsFilled old new before bytes most
+as_filled old new before bytes most (got, e, k) full = record { got = got; grown = e; taken = k; full = full }
+
+pub grows_none : (old : Option (List ℕ)) (bytes : List ℕ) → Grows old old bytes bytes
+grows_none None bytes = ([], sym (append-nil bytes), tt)
+grows_none (Some xs) bytes = ([], sym (append-nil bytes), refl)

@@ -2,6 +2,10 @@
 use Rattle.std.specs.Prelude.{◌≡◌, ◌⊎◌, ℕ, ◌≤◌, List, ◌++◌, length, Option, Some, None}
 use Rattle.std.specs.Io.KnownBytes.{Consumes, IsAtEnd}
 
+-- a buffer grew by what the reader lost
+abbrev pub Grows : Option (List ℕ) → Option (List ℕ) → List ℕ → List ℕ → Type 0
+Grows old new before after = (got : List ℕ) × (after ≡ before ++ got) × Consumes old new got
+
 -- A buffer grew by what the reader lost, until it had so many bytes or the reader none.
 pub record IsFilled (old new : Option (List ℕ)) (before after : List ℕ) (most : ℕ) : Type 0 where
   pub got : List ℕ
