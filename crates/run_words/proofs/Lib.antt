@@ -1,4 +1,6 @@
 pub mod LinesOfWords
 pub mod DigitWords
+mod HexBlocks
+mod Lanes
 pub mod NamesAndNumbers
 pub mod RuleWords

@@ -1,12 +1,13 @@
 //! Bytes as digits.
 
-ghost use Rattle.std.specs.Prelude.{◌≡◌, ◌*◌, ◌≤◌, ◌<◌, ◌++◌, length, Some, IfOk, OnOk, option_map};
+ghost use Rattle.std.specs.Prelude.{◌≡◌, ◌*◌, ◌/◌, ◌≤◌, ◌<◌, ◌++◌, length, true, false, Some, None, IfOk, OnOk, option_map};
 ghost use Rattle.std.specs.List.{list_all};
 ghost use Rattle.std.specs.String.{string_bytes};
 ghost use Rattle.hex.specs.Hex.{is_hex_digit};
 ghost use Rattle.run_words.specs.Digits.{digits_of, bytes_in, frame_digits, IsFrameWord};
 ghost use Rattle.run_words.specs.declared.digits.FrameWord.TheVariants as said;
 
+use crate::blocks::{BLOCK, bytes_by_blocks};
 use frame_codec::{Frame, MAX_LENGTH, decode, encode};
 use hex::FromHexError;
 use std::alloc::{AllocError, Global};
@@ -78,13 +79,29 @@ pub fn frame_word(word: &[u8]) -> FrameWord
     let half = word.len() / 2;
     let mut bytes = [0; MAX_LENGTH];
     let room = &mut bytes[..half];
-    if hex::decode_to_slice(word, room).is_err() {
+    if !has_bytes(word, room) {
         return FrameWord::NoDigits;
     }
     match decode(room) {
         Ok(frame) => FrameWord::Spelled(frame),
         Err(_) => FrameWord::NoFrame,
     }
+}
+
+/// The bytes of a word of digits; whether it is one. A frame's are looked at by blocks.
+#[tactic(auto, using(crate::proofs::DigitWords::odd_digits, crate::proofs::DigitWords::other_digits))]
+fn has_bytes(word: &[u8], bytes: &mut [u8]) -> bool
+    requires { length bytes.old ≡ length word.now / 2 }
+    ensures bytes { result ≡ true → bytes_in word.now ≡ Some bytes.new }
+    ensures none { result ≡ false → bytes_in word.now ≡ None }
+{
+    if word.len() % 2 == 1 {
+        return false;
+    }
+    if word.len() < BLOCK {
+        return hex::decode_to_slice(word, bytes).is_ok();
+    }
+    bytes_by_blocks(word, bytes)
 }
 
 /// The same, for more digits than a frame can have.

@@ -14,6 +14,7 @@
 //! text.
 #![tactic(auto)]
 
+mod blocks;
 pub mod digits;
 pub mod laws;
 pub mod replies;
