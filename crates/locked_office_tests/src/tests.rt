@@ -16,8 +16,8 @@ use std::sync::Wait;
 use std::test::Fail;
 
 mod caller;
+mod meanwhile;
 mod threads;
-mod waiting;
 
 /// Two offices, and two records of theirs.
 const PAIR: &str =

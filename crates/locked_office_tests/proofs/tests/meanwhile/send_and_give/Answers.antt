@@ -1,6 +1,6 @@
 use Rattle.site_core.specs.declared.event.Event.TheVariants as event
 use Rattle.locked_office.proofs.Giving.{event_adds}
-use Rattle.locked_office_tests.proofs.tests.waiting.send_and_give.Goals as goal
+use Rattle.locked_office_tests.proofs.tests.meanwhile.send_and_give.Goals as goal
 
 pub give-requires-clause-adds : goal.give-requires-clause-adds
 give-requires-clause-adds g c =
