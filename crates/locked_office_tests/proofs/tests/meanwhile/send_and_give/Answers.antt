@@ -1,4 +1,4 @@
-use Rattle.site_core.specs.declared.event.Event.TheVariants as event
+use Rattle.office_journal.specs.declared.event.Event.TheVariants as event
 use Rattle.locked_office.proofs.Giving.{event_adds}
 use Rattle.locked_office_tests.proofs.tests.meanwhile.send_and_give.Goals as goal
 
