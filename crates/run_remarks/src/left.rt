@@ -7,7 +7,7 @@ ghost use Rattle.run_remarks.specs.Left.{left_of, is_left, is_away, submitted_as
 
 use office_map::RecordId;
 use session_programs::Program;
-use site_core::{EntryRef, EventRef, Journal, Office, Reply};
+use site_core::{EventRef, Journal, Office, Reply};
 use std::alloc::{AllocError, Global};
 
 /// What a session waits for that is left.
@@ -104,7 +104,7 @@ fn program_with(journal: &Journal, ticket: u32) -> Option<&Program>
     let _ = journal.len();
     let mut place = 0;
     while let Some(entry) = journal.get(place) {
-        if let Some(program) = submitted_as(ticket, &entry) {
+        if let Some(program) = submitted_as(ticket, &entry.event, &entry.reply) {
             return Some(program);
         }
         place += 1;
@@ -113,11 +113,14 @@ fn program_with(journal: &Journal, ticket: u32) -> Option<&Program>
 }
 
 /// The program that an entry submits, if its reply is this ticket.
-fn submitted_as<'a>(ticket: u32, entry: &EntryRef<'a>) -> Option<&'a Program>
-    ensures { option_copied result ≡ submitted_as ticket (event_shown entry.now.event) entry.now.reply }
+fn submitted_as<'a>(ticket: u32, event: &EventRef<'a>, reply: &Reply) -> Option<&'a Program>
+    ensures { option_copied result ≡ submitted_as ticket (event_shown event.now) reply.now }
 {
-    match (entry.event, entry.reply) {
-        (EventRef::Submit(program), Reply::Ticket(n)) if n == ticket => Some(program),
+    let Reply::Ticket(n) = *reply else {
+        return None;
+    };
+    match *event {
+        EventRef::Submit(program) if n == ticket => Some(program),
         _ => None,
     }
 }
