@@ -46,7 +46,9 @@ fn tells_each<R: Abort>(rt: &R, office: &mut Office) {
 
 /// The tag of the entry at this place, and of which message it made a frame.
 fn sent(journal: &Journal, i: usize) -> Option<(u8, usize)> {
-    let entry = journal.get(i)?;
+    let Some(entry) = journal.get(i) else {
+        return None;
+    };
     match entry.event {
         EventRef::Send(_, place) => Some((entry.tag, place)),
         _ => None,
@@ -115,7 +117,9 @@ fn frame(early: &(u64, u16, i64)) -> Frame {
 }
 
 fn came(journal: &Journal, i: usize) -> Option<(u8, Frame, Reply)> {
-    let entry = journal.get(i)?;
+    let Some(entry) = journal.get(i) else {
+        return None;
+    };
     match entry.event {
         EventRef::Took(frame) => Some((entry.tag, frame, entry.reply)),
         _ => None,
@@ -144,7 +148,10 @@ fn tells_programs<R: Abort>(rt: &R, office: &mut Office, five: &Program, one: &P
 }
 
 fn statements(journal: &Journal, i: usize) -> Option<usize> {
-    match journal.get(i)?.event {
+    let Some(entry) = journal.get(i) else {
+        return None;
+    };
+    match entry.event {
         EventRef::Submit(program) => Some(program.tree().len()),
         _ => None,
     }

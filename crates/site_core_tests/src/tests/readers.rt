@@ -3,7 +3,7 @@
 use super::{A, PAIR, act, hand_in, offices, take};
 use frame_codec::{Frame, Msg};
 use office_map::{OfficeId, RecordId};
-use site_core::{EntryRef, Event, Office, Refusal, Reply, Rule};
+use site_core::{Event, Journal, Office, Refusal, Reply, Rule};
 use std::process::Abort;
 use std::test::Fail;
 use token_channel::ChannelFault;
@@ -69,12 +69,15 @@ fn tell_of_journal<R: Abort>(rt: &R, office: &Office) {
     let journal = office.journal();
     assert_eq!(rt; journal.len(), 3);
     for (i, tag) in [Some(5), Some(5), Some(6), None].iter().enumerate() {
-        assert_eq!(rt; tag_of(journal.get(i)), *tag, "entry {i}");
+        assert_eq!(rt; tag_of(journal, i), *tag, "entry {i}");
     }
 }
 
-fn tag_of(entry: Option<EntryRef<'_>>) -> Option<u8> {
-    entry.map(|entry| entry.tag)
+fn tag_of(journal: &Journal, i: usize) -> Option<u8> {
+    match journal.get(i) {
+        Some(entry) => Some(entry.tag),
+        None => None,
+    }
 }
 
 /// The bottle waits behind the fork.
