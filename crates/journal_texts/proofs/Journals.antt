@@ -1,20 +1,16 @@
 -- The lines of a journal, one after the other.
-use Rattle.std.proofs.Common.{◌≡◌, ℕ, List, [], ◌∷◌, ◌++◌, map, Bool, true, false, Option, Some, None, Result, Ok, Err, refl, sym, ap, ap₂, ◌∙◌, subst, append_assoc, inl, inr}
-use Rattle.std.specs.Prelude.{IfOk, IfErr}
+use Rattle.std.proofs.Common.{◌≡◌, ℕ, List, [], ◌∷◌, ◌++◌, map, Bool, true, false, Option, Some, None, Result, Ok, Err, refl, sym, ap, ap₂, ◌∙◌, subst, append_assoc, inl}
 use Rattle.std.proofs.lemmas.List.{map-append, append-nil}
 use Rattle.office_map.specs.PlanValue.{PlanValue}
 use Rattle.text_lines.specs.Text.{statements}
 use Rattle.office_journal.specs.declared.event.Entry.{Entry}
 use Rattle.journal_texts.specs.declared.fault.JournalRule.{JournalRule}
 use Rattle.journal_texts.specs.declared.fault.JournalRule.TheVariants.{Journal}
-use Rattle.journal_texts.specs.declared.fault.JournalFault.{JournalFault}
-use Rattle.journal_texts.specs.declared.fault.JournalFault.TheVariants as fault
-use Rattle.journal_texts.specs.declared.journal_text.JournalText.{JournalText}
 use Rattle.journal_texts.specs.declared.line.Told.{Told}
 use Rattle.journal_texts.specs.declared.line.Told.TheVariants as told
 use Rattle.journal_texts.specs.Lines.{Said, said_of, IsEntry, HasNoFrame}
-use Rattle.journal_texts.specs.JournalText.{header_of, AreSaid, AreEntries, HaveEntries, IsJournal, IsFirstFault, RefusesLines, RefusesJournal, IsFaultOf}
-use Rattle.journal_texts.specs.refinement.ReadLines.{Means, Reads, Adds, IsLineFault}
+use Rattle.journal_texts.specs.JournalText.{header_of, AreSaid, AreEntries, HaveEntries, IsJournal, IsFirstFault, RefusesLines, RefusesJournal}
+use Rattle.journal_texts.specs.refinement.ReadLines.{Means, Reads, Adds}
 
 -- one line more
 
@@ -95,17 +91,6 @@ pub is_journal : (p : PlanValue) (text : List ℕ) (number office office' : ℕ)
     → statements text ≡ (number, line) ∷ rest → header_of p line ≡ Ok office' → office ≡ office' → HaveEntries p rest entries ends → IsJournal p text office entries ends
 is_journal p text number office office' line rest entries ends first header same e =
     record { first = (number, line); rest = rest; lines = first; header = header ∙ ap Ok (sym same); entered = e }
-
-pub journal_of : (p : PlanValue) (text : List ℕ) (number : ℕ) (line : List ℕ) (rest : List (ℕ × List ℕ)) (office : ℕ) (h : Result ℕ JournalRule) (r : Result JournalText JournalFault) → statements text ≡ (number, line) ∷ rest → h ≡ header_of p line → h ≡ Ok office
-    → IfOk r (λ j. j.office ≡ office) → IfOk r (λ j. HaveEntries p rest j.entries.items j.ends) → IfOk r (λ j. IsJournal p text j.office j.entries.items j.ends)
-journal_of p text number line rest office h (Ok j) first header is same entries = is_journal p text number j.office office line rest j.entries.items j.ends first (sym header ∙ is) same entries
-journal_of p text number line rest office h (Err e) first header is same entries = tt
-
-pub fault_of : (p : PlanValue) (text : List ℕ) (number : ℕ) (line : List ℕ) (rest : List (ℕ × List ℕ)) (office : ℕ) (h : Result ℕ JournalRule) (r : Result JournalText JournalFault) → statements text ≡ (number, line) ∷ rest → h ≡ header_of p line → h ≡ Ok office
-    → IfErr r (IsLineFault p rest) → IfErr r (IsFaultOf p text)
-fault_of p text number line rest office h (Ok j) first header is fault = tt
-fault_of p text number line rest office h (Err fault.Memory) first header is bad = tt
-fault_of p text number line rest office h (Err (fault.Refused r)) first header is bad = subst (λ ls. RefusesLines p ls r) (sym first) (inr (office, sym header ∙ is, bad))
 
 pub header_fault : (p : PlanValue) (text : List ℕ) (number : ℕ) (line : List ℕ) (rest : List (ℕ × List ℕ)) (why : JournalRule) (h : Result ℕ JournalRule) → statements text ≡ (number, line) ∷ rest → h ≡ header_of p line → h ≡ Err why
     → RefusesJournal p text (record { rule = why; line = number })

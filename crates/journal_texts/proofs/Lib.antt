@@ -1,5 +1,7 @@
 mod ReadLines
+mod Headers
 mod Journals
+mod Receiving
 mod LegalEntries
 mod WrittenLines
 mod WrittenSoFar

@@ -1,6 +1,6 @@
 //! The first line of a journal.
 
-ghost use Rattle.std.specs.Prelude.{◌≡◌, ◌&&◌, Some, codes};
+ghost use Rattle.std.specs.Prelude.{◌≡◌, ◌<◌, ◌&&◌, Some, IfOk, codes, length};
 ghost use Rattle.std.specs.Str.{bytes_eq};
 ghost use Rattle.text_lines.specs.Text.{words_of};
 ghost use Rattle.journal_texts.specs.JournalText.{header_said, header_of, office_of_header};
@@ -14,7 +14,8 @@ use text_lines::{ShortName, first_word, is_plain, number, short_name};
 ///
 /// A word that is no name, or no number, makes it another form, before the run is looked at.
 pub(crate) fn header(plan: &Plan, line: &[u8]) -> Result<OfficeId, JournalRule>
-    ensures { result ≡ header_of plan.now line.now }
+    ensures line { result ≡ header_of plan.now line.now }
+    ensures office { IfOk result (λ a. a < length plan.now.offices) }
 {
     if !is_plain(line) {
         return Err(JournalRule::Journal);
@@ -51,8 +52,10 @@ fn is_header(journal: &[u8], one: &[u8], run: &[u8], office: &[u8]) -> bool
 }
 
 /// The office of that name, where the run is the plan's.
+#[tactic(auto, using(crate::proofs::Headers::of_plan))]
 fn office_of(plan: &Plan, run: u64, name: &ShortName) -> Result<OfficeId, JournalRule>
-    ensures { result ≡ office_of_header plan.now (Some (run, name.now)) }
+    ensures line { result ≡ office_of_header plan.now (Some (run, name.now)) }
+    ensures office { IfOk result (λ a. a < length plan.now.offices) }
 {
     if run != u64::from(plan.run()) {
         return Err(JournalRule::JournalHeader);

@@ -5,7 +5,8 @@
 //! - [`add_header`] and [`add_lines`] write it part by part, as a journal grows: what was written stays as it is
 //!   (`specs/Growing.antt`).
 //! - [`read_journal`] reads a text of a journal under a plan: whose it is, its entries, and whether it ends with them (clause
-//!   `meaning`), or its first fault (clause `fault`).
+//!   `meaning`), or its first fault (clause `fault`). [`read_into`] tells the same to a type of the caller's ([`Entries`]) entry by
+//!   entry, so that no list of them has to stand.
 //! - Both speak of one relation, `IsJournal` of `specs/JournalText.antt`, and [`laws`] says that a text is one journal at most, and
 //!   none where it has a fault. So what was written is read as what it was written for.
 //!
@@ -20,6 +21,7 @@
 //! journal's. `Memory` may stand in place of each answer.
 #![tactic(auto)]
 
+mod entries;
 mod fault;
 mod header;
 mod journal_text;
@@ -29,8 +31,9 @@ mod reading;
 mod torn;
 mod writing;
 
+pub use crate::entries::Entries;
 pub use crate::fault::{JournalFault, JournalRefusal, JournalRule};
 pub use crate::journal_text::JournalText;
-pub use crate::reading::read_journal;
+pub use crate::reading::{read_into, read_journal};
 pub use crate::torn::whole_lines;
 pub use crate::writing::{add_header, add_lines, text};

@@ -1,17 +1,19 @@
 //! Reading a journal.
 
-ghost use Rattle.std.specs.Prelude.{◌≡◌, ◌<◌, ◌+◌, ◌^◌, length, IfOk, IfErr, OnOk};
+ghost use Rattle.std.specs.Prelude.{◌<◌, ◌+◌, ◌^◌, ℕ, List, length, IfOk, IfErr};
+ghost use Rattle.office_map.specs.PlanValue.{PlanValue};
+ghost use Rattle.office_journal.specs.declared.event.Entry.{Entry};
 ghost use Rattle.text_lines.specs.Text.{lines, statements_from};
-ghost use Rattle.journal_texts.specs.JournalText.{IsJournal, HaveEntries, IsFaultOf};
-ghost use Rattle.journal_texts.specs.declared.line.Told.TheVariants as tolds;
-ghost use Rattle.journal_texts.specs.refinement.ReadLines.{Adds, IsLineFault};
+ghost use Rattle.journal_texts.specs.JournalText.{IsJournal, IsFaultOf};
+ghost use Rattle.journal_texts.specs.Receiving.{IsReadAs};
+ghost use Rattle.journal_texts.specs.refinement.ReadLines.{GoOn, AreTold, IsLineFault};
 
+use crate::entries::Entries;
 use crate::fault::{JournalFault, JournalRule, refused};
 use crate::header::header;
 use crate::journal_text::JournalText;
 use crate::line::{Told, read_line};
 use office_map::{OfficeId, Plan};
-use site_core::Entry;
 use std::alloc::{AllocError, Global};
 use text_lines::Statements;
 
@@ -19,9 +21,22 @@ use text_lines::Statements;
 ///
 /// # Errors
 /// The first line that is no line of a journal, or a first line of another run or of an office that the plan hasn't.
-#[tactic(auto, using(crate::proofs::Journals::journal_of, crate::proofs::Journals::fault_of, crate::proofs::Journals::header_fault, crate::proofs::Journals::no_header))]
+#[tactic(auto, using(crate::proofs::Receiving::as_text))]
 pub fn read_journal(alloc: Global, text: &[u8], plan: &Plan) -> Result<JournalText, JournalFault>
     ensures meaning { IfOk result (λ j. IsJournal plan.now text.now j.office j.entries.items j.ends) }
+    ensures fault { IfErr result (IsFaultOf plan.now text.now) }
+{
+    read_into::<JournalText>(alloc, text, plan)
+}
+
+/// What was told of the journal that a text is under a plan. All its lines are read, also those after one of which the digits spell no
+/// frame, so that their faults are told.
+///
+/// # Errors
+/// As [`read_journal`].
+#[tactic(auto, using(crate::proofs::Receiving::all_told, crate::proofs::Receiving::fault_of, crate::proofs::Journals::header_fault, crate::proofs::Journals::no_header))]
+pub fn read_into<E: Entries>(alloc: Global, text: &[u8], plan: &Plan) -> Result<E, JournalFault>
+    ensures meaning { IfOk result (λ e. IsReadAs plan.now text.now (E.holds e plan.now)) }
     ensures fault { IfErr result (IsFaultOf plan.now text.now) }
 {
     let mut left = Statements {
@@ -35,58 +50,50 @@ pub fn read_journal(alloc: Global, text: &[u8], plan: &Plan) -> Result<JournalTe
         Ok(office) => office,
         Err(rule) => return Err(refused(rule, line)),
     };
-    read_entries(alloc, plan, office, left)
+    told_of::<E>(alloc, plan, office, left)
 }
 
-/// The office's journal, whose entries are those of these lines.
-#[tactic(auto, using(crate::proofs::Journals::none_read, crate::proofs::Journals::all_read, crate::proofs::Journals::is_faulty))]
-fn read_entries(
+/// What was told of the office's journal, whose entries are those of these lines.
+#[tactic(auto, using(crate::proofs::Receiving::told_all, crate::proofs::Receiving::told_fault))]
+fn told_of<E: Entries>(
     alloc: Global,
     plan: &Plan,
     office: OfficeId,
     statements: Statements<'_>,
-) -> Result<JournalText, JournalFault>
-    requires { statements.number + length statements.rest.now < 2 ^ 64 }
-    ensures office { IfOk result (λ j. j.office ≡ office) }
-    ensures entries { IfOk result (λ j. HaveEntries plan.now (statements_from statements.entry.number (lines statements.entry.rest.now)) j.entries.items j.ends) }
+) -> Result<E, JournalFault>
+    requires office { office < length plan.now.offices }
+    requires fits { statements.number + length statements.rest.now < 2 ^ 64 }
+    ensures told { IfOk result (λ e. AreTold plan.now (statements_from statements.entry.number (lines statements.entry.rest.now)) (length statements.entry.rest.now) (E.holds e plan.now office)) }
     ensures fault { IfErr result (IsLineFault plan.now (statements_from statements.entry.number (lines statements.entry.rest.now))) }
 {
     let mut left = statements;
-    let mut read = JournalText {
-        office,
-        entries: Vec::new(alloc),
-        ends: true,
-    };
+    let mut told = E::begin(alloc, plan, office)?;
+    let mut goes_on = true;
     while let Some((line, statement)) = left.next() {
         match read_line(alloc, plan, statement)? {
-            Some(told) => add(&mut read, told)?,
+            Some(what) => goes_on = tell_one(&mut told, goes_on, what)?,
             None => return Err(refused(JournalRule::Journal, line)),
         }
     }
-    Ok(read)
+    Ok(told)
 }
 
-/// One line more was read. After one whose digits spell no frame no entry is added.
-fn add(read: &mut JournalText, told: Told) -> Result<(), AllocError>
-    ensures office { read.new.office ≡ read.old.office }
-    ensures entries { OnOk result (Adds read.old.ends read.old.entries.items told read.new.ends read.new.entries.items) }
+/// What one line more says is told, where the journal goes on. Whether it does after that.
+#[tactic(auto, using(crate::proofs::Receiving::goes_past, crate::proofs::Receiving::adds_entry, crate::proofs::Receiving::ends_there))]
+fn tell_one<E: Entries>(told: &mut E, goes_on: bool, what: Told) -> Result<bool, AllocError>
+    ensures { IfOk result (λ more. (plan : PlanValue) (office : ℕ) (entries : List Entry) → E.holds told.old plan office entries goes_on → GoOn goes_on entries what more (E.holds told.new plan office)) }
 {
-    match told {
-        Told::NoFrame => {
-            read.ends = false;
-            Ok(())
+    if !goes_on {
+        return Ok(false);
+    }
+    match what {
+        Told::AnEntry(entry) => {
+            told.add(entry)?;
+            Ok(true)
         }
-        Told::AnEntry(entry) => add_entry(read, entry),
+        Told::NoFrame => {
+            told.end();
+            Ok(false)
+        }
     }
-}
-
-fn add_entry(read: &mut JournalText, entry: Entry) -> Result<(), AllocError>
-    ensures office { read.new.office ≡ read.old.office }
-    ensures entries { OnOk result (Adds read.old.ends read.old.entries.items (tolds.AnEntry entry) read.new.ends read.new.entries.items) }
-{
-    if !read.ends {
-        return Ok(());
-    }
-    read.entries.push(entry)?;
-    Ok(())
 }

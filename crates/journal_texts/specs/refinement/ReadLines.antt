@@ -1,5 +1,5 @@
 -- What the reader holds of a line, and of the lines so far.
-use Rattle.std.specs.Prelude.{◌≡◌, ℕ, List, [], ◌∷◌, ◌++◌, Bool, true, false, Option, Some, None}
+use Rattle.std.specs.Prelude.{◌≡◌, ◌≤◌, ℕ, List, [], ◌∷◌, ◌++◌, length, Bool, true, false, Option, Some, None}
 use Rattle.office_map.specs.PlanValue.{PlanValue}
 use Rattle.office_journal.specs.declared.event.Entry.{Entry}
 use Rattle.journal_texts.specs.declared.line.Told.{Told}
@@ -7,7 +7,7 @@ use Rattle.journal_texts.specs.declared.line.Told.TheVariants.{AnEntry, NoFrame}
 use Rattle.journal_texts.specs.declared.fault.JournalFault.{JournalFault}
 use Rattle.journal_texts.specs.declared.fault.JournalFault.TheVariants.{Refused, Memory}
 use Rattle.journal_texts.specs.Lines.{Said, IsEntry, HasNoFrame}
-use Rattle.journal_texts.specs.JournalText.{RefusesLine}
+use Rattle.journal_texts.specs.JournalText.{HaveEntries, RefusesLine}
 
 -- an entry is what is said; or that there is none is
 abbrev pub Means : Said → Told → Type 0
@@ -27,6 +27,18 @@ Adds true xs (AnEntry x) more ys = (more ≡ true) × (ys ≡ xs ++ x ∷ [])
 Adds false xs (AnEntry x) more ys = (more ≡ false) × (ys ≡ xs)
 Adds true xs NoFrame more ys = (more ≡ false) × (ys ≡ xs)
 Adds false xs NoFrame more ys = (more ≡ false) × (ys ≡ xs)
+
+-- with one line more the entries, and whether they still go on, are such that this holds
+abbrev pub GoOn : Bool → List Entry → Told → Bool → (List Entry → Bool → Type 0) → Type 0
+GoOn ends xs t more holds = (ys : List Entry) × Adds ends xs t more ys × holds ys more
+
+-- these lines have entries, no more than so many, of which this holds, and of whether the journal ends with them
+pub record AreTold (p : PlanValue) (lines : List (ℕ × List ℕ)) (most : ℕ) (holds : List Entry → Bool → Type 0) : Type 0 where
+  pub entries : List Entry
+  pub ends : Bool
+  pub have : HaveEntries p lines entries ends
+  pub few : length entries ≤ most
+  pub held : holds entries ends
 
 -- a fault of these lines
 abbrev pub IsLineFault : PlanValue → List (ℕ × List ℕ) → JournalFault → Type 0

@@ -1,0 +1,23 @@
+use Rattle.std.proofs.Common.{length, subst}
+use Rattle.text_lines.specs.Text.{lines, statements_from}
+use Rattle.journal_texts.specs.Lines.{said_of}
+use Rattle.journal_texts.specs.refinement.ReadLines.{Reads}
+use Rattle.journal_texts.proofs.Receiving.{told_none, told_more}
+use Rattle.journal_texts.proofs.reading.told_of.Goals as goal
+
+pub loop-line-init : goal.loop-line-init
+loop-line-init g c = record {
+  fits = c.requires.fits;
+  told = told_none c.args.plan.now (statements_from c.args.statements.number (lines c.args.statements.rest.now)) (length c.args.statements.rest.now) (g.E.Entries.holds c.in_ok-told.told c.args.plan.now c.args.office) c.in_ok-told.ensures;
+}
+
+pub loop-line-preserved : goal.loop-line-preserved
+loop-line-preserved g c =
+    let p = c.args.plan.now in
+    let all = statements_from c.args.statements.number (lines c.args.statements.rest.now) in
+    record {
+      fits = c.in-Some.ensures.fits;
+      told = told_more p all _ _ c.in-Some.line c.in-Some.statement.now c.in-Some-2.what _ _ _ c.loop-line.goes_on c.in_ok-goes_on-in-Some-2.goes_on _ _ c.in-Some.ensures.gives
+          (subst (Reads (said_of p c.in-Some.statement.now)) c.in-Some-2.is c.in_ok-what.ensures)
+          (λ xs held. c.in_ok-goes_on-in-Some-2.ensures p c.args.office xs held) c.in-Some.ensures.shorter c.loop-line.invariant.told;
+    }
