@@ -26,7 +26,7 @@ outcomes_in fs = map (λ (f : Finished). f.outcome) fs
 
 -- ---- what one entry more finishes
 
-from_append : (plan : PlanValue) (me : ℕ) (o : Office) (xs : List Entry) (x : Entry) → finished_from plan me o (xs ++ x ∷ []) ≡ finished_from plan me o xs ++ finished_by me (run_of plan me o xs).agenda.current x.event
+pub from_append : (plan : PlanValue) (me : ℕ) (o : Office) (xs : List Entry) (x : Entry) → finished_from plan me o (xs ++ x ∷ []) ≡ finished_from plan me o xs ++ finished_by me (run_of plan me o xs).agenda.current x.event
 from_append plan me o [] x = append-nil (finished_by me o.agenda.current x.event)
 from_append plan me o (y ∷ ys) x =
     ap (λ l. finished_by me o.agenda.current y.event ++ l) (from_append plan me (after plan me o y.event) ys x)

@@ -4,6 +4,8 @@ mod Asking
 mod WorldSteps
 mod EventSteps
 mod Runs
+mod Records
+mod Orders
 mod Finishing
 mod BottlesOnTheWay
 mod BottleValues

@@ -1,3 +1,4 @@
 pub mod Readers
 pub mod Resting
+pub mod Records
 pub mod refinement

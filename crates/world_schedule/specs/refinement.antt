@@ -1,3 +1,4 @@
 pub mod WorldOfCode
 pub mod Handing
 pub mod Bottles
+pub mod Orders

@@ -127,7 +127,7 @@ fn last_of(office: &Office) -> Finished
 }
 
 /// What is listed of a session with this outcome.
-fn mark_of(outcome: &Outcome) -> Finished
+pub(crate) fn mark_of(outcome: &Outcome) -> Finished
     ensures { result ≡ mark_of outcome.now }
 {
     Finished {

@@ -39,6 +39,8 @@
 //!   before the first one for want of room for the replies; [`Stopped`] tells after how many.
 //! - [`World::is_serial`] tells what holds of every world, and [`World::run`] ensures it of the world that it leaves.
 //!   `frame_world` proves it of the definitions.
+//! - [`World::of_record`] is the world to which events led, of the offices, the frames and the order of finishes that they left: so
+//!   who has those needs to do no event again.
 //! - [`World::offices`] and [`World::office`] lend the offices, [`World::journal`] what one accepted, and
 //!   [`World::frame`] tells what was sent. [`World::finished`] tells which sessions finished, by office and ticket, and
 //!   [`World::outcome`] how one ended; the world keeps no program and no outcome a second time. [`World::value_of`] reads
@@ -65,6 +67,7 @@ mod finished;
 mod happening;
 mod next;
 mod opening;
+mod recording;
 mod resting;
 mod values;
 mod world;

@@ -1,11 +1,12 @@
 //! All offices of a plan, and what happens to them.
 
-ghost use Rattle.std.specs.Prelude.{◌≡◌, ◌<◌, ◌^◌, ◌↔◌, ◌∷◌, [], Err, IsTrue, length, map, slice_get, IfOk, OnOk, IfErr};
+ghost use Rattle.std.specs.Prelude.{◌≡◌, ◌<◌, ◌^◌, ◌↔◌, ◌∷◌, [], List, Err, IsTrue, length, map, slice_get, IfOk, OnOk, IfErr};
 ghost use Rattle.std.specs.Option.{option_copied};
 ghost use Rattle.session_agenda.specs.Agenda.{unfinished};
 ghost use Rattle.site_core.specs.Journals.{office_of, IsLegal};
 ghost use Rattle.office_journal.specs.declared.reply.Refusal.TheVariants as refused;
 ghost use Rattle.frame_world.specs.declared.refusal.WorldRefusal.TheVariants as refusals;
+ghost use Rattle.frame_world.specs.declared.event.WorldEvent.{WorldEvent};
 ghost use Rattle.frame_world.specs.declared.event.WorldEvent.TheVariants as events;
 ghost use Rattle.frame_world.specs.Worlds.{opening, run_of, replies_of, Applies, Stops, site_at, frame_at};
 ghost use Rattle.frame_world.specs.Ways.{bottles_of, pairs_at, tables_of};
@@ -15,10 +16,12 @@ ghost use Rattle.frame_world.specs.Tickets.{HaveTheirTickets, TicketsRise, Tells
 ghost use Rattle.dining_core.specs.Worlds.{HasNoRing};
 ghost use Rattle.serial_replay.specs.Serial.{start_map, map_of};
 ghost use Rattle.world_schedule.specs.Readers.{unfinished_in, listed_as};
+ghost use Rattle.world_schedule.specs.Records.{IsLeftBy};
 ghost use Rattle.world_schedule.specs.Resting.{RestIn, RestAfter};
 
 use crate::finished::Finished;
 use crate::opening::offices_of;
+use crate::recording::{are_legal, marks_of};
 use crate::resting::Resting;
 use crate::values::bottle_between;
 use crate::{happening, next};
@@ -88,6 +91,33 @@ impl World {
             offices,
             frames: Vec::new(alloc),
             finished: Vec::new(alloc),
+        })
+    }
+
+    /// The world to which events led that left these offices, in order of number, sent these frames, and by which sessions finished at
+    /// the offices of this order. No event is done again.
+    pub fn of_record(
+        alloc: Global,
+        plan: Plan,
+        offices: Vec<Office>,
+        frames: Vec<Frame>,
+        order: &[OfficeId],
+    ) -> Result<World, AllocError>
+        requires { (events : List WorldEvent) × IsLeftBy plan events offices.items frames.items order.now }
+        ensures { IfOk result (λ w. (events : List WorldEvent) → IsLeftBy plan events offices.items frames.items order.now → w ≡ run_of (opening plan) events) }
+    {
+        each_office_is_told();
+        sessions_go_in_order();
+        // There are at most 16 offices.
+        let _ = plan.offices();
+        are_legal(&offices);
+        let finished = marks_of(alloc, &offices, order)?;
+        Ok(World {
+            alloc,
+            plan,
+            offices,
+            frames,
+            finished,
         })
     }
 
