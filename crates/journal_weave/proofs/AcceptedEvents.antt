@@ -25,7 +25,7 @@ use Rattle.frame_world.specs.WorldStates.{State, IsSeated}
 use Rattle.frame_world.specs.WorldLaws.{seated_opening, state_opening, happens_leaves}
 use Rattle.journal_weave.specs.Weaving.{entries_at}
 use Rattle.journal_weave.specs.Laws.{IsBehind}
-use Rattle.journal_weave.specs.refinement.Following.{Gives}
+use Rattle.journal_weave.specs.Following.{Gives}
 use Rattle.journal_weave.specs.refinement.Merging.{IsSound}
 use Rattle.journal_weave.specs.FrameLaws.{AreAmong, are_among_themselves, among_left}
 use Rattle.bottle_values.specs.ListLaws.{nothing_at, get_push, get_right}

@@ -1,6 +1,6 @@
 -- The end of a merge: how far each office is then is the furthest, and what that says of the journals.
-use Rattle.std.proofs.Common.{◌≡◌, ℕ, zero, suc, ◌+◌, ◌≤◌, Bool, true, false, List, [], ◌∷◌, length, map, sum, take, get_or, Some, refl, sym, ap, subst, ◌∙◌, arith, inl, inr, ◌⊎◌, ⊎_elim, append-nil}
-use Rattle.std.specs.Prelude.{slice_get, IsTrue, All, if◌then◌else◌}
+use Rattle.std.proofs.Common.{◌≡◌, ℕ, zero, suc, ◌+◌, ◌≤◌, Bool, true, false, List, [], ◌∷◌, length, map, sum, take, get_or, refl, sym, ap, ◌∙◌, arith, ⊎_elim, append-nil}
+use Rattle.std.specs.Prelude.{IsTrue, All, if◌then◌else◌}
 use Rattle.std.proofs.lemmas.Bool.{cases_lt}
 use Rattle.std.proofs.lemmas.List.{length-append, length-map}
 use Rattle.std.proofs.lemmas.List.Sums.{sum_by-cons}
@@ -16,8 +16,7 @@ use Rattle.journal_weave.specs.declared.merge.Merge.{Merge}
 use Rattle.journal_weave.specs.Weaving.{untagged, entries_at, IsWoven, GoesAlong}
 use Rattle.journal_weave.specs.Given.{told_in, lines_of, IsWovenFrom, AreFurthest, Stands}
 use Rattle.journal_weave.specs.Laws.{NoneGoesFurther}
-use Rattle.journal_weave.specs.refinement.Following.{site_of, Gives, AreLimits}
-use Rattle.journal_weave.specs.refinement.Merging.{CannotCome, IsMerged, IsStuck, Has}
+use Rattle.journal_weave.specs.refinement.Merging.{IsMerged, Has}
 use Rattle.journal_weave.proofs.Merging.{Cannot, no_way, goes_along, has_all}
 use Rattle.journal_weave.proofs.Pushing.{at_of}
 
@@ -60,32 +59,22 @@ all_end (j ∷ journals) h (suc k) d lt = all_end journals (λ a. h (suc a)) k d
 
 -- ---- the end
 
-module _ (C : FrameKey → FrameKey → Ordering) (plan : PlanValue) (told : ℕ → List Entry) (limits : List ℕ) (m : Merge) (goods : AreLimits plan told limits) (merged : IsMerged C plan told limits m) where
-  pub has : Has plan told (at_of m) m.schedule.items
+module _ (C : FrameKey → FrameKey → Ordering) (plan : PlanValue) (told : ℕ → List Entry) (m : Merge) (events : List WorldEvent) (merged : IsMerged C plan told m events) (within : (a : ℕ) → at_of m a ≤ length (told a)) where
+  pub has : Has plan told (at_of m) events
   has = record { accepted = merged.accepted; entries = merged.has }
 
-  pub within : (a : ℕ) → at_of m a ≤ length (told a)
-  within a = omega (arith, merged.within a, (goods a).within)
-
-  module _ (stuck : (a : ℕ) → IsStuck plan told limits m a) where
-    cannot : (a : ℕ) → Cannot plan told (at_of m) (run_of (opening plan) m.schedule.items).frames a
-    cannot a x next = by_why (stuck a)
-      where
-        by_why : IsStuck plan told limits m a → (Gives (site_of plan a (take (at_of m a) (told a))) x → ⊥) ⊎ CannotCome (run_of (opening plan) m.schedule.items).frames a x.event
-        by_why (inl at_limit) = inl (subst (λ n. slice_get (told a) n ≡ Some x → Gives (site_of plan a (take n (told a))) x → ⊥) (sym at_limit) ((goods a).no_more x) next)
-        by_why (inr (y, there, never)) = let same : y ≡ x = let both : Some y ≡ Some x = sym there ∙ next in cc in inr (subst (λ (z : Entry). CannotCome (run_of (opening plan) m.schedule.items).frames a z.event) same never)
-
+  module _ (cannot : (a : ℕ) → Cannot plan told (at_of m) (run_of (opening plan) events).frames a) where
     pub furthest : NoneGoesFurther → AreFurthest plan told (at_of m)
     furthest law = record {
-      had = (m.schedule.items, goes_along plan told (at_of m) m.schedule.items has, λ a. has_all plan told (at_of m) m.schedule.items has a (within a));
+      had = (events, goes_along plan told (at_of m) events has, λ a. has_all plan told (at_of m) events has a (within a));
       most = λ others along a. ⊎_elim
-          (λ can. absurd (no_way plan told (at_of m) m.schedule.items has cannot can))
-          (λ behind. omega (arith, ap length (behind a).1, length-append (entries_at (run_of (opening plan) others) a) (behind a).0, has_all plan told (at_of m) m.schedule.items has a (within a)))
-          (law plan told m.schedule.items others (goes_along plan told (at_of m) m.schedule.items has) along);
+          (λ can. absurd (no_way plan told (at_of m) events has cannot can))
+          (λ behind. omega (arith, ap length (behind a).1, length-append (entries_at (run_of (opening plan) others) a) (behind a).0, has_all plan told (at_of m) events has a (within a)))
+          (law plan told events others (goes_along plan told (at_of m) events has) along);
     }
 
   -- where each office is at its end, the schedule is woven
-  pub woven : ((a : ℕ) → length (told a) ≤ at_of m a) → IsWoven plan told m.schedule.items
+  pub woven : ((a : ℕ) → length (told a) ≤ at_of m a) → IsWoven plan told events
   woven all = record {
     accepted = merged.accepted;
     as_told = λ a. let n : at_of m a ≡ length (told a) = omega (arith, all a, within a) in merged.has a ∙ ap (λ k. map untagged (take k (told a))) n ∙ ap (map untagged) (take-length (told a));
@@ -111,11 +100,11 @@ never_woven plan journals at a furthest stands events w =
     )
 
 -- where none does, the schedule is
-pub all_woven : (C : FrameKey → FrameKey → Ordering) (plan : PlanValue) (journals : List GivenJournal) (limits : List ℕ) (m : Merge) → AreLimits plan (told_in journals) limits → IsMerged C plan (told_in journals) limits m →
-    ((a : ℕ) → Stands journals (at_of m) a → ⊥) → IsWovenFrom plan journals m.schedule.items
-all_woven C plan journals limits m goods merged none =
+pub all_woven : (C : FrameKey → FrameKey → Ordering) (plan : PlanValue) (journals : List GivenJournal) (m : Merge) (events : List WorldEvent) → IsMerged C plan (told_in journals) m events → ((a : ℕ) → at_of m a ≤ length (told_in journals a)) →
+    ((a : ℕ) → Stands journals (at_of m) a → ⊥) → IsWovenFrom plan journals events
+all_woven C plan journals m events merged within none =
     let past : (a : ℕ) → lines_of journals a ≤ at_of m a = λ a. ⊎_elim (λ lt. absurd (none a lt)) (λ ge. ge) (cases_lt (at_of m a) (lines_of journals a)) in
     record {
-      whole = all_end journals (λ a. omega (arith, past a, within C plan (told_in journals) limits m goods merged a));
-      woven = woven C plan (told_in journals) limits m goods merged (λ a. omega (arith, past a, told_within journals a));
+      whole = all_end journals (λ a. omega (arith, past a, within a));
+      woven = woven C plan (told_in journals) m events merged within (λ a. omega (arith, past a, told_within journals a));
     }

@@ -1,14 +1,18 @@
 -- One entry more of what an office tells.
-use Rattle.std.proofs.Common.{◌≡◌, ℕ, zero, suc, ◌+◌, ◌<◌, List, [], ◌∷◌, ◌++◌, length, map, take, Some, refl, sym, ap, subst, ◌∙◌, arith, ⊎_elim}
+use Rattle.std.proofs.Common.{◌≡◌, ℕ, zero, suc, ◌+◌, ◌<◌, List, [], ◌∷◌, ◌++◌, length, map, take, get_or, Some, refl, sym, ap, subst, ◌∙◌, arith, ⊎_elim}
 use Rattle.std.specs.Prelude.{slice_get}
 use Rattle.std.proofs.lemmas.Bool.{cases_eq}
 use Rattle.std.proofs.lemmas.List.{take_more, map-append}
-use Rattle.std.proofs.lemmas.Option.{get_or_from_slice_get}
+use Rattle.std.proofs.lemmas.Option.{get_or_from_slice_get, slice_get-get_or}
 use Rattle.office_map.specs.PlanValue.{PlanValue}
 use Rattle.office_journal.specs.declared.event.Entry.{Entry}
 use Rattle.site_core.specs.Journals.{noted}
 use Rattle.journal_weave.specs.Weaving.{untagged}
-use Rattle.journal_weave.specs.refinement.Following.{site_of, Gives, Follows, IsLimit}
+use Rattle.journal_weave.specs.Following.{site_of, Gives, Follows, IsLimit}
+
+-- an element that is there is the same, whatever stands for one that isn't
+pub other_default : {X : Type 0} (xs : List X) (i : ℕ) (d c : X) → i < length xs → get_or xs i c ≡ get_or xs i d
+other_default xs i d c lt = get_or_from_slice_get xs i (get_or xs i d) c (slice_get-get_or xs i d lt)
 
 pub some_below : {X : Type 0} (xs : List X) (i : ℕ) (x : X) → slice_get xs i ≡ Some x → i < length xs
 some_below [] i x e = cc

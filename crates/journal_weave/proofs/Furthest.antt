@@ -11,7 +11,7 @@ use Rattle.frame_world.specs.declared.event.WorldEvent.{WorldEvent}
 use Rattle.frame_world.specs.Worlds.{World, opening, site_at, frames_of, happens, run_of, AreAccepted}
 use Rattle.journal_weave.specs.Weaving.{untagged, entries_at}
 use Rattle.journal_weave.specs.Laws.{IsBehind, NoneGoesFurther}
-use Rattle.journal_weave.specs.refinement.Following.{Gives}
+use Rattle.journal_weave.specs.Following.{Gives}
 use Rattle.journal_weave.specs.FrameLaws.{AreAmong, both_among}
 use Rattle.bottle_values.specs.ListLaws.{nothing_at, at_seam}
 use Rattle.journal_weave.proofs.AcceptedEvents.{grown, note, Grows, grows_to, grows, here, elsewhere, entries, Acts, acts, reply_in, sound_opening, site_is, sound_after, sound, run_behind}

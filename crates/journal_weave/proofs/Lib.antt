@@ -4,10 +4,15 @@ pub mod AcceptedEvents
 mod Furthest
 pub mod Merging
 mod Pushing
+mod Turns
 mod Limits
 mod Naming
 mod Ending
-mod Rounds
+mod Replaying
+mod FollowFirst
+mod StandingOffices
+mod Ends
+mod Finishing
 mod AcceptedAlone
 mod FinishedAt
 mod SentFromAll

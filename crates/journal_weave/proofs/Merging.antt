@@ -14,7 +14,7 @@ use Rattle.frame_world.specs.Worlds.{World, opening, site_at, frames_of, handed,
 use Rattle.frame_world.specs.WorldLaws.{seated}
 use Rattle.journal_weave.specs.Weaving.{untagged, entries_at, GoesAlong}
 use Rattle.journal_weave.specs.Laws.{CanGoOn}
-use Rattle.journal_weave.specs.refinement.Following.{site_of, Gives}
+use Rattle.journal_weave.specs.Following.{site_of, Gives}
 use Rattle.journal_weave.specs.refinement.Merging.{IsEventAt, CannotCome, Has, Follows}
 use Rattle.journal_weave.proofs.EntriesTold.{untagged_next, next_told}
 use Rattle.journal_weave.proofs.AcceptedEvents.{grown, note, Grows, grows_to, here, elsewhere, site_is, Happened, happened}

@@ -1,20 +1,20 @@
 -- A merge as it starts, and with one entry more.
-use Rattle.std.proofs.Common.{◌≡◌, ◌≢◌, ℕ, ◌+◌, ◌<◌, ◌≤◌, List, [], ◌∷◌, ◌++◌, length, map, sum, take, get_or, Some, sym, ap, subst, ◌∙◌, arith, ⊎_elim}
+use Rattle.std.proofs.Common.{◌≡◌, ◌≢◌, ℕ, zero, suc, ◌+◌, ◌<◌, ◌≤◌, List, [], ◌∷◌, ◌++◌, length, map, sum, take, get_or, set, Some, refl, sym, ap, subst, ◌∙◌, arith, ⊎_elim}
 use Rattle.std.specs.Prelude.{slice_get, replicate}
 use Rattle.std.proofs.lemmas.Bool.{cases_eq, cases_lt}
-use Rattle.std.proofs.lemmas.List.{length_push, length-replicate, get_or-replicate, get_or_past, get_or-set_same, get_or-set_other}
-use Rattle.std.proofs.lemmas.List.Folds.{sum_by-replicate}
+use Rattle.std.proofs.lemmas.List.{length-replicate, get_or-map, get_or-replicate, get_or_past, get_or-set_same, get_or-set_other}
 use Rattle.std.proofs.lemmas.List.Sums.{sum_by-set}
 use Rattle.std.specs.declared.cmp.Ordering.{Ordering}
 use Rattle.office_map.specs.PlanValue.{PlanValue}
 use Rattle.office_journal.specs.declared.event.Entry.{Entry}
 use Rattle.frame_world.specs.declared.event.WorldEvent.{WorldEvent}
-use Rattle.frame_world.specs.Worlds.{opening, run_of, AreAccepted}
+use Rattle.frame_world.specs.Worlds.{opening, frames_of, run_of}
 use Rattle.journal_weave.specs.declared.key.FrameKey.{FrameKey}
 use Rattle.journal_weave.specs.declared.merge.Merge.{Merge}
-use Rattle.journal_weave.specs.Weaving.{untagged, entries_at}
-use Rattle.journal_weave.specs.refinement.Following.{AreLimits}
-use Rattle.journal_weave.specs.refinement.Merging.{IsEventAt, Knows, IsPushed, IsMerged, Has, Follows}
+use Rattle.journal_weave.specs.Weaving.{untagged}
+use Rattle.journal_weave.specs.ReplayValue.{ReplayValue}
+use Rattle.journal_weave.specs.Replays.{given}
+use Rattle.journal_weave.specs.refinement.Merging.{IsEventAt, Knows, GoesOn, IsMerged, IsWithin, AreFollowed, Has, Follows}
 use Rattle.journal_weave.proofs.AcceptedEvents.{nothing_told}
 use Rattle.journal_weave.proofs.Merging.{has_more, frames_after}
 
@@ -22,39 +22,63 @@ use Rattle.journal_weave.proofs.Merging.{has_more, frames_after}
 abbrev pub at_of : Merge → ℕ → ℕ
 at_of m a = get_or m.at.items a 0
 
-nought_at : (n a : ℕ) → ◌≡◌ {A = ℕ} (get_or (replicate n 0) a 0) 0
+pub nought_at : (n a : ℕ) → ◌≡◌ {A = ℕ} (get_or (replicate n 0) a 0) 0
 nought_at n a = ⊎_elim (λ lt. get_or-replicate n a 0 0 lt) (λ ge. get_or_past (replicate n 0) a 0 (omega (arith, ge, length-replicate {A = ℕ} n 0))) (cases_lt a n)
 
-pub starts : (C : FrameKey → FrameKey → Ordering) (m : Merge) (n : ℕ) → m.at.items ≡ replicate n 0 → m.schedule.items ≡ [] → Knows C m.sent [] → m.sent.count ≡ 0 →
-    (plan : PlanValue) (told : ℕ → List Entry) (limits : List ℕ) → IsMerged C plan told limits m
-starts C m n at es knows none plan told limits =
-    let zero_at : (a : ℕ) → at_of m a ≡ 0 = λ a. ap (λ l. get_or l a 0) at ∙ nought_at n a in
+pub starts : (C : FrameKey → FrameKey → Ordering) (m : Merge) (n : ℕ) → m.at.items ≡ replicate n 0 → Knows C m.sent [] → (plan : PlanValue) (told : ℕ → List Entry) → IsMerged C plan told m []
+starts C m n at knows plan told = record {
+  accepted = tt;
+  has = λ a. nothing_told plan a ∙ ap (λ k. map untagged (take k (told a))) (sym (ap (λ l. get_or l a 0) at ∙ nought_at n a));
+  sent = knows;
+}
+
+pub starts_within : (at : List ℕ) (n : ℕ) → at ≡ replicate n 0 → (rs : List ReplayValue) (a : ℕ) → get_or at a 0 ≤ get_or (map given rs) a 0
+starts_within at n are rs a = omega (arith, ap (λ l. get_or l a 0) are ∙ nought_at n a)
+
+-- ---- what is told of an entry that an office has
+
+pub told_from : (n : ℕ) (xs ys : List Entry) (i : ℕ) (x : Entry) → take n ys ≡ map untagged (take n xs) → i < n → slice_get ys i ≡ Some x → (y : Entry) × (slice_get xs i ≡ Some y) × (untagged y ≡ x)
+told_from zero xs ys i x e lt at = absurd (omega (arith, lt))
+told_from (suc n) xs [] zero x e lt at = cc
+told_from (suc n) xs [] (suc i) x e lt at = cc
+told_from (suc n) [] (y ∷ ys) i x e lt at = cc
+told_from (suc n) (z ∷ xs) (y ∷ ys) zero x e lt at = (z, refl, cc)
+told_from (suc n) (z ∷ xs) (y ∷ ys) (suc i) x e lt at = let rest : take n ys ≡ map untagged (take n xs) = cc in told_from n xs ys i x rest (omega (arith, lt)) at
+
+-- ---- one entry more
+
+pub pushed : (C : FrameKey → FrameKey → Ordering) (m m' : Merge) (a : ℕ) (x : Entry) (e : WorldEvent) (rs : List ReplayValue) (r : ReplayValue) → a < length m.at.items → a < length rs → r ≡ get_or rs a r → GoesOn C m m' a x e →
+    at_of m a < given r → slice_get r.site.entries (at_of m a) ≡ Some x →
+    (plan : PlanValue) (told : ℕ → List Entry) (es : List WorldEvent) → length rs ≡ length plan.offices → AreFollowed plan told rs → IsMerged C plan told m es → IsMerged C plan told m' (es ++ e ∷ [])
+pushed C m m' a x e rs r office there is g below at plan told es size followed merged =
+    let f = followed a r there is in
+    let y = told_from (given r) (told a) r.site.entries (at_of m a) x f.1 below at in
+    let has : Has plan told (at_of m) es = record { accepted = merged.accepted; entries = merged.has } in
+    let goes : Follows plan told (at_of m) es a y.0 e = record {
+      has = has;
+      inside = omega (arith, there, size);
+      next = y.1;
+      gives = f.0.follows (at_of m a) y.0 below y.1;
+      is = subst (λ (z : Entry). IsEventAt (run_of (opening plan) es).frames a z.event e) (sym y.2) (g.is (run_of (opening plan) es).frames merged.sent);
+    } in
+    let here : at_of m' a ≡ at_of m a + 1 = ap (λ l. get_or l a 0) g.at ∙ get_or-set_same m.at.items a (at_of m a + 1) 0 office in
+    let others : (b : ℕ) → b ≢ a → at_of m' b ≡ at_of m b = λ b ne. ap (λ l. get_or l b 0) g.at ∙ get_or-set_other m.at.items a b (at_of m a + 1) 0 ne in
+    let more : Has plan told (at_of m') (es ++ e ∷ []) = has_more plan told (at_of m) es a y.0 e goes (at_of m') here others in
     record {
-      accepted = subst (AreAccepted (opening plan)) (sym es) tt;
-      within = λ a. omega (arith, zero_at a);
-      has = λ a. ap (λ l. entries_at (run_of (opening plan) l) a) es ∙ nothing_told plan a ∙ ap (λ k. map untagged (take k (told a))) (sym (zero_at a));
-      counted = ap sum at ∙ sum_by-replicate (λ x. x) n 0 ∙ omega (arith, ap length es);
-      sent = subst (λ l. Knows C m.sent (run_of (opening plan) l).frames) (sym es) knows;
-      few = omega (arith, none);
+      accepted = more.accepted;
+      has = more.entries;
+      sent = subst (Knows C m'.sent) (sym (frames_after plan told (at_of m) es a y.0 e goes))
+          (subst (λ (z : Entry). Knows C m'.sent ((run_of (opening plan) es).frames ++ frames_of z.reply)) (sym y.2) (g.sent (run_of (opening plan) es).frames merged.sent));
     }
 
-pub pushed : (C : FrameKey → FrameKey → Ordering) (m m' : Merge) (a : ℕ) (x : Entry) (e : WorldEvent) → a < length m.at.items → IsPushed C m m' a e x.reply →
-    (plan : PlanValue) (told : ℕ → List Entry) (limits : List ℕ) → a < length plan.offices → AreLimits plan told limits → IsMerged C plan told limits m →
-    at_of m a < get_or limits a 0 → slice_get (told a) (at_of m a) ≡ Some x → IsEventAt (run_of (opening plan) m.schedule.items).frames a x.event e → IsMerged C plan told limits m'
-pushed C m m' a x e office p plan told limits inside goods merged below next is =
-    let has : Has plan told (at_of m) m.schedule.items = record { accepted = merged.accepted; entries = merged.has } in
-    let g : Follows plan told (at_of m) m.schedule.items a x e = record { has = has; inside = inside; next = next; gives = (goods a).follows (at_of m a) x below next; is = is } in
-    let here : at_of m' a ≡ at_of m a + 1 = ap (λ l. get_or l a 0) p.at ∙ get_or-set_same m.at.items a (at_of m a + 1) 0 office in
-    let others : (b : ℕ) → b ≢ a → at_of m' b ≡ at_of m b = λ b ne. ap (λ l. get_or l b 0) p.at ∙ get_or-set_other m.at.items a b (at_of m a + 1) 0 ne in
-    let more : Has plan told (at_of m') (m.schedule.items ++ e ∷ []) = has_more plan told (at_of m) m.schedule.items a x e g (at_of m') here others in
-    record {
-      accepted = subst (AreAccepted (opening plan)) (sym p.events) more.accepted;
-      within = λ b. ⊎_elim
-          (λ i. subst (λ c. at_of m' c ≤ get_or limits c 0) (sym i) (omega (arith, here, below)))
-          (λ ne. omega (arith, others b ne, merged.within b))
-          (cases_eq b a);
-      has = λ b. ap (λ l. entries_at (run_of (opening plan) l) b) p.events ∙ more.entries b;
-      counted = ap sum p.at ∙ omega (arith, sum_by-set (λ x. x) m.at.items a (at_of m a + 1) 0 office, merged.counted, ap length p.events, length_push m.schedule.items e);
-      sent = subst (Knows C m'.sent) (sym (ap (λ l. (run_of (opening plan) l).frames) p.events ∙ frames_after plan told (at_of m) m.schedule.items a x e g)) (p.sent (run_of (opening plan) m.schedule.items).frames merged.sent);
-      few = p.room;
-    }
+pub within_more : (m m' : Merge) (a : ℕ) (rs : List ReplayValue) (r : ReplayValue) → a < length m.at.items → a < length rs → r ≡ get_or rs a r → m'.at.items ≡ set m.at.items a (at_of m a + 1) → at_of m a < given r → IsWithin rs m → IsWithin rs m'
+within_more m m' a rs r office there is at below h b = ⊎_elim
+    (λ same.
+    let limit : get_or (map given rs) a 0 ≡ given r = get_or-map given rs a r 0 there ∙ ap given (sym is) in
+    let here : at_of m' a ≡ at_of m a + 1 = ap (λ l. get_or l a 0) at ∙ get_or-set_same m.at.items a (at_of m a + 1) 0 office in
+    subst (λ c. at_of m' c ≤ get_or (map given rs) c 0) (sym same) (omega (arith, here, below, limit)))
+    (λ ne. omega (arith, ap (λ l. get_or l b 0) at ∙ get_or-set_other m.at.items a b (at_of m a + 1) 0 ne, h b))
+    (cases_eq b a)
+
+pub sum_more : (m m' : Merge) (a : ℕ) → a < length m.at.items → m'.at.items ≡ set m.at.items a (at_of m a + 1) → sum m'.at.items ≡ sum m.at.items + 1
+sum_more m m' a office at = omega (arith, ap sum at, sum_by-set (λ x. x) m.at.items a (at_of m a + 1) 0 office)

@@ -5,8 +5,8 @@ use Rattle.std.specs.BTreeMap.{get}
 use Rattle.std.specs.Ordering.{is_eq}
 use Rattle.std.specs.declared.cmp.Ordering.{Ordering}
 use Rattle.std.proofs.lemmas.Bool.{false≢true}
-use Rattle.std.proofs.lemmas.List.{length_push}
-use Rattle.frame_codec.specs.Frame.{Fields}
+use Rattle.frame_codec.specs.Frame.{Fields, IsFrame}
+use Rattle.std.proofs.lemmas.List.Elements.{All-nil, All-cons, All-append}
 use Rattle.journal_weave.specs.declared.key.FrameKey.{FrameKey}
 use Rattle.journal_weave.specs.declared.sent.SentFrames.{SentFrames}
 use Rattle.journal_weave.specs.refinement.Keys.{key_of}
@@ -18,24 +18,25 @@ module _ (C : FrameKey → FrameKey → Ordering) (s s' : SentFrames) (f : Field
   abbrev alike : Fields → Bool
   alike g = is_eq (C (key_of f) (key_of g))
 
-  pub known_more : (k : FrameKey) → k ≡ key_of f → ((g : Fields) → IsTrue (alike g) ↔ (f ≡ g)) → s'.count ≡ s.count + 1 →
-      ((q : FrameKey) → get C s'.numbers q ≡ cond (is_eq (C k q)) (Some (s.count + 1)) (get C s.numbers q)) → (frames : List Fields) → Knows C s frames → Knows C s' (frames ++ f ∷ [])
-  known_more k key apart more updates frames known = record {
-    counts = omega (arith, more, known.counts, length_push frames f);
-    right = λ g n is. by_same g n (alike g) refl (sym (now g) ∙ is);
+  pub known_more : (k : FrameKey) (n : ℕ) → IsFrame f → k ≡ key_of f → ((g : Fields) → IsTrue (alike g) ↔ (f ≡ g)) → s'.frames.items ≡ s.frames.items ++ f ∷ [] → n ≡ length s.frames.items + 1 →
+      ((q : FrameKey) → get C s'.numbers q ≡ cond (is_eq (C k q)) (Some n) (get C s.numbers q)) → (frames : List Fields) → Knows C s frames → Knows C s' (frames ++ f ∷ [])
+  known_more k n fits key apart more count updates frames known = record {
+    list = more ∙ ap (λ l. l ++ f ∷ []) known.list;
+    fit = All-append IsFrame frames (f ∷ []) known.fit (All-cons IsFrame f [] fits (All-nil IsFrame));
+    right = λ g i is. by_same g i (alike g) refl (sym (now g) ∙ is);
     all = λ g is j at. none g (alike g) refl (sym (now g) ∙ is) j at;
   }
     where
-      now : (g : Fields) → number_in C s' g ≡ cond (alike g) (Some (s.count + 1)) (number_in C s g)
-      now g = updates (key_of g) ∙ ap (λ (o : FrameKey). cond (is_eq (C o (key_of g))) (Some (s.count + 1)) (number_in C s g)) key
+      now : (g : Fields) → number_in C s' g ≡ cond (alike g) (Some n) (number_in C s g)
+      now g = updates (key_of g) ∙ ap (λ (o : FrameKey). cond (is_eq (C o (key_of g))) (Some n) (number_in C s g)) key
 
-      by_same : (g : Fields) (n : ℕ) (b : Bool) → alike g ≡ b → cond b (Some (s.count + 1)) (number_in C s g) ≡ Some n → WasSent (frames ++ f ∷ []) g n
-      by_same g n true e is =
-          let number : s.count + 1 ≡ n = cc in
-          (length frames, sym number ∙ omega (arith, known.counts), at_seam frames f [] ∙ ap Some ((apart g).0 e))
-      by_same g n false e is = let w = known.right g n is in (w.0, w.1, get_left frames (f ∷ []) w.0 g w.2)
+      by_same : (g : Fields) (i : ℕ) (b : Bool) → alike g ≡ b → cond b (Some n) (number_in C s g) ≡ Some i → WasSent (frames ++ f ∷ []) g i
+      by_same g i true e is =
+          let number : n ≡ i = cc in
+          (length frames, sym number ∙ omega (arith, count, ap length known.list), at_seam frames f [] ∙ ap Some ((apart g).0 e))
+      by_same g i false e is = let w = known.right g i is in (w.0, w.1, get_left frames (f ∷ []) w.0 g w.2)
 
-      none : (g : Fields) (b : Bool) → alike g ≡ b → cond b (Some (s.count + 1)) (number_in C s g) ≡ None → WasNotSent (frames ++ f ∷ []) g
+      none : (g : Fields) (b : Bool) → alike g ≡ b → cond b (Some n) (number_in C s g) ≡ None → WasNotSent (frames ++ f ∷ []) g
       none g true e is j at = cc
       none g false e is j at = ⊎_elim
           (λ old. known.all g is j old)

@@ -1,8 +1,7 @@
 -- Each world's journals are woven, and settle it but for the order: an office is its plan, its number and its entries.
-use Rattle.std.proofs.Common.{◌≡◌, ℕ, ◌<◌, List, [], length, map, Option, None, Some, refl, sym, ap, subst, ◌∙◌, get_or}
+use Rattle.std.proofs.Common.{◌≡◌, ℕ, ◌<◌, List, [], map, Option, None, Some, refl, sym, ap, subst, ◌∙◌}
 use Rattle.std.specs.Option.{option_map_or}
 use Rattle.std.proofs.lemmas.List.{ext_get_or}
-use Rattle.std.proofs.lemmas.Option.{slice_get-get_or, get_or_from_slice_get}
 use Rattle.frame_codec.specs.Frame.{Fields}
 use Rattle.office_map.specs.PlanValue.{PlanValue, ends_of}
 use Rattle.site_core.specs.Journals.{Site, office_of}
@@ -17,6 +16,7 @@ use Rattle.journal_weave.specs.declared.given.GivenJournal.{GivenJournal}
 use Rattle.journal_weave.specs.Weaving.{untagged, entries_at}
 use Rattle.journal_weave.specs.Given.{told_in}
 use Rattle.journal_weave.specs.WorldRecords.{AreRecordOf, DifferInOrder, WovenIsRecord, WorldsAreWoven, SchedulesDifferInOrder, WorldsAreFoundAgain}
+use Rattle.journal_weave.proofs.EntriesTold.{other_default}
 use Rattle.journal_weave.proofs.AcceptedEvents.{site_is}
 use Rattle.journal_weave.proofs.AcceptedAlone.{LedByAccepted, led_by_accepted, are_untagged}
 use Rattle.journal_weave.proofs.FinishedAt.{same_finished}
@@ -41,9 +41,6 @@ worlds_are_woven records plan events journals of =
 -- ---- offices
 
 -- whichever stands past the end
-other_default : {X : Type 0} (xs : List X) (i : ℕ) (d c : X) → i < length xs → get_or xs i c ≡ get_or xs i d
-other_default xs i d c lt = get_or_from_slice_get xs i (get_or xs i d) c (slice_get-get_or xs i d lt)
-
 same_site : (plan : PlanValue) (v w : World) (a : ℕ) → IsSeated plan v → IsSeated plan w → entries_at v a ≡ entries_at w a → site_at v a ≡ site_at w a
 same_site plan v w a hv hw same = site_is plan v a hv ∙ ap (λ l. record { plan = plan; me = a; entries = l }) same ∙ sym (site_is plan w a hw)
 

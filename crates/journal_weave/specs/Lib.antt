@@ -3,4 +3,7 @@ pub mod Given
 pub mod Laws
 pub mod FrameLaws
 pub mod WorldRecords
+pub mod Following
+pub mod ReplayValue
+pub mod Replays
 pub mod refinement

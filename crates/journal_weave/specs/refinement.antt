@@ -1,3 +1,4 @@
-pub mod Following
+pub mod Finishers
 pub mod Keys
 pub mod Merging
+pub mod Standing

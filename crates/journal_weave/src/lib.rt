@@ -22,16 +22,19 @@
 //! }
 //! ```
 //!
-//! [`weave`] answers such a schedule, or names an entry that no schedule has.
+//! [`weave`] answers such a schedule, or names an entry that no schedule has. [`woven`] does the same where the journals are told
+//! entry by entry to offices that follow them ([`Replay`]), and answers what the schedule leaves beside these offices: so no list of
+//! entries or of events stands.
 //!
 //! - `specs/Weaving.antt`: when a schedule is woven from what offices tell, and when it goes along with it.
 //! - `specs/Given.antt`: the same of journals as they are given, and which entry is missed.
+//! - `specs/Following.antt`, `specs/Replays.antt`: how far an office follows its journal, and what is known of one that did.
 //! - `specs/Laws.antt`: a schedule that can't go on has all that any schedule has; [`laws`] has it proved.
 //! - `specs/WorldRecords.antt`: the journals of every world are woven, and two schedules of the same journals lead to worlds that
 //!   differ in order alone; [`laws`] has it proved.
 //!
-//! How it works: what an office answers depends on its own earlier entries alone. So each journal is replayed by itself first,
-//! on one office at a time (`following`), up to the first entry that the office doesn't give. Then these beginnings are merged
+//! How it works: what an office answers depends on its own earlier entries alone. So each journal is replayed by itself first
+//! (`replay`), up to the first entry that the office doesn't give. Then these beginnings are merged
 //! (`merge`), where an entry waits for nothing but the frame that it takes. Each entry is replayed once and merged once, and
 //! looked at once more at most for each office.
 //!
@@ -61,8 +64,8 @@
 //! another is all that is left open.
 //!
 //! What it costs: a frame is looked up in time by the logarithm of how many were sent, whatever they say, so nobody can
-//! write journals of which an entry is dearer. One office at a time is held, beside the journals, the schedule and the
-//! map of frames.
+//! write journals of which an entry is dearer. The offices are held, with what each gave of its journal, and the frames with
+//! their map.
 //!
 //! Not said: that the offices did what they wrote down, or in that order; that the office which is named is the one at
 //! fault; which of two offices' sessions finished first, or which frame was sent first; that `weave` answers the very
@@ -70,15 +73,18 @@
 #![tactic(auto)]
 
 mod fault;
-mod following;
 mod given;
 mod key;
 pub mod laws;
 mod merge;
+mod replay;
 mod sent;
 mod standing;
+mod stop;
 mod weaving;
 
 pub use crate::fault::WeaveFault;
 pub use crate::given::GivenJournal;
-pub use crate::weaving::weave;
+pub use crate::replay::Replay;
+pub use crate::stop::Stop;
+pub use crate::weaving::{Record, weave, woven};

@@ -1,112 +1,147 @@
-//! Merging of what offices follow of their journals.
+//! Merging of what offices gave.
 
-ghost use Rattle.std.specs.Prelude.{◌≡◌, ◌+◌, ◌<◌, ◌≤◌, ◌^◌, ◌++◌, ◌∷◌, [], true, false, ℕ, List, length, map, get_or, set, IfOk, OnOk};
+ghost use Rattle.std.specs.Prelude.{◌≡◌, ◌+◌, ◌<◌, ◌≤◌, ◌^◌, ◌++◌, ◌∷◌, [], ℕ, List, Some, length, sum, get_or, set, slice_get, IfOk, IfSome, IfNone, OnOk};
 ghost use Rattle.office_map.specs.PlanValue.{PlanValue};
 ghost use Rattle.frame_codec.specs.Frame.{Fields};
+ghost use Rattle.office_journal.specs.Shown.{event_shown};
 ghost use Rattle.office_journal.specs.declared.event.Entry.{Entry};
 ghost use Rattle.office_journal.specs.declared.event.Event.TheVariants as events;
+ghost use Rattle.frame_world.specs.declared.event.WorldEvent.{WorldEvent};
 ghost use Rattle.frame_world.specs.Worlds.{frames_of};
-ghost use Rattle.journal_weave.specs.refinement.Following.{AreLimits};
-ghost use Rattle.journal_weave.specs.refinement.Merging.{Knows, CannotCome, IsFound, IsPushed, GoesOn, IsMerged, IsStuck, IsTold};
+ghost use Rattle.journal_weave.specs.Replays.{given};
+ghost use Rattle.journal_weave.specs.ReplayValue.{ReplayValue};
+ghost use Rattle.journal_weave.specs.refinement.Merging.{Knows, IsFound, GoesNext, AddsEvent, IsMerged, IsStuck, IsWithin, StuckAt};
 
 use crate::key::FrameKey;
+use crate::replay::Replay;
 use crate::sent::SentFrames;
 use frame_codec::Frame;
 use frame_world::WorldEvent;
 use office_map::OfficeId;
-use site_core::{Entry, Event, Reply};
+use site_core::{EventRef, Reply};
 use std::alloc::{AllocError, Global};
 
-/// A schedule of beginnings of journals.
+/// How far a schedule of beginnings of journals is. It is told event by event ([`Merge::next`]), and kept by whoever asks.
+///
+/// The offices go on in turn, in order of number, each as far as it can.
 #[derive(Drop)]
 pub(crate) struct Merge {
-    /// How many entries of each office it has.
-    at: Vec<usize>,
+    /// How many entries of each office it has. A journal takes no more than these count.
+    at: Vec<u32>,
     /// The frames that it sends.
     sent: SentFrames,
-    schedule: Vec<WorldEvent>,
+    /// Whose turn it is.
+    turn: usize,
 }
 
 impl Merge {
-    /// The empty schedule, of so many offices.
+    /// Before the first event, of so many offices.
     pub(crate) fn new(alloc: Global, offices: usize) -> Result<Merge, AllocError>
         ensures size { IfOk result (λ m. length m.at.items ≡ offices) }
-        ensures merged { IfOk result (λ m. (plan : PlanValue) (told : ℕ → List Entry) (limits : List ℕ) → IsMerged ⟦<FrameKey as Ord>⟧.cmp plan told limits m) }
+        ensures turn { IfOk result (λ m. m.turn ≤ offices) }
+        ensures within { IfOk result (λ m. (rs : List ReplayValue) → IsWithin rs m) }
+        ensures merged { IfOk result (λ m. (plan : PlanValue) (told : ℕ → List Entry) → IsMerged ⟦<FrameKey as Ord>⟧.cmp plan told m []) }
     {
         Ok(Merge {
             at: vec![in alloc; 0; offices]?,
             sent: SentFrames::new(alloc),
-            schedule: Vec::new(alloc),
+            turn: 0,
         })
-    }
-
-    /// How many events there are.
-    pub(crate) fn len(&self) -> usize
-        ensures { result ≡ length self.now.schedule.items }
-    {
-        self.schedule.len()
     }
 
     /// How many entries of an office the schedule has.
     pub(crate) fn done(&self, a: OfficeId) -> usize
         requires { a < length self.now.at.items }
-        ensures { result ≡ get_or self.now.at.items a 0 }
+        ensures count { result ≡ get_or self.now.at.items a 0 }
+        ensures few { result < 2 ^ 32 }
     {
-        self.at[a.index()]
+        self.at[a.index()] as usize
     }
 
-    /// The office goes on, up to this limit, or to the first entry that takes a frame which isn't there for it.
-    pub(crate) fn advance(
-        &mut self,
-        a: OfficeId,
-        entries: &[Entry],
-        limit: usize,
-    ) -> Result<(), AllocError>
-        requires office { a < length self.old.at.items }
-        requires limit { limit ≤ length entries.now }
-        requires room { self.old.sent.count ≤ length self.old.schedule.items }
-        ensures merged { OnOk result ((plan : PlanValue) (told : ℕ → List Entry) (limits : List ℕ) → a < length plan.offices → IsTold told limits a entries.now limit → AreLimits plan told limits → IsMerged ⟦<FrameKey as Ord>⟧.cmp plan told limits self.old → IsMerged ⟦<FrameKey as Ord>⟧.cmp plan told limits self.new × IsStuck plan told limits self.new a) }
+    /// The next event of the schedule: of the first office, from the one whose turn it is, that can go on. None where none can.
+    pub(crate) fn next(&mut self, replays: &[Replay]) -> Result<Option<WorldEvent>, AllocError>
+        requires size { length self.old.at.items ≡ length replays.now }
+        requires few { length replays.now ≤ 16 }
+        requires turn { self.old.turn ≤ length replays.now }
+        requires within { IsWithin replays.now self.old }
         ensures size { length self.new.at.items ≡ length self.old.at.items }
-        ensures longer { OnOk result (length self.old.schedule.items ≤ length self.new.schedule.items) }
-        ensures same { OnOk result (length self.new.schedule.items ≡ length self.old.schedule.items → self.new ≡ self.old) }
+        ensures turn { self.new.turn ≤ length replays.now }
+        ensures within { OnOk result (IsWithin replays.now self.new) }
+        ensures event { IfOk result (λ o. IfSome o (AddsEvent ⟦<FrameKey as Ord>⟧.cmp replays.now self.old self.new)) }
+        ensures longer { IfOk result (λ o. IfSome o (λ _. sum self.new.at.items ≡ sum self.old.at.items + 1)) }
+        ensures same { IfOk result (λ o. IfNone o (self.new ≡ self.old)) }
+        ensures stuck { IfOk result (λ o. IfNone o ((a : ℕ) → a < length replays.now → StuckAt ⟦<FrameKey as Ord>⟧.cmp replays.now self.old a)) }
     {
-        let mut at = self.done(a);
-        while at < limit {
-            if !self.go_on(a, &entries[at])? {
-                return Ok(());
-            }
-            at += 1;
+        let turn = self.turn;
+        if let Some(event) = self.next_among(replays, turn, replays.len())? {
+            return Ok(Some(event));
         }
-        Ok(())
+        self.next_among(replays, 0, turn)
     }
 
-    /// The office's next entry goes on the schedule, where no frame of it is lacking. Whether it does.
-    fn go_on(&mut self, a: OfficeId, entry: &Entry) -> Result<bool, AllocError>
-        requires office { a < length self.old.at.items }
-        requires next { get_or self.old.at.items a 0 + 1 < 2 ^ 64 }
-        requires room { self.old.sent.count ≤ length self.old.schedule.items }
-        ensures pushed { IfOk result (λ goes. goes ≡ true → GoesOn ⟦<FrameKey as Ord>⟧.cmp self.old self.new a entry.now) }
-        ensures lacks { IfOk result (λ goes. goes ≡ false → (frames : List Fields) → Knows ⟦<FrameKey as Ord>⟧.cmp self.old.sent frames → CannotCome frames a entry.now.event) }
-        ensures same { IfOk result (λ goes. goes ≡ false → self.new ≡ self.old) }
+    /// The same of the offices with these numbers, from the first up to the last, which isn't one of them.
+    fn next_among(
+        &mut self,
+        replays: &[Replay],
+        first: usize,
+        last: usize,
+    ) -> Result<Option<WorldEvent>, AllocError>
+        requires size { length self.old.at.items ≡ length replays.now }
+        requires few { length replays.now ≤ 16 }
+        requires turn { self.old.turn ≤ length replays.now }
+        requires last { last ≤ length replays.now }
+        requires within { IsWithin replays.now self.old }
+        ensures size { length self.new.at.items ≡ length self.old.at.items }
+        ensures turn { self.new.turn ≤ length replays.now }
+        ensures within { OnOk result (IsWithin replays.now self.new) }
+        ensures event { IfOk result (λ o. IfSome o (AddsEvent ⟦<FrameKey as Ord>⟧.cmp replays.now self.old self.new)) }
+        ensures longer { IfOk result (λ o. IfSome o (λ _. sum self.new.at.items ≡ sum self.old.at.items + 1)) }
+        ensures same { IfOk result (λ o. IfNone o (self.new ≡ self.old)) }
+        ensures stuck { IfOk result (λ o. IfNone o ((a : ℕ) → first ≤ a → a < last → StuckAt ⟦<FrameKey as Ord>⟧.cmp replays.now self.old a)) }
+    {
+        for a in first..last {
+            if let Some(event) = self.next_of(OfficeId::new(a as u8), &replays[a])? {
+                self.turn = a;
+                return Ok(Some(event));
+            }
+        }
+        Ok(None)
+    }
+
+    /// The event of the office's next entry that it gave, where there is one and no frame of it is lacking. The schedule has it then.
+    fn next_of(&mut self, a: OfficeId, replay: &Replay) -> Result<Option<WorldEvent>, AllocError>
+        requires { a < length self.old.at.items }
+        ensures goes { IfOk result (λ o. IfSome o (GoesNext ⟦<FrameKey as Ord>⟧.cmp self.old self.new a replay.now)) }
+        ensures stuck { IfOk result (λ o. IfNone o (IsStuck ⟦<FrameKey as Ord>⟧.cmp self.old a replay.now)) }
+        ensures same { IfOk result (λ o. IfNone o (self.new ≡ self.old)) }
+        ensures turn { self.new.turn ≡ self.old.turn }
         ensures size { length self.new.at.items ≡ length self.old.at.items }
     {
-        let Some(event) = self.event_of(a, &entry.event)? else {
-            return Ok(false);
+        let at = self.done(a);
+        let given = replay.given();
+        if at >= given {
+            return Ok(None);
+        }
+        let Some(entry) = replay.entry(at) else {
+            return Ok(None);
         };
-        self.push(a, event, &entry.reply)?;
-        Ok(true)
+        let Some(event) = self.event_of(a, &entry.event)? else {
+            return Ok(None);
+        };
+        self.push(a, &entry.reply)?;
+        Ok(Some(event))
     }
 
     /// The world's event that is this event of the office, if its frame is there for it.
-    fn event_of(&self, a: OfficeId, event: &Event) -> Result<Option<WorldEvent>, AllocError>
-        ensures { IfOk result (λ found. (frames : List Fields) → Knows ⟦<FrameKey as Ord>⟧.cmp self.now.sent frames → IsFound frames a event.now found) }
+    fn event_of(&self, a: OfficeId, event: &EventRef<'_>) -> Result<Option<WorldEvent>, AllocError>
+        ensures { IfOk result (λ found. (frames : List Fields) → Knows ⟦<FrameKey as Ord>⟧.cmp self.now.sent frames → IsFound frames a (event_shown event.now) found) }
     {
-        match event {
-            Event::Submit(program) => Ok(Some(WorldEvent::Submit(a, program.copy()?))),
-            Event::Do(rule) => Ok(Some(WorldEvent::Do(a, *rule))),
-            Event::Send(v, i) => Ok(Some(WorldEvent::Send(a, *v, *i))),
-            Event::Took(frame) => Ok(self.arrival_of(a, frame)),
-            Event::Withdraw(ticket) => Ok(Some(WorldEvent::Withdraw(a, *ticket))),
+        match *event {
+            EventRef::Submit(program) => Ok(Some(WorldEvent::Submit(a, program.copy()?))),
+            EventRef::Do(rule) => Ok(Some(WorldEvent::Do(a, rule))),
+            EventRef::Send(v, i) => Ok(Some(WorldEvent::Send(a, v, i))),
+            EventRef::Took(frame) => Ok(self.arrival_of(a, &frame)),
+            EventRef::Withdraw(ticket) => Ok(Some(WorldEvent::Withdraw(a, ticket))),
         }
     }
 
@@ -121,23 +156,24 @@ impl Merge {
         Some(WorldEvent::Deliver(k))
     }
 
-    /// One event more, of the office's next entry, which has that reply.
-    fn push(&mut self, a: OfficeId, event: WorldEvent, reply: &Reply) -> Result<(), AllocError>
+    /// The office has an entry more, which has that reply.
+    fn push(&mut self, a: OfficeId, reply: &Reply) -> Result<(), AllocError>
         requires office { a < length self.old.at.items }
-        requires next { get_or self.old.at.items a 0 + 1 < 2 ^ 64 }
-        requires room { self.old.sent.count ≤ length self.old.schedule.items }
-        ensures pushed { OnOk result (IsPushed ⟦<FrameKey as Ord>⟧.cmp self.old self.new a event reply.now) }
+        requires next { get_or self.old.at.items a 0 + 1 < 2 ^ 32 }
+        ensures at { OnOk result (self.new.at.items ≡ set self.old.at.items a (get_or self.old.at.items a 0 + 1)) }
+        ensures sent { OnOk result ((frames : List Fields) → Knows ⟦<FrameKey as Ord>⟧.cmp self.old.sent frames → Knows ⟦<FrameKey as Ord>⟧.cmp self.new.sent (frames ++ frames_of reply.now)) }
+        ensures turn { self.new.turn ≡ self.old.turn }
         ensures size { length self.new.at.items ≡ length self.old.at.items }
     {
-        self.schedule.push(event)?;
+        self.sent.add_of(reply)?;
         self.at[a.index()] += 1;
-        self.sent.add_of(reply)
+        Ok(())
     }
 
-    /// The schedule.
-    pub(crate) fn into_schedule(self) -> Vec<WorldEvent>
-        ensures { result ≡ self.schedule }
+    /// The frames that were sent, the first first.
+    pub(crate) fn into_frames(self) -> Vec<Frame>
+        ensures { (frames : List Fields) → Knows ⟦<FrameKey as Ord>⟧.cmp self.sent frames → result.items ≡ frames }
     {
-        self.schedule
+        self.sent.into_frames()
     }
 }

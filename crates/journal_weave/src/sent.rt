@@ -1,7 +1,7 @@
 //! The frames of a schedule.
 
 ghost use Rattle.std.specs.Prelude.{◌≡◌, ◌+◌, ◌<◌, ◌≤◌, ◌^◌, ◌++◌, ◌∷◌, [], List, OnOk, IfSome, IfNone};
-ghost use Rattle.frame_codec.specs.Frame.{Fields};
+ghost use Rattle.frame_codec.specs.Frame.{Fields, IsFrame};
 ghost use Rattle.frame_world.specs.Worlds.{frames_of};
 ghost use Rattle.journal_weave.specs.refinement.Merging.{Knows, WasSent, WasNotSent};
 
@@ -21,27 +21,24 @@ use std::collections::BTreeMap;
 pub(crate) struct SentFrames {
     /// From 1. A frame that was sent more than once has the last of its numbers.
     numbers: BTreeMap<FrameKey, usize>,
-    /// How many frames were sent.
-    count: usize,
+    /// The frames, the first sent first.
+    frames: Vec<Frame>,
 }
 
 impl SentFrames {
     /// None was sent.
     pub(crate) fn new(alloc: Global) -> SentFrames
-        ensures knows { Knows ⟦<FrameKey as Ord>⟧.cmp result [] }
-        ensures none { result.count ≡ 0 }
+        ensures { Knows ⟦<FrameKey as Ord>⟧.cmp result [] }
     {
         SentFrames {
             numbers: BTreeMap::new(alloc),
-            count: 0,
+            frames: Vec::new(alloc),
         }
     }
 
     /// The frame that a reply is, if it is one.
     pub(crate) fn add_of(&mut self, reply: &Reply) -> Result<(), AllocError>
-        requires { self.old.count + 1 < 2 ^ 64 }
-        ensures knows { OnOk result ((frames : List Fields) → Knows ⟦<FrameKey as Ord>⟧.cmp self.old frames → Knows ⟦<FrameKey as Ord>⟧.cmp self.new (frames ++ frames_of reply.now)) }
-        ensures count { OnOk result (self.new.count ≤ self.old.count + 1) }
+        ensures { OnOk result ((frames : List Fields) → Knows ⟦<FrameKey as Ord>⟧.cmp self.old frames → Knows ⟦<FrameKey as Ord>⟧.cmp self.new (frames ++ frames_of reply.now)) }
     {
         match reply {
             Reply::Frame(frame) => self.add(frame),
@@ -51,13 +48,12 @@ impl SentFrames {
 
     /// One frame more.
     fn add(&mut self, frame: &Frame) -> Result<(), AllocError>
-        requires { self.old.count + 1 < 2 ^ 64 }
-        ensures knows { OnOk result ((frames : List Fields) → Knows ⟦<FrameKey as Ord>⟧.cmp self.old frames → Knows ⟦<FrameKey as Ord>⟧.cmp self.new (frames ++ frame.now ∷ [])) }
-        ensures count { OnOk result (self.new.count ≡ self.old.count + 1) }
+        ensures { OnOk result ((frames : List Fields) → Knows ⟦<FrameKey as Ord>⟧.cmp self.old frames → Knows ⟦<FrameKey as Ord>⟧.cmp self.new (frames ++ frame.now ∷ [])) }
     {
         frames_are_told_apart();
-        self.numbers.insert(FrameKey::of(frame), self.count + 1)?;
-        self.count += 1;
+        is_in_range(frame);
+        self.frames.push(*frame)?;
+        self.numbers.insert(FrameKey::of(frame), self.frames.len())?;
         Ok(())
     }
 
@@ -68,4 +64,19 @@ impl SentFrames {
     {
         self.numbers.get(&FrameKey::of(frame)).copied()
     }
+
+    /// The frames, the first sent first.
+    pub(crate) fn into_frames(self) -> Vec<Frame>
+        ensures { (frames : List Fields) → Knows ⟦<FrameKey as Ord>⟧.cmp self frames → result.items ≡ frames }
+    {
+        self.frames
+    }
+}
+
+/// Each field of a frame is in the format's range.
+fn is_in_range(frame: &Frame)
+    ensures { IsFrame frame.now }
+{
+    let _ = (frame.run(), frame.from(), frame.to());
+    let _ = (frame.number(), frame.count(), frame.msg());
 }

@@ -1,14 +1,16 @@
 //! Which office is named where none goes on.
 
-ghost use Rattle.std.specs.Prelude.{◌≡◌, ◌+◌, ◌<◌, ◌↔◌, ℕ, length, get_or, take, slice_get, Some, IfSome, IfNone, IsTrue};
-ghost use Rattle.frame_codec.specs.Frame.{Fields};
-ghost use Rattle.journal_weave.specs.Given.{lines_in, told_in, Stands, TakesNext, HasMade, IsFrameFor, Waits, IsNamed};
+ghost use Rattle.std.specs.Prelude.{◌≡◌, ◌+◌, ◌<◌, ◌≤◌, ◌↔◌, length, get_or, take, IfSome, IfNone, IsTrue};
+ghost use Rattle.office_journal.specs.Shown.{event_shown};
+ghost use Rattle.journal_weave.specs.Given.{HasMade, IsFrameFor};
+ghost use Rattle.journal_weave.specs.refinement.Standing.{IsLeft, StandsBefore, taken_next, frame_taken, of_stop, MayCome, WaitsIn, IsFirstLeft};
 
-use crate::given::GivenJournal;
 use crate::merge::Merge;
+use crate::replay::Replay;
+use crate::stop::Stop;
 use frame_codec::Frame;
-use office_map::{OfficeId, Plan};
-use site_core::{Entry, Event, Reply};
+use office_map::OfficeId;
+use site_core::{EventRef, Reply};
 
 /// The office that is named where none goes on, and the entry at which it stands, from 1: the least that doesn't wait, or the
 /// least, where all wait that stand.
@@ -16,25 +18,18 @@ use site_core::{Entry, Event, Reply};
 /// The entry is the first of its office that no schedule has; which office that is, where several stand, is a
 /// definition. An office waits by its next entry alone: whether it would give that entry, once the frame came, isn't
 /// asked. What comes after the entries of a journal that doesn't end takes no frame, so the office doesn't wait there.
-pub(crate) fn first_left(
-    plan: &Plan,
-    journals: &[GivenJournal],
-    merge: &Merge,
-) -> Option<(OfficeId, usize)>
-    requires one_each { length journals.now ≡ length plan.now.offices }
-    requires size { length merge.now.at.items ≡ length plan.now.offices }
-    ensures none { IfNone result ((a : ℕ) → Stands journals.now (λ b. get_or merge.now.at.items b 0) a → ⊥) }
-    ensures stands { IfSome result (λ left. Stands journals.now (λ b. get_or merge.now.at.items b 0) left.0) }
-    ensures named { IfSome result (λ left. IsNamed journals.now (λ b. get_or merge.now.at.items b 0) left.0) }
-    ensures next { IfSome result (λ left. left.1 ≡ get_or merge.now.at.items left.0 0 + 1) }
+pub(crate) fn first_left(replays: &[Replay], merge: &Merge) -> Option<(OfficeId, usize)>
+    requires few { length replays.now ≤ 16 }
+    requires size { length merge.now.at.items ≡ length replays.now }
+    ensures { IsFirstLeft replays.now merge.now.at.items result }
 {
     let mut first = None;
-    for a in 0..plan.offices() {
+    for a in 0..replays.len() {
         let office = OfficeId::new(a as u8);
-        let Some(entry) = left_at(journals, merge, office) else {
+        let Some(entry) = left_at(replays, merge, office) else {
             continue;
         };
-        if !waits(journals, merge, office) {
+        if !waits(replays, merge, office) {
             return Some((office, entry));
         }
         first = first.or(Some((office, entry)));
@@ -43,63 +38,107 @@ pub(crate) fn first_left(
 }
 
 /// The entry at which the office stands, from 1, if it stands before its journal's end.
-#[tactic(auto, using(crate::proofs::Limits::lines_at))]
-fn left_at(journals: &[GivenJournal], merge: &Merge, a: OfficeId) -> Option<usize>
-    requires office { a < length journals.now }
-    requires size { length merge.now.at.items ≡ length journals.now }
-    ensures stands { IfSome result (λ entry. Stands journals.now (λ b. get_or merge.now.at.items b 0) a) }
+fn left_at(replays: &[Replay], merge: &Merge, a: OfficeId) -> Option<usize>
+    requires office { a < length replays.now }
+    requires size { length merge.now.at.items ≡ length replays.now }
+    ensures stands { IfSome result (λ entry. StandsBefore replays.now merge.now.at.items a) }
     ensures next { IfSome result (λ entry. entry ≡ get_or merge.now.at.items a 0 + 1) }
-    ensures none { IfNone result (Stands journals.now (λ b. get_or merge.now.at.items b 0) a → ⊥) }
+    ensures none { IfNone result (StandsBefore replays.now merge.now.at.items a → ⊥) }
 {
     let done = merge.done(a);
-    if done < lines(&journals[a.index()]) {
+    if is_left(&replays[a.index()], done) {
         return Some(done + 1);
     }
     None
 }
 
-/// How many entries a journal tells, with the one that is none.
-fn lines(journal: &GivenJournal) -> usize
-    ensures { result ≡ lines_in journal.now }
+/// Whether a journal has something after so many entries, of those that its office gave.
+fn is_left(replay: &Replay, done: usize) -> bool
+    ensures { IsTrue result ↔ IsLeft replay.now done }
 {
-    let entries = journal.entries.len();
-    if journal.ends { entries } else { entries + 1 }
+    done < replay.given() || replay.stop().is_some()
 }
 
-/// Whether the frame that the office would take may still come: its sender stands too, and has made it none of that number.
-fn waits(journals: &[GivenJournal], merge: &Merge, a: OfficeId) -> bool
-    requires office { a < length journals.now }
-    requires size { length merge.now.at.items ≡ length journals.now }
-    ensures { IsTrue result ↔ Waits journals.now (λ b. get_or merge.now.at.items b 0) a }
+/// Whether the office's next entry takes a frame that may still come.
+fn waits(replays: &[Replay], merge: &Merge, a: OfficeId) -> bool
+    requires office { a < length replays.now }
+    requires size { length merge.now.at.items ≡ length replays.now }
+    ensures { IsTrue result ↔ WaitsIn replays.now merge.now.at.items a }
 {
-    let Some(frame) = taken_next(&journals[a.index()].entries, merge.done(a)) else {
-        return false;
-    };
+    match taken_next(&replays[a.index()], merge.done(a)) {
+        Some(frame) => may_come(replays, merge, a, &frame),
+        None => false,
+    }
+}
+
+/// Whether the frame may still come to the office: its sender stands, and has made it none of that number.
+fn may_come(replays: &[Replay], merge: &Merge, a: OfficeId, frame: &Frame) -> bool
+    requires { length merge.now.at.items ≡ length replays.now }
+    ensures { IsTrue result ↔ MayCome replays.now merge.now.at.items a frame.now }
+{
     let from = OfficeId::new(frame.from());
-    if from.index() >= journals.len() || left_at(journals, merge, from).is_none() {
+    if !stands(replays, merge, from) {
         return false;
     }
-    let made = &journals[from.index()].entries;
-    !has_made(made, merge.done(from), a.number(), frame.number())
+    let sender = &replays[from.index()];
+    !has_made(sender, merge.done(from), a.number(), frame.number())
+}
+
+/// Whether there is that office, and it stands before its journal's end.
+#[tactic(auto, using(crate::proofs::Naming::none_beyond, crate::proofs::Naming::where_some))]
+fn stands(replays: &[Replay], merge: &Merge, a: OfficeId) -> bool
+    requires { length merge.now.at.items ≡ length replays.now }
+    ensures { IsTrue result ↔ StandsBefore replays.now merge.now.at.items a }
+{
+    if a.index() >= replays.len() {
+        return false;
+    }
+    left_at(replays, merge, a).is_some()
 }
 
 /// The frame that the entry after so many takes, if there is one and it does.
-fn taken_next(entries: &[Entry], done: usize) -> Option<Frame>
-    ensures takes { IfSome result (TakesNext entries.now done) }
-    ensures none { IfNone result ((f : Fields) → TakesNext entries.now done f → ⊥) }
+fn taken_next(replay: &Replay, done: usize) -> Option<Frame>
+    ensures { result ≡ taken_next replay.now done }
 {
-    match &entries.get(done)?.event {
-        Event::Took(frame) => Some(*frame),
+    if done >= replay.given() {
+        return of_stop(replay.stop());
+    }
+    let Some(entry) = replay.entry(done) else {
+        return None;
+    };
+    frame_taken(&entry.event)
+}
+
+/// The frame that an event takes, if it does.
+fn frame_taken(event: &EventRef<'_>) -> Option<Frame>
+    ensures { result ≡ frame_taken (event_shown event.now) }
+{
+    match *event {
+        EventRef::Took(frame) => Some(frame),
         _ => None,
     }
 }
 
-/// Whether one of the first so many entries made a frame of that number for the office.
-fn has_made(entries: &[Entry], done: usize, to: u8, number: u64) -> bool
-    ensures { IsTrue result ↔ HasMade (take done entries.now) to number }
+/// The frame that is taken where an office stopped, if that is so.
+fn of_stop(stop: Option<Stop>) -> Option<Frame>
+    ensures { result ≡ of_stop stop }
 {
-    let mut made = entries.iter().take(done);
-    made.any(|entry| is_frame(&entry.reply, to, number))
+    stop?.takes
+}
+
+/// Whether one of the first so many entries made a frame of that number for the office.
+fn has_made(replay: &Replay, done: usize, to: u8, number: u64) -> bool
+    ensures { IsTrue result ↔ HasMade (take done replay.now.site.entries) to number }
+{
+    for i in 0..done {
+        let Some(entry) = replay.entry(i) else {
+            return false;
+        };
+        if is_frame(&entry.reply, to, number) {
+            return true;
+        }
+    }
+    false
 }
 
 /// Whether the reply is a frame of that number for the office.

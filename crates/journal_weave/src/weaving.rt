@@ -1,24 +1,37 @@
 //! Weaving.
 
-ghost use Rattle.std.specs.Prelude.{◌≡◌, ◌≤◌, ◌<◌, ◌⊎◌, ℕ, List, true, false, length, map, IfOk, IfErr, OnOk};
+ghost use Rattle.std.specs.Prelude.{◌≡◌, ◌⊎◌, ◌++◌, [], List, length, IfOk, IfErr, OnOk};
 ghost use Rattle.frame_world.specs.declared.event.WorldEvent.{WorldEvent};
 ghost use Rattle.frame_world.specs.Worlds.{opening, run_of};
 ghost use Rattle.frame_world.specs.Headline.{HasSerialSessions, HasSerialValues};
 ghost use Rattle.journal_weave.specs.declared.fault.WeaveFault.TheVariants as faults;
-ghost use Rattle.journal_weave.specs.Given.{told_in, IsWovenFrom, IsUnwoven};
-ghost use Rattle.journal_weave.specs.refinement.Following.{AreLimits};
-ghost use Rattle.journal_weave.specs.refinement.Merging.{IsMerged, IsStuck};
+ghost use Rattle.journal_weave.specs.declared.given.GivenJournal.{GivenJournal};
+ghost use Rattle.journal_weave.specs.Given.{IsWovenFrom, IsUnwoven};
+ghost use Rattle.journal_weave.specs.Replays.{AreReplays, IsRecord};
+ghost use Rattle.journal_weave.specs.refinement.Finishers.{finishers, finishes_at, finishes_by};
+ghost use Rattle.journal_weave.specs.refinement.Merging.{IsAtEnd};
 
 use crate::fault::WeaveFault;
-use crate::following::followed;
 use crate::given::GivenJournal;
 use crate::key::FrameKey;
 use crate::laws::{none_goes_further, woven_is_serial};
 use crate::merge::Merge;
+use crate::replay::{Replay, replayed};
 use crate::standing::first_left;
+use frame_codec::Frame;
 use frame_world::WorldEvent;
 use office_map::{OfficeId, Plan};
+use site_core::Rule;
 use std::alloc::{AllocError, Global};
+
+/// What a schedule leaves, beside what its offices are at their ends.
+#[derive(Drop)]
+pub struct Record {
+    /// The frames that it sends, the first first.
+    pub frames: Vec<Frame>,
+    /// The offices at which its sessions finish, in order.
+    pub finished: Vec<OfficeId>,
+}
 
 /// A schedule of which the journals are the record, one of each office, in order of number. The offices go on in turn, in order
 /// of number, each as far as it can.
@@ -41,80 +54,127 @@ pub fn weave(
 {
     none_goes_further();
     woven_is_serial();
+    // An accepted plan is consistent.
     let _ = plan.offices();
-    let limits = limits_of(alloc, plan, journals)?;
-    let merge = merged(alloc, plan, journals, &limits)?;
-    match first_left(plan, journals, &merge) {
-        Some((office, entry)) => Err(WeaveFault::Unwoven { office, entry }),
-        None => Ok(merge.into_schedule()),
+    let replays = replays_of(alloc, plan, journals)?;
+    let mut schedule = Vec::new(alloc);
+    let merge = scheduled(alloc, plan, &replays, &mut schedule)?;
+    match first_left(&replays, &merge) {
+        Some(left) => Err(WeaveFault::Unwoven {
+            office: left.0,
+            entry: left.1,
+        }),
+        None => Ok(schedule),
     }
 }
 
-/// How many entries of its journal each office follows.
-fn limits_of(
-    alloc: Global,
-    plan: &Plan,
-    journals: &[GivenJournal],
-) -> Result<Vec<usize>, AllocError>
-    requires { length journals.now ≡ length plan.now.offices }
-    ensures size { IfOk result (λ v. length v.items ≡ length plan.now.offices) }
-    ensures limits { IfOk result (λ v. AreLimits plan.now (told_in journals.now) v.items) }
-{
-    let mut limits = Vec::with_capacity(alloc, plan.offices())?;
-    for a in 0..plan.offices() {
-        let limit = followed(alloc, plan, OfficeId::new(a as u8), &journals[a].entries)?;
-        limits.push(limit)?;
-    }
-    Ok(limits)
-}
-
-/// Rounds over the offices until one moves nobody.
+/// What a schedule leaves of which the journals are the record that these offices follow, one of each office, in order of number.
 ///
-/// There is no list of who was woken. A round looks at an office in vain at most once, and each but the last puts an
-/// entry on the schedule. The last round is the proof that each office is stuck where the merge ends.
-fn merged(
+/// # Errors
+/// As [`weave`].
+pub fn woven(alloc: Global, plan: &Plan, replays: &[Replay]) -> Result<Record, WeaveFault>
+    requires { length replays.now ≡ length plan.now.offices }
+    ensures woven { IfOk result (λ r. (journals : List GivenJournal) → AreReplays plan.now journals replays.now → IsRecord plan.now journals replays.now r.frames.items r.finished.items) }
+    ensures unwoven { IfErr result (λ fault. (journals : List GivenJournal) → AreReplays plan.now journals replays.now → IsUnwoven plan.now journals fault) }
+    ensures never { IfErr result (λ fault. (fault ≡ faults.Memory) ⊎ ((journals : List GivenJournal) → AreReplays plan.now journals replays.now → (events : List WorldEvent) → IsWovenFrom plan.now journals events → ⊥)) }
+{
+    none_goes_further();
+    // A plan has few offices.
+    let _ = plan.offices();
+    let mut finished = Vec::new(alloc);
+    let merge = finishes(alloc, plan, replays, &mut finished)?;
+    match first_left(replays, &merge) {
+        Some(left) => Err(WeaveFault::Unwoven {
+            office: left.0,
+            entry: left.1,
+        }),
+        None => Ok(Record {
+            frames: merge.into_frames(),
+            finished,
+        }),
+    }
+}
+
+/// Each office follows its journal.
+fn replays_of(
     alloc: Global,
     plan: &Plan,
     journals: &[GivenJournal],
-    limits: &[usize],
+) -> Result<Vec<Replay>, AllocError>
+    requires { length journals.now ≡ length plan.now.offices }
+    ensures { IfOk result (λ v. AreReplays plan.now journals.now v.items) }
+{
+    let mut replays = Vec::with_capacity(alloc, plan.offices())?;
+    for a in 0..plan.offices() {
+        let replay = replayed(alloc, plan, OfficeId::new(a as u8), &journals[a])?;
+        replays.push(replay)?;
+    }
+    Ok(replays)
+}
+
+/// The schedule, event by event, up to where each office is stuck.
+fn scheduled(
+    alloc: Global,
+    plan: &Plan,
+    replays: &[Replay],
+    schedule: &mut Vec<WorldEvent>,
 ) -> Result<Merge, AllocError>
-    requires one_each { length journals.now ≡ length plan.now.offices }
-    requires size { length limits.now ≡ length plan.now.offices }
-    requires limits { AreLimits plan.now (told_in journals.now) limits.now }
-    ensures size { IfOk result (λ m. length m.at.items ≡ length plan.now.offices) }
-    ensures merged { IfOk result (λ m. IsMerged ⟦<FrameKey as Ord>⟧.cmp plan.now (told_in journals.now) limits.now m) }
-    ensures stuck { IfOk result (λ m. (a : ℕ) → IsStuck plan.now (told_in journals.now) limits.now m a) }
+    requires one_each { length replays.now ≡ length plan.now.offices }
+    requires empty { schedule.old.items ≡ [] }
+    ensures size { IfOk result (λ m. length m.at.items ≡ length replays.now) }
+    ensures end { IfOk result (λ m. IsAtEnd ⟦<FrameKey as Ord>⟧.cmp plan.now replays.now m schedule.new.items) }
 {
     let mut merge = Merge::new(alloc, plan.offices())?;
-    let mut moved = true;
-    while moved {
-        moved = round(plan, journals, limits, &mut merge)?;
+    while let Some(event) = merge.next(replays)? {
+        schedule.push(event)?;
     }
     Ok(merge)
 }
 
-/// Each office goes on as far as it can. Whether any did.
-fn round(
+/// The offices at which the sessions of the same schedule finish.
+fn finishes(
+    alloc: Global,
     plan: &Plan,
-    journals: &[GivenJournal],
-    limits: &[usize],
-    merge: &mut Merge,
-) -> Result<bool, AllocError>
-    requires one_each { length journals.now ≡ length plan.now.offices }
-    requires size { length limits.now ≡ length plan.now.offices }
-    requires limits { AreLimits plan.now (told_in journals.now) limits.now }
-    requires at { length merge.old.at.items ≡ length plan.now.offices }
-    requires merged { IsMerged ⟦<FrameKey as Ord>⟧.cmp plan.now (told_in journals.now) limits.now merge.old }
-    ensures at { length merge.new.at.items ≡ length plan.now.offices }
-    ensures merged { OnOk result (IsMerged ⟦<FrameKey as Ord>⟧.cmp plan.now (told_in journals.now) limits.now merge.new) }
-    ensures longer { OnOk result (length merge.old.schedule.items ≤ length merge.new.schedule.items) }
-    ensures moved { IfOk result (λ moved. moved ≡ true → length merge.old.schedule.items < length merge.new.schedule.items) }
-    ensures stuck { IfOk result (λ moved. moved ≡ false → (a : ℕ) → IsStuck plan.now (told_in journals.now) limits.now merge.new a) }
+    replays: &[Replay],
+    finished: &mut Vec<OfficeId>,
+) -> Result<Merge, AllocError>
+    requires one_each { length replays.now ≡ length plan.now.offices }
+    requires empty { finished.old.items ≡ [] }
+    ensures size { IfOk result (λ m. length m.at.items ≡ length replays.now) }
+    ensures end { IfOk result (λ m. (es : List WorldEvent) × (finishers es ≡ finished.new.items) × IsAtEnd ⟦<FrameKey as Ord>⟧.cmp plan.now replays.now m es) }
 {
-    let before = merge.len();
-    for a in 0..plan.offices() {
-        let entries = &journals[a].entries;
-        merge.advance(OfficeId::new(a as u8), entries, limits[a])?;
+    let mut merge = Merge::new(alloc, plan.offices())?;
+    while let Some(event) = merge.next(replays)? {
+        note(finished, event)?;
     }
-    Ok(before < merge.len())
+    Ok(merge)
+}
+
+/// The office at which a session finishes by this event, if one does. The event isn't needed after that.
+fn note(finished: &mut Vec<OfficeId>, event: WorldEvent) -> Result<(), AllocError>
+    ensures { OnOk result (finished.new.items ≡ finished.old.items ++ finishes_at event) }
+{
+    note_event(finished, &event)
+}
+
+fn note_event(finished: &mut Vec<OfficeId>, event: &WorldEvent) -> Result<(), AllocError>
+    ensures { OnOk result (finished.new.items ≡ finished.old.items ++ finishes_at event.now) }
+{
+    match event {
+        WorldEvent::Do(office, rule) => note_rule(finished, *office, rule),
+        _ => Ok(()),
+    }
+}
+
+/// The office, where it finishes a session by this rule.
+fn note_rule(finished: &mut Vec<OfficeId>, office: OfficeId, rule: &Rule) -> Result<(), AllocError>
+    ensures { OnOk result (finished.new.items ≡ finished.old.items ++ finishes_by office rule.now) }
+{
+    match rule {
+        Rule::Finish => {
+            finished.push(office)?;
+            Ok(())
+        }
+        _ => Ok(()),
+    }
 }

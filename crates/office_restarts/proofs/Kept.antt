@@ -24,7 +24,7 @@ use Rattle.frame_world.specs.declared.event.WorldEvent.{WorldEvent}
 use Rattle.frame_world.specs.declared.event.WorldEvent.TheVariants as happening
 use Rattle.frame_world.specs.Worlds.{World, opening, run_of, frames_of}
 use Rattle.journal_weave.specs.Weaving.{untagged, entries_at}
-use Rattle.journal_weave.specs.refinement.Following.{site_of, Gives}
+use Rattle.journal_weave.specs.Following.{site_of, Gives}
 use Rattle.journal_weave.specs.FrameLaws.{AreAmong, are_among_themselves, among_left, both_among}
 use Rattle.journal_weave.specs.refinement.Merging.{IsEventAt, Has, Follows}
 use Rattle.journal_weave.proofs.AcceptedEvents.{sound_opening, sound, nothing_told}

@@ -1,13 +1,12 @@
 -- What is kept while journals are merged.
-use Rattle.std.specs.Prelude.{◌≡◌, ◌≢◌, ℕ, suc, ◌+◌, ◌<◌, ◌≤◌, List, [], ◌∷◌, ◌++◌, length, map, sum, take, get_or, set, slice_get, Option, Some, None, ◌⊎◌}
+use Rattle.std.specs.Prelude.{◌≡◌, ◌≢◌, ℕ, suc, ◌+◌, ◌<◌, ◌≤◌, List, [], ◌∷◌, ◌++◌, length, map, take, get_or, set, slice_get, Option, Some, None, All, ◌⊎◌}
 use Rattle.std.specs.BTreeMap.{get}
 use Rattle.std.specs.declared.cmp.Ordering.{Ordering}
 use Rattle.office_map.specs.PlanValue.{PlanValue}
-use Rattle.frame_codec.specs.Frame.{Fields}
+use Rattle.frame_codec.specs.Frame.{Fields, IsFrame}
 use Rattle.office_journal.specs.declared.event.Event.{Event}
 use Rattle.office_journal.specs.declared.event.Event.TheVariants as event
 use Rattle.office_journal.specs.declared.event.Entry.{Entry}
-use Rattle.office_journal.specs.declared.reply.Reply.{Reply}
 use Rattle.frame_world.specs.declared.event.WorldEvent.{WorldEvent}
 use Rattle.frame_world.specs.declared.event.WorldEvent.TheVariants as happening
 use Rattle.frame_world.specs.Worlds.{World, opening, frames_of, run_of, AreAccepted}
@@ -17,7 +16,9 @@ use Rattle.journal_weave.specs.declared.sent.SentFrames.{SentFrames}
 use Rattle.journal_weave.specs.declared.merge.Merge.{Merge}
 use Rattle.journal_weave.specs.Weaving.{untagged, entries_at}
 use Rattle.journal_weave.specs.FrameLaws.{AreAmong}
-use Rattle.journal_weave.specs.refinement.Following.{site_of, Gives}
+use Rattle.journal_weave.specs.Following.{site_of, Gives, IsLimit}
+use Rattle.journal_weave.specs.ReplayValue.{ReplayValue}
+use Rattle.journal_weave.specs.Replays.{given}
 use Rattle.journal_weave.specs.refinement.Keys.{key_of}
 
 -- ---- events of offices in a world
@@ -70,44 +71,56 @@ pub record Follows (plan : PlanValue) (told : ℕ → List Entry) (at : ℕ → 
 
 -- ---- a merge; C compares the keys of frames
 
+-- what each office tells is what it gave, as far as it gives it
+abbrev pub AreFollowed : PlanValue → (ℕ → List Entry) → List ReplayValue → Type 0
+AreFollowed plan told rs = (a : ℕ) (r : ReplayValue) → a < length rs → r ≡ get_or rs a r → IsLimit plan a (told a) (given r) × (take (given r) r.site.entries ≡ map untagged (take (given r) (told a)))
+
+-- it has no more of an office than that gave
+abbrev pub IsWithin : List ReplayValue → Merge → Type 0
+IsWithin rs m = (a : ℕ) → get_or m.at.items a 0 ≤ get_or (map given rs) a 0
+
 module _ (C : FrameKey → FrameKey → Ordering) where
   abbrev pub number_in : SentFrames → Fields → Option ℕ
   number_in s f = get C s.numbers (key_of f)
 
-  -- the frames of a world: each with a number that it was sent under
+  -- the frames of a world, each with a number that it was sent under
   pub record Knows (s : SentFrames) (frames : List Fields) : Type 0 where
-    pub counts : s.count ≡ length frames
+    pub list : s.frames.items ≡ frames
+    pub fit : All IsFrame frames
     pub right : (f : Fields) (k : ℕ) → number_in s f ≡ Some k → WasSent frames f k
     pub all : (f : Fields) → number_in s f ≡ None → WasNotSent frames f
 
-  -- the schedule is accepted, and has so many first entries of each office, up to its limit at most
-  pub record IsMerged (plan : PlanValue) (told : ℕ → List Entry) (limits : List ℕ) (m : Merge) : Type 0 where
-    pub accepted : AreAccepted (opening plan) m.schedule.items
-    pub within : (a : ℕ) → get_or m.at.items a 0 ≤ get_or limits a 0
-    pub has : (a : ℕ) → entries_at (run_of (opening plan) m.schedule.items) a ≡ map untagged (take (get_or m.at.items a 0) (told a))
-    pub counted : sum m.at.items ≡ length m.schedule.items
-    pub sent : Knows m.sent (run_of (opening plan) m.schedule.items).frames
-    pub few : m.sent.count ≤ length m.schedule.items
+  -- the schedule is accepted, and has so many first entries of each office
+  pub record IsMerged (plan : PlanValue) (told : ℕ → List Entry) (m : Merge) (events : List WorldEvent) : Type 0 where
+    pub accepted : AreAccepted (opening plan) events
+    pub has : (a : ℕ) → entries_at (run_of (opening plan) events) a ≡ map untagged (take (get_or m.at.items a 0) (told a))
+    pub sent : Knows m.sent (run_of (opening plan) events).frames
 
-  -- one event more, of the office's next entry, which has that reply
-  pub record IsPushed (m m' : Merge) (a : ℕ) (e : WorldEvent) (r : Reply) : Type 0 where
-    pub events : m'.schedule.items ≡ m.schedule.items ++ e ∷ []
+  -- the office's next entry goes on the schedule, by this event
+  pub record GoesOn (m m' : Merge) (a : ℕ) (x : Entry) (e : WorldEvent) : Type 0 where
     pub at : m'.at.items ≡ set m.at.items a (get_or m.at.items a 0 + 1)
-    pub sent : (frames : List Fields) → Knows m.sent frames → Knows m'.sent (frames ++ frames_of r)
-    pub room : m'.sent.count ≤ length m'.schedule.items
+    pub sent : (frames : List Fields) → Knows m.sent frames → Knows m'.sent (frames ++ frames_of x.reply)
+    pub is : (frames : List Fields) → Knows m.sent frames → IsEventAt frames a x.event e
 
-  -- the office's next entry is pushed, by the event that it is in the world
-  pub record GoesOn (m m' : Merge) (a : ℕ) (x : Entry) : Type 0 where
-    pub event : WorldEvent
-    pub pushed : IsPushed m m' a event x.reply
-    pub is : (frames : List Fields) → Knows m.sent frames → IsEventAt frames a x.event event
+  -- the office has a next entry, which it gave, and which goes on the schedule by this event
+  abbrev pub GoesNext : Merge → Merge → ℕ → ReplayValue → WorldEvent → Type 0
+  GoesNext m m' a r e = (x : Entry) × (get_or m.at.items a 0 < given r) × (slice_get r.site.entries (get_or m.at.items a 0) ≡ Some x) × GoesOn m m' a x e
 
--- the office is at its limit, or its next entry takes a frame that can't come
-abbrev pub IsStuck : PlanValue → (ℕ → List Entry) → List ℕ → Merge → ℕ → Type 0
-IsStuck plan told limits m a =
-    (get_or m.at.items a 0 ≡ get_or limits a 0)
-    ⊎ ((x : Entry) × (slice_get (told a) (get_or m.at.items a 0) ≡ Some x) × CannotCome (run_of (opening plan) m.schedule.items).frames a x.event)
+  -- whatever these offices follow, the event comes to the schedule
+  abbrev pub AddsEvent : List ReplayValue → Merge → Merge → WorldEvent → Type 0
+  AddsEvent rs m m' e = (plan : PlanValue) (told : ℕ → List Entry) (es : List WorldEvent) → length rs ≡ length plan.offices → AreFollowed plan told rs → IsMerged plan told m es → IsMerged plan told m' (es ++ e ∷ [])
 
--- these are the entries of the office, and this is its limit
-abbrev pub IsTold : (ℕ → List Entry) → List ℕ → ℕ → List Entry → ℕ → Type 0
-IsTold told limits a entries limit = (told a ≡ entries) × (get_or limits a 0 ≡ limit)
+  -- the office gave no more, or has none, or its next entry takes a frame that can't come
+  abbrev pub IsStuck : Merge → ℕ → ReplayValue → Type 0
+  IsStuck m a r =
+      ((given r ≤ get_or m.at.items a 0) ⊎ (slice_get r.site.entries (get_or m.at.items a 0) ≡ None))
+      ⊎ ((x : Entry) × (slice_get r.site.entries (get_or m.at.items a 0) ≡ Some x) × ((frames : List Fields) → Knows m.sent frames → CannotCome frames a x.event))
+
+  abbrev pub StuckAt : List ReplayValue → Merge → ℕ → Type 0
+  StuckAt rs m a = (r : ReplayValue) → r ≡ get_or rs a r → IsStuck m a r
+
+  -- whatever these offices follow, the schedule has the first of it, and no office goes on
+  pub record IsAtEnd (plan : PlanValue) (rs : List ReplayValue) (m : Merge) (events : List WorldEvent) : Type 0 where
+    pub within : IsWithin rs m
+    pub merged : (told : ℕ → List Entry) → AreFollowed plan told rs → IsMerged plan told m events
+    pub stuck : (a : ℕ) → a < length rs → StuckAt rs m a

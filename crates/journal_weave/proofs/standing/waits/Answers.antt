@@ -1,32 +1,12 @@
-use Rattle.std.proofs.Common.{◌≡◌, ℕ, sym, ap, ◌∙◌}
-use Rattle.journal_weave.specs.declared.given.GivenJournal.{GivenJournal}
-use Rattle.journal_weave.specs.Given.{told_in, Stands}
-use Rattle.journal_weave.proofs.Pushing.{at_of}
-use Rattle.journal_weave.proofs.Naming.{inside, told_there, stands_where_some, waits_not, waits_as_made}
+use Rattle.std.proofs.Common.{get_or, sym, ap, ◌∙◌}
+use Rattle.journal_weave.proofs.Naming.{waits_not, waits_so}
 use Rattle.journal_weave.proofs.standing.waits.Goals as goal
 
-pub returns-in_default : goal.returns-in_default
-returns-in_default c =
-    let js = c.args.journals.now in
-    let a : ℕ = c.args.a in
-    let m = c.args.merge.now in
-    let lent : c.deref.result.now ≡ c.index-journals-index.result.entries.items = c.deref.ensures.value ∙ ap (λ (g : GivenJournal). g.entries.items) (sym c.index-journals-index.is) in
-    let told : told_in js a ≡ c.deref.result.now = told_there js a c.index.result c.index-journals-index.result _ c.requires.office c.index.ensures c.index-journals-index.is lent in
-    waits_not js (at_of m) a c.deref.result.now c.done.result told c.done.ensures c.in_default.ensures.none
+pub returns-in-Some : goal.returns-in-Some
+returns-in-Some c =
+    waits_so c.args.replays.now c.args.merge.now.at.items c.args.a c.index-replays-index.result c.requires.office (c.index-replays-index.is ∙ ap (λ n. get_or c.args.replays.now n c.index-replays-index.result) c.index.ensures) c.done.result c.done.ensures.count c.in-Some.frame c.may_come.result (sym c.taken_next.ensures ∙ c.in-Some.is)
+    c.may_come.ensures
 
-pub returns : goal.returns
-returns c =
-    let js = c.args.journals.now in
-    let a : ℕ = c.args.a in
-    let m = c.args.merge.now in
-    let j = c.index-journals-index.result in
-    let k = c.index-journals-index-2.result in
-    let lent : c.deref.result.now ≡ j.entries.items = c.deref.ensures.value ∙ ap (λ (g : GivenJournal). g.entries.items) (sym c.index-journals-index.is) in
-    let told : told_in js a ≡ c.deref.result.now = told_there js a c.index.result j _ c.requires.office c.index.ensures c.index-journals-index.is lent in
-    let lent_too : c.deref-2.result.now ≡ k.entries.items = c.deref-2.ensures.value ∙ ap (λ (g : GivenJournal). g.entries.items) (sym c.index-journals-index-2.is) in
-    let from : ℕ = c.new-from.result in
-    let stands : Stands js (at_of m) from = stands_where_some c.left_at.result c.left_at.ensures.stands c.if-is_none.ensures in
-    let made : told_in js from ≡ c.deref-2.result.now = told_there js from c.index-3.result k _ (inside js (at_of m) from stands) c.index-3.ensures c.index-journals-index-2.is lent_too in
-    waits_as_made js (at_of m) a c.deref.result.now c.in-Some.frame c.done.result told c.done.ensures c.in-Some.ensures.takes
-    from c.deref-2.result.now c.done-2.result (c.new-from.ensures ∙ c.from.ensures) made stands c.done-2.ensures
-    c.number.result c.number-2.result c.has_made.result c.number.ensures c.number-2.ensures.value c.has_made.ensures
+pub returns-in-None : goal.returns-in-None
+returns-in-None c =
+    waits_not c.args.replays.now c.args.merge.now.at.items c.args.a c.index-replays-index.result c.requires.office (c.index-replays-index.is ∙ ap (λ n. get_or c.args.replays.now n c.index-replays-index.result) c.index.ensures) c.done.result c.done.ensures.count (sym c.taken_next.ensures ∙ c.in-None.is)
