@@ -5,6 +5,8 @@ use Rattle.input_texts.specs.Words.{HaveTexts, Unread, unread}
 use Rattle.office_map.specs.PlanValue.{PlanValue}
 use Rattle.journal_weave.specs.declared.given.GivenJournal.{GivenJournal}
 use Rattle.journal_audit.specs.Gathering.{AreGathered, AreJournals, Lacks}
+use Rattle.journal_audit.specs.Gathered.{Gathered}
+use Rattle.journal_audit.specs.Following.{Gathers, TellsOf}
 use Rattle.journal_audit.specs.Findings.{TellsWoven, TellsUnwoven}
 use Rattle.command_inputs.specs.declared.input.Input.{Input}
 use Rattle.command_inputs.specs.declared.input.Input.TheVariants as inputs
@@ -13,7 +15,7 @@ use Rattle.command_outputs.specs.declared.fault.Fault.TheVariants.{Memory, Text,
 use Rattle.drink_commands.specs.Audit.{Tells, IsJudgedAudit, JudgesJournals, RefusesJournal, SaysAfter, IsLacking, journal_inputs}
 use Rattle.command_outputs.specs.Fault.{IsAmong, IsFaultAt, IsNoJournal}
 use Rattle.drink_commands.specs.Texts.{Refuses, nothing}
-use Rattle.drink_commands.specs.refinement.Journals.{GathersFirst, IsNamed, RefusesOne, SaysAudit, SaysFrom, SaysJournals, SaysOne, Slots, TakesAll, TakesOne, TellsAudit}
+use Rattle.drink_commands.specs.refinement.Journals.{GathersFirst, IsNamed, RefusesOne, SaysAudit, SaysFrom, SaysJournals, SaysOne, TakesAll, TakesOne, TellsAudit}
 use Rattle.journal_audit.specs.GatheringLaws.{none_gathered}
 use Rattle.drink_commands.proofs.Faults.{RefusesWord, TakesPlan, among, among_more, weaker}
 
@@ -58,50 +60,50 @@ module _ (files : List ℕ → Option (List ℕ)) (p : PlanValue) where
   -- ---- gathered
 
   -- the texts of the first of the words, whichever are known
-  pub first_gathered : (n : ℕ) (words texts : List (List ℕ)) (u : Unread) (slots : Slots) (v : Unread) (filled : Slots) → TakesAll files p u words slots v filled
-      → (before : List (List ℕ)) → AreGathered p before slots → HaveTexts files u (take n words) (take n texts)
-      → (some : Slots) × AreGathered p (before ++ take n texts) some
-  first_gathered zero words texts u slots v filled taken before h has = (slots, subst (λ ts. AreGathered p ts slots) (sym (append-nil before)) h)
-  first_gathered (suc n) [] [] u slots v filled taken before h has = (slots, subst (λ ts. AreGathered p ts slots) (sym (append-nil before)) h)
+  pub first_gathered : (n : ℕ) (words texts : List (List ℕ)) (u : Unread) (slots : Gathered) (v : Unread) (filled : Gathered) → TakesAll files p u words slots v filled
+      → (before : List (List ℕ)) → Gathers p before slots → HaveTexts files u (take n words) (take n texts)
+      → (some : Gathered) × Gathers p (before ++ take n texts) some
+  first_gathered zero words texts u slots v filled taken before h has = (slots, subst (λ ts. Gathers p ts slots) (sym (append-nil before)) h)
+  first_gathered (suc n) [] [] u slots v filled taken before h has = (slots, subst (λ ts. Gathers p ts slots) (sym (append-nil before)) h)
   first_gathered (suc n) [] (text ∷ texts) u slots v filled taken before h has = absurd has
   first_gathered (suc n) (word ∷ words) [] u slots v filled taken before h has = absurd has
   first_gathered (suc n) (word ∷ words) (text ∷ texts) u slots v filled (mid, more, one, rest) before h (after, has, others) =
       let it = one text after has in
       let found = first_gathered n words texts mid more v filled rest (before ++ text ∷ []) (it.1 before h) (subst (λ s. HaveTexts files s (take n words) (take n texts)) (sym it.0) others) in
-      (found.0, subst (λ ts. AreGathered p ts found.0) (snoc_append before (take n texts) text) found.1)
+      (found.0, subst (λ ts. Gathers p ts found.0) (snoc_append before (take n texts) text) found.1)
 
   -- those of all
-  pub all_gathered : (words texts : List (List ℕ)) (u : Unread) (slots : Slots) (v : Unread) (filled : Slots) → TakesAll files p u words slots v filled
-      → (before : List (List ℕ)) → AreGathered p before slots → HaveTexts files u words texts → AreGathered p (before ++ texts) filled
-  all_gathered [] [] u slots v filled taken before h has = subst (AreGathered p (before ++ [])) (sym taken.1) (subst (λ ts. AreGathered p ts slots) (sym (append-nil before)) h)
+  pub all_gathered : (words texts : List (List ℕ)) (u : Unread) (slots : Gathered) (v : Unread) (filled : Gathered) → TakesAll files p u words slots v filled
+      → (before : List (List ℕ)) → Gathers p before slots → HaveTexts files u words texts → Gathers p (before ++ texts) filled
+  all_gathered [] [] u slots v filled taken before h has = subst (Gathers p (before ++ [])) (sym taken.1) (subst (λ ts. Gathers p ts slots) (sym (append-nil before)) h)
   all_gathered [] (text ∷ texts) u slots v filled taken before h has = absurd has
   all_gathered (word ∷ words) [] u slots v filled taken before h has = absurd has
   all_gathered (word ∷ words) (text ∷ texts) u slots v filled (mid, more, one, rest) before h (after, has, others) =
       let it = one text after has in
-      subst (λ ts. AreGathered p ts filled) (snoc_append before texts text)
+      subst (λ ts. Gathers p ts filled) (snoc_append before texts text)
       (all_gathered words texts mid more v filled rest (before ++ text ∷ []) (it.1 before h) (subst (λ s. HaveTexts files s words texts) (sym it.0) others))
 
   -- ---- faults
 
   -- none of the texts is known yet
-  none_known : (place count : ℕ) (slots : Slots) (before : List (List ℕ)) (f : Fault) → AreGathered p before slots → length before ≡ place
+  none_known : (place count : ℕ) (slots : Gathered) (before : List (List ℕ)) (f : Fault) → Gathers p before slots → length before ≡ place
       → IsAmong (journal_inputs place (suc count)) f → JudgesJournals p (place + suc count) (before ++ []) f
   none_known place count slots before f h e among =
       let at : length (before ++ []) ≡ place = ap length (append-nil before) ∙ e in
       let left : (place + suc count) - length (before ++ []) ≡ suc count = omega (arith, at) in
       inr (
-        slots,
-        subst (λ ts. AreGathered p ts slots) (sym (append-nil before)) h,
+        h.journals,
+        subst (λ ts. AreGathered p ts h.journals) (sym (append-nil before)) h.gathered,
         subst (λ n. SaysAfter p (before ++ []) (journal_inputs (length (before ++ [])) n) f) (sym left)
             (subst (λ n. SaysAfter p (before ++ []) (journal_inputs n (suc count)) f) (sym at) (inl among)),
       )
 
   -- at the first of the words
-  pub one_among : (u : Unread) (word : List ℕ) (place count : ℕ) (slots : Slots) (f : Fault) → SaysOne files p u word place slots f
+  pub one_among : (u : Unread) (word : List ℕ) (place count : ℕ) (slots : Gathered) (f : Fault) → SaysOne files p u word place slots f
       → IsAmong (journal_inputs place (suc count)) f
   one_among u word place count slots f h = among (journal_inputs place (suc count)) (inputs.Journal place) (RefusesOne files p u word place slots) f (0, omega arith, refl) h
 
-  pub says_first : (u : Unread) (word : List ℕ) (words : List (List ℕ)) (place : ℕ) (slots : Slots) (f : Fault) → SaysOne files p u word place slots f
+  pub says_first : (u : Unread) (word : List ℕ) (words : List (List ℕ)) (place : ℕ) (slots : Gathered) (f : Fault) → SaysOne files p u word place slots f
       → SaysJournals files p u (word ∷ words) place slots f
   says_first u word words place slots f h before gathered e texts zero has =
       none_known place (length words) slots before f gathered e (one_among u word place (length words) slots f h)
@@ -114,7 +116,7 @@ module _ (files : List ℕ → Option (List ℕ)) (p : PlanValue) where
       )
 
   -- at a later one
-  pub says_next : (u : Unread) (word : List ℕ) (words : List (List ℕ)) (place : ℕ) (slots : Slots) (v : Unread) (more : Slots) (f : Fault)
+  pub says_next : (u : Unread) (word : List ℕ) (words : List (List ℕ)) (place : ℕ) (slots : Gathered) (v : Unread) (more : Gathered) (f : Fault)
       → TakesOne files p u word slots v more → IsAmong (journal_inputs (place + 1) (length words)) f → SaysJournals files p v words (place + 1) more f
       → SaysJournals files p u (word ∷ words) place slots f
   says_next u word words place slots v more f one later says before gathered e texts zero has =
@@ -133,7 +135,7 @@ module _ (files : List ℕ → Option (List ℕ)) (p : PlanValue) where
   pub says_later : (u : Unread) (words : List (List ℕ)) (f : Fault) → GathersFirst files p u words → IsAmong [] f → SaysFrom files p u words f
   says_later u words f gathers h texts n has =
       let it = gathers texts n has in
-      inr (it.0, it.1, after_all p (take n texts) _ f h)
+      inr (it.1.journals, it.1.gathered, after_all p (take n texts) _ f h)
 
   same_count : (words texts : List (List ℕ)) (u : Unread) → HaveTexts files u words texts → length words ≡ length texts
   same_count [] [] u has = refl
@@ -182,14 +184,14 @@ module _ (files : List ℕ → Option (List ℕ)) (p : PlanValue) where
   is_nought place zero e = refl
   is_nought place (suc n) e = absurd (let no : ◌≡◌ {A = List Input} (inputs.Journal place ∷ journal_inputs (suc place) n) [] = e in cc)
 
-  pub says_missing : (u : Unread) (words : List (List ℕ)) (slots : Slots) (v : Unread) (filled : Slots) (a : ℕ) (f : Fault) → TakesAll files p u words slots v filled
-      → AreGathered p [] slots → ((texts : List (List ℕ)) → AreGathered p texts filled → Lacks p texts a) → IsNamed p a f → SaysFrom files p u words f
+  pub says_missing : (u : Unread) (words : List (List ℕ)) (slots : Gathered) (v : Unread) (filled : Gathered) (a : ℕ) (f : Fault) → TakesAll files p u words slots v filled
+      → Gathers p [] slots → ((texts : List (List ℕ)) → Gathers p texts filled → Lacks p texts a) → IsNamed p a f → SaysFrom files p u words f
   says_missing u words slots v filled a f taken h lacks named texts n has =
       let it = first_gathered n words texts u slots v filled taken [] h has in
       let count = same_count (take n words) (take n texts) u has in
       inr (
-        it.0,
-        it.1,
+        it.1.journals,
+        it.1.gathered,
         named_after a (take n texts) _ f named (λ none.
             let nought = is_nought (length (take n texts)) (length words - length (take n texts)) none in
             let whole = full_take n words (omega (arith, count, nought)) in
@@ -207,7 +209,7 @@ module _ (files : List ℕ → Option (List ℕ)) (p : PlanValue) where
   says_memory u words texts n has = memory_says (length words) (take n texts)
 
   -- of the first word on
-  pub says_from : (u : Unread) (words : List (List ℕ)) (slots : Slots) (f : Fault) → AreGathered p [] slots → SaysJournals files p u words 0 slots f → SaysFrom files p u words f
+  pub says_from : (u : Unread) (words : List (List ℕ)) (slots : Gathered) (f : Fault) → Gathers p [] slots → SaysJournals files p u words 0 slots f → SaysFrom files p u words f
   says_from u words slots f h says texts n has =
       let count : 0 + length words ≡ length words = omega arith in
       subst (λ k. JudgesJournals p k (take n texts) f) count (says [] h refl texts n has)
@@ -261,26 +263,29 @@ module _ (files : List ℕ → Option (List ℕ)) where
   judged standard u a words f e says texts n known =
       says texts n (subst (λ s. HaveTexts files s (take n (a ∷ words)) (take n texts)) (sym e) known.1)
 
-  -- what the journals tell under the plan
-  pub audited : (u v : Unread) (a : List ℕ) (words : List (List ℕ)) (p : PlanValue) (journals : List GivenJournal) (woven : Bool) (printed : List ℕ)
-      → TakesPlan files u a v p → ((texts : List (List ℕ)) → HaveTexts files v words texts → AreJournals p texts journals)
-      → (woven ≡ true → TellsWoven p journals printed) → (woven ≡ false → TellsUnwoven p journals printed) → TellsAudit files u a words woven printed
-  audited u v a words p journals woven printed plan gathered woven_so unwoven_so a_text texts (after, has, more) status old new is written =
+  -- what the journals tell that are gathered under the plan
+  pub audited : (u v : Unread) (a : List ℕ) (words : List (List ℕ)) (p : PlanValue) (g : Gathered) (woven : Bool) (printed : List ℕ)
+      → TakesPlan files u a v p → ((texts : List (List ℕ)) → HaveTexts files v words texts → Gathers p texts g)
+      → (woven ≡ true → TellsOf TellsWoven g printed) → (woven ≡ false → TellsOf TellsUnwoven g printed)
+      → TellsAudit files u a words woven printed
+  audited u v a words p g woven printed plan gathers woven_so unwoven_so a_text texts (after, has, more) status old new is written =
       let it = plan a_text after has in
+      let h = gathers texts (subst (λ s. HaveTexts files s words texts) (sym it.1) more) in
+      let t = tells h woven woven_so unwoven_so is in
       record {
         p = p;
-        journals = journals;
+        journals = t.0;
         printed = printed;
         is_plan = it.0;
-        are_journals = gathered texts (subst (λ s. HaveTexts files s words texts) (sym it.1) more);
-        told = tells woven woven_so unwoven_so is;
+        are_journals = t.1;
+        told = t.2;
         written = written;
       }
     where
-      tells : (woven : Bool) → (woven ≡ true → TellsWoven p journals printed) → (woven ≡ false → TellsUnwoven p journals printed)
-          → status ≡ (if woven then 0 else 1) → Tells p journals printed status
-      tells true a b is = inl (a refl, is)
-      tells false a b is = inr (b refl, is)
+      tells : Gathers p texts g → (woven : Bool) → (woven ≡ true → TellsOf TellsWoven g printed) → (woven ≡ false → TellsOf TellsUnwoven g printed)
+          → status ≡ (if woven then 0 else 1) → (journals : List GivenJournal) × AreJournals p texts journals × Tells p journals printed status
+      tells h true so not_so is = let t = so refl p texts h in (t.0, t.1, inl (t.2, is))
+      tells h false so not_so is = let t = not_so refl p texts h in (t.0, t.1, inr (t.2, is))
 
 pub at_most_one : (woven : Bool) (status : ℕ) → status ≡ (if woven then 0 else 1) → status ≤ 1
 at_most_one true status e = omega (arith, e)

@@ -1,8 +1,8 @@
 //! The journals of a plan's offices, as their texts are read and judged one after another.
 
-ghost use Rattle.std.specs.Prelude.{◌≡◌, ◌+◌, ◌<◌, ◌^◌, IfErr, IfOk, List, OnOk, ℕ, length, map};
+ghost use Rattle.std.specs.Prelude.{◌≡◌, ◌+◌, ◌<◌, ◌^◌, All, IfErr, IfOk, IsSome, List, OnOk, ℕ, length, map};
 ghost use Rattle.input_texts.specs.Words.{HasText, HaveTexts, Unread};
-ghost use Rattle.journal_audit.specs.Gathering.{AreJournals};
+ghost use Rattle.journal_audit.specs.Following.{Gathers};
 ghost use Rattle.journal_audit.specs.declared.fault.GatherFault.TheVariants as gather;
 ghost use Rattle.drink_commands.specs.Audit.{IsToldAs, journal_inputs};
 ghost use Rattle.command_outputs.specs.Fault.{IsAmong, IsFaultAt};
@@ -16,23 +16,21 @@ use input_texts::{Sources, StandardInput};
 use journal_audit::{GatherFault, Journals};
 use journal_diagnostics::of_journal;
 use journal_texts::{JournalFault, JournalRefusal, JournalRule};
-use journal_weave::GivenJournal;
 use office_map::{OfficeId, Plan};
 use run_words::words::office_name;
 use std::alloc::{AllocError, Global};
 use std::io::ErrorKind;
 
-/// The journals of a plan's offices that these words stand for, in order of number. Each text is read and judged before the next one
-/// is read.
+/// The journals of a plan's offices for which these words stand, one of each. Each text is read and judged before the next one is read.
 pub fn read_journals<S: Sources>(
     alloc: Global,
     sources: &S,
     standard: &mut StandardInput<S::Standard>,
     words: &[&str],
     plan: &Plan,
-) -> Result<Vec<GivenJournal>, Fault>
-    ensures one_each { IfOk result (λ v. length v.items ≡ length plan.now.offices) }
-    ensures meaning { IfOk result (λ v. (texts : List (List ℕ)) → HaveTexts (S.file_text sources.now) standard.old (map (λ w. w.now) words.now) texts → AreJournals plan.now texts v.items) }
+) -> Result<Journals, Fault>
+    ensures whole { IfOk result (λ j. All (λ slot. IsSome slot) j.slots) }
+    ensures meaning { IfOk result (λ j. (texts : List (List ℕ)) → HaveTexts (S.file_text sources.now) standard.old (map (λ w. w.now) words.now) texts → Gathers plan.now texts j) }
     ensures gathered { IfOk result (λ _. GathersFirst (S.file_text sources.now) plan.now standard.old (map (λ w. w.now) words.now)) }
     ensures fault { IfErr result (SaysFrom (S.file_text sources.now) plan.now standard.old (map (λ w. w.now) words.now)) }
 {
@@ -40,7 +38,7 @@ pub fn read_journals<S: Sources>(
     read_each(alloc, sources, standard, words, 0, plan, &mut journals)?;
     match journals.missing() {
         Some(office) => Err(lacking(alloc, plan, office)),
-        None => Ok(journals.into_given(alloc)?),
+        None => Ok(journals),
     }
 }
 
@@ -65,9 +63,7 @@ fn read_each<S: Sources>(
     plan: &Plan,
     journals: &mut Journals,
 ) -> Result<(), Fault>
-    requires size { length journals.old ≡ length plan.now.offices }
-    requires place { place + length words.now < 2 ^ 64 }
-    ensures size { length journals.new ≡ length journals.old }
+    requires { place + length words.now < 2 ^ 64 }
     ensures taken { OnOk result (TakesAll (S.file_text sources.now) plan.now standard.old (map (λ w. w.now) words.now) journals.old standard.new journals.new) }
     ensures among { IfErr result (IsAmong (journal_inputs place (length words.now))) }
     ensures fault { IfErr result (SaysJournals (S.file_text sources.now) plan.now standard.old (map (λ w. w.now) words.now) place journals.old) }
@@ -89,13 +85,11 @@ fn read_one<S: Sources>(
     plan: &Plan,
     journals: &mut Journals,
 ) -> Result<(), Fault>
-    requires { length journals.old ≡ length plan.now.offices }
-    ensures size { length journals.new ≡ length journals.old }
     ensures taken { OnOk result (TakesOne (S.file_text sources.now) plan.now standard.old word.now journals.old standard.new journals.new) }
     ensures fault { IfErr result (SaysOne (S.file_text sources.now) plan.now standard.old word.now place journals.old) }
 {
     let text = journal_text(alloc, sources, standard, word, place)?;
-    match journals.read(alloc, plan, &text) {
+    match journals.read(alloc, &text) {
         Ok(()) => Ok(()),
         Err(fault) => Err(refused(
             alloc,

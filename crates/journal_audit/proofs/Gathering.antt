@@ -1,43 +1,14 @@
 -- Texts that are gathered, one after the other.
-use Rattle.std.proofs.Common.{◌≡◌, ℕ, zero, suc, ◌<◌, Bool, true, false, List, [], ◌∷◌, ◌++◌, length, set, get_or, Option, None, Some, Ok, Err, Result, refl, sym, ap, subst, ◌∙◌, arith, ⊎_elim, IsPermutation}
-use Rattle.std.specs.Prelude.{Contains, IsSome, if◌then◌else◌, ◌==◌}
+use Rattle.std.proofs.Common.{◌≡◌, ℕ, zero, suc, ◌<◌, List, [], ◌∷◌, ◌++◌, length, set, get_or, Option, None, Some, refl, sym, ap, subst, ◌∙◌, arith, ⊎_elim, IsPermutation}
+use Rattle.std.specs.Prelude.{Contains, IsSome}
 use Rattle.std.proofs.lemmas.Bool.{cases_eq}
 use Rattle.std.proofs.lemmas.List.{length-set, get_or-set_same, get_or-set_other}
 use Rattle.std.proofs.lemmas.List.Sorted.{IsPermutation-refl, IsPermutation-trans, IsPermutation-sym, IsPermutation-cons, IsPermutation-middle, IsPermutation-to_front, Contains-permutation}
-use Rattle.std.proofs.lemmas.List.Quantifiers.{position-Some}
-use Rattle.office_map.specs.PlanValue.{PlanValue, office_named}
-use Rattle.office_map.specs.declared.entries.OfficeEntry.{OfficeEntry}
-use Rattle.office_map.specs.PlanText.{and_then, plain_words}
-use Rattle.std.specs.Option.{ok_or}
-use Rattle.journal_texts.specs.declared.fault.JournalRule.{JournalRule}
-use Rattle.journal_texts.specs.declared.fault.JournalRule.TheVariants.{Journal, JournalHeader}
-use Rattle.journal_texts.specs.JournalText.{IsJournal, ATextIsOneJournal, header_said, office_of_header}
+use Rattle.office_map.specs.PlanValue.{PlanValue}
+use Rattle.journal_texts.specs.JournalText.{IsJournal, ATextIsOneJournal}
 use Rattle.journal_weave.specs.declared.given.GivenJournal.{GivenJournal}
 use Rattle.journal_audit.specs.declared.fault.GatherFault.{GatherFault}
 use Rattle.journal_audit.specs.Gathering.{IsOf, IsGiven, present, AreGathered, HaveOne, IsRefused, IsRefusedAt, Lacks}
-
--- ---- whose journal a text is
-
-named : (p : PlanValue) (name : List ℕ) (o : Option ℕ) (a : ℕ) → office_named p name ≡ o → ok_or o JournalHeader ≡ Ok a → a < length p.offices
-named p name None a is e = absurd (let both : ◌≡◌ {A = Result ℕ JournalRule} (Err JournalHeader) (Ok a) = e in cc)
-named p name (Some b) a is e =
-    let both : ◌≡◌ {A = Result ℕ JournalRule} (Ok b) (Ok a) = e in
-    let same : b ≡ a = cc in
-    let found : office_named p name ≡ Some a = is ∙ ap Some same in
-    let none : OfficeEntry = record { name = []; address = [] } in
-    (position-Some _ p.offices a none found).0
-
-headed : (p : PlanValue) (h : Option (ℕ × List ℕ)) (a : ℕ) → office_of_header p h ≡ Ok a → a < length p.offices
-headed p None a e = absurd (let both : ◌≡◌ {A = Result ℕ JournalRule} (Err Journal) (Ok a) = e in cc)
-headed p (Some h) a e = by_run (h.0 == p.run) e
-  where
-    by_run : (b : Bool) → (if b then ok_or (office_named p h.1) JournalHeader else Err JournalHeader) ≡ Ok a → a < length p.offices
-    by_run true e = named p h.1 (office_named p h.1) a refl e
-    by_run false e = absurd (let both : ◌≡◌ {A = Result ℕ JournalRule} (Err JournalHeader) (Ok a) = e in cc)
-
--- it is an office of the plan
-pub of_plan : (p : PlanValue) (text : List ℕ) (a : ℕ) (j : GivenJournal) → IsJournal p text a j.entries.items j.ends → a < length p.offices
-of_plan p text a j is = headed p (and_then (plain_words is.first.1) header_said) a is.header
 
 -- ---- those that are there
 

@@ -1,2 +1,4 @@
 mod Gathering
-mod Accepted
+mod Given
+mod Following
+mod Telling

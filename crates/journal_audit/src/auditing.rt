@@ -1,16 +1,22 @@
 //! What journals tell together.
 
-ghost use Rattle.std.specs.Prelude.{◌≡◌, true, false, length, IfOk, OnOk, IsOk};
+ghost use Rattle.std.specs.Prelude.{◌≡◌, List, true, false, length, map, All, IsSome, IfOk};
 ghost use Rattle.std.specs.String.{string_bytes};
-ghost use Rattle.frame_world.specs.Worlds.{opening, happens, run_of, AreAccepted};
+ghost use Rattle.frame_world.specs.declared.event.WorldEvent.{WorldEvent};
+ghost use Rattle.frame_world.specs.Worlds.{opening, run_of};
+ghost use Rattle.world_schedule.specs.Records.{IsLeftBy};
+ghost use Rattle.journal_weave.specs.declared.given.GivenJournal.{GivenJournal};
+ghost use Rattle.journal_weave.specs.Replays.{AreReplays};
+ghost use Rattle.journal_audit.specs.Following.{FollowSome, TellsOf};
 ghost use Rattle.journal_audit.specs.Findings.{unwoven_line, IsToldOf, TellsWoven, TellsUnwoven};
 ghost use Rattle.journal_audit.specs.refinement.Naming.{Names};
 
-use frame_world::{WorldEvent, WorldRefusal};
-use journal_weave::{GivenJournal, WeaveFault, weave};
+use crate::journals::Journals;
+use journal_weave::{Record, Replay, WeaveFault, woven};
 use office_map::{OfficeId, Plan};
 use run_reports::world::add_world;
 use run_words::words::office_name;
+use site_core::Office;
 use std::alloc::{AllocError, Global};
 use world_schedule::World;
 
@@ -23,18 +29,28 @@ pub struct Finding {
     pub woven: bool,
 }
 
-/// What the journals of a plan's offices tell together, one of each, in order of number: the report of the world to which a
-/// schedule of theirs leads; or, where none is, the line of an entry that no schedule has.
-pub fn audit(alloc: Global, plan: &Plan, journals: Vec<GivenJournal>) -> Result<Finding, AllocError>
-    requires { length journals.items ≡ length plan.now.offices }
-    ensures woven { IfOk result (λ a. a.woven ≡ true → TellsWoven plan.now journals.items (string_bytes a.text)) }
-    ensures unwoven { IfOk result (λ a. a.woven ≡ false → TellsUnwoven plan.now journals.items (string_bytes a.text)) }
+/// What the journals of a plan's offices tell together, one of each: the report of the world to which a schedule of theirs leads; or,
+/// where none is, the line of an entry that no schedule has.
+pub fn audit(alloc: Global, journals: Journals) -> Result<Finding, AllocError>
+    requires { All (λ slot. IsSome slot) journals.slots }
+    ensures woven { IfOk result (λ a. a.woven ≡ true → TellsOf TellsWoven journals (string_bytes a.text)) }
+    ensures unwoven { IfOk result (λ a. a.woven ≡ false → TellsOf TellsUnwoven journals (string_bytes a.text)) }
 {
-    match weave(alloc, plan, &journals) {
-        Ok(events) => {
-            // They may be large, and all that they tell is in the events.
-            drop(journals);
-            let text = report(alloc, plan, &events)?;
+    let plan = journals.plan().copy(alloc)?;
+    let replays = journals.into_replays(alloc)?;
+    told(alloc, &plan, replays)
+}
+
+/// The same of the offices that follow the journals, in order of number.
+fn told(alloc: Global, plan: &Plan, replays: Vec<Replay>) -> Result<Finding, AllocError>
+    requires one_each { length replays.items ≡ length plan.now.offices }
+    requires follow { FollowSome plan.now replays.items }
+    ensures woven { IfOk result (λ a. a.woven ≡ true → (journals : List GivenJournal) → AreReplays plan.now journals replays.items → TellsWoven plan.now journals (string_bytes a.text)) }
+    ensures unwoven { IfOk result (λ a. a.woven ≡ false → (journals : List GivenJournal) → AreReplays plan.now journals replays.items → TellsUnwoven plan.now journals (string_bytes a.text)) }
+{
+    match woven(alloc, plan, &replays) {
+        Ok(left) => {
+            let text = report(alloc, plan, replays, left)?;
             Ok(Finding { text, woven: true })
         }
         Err(fault) => {
@@ -64,31 +80,34 @@ fn named(alloc: Global, plan: &Plan, office: OfficeId, entry: usize) -> Result<S
     Ok(text)
 }
 
-/// The report of the world to which these events lead.
+/// The report of the world to which a schedule leads.
 ///
-/// The world is opened anew and driven along the schedule, event by event, and no reply is kept: each is the told one.
-/// The journals are let go before that, since the schedule has all that they tell.
-fn report(alloc: Global, plan: &Plan, events: &[WorldEvent]) -> Result<String, AllocError>
-    requires { AreAccepted (opening plan.now) events.now }
-    ensures { IfOk result (λ text. IsToldOf (run_of (opening plan.now) events.now) (string_bytes text)) }
+/// Its offices are those that followed their journals to the ends: so nothing is done a second time. Frames and where sessions
+/// finished are the schedule's.
+fn report(
+    alloc: Global,
+    plan: &Plan,
+    replays: Vec<Replay>,
+    left: Record,
+) -> Result<String, AllocError>
+    requires { (events : List WorldEvent) × IsLeftBy plan.now events (map (λ r. r.site) replays.items) left.frames.items left.finished.items }
+    ensures { IfOk result (λ text. (events : List WorldEvent) → IsLeftBy plan.now events (map (λ r. r.site) replays.items) left.frames.items left.finished.items → IsToldOf (run_of (opening plan.now) events) (string_bytes text)) }
 {
-    let mut world = World::open(alloc, plan.copy(alloc)?)?;
-    for event in events {
-        follow(&mut world, event)?;
-    }
+    let offices = offices_of(alloc, replays)?;
+    let plan = plan.copy(alloc)?;
+    let world = World::of_record(alloc, plan, offices, left.frames, &left.finished)?;
     tell(alloc, &world)
 }
 
-/// An event that is accepted happens.
-fn follow(world: &mut World, event: &WorldEvent) -> Result<(), AllocError>
-    requires { IsOk (happens world.old event.now).0 }
-    ensures { OnOk result (world.new ≡ (happens world.old event.now).1) }
+/// The offices themselves.
+fn offices_of(alloc: Global, replays: Vec<Replay>) -> Result<Vec<Office>, AllocError>
+    ensures { IfOk result (λ v. v.items ≡ map (λ r. r.site) replays.items) }
 {
-    match world.apply(event) {
-        Ok(_) => Ok(()),
-        Err(WorldRefusal::Office(site_core::Refusal::Memory)) => Err(AllocError),
-        Err(_) => unreachable!(),
+    let mut offices = Vec::with_capacity(alloc, replays.len())?;
+    for replay in replays {
+        offices.push(replay.into_office())?;
     }
+    Ok(offices)
 }
 
 /// The report of a world, with how many submitted sessions haven't finished.

@@ -3,12 +3,13 @@
 //!
 //! - [`Journals`] gathers the journals by office: [`Journals::read`] takes one text after the other, in any order, and refuses one
 //!   that is no journal, or whose office has one already (clause `refused`); [`Journals::missing`] tells the office that has none
-//!   (clause `lacks`), and where there is none [`Journals::into_given`] answers the list of them (clause `journals`).
-//! - [`audit`] weaves such a list into a schedule, and writes the report of the world to which it leads (clause `woven`), of which
-//!   the headline holds; or the line that names the entry (clause `unwoven`).
+//!   (clause `lacks`). An office takes a step for each line as it is read, and so no list of entries stands beside its own journal.
+//! - [`audit`] weaves what the offices followed into a schedule, and writes the report of the world to which it leads (clause
+//!   `woven`), of which the headline holds; or the line that names the entry (clause `unwoven`). The world's offices are those that
+//!   followed, so no event is done a second time.
 //!
 //! Which texts are the journals of a plan's offices, and what a refusal says of them, is in `specs/Gathering.antt`; what is written
-//! in `specs.Findings.antt`, over what `journal_weave` calls woven.
+//! in `specs/Findings.antt`, over what `journal_weave` calls woven.
 //!
 //! Journals are gathered in whatever order they come: what is gathered is told by office, a refused text with its place
 //! among them, and all before it are gathered. First it is judged whether a text is a journal, then whether its office
@@ -20,6 +21,7 @@
 
 mod auditing;
 mod fault;
+mod follower;
 mod journals;
 
 pub use crate::auditing::{Finding, audit};

@@ -5,8 +5,8 @@ use Rattle.std.specs.Io.KnownBytes.{Appends}
 use Rattle.input_texts.specs.Words.{HasText, HaveTexts, Unread}
 use Rattle.office_map.specs.PlanValue.{PlanValue}
 use Rattle.run_words.specs.Words.{office_name}
-use Rattle.journal_weave.specs.declared.given.GivenJournal.{GivenJournal}
-use Rattle.journal_audit.specs.Gathering.{AreGathered}
+use Rattle.journal_audit.specs.Gathered.{Gathered}
+use Rattle.journal_audit.specs.Following.{Gathers}
 use Rattle.drink_commands.specs.Audit.{Audits, JudgesAudit, JudgesJournals, RefusesJournal}
 use Rattle.command_outputs.specs.Fault.{IsFaultAt}
 use Rattle.command_inputs.specs.declared.input.Input.TheVariants as inputs
@@ -19,33 +19,29 @@ IsNamed p a Memory = Unit {0}
 IsNamed p a (NoJournal name) = string_bytes name ≡ office_name p a
 IsNamed p a _ = ⊥
 
--- the journals of offices, as far as they are there
-abbrev pub Slots : Type 0
-Slots = List (Option GivenJournal)
-
 module _ (files : List ℕ → Option (List ℕ)) (p : PlanValue) where
   -- the text of a word comes to those that are gathered
-  abbrev pub TakesOne : Unread → List ℕ → Slots → Unread → Slots → Type 0
+  abbrev pub TakesOne : Unread → List ℕ → Gathered → Unread → Gathered → Type 0
   TakesOne u word slots v filled = (text : List ℕ) (after : Unread) → HasText files u word text after
-      → (v ≡ after) × ((before : List (List ℕ)) → AreGathered p before slots → AreGathered p (before ++ text ∷ []) filled)
+      → (v ≡ after) × ((before : List (List ℕ)) → Gathers p before slots → Gathers p (before ++ text ∷ []) filled)
 
   -- so do those of all these words
-  abbrev pub TakesAll : Unread → List (List ℕ) → Slots → Unread → Slots → Type 0
+  abbrev pub TakesAll : Unread → List (List ℕ) → Gathered → Unread → Gathered → Type 0
   TakesAll u [] slots v filled = (v ≡ u) × (filled ≡ slots)
-  TakesAll u (word ∷ words) slots v filled = (mid : Unread) × (more : Slots) × TakesOne u word slots mid more × TakesAll mid words more v filled
+  TakesAll u (word ∷ words) slots v filled = (mid : Unread) × (more : Gathered) × TakesOne u word slots mid more × TakesAll mid words more v filled
 
   -- the text of a word is refused as the one at that place, after those that are gathered
-  abbrev pub RefusesOne : Unread → List ℕ → ℕ → Slots → Fault → Type 0
+  abbrev pub RefusesOne : Unread → List ℕ → ℕ → Gathered → Fault → Type 0
   RefusesOne u word place slots why = (text : List ℕ) (after : Unread) → HasText files u word text after
-      → (before rest : List (List ℕ)) → AreGathered p before slots → length before ≡ place → RefusesJournal p (before ++ text ∷ rest) place why
+      → (before rest : List (List ℕ)) → Gathers p before slots → length before ≡ place → RefusesJournal p (before ++ text ∷ rest) place why
 
   -- a fault says what is so of the text of a word, as the one at that place
-  abbrev pub SaysOne : Unread → List ℕ → ℕ → Slots → Fault → Type 0
+  abbrev pub SaysOne : Unread → List ℕ → ℕ → Gathered → Fault → Type 0
   SaysOne u word place slots = IsFaultAt (inputs.Journal place) (RefusesOne u word place slots)
 
   -- it says what is so of the texts of these words, whichever are known, of which the first is the one at that place
-  abbrev pub SaysJournals : Unread → List (List ℕ) → ℕ → Slots → Fault → Type 0
-  SaysJournals u words place slots f = (before : List (List ℕ)) → AreGathered p before slots → length before ≡ place
+  abbrev pub SaysJournals : Unread → List (List ℕ) → ℕ → Gathered → Fault → Type 0
+  SaysJournals u words place slots f = (before : List (List ℕ)) → Gathers p before slots → length before ≡ place
       → (texts : List (List ℕ)) (n : ℕ) → HaveTexts files u (take n words) (take n texts) → JudgesJournals p (place + length words) (before ++ take n texts) f
 
   -- the same of all journals
@@ -54,7 +50,7 @@ module _ (files : List ℕ → Option (List ℕ)) (p : PlanValue) where
 
   -- the texts of the first of these words, whichever are known, are gathered
   abbrev pub GathersFirst : Unread → List (List ℕ) → Type 0
-  GathersFirst u words = (texts : List (List ℕ)) (n : ℕ) → HaveTexts files u (take n words) (take n texts) → (slots : Slots) × AreGathered p (take n texts) slots
+  GathersFirst u words = (texts : List (List ℕ)) (n : ℕ) → HaveTexts files u (take n words) (take n texts) → (slots : Gathered) × Gathers p (take n texts) slots
 
 module _ (files : List ℕ → Option (List ℕ)) where
   -- a fault says what is so of the texts of these words, a plan's and journals', whichever are known

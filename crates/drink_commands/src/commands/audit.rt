@@ -59,8 +59,8 @@ fn found<S: Sources>(
     ensures fault { IfErr result (SaysAudit (S.file_text sources.now) standard.old plan.now (map (λ w. w.now) journals.now)) }
 {
     let plan = read_plan(alloc, sources, standard, plan)?;
-    let given = read_journals(alloc, sources, standard, journals, &plan)?;
-    Ok(audit(alloc, &plan, given)?)
+    let journals = read_journals(alloc, sources, standard, journals, &plan)?;
+    Ok(audit(alloc, journals)?)
 }
 
 /// The words of the command's inputs, in their order.

@@ -1,6 +1,6 @@
 //! Journals of offices as texts, typed by hand, and what they tell together.
 
-ghost use Rattle.std.specs.Prelude.{◌≡◌, All, IsSome, length};
+ghost use Rattle.std.specs.Prelude.{All, IsSome};
 
 use journal_audit::{GatherFault, Journals, audit};
 use office_map::{OfficeId, Plan};
@@ -209,6 +209,43 @@ fn a_journal_without_frames_tells_its_sessions(rt: HostRuntime) -> Result<(), Fa
     Ok(())
 }
 
+/// Entries past the 65,536th are followed as those before, and counted.
+#[test]
+fn a_long_journal_is_followed_to_its_end(rt: HostRuntime) -> Result<(), Fail> {
+    let second = "journal 1 run 7 office b\n";
+    let mut first = long(rt.alloc())?;
+    both_tell(
+        &rt,
+        rt.alloc(),
+        APART,
+        first.as_str(),
+        second,
+        "unfinished 0\n",
+    )?;
+    first.push_str("0 do start = done\n")?;
+    both_tell(
+        &rt,
+        rt.alloc(),
+        APART,
+        first.as_str(),
+        second,
+        "unwoven a 66001\n",
+    )
+}
+
+/// The journal of an office at which 33,000 sessions are submitted, and withdrawn again: 66,000 entries.
+fn long(alloc: Global) -> Result<String, AllocError> {
+    let mut text = String::from_str(alloc, "journal 1 run 7 office a\n")?;
+    for ticket in 1..33_001_u32 {
+        writeln!(
+            text,
+            "0 submit 73657373696f6e20610a6769766520310a656e640a = ticket {ticket}"
+        )?;
+        writeln!(text, "0 withdraw {ticket} = done")?;
+    }
+    Ok(text)
+}
+
 /// What two texts tell under a plan, or the first fault, is this.
 fn both_tell(
     rt: &impl Abort,
@@ -271,7 +308,7 @@ fn an_office_may_have_none(rt: HostRuntime) -> Result<(), Fail> {
 
 fn told_of_none(alloc: Global) -> Result<String, Fail> {
     let plan = Plan::read(alloc, ROW.as_bytes())?;
-    Ok(told_by(alloc, &plan, Journals::new(alloc, &plan)?)?)
+    Ok(told_by(alloc, Journals::new(alloc, &plan)?)?)
 }
 
 fn both_tell_after_faults(
@@ -304,22 +341,18 @@ fn told_of_both(
     second: &str,
 ) -> Result<String, AllocError> {
     let mut journals = Journals::new(alloc, plan)?;
-    let read = read_both(&mut journals, alloc, plan, first, second);
-    told_or_said(alloc, plan, journals, read)
+    let read = read_both(&mut journals, alloc, first, second);
+    told_or_said(alloc, journals, read)
 }
 
 fn read_both(
     journals: &mut Journals,
     alloc: Global,
-    plan: &Plan,
     first: &str,
     second: &str,
-) -> Result<(), GatherFault>
-    requires { length journals.old ≡ length plan.now.offices }
-    ensures { length journals.new ≡ length journals.old }
-{
-    journals.read(alloc, plan, first.as_bytes())?;
-    journals.read(alloc, plan, second.as_bytes())
+) -> Result<(), GatherFault> {
+    journals.read(alloc, first.as_bytes())?;
+    journals.read(alloc, second.as_bytes())
 }
 
 /// What three texts tell, or the first fault.
@@ -331,33 +364,29 @@ fn told_of_three(
     third: &str,
 ) -> Result<String, AllocError> {
     let mut journals = Journals::new(alloc, plan)?;
-    let read = read_three(&mut journals, alloc, plan, first, second, third);
-    told_or_said(alloc, plan, journals, read)
+    let read = read_three(&mut journals, alloc, first, second, third);
+    told_or_said(alloc, journals, read)
 }
 
 fn read_three(
     journals: &mut Journals,
     alloc: Global,
-    plan: &Plan,
     first: &str,
     second: &str,
     third: &str,
-) -> Result<(), GatherFault>
-    requires { length journals.old ≡ length plan.now.offices }
-{
-    read_both(journals, alloc, plan, first, second)?;
-    journals.read(alloc, plan, third.as_bytes())
+) -> Result<(), GatherFault> {
+    read_both(journals, alloc, first, second)?;
+    journals.read(alloc, third.as_bytes())
 }
 
 /// What journals tell where all were read, or the fault of one that wasn't.
 fn told_or_said(
     alloc: Global,
-    plan: &Plan,
     journals: Journals,
     read: Result<(), GatherFault>,
 ) -> Result<String, AllocError> {
     match read {
-        Ok(()) => told_by(alloc, plan, journals),
+        Ok(()) => told_by(alloc, journals),
         Err(fault) => format!(in alloc; "{fault}"),
     }
 }
@@ -370,35 +399,27 @@ fn told_after_faults(
     second: &str,
 ) -> Result<String, AllocError> {
     let mut journals = Journals::new(alloc, plan)?;
-    if read_around_faults(&mut journals, alloc, plan, first, second) {
-        told_by(alloc, plan, journals)
+    if read_around_faults(&mut journals, alloc, first, second) {
+        told_by(alloc, journals)
     } else {
         Ok(String::new(alloc))
     }
 }
 
 /// Whether both texts are taken, and neither the first one again nor the faulty one.
-fn read_around_faults(
-    journals: &mut Journals,
-    alloc: Global,
-    plan: &Plan,
-    first: &str,
-    second: &str,
-) -> bool
-    requires { length journals.old ≡ length plan.now.offices }
-{
-    let taken = journals.read(alloc, plan, first.as_bytes()).is_ok();
-    let twice = journals.read(alloc, plan, first.as_bytes()).is_err();
-    let faulty = journals.read(alloc, plan, "journal 1".as_bytes()).is_err();
-    let other = journals.read(alloc, plan, second.as_bytes()).is_ok();
+fn read_around_faults(journals: &mut Journals, alloc: Global, first: &str, second: &str) -> bool {
+    let taken = journals.read(alloc, first.as_bytes()).is_ok();
+    let twice = journals.read(alloc, first.as_bytes()).is_err();
+    let faulty = journals.read(alloc, "journal 1".as_bytes()).is_err();
+    let other = journals.read(alloc, second.as_bytes()).is_ok();
     taken && twice && faulty && other
 }
 
 /// What gathered journals tell, or which office has none.
-fn told_by(alloc: Global, plan: &Plan, journals: Journals) -> Result<String, AllocError> {
+fn told_by(alloc: Global, journals: Journals) -> Result<String, AllocError> {
     match journals.missing() {
         Some(office) => lacking(alloc, office),
-        None => told_by_all(alloc, plan, journals),
+        None => told_by_all(alloc, journals),
     }
 }
 
@@ -407,13 +428,9 @@ fn lacking(alloc: Global, office: OfficeId) -> Result<String, AllocError> {
 }
 
 /// What the journals of all offices tell.
-fn told_by_all(alloc: Global, plan: &Plan, journals: Journals) -> Result<String, AllocError>
-    requires { All (λ slot. IsSome slot) journals }
+fn told_by_all(alloc: Global, journals: Journals) -> Result<String, AllocError>
+    requires { All (λ slot. IsSome slot) journals.slots }
 {
-    let journals = journals.into_given(alloc)?;
-    if journals.len() != plan.offices() {
-        return Ok(String::new(alloc));
-    }
-    let found = audit(alloc, plan, journals)?;
+    let found = audit(alloc, journals)?;
     Ok(found.text)
 }

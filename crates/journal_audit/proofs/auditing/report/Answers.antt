@@ -1,24 +1,23 @@
-use Rattle.std.proofs.Common.{◌≡◌, ℕ, ◌+◌, drop, sym, ap, subst, ◌∙◌}
-use Rattle.frame_world.specs.Worlds.{happens, run_of, AreAccepted}
-use Rattle.journal_audit.proofs.Accepted.{next_is, next_accepted}
+use Rattle.std.proofs.Common.{ap, subst, ◌∙◌}
+use Rattle.std.proofs.lemmas.Result.{IfOk-weaker}
+use Rattle.std.specs.String.{string_bytes}
+use Rattle.office_map.specs.PlanValue.{PlanValue}
+use Rattle.frame_world.specs.Worlds.{World, opening, run_of}
+use Rattle.journal_audit.specs.Findings.{IsToldOf}
+use Rattle.journal_audit.proofs.Telling.{left_of_copies}
 use Rattle.journal_audit.proofs.auditing.report.Goals as goal
 
-pub follow-requires : goal.follow-requires
-follow-requires c =
-    let es = c.args.events.now in
-    let i : ℕ = c.loop-event.event-index in
-    let e = c.event-item.result in
-    (next_accepted c.loop-event.world es i e (next_is es i e c.loop-event-test.true c.event-item.is) c.loop-event.invariant.accepted).0
+pub of_record-requires : goal.of_record-requires
+of_record-requires c =
+    let es = c.requires.0 in
+    let copied = left_of_copies c.args.plan.now c.in_ok-plan.plan es _ c.in_ok-offices.offices.items c.args.left.frames.items c.args.left.finished.items c.deref.result.now c.in_ok-plan.ensures c.in_ok-offices.ensures c.deref.ensures.value c.requires.1 in
+    (es, copied)
 
-pub loop-event-preserved : goal.loop-event-preserved
-loop-event-preserved c =
-    let w = c.loop-event.world in
-    let es = c.args.events.now in
-    let i : ℕ = c.loop-event.event-index in
-    let e = c.event-item.result in
-    let cut = next_is es i e c.loop-event-test.true c.event-item.is in
-    let so : c.follow.new.world ≡ (happens w e).1 = c.in_ok-follow.ensures in
-    record {
-      leads = ap (λ v. run_of v (drop (i + 1) es)) so ∙ sym (ap (run_of w) cut) ∙ c.loop-event.invariant.leads;
-      accepted = subst (λ v. AreAccepted v (drop (i + 1) es)) (sym so) (next_accepted w es i e cut c.loop-event.invariant.accepted).1;
-    }
+pub returns : goal.returns
+returns c =
+    IfOk-weaker c.tell.result _ _
+    (λ text told es left.
+    let copied = left_of_copies c.args.plan.now c.in_ok-plan.plan es _ c.in_ok-offices.offices.items c.args.left.frames.items c.args.left.finished.items c.deref.result.now c.in_ok-plan.ensures c.in_ok-offices.ensures c.deref.ensures.value left in
+    let is = c.in_ok-world.ensures es copied ∙ ap (λ (p : PlanValue). run_of (opening p) es) c.in_ok-plan.ensures in
+    subst (λ (w : World). IsToldOf w (string_bytes text)) is told)
+    c.tell.ensures

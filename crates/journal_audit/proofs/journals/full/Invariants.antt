@@ -2,4 +2,4 @@ use Rattle.std.proofs.Common.{◌≡◌, Some, map}
 use Rattle.journal_audit.proofs.journals.full.Given as goal
 
 abbrev pub invariant-loop-slot : goal.invariant-loop-slot
-invariant-loop-slot l = map Some l.journals.items ≡ l.yielded
+invariant-loop-slot l = map Some l.replays.items ≡ l.yielded

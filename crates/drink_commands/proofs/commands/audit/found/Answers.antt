@@ -11,14 +11,14 @@ returns-in_err-plan-clause-fault g c =
     let words = map (λ w. w.now) c.args.journals.now in
     rw (e.1, e.2) (at_plan files c.args.standard.now c.args.plan.now words (Text c.in_err-plan.field-0.0) c.in_err-plan.ensures.fault)
 
-pub returns-in_err-given-clause-fault : goal.returns-in_err-given-clause-fault
-returns-in_err-given-clause-fault g c =
-    let e = err_from_is_err_and c.from_residual-in_err-given.result c.from_residual-in_err-given.ensures.1 in
+pub returns-in_err-journals-clause-fault : goal.returns-in_err-journals-clause-fault
+returns-in_err-journals-clause-fault g c =
+    let e = err_from_is_err_and c.from_residual-in_err-journals.result c.from_residual-in_err-journals.ensures.1 in
     let files = g.S.Sources.file_text c.args.sources.now in
     let words = map (λ w. w.now) c.args.journals.now in
     rw (e.1, e.2)
-    (at_journals files c.args.standard.now c.read_plan.new.standard c.args.plan.now words c.in_ok-plan.plan c.in_err-given.field-0.0
-    c.in_ok-plan.ensures.meaning c.in_err-given.ensures.fault)
+    (at_journals files c.args.standard.now c.read_plan.new.standard c.args.plan.now words c.in_ok-plan.plan c.in_err-journals.field-0.0
+    c.in_ok-plan.ensures.meaning c.in_err-journals.ensures.fault)
 
 pub returns-in_err-audit-clause-fault : goal.returns-in_err-audit-clause-fault
 returns-in_err-audit-clause-fault g c =
@@ -31,12 +31,12 @@ pub returns-clause-told : goal.returns-clause-told
 returns-clause-told g c =
     let files = g.S.Sources.file_text c.args.sources.now in
     let words = map (λ w. w.now) c.args.journals.now in
-    audited files c.args.standard.now c.read_plan.new.standard c.args.plan.now words c.in_ok-plan.plan c.in_ok-given.given.items c.in_ok-audit.field-0.woven _
-    c.in_ok-plan.ensures.meaning c.in_ok-given.ensures.meaning c.in_ok-audit.ensures.woven c.in_ok-audit.ensures.unwoven
+    audited files c.args.standard.now c.read_plan.new.standard c.args.plan.now words c.in_ok-plan.plan c.in_ok-journals.journals c.in_ok-audit.field-0.woven _
+    c.in_ok-plan.ensures.meaning c.in_ok-journals.ensures.meaning c.in_ok-audit.ensures.woven c.in_ok-audit.ensures.unwoven
 
 pub returns-clause-later : goal.returns-clause-later
 returns-clause-later g c =
     let files = g.S.Sources.file_text c.args.sources.now in
     let words = map (λ w. w.now) c.args.journals.now in
     λ f none. at_journals files c.args.standard.now c.read_plan.new.standard c.args.plan.now words c.in_ok-plan.plan f c.in_ok-plan.ensures.meaning
-    (says_later files c.in_ok-plan.plan c.read_plan.new.standard words f c.in_ok-given.ensures.gathered none)
+    (says_later files c.in_ok-plan.plan c.read_plan.new.standard words f c.in_ok-journals.ensures.gathered none)

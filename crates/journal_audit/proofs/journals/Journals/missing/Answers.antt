@@ -1,10 +1,11 @@
 use Rattle.std.proofs.Common.{◌<◌, length, sym, subst, arith}
 use Rattle.journal_audit.specs.Gathering.{Lacks}
-use Rattle.journal_audit.proofs.Gathering.{lacks}
+use Rattle.journal_audit.proofs.Following.{lacks_one}
 use Rattle.journal_audit.proofs.journals.Journals.missing.Goals as goal
 
 pub returns-then-has_none-clause-lacks : goal.returns-then-has_none-clause-lacks
 returns-then-has_none-clause-lacks c plan texts g =
-    let within : c.loop-a.a < length c.args.self.now = omega (arith, c.loop-a-test.true, c.offices-a-end.ensures.count) in
+    let j = c.args.self.now in
+    let within : c.loop-a.a < length j.slots = omega (arith, c.loop-a-test.true, c.offices-a-end.ensures.count) in
     subst (Lacks plan texts) (sym c.new.ensures)
-    (lacks plan texts c.args.self.now g c.a_text_is_one_journal.ensures c.loop-a.a within (c.has_none.ensures.none c.if-has_none.true) c.loop-a.invariant)
+    (lacks_one plan texts j g c.a_text_is_one_journal.ensures c.loop-a.a within (c.has_none.ensures.none c.if-has_none.true) c.loop-a.invariant)

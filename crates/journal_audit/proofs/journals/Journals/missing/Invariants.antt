@@ -4,4 +4,4 @@ use Rattle.journal_audit.proofs.journals.Journals.missing.Given as goal
 
 -- the journals before are there
 abbrev pub invariant-loop-a : goal.invariant-loop-a
-invariant-loop-a l = (b : ℕ) → b < l.a → IsSome (get_or l.self b None)
+invariant-loop-a l = (b : ℕ) → b < l.a → IsSome (get_or l.self.slots b None)

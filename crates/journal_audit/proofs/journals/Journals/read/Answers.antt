@@ -1,29 +1,52 @@
-use Rattle.std.proofs.Common.{◌++◌, ◌∷◌, [], sym, subst, arith}
-use Rattle.journal_weave.specs.declared.given.GivenJournal.{GivenJournal}
-use Rattle.journal_audit.specs.Gathering.{AreGathered}
-use Rattle.journal_audit.proofs.Gathering.{of_plan, gathered_more, have_one, refused_next}
+use Rattle.std.proofs.Common.{◌++◌, ◌∷◌, [], sym, ap, subst, ◌∙◌}
+use Rattle.journal_texts.specs.JournalText.{IsFaultOf}
+use Rattle.journal_audit.specs.Gathered.{Gathered}
+use Rattle.journal_audit.specs.Following.{Gathers, GathersSome}
+use Rattle.journal_audit.specs.declared.fault.GatherFault.TheVariants.{Unread}
+use Rattle.journal_audit.proofs.Following.{gathered_as, of_plan, gathers_text, refused_more, twice}
 use Rattle.journal_audit.proofs.journals.Journals.read.Goals as goal
+
+pub returns-in-Err-clause-refused : goal.returns-in-Err-clause-refused
+returns-in-Err-clause-refused c plan before after g =
+    let v : Gathered = gathered_as c.self.inside.plan c.self.inside.slots.items in
+    refused_more plan before v (subst (Gathers plan before) (sym c.self.view_is) g) c.args.text.now after (Unread c.in-Err.fault)
+    (subst (λ p. IsFaultOf p c.args.text.now c.in-Err.fault) (ap (λ (x : Gathered). x.plan) c.self.view_is ∙ g.planned) c.in-Err.ensures.fault)
 
 pub add-requires : goal.add-requires
 add-requires c =
-    let j : GivenJournal = record { entries = c.in-Ok.journal.entries; ends = c.in-Ok.journal.ends } in
-    let lt = of_plan c.args.plan.now c.args.text.now c.in-Ok.journal.office j c.in-Ok.ensures.meaning in
-    omega (arith, lt, c.requires)
+    let v : Gathered = gathered_as c.self.inside.plan c.self.inside.slots.items in
+    of_plan v.plan c.self.invariant.0 v c.self.invariant.1 c.args.text.now c.in-Ok.follower.replay c.number-office.result c.number-office.ensures c.in-Ok.ensures.meaning
 
-pub returns-then-add-clause-gathered : goal.returns-then-add-clause-gathered
-returns-then-add-clause-gathered c texts g =
-    let p = c.args.plan.now in
-    let text = c.args.text.now in
-    let a = c.in-Ok.journal.office in
-    let j : GivenJournal = record { entries = c.in-Ok.journal.entries; ends = c.in-Ok.journal.ends } in
-    let lt = of_plan p text a j c.in-Ok.ensures.meaning in
-    subst (AreGathered p (texts ++ text ∷ [])) (sym (c.add.ensures.filled c.if-add.true))
-    (gathered_more p texts c.args.self.now g text a j (omega (arith, lt, c.requires)) (c.add.ensures.added c.if-add.true) c.in-Ok.ensures.meaning)
+-- ---- the text is a journal of an office that had none
 
-pub returns-else-add-clause-refused : goal.returns-else-add-clause-refused
-returns-else-add-clause-refused c before after g =
-    let p = c.args.plan.now in
-    let text = c.args.text.now in
-    let a = c.in-Ok.journal.office in
-    refused_next p before c.args.self.now g text after _
-    (record { entries = c.in-Ok.journal.entries.items; ends = c.in-Ok.journal.ends; journal = c.in-Ok.ensures.meaning }, have_one p before c.args.self.now g a (c.add.ensures.there c.if-add.false))
+pub invariant_of-self-2 : goal.invariant_of-self-2
+invariant_of-self-2 c =
+    let v : Gathered = gathered_as c.self.inside.plan c.self.inside.slots.items in
+    let texts = c.self.invariant.0 in (
+      texts ++ c.args.text.now ∷ [],
+      gathers_text v.plan texts v c.self.invariant.1 c.args.text.now c.in-Ok.follower.replay c.number-office.result c.number-office.ensures c.in-Ok.ensures.meaning c.args.alloc c.is_short.ensures c.add.new.slots.items
+          (c.add.ensures.added c.if-not-add.false) (c.add.ensures.filled c.if-not-add.false),
+    )
+
+pub returns-clause-gathered : goal.returns-clause-gathered
+returns-clause-gathered c plan texts g =
+    let v : Gathered = gathered_as c.self.inside.plan c.self.inside.slots.items in
+    gathers_text plan texts v (subst (Gathers plan texts) (sym c.self.view_is) g) c.args.text.now c.in-Ok.follower.replay c.number-office.result c.number-office.ensures c.in-Ok.ensures.meaning c.args.alloc c.is_short.ensures c.add.new.slots.items
+    (c.add.ensures.added c.if-not-add.false) (c.add.ensures.filled c.if-not-add.false)
+
+-- ---- of an office that had one
+
+pub invariant_of-self : goal.invariant_of-self
+invariant_of-self c =
+    let v : Gathered = gathered_as c.self.inside.plan c.self.inside.slots.items in
+    subst (λ l. GathersSome (gathered_as v.plan l)) (sym (c.add.ensures.same c.if-not-add.true)) c.self.invariant
+
+pub returns-then-not-add-clause-refused : goal.returns-then-not-add-clause-refused
+returns-then-not-add-clause-refused c plan before after g =
+    let v : Gathered = gathered_as c.self.inside.plan c.self.inside.slots.items in
+    twice plan before v (subst (Gathers plan before) (sym c.self.view_is) g) c.args.text.now c.in-Ok.follower.replay c.number-office.result c.number-office.ensures c.in-Ok.ensures.meaning after (c.add.ensures.there c.if-not-add.true)
+
+pub returns-then-not-add-clause-same : goal.returns-then-not-add-clause-same
+returns-then-not-add-clause-same c =
+    let v : Gathered = gathered_as c.self.inside.plan c.self.inside.slots.items in
+    ap (gathered_as v.plan) (c.add.ensures.same c.if-not-add.true) ∙ c.self.view_is
