@@ -104,8 +104,8 @@ fn tells_frames<R: Abort>(rt: &R, office: &mut Office) {
         assert_eq!(rt; take(office, 9, frame(early)), Ok(Reply::Early));
     }
     for (i, early) in EARLY.iter().enumerate() {
-        let told = came(office.journal(), i);
-        assert_eq!(rt; told, Some((9, frame(early), Reply::Early)), "entry {i}");
+        let frame = frame(early);
+        assert!(rt; came_early(office.journal(), i, &frame), "entry {i}");
     }
 }
 
@@ -116,14 +116,16 @@ fn frame(early: &(u64, u16, i64)) -> Frame {
     Frame::data(42, 1, 0, number, 0, Msg::Bottle(bottle, Value::from(value)))
 }
 
-fn came(journal: &Journal, i: usize) -> Option<(u8, Frame, Reply)> {
+/// The entry at this place tells that this frame came too early.
+fn came_early(journal: &Journal, i: usize, frame: &Frame) -> bool {
     let Some(entry) = journal.get(i) else {
-        return None;
+        return false;
     };
-    match entry.event {
-        EventRef::Took(frame) => Some((entry.tag, frame, entry.reply)),
-        _ => None,
-    }
+    let same = match &entry.event {
+        EventRef::Took(came) => *came == *frame,
+        _ => false,
+    };
+    same && entry.tag == 9 && entry.reply == Reply::Early
 }
 
 #[test]
