@@ -27,7 +27,7 @@ spent() {
         /usr/bin/time -o "$work/took" -f '%U %S' "$built" "$@" > /dev/null || exit 1
         cat "$work/took"
     done > "$work/spent"
-    awk '{ user += $1; system += $2 } END { printf "%d and %d", 1000 * user / 9, 1000 * system / 9 }' "$work/spent"
+    awk '{ own += $1; kernel += $2 } END { printf "%d and %d", 1000 * own / 9, 1000 * kernel / 9 }' "$work/spent"
 }
 
 trip=$(median trips 20000)
