@@ -9,7 +9,6 @@ use Rattle.bit_masks.specs.Sets.{is_in128, IsLeast}
 use Rattle.bit_masks.specs.declared.mask128.Mask128.{Mask128}
 use Rattle.bottle_values.specs.Values.{Value}
 use Rattle.bottle_values.specs.Maps.{put, write_all}
-use Rattle.drinking_core.specs.declared.phase.Phase.{Phase}
 use Rattle.drinking_core.specs.declared.phase.Phase.TheVariants.{Tranquil, Thirsty}
 use Rattle.drinking_core.specs.declared.shared_bottle.SharedBottle.{SharedBottle}
 use Rattle.drinking_core.specs.Drinkers.{value_after}

@@ -1,4 +1,4 @@
-use Rattle.std.proofs.Common.{◌≡◌, ◌<◌, ℕ, List, length, sym, ap, ◌∙◌, subst, is_some}
+use Rattle.std.proofs.Common.{◌≡◌, ◌<◌, ℕ, List, sym, ◌∙◌, subst, is_some}
 use Rattle.std.specs.Prelude.{All}
 use Rattle.drinking_core.specs.declared.shared_bottle.SharedBottle.{SharedBottle}
 use Rattle.drinking_core.specs.refinement.Bars.{bottle_in}

@@ -1,4 +1,4 @@
-use Rattle.std.proofs.Common.{◌≡◌, ℕ, List, Some, get_or, sym, ap, ◌∙◌, subst, rules}
+use Rattle.std.proofs.Common.{ℕ, List, Some, get_or, sym, ap, ◌∙◌, subst, rules}
 use Rattle.std.specs.Option.{option_copied}
 use Rattle.drinking_core.specs.Drinkers.{started}
 use Rattle.drinking_core.specs.refinement.Bars.{BarValue, drinker_of}
