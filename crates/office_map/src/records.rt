@@ -52,12 +52,6 @@ impl RecordTable {
         }
     }
 
-    pub fn len(&self) -> usize
-        ensures { result ≡ length self.now }
-    {
-        self.entries.len()
-    }
-
     pub fn as_slice(&self) -> &[RecordEntry]
         ensures { result.now ≡ self.now }
     {
