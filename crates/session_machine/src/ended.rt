@@ -25,7 +25,8 @@ pub fn closed(
     ensures { result.0 ≡ ending_of reads (step_of end (environment_of state.value.environment)) }
 {
     if has_given(end, &state.environment) {
-        return in_its_own(alloc, end, reads, state);
+        let State { environment, .. } = Box::into_inner(state);
+        return (ended(alloc, end, reads, environment), None);
     }
     let mut state = state;
     let writes = written(alloc, end, &mut state.environment);
@@ -36,19 +37,6 @@ pub fn closed(
         gives: Gives::new(alloc),
     };
     (ending, Some(Spare { state }))
-}
-
-/// The ending, in the work's own memory.
-fn in_its_own(
-    alloc: Global,
-    end: End,
-    reads: RecordValues,
-    state: Box<State>,
-) -> (Ending, Option<Spare>)
-    ensures { result.0 ≡ ending_of reads (step_of end (environment_of state.value.environment)) }
-{
-    let State { environment, .. } = Box::into_inner(state);
-    (ended(alloc, end, reads, environment), None)
 }
 
 /// Whether the ending of a session that ended like this with this environment has values that it gave.
