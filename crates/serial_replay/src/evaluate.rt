@@ -31,24 +31,29 @@ pub fn evaluate(
 {
     let mut top = Value::from(0);
     let mut waiting = 0;
-    for node in e.nodes() {
-        let operand = match *node {
-            Node::Literal(value) => value,
-            Node::Variable(place) => environment.variables.value(place),
-            Node::Read(id) => environment.records.value(id),
-            Node::Negate => {
-                top = top.neg()?;
-                continue;
+    for node in e.nodes().iter() {
+        match *node {
+            Node::Literal(value) => {
+                below[waiting] = top;
+                waiting += 1;
+                top = value;
             }
+            Node::Variable(place) => {
+                below[waiting] = top;
+                waiting += 1;
+                top = environment.variables.value(place);
+            }
+            Node::Read(id) => {
+                below[waiting] = top;
+                waiting += 1;
+                top = environment.records.value(id);
+            }
+            Node::Negate => top = top.neg()?,
             Node::Apply(operator) => {
                 waiting -= 1;
                 top = operator.apply(below[waiting], top)?;
-                continue;
             }
-        };
-        below[waiting] = top;
-        waiting += 1;
-        top = operand;
+        }
     }
     Ok(top)
 }
