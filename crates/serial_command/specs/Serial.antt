@@ -1,10 +1,9 @@
 -- What the command `serial` prints.
-use Rattle.std.specs.Prelude.{◌≡◌, ℕ, List, Option, Ok}
+use Rattle.std.specs.Prelude.{◌≡◌, ℕ, List, Option}
 use Rattle.std.specs.Io.KnownBytes.{Appends}
 use Rattle.office_map.specs.PlanValue.{PlanValue}
-use Rattle.command_inputs.specs.Plans.{IsAcceptedAs}
+use Rattle.command_inputs.specs.Plans.{PlanAndSessions}
 use Rattle.session_meaning.specs.ProgramValue.{ProgramValue}
-use Rattle.session_language.specs.Reading.{sessions_of}
 use Rattle.serial_replay.specs.Serial.{outcomes_of, map_of, start_map}
 use Rattle.session_reports.specs.Report.{report_of}
 
@@ -14,11 +13,8 @@ serial_report p programs = report_of p (outcomes_of (start_map p) programs) (map
 
 -- The two texts mean a plan and sessions under it, and this is the report of their serial run.
 pub record IsReportOf (plan sessions report : List ℕ) : Type 0 where
-  pub p : PlanValue
-  pub programs : List ProgramValue
-  pub is_plan : IsAcceptedAs plan p
-  pub are_sessions : sessions_of p sessions ≡ Ok programs
-  pub is_report : report ≡ serial_report p programs
+  pub both : PlanAndSessions plan sessions
+  pub is_report : report ≡ serial_report both.p both.programs
 
 -- That report was written after what the writer held.
 abbrev pub Reports : List ℕ → List ℕ → Option (List ℕ) → Option (List ℕ) → Type 0

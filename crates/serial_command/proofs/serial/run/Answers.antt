@@ -23,9 +23,11 @@ pub returns-clause-report : goal.returns-clause-report
 returns-clause-report g c = λ plan_text sessions_text known.
     let it = c.in_ok-found.ensures.meaning plan_text sessions_text known in
     record {
-      p = c.in_ok-found.found.plan;
-      programs = c.in_ok-found.found.programs.items;
-      is_plan = it.0;
-      are_sessions = it.1;
+      both = record {
+        p = c.in_ok-found.found.plan;
+        programs = c.in_ok-found.found.programs.items;
+        is_plan = it.0;
+        are_sessions = it.1;
+      };
       is_report = c.in_ok-text.ensures;
     }
