@@ -33,11 +33,13 @@ pub ran : (files : List ℕ → Option (List ℕ)) (u v w : Unread) (a b a_text 
 ran files u v w a b a_text b_text p programs seen loss old new printed plan sessions (after, has, (next, has_next, more)) same told written =
     let it = plan a_text after has in
     record {
-      p = p;
-      programs = programs;
+      both = record {
+        p = p;
+        programs = programs;
+        is_plan = it.0;
+        are_sessions = (sessions b_text next (subst (λ s. HasText files s b b_text next) (sym it.1) has_next)).0;
+      };
       printed = printed;
-      is_plan = it.0;
-      are_sessions = (sessions b_text next (subst (λ s. HasText files s b b_text next) (sym it.1) has_next)).0;
       told = subst (λ ps. Tells p ps loss printed) same told;
       written = written;
     }
@@ -52,11 +54,8 @@ simulated files u v w x a b c a_text b_text c_text p programs acts run folder ol
     let it = plan a_text after has in
     let then_it = sessions b_text next (subst (λ s. HasText files s b b_text next) (sym it.1) has_next) in
     record {
-      p = p;
-      programs = programs;
+      both = record { p = p; programs = programs; is_plan = it.0; are_sessions = then_it.0 };
       acts = acts;
-      is_plan = it.0;
-      are_sessions = then_it.0;
       is_script = (script c_text last (subst (λ s. HasText files s c c_text last) (sym then_it.1) has_last)).0;
       written = subst (λ xs. Appends old new (transcript p xs)) same written;
       serial = subst (λ xs. IsSerialRun (run_of (opening p) xs)) same serial;
@@ -73,13 +72,17 @@ pub ran_office : (tells : Bool) (Free : PlanValue → ℕ → List ℕ → Type 
 ran_office tells Free files u v w a word b a_text b_text p me programs seen turns file run old new kept left plan e reached sessions (after, has, (next, has_next, more)) same free told written journal =
     let it = plan a_text after has in
     record {
-      p = p;
-      me = me;
-      programs = programs;
-      is_plan = it.0;
-      is_office = e;
-      is_reached = reached;
-      are_sessions = (sessions b_text next (subst (λ s. HasText files s b b_text next) (sym it.1) has_next)).0;
+      named = record {
+        both = record {
+          p = p;
+          programs = programs;
+          is_plan = it.0;
+          are_sessions = (sessions b_text next (subst (λ s. HasText files s b b_text next) (sym it.1) has_next)).0;
+        };
+        me = me;
+        is_office = e;
+        is_reached = reached;
+      };
       free = free;
       told = subst (λ ps. TellsCourse tells p me ps turns (is_some file) run) same told;
       written = written;
@@ -95,10 +98,12 @@ pub ran_offices : (Free : PlanValue → ℕ → List ℕ → Type 0) (files : Li
 ran_offices Free files u v w a b a_text b_text p programs seen folder run old new kept left plan sessions (after, has, (next, has_next, more)) same free told written journals =
     let it = plan a_text after has in
     record {
-      p = p;
-      programs = programs;
-      is_plan = it.0;
-      are_sessions = (sessions b_text next (subst (λ s. HasText files s b b_text next) (sym it.1) has_next)).0;
+      both = record {
+        p = p;
+        programs = programs;
+        is_plan = it.0;
+        are_sessions = (sessions b_text next (subst (λ s. HasText files s b b_text next) (sym it.1) has_next)).0;
+      };
       free = free;
       told = subst (λ ps. TellsJournals p (range_with_len 0 (length p.offices)) (length ps) (is_some folder) run) same told;
       written = written;

@@ -209,13 +209,12 @@ module _ (files : List ℕ → Option (List ℕ)) (standard : Option (List ℕ))
   went_on tells known_bytes is_new turns kept stands first last end old new again too reached is_kept goes a_text b_text known =
       let it = meaning a_text b_text known in
       record {
-        p = p;
-        me = me;
-        programs = programs;
-        is_plan = it.0;
-        is_office = named;
-        is_reached = reached;
-        are_sessions = it.1;
+        named = record {
+          both = record { p = p; programs = programs; is_plan = it.0; are_sessions = it.1 };
+          me = me;
+          is_office = named;
+          is_reached = reached;
+        };
         kept = kept;
         is_kept = subst (λ ps. IsKept known_bytes is_new p me ps kept) same is_kept;
         stands = stands;

@@ -1,19 +1,17 @@
 -- What the commands `run` and `live` write, and what their faults say.
-use Rattle.std.specs.Prelude.{◌≡◌, ◌⊎◌, ◌<◌, ℕ, Bool, zero, suc, List, [], ◌∷◌, true, false, length, map, take, get_or, Option, Some, None, is_some, IfSome, Ok}
+use Rattle.std.specs.Prelude.{◌≡◌, ◌⊎◌, ◌<◌, ℕ, Bool, zero, suc, List, [], ◌∷◌, true, false, length, map, take, get_or, Option, Some, None, is_some, IfSome}
 use Rattle.std.specs.List.{range_with_len}
 use Rattle.std.specs.String.{string_bytes}
 use Rattle.std.specs.Io.KnownBytes.{Appends}
 use Rattle.input_texts.specs.Words.{HaveFirstTexts, StandFor}
 use Rattle.office_map.specs.PlanValue.{PlanValue, office_named, office_name_of}
-use Rattle.session_meaning.specs.ProgramValue.{ProgramValue}
-use Rattle.session_language.specs.Reading.{sessions_of}
 use Rattle.office_stations.specs.Addresses.{is_without}
 use Rattle.office_runs.specs.Runs.{TellsCourse, TellsJournals}
 use Rattle.office_runs.specs.declared.report.Ran.{Ran}
 use Rattle.office_stations.specs.declared.fault.RunFault.{RunFault}
 use Rattle.command_outputs.specs.Journals.{File, WritesFiles, files_of}
 use Rattle.command_outputs.specs.Places.{AreFree, IsFree, IsIn, IsObstacle}
-use Rattle.command_inputs.specs.Plans.{IsAcceptedAs}
+use Rattle.command_inputs.specs.Plans.{IsAcceptedAs, PlanAndSessions}
 use Rattle.command_outputs.specs.Fault.{IsAmong, IsFaultAt, IsOfRun}
 use Rattle.drink_commands.specs.Texts.{Judges, Refuses, nothing}
 use Rattle.command_inputs.specs.declared.input.Input.TheVariants as inputs
@@ -45,18 +43,20 @@ IsReached p me = (v : ℕ) → v < length p.offices → is_without p me v ≡ fa
 -- ---- what is written
 
 -- The two texts mean a plan and sessions under it, and the word names an office of the plan, which has an address, as its
+-- neighbours have.
+pub record NamedOffice (plan word sessions : List ℕ) : Type 0 where
+  pub both : PlanAndSessions plan sessions
+  pub me : ℕ
+  pub is_office : office_named both.p word ≡ Some me
+  pub is_reached : IsReached both.p me
+
+-- The two texts mean a plan and sessions under it, and the word names an office of the plan, which has an address, as its
 -- neighbours have. What is told of so many turns of that office with its sessions among those was written after what the writer held,
 -- and its journal, where a word names a file for it, to that file; and that one was free to take it, as Free says.
 pub record WritesOffice (tells : Bool) (Free : PlanValue → ℕ → List ℕ → Type 0) (plan word sessions : List ℕ) (turns : ℕ) (file : Option (List ℕ)) (ran : Ran) (old new : Option (List ℕ)) (kept left : Option (List File)) : Type 0 where
-  pub p : PlanValue
-  pub me : ℕ
-  pub programs : List ProgramValue
-  pub is_plan : IsAcceptedAs plan p
-  pub is_office : office_named p word ≡ Some me
-  pub is_reached : IsReached p me
-  pub are_sessions : sessions_of p sessions ≡ Ok programs
-  pub free : IfSome file (Free p me)
-  pub told : TellsCourse tells p me programs turns (is_some file) ran
+  pub named : NamedOffice plan word sessions
+  pub free : IfSome file (Free named.both.p named.me)
+  pub told : TellsCourse tells named.both.p named.me named.both.programs turns (is_some file) ran
   pub written : Appends old new (string_bytes ran.text)
   pub journal : WritesFiles file (λ place. map (λ text. (place, string_bytes text)) ran.journals.items) kept left
 
@@ -64,14 +64,11 @@ pub record WritesOffice (tells : Bool) (Free : PlanValue → ℕ → List ℕ �
 -- what the writer held, and their journals, where a word names a folder for them, to a file each; and that folder was free to take them,
 -- as Free says.
 pub record WritesOffices (Free : PlanValue → ℕ → List ℕ → Type 0) (plan sessions : List ℕ) (folder : Option (List ℕ)) (ran : Ran) (old new : Option (List ℕ)) (kept left : Option (List File)) : Type 0 where
-  pub p : PlanValue
-  pub programs : List ProgramValue
-  pub is_plan : IsAcceptedAs plan p
-  pub are_sessions : sessions_of p sessions ≡ Ok programs
-  pub free : IfSome folder (Free p (length p.offices))
-  pub told : TellsJournals p (range_with_len 0 (length p.offices)) (length programs) (is_some folder) ran
+  pub both : PlanAndSessions plan sessions
+  pub free : IfSome folder (Free both.p (length both.p.offices))
+  pub told : TellsJournals both.p (range_with_len 0 (length both.p.offices)) (length both.programs) (is_some folder) ran
   pub written : Appends old new (string_bytes ran.text)
-  pub journals : WritesFiles folder (λ place. files_of place p (λ a. get_or (map string_bytes ran.journals.items) a []) (length ran.journals.items)) kept left
+  pub journals : WritesFiles folder (λ place. files_of place both.p (λ a. get_or (map string_bytes ran.journals.items) a []) (length ran.journals.items)) kept left
 
 -- so it is with the texts that the words stand for, of a run that ended as P says
 abbrev pub RunsOffice : Bool → (List ℕ → Option (List ℕ)) → Option (List ℕ) → (plan word sessions : List ℕ) → ℕ → Option (List ℕ) → (Ran → Type 0) → Option (List ℕ) → Option (List ℕ) → Option (List File) → Option (List File) → Type 0

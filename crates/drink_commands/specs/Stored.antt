@@ -16,7 +16,7 @@ use Rattle.stored_runs.specs.declared.fault.StoredFault.TheVariants as ended
 use Rattle.command_outputs.specs.Places.{IsOther}
 use Rattle.command_inputs.specs.Plans.{IsAcceptedAs}
 use Rattle.command_outputs.specs.Fault.{IsOfStoredRun}
-use Rattle.drink_commands.specs.Run.{IsJudgedOffice, IsReached, status_with}
+use Rattle.drink_commands.specs.Run.{IsJudgedOffice, NamedOffice, status_with}
 use Rattle.command_outputs.specs.declared.fault.Obstacle.{Obstacle}
 use Rattle.command_outputs.specs.declared.fault.StoreRefusal.{StoreRefusal}
 use Rattle.command_outputs.specs.declared.fault.StoreRefusal.TheVariants as refusal
@@ -62,19 +62,13 @@ pub record IsKept (known : Option (List ℕ)) (is_new : Bool) (p : PlanValue) (m
 -- have. The office went on from what its store has, which is no input, for so many turns with its sessions among those; and what is told of
 -- that was written after what the writer held.
 pub record WritesStored (tells : Bool) (known : Option (List ℕ)) (is_new : Bool) (plan word sessions : List ℕ) (turns : ℕ) (e : Ended) (old new : Option (List ℕ)) : Type 0 where
-  pub p : PlanValue
-  pub me : ℕ
-  pub programs : List ProgramValue
-  pub is_plan : IsAcceptedAs plan p
-  pub is_office : office_named p word ≡ Some me
-  pub is_reached : IsReached p me
-  pub are_sessions : sessions_of p sessions ≡ Ok programs
+  pub named : NamedOffice plan word sessions
   pub kept : Keeping
-  pub is_kept : IsKept known is_new p me programs kept
+  pub is_kept : IsKept known is_new named.both.p named.me named.both.programs kept
   pub stands : Option (List ℕ)
   pub first : Account
   pub last : Account
-  pub goes_on : GoesOn tells p me programs turns kept stands first last e old new
+  pub goes_on : GoesOn tells named.both.p named.me named.both.programs turns kept stands first last e old new
 
 -- so it is with the texts that the words stand for, of a run that ended as P says
 abbrev pub RunsStored : Bool → (List ℕ → Option (List ℕ)) → Option (List ℕ) → Option (List ℕ) → Bool → (plan word sessions store : List ℕ) → ℕ → (Ended → Type 0) → Option (List ℕ) → Option (List ℕ) → Type 0
