@@ -1,3 +1,4 @@
+pub mod Headline
 pub mod Readers
 pub mod Resting
 pub mod Records

@@ -53,8 +53,8 @@
 //! `Memory` is answered only where the event would be accepted, and then nothing changed. No reader looks through all
 //! frames, entries or sessions.
 //!
-//! Definitions: `specs/Readers.antt` for what readers tell, `specs/Resting.antt` for what is known of offices that have
-//! nothing to do; all else is `frame_world`'s. What ties the code to them is in
+//! Definitions: `specs/Headline.antt` for what holds of every world, `specs/Readers.antt` for what readers tell,
+//! `specs/Resting.antt` for what is known of offices that have nothing to do; all else is `frame_world`'s. What ties the code to them is in
 //! `specs/refinement`. That a finished session is found by its ticket is proved in `proofs/FinishedSessions.antt`, each
 //! event in `proofs/WorldSteps.antt` and `proofs/EventSteps.antt`, runs in `proofs/Runs.antt`, the one bottle in
 //! `proofs/BottleValues.antt`, and that who rests still rests after a step in `proofs/RestingOffices.antt`.

@@ -15,6 +15,7 @@ ghost use Rattle.frame_world.specs.Standstill.{next_step, place_of, IsStep, IsNe
 ghost use Rattle.frame_world.specs.Tickets.{HaveTheirTickets, TicketsRise, TellsEachOffice};
 ghost use Rattle.dining_core.specs.Worlds.{HasNoRing};
 ghost use Rattle.serial_replay.specs.Serial.{start_map, map_of};
+ghost use Rattle.world_schedule.specs.Headline.{HasHeadline};
 ghost use Rattle.world_schedule.specs.Readers.{unfinished_in, listed_as};
 ghost use Rattle.world_schedule.specs.Records.{IsLeftBy};
 ghost use Rattle.world_schedule.specs.Resting.{RestIn, RestAfter};
@@ -216,23 +217,10 @@ impl World {
         &mut self,
         events: &[WorldEvent],
     ) -> Result<Vec<Result<Reply, WorldRefusal>>, Stopped>
+        ensures headline { HasHeadline self.new }
         ensures replies { IfOk result (λ replies. replies.items ≡ replies_of self.old events.now) }
         ensures world { OnOk result (self.new ≡ run_of self.old events.now) }
         ensures stopped { IfErr result (λ s. Stops self.old events.now s.done self.new) }
-        ensures sessions { HasSerialSessions self.new }
-        ensures tickets { HaveTheirTickets self.new }
-        ensures rise { TicketsRise self.new }
-        ensures offices { TellsEachOffice self.new }
-        ensures bottles { HasSerialValues self.new }
-        ensures places { HasOnePlaceEach self.new }
-        ensures apart { NeighboursEatApart self.new }
-        ensures eaters { EatersHaveTheirForks self.new }
-        ensures drinkers { DrinkersHaveTheirBottles self.new }
-        ensures order { HasNoRing self.new.plan (tables_of (pairs_at self.new)) }
-        ensures frames { FramesAreTaken self.new }
-        ensures early { NoneIsEarly self.new }
-        ensures bytes { FramesGoByBytes self.new }
-        ensures counts { CountsAreTimely self.new }
     {
         let replies = self.run_all(events);
         self.is_serial();
