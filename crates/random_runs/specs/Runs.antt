@@ -3,14 +3,11 @@ use Rattle.std.specs.Prelude.{◌≡◌, ◌+◌, ◌-◌, ◌<◌, ◌≤◌, �
 use Rattle.std.specs.List.{flat_map}
 use Rattle.office_map.specs.PlanValue.{PlanValue}
 use Rattle.session_meaning.specs.ProgramValue.{ProgramValue}
-use Rattle.dining_core.specs.Worlds.{HasNoRing}
 use Rattle.site_core.specs.RuleOrder.{next_rule}
 use Rattle.frame_world.specs.declared.event.WorldEvent.{WorldEvent}
 use Rattle.frame_world.specs.declared.event.WorldEvent.TheVariants as happening
 use Rattle.frame_world.specs.Worlds.{World, opening, office_at, happens, run_of}
-use Rattle.frame_world.specs.Ways.{pairs_at, tables_of}
-use Rattle.frame_world.specs.Headline.{HasSerialSessions, HasSerialValues, HasOnePlaceEach, NeighboursEatApart, EatersHaveTheirForks, DrinkersHaveTheirBottles, FramesAreTaken, NoneIsEarly, FramesGoByBytes, CountsAreTimely}
-use Rattle.frame_world.specs.Tickets.{HaveTheirTickets, TicketsRise, TellsEachOffice}
+use Rattle.world_schedule.specs.Headline.{HasHeadline}
 use Rattle.run_reports.specs.WorldReport.{world_report}
 
 -- the program that an event submits
@@ -68,23 +65,6 @@ pub record IsRun (p : PlanValue) (programs : List ProgramValue) (loss : ℕ) (w 
   pub left : List ProgramValue
   pub leads : Leads loss (opening p) w programs left
   pub refused : All (IsRefused w) left
-
--- all that holds of each world to which events lead
-pub record HasHeadline (w : World) : Type 0 where
-  pub sessions : HasSerialSessions w
-  pub tickets : HaveTheirTickets w
-  pub rise : TicketsRise w
-  pub offices : TellsEachOffice w
-  pub bottles : HasSerialValues w
-  pub places : HasOnePlaceEach w
-  pub apart : NeighboursEatApart w
-  pub eaters : EatersHaveTheirForks w
-  pub drinkers : DrinkersHaveTheirBottles w
-  pub order : HasNoRing w.plan (tables_of (pairs_at w))
-  pub frames : FramesAreTaken w
-  pub early : NoneIsEarly w
-  pub bytes : FramesGoByBytes w
-  pub counts : CountsAreTimely w
 
 -- how many sessions of a file haven't finished in a world
 abbrev pub unfinished_of : List ProgramValue → World → ℕ

@@ -3,7 +3,8 @@
 ghost use Rattle.std.specs.Prelude.{◌≡◌, All, IfOk, OnOk, length, map};
 ghost use Rattle.std.specs.String.{string_bytes};
 ghost use Rattle.frame_world.specs.Headline.{IsReached};
-ghost use Rattle.random_runs.specs.Runs.{HasHeadline, IsRefused, IsRun, Leads, Tells};
+ghost use Rattle.world_schedule.specs.Headline.{HasHeadline};
+ghost use Rattle.random_runs.specs.Runs.{IsRefused, IsRun, Leads, Tells};
 
 use crate::draws::Draws;
 use crate::schedule::Schedule;
