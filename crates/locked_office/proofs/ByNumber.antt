@@ -17,9 +17,9 @@ use Rattle.site_core.specs.Offices.{Office, Answer, frame_on, framed, answer}
 use Rattle.site_core.specs.Journals.{Site, IsLegal, office_of, noted, recorded, Steps, StepsAddTheirEntry}
 use Rattle.locked_office.specs.Calls.{Key, DeskPass, Did}
 use Rattle.site_core.specs.Growing.{link_to}
-use Rattle.locked_office.specs.Sends.{WaitsFor, SendsNumber}
+use Rattle.locked_office.specs.Sends.{WaitsFor, SendsNumber, framed_as}
 use Rattle.locked_office.specs.refinement.Holding.{Holds, GivesBack}
-use Rattle.locked_office.specs.refinement.Places.{place_in, place_at, framed_as}
+use Rattle.locked_office.specs.refinement.Places.{place_in, place_at}
 use Rattle.locked_office.proofs.Giving.{did, still, event_grew}
 
 -- ---- where it stands

@@ -1,13 +1,20 @@
--- A message that is sent by its number.
+-- A message that is sent by its number, and the frame that an answer brings.
 use Rattle.std.specs.Prelude.{◌≡◌, ℕ, ◌<◌, ◌≤◌, true, length, Option, None, Some, Result, Ok, Err}
 use Rattle.frame_codec.specs.Frame.{Fields}
 use Rattle.office_map.specs.PlanValue.{are_neighbours}
 use Rattle.window_link.specs.Windows.{used}
 use Rattle.office_journal.specs.declared.event.Event.TheVariants.{Send}
+use Rattle.office_journal.specs.declared.reply.Reply.{Reply}
 use Rattle.office_journal.specs.declared.reply.Reply.TheVariants.{Frame}
 use Rattle.office_journal.specs.declared.reply.Refusal.{Refusal}
 use Rattle.site_core.specs.Journals.{Site, noted, LacksRoom}
 use Rattle.site_core.specs.Growing.{link_to}
+
+-- the frame that an office's answer brings
+abbrev pub framed_as : Result Reply Refusal → Result (Option Fields) Refusal
+framed_as (Ok (Frame f)) = Ok (Some f)
+framed_as (Ok _) = Ok None
+framed_as (Err why) = Err why
 
 -- the message of that number waits for v: it has its number, and isn't known to be taken
 pub record WaitsFor (s : Site) (v n : ℕ) : Type 0 where

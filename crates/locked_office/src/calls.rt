@@ -10,8 +10,8 @@ ghost use Rattle.site_core.specs.Limits.{most_entries};
 ghost use Rattle.locked_office.specs.Calls.{Stays, Did, tag_of, office_with};
 ghost use Rattle.locked_office.specs.Advance.{Advances};
 ghost use Rattle.locked_office.specs.Outcomes.{outcome_of, waiting_for};
-ghost use Rattle.locked_office.specs.Sends.{WaitsFor, SomeWaits, SendsNumber};
-ghost use Rattle.locked_office.specs.refinement.Places.{place_at, framed_as};
+ghost use Rattle.locked_office.specs.Sends.{WaitsFor, SomeWaits, SendsNumber, framed_as};
+ghost use Rattle.locked_office.specs.refinement.Places.{place_at};
 ghost use Rattle.locked_office.specs.refinement.Holding.{Holds, GivesBack};
 
 use crate::advance::{Stopped, do_rules};
@@ -141,7 +141,11 @@ fn place_of(office: &Office, v: OfficeId, number: u64) -> Option<usize>
     if place < count { Some(place + 1) } else { None }
 }
 
-fn framed(reply: &Result<Reply, Refusal>) -> Result<Option<Frame>, Refusal>
+/// The frame that an office's answer brings; none where it brings another reply.
+///
+/// # Errors
+/// What the office refused.
+pub fn framed(reply: &Result<Reply, Refusal>) -> Result<Option<Frame>, Refusal>
     ensures { result ≡ framed_as reply.now }
 {
     match reply {

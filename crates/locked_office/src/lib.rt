@@ -39,7 +39,7 @@
 //! - [`Desk::submit`], [`Desk::withdraw`], [`Desk::took`] and [`Desk::send`] hand in one event (`Steps` and `Receives`, of
 //!   `site_core`), and [`Desk::take_read`] what somebody has read of bytes already (`TakesRead`). [`Desk::advance`] does the rules
 //!   that come next (`Advances`, in `specs/Advance.antt`). [`Desk::outcome`], [`Desk::waiting`], [`Desk::some_waits`] and
-//!   [`Desk::journal_part`] look, and add nothing.
+//!   [`Desk::journal_part`] look, and add nothing. [`framed`] reads the frame off an answer.
 //! - Those wait while another pass has the office. [`Desk::try_submit`], [`Desk::try_withdraw`], [`Desk::try_took`] and
 //!   [`Desk::try_outcome`] answer `Busy` instead, with the pass as it was; [`Desk::meet`] tells one pass what another has seen. They wait for nobody.
 //!
@@ -68,4 +68,5 @@ mod desk;
 pub mod laws;
 
 pub use crate::advance::Stopped;
+pub use crate::calls::framed;
 pub use crate::desk::Desk;

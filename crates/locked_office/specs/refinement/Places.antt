@@ -1,11 +1,7 @@
 -- Where a message stands among those that wait.
-use Rattle.std.specs.Prelude.{ℕ, ◌+◌, ◌-◌, nat_lt, ◌&&◌, if◌then◌else◌, length, Option, None, Some, Result, Ok, Err}
-use Rattle.frame_codec.specs.Frame.{Fields}
+use Rattle.std.specs.Prelude.{ℕ, ◌+◌, ◌-◌, nat_lt, ◌&&◌, if◌then◌else◌, length, Option, None, Some}
 use Rattle.office_map.specs.PlanValue.{are_neighbours}
 use Rattle.window_link.specs.Windows.{Sending}
-use Rattle.office_journal.specs.declared.reply.Reply.{Reply}
-use Rattle.office_journal.specs.declared.reply.Reply.TheVariants as reply
-use Rattle.office_journal.specs.declared.reply.Refusal.{Refusal}
 use Rattle.site_core.specs.Journals.{Site}
 use Rattle.site_core.specs.Growing.{link_to}
 
@@ -14,8 +10,3 @@ place_in s n = if nat_lt s.acked n && nat_lt (n - (s.acked + 1)) (length s.waiti
 
 abbrev pub place_at : Site → ℕ → ℕ → Option ℕ
 place_at s v n = if are_neighbours s.plan s.me v then place_in (link_to s v).sending n else None
-
-abbrev pub framed_as : Result Reply Refusal → Result (Option Fields) Refusal
-framed_as (Ok (reply.Frame f)) = Ok (Some f)
-framed_as (Ok _) = Ok None
-framed_as (Err why) = Err why
