@@ -17,12 +17,13 @@ use Rattle.site_core.specs.Offices.{Answer, framed, answer}
 use Rattle.site_core.specs.Growing.{link_to}
 use Rattle.site_core.specs.Journals.{Site, office_of, noted, recorded, Steps, LacksRoom}
 use Rattle.locked_office.specs.Calls.{Key, DeskPass, office_with, Does}
+use Rattle.locked_office.specs.Sends.{framed_as}
 use Rattle.socket_pump.specs.declared.pump.PumpFault.{PumpFault}
 use Rattle.socket_pump.specs.Wires.{Account}
 use Rattle.socket_pump.specs.Chains.{Made, MakesFrame, Sent}
 use Rattle.socket_pump.specs.Turns.{Told, BrokeTelling, IsFaultOf}
 use Rattle.socket_pump.specs.refinement.Counts.{Needs, Acknowledges, AcknowledgesOnly}
-use Rattle.socket_pump.specs.refinement.Stages.{AreCounts, AreFor, frame_in}
+use Rattle.socket_pump.specs.refinement.Stages.{AreCounts, AreFor}
 use Rattle.socket_pump.proofs.Left.{sees_self}
 use Rattle.socket_pump.proofs.Telling.{unchanged, one_told, none_told, told_both, broke_none, broke_both, sent_left, sent_right, sent_cases, counts_both}
 
@@ -32,8 +33,8 @@ MakesCount s tag v (Ok (Some f)) s' = (f.number ≡ 0) × (s' ≡ noted s tag (S
 MakesCount s tag v (Ok None) s' = ⊥
 MakesCount s tag v (Err why) s' = (s' ≡ s) × LacksRoom s why
 
-counted : (s s' : Site) (tag v : ℕ) (result : Result Reply Refusal) → are_neighbours s.plan s.me v ≡ true → Steps s tag (Send v 0) result s' → MakesCount s tag v (frame_in result) s'
-counted s s' tag v result near (inl m) = subst (λ (x : Result Reply Refusal). MakesCount s tag v (frame_in x) s') (sym m.0) (m.1, inr refl)
+counted : (s s' : Site) (tag v : ℕ) (result : Result Reply Refusal) → are_neighbours s.plan s.me v ≡ true → Steps s tag (Send v 0) result s' → MakesCount s tag v (framed_as result) s'
+counted s s' tag v result near (inl m) = subst (λ (x : Result Reply Refusal). MakesCount s tag v (framed_as x) s') (sym m.0) (m.1, inr refl)
 counted s s' tag v result near (inr x) = by_room (nat_le most_entries (length s.entries)) refl (x.0 ∙ ap (λ z. z.0) here) (x.1 ∙ ap (λ z. z.1) here)
   where
     f : Fields
@@ -43,11 +44,11 @@ counted s s' tag v result near (inr x) = by_room (nat_le most_entries (length s.
     here = ap (λ b. recorded s tag (Send v 0) (cond {A = Answer} b (framed (office_of s) (Some f)) (Err refusal.NotNow))) near
 
     by_room : (b : Bool) → nat_le most_entries (length s.entries) ≡ b → result ≡ (cond {A = Result Reply Refusal × Site} b (Err refusal.JournalFull, s) (Ok (Frame f), noted s tag (Send v 0) (Frame f))).0 →
-        s' ≡ (cond {A = Result Reply Refusal × Site} b (Err refusal.JournalFull, s) (Ok (Frame f), noted s tag (Send v 0) (Frame f))).1 → MakesCount s tag v (frame_in result) s'
-    by_room true h r e = subst (λ (x : Result Reply Refusal). MakesCount s tag v (frame_in x) s') (sym r) (e, inl (refl, grind (arith, nat_tests, h)))
-    by_room false h r e = subst (λ (x : Result Reply Refusal). MakesCount s tag v (frame_in x) s') (sym r) (refl, e)
+        s' ≡ (cond {A = Result Reply Refusal × Site} b (Err refusal.JournalFull, s) (Ok (Frame f), noted s tag (Send v 0) (Frame f))).1 → MakesCount s tag v (framed_as result) s'
+    by_room true h r e = subst (λ (x : Result Reply Refusal). MakesCount s tag v (framed_as x) s') (sym r) (e, inl (refl, grind (arith, nat_tests, h)))
+    by_room false h r e = subst (λ (x : Result Reply Refusal). MakesCount s tag v (framed_as x) s') (sym r) (refl, e)
 
-pub counts : (tag : ℕ) (k : Key) (p q : DeskPass) (v : ℕ) (result : Result Reply Refusal) (made : Result (Option Fields) Refusal) → are_neighbours k.0 k.1 v ≡ true → Does (λ s s'. Steps s tag (Send v 0) result s') k p q → made ≡ frame_in result → Does (λ s s'. MakesCount s tag v made s') k p q
+pub counts : (tag : ℕ) (k : Key) (p q : DeskPass) (v : ℕ) (result : Result Reply Refusal) (made : Result (Option Fields) Refusal) → are_neighbours k.0 k.1 v ≡ true → Does (λ s s'. Steps s tag (Send v 0) result s') k p q → made ≡ framed_as result → Does (λ s s'. MakesCount s tag v made s') k p q
 counts tag k p q v result made near (between, did) is = subst (λ (x : Result (Option Fields) Refusal). Does (λ s s'. MakesCount s tag v x s') k p q) (sym is)
     (between, record { done = counted (office_with k (p.seen ++ between)) (office_with k q.seen) tag v result near did.done; legal = did.legal; added = did.added; left = did.left })
 

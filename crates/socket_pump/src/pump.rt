@@ -11,13 +11,13 @@ ghost use Rattle.socket_pump.specs.Last.{last_of};
 ghost use Rattle.socket_pump.specs.Chains.{Made};
 ghost use Rattle.socket_pump.specs.Turns.{Turned, Stage, BrokeHearing, IsFaultOf, Told, BrokeTelling};
 ghost use Rattle.socket_pump.specs.refinement.Counts.{Acknowledges, AcknowledgesOnly};
-ghost use Rattle.socket_pump.specs.refinement.Stages.{HeardOne, HeardFrom, BrokeOne, Judged, frame_in, SpokeOf, SpokeTo, SpokeToAll, BrokenOf, BrokenTo, BrokenToAll, AreCounts, AreFor};
+ghost use Rattle.socket_pump.specs.refinement.Stages.{HeardOne, HeardFrom, BrokeOne, Judged, SpokeOf, SpokeTo, SpokeToAll, BrokenOf, BrokenTo, BrokenToAll, AreCounts, AreFor};
 
 use crate::last::Lasts;
 use crate::senders::Senders;
 use crate::wire::{Wire, WireFailed};
 use frame_codec::{Frame, MAX_LENGTH, decode, encode};
-use locked_office::Desk;
+use locked_office::{Desk, framed};
 use office_map::{OfficeId, Plan};
 use own_lock::Pass;
 use site_core::laws::{full_at_the_limit, links_only_grow, what_is_read_is_received};
@@ -332,17 +332,6 @@ fn send_count<R: Wait, W: Wire>(
     match put_out(wire, v, &frame) {
         Ok(()) => Ok(()),
         Err(WireFailed) => Err(PumpFault::WireFailed),
-    }
-}
-
-// The frame that an office made.
-fn framed(answer: &Result<Reply, Refusal>) -> Result<Option<Frame>, Refusal>
-    ensures { result ≡ frame_in answer.now }
-{
-    match answer {
-        Ok(Reply::Frame(frame)) => Ok(Some(*frame)),
-        Ok(_) => Ok(None),
-        Err(refusal) => Err(*refusal),
     }
 }
 

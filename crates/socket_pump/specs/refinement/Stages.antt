@@ -1,8 +1,6 @@
 -- What each function of a turn does of it.
 use Rattle.std.specs.Prelude.{◌≡◌, ℕ, ◌≤◌, ◌<◌, Bool, true, false, List, [], ◌∷◌, ◌++◌, length, Option, Some, None, Result, Ok, Err}
-use Rattle.frame_codec.specs.Frame.{Fields}
 use Rattle.office_journal.specs.declared.reply.Reply.{Reply}
-use Rattle.office_journal.specs.declared.reply.Reply.TheVariants.{Frame}
 use Rattle.office_journal.specs.declared.reply.Refusal.{Refusal}
 use Rattle.window_link.specs.Windows.{used}
 use Rattle.site_core.specs.Growing.{link_at}
@@ -36,12 +34,6 @@ BrokeOne tells tag k p a f b q = (broke : BrokeHearing tells tag k p a f b q) ×
 abbrev pub Judged : Result Bool PumpFault → Result Reply Refusal → Type 0
 Judged (Ok took) answer = Counts answer × (one_taken answer ≡ one_if took)
 Judged (Err fault) answer = (why : Refusal) × (answer ≡ Err why) × IsFaultOf why fault
-
--- the frame that an office's answer brings
-abbrev pub frame_in : Result Reply Refusal → Result (Option Fields) Refusal
-frame_in (Ok (Frame f)) = Ok (Some f)
-frame_in (Ok _) = Ok None
-frame_in (Err why) = Err why
 
 -- the numbers of these frames were used by then
 abbrev pub AreUsed : Key → DeskPass → List Made → Type 0
