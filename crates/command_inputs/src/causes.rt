@@ -6,14 +6,21 @@ use std::io::ErrorKind;
 pub fn read_cause(kind: ErrorKind) -> &'static str {
     match kind {
         ErrorKind::NotFound => "no such file",
-        ErrorKind::IsADirectory => "it is a folder",
-        ErrorKind::NotADirectory => "a part of its path is no folder",
-        ErrorKind::FilesystemLoop => "its symbolic links lead round in a ring",
-        ErrorKind::InvalidFilename => "its name is too long",
-        ErrorKind::InvalidInput => "no file can have this name",
         ErrorKind::FileTooLarge => "it has no end",
         ErrorKind::WouldBlock => "nothing is there yet, and it does not wait",
-        _ => device_cause(kind),
+        _ => path_cause(kind).unwrap_or(device_cause(kind)),
+    }
+}
+
+/// What is amiss with the path of a file, if that is why it can't be read, written or made.
+pub fn path_cause(kind: ErrorKind) -> Option<&'static str> {
+    match kind {
+        ErrorKind::IsADirectory => Some("it is a folder"),
+        ErrorKind::NotADirectory => Some("a part of its path is no folder"),
+        ErrorKind::FilesystemLoop => Some("its symbolic links lead round in a ring"),
+        ErrorKind::InvalidFilename => Some("its name is too long"),
+        ErrorKind::InvalidInput => Some("no file can have this name"),
+        _ => None,
     }
 }
 
