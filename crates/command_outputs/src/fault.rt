@@ -4,7 +4,7 @@ ghost use Rattle.std.specs.Prelude.{◌≡◌};
 ghost use Rattle.command_outputs.specs.declared.fault.Fault.TheVariants.{Memory, NoRun, Text};
 ghost use Rattle.command_outputs.specs.Fault.{input_of, refused_input};
 
-use command_inputs::causes::{WRITE_FAILED, read_cause, write_cause};
+use command_inputs::causes::{WRITE_FAILED, path_cause, read_cause, write_cause};
 use command_inputs::{Input, TextFault};
 use journal_texts::{JournalRefusal, JournalRule};
 use office_stations::{OpeningFault, RunFault};
@@ -301,13 +301,7 @@ fn file_cause(kind: ErrorKind) -> &'static str {
     match kind {
         ErrorKind::NotFound => "a folder of its path is not there",
         ErrorKind::AlreadyExists => "a file has this name",
-        ErrorKind::IsADirectory => "it is a folder",
-        ErrorKind::NotADirectory => "a part of its path is no folder",
-        ErrorKind::FilesystemLoop => "its symbolic links lead round in a ring",
-        ErrorKind::InvalidFilename => "its name is too long",
-        ErrorKind::InvalidInput => "no file can have this name",
-        ErrorKind::BrokenPipe => "its reader has gone away",
-        _ => write_cause(kind),
+        _ => path_cause(kind).unwrap_or(write_cause(kind)),
     }
 }
 
