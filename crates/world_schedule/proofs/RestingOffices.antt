@@ -29,8 +29,11 @@ use Rattle.frame_world.specs.declared.next_step.NextStep.{NextStep}
 use Rattle.frame_world.specs.declared.next_step.NextStep.TheVariants as next
 use Rattle.frame_world.specs.Worlds.{World, Answer, silent, site_at, office_at, told, handed, delivered, frame_at, happens}
 use Rattle.frame_world.specs.Ways.{pairs_at}
-use Rattle.frame_world.specs.Standstill.{sent_by, taken_of, first_of, message_to, place_of}
+use Rattle.frame_world.specs.Standstill.{sent_by, taken_of, first_of, message_to, message_from, place_of, rule_at}
 use Rattle.world_schedule.specs.Resting.{Resting, RestIn, RestAfter}
+use Rattle.world_schedule.specs.refinement.Marks.{step_at, marks_of, marked}
+use Rattle.world_schedule.specs.declared.sought.Sought.{Sought}
+use Rattle.world_schedule.specs.declared.sought.Sought.TheVariants as sought
 use Rattle.world_schedule.proofs.LinkPeers.{link_peers}
 
 -- ---- marks
@@ -52,6 +55,23 @@ cleared marks a b e = ⊎_elim
 
 abbrev pub woken : Resting → ℕ → Resting
 woken r a = record { rules = set r.rules a false; messages = set r.messages a false }
+
+-- who is marked has none
+pub marked_has_none : (w : World) (r : Resting) (k : Sought) (a : ℕ) → RestIn w r → get_or (marks_of k r) a false ≡ true → step_at k w a ≡ None
+marked_has_none w r sought.Rule a rest e = rest.rules a e
+marked_has_none w r sought.Message a rest e = rest.messages a e
+
+-- one more is marked, which has none
+one_more : (step : ℕ → Option NextStep) (marks : List Bool) (a : ℕ) → ((b : ℕ) → get_or marks b false ≡ true → step b ≡ None) → step a ≡ None
+    → (b : ℕ) → get_or (set marks a true) b false ≡ true → step b ≡ None
+one_more step marks a rest none b e = ⊎_elim
+    (λ is. ap step is ∙ none)
+    (λ ne. rest b (sym (get_or-set_other marks a b true false ne) ∙ e))
+    (cases_eq b a)
+
+pub marked_rests : (w : World) (r : Resting) (k : Sought) (a : ℕ) → RestIn w r → step_at k w a ≡ None → RestIn w (marked k r a)
+marked_rests w r sought.Rule a rest none = record { rules = one_more (rule_at w) r.rules a rest.rules none; messages = rest.messages }
+marked_rests w r sought.Message a rest none = record { rules = rest.rules; messages = one_more (message_from w) r.messages a rest.messages none }
 
 -- ---- a world in which one office went on
 

@@ -2,3 +2,4 @@ pub mod WorldOfCode
 pub mod Handing
 pub mod Bottles
 pub mod Orders
+pub mod Marks

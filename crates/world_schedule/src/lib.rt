@@ -69,6 +69,7 @@ mod next;
 mod opening;
 mod recording;
 mod resting;
+mod sought;
 mod values;
 mod world;
 

@@ -4,77 +4,73 @@ ghost use Rattle.std.specs.Prelude.{◌≡◌, ◌<◌, IsTrue, length};
 ghost use Rattle.office_map.specs.PlanValue.{are_neighbours};
 ghost use Rattle.frame_world.specs.Standstill.{first_office, rule_at, message_from, message_to, IsStep};
 ghost use Rattle.world_schedule.specs.Resting.{RestIn, RestAfter};
+ghost use Rattle.world_schedule.specs.refinement.Marks.{step_at};
 
 use crate::resting::Resting;
+use crate::sought::Sought;
 use crate::world::World;
 use frame_world::NextStep;
 use office_map::OfficeId;
 use site_core::laws::links_only_grow;
 
-/// The next rule of the least office that has one.
-pub(crate) fn next_rule(world: &World, resting: &mut Resting) -> Option<NextStep>
+/// The next rule, or the next message, of the least office that has one.
+pub(crate) fn next_of(world: &World, sought: Sought, resting: &mut Resting) -> Option<NextStep>
     requires { RestIn world.now resting.old }
-    ensures step { result ≡ first_office world.now (rule_at world.now) }
+    ensures step { result ≡ first_office world.now (step_at sought world.now) }
     ensures rest { RestIn world.now resting.new }
 {
     for a in 0..world.plan().offices() {
-        if let Some(rule) = rule_at(world, OfficeId::new(a as u8), resting) {
-            return Some(rule);
+        if let Some(found) = step_at(world, sought, OfficeId::new(a as u8), resting) {
+            return Some(found);
         }
     }
     None
+}
+
+/// The next rule of an office, or its next message.
+fn step_at(
+    world: &World,
+    sought: Sought,
+    office: OfficeId,
+    resting: &mut Resting,
+) -> Option<NextStep>
+    requires office { office < length world.now.plan.offices }
+    requires rest { RestIn world.now resting.old }
+    ensures step { result ≡ step_at sought world.now office }
+    ensures rest { RestIn world.now resting.new }
+{
+    // There are at most 16 offices.
+    let _ = world.plan().offices();
+    if resting.has_none(sought, office) {
+        return None;
+    }
+    let Some(found) = found_at(world, sought, office) else {
+        resting.found_none(sought, office);
+        return None;
+    };
+    Some(found)
+}
+
+/// The same, without a look at who is known to have none.
+fn found_at(world: &World, sought: Sought, office: OfficeId) -> Option<NextStep>
+    requires { office < length world.now.plan.offices }
+    ensures { result ≡ step_at sought world.now office }
+{
+    match sought {
+        Sought::Rule => rule_at(world, office),
+        Sought::Message => message_from(world, office),
+    }
 }
 
 /// The next rule of an office.
-fn rule_at(world: &World, office: OfficeId, resting: &mut Resting) -> Option<NextStep>
-    requires office { office < length world.now.plan.offices }
-    requires rest { RestIn world.now resting.old }
-    ensures step { result ≡ rule_at world.now office }
-    ensures rest { RestIn world.now resting.new }
+fn rule_at(world: &World, office: OfficeId) -> Option<NextStep>
+    requires { office < length world.now.plan.offices }
+    ensures { result ≡ rule_at world.now office }
 {
-    // There are at most 16 offices.
-    let _ = world.plan().offices();
-    if resting.has_no_rule(office) {
-        return None;
-    }
     let Some(rule) = world.office(office).next_rule() else {
-        resting.found_no_rule(office);
         return None;
     };
     Some(NextStep::Rule(office, rule))
-}
-
-/// The next message of the least office that has one.
-pub(crate) fn next_message(world: &World, resting: &mut Resting) -> Option<NextStep>
-    requires { RestIn world.now resting.old }
-    ensures step { result ≡ first_office world.now (message_from world.now) }
-    ensures rest { RestIn world.now resting.new }
-{
-    for a in 0..world.plan().offices() {
-        if let Some(message) = message_at(world, OfficeId::new(a as u8), resting) {
-            return Some(message);
-        }
-    }
-    None
-}
-
-/// The next message of an office.
-fn message_at(world: &World, office: OfficeId, resting: &mut Resting) -> Option<NextStep>
-    requires office { office < length world.now.plan.offices }
-    requires rest { RestIn world.now resting.old }
-    ensures step { result ≡ message_from world.now office }
-    ensures rest { RestIn world.now resting.new }
-{
-    // There are at most 16 offices.
-    let _ = world.plan().offices();
-    if resting.has_no_message(office) {
-        return None;
-    }
-    let Some(message) = message_from(world, office) else {
-        resting.found_no_message(office);
-        return None;
-    };
-    Some(message)
 }
 
 /// The next message of an office, for the least neighbour that has one to take.

@@ -1,9 +1,11 @@
 //! Which offices have nothing to do.
 
-ghost use Rattle.std.specs.Prelude.{◌≡◌, ◌<◌, true, false, get_or, set};
+ghost use Rattle.std.specs.Prelude.{◌≡◌, ◌<◌, false, get_or, set};
 ghost use Rattle.frame_world.specs.Worlds.{World};
 ghost use Rattle.world_schedule.specs.Resting.{RestIn};
+ghost use Rattle.world_schedule.specs.refinement.Marks.{marks_of, marked};
 
+use crate::sought::Sought;
 use office_map::OfficeId;
 use std::marker::Model;
 
@@ -38,32 +40,24 @@ impl Resting {
         }
     }
 
-    pub(crate) fn has_no_rule(&self, office: OfficeId) -> bool
+    pub(crate) fn has_none(&self, sought: Sought, office: OfficeId) -> bool
         requires { office < 16 }
-        ensures { result ≡ get_or self.now.rules office false }
+        ensures { result ≡ get_or (marks_of sought self.now) office false }
     {
-        self.rules[office.index()]
+        match sought {
+            Sought::Rule => self.rules[office.index()],
+            Sought::Message => self.messages[office.index()],
+        }
     }
 
-    pub(crate) fn has_no_message(&self, office: OfficeId) -> bool
+    pub(crate) fn found_none(&mut self, sought: Sought, office: OfficeId)
         requires { office < 16 }
-        ensures { result ≡ get_or self.now.messages office false }
+        ensures { self.new ≡ marked sought self.old office }
     {
-        self.messages[office.index()]
-    }
-
-    pub(crate) fn found_no_rule(&mut self, office: OfficeId)
-        requires { office < 16 }
-        ensures { self.new ≡ record { rules = set self.old.rules office true; messages = self.old.messages } }
-    {
-        self.rules[office.index()] = true;
-    }
-
-    pub(crate) fn found_no_message(&mut self, office: OfficeId)
-        requires { office < 16 }
-        ensures { self.new ≡ record { rules = self.old.rules; messages = set self.old.messages office true } }
-    {
-        self.messages[office.index()] = true;
+        match sought {
+            Sought::Rule => self.rules[office.index()] = true,
+            Sought::Message => self.messages[office.index()] = true,
+        }
     }
 
     /// It has changed, so it is asked again.

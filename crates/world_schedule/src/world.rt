@@ -24,6 +24,7 @@ use crate::finished::Finished;
 use crate::opening::offices_of;
 use crate::recording::{are_legal, marks_of};
 use crate::resting::Resting;
+use crate::sought::Sought;
 use crate::values::bottle_between;
 use crate::{happening, next};
 use bottle_values::Value;
@@ -417,11 +418,11 @@ impl World {
         if self.unfinished() == 0 {
             return NextStep::AllFinished;
         }
-        if let Some(rule) = next::next_rule(self, resting) {
+        if let Some(rule) = next::next_of(self, Sought::Rule, resting) {
             return rule;
         }
         // A session is left, so where no rule is next a message is.
-        next::next_message(self, resting).unwrap_or(NextStep::AllFinished)
+        next::next_of(self, Sought::Message, resting).unwrap_or(NextStep::AllFinished)
     }
 
     /// Where the message of that number, which is next for a neighbour, stands among those that wait for it, from 1.

@@ -3,8 +3,8 @@ use Rattle.frame_world.specs.declared.next_step.NextStep.TheVariants.{Rule}
 use Rattle.world_schedule.proofs.NextSteps.{told_rule}
 use Rattle.world_schedule.proofs.next.rule_at.Goals as goal
 
-pub returns-clause-step : goal.returns-clause-step
-returns-clause-step c =
+pub returns : goal.returns
+returns c =
     let w = c.args.world.now in
     let x = c.args.office in
     let told = told_rule w c.office.result.now x c.next_rule.result c.office.ensures.site c.office.ensures.plan c.office.ensures.number c.next_rule.ensures.first in

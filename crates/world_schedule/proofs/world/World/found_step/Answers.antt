@@ -26,25 +26,25 @@ returns-then-unfinished-eq0-clause-stands c =
 pub returns-in-Some-clause-step : goal.returns-in-Some-clause-step
 returns-in-Some-clause-step c =
     let v = c.args.self.now in
-    sym (a_rule_is_next v c.in-Some.rule (λ h. c.if-unfinished-eq0.false (c.unfinished.ensures ∙ h)) (sym c.next_rule.ensures.step ∙ c.in-Some.is))
+    sym (a_rule_is_next v c.in-Some.rule (λ h. c.if-unfinished-eq0.false (c.unfinished.ensures ∙ h)) (sym c.next_of.ensures.step ∙ c.in-Some.is))
 
 pub returns-in-Some-clause-stands : goal.returns-in-Some-clause-stands
 returns-in-Some-clause-stands c =
     let v = c.args.self.now in
     let w = c.self.inside in
-    let is = a_rule_is_next v c.in-Some.rule (λ h. c.if-unfinished-eq0.false (c.unfinished.ensures ∙ h)) (sym c.next_rule.ensures.step ∙ c.in-Some.is) in
+    let is = a_rule_is_next v c.in-Some.rule (λ h. c.if-unfinished-eq0.false (c.unfinished.ensures ∙ h)) (sym c.next_of.ensures.step ∙ c.in-Some.is) in
     let law = of_world Stands w.plan w.offices.items w.frames.items w.finished.items v c.self.invariant c.self.view_is (λ es. c.never_stuck.ensures w.plan es c.self.invariant.accepted) in
     subst (IsStep v) is law
 
 pub returns-clause-step : goal.returns-clause-step
 returns-clause-step c =
     let v = c.args.self.now in
-    c.unwrap_or.ensures ∙ sym (a_message_is_next v c.next_message.result (λ h. c.if-unfinished-eq0.false (c.unfinished.ensures ∙ h)) (sym c.next_rule.ensures.step ∙ c.in_default.is) c.next_message.ensures.step)
+    c.unwrap_or.ensures ∙ sym (a_message_is_next v c.next_of-2.result (λ h. c.if-unfinished-eq0.false (c.unfinished.ensures ∙ h)) (sym c.next_of.ensures.step ∙ c.in_default.is) c.next_of-2.ensures.step)
 
 pub returns-clause-stands : goal.returns-clause-stands
 returns-clause-stands c =
     let v = c.args.self.now in
     let w = c.self.inside in
-    let is = c.unwrap_or.ensures ∙ sym (a_message_is_next v c.next_message.result (λ h. c.if-unfinished-eq0.false (c.unfinished.ensures ∙ h)) (sym c.next_rule.ensures.step ∙ c.in_default.is) c.next_message.ensures.step) in
+    let is = c.unwrap_or.ensures ∙ sym (a_message_is_next v c.next_of-2.result (λ h. c.if-unfinished-eq0.false (c.unfinished.ensures ∙ h)) (sym c.next_of.ensures.step ∙ c.in_default.is) c.next_of-2.ensures.step) in
     let law = of_world Stands w.plan w.offices.items w.frames.items w.finished.items v c.self.invariant c.self.view_is (λ es. c.never_stuck.ensures w.plan es c.self.invariant.accepted) in
     subst (IsStep v) (sym is) law

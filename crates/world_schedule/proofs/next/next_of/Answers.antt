@@ -1,8 +1,8 @@
 use Rattle.std.proofs.Common.{◌≡◌, ◌<◌, ◌≤◌, length, sym, ap, ◌∙◌, arith}
 use Rattle.office_map.specs.PlanValue.{PlanValue}
-use Rattle.frame_world.specs.Standstill.{message_from}
+use Rattle.world_schedule.specs.refinement.Marks.{step_at}
 use Rattle.world_schedule.proofs.NextSteps.{found_in, none_yet, none_in}
-use Rattle.world_schedule.proofs.next.next_message.Goals as goal
+use Rattle.world_schedule.proofs.next.next_of.Goals as goal
 
 pub returns-in-Some-clause-step : goal.returns-in-Some-clause-step
 returns-in-Some-clause-step c =
@@ -10,7 +10,7 @@ returns-in-Some-clause-step c =
     let size : c.offices-a-end.result ≡ length w.plan.offices = c.offices-a-end.ensures.count ∙ ap (λ (p : PlanValue). length p.offices) c.plan.ensures in
     let test = c.loop-a-test.true in
     let lt : c.loop-a.a < length w.plan.offices = omega (arith, size, test) in
-    sym (found_in (message_from w) (length w.plan.offices) c.loop-a.a c.loop-a.invariant.none c.new.result c.in-Some.message lt c.new.ensures (sym c.message_at.ensures.step ∙ c.in-Some.is))
+    sym (found_in (step_at c.args.sought w) (length w.plan.offices) c.loop-a.a c.loop-a.invariant.none c.new.result c.in-Some.found lt c.new.ensures (sym c.step_at.ensures.step ∙ c.in-Some.is))
 
 pub loop-a-preserved : goal.loop-a-preserved
 loop-a-preserved c =
@@ -19,8 +19,8 @@ loop-a-preserved c =
     let test = c.loop-a-test.true in
     let lt : c.loop-a.a < length w.plan.offices = omega (arith, size, test) in
     record {
-      none = none_yet (message_from w) (length w.plan.offices) c.loop-a.a c.loop-a.invariant.none c.new.result lt c.new.ensures (sym c.message_at.ensures.step ∙ c.in_default.is);
-      rest = c.message_at.ensures.rest;
+      none = none_yet (step_at c.args.sought w) (length w.plan.offices) c.loop-a.a c.loop-a.invariant.none c.new.result lt c.new.ensures (sym c.step_at.ensures.step ∙ c.in_default.is);
+      rest = c.step_at.ensures.rest;
     }
 
 pub returns-clause-step : goal.returns-clause-step
@@ -29,4 +29,4 @@ returns-clause-step c =
     let size : c.offices-a-end.result ≡ length w.plan.offices = c.offices-a-end.ensures.count ∙ ap (λ (p : PlanValue). length p.offices) c.plan.ensures in
     let test = c.loop-a-test.false in
     let le : length w.plan.offices ≤ c.loop-a.a = omega (arith, size, test) in
-    sym (none_in (message_from w) (length w.plan.offices) c.loop-a.a c.loop-a.invariant.none le)
+    sym (none_in (step_at c.args.sought w) (length w.plan.offices) c.loop-a.a c.loop-a.invariant.none le)
