@@ -136,16 +136,24 @@ pub fn say_expected(said: &mut String, line: &[u8], form: &str) -> Result<(), Al
 pub fn say_no_office(said: &mut String, plan: &Plan, word: &[u8]) -> Result<(), AllocError> {
     say_word(said, "the plan has no office ", word, "")?;
     for number in 0..plan.offices() {
-        let name = plan.office_name(OfficeId::new(number as u8));
-        if is_alike(name.as_bytes(), word) {
-            return write!(said, "; it has `{name}`, and capital letters count");
+        if say_alike(said, plan.office_name(OfficeId::new(number as u8)), word)? {
+            break;
         }
     }
     Ok(())
 }
 
+/// Adds the name that a plan has, where the word is spelled so but for capital letters, and answers whether it is.
+pub fn say_alike(said: &mut String, name: &str, word: &[u8]) -> Result<bool, AllocError> {
+    if !is_alike(name.as_bytes(), word) {
+        return Ok(false);
+    }
+    write!(said, "; it has `{name}`, and capital letters count")?;
+    Ok(true)
+}
+
 /// Whether two words are one but for capital letters.
-pub fn is_alike(a: &[u8], b: &[u8]) -> bool {
+fn is_alike(a: &[u8], b: &[u8]) -> bool {
     a.len() == b.len() && a.iter().zip(b).all(|(x, y)| x.eq_ignore_ascii_case(y))
 }
 
