@@ -3,7 +3,7 @@
 use crate::measures::measures_of;
 use crate::place::{Block, Place, first_word, keyword_in, second_word};
 use diagnostics::shown::{
-    Quoted, Text, is_alike, say_expected, say_no_name, say_no_office, say_other_text,
+    Quoted, Text, say_alike, say_expected, say_no_name, say_no_office, say_other_text,
     say_unreadable, say_word, word_at,
 };
 use office_map::{Plan, RecordId};
@@ -400,9 +400,8 @@ fn say_unknown_record(said: &mut String, place: &Place<'_>) -> Result<(), AllocE
 fn say_no_record(said: &mut String, plan: &Plan, word: &[u8]) -> Result<(), AllocError> {
     say_word(said, "the plan has no record ", word, "")?;
     for number in 0..plan.records() {
-        let name = plan.record_name(RecordId::new(number as u16));
-        if is_alike(name.as_bytes(), word) {
-            return write!(said, "; it has `{name}`, and capital letters count");
+        if say_alike(said, plan.record_name(RecordId::new(number as u16)), word)? {
+            break;
         }
     }
     Ok(())
