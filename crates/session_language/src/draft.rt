@@ -14,7 +14,7 @@ use crate::parts::Parts;
 use crate::scope::Scope;
 use crate::spoken::{Spoken, speak};
 use office_map::{OfficeId, Plan};
-use session_meaning::measures::block_gives;
+use session_meaning::measures::block_measures;
 use session_programs::Program;
 use session_sizes::are_too_long;
 use std::alloc::Global;
@@ -124,7 +124,7 @@ impl Draft {
         if are_too_long(alloc, &self.parts.variables, &self.parts.statements)? {
             return Err(Stop::Refused(SessionRule::TooLong));
         }
-        if block_gives(&self.parts.statements) > MOST_GIVES {
+        if block_measures(&self.parts.statements).gives > MOST_GIVES {
             return Err(Stop::Refused(SessionRule::TooManyGives));
         }
         let Draft { parts } = self;

@@ -1,8 +1,7 @@
 //! Measures of sessions, exact up to 10,000, the most that a session may cost, and 10,001 beyond.
 
-ghost use Rattle.std.specs.Prelude.{◌≡◌, ◌≤◌, ◌^◌, min, max, ◌+◌, ◌*◌, length};
+ghost use Rattle.std.specs.Prelude.{◌≡◌, ◌≤◌, min, max, ◌+◌, ◌*◌};
 ghost use Rattle.session_meaning.specs.refinement.TreeOfStatements.{test_of, command_of, block_of};
-ghost use Rattle.session_meaning.specs.refinement.Postfix.{postfix};
 ghost use Rattle.session_meaning.specs.Measures.{nodes, test_nodes, cost, block_cost, gives, block_gives, statements, block_statements};
 ghost use Rattle.session_meaning.specs.refinement.Extent.{extent, block_extent};
 
@@ -12,12 +11,23 @@ use crate::tree::{Condition, Statement};
 /// One past the greatest cost of a session.
 const PAST: u32 = 10_001;
 
+/// What statements have, those in blocks included.
+#[derive(Clone, Copy)]
+pub struct Measures {
+    /// Each statement, node, condition and turn costs 1, of an `if` the dearer part.
+    pub cost: u32,
+    /// How many values they give at most.
+    pub gives: u32,
+    /// How many statements there are.
+    pub statements: u32,
+    /// How many nodes and statements there are, which bounds the bytes of their text.
+    pub extent: u32,
+}
+
 fn sum(a: u32, b: u32) -> u32
-    requires a { a ≤ 10001 }
-    requires b { b ≤ 10001 }
     ensures { result ≡ min 10001 (a + b) }
 {
-    (a + b).min(PAST)
+    a.saturating_add(b).min(PAST)
 }
 
 fn nodes(e: &Expression) -> u32
@@ -35,43 +45,140 @@ fn test_nodes(c: &Condition) -> u32
     sum(sum(1, left), right)
 }
 
-/// What statements cost: each statement, node, condition and turn 1, of an `if` the dearer part.
-#[cycle(cost)]
-pub fn block_cost(statements: &[Statement]) -> u32
-    ensures { result ≡ min 10001 (block_cost (block_of statements.now)) }
+/// What statements have, one after another, in one walk.
+#[cycle(measures)]
+pub fn block_measures(statements: &[Statement]) -> Measures
+    ensures cost { result.cost ≡ min 10001 (block_cost (block_of statements.now)) }
+    ensures gives { result.gives ≡ min 10001 (block_gives (block_of statements.now)) }
+    ensures statements { result.statements ≡ min 10001 (block_statements (block_of statements.now)) }
+    ensures extent { result.extent ≡ min 10001 (block_extent (block_of statements.now)) }
 {
-    let mut total = 0;
+    let mut all = nothing();
     for statement in statements {
-        total = sum(total, cost(statement));
+        all = both(all, measures_of(statement));
     }
-    total
+    all
 }
 
-#[cycle(cost)]
-#[tactic(auto, using(crate::specs::refinement::RowLaws::row_block_is, crate::proofs::session_measures::Saturation::capped_turns))]
-fn cost(statement: &Statement) -> u32
-    ensures { result ≡ min 10001 (cost (command_of statement.now)) }
+#[cycle(measures)]
+fn measures_of(statement: &Statement) -> Measures
+    ensures cost { result.cost ≡ min 10001 (cost (command_of statement.now)) }
+    ensures gives { result.gives ≡ min 10001 (gives (command_of statement.now)) }
+    ensures statements { result.statements ≡ min 10001 (statements (command_of statement.now)) }
+    ensures extent { result.extent ≡ min 10001 (extent (command_of statement.now)) }
 {
     match statement {
-        Statement::Let(_, e) => sum(1, nodes(e)),
-        Statement::Set(_, e) => sum(1, nodes(e)),
-        Statement::Give(e) => sum(1, nodes(e)),
-        Statement::Require(c, _) => sum(1, test_nodes(c)),
+        Statement::Let(_, e) => plain(nodes(e), 0),
+        Statement::Set(_, e) => plain(nodes(e), 0),
+        Statement::Give(e) => plain(nodes(e), 1),
+        Statement::Require(c, _) => plain(test_nodes(c), 0),
         Statement::If(c, body) => {
             let test = test_nodes(c);
-            let body = block_cost(body);
-            sum(sum(1, test), body)
+            let body = block_measures(body);
+            headed(test, body)
         }
         Statement::IfElse(c, first, second) => {
             let test = test_nodes(c);
-            let a = block_cost(first);
-            let b = block_cost(second);
-            sum(sum(1, test), a.max(b))
+            let a = block_measures(first);
+            let b = block_measures(second);
+            headed(test, either(a, b))
         }
         Statement::Repeat(turns, body) => {
-            let body = block_cost(body);
-            turns_cost(*turns, body)
+            let body = block_measures(body);
+            repeated(*turns, body)
         }
+    }
+}
+
+fn nothing() -> Measures
+    ensures cost { result.cost ≡ 0 }
+    ensures gives { result.gives ≡ 0 }
+    ensures statements { result.statements ≡ 0 }
+    ensures extent { result.extent ≡ 0 }
+{
+    Measures {
+        cost: 0,
+        gives: 0,
+        statements: 0,
+        extent: 0,
+    }
+}
+
+/// A statement without blocks, of so many nodes and tests, that gives so many values.
+fn plain(size: u32, given: u32) -> Measures
+    ensures cost { result.cost ≡ min 10001 (1 + size) }
+    ensures gives { result.gives ≡ given }
+    ensures statements { result.statements ≡ 1 }
+    ensures extent { result.extent ≡ min 10001 (1 + size) }
+{
+    Measures {
+        cost: sum(1, size),
+        gives: given,
+        statements: 1,
+        extent: sum(1, size),
+    }
+}
+
+/// One after the other.
+fn both(a: Measures, b: Measures) -> Measures
+    ensures cost { result.cost ≡ min 10001 (a.cost + b.cost) }
+    ensures gives { result.gives ≡ min 10001 (a.gives + b.gives) }
+    ensures statements { result.statements ≡ min 10001 (a.statements + b.statements) }
+    ensures extent { result.extent ≡ min 10001 (a.extent + b.extent) }
+{
+    Measures {
+        cost: sum(a.cost, b.cost),
+        gives: sum(a.gives, b.gives),
+        statements: sum(a.statements, b.statements),
+        extent: sum(a.extent, b.extent),
+    }
+}
+
+/// Two parts of which one is run.
+fn either(a: Measures, b: Measures) -> Measures
+    ensures cost { result.cost ≡ max a.cost b.cost }
+    ensures gives { result.gives ≡ max a.gives b.gives }
+    ensures statements { result.statements ≡ min 10001 (a.statements + b.statements) }
+    ensures extent { result.extent ≡ min 10001 (a.extent + b.extent) }
+{
+    Measures {
+        cost: a.cost.max(b.cost),
+        gives: a.gives.max(b.gives),
+        statements: sum(a.statements, b.statements),
+        extent: sum(a.extent, b.extent),
+    }
+}
+
+/// A body under a test of so many nodes.
+fn headed(test: u32, body: Measures) -> Measures
+    ensures cost { result.cost ≡ min 10001 (1 + test + body.cost) }
+    ensures gives { result.gives ≡ body.gives }
+    ensures statements { result.statements ≡ min 10001 (1 + body.statements) }
+    ensures extent { result.extent ≡ min 10001 (1 + test + body.extent) }
+{
+    let head = sum(1, test);
+    Measures {
+        cost: sum(head, body.cost),
+        gives: body.gives,
+        statements: sum(1, body.statements),
+        extent: sum(head, body.extent),
+    }
+}
+
+/// A body that is run so many times.
+fn repeated(turns: u16, body: Measures) -> Measures
+    requires cost { body.cost ≤ 10001 }
+    requires gives { body.gives ≤ 10001 }
+    ensures cost { result.cost ≡ min 10001 (1 + turns * (1 + body.cost)) }
+    ensures gives { result.gives ≡ min 10001 (turns * body.gives) }
+    ensures statements { result.statements ≡ min 10001 (1 + body.statements) }
+    ensures extent { result.extent ≡ min 10001 (1 + body.extent) }
+{
+    Measures {
+        cost: turns_cost(turns, body.cost),
+        gives: turns_gives(turns, body.gives),
+        statements: sum(1, body.statements),
+        extent: sum(1, body.extent),
     }
 }
 
@@ -82,108 +189,9 @@ fn turns_cost(turns: u16, body: u32) -> u32
     (1 + turns as u32 * (1 + body)).min(PAST)
 }
 
-/// How many values statements give at most.
-#[cycle(gives)]
-pub fn block_gives(statements: &[Statement]) -> u32
-    ensures { result ≡ min 10001 (block_gives (block_of statements.now)) }
-{
-    let mut total = 0;
-    for statement in statements {
-        total = sum(total, gives(statement));
-    }
-    total
-}
-
-#[cycle(gives)]
-fn gives(statement: &Statement) -> u32
-    ensures { result ≡ min 10001 (gives (command_of statement.now)) }
-{
-    match statement {
-        Statement::Let(_, _) | Statement::Set(_, _) | Statement::Require(_, _) => 0,
-        Statement::Give(_) => 1,
-        Statement::If(_, body) => block_gives(body),
-        Statement::IfElse(_, first, second) => {
-            let a = block_gives(first);
-            let b = block_gives(second);
-            a.max(b)
-        }
-        Statement::Repeat(turns, body) => {
-            let body = block_gives(body);
-            turns_gives(*turns, body)
-        }
-    }
-}
-
 fn turns_gives(turns: u16, body: u32) -> u32
     requires body { body ≤ 10001 }
     ensures { result ≡ min 10001 (turns * body) }
 {
     (turns as u32 * body).min(PAST)
-}
-
-/// How many statements there are, those in blocks included.
-#[cycle(statements)]
-pub fn block_statements(statements: &[Statement]) -> u32
-    ensures { result ≡ min 10001 (block_statements (block_of statements.now)) }
-{
-    let mut total = 0;
-    for statement in statements {
-        total = sum(total, count_statements(statement));
-    }
-    total
-}
-
-#[cycle(statements)]
-fn count_statements(statement: &Statement) -> u32
-    ensures { result ≡ min 10001 (statements (command_of statement.now)) }
-{
-    match statement {
-        Statement::Let(_, _)
-        | Statement::Set(_, _)
-        | Statement::Give(_)
-        | Statement::Require(_, _) => 1,
-        Statement::If(_, body) => sum(1, block_statements(body)),
-        Statement::IfElse(_, first, second) => {
-            let a = block_statements(first);
-            let b = block_statements(second);
-            sum(sum(1, a), b)
-        }
-        Statement::Repeat(_, body) => sum(1, block_statements(body)),
-    }
-}
-
-/// How many nodes and statements there are, those in blocks included, which bounds the bytes of their text.
-#[cycle(extent)]
-pub fn block_extent(statements: &[Statement]) -> u32
-    ensures { result ≡ min 10001 (block_extent (block_of statements.now)) }
-{
-    let mut total = 0;
-    for statement in statements {
-        total = sum(total, extent(statement));
-    }
-    total
-}
-
-#[cycle(extent)]
-fn extent(statement: &Statement) -> u32
-    ensures { result ≡ min 10001 (extent (command_of statement.now)) }
-{
-    match statement {
-        Statement::Let(_, e) => sum(1, nodes(e)),
-        Statement::Set(_, e) => sum(1, nodes(e)),
-        Statement::Give(e) => sum(1, nodes(e)),
-        Statement::Require(c, _) => sum(1, test_nodes(c)),
-        Statement::If(c, body) => {
-            let test = test_nodes(c);
-            let body = block_extent(body);
-            sum(sum(1, test), body)
-        }
-        Statement::IfElse(c, first, second) => {
-            let test = test_nodes(c);
-            let a = block_extent(first);
-            let b = block_extent(second);
-            sum(sum(sum(1, test), a), b)
-        }
-        Statement::Repeat(_, body) => sum(1, block_extent(body)),
-    }
 }

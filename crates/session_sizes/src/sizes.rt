@@ -14,7 +14,7 @@ ghost use Rattle.session_sizes.specs.refinement.TextSizes.{ranks_of, bytes_of, a
 
 use crate::limits::{MOST_BYTES, MOST_COST, MOST_STATEMENTS, PAST_BYTES, SHORT_EXTENT};
 use bottle_values::Value;
-use session_meaning::measures::{block_cost, block_extent, block_statements};
+use session_meaning::measures::block_measures;
 use session_meaning::{Condition, Expression, Node, Operator, Statement};
 use session_programs::{Rank, comparison_text, magnitude};
 use std::alloc::{AllocError, Global};
@@ -30,13 +30,14 @@ pub fn are_too_long(
     requires { IsDeclared variables.now (block_of statements.now) }
     ensures { IfOk result (λ b. b ≡ are_too_long variables.now (block_of statements.now)) }
 {
-    if block_statements(statements) > MOST_STATEMENTS {
+    let measures = block_measures(statements);
+    if measures.statements > MOST_STATEMENTS {
         return Ok(true);
     }
-    if block_cost(statements) > MOST_COST {
+    if measures.cost > MOST_COST {
         return Ok(true);
     }
-    if block_extent(statements) <= SHORT_EXTENT {
+    if measures.extent <= SHORT_EXTENT {
         return Ok(false);
     }
     Ok(session_size(alloc, variables, statements)? > MOST_BYTES)

@@ -5,8 +5,8 @@ use Rattle.session_meaning.specs.refinement.Extent.{block_extent}
 use Rattle.session_sizes.proofs.ExtentBoundsSize.{short_by_extent}
 use Rattle.session_sizes.proofs.sizes.are_too_long.Goals as goal
 
-pub returns-then-block_extent-le-SHORT_EXTENT : goal.returns-then-block_extent-le-SHORT_EXTENT
-returns-then-block_extent-le-SHORT_EXTENT c =
+pub returns-then-measures-le-SHORT_EXTENT : goal.returns-then-measures-le-SHORT_EXTENT
+returns-then-measures-le-SHORT_EXTENT c =
     let few : block_statements (block_of c.args.statements.now) ≤ 256 = search rules in
     let cheap : block_cost (block_of c.args.statements.now) ≤ 10000 = search rules in
     let little : block_extent (block_of c.args.statements.now) ≤ 681 = search rules in
