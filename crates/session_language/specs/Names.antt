@@ -68,21 +68,20 @@ element_of s Times = element.Times
 element_of s Open = element.Open
 element_of s Close = element.Close
 
+-- what is so of a token's operand; of a token without one it is so
+abbrev pub of_operand : (Operand → Bool) → Token → Bool
+of_operand so (Leaf x) = so x
+of_operand so Plus = true
+of_operand so Minus = true
+of_operand so Times = true
+of_operand so Open = true
+of_operand so Close = true
+
 abbrev pub token_variable : Scope → Token → Bool
-token_variable s (Leaf x) = knows_variable s x
-token_variable s Plus = true
-token_variable s Minus = true
-token_variable s Times = true
-token_variable s Open = true
-token_variable s Close = true
+token_variable s = of_operand (knows_variable s)
 
 abbrev pub token_record : Scope → Token → Bool
-token_record s (Leaf x) = knows_record s x
-token_record s Plus = true
-token_record s Minus = true
-token_record s Times = true
-token_record s Open = true
-token_record s Close = true
+token_record s = of_operand (knows_record s)
 
 abbrev pub knows_variables : Scope → List Token → Bool
 knows_variables s = list_all (token_variable s)
