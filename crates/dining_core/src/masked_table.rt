@@ -1,11 +1,11 @@
 //! A table with masks beside it: what is done next of it, without a look at each neighbour.
 
-ghost use Rattle.std.specs.Prelude.{◌≡◌, ◌<◌, ◌↔◌, ℕ, length, IsErr, IfOk, OnOk, OnErr, true, false, ◌&&◌};
+ghost use Rattle.std.specs.Prelude.{◌≡◌, ◌<◌, ℕ, length, IfOk, true, false, ◌&&◌};
 ghost use Rattle.std.specs.List.{list_all};
 ghost use Rattle.bit_masks.specs.Sets.{is_in16, IsLeast};
 ghost use Rattle.bottle_values.specs.Lists.{is_among};
-ghost use Rattle.dining_core.specs.Diners.{BecomeHungry, AskFork, GiveFork, Eat, Leave, may, act, with_token, with_fork, diner_at_start};
-ghost use Rattle.dining_core.specs.refinement.Tables.{diner_of};
+ghost use Rattle.dining_core.specs.Diners.{BecomeHungry, AskFork, GiveFork, Eat, Leave, may, with_token, with_fork, diner_at_start};
+ghost use Rattle.dining_core.specs.refinement.Tables.{DoesRule, diner_of};
 ghost use Rattle.dining_core.specs.refinement.Masks.{Tells};
 
 use crate::fault::NotNow;
@@ -107,9 +107,7 @@ impl MaskedTable {
 
     /// A thinking office that is thirsty becomes hungry.
     pub fn hungry(&mut self, thirsty: bool) -> Result<(), NotNow>
-        ensures not_now { IsErr result ↔ (may (diner_of self.old) (BecomeHungry thirsty) ≡ false) }
-        ensures done { OnOk result (diner_of self.new ≡ act (diner_of self.old) (BecomeHungry thirsty)) }
-        ensures unchanged { OnErr result (self.new ≡ self.old) }
+        ensures { DoesRule (BecomeHungry thirsty) result self.old self.new }
     {
         self.table.hungry(thirsty)?;
         Ok(())
@@ -117,9 +115,7 @@ impl MaskedTable {
 
     /// A hungry office sends the request token of a fork that isn't here.
     pub fn ask_fork(&mut self, v: OfficeId) -> Result<(), NotNow>
-        ensures not_now { IsErr result ↔ (may (diner_of self.old) (AskFork v) ≡ false) }
-        ensures done { OnOk result (diner_of self.new ≡ act (diner_of self.old) (AskFork v)) }
-        ensures unchanged { OnErr result (self.new ≡ self.old) }
+        ensures { DoesRule (AskFork v) result self.old self.new }
     {
         self.table.ask_fork(v)?;
         self.tokens.clear(v.number() as u32);
@@ -128,9 +124,7 @@ impl MaskedTable {
 
     /// An office that doesn't eat sends a dirty fork to the neighbour who asked for it.
     pub fn give_fork(&mut self, v: OfficeId) -> Result<(), NotNow>
-        ensures not_now { IsErr result ↔ (may (diner_of self.old) (GiveFork v) ≡ false) }
-        ensures done { OnOk result (diner_of self.new ≡ act (diner_of self.old) (GiveFork v)) }
-        ensures unchanged { OnErr result (self.new ≡ self.old) }
+        ensures { DoesRule (GiveFork v) result self.old self.new }
     {
         self.table.give_fork(v)?;
         self.held.clear(v.number() as u32);
@@ -139,9 +133,7 @@ impl MaskedTable {
 
     /// A hungry office that has all its forks eats, and each of them is dirty.
     pub fn eat(&mut self) -> Result<(), NotNow>
-        ensures not_now { IsErr result ↔ (may (diner_of self.old) Eat ≡ false) }
-        ensures done { OnOk result (diner_of self.new ≡ act (diner_of self.old) Eat) }
-        ensures unchanged { OnErr result (self.new ≡ self.old) }
+        ensures { DoesRule Eat result self.old self.new }
     {
         if !self.may_eat() {
             return Err(NotNow);
@@ -153,9 +145,7 @@ impl MaskedTable {
 
     /// An eating office that isn't thirsty thinks again.
     pub fn leave(&mut self, thirsty: bool) -> Result<(), NotNow>
-        ensures not_now { IsErr result ↔ (may (diner_of self.old) (Leave thirsty) ≡ false) }
-        ensures done { OnOk result (diner_of self.new ≡ act (diner_of self.old) (Leave thirsty)) }
-        ensures unchanged { OnErr result (self.new ≡ self.old) }
+        ensures { DoesRule (Leave thirsty) result self.old self.new }
     {
         self.table.leave(thirsty)?;
         Ok(())

@@ -1,9 +1,9 @@
 //! One office's forks.
 
-ghost use Rattle.std.specs.Prelude.{◌≡◌, ◌<◌, ◌↔◌, length, IsErr, IfOk, OnOk, OnErr, All, true, false, ◌==◌};
+ghost use Rattle.std.specs.Prelude.{◌≡◌, ◌<◌, length, IfOk, All, true, false, ◌==◌};
 ghost use Rattle.std.specs.List.{list_any};
 ghost use Rattle.dining_core.specs.Diners.{BecomeHungry, AskFork, GiveFork, Eat, Leave, may, act, with_token, with_fork, diner_at_start};
-ghost use Rattle.dining_core.specs.refinement.Tables.{diner_of, holds, has_clean, has_token};
+ghost use Rattle.dining_core.specs.refinement.Tables.{DoesRule, diner_of, holds, has_clean, has_token};
 
 use crate::fault::NotNow;
 use crate::phase::Phase;
@@ -122,9 +122,7 @@ impl Table {
 
     /// A thinking office that is thirsty becomes hungry.
     pub fn hungry(&mut self, thirsty: bool) -> Result<(), NotNow>
-        ensures not_now { IsErr result ↔ (may (diner_of self.old) (BecomeHungry thirsty) ≡ false) }
-        ensures done { OnOk result (diner_of self.new ≡ act (diner_of self.old) (BecomeHungry thirsty)) }
-        ensures unchanged { OnErr result (self.new ≡ self.old) }
+        ensures { DoesRule (BecomeHungry thirsty) result self.old self.new }
     {
         if !self.may_be_hungry(thirsty) {
             return Err(NotNow);
@@ -135,9 +133,7 @@ impl Table {
 
     /// A hungry office sends the request token of a fork that isn't here.
     pub fn ask_fork(&mut self, v: OfficeId) -> Result<(), NotNow>
-        ensures not_now { IsErr result ↔ (may (diner_of self.old) (AskFork v) ≡ false) }
-        ensures done { OnOk result (diner_of self.new ≡ act (diner_of self.old) (AskFork v)) }
-        ensures unchanged { OnErr result (self.new ≡ self.old) }
+        ensures { DoesRule (AskFork v) result self.old self.new }
     {
         let place = places::at(&self.places, v);
         if !(matches!(self.phase, Phase::Hungry) && place.is_askable()) {
@@ -152,9 +148,7 @@ impl Table {
 
     /// An office that doesn't eat sends a dirty fork to the neighbour who asked for it.
     pub fn give_fork(&mut self, v: OfficeId) -> Result<(), NotNow>
-        ensures not_now { IsErr result ↔ (may (diner_of self.old) (GiveFork v) ≡ false) }
-        ensures done { OnOk result (diner_of self.new ≡ act (diner_of self.old) (GiveFork v)) }
-        ensures unchanged { OnErr result (self.new ≡ self.old) }
+        ensures { DoesRule (GiveFork v) result self.old self.new }
     {
         if matches!(self.phase, Phase::Eating) {
             return Err(NotNow);
@@ -168,9 +162,7 @@ impl Table {
 
     /// A hungry office that has all its forks eats, and each of them is dirty.
     pub fn eat(&mut self) -> Result<(), NotNow>
-        ensures not_now { IsErr result ↔ (may (diner_of self.old) Eat ≡ false) }
-        ensures done { OnOk result (diner_of self.new ≡ act (diner_of self.old) Eat) }
-        ensures unchanged { OnErr result (self.new ≡ self.old) }
+        ensures { DoesRule Eat result self.old self.new }
     {
         if !self.may_eat() {
             return Err(NotNow);
@@ -189,9 +181,7 @@ impl Table {
 
     /// An eating office that isn't thirsty thinks again.
     pub fn leave(&mut self, thirsty: bool) -> Result<(), NotNow>
-        ensures not_now { IsErr result ↔ (may (diner_of self.old) (Leave thirsty) ≡ false) }
-        ensures done { OnOk result (diner_of self.new ≡ act (diner_of self.old) (Leave thirsty)) }
-        ensures unchanged { OnErr result (self.new ≡ self.old) }
+        ensures { DoesRule (Leave thirsty) result self.old self.new }
     {
         if !self.may_leave(thirsty) {
             return Err(NotNow);

@@ -1,11 +1,11 @@
 -- The table that the code keeps, and the office that it means.
-use Rattle.std.specs.Prelude.{ℕ, Bool, true, false, List, get_or, ◌&&◌, not}
+use Rattle.std.specs.Prelude.{◌≡◌, ℕ, Bool, true, false, List, get_or, ◌&&◌, not, ◌↔◌, Result, IsErr, OnOk, OnErr}
 use Rattle.office_map.specs.PlanValue.{PlanValue, are_neighbours, fork_starts_at}
 use Rattle.dining_core.specs.declared.phase.Phase.{Phase}
 use Rattle.dining_core.specs.declared.shared_fork.Fork.{Fork}
 use Rattle.dining_core.specs.declared.shared_fork.Fork.TheVariants.{Away, Dirty, Clean}
 use Rattle.dining_core.specs.declared.shared_fork.SharedFork.{SharedFork}
-use Rattle.dining_core.specs.Diners.{Diner}
+use Rattle.dining_core.specs.Diners.{Diner, ForkRule, may, act}
 
 -- what a contract sees of a table: a place for each office
 pub record TableValue : Type 0 where
@@ -42,6 +42,12 @@ has_token ps v = (place_at ps v).token
 -- the office that a table means
 abbrev pub diner_of : TableValue → Diner
 diner_of t = record { neighbours = t.neighbours; phase = t.phase; held = holds t.places; clean = has_clean t.places; token = has_token t.places }
+
+-- what a call answers that does a rule: it is refused just where the rule may not be done, and then nothing changed
+pub record DoesRule {T E : Type 0} (rule : ForkRule) (result : Result T E) (old new : TableValue) : Type 0 where
+  pub not_now : IsErr result ↔ (may (diner_of old) rule ≡ false)
+  pub done : OnOk result (diner_of new ≡ act (diner_of old) rule)
+  pub unchanged : OnErr result (new ≡ old)
 
 -- a fork that was used
 abbrev pub used : Fork → Fork
