@@ -1,11 +1,11 @@
 //! One office's bottles.
 
-ghost use Rattle.std.specs.Prelude.{◌≡◌, ◌<◌, ◌↔◌, length, IsErr, IfOk, OnOk, OnErr, All, true, false, ◌&&◌, ◌||◌};
+ghost use Rattle.std.specs.Prelude.{◌≡◌, ◌<◌, length, IfOk, All, true, false, ◌&&◌, ◌||◌};
 ghost use Rattle.std.specs.List.{list_all};
 ghost use Rattle.std.specs.Option.{ForSome, option_copied};
 ghost use Rattle.dining_core.specs.refinement.Tables.{diner_of};
-ghost use Rattle.drinking_core.specs.Drinkers.{Start, AskBottle, GiveBottle, Drink, Finish, Withdraw, may, act, with_token, with_bottle, is_served, is_drinking, holds, opened};
-ghost use Rattle.drinking_core.specs.refinement.Bars.{drinker_of};
+ghost use Rattle.drinking_core.specs.Drinkers.{Start, AskBottle, GiveBottle, Drink, Finish, Withdraw, may, with_token, with_bottle, is_served, is_drinking, holds, opened};
+ghost use Rattle.drinking_core.specs.refinement.Bars.{DoesRule, drinker_of};
 ghost use Rattle.drinking_core.specs.refinement.Masks.{IsSpot, Tells};
 ghost use Rattle.bottle_values.specs.Lists.{is_among};
 
@@ -179,9 +179,7 @@ impl Bar {
     /// the guard: `None` is `NotNow`, and no check is made twice.
     pub fn start(&mut self, session: Option<&[RecordId]>) -> Result<(), NotNow>
         requires { ForSome session (λ rs. All (λ r. is_among (drinker_of self.old).records r ≡ true) rs.now) }
-        ensures not_now { IsErr result ↔ (may (drinker_of self.old) (Start (option_copied session.entry)) ≡ false) }
-        ensures done { OnOk result (drinker_of self.new ≡ act (drinker_of self.old) (Start (option_copied session.entry))) }
-        ensures unchanged { OnErr result (self.new ≡ self.old) }
+        ensures { DoesRule (Start (option_copied session.entry)) result self.old self.new }
     {
         let Some(records) = session else {
             return Err(NotNow);
@@ -196,9 +194,7 @@ impl Bar {
 
     /// A thirsty office sends the request token of a bottle that its session needs and that isn't here.
     pub fn ask_bottle(&mut self, r: RecordId) -> Result<(), NotNow>
-        ensures not_now { IsErr result ↔ (may (drinker_of self.old) (AskBottle r) ≡ false) }
-        ensures done { OnOk result (drinker_of self.new ≡ act (drinker_of self.old) (AskBottle r)) }
-        ensures unchanged { OnErr result (self.new ≡ self.old) }
+        ensures { DoesRule (AskBottle r) result self.old self.new }
     {
         if !self.phase.is_thirsty() {
             return Err(NotNow);
@@ -220,9 +216,7 @@ impl Bar {
     /// An office sends a bottle that is asked for, with its value, unless its session needs the bottle and works, or
     /// needs it and has the fork.
     pub fn give_bottle(&mut self, r: RecordId, table: &Table) -> Result<(), NotNow>
-        ensures not_now { IsErr result ↔ (may (drinker_of self.old) (GiveBottle r (diner_of table.now).held) ≡ false) }
-        ensures done { OnOk result (drinker_of self.new ≡ act (drinker_of self.old) (GiveBottle r (diner_of table.now).held)) }
-        ensures unchanged { OnErr result (self.new ≡ self.old) }
+        ensures { DoesRule (GiveBottle r (diner_of table.now).held) result self.old self.new }
     {
         let place = places::at(&self.places, r);
         if !place.is_owed() {
@@ -250,9 +244,7 @@ impl Bar {
 
     /// A thirsty office that has all bottles that its session needs begins to work.
     pub fn drink(&mut self) -> Result<(), NotNow>
-        ensures not_now { IsErr result ↔ (may (drinker_of self.old) Drink ≡ false) }
-        ensures done { OnOk result (drinker_of self.new ≡ act (drinker_of self.old) Drink) }
-        ensures unchanged { OnErr result (self.new ≡ self.old) }
+        ensures { DoesRule Drink result self.old self.new }
     {
         if !self.may_drink() {
             return Err(NotNow);
@@ -270,9 +262,7 @@ impl Bar {
     /// refusal would have no case, and the caller has nothing to show. It takes a slice, as `RecordValues::as_slice`
     /// lends it: nothing is copied.
     pub fn finish(&mut self, writes: Option<&[(RecordId, Value)]>) -> Result<(), NotNow>
-        ensures not_now { IsErr result ↔ (may (drinker_of self.old) (Finish (option_copied writes.entry)) ≡ false) }
-        ensures done { OnOk result (drinker_of self.new ≡ act (drinker_of self.old) (Finish (option_copied writes.entry))) }
-        ensures unchanged { OnErr result (self.new ≡ self.old) }
+        ensures { DoesRule (Finish (option_copied writes.entry)) result self.old self.new }
     {
         let Some(writes) = writes else {
             return Err(NotNow);
@@ -289,9 +279,7 @@ impl Bar {
     /// A thirsty office's session is withdrawn: the office is tranquil again and needs no record. A bottle that was asked
     /// for still comes.
     pub fn withdraw(&mut self) -> Result<(), NotNow>
-        ensures not_now { IsErr result ↔ (may (drinker_of self.old) Withdraw ≡ false) }
-        ensures done { OnOk result (drinker_of self.new ≡ act (drinker_of self.old) Withdraw) }
-        ensures unchanged { OnErr result (self.new ≡ self.old) }
+        ensures { DoesRule Withdraw result self.old self.new }
     {
         if !self.may_withdraw() {
             return Err(NotNow);

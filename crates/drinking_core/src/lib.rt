@@ -2,8 +2,9 @@
 //!
 //! - A [`Bar`] is an office's side: its phase, which records its session needs, and of each of its records the bottle
 //!   with its value, if it is here, and whether the bottle's request token is. Each rule call is its row: `NotNow`
-//!   exactly where the guard is false (clause `not_now`), and else its effect (clause `done`). The rows are `may` and
-//!   `act` in `specs/Drinkers.antt`; `drinker_of`, in `specs/refinement/Bars.antt`, says which office a bar means.
+//!   exactly where the guard is false (`not_now`), and else its effect (`done`): `DoesRule`, in
+//!   `specs/refinement/Bars.antt`, beside `drinker_of`, which says which office a bar means. The rows are `may` and
+//!   `act` in `specs/Drinkers.antt`.
 //! - [`laws`] has all bars with the bottles and request tokens on the way (`specs/Worlds.antt`): each bottle and each
 //!   token has one place, and only the end of a session changes the value of a bottle. Where all stand still
 //!   (`specs/Standstill.antt`), a thirsty office lacks a fork.

@@ -1,12 +1,12 @@
 //! A bar with masks beside it: what is done next of it, without a look at each record.
 
-ghost use Rattle.std.specs.Prelude.{◌≡◌, ◌<◌, ◌≤◌, ◌↔◌, ℕ, length, find, IsErr, IfOk, OnOk, OnErr, All, true, false};
+ghost use Rattle.std.specs.Prelude.{◌≡◌, ◌<◌, ◌≤◌, ℕ, length, find, IfOk, All, true, false};
 ghost use Rattle.std.specs.Option.{ForSome, option_copied};
 ghost use Rattle.bit_masks.specs.Sets.{is_in128};
 ghost use Rattle.bottle_values.specs.Lists.{is_among};
 ghost use Rattle.dining_core.specs.refinement.Tables.{diner_of};
-ghost use Rattle.drinking_core.specs.Drinkers.{Start, AskBottle, GiveBottle, Drink, Finish, Withdraw, may, act, with_token, with_bottle, holds, opened};
-ghost use Rattle.drinking_core.specs.refinement.Bars.{drinker_of};
+ghost use Rattle.drinking_core.specs.Drinkers.{Start, AskBottle, GiveBottle, Drink, Finish, Withdraw, may, with_token, with_bottle, holds, opened};
+ghost use Rattle.drinking_core.specs.refinement.Bars.{DoesRule, drinker_of};
 ghost use Rattle.drinking_core.specs.refinement.Masks.{record_at, Tells};
 
 use crate::bar::Bar;
@@ -91,9 +91,7 @@ impl MaskedBar {
     /// A tranquil office begins with the first waiting session, which needs these records; none where no session waits.
     pub fn start(&mut self, session: Option<&[RecordId]>) -> Result<(), NotNow>
         requires { ForSome session (λ rs. All (λ r. is_among (drinker_of self.old).records r ≡ true) rs.now) }
-        ensures not_now { IsErr result ↔ (may (drinker_of self.old) (Start (option_copied session.entry)) ≡ false) }
-        ensures done { OnOk result (drinker_of self.new ≡ act (drinker_of self.old) (Start (option_copied session.entry))) }
-        ensures unchanged { OnErr result (self.new ≡ self.old) }
+        ensures { DoesRule (Start (option_copied session.entry)) result self.old self.new }
     {
         self.bar.start(session)?;
         Ok(())
@@ -101,9 +99,7 @@ impl MaskedBar {
 
     /// A thirsty office sends the request token of a bottle that its session needs and that isn't here.
     pub fn ask_bottle(&mut self, r: RecordId) -> Result<(), NotNow>
-        ensures not_now { IsErr result ↔ (may (drinker_of self.old) (AskBottle r) ≡ false) }
-        ensures done { OnOk result (drinker_of self.new ≡ act (drinker_of self.old) (AskBottle r)) }
-        ensures unchanged { OnErr result (self.new ≡ self.old) }
+        ensures { DoesRule (AskBottle r) result self.old self.new }
     {
         self.bar.ask_bottle(r)?;
         self.tokens.clear(self.bar.spot(r));
@@ -113,9 +109,7 @@ impl MaskedBar {
     /// An office sends a bottle that is asked for, with its value, unless its session needs the bottle and works, or
     /// needs it and has the fork.
     pub fn give_bottle(&mut self, r: RecordId, table: &Table) -> Result<(), NotNow>
-        ensures not_now { IsErr result ↔ (may (drinker_of self.old) (GiveBottle r (diner_of table.now).held) ≡ false) }
-        ensures done { OnOk result (drinker_of self.new ≡ act (drinker_of self.old) (GiveBottle r (diner_of table.now).held)) }
-        ensures unchanged { OnErr result (self.new ≡ self.old) }
+        ensures { DoesRule (GiveBottle r (diner_of table.now).held) result self.old self.new }
     {
         self.bar.give_bottle(r, table)?;
         Ok(())
@@ -123,9 +117,7 @@ impl MaskedBar {
 
     /// A thirsty office that has all bottles that its session needs begins to work.
     pub fn drink(&mut self) -> Result<(), NotNow>
-        ensures not_now { IsErr result ↔ (may (drinker_of self.old) Drink ≡ false) }
-        ensures done { OnOk result (drinker_of self.new ≡ act (drinker_of self.old) Drink) }
-        ensures unchanged { OnErr result (self.new ≡ self.old) }
+        ensures { DoesRule Drink result self.old self.new }
     {
         self.bar.drink()?;
         Ok(())
@@ -135,9 +127,7 @@ impl MaskedBar {
     /// the work hasn't ended. Where a record is written twice, the last value counts. What is written to a record
     /// whose bottle isn't here is lost.
     pub fn finish(&mut self, writes: Option<&[(RecordId, Value)]>) -> Result<(), NotNow>
-        ensures not_now { IsErr result ↔ (may (drinker_of self.old) (Finish (option_copied writes.entry)) ≡ false) }
-        ensures done { OnOk result (drinker_of self.new ≡ act (drinker_of self.old) (Finish (option_copied writes.entry))) }
-        ensures unchanged { OnErr result (self.new ≡ self.old) }
+        ensures { DoesRule (Finish (option_copied writes.entry)) result self.old self.new }
     {
         self.bar.finish(writes)?;
         Ok(())
@@ -146,9 +136,7 @@ impl MaskedBar {
     /// A thirsty office's session is withdrawn: the office is tranquil again and needs no record. A bottle that was asked
     /// for still comes.
     pub fn withdraw(&mut self) -> Result<(), NotNow>
-        ensures not_now { IsErr result ↔ (may (drinker_of self.old) Withdraw ≡ false) }
-        ensures done { OnOk result (drinker_of self.new ≡ act (drinker_of self.old) Withdraw) }
-        ensures unchanged { OnErr result (self.new ≡ self.old) }
+        ensures { DoesRule Withdraw result self.old self.new }
     {
         self.bar.withdraw()?;
         Ok(())

@@ -1,5 +1,5 @@
 -- The places that the code keeps, and the office that they mean.
-use Rattle.std.specs.Prelude.{◌≡◌, ℕ, ◌<◌, Bool, true, false, List, [], ◌∷◌, length, get_or, Option, None, is_some, option_map, slice_get}
+use Rattle.std.specs.Prelude.{◌≡◌, ℕ, ◌<◌, Bool, true, false, List, [], ◌∷◌, length, get_or, Option, None, is_some, option_map, slice_get, ◌↔◌, Result, IsErr, OnOk, OnErr}
 use Rattle.std.proofs.Math.ListN.{set}
 use Rattle.bit_masks.specs.declared.mask128.Mask128.{Mask128}
 use Rattle.bit_masks.specs.Sets.{is_in128}
@@ -7,7 +7,7 @@ use Rattle.bottle_values.specs.Values.{Value}
 use Rattle.office_map.specs.PlanValue.{PlanValue, peer}
 use Rattle.drinking_core.specs.declared.phase.Phase.{Phase}
 use Rattle.drinking_core.specs.declared.shared_bottle.SharedBottle.{SharedBottle}
-use Rattle.drinking_core.specs.Drinkers.{Drinker, start_bottle, start_token}
+use Rattle.drinking_core.specs.Drinkers.{Drinker, BottleRule, may, act, start_bottle, start_token}
 use Rattle.drinking_core.specs.refinement.Masks.{AreSpots, Tells, bit_in}
 use Rattle.bottle_values.specs.Lists.{is_among}
 
@@ -39,6 +39,12 @@ peer_in ps r = (place_at ps r).peer
 -- the office that a bar means
 abbrev pub drinker_of : BarValue → Drinker
 drinker_of b = record { records = b.records; phase = b.phase; needed = bit_in b.spots b.needed; bottle = bottle_in b.places; token = token_in b.places; peer = peer_in b.places }
+
+-- what a call answers that does a rule: it is refused just where the rule may not be done, and then nothing changed
+pub record DoesRule {T E : Type 0} (rule : BottleRule) (result : Result T E) (old new : BarValue) : Type 0 where
+  pub not_now : IsErr result ↔ (may (drinker_of old) rule ≡ false)
+  pub done : OnOk result (drinker_of new ≡ act (drinker_of old) rule)
+  pub unchanged : OnErr result (new ≡ old)
 
 -- the office's records have bits and places, no other bit is one of a needed record, and the bits of held tell whose
 -- bottles are here

@@ -1,4 +1,4 @@
-use Rattle.std.proofs.Common.{◌≡◌, false, ◌<◌, length, sym, ap, ◌∙◌, subst, set}
+use Rattle.std.proofs.Common.{◌≡◌, false, ◌<◌, length, sym, ap, ◌∙◌, subst, set, rules}
 use Rattle.drinking_core.specs.declared.shared_bottle.SharedBottle.{SharedBottle}
 use Rattle.drinking_core.specs.Drinkers.{AskBottle, act}
 use Rattle.drinking_core.specs.refinement.Bars.{BarValue, drinker_of, place_at, IsBarOf}
@@ -20,9 +20,13 @@ invariant_of-self c =
     subst (λ i. IsBarOf s.records.items s.spots.items s.needed s.held (set s.places.items i (asked c))) (sym c.index.ensures)
     (kept_token s.records.items s.spots.items s.needed s.held s.places.items c.args.r c.at-place.result false c.self.invariant (within c) (read c))
 
-pub returns-clause-done : goal.returns-clause-done
-returns-clause-done c =
+pub returns : goal.returns
+returns c =
     let s = c.self.inside in
-    ap (λ i. drinker_of (record { records = s.records.items; spots = s.spots.items; phase = s.phase; needed = s.needed; places = set s.places.items i (asked c) })) c.index.ensures
-    ∙ token_put s.records.items s.spots.items s.phase s.needed s.places.items c.args.r c.at-place.result false (within c) (read c)
-    ∙ ap (λ (b : BarValue). act (drinker_of b) (AskBottle c.args.r)) c.self.view_is
+    record {
+      not_now = search rules;
+      done = ap (λ i. drinker_of (record { records = s.records.items; spots = s.spots.items; phase = s.phase; needed = s.needed; places = set s.places.items i (asked c) })) c.index.ensures
+          ∙ token_put s.records.items s.spots.items s.phase s.needed s.places.items c.args.r c.at-place.result false (within c) (read c)
+          ∙ ap (λ (b : BarValue). act (drinker_of b) (AskBottle c.args.r)) c.self.view_is;
+      unchanged = search rules;
+    }

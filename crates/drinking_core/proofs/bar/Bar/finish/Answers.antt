@@ -1,4 +1,4 @@
-use Rattle.std.proofs.Common.{List, Some, sym, ap, ◌∙◌, subst}
+use Rattle.std.proofs.Common.{List, Some, sym, ap, ◌∙◌, subst, rules}
 use Rattle.std.specs.Option.{option_copied}
 use Rattle.drinking_core.specs.declared.phase.Phase.TheVariants.{Tranquil}
 use Rattle.drinking_core.specs.declared.shared_bottle.SharedBottle.{SharedBottle}
@@ -13,10 +13,14 @@ invariant_of-self c =
     subst (λ (l : List SharedBottle). IsBarOf s.records.items s.spots.items c.empty-self-inside.result s.held l) (sym c.write_all.ensures)
     (kept_end s.records.items s.spots.items s.needed c.empty-self-inside.result s.held s.places.items c.in-Some.writes.now c.self.invariant c.empty-self-inside.ensures)
 
-pub returns-clause-done : goal.returns-clause-done
-returns-clause-done c =
+pub returns : goal.returns
+returns c =
     let s = c.self.inside in
-    ap (λ (l : List SharedBottle). drinker_of (record { records = s.records.items; spots = s.spots.items; phase = Tranquil; needed = c.empty-self-inside.result; places = l })) c.write_all.ensures
-    ∙ session_ends s.records.items s.spots.items c.empty-self-inside.result c.in-Some.writes.now s.places.items c.empty-self-inside.ensures
-    ∙ ap (λ (b : BarValue). finished (drinker_of b) (Some c.in-Some.writes.now)) c.self.view_is
-    ∙ ap (λ x. finished (drinker_of c.args.self.now) (option_copied x)) (sym c.in-Some.is)
+    record {
+      not_now = search rules;
+      done = ap (λ (l : List SharedBottle). drinker_of (record { records = s.records.items; spots = s.spots.items; phase = Tranquil; needed = c.empty-self-inside.result; places = l })) c.write_all.ensures
+          ∙ session_ends s.records.items s.spots.items c.empty-self-inside.result c.in-Some.writes.now s.places.items c.empty-self-inside.ensures
+          ∙ ap (λ (b : BarValue). finished (drinker_of b) (Some c.in-Some.writes.now)) c.self.view_is
+          ∙ ap (λ x. finished (drinker_of c.args.self.now) (option_copied x)) (sym c.in-Some.is);
+      unchanged = search rules;
+    }

@@ -1,4 +1,4 @@
-use Rattle.std.proofs.Common.{◌≡◌, true, false, None, is_some, ◌<◌, length, sym, ap, ◌∙◌, subst, set}
+use Rattle.std.proofs.Common.{◌≡◌, true, false, None, is_some, ◌<◌, length, sym, ap, ◌∙◌, subst, set, rules}
 use Rattle.dining_core.specs.refinement.Tables.{diner_of}
 use Rattle.drinking_core.specs.declared.shared_bottle.SharedBottle.{SharedBottle}
 use Rattle.drinking_core.specs.Drinkers.{GiveBottle, act}
@@ -27,9 +27,13 @@ invariant_of-self c =
     (kept_bottle s.records.items s.spots.items s.needed s.held c.clear.new.self s.places.items c.args.r c.at-place.result None c.self.invariant (within c)
     (subst (λ k. IsPut s.held c.clear.new.self k false) at c.clear.ensures.cleared))
 
-pub returns-clause-done : goal.returns-clause-done
-returns-clause-done c =
+pub returns : goal.returns
+returns c =
     let s = c.self.inside in
-    ap (λ i. drinker_of (record { records = s.records.items; spots = s.spots.items; phase = s.phase; needed = s.needed; places = set s.places.items i (given c) })) c.index.ensures
-    ∙ bottle_put s.records.items s.spots.items s.phase s.needed s.places.items c.args.r c.at-place.result None (within c) (read c)
-    ∙ ap (λ (b : BarValue). act (drinker_of b) (GiveBottle c.args.r (diner_of c.args.table.now).held)) c.self.view_is
+    record {
+      not_now = search rules;
+      done = ap (λ i. drinker_of (record { records = s.records.items; spots = s.spots.items; phase = s.phase; needed = s.needed; places = set s.places.items i (given c) })) c.index.ensures
+          ∙ bottle_put s.records.items s.spots.items s.phase s.needed s.places.items c.args.r c.at-place.result None (within c) (read c)
+          ∙ ap (λ (b : BarValue). act (drinker_of b) (GiveBottle c.args.r (diner_of c.args.table.now).held)) c.self.view_is;
+      unchanged = search rules;
+    }

@@ -1,4 +1,4 @@
-use Rattle.std.proofs.Common.{[], ap, ◌∙◌}
+use Rattle.std.proofs.Common.{[], ap, ◌∙◌, rules}
 use Rattle.drinking_core.specs.Drinkers.{Withdraw, act}
 use Rattle.drinking_core.specs.refinement.Bars.{BarValue, drinker_of}
 use Rattle.drinking_core.proofs.SessionUpdates.{session_is_withdrawn, kept_end}
@@ -9,8 +9,12 @@ invariant_of-self c =
     let s = c.self.inside in
     kept_end s.records.items s.spots.items s.needed c.empty-self-inside.result s.held s.places.items [] c.self.invariant c.empty-self-inside.ensures
 
-pub returns-clause-done : goal.returns-clause-done
-returns-clause-done c =
+pub returns : goal.returns
+returns c =
     let s = c.self.inside in
-    session_is_withdrawn s.records.items s.spots.items c.empty-self-inside.result s.places.items c.empty-self-inside.ensures
-    ∙ ap (λ (b : BarValue). act (drinker_of b) Withdraw) c.self.view_is
+    record {
+      not_now = search rules;
+      done = session_is_withdrawn s.records.items s.spots.items c.empty-self-inside.result s.places.items c.empty-self-inside.ensures
+          ∙ ap (λ (b : BarValue). act (drinker_of b) Withdraw) c.self.view_is;
+      unchanged = search rules;
+    }
