@@ -2,9 +2,10 @@
 //!
 //! - [`Pairs`] are an office's forks (a `Table`), its bottles (a `Bar`) and one channel to each neighbour. Each keeps what is
 //!   held here in the form that it needs; that they agree is the invariant of `Pairs`, and no contract of an office mentions
-//!   it. Each rule call is its row: `NotNow` exactly where the guard is false (clause `not_now`), and else its effect (clause
-//!   `done`), with the message that it sends. The rows are `after_fork_rule` and `after_bottle_rule` in `specs/Pairs.antt`;
-//!   the invariant, and which pairs the code means (`pairs_of`), stand in `specs/refinement/PairsOfCode.antt`.
+//!   it. Each rule call is its row: `NotNow` exactly where the guard is false (`not_now`), and else its effect (`done`), with
+//!   the message that it sends: `DoesForkRule` and `DoesBottleRule`, in `specs/refinement/PairsOfCode.antt`, beside the
+//!   invariant and which pairs the code means (`pairs_of`). The rows are `after_fork_rule` and `after_bottle_rule` in
+//!   `specs/Pairs.antt`.
 //! - A frame that comes is first looked at ([`Pairs::check`]: the fault is `frame_fault`), and one without a fault is taken
 //!   ([`Pairs::take`]): what it brings is held, and after it what was kept, up to the first gap or breach (`after_taking`).
 //! - [`Pairs::first_given`] and the three beside it tell the least record or neighbour of whom a rule may be done, and

@@ -1,6 +1,6 @@
 //! What an office shares with its neighbours.
 
-ghost use Rattle.std.specs.Prelude.{◌≡◌, ◌<◌, ◌≤◌, ◌&&◌, ◌↔◌, ℕ, Some, None, true, false, length, option_map, is_some, IsSome, IfSome, IsErr, IfOk, OnOk, OnErr, All, if◌then◌else◌, find};
+ghost use Rattle.std.specs.Prelude.{◌≡◌, ◌<◌, ◌≤◌, ◌↔◌, ℕ, Some, None, true, length, option_map, is_some, IsSome, IfSome, IfOk, All, if◌then◌else◌, find};
 ghost use Rattle.std.specs.Option.{ForSome, option_copied};
 ghost use Rattle.std.specs.Result.{result_err};
 ghost use Rattle.office_map.specs.PlanValue.{are_neighbours, is_end, peer, records_of, neighbours_of};
@@ -11,8 +11,8 @@ ghost use Rattle.dining_core.specs.Diners as forks;
 ghost use Rattle.dining_core.specs.refinement.Tables.{diner_of};
 ghost use Rattle.drinking_core.specs.Drinkers as bottles;
 ghost use Rattle.drinking_core.specs.refinement.Bars.{drinker_of};
-ghost use Rattle.neighbour_pairs.specs.Pairs.{Pairs, opened, frame_on, after_fork_rule, after_bottle_rule, is_thirsty, frame_fault, arrival_of, after_taking, fork_came, bottle_came};
-ghost use Rattle.neighbour_pairs.specs.refinement.PairsOfCode.{pairs_of, IsOf, HaveRoom, MayBring, MayAllBring, forks_came, bottles_came};
+ghost use Rattle.neighbour_pairs.specs.Pairs.{Pairs, opened, frame_on, is_thirsty, frame_fault, arrival_of, after_taking, fork_came, bottle_came};
+ghost use Rattle.neighbour_pairs.specs.refinement.PairsOfCode.{pairs_of, IsOf, DoesForkRule, DoesBottleRule, HaveRoom, MayBring, MayAllBring, forks_came, bottles_came};
 
 use crate::channels::Channels;
 use arrayvec::ArrayVec;
@@ -163,10 +163,7 @@ impl Pairs {
     /// The request token of a neighbour's fork is sent.
     pub fn ask_fork(&mut self, v: OfficeId) -> Result<(), NotNow>
         requires room { HaveRoom self.old }
-        ensures office { IsOf self.old.plan self.old.me self.new }
-        ensures not_now { IsErr result ↔ ((are_neighbours self.old.plan self.old.me v && forks.may (pairs_of self.old).diner (forks.AskFork v)) ≡ false) }
-        ensures done { OnOk result (pairs_of self.new ≡ after_fork_rule (pairs_of self.old) (forks.AskFork v)) }
-        ensures unchanged { OnErr result (self.new ≡ self.old) }
+        ensures { DoesForkRule (are_neighbours self.old.plan self.old.me v) (forks.AskFork v) result self.old self.new }
     {
         if !self.channels.has(v) {
             return Err(NotNow);
@@ -179,10 +176,7 @@ impl Pairs {
     /// A dirty fork is sent to the neighbour who asked for it.
     pub fn give_fork(&mut self, v: OfficeId) -> Result<(), NotNow>
         requires room { HaveRoom self.old }
-        ensures office { IsOf self.old.plan self.old.me self.new }
-        ensures not_now { IsErr result ↔ ((are_neighbours self.old.plan self.old.me v && forks.may (pairs_of self.old).diner (forks.GiveFork v)) ≡ false) }
-        ensures done { OnOk result (pairs_of self.new ≡ after_fork_rule (pairs_of self.old) (forks.GiveFork v)) }
-        ensures unchanged { OnErr result (self.new ≡ self.old) }
+        ensures { DoesForkRule (are_neighbours self.old.plan self.old.me v) (forks.GiveFork v) result self.old self.new }
     {
         if !self.channels.has(v) {
             return Err(NotNow);
@@ -195,10 +189,7 @@ impl Pairs {
     /// The request token of a needed record's bottle is sent to the record's other end.
     pub fn ask_bottle(&mut self, r: RecordId) -> Result<(), NotNow>
         requires room { HaveRoom self.old }
-        ensures office { IsOf self.old.plan self.old.me self.new }
-        ensures not_now { IsErr result ↔ ((is_end self.old.plan r self.old.me && bottles.may (pairs_of self.old).drinker (bottles.AskBottle r)) ≡ false) }
-        ensures done { OnOk result (pairs_of self.new ≡ after_bottle_rule (pairs_of self.old) (bottles.AskBottle r)) }
-        ensures unchanged { OnErr result (self.new ≡ self.old) }
+        ensures { DoesBottleRule (is_end self.old.plan r self.old.me) (bottles.AskBottle r) result self.old self.new }
     {
         if !self.plan.has_end(r, self.me) {
             return Err(NotNow);
@@ -212,10 +203,7 @@ impl Pairs {
     /// A record's bottle is sent to the record's other end, with its value.
     pub fn give_bottle(&mut self, r: RecordId) -> Result<(), NotNow>
         requires room { HaveRoom self.old }
-        ensures office { IsOf self.old.plan self.old.me self.new }
-        ensures not_now { IsErr result ↔ ((is_end self.old.plan r self.old.me && bottles.may (pairs_of self.old).drinker (bottles.GiveBottle r (pairs_of self.old).diner.held)) ≡ false) }
-        ensures done { OnOk result (pairs_of self.new ≡ after_bottle_rule (pairs_of self.old) (bottles.GiveBottle r (pairs_of self.old).diner.held)) }
-        ensures unchanged { OnErr result (self.new ≡ self.old) }
+        ensures { DoesBottleRule (is_end self.old.plan r self.old.me) (bottles.GiveBottle r (pairs_of self.old).diner.held) result self.old self.new }
     {
         if !self.plan.has_end(r, self.me) {
             return Err(NotNow);
@@ -231,10 +219,7 @@ impl Pairs {
 
     /// A thinking office that is thirsty becomes hungry.
     pub fn hungry(&mut self) -> Result<(), NotNow>
-        ensures office { IsOf self.old.plan self.old.me self.new }
-        ensures not_now { IsErr result ↔ (forks.may (pairs_of self.old).diner (forks.BecomeHungry (is_thirsty (pairs_of self.old))) ≡ false) }
-        ensures done { OnOk result (pairs_of self.new ≡ after_fork_rule (pairs_of self.old) (forks.BecomeHungry (is_thirsty (pairs_of self.old)))) }
-        ensures unchanged { OnErr result (self.new ≡ self.old) }
+        ensures { DoesForkRule true (forks.BecomeHungry (is_thirsty (pairs_of self.old))) result self.old self.new }
     {
         let thirsty = self.bar.bar().phase().is_thirsty();
         self.table.hungry(thirsty)?;
@@ -243,10 +228,7 @@ impl Pairs {
 
     /// A hungry office that has all its forks eats.
     pub fn eat(&mut self) -> Result<(), NotNow>
-        ensures office { IsOf self.old.plan self.old.me self.new }
-        ensures not_now { IsErr result ↔ (forks.may (pairs_of self.old).diner forks.Eat ≡ false) }
-        ensures done { OnOk result (pairs_of self.new ≡ after_fork_rule (pairs_of self.old) forks.Eat) }
-        ensures unchanged { OnErr result (self.new ≡ self.old) }
+        ensures { DoesForkRule true forks.Eat result self.old self.new }
     {
         self.table.eat()?;
         Ok(())
@@ -254,10 +236,7 @@ impl Pairs {
 
     /// An eating office that isn't thirsty thinks again.
     pub fn leave(&mut self) -> Result<(), NotNow>
-        ensures office { IsOf self.old.plan self.old.me self.new }
-        ensures not_now { IsErr result ↔ (forks.may (pairs_of self.old).diner (forks.Leave (is_thirsty (pairs_of self.old))) ≡ false) }
-        ensures done { OnOk result (pairs_of self.new ≡ after_fork_rule (pairs_of self.old) (forks.Leave (is_thirsty (pairs_of self.old)))) }
-        ensures unchanged { OnErr result (self.new ≡ self.old) }
+        ensures { DoesForkRule true (forks.Leave (is_thirsty (pairs_of self.old))) result self.old self.new }
     {
         let thirsty = self.bar.bar().phase().is_thirsty();
         self.table.leave(thirsty)?;
@@ -267,10 +246,7 @@ impl Pairs {
     /// A tranquil office begins with the first waiting session, which needs these records; none where no session waits.
     pub fn start(&mut self, session: Option<&[RecordId]>) -> Result<(), NotNow>
         requires { ForSome session (λ rs. All (λ r. is_end self.old.plan r self.old.me ≡ true) rs.now) }
-        ensures office { IsOf self.old.plan self.old.me self.new }
-        ensures not_now { IsErr result ↔ (bottles.may (pairs_of self.old).drinker (bottles.Start (option_copied session.entry)) ≡ false) }
-        ensures done { OnOk result (pairs_of self.new ≡ after_bottle_rule (pairs_of self.old) (bottles.Start (option_copied session.entry))) }
-        ensures unchanged { OnErr result (self.new ≡ self.old) }
+        ensures { DoesBottleRule true (bottles.Start (option_copied session.entry)) result self.old self.new }
     {
         self.bar.start(session)?;
         Ok(())
@@ -278,10 +254,7 @@ impl Pairs {
 
     /// A thirsty office that has all bottles that its session needs begins to work.
     pub fn drink(&mut self) -> Result<(), NotNow>
-        ensures office { IsOf self.old.plan self.old.me self.new }
-        ensures not_now { IsErr result ↔ (bottles.may (pairs_of self.old).drinker bottles.Drink ≡ false) }
-        ensures done { OnOk result (pairs_of self.new ≡ after_bottle_rule (pairs_of self.old) bottles.Drink) }
-        ensures unchanged { OnErr result (self.new ≡ self.old) }
+        ensures { DoesBottleRule true bottles.Drink result self.old self.new }
     {
         self.bar.drink()?;
         Ok(())
@@ -289,10 +262,7 @@ impl Pairs {
 
     /// A drinking office ends its session with what the session's work wrote; none where the work hasn't ended.
     pub fn finish(&mut self, writes: Option<&[(RecordId, Value)]>) -> Result<(), NotNow>
-        ensures office { IsOf self.old.plan self.old.me self.new }
-        ensures not_now { IsErr result ↔ (bottles.may (pairs_of self.old).drinker (bottles.Finish (option_copied writes.entry)) ≡ false) }
-        ensures done { OnOk result (pairs_of self.new ≡ after_bottle_rule (pairs_of self.old) (bottles.Finish (option_copied writes.entry))) }
-        ensures unchanged { OnErr result (self.new ≡ self.old) }
+        ensures { DoesBottleRule true (bottles.Finish (option_copied writes.entry)) result self.old self.new }
     {
         self.bar.finish(writes)?;
         Ok(())
@@ -300,10 +270,7 @@ impl Pairs {
 
     /// A thirsty office's session is withdrawn.
     pub fn withdraw(&mut self) -> Result<(), NotNow>
-        ensures office { IsOf self.old.plan self.old.me self.new }
-        ensures not_now { IsErr result ↔ (bottles.may (pairs_of self.old).drinker bottles.Withdraw ≡ false) }
-        ensures done { OnOk result (pairs_of self.new ≡ after_bottle_rule (pairs_of self.old) bottles.Withdraw) }
-        ensures unchanged { OnErr result (self.new ≡ self.old) }
+        ensures { DoesBottleRule true bottles.Withdraw result self.old self.new }
     {
         self.bar.withdraw()?;
         Ok(())

@@ -1,5 +1,5 @@
 -- The pairs that the code keeps, and what they mean.
-use Rattle.std.specs.Prelude.{◌≡◌, ℕ, ◌<◌, true, false, List, [], ◌∷◌, length}
+use Rattle.std.specs.Prelude.{◌≡◌, ℕ, ◌<◌, Bool, true, false, ◌&&◌, ◌↔◌, List, [], ◌∷◌, length, Result, IsErr, OnOk, OnErr}
 use Rattle.window_link.specs.Windows.{used}
 use Rattle.window_link.specs.Limits.{greatest}
 use Rattle.office_map.specs.PlanValue.{PlanValue, neighbours_of, records_of, peer}
@@ -7,11 +7,13 @@ use Rattle.office_map.specs.Consistency.{IsConsistent}
 use Rattle.bottle_values.specs.Lists.{is_among}
 use Rattle.frame_codec.specs.declared.message.Msg.{Msg}
 use Rattle.frame_codec.specs.declared.message.Msg.TheVariants as msg
-use Rattle.dining_core.specs.Diners.{Diner}
-use Rattle.drinking_core.specs.Drinkers.{Drinker, holds}
+use Rattle.dining_core.specs.Diners.{Diner, ForkRule}
+use Rattle.dining_core.specs.Diners as forks
+use Rattle.drinking_core.specs.Drinkers.{Drinker, BottleRule, holds}
+use Rattle.drinking_core.specs.Drinkers as bottles
 use Rattle.dining_core.specs.refinement.Tables.{TableValue, diner_of}
 use Rattle.drinking_core.specs.refinement.Bars.{BarValue, drinker_of}
-use Rattle.neighbour_pairs.specs.Pairs.{Pairs, held, fork_came, bottle_came}
+use Rattle.neighbour_pairs.specs.Pairs.{Pairs, held, fork_came, bottle_came, after_fork_rule, after_bottle_rule}
 use Rattle.neighbour_pairs.specs.refinement.Slots.{Slot, slot_at, links_of, IsSlotOf}
 
 pub record PairsValue : Type 0 where
@@ -27,6 +29,21 @@ pairs_of p = record { diner = diner_of p.table; drinker = drinker_of p.bar; link
 -- they are those of this office of this plan
 abbrev pub IsOf : PlanValue → ℕ → PairsValue → Type 0
 IsOf plan me p = (p.plan ≡ plan) × (p.me ≡ me)
+
+-- What a call answers that does a rule of the forks: it is refused just where the neighbour that it is about is none, or the
+-- rule may not be done, and then nothing changed.
+pub record DoesForkRule {T E : Type 0} (near : Bool) (rule : ForkRule) (result : Result T E) (old new : PairsValue) : Type 0 where
+  pub office : IsOf old.plan old.me new
+  pub not_now : IsErr result ↔ ((near && forks.may (pairs_of old).diner rule) ≡ false)
+  pub done : OnOk result (pairs_of new ≡ after_fork_rule (pairs_of old) rule)
+  pub unchanged : OnErr result (new ≡ old)
+
+-- the same of a rule of the bottles, and of the record that it is about
+pub record DoesBottleRule {T E : Type 0} (ours : Bool) (rule : BottleRule) (result : Result T E) (old new : PairsValue) : Type 0 where
+  pub office : IsOf old.plan old.me new
+  pub not_now : IsErr result ↔ ((ours && bottles.may (pairs_of old).drinker rule) ≡ false)
+  pub done : OnOk result (pairs_of new ≡ after_bottle_rule (pairs_of old) rule)
+  pub unchanged : OnErr result (new ≡ old)
 
 -- each link has a number for one message more
 abbrev pub HaveRoom : PairsValue → Type 0

@@ -1,4 +1,4 @@
-use Rattle.std.proofs.Common.{◌≡◌, ℕ, false, sym, subst, refl, ap, ◌∙◌}
+use Rattle.std.proofs.Common.{◌≡◌, ℕ, false, sym, subst, refl, ap, ◌∙◌, rules}
 use Rattle.dining_core.specs.refinement.Tables.{diner_of}
 use Rattle.drinking_core.specs.Drinkers as bottles
 use Rattle.drinking_core.specs.refinement.Bars.{BarValue, drinker_of}
@@ -21,12 +21,17 @@ invariant_of-self-2 c =
     still_pairs (pairs_value s.plan s.me s.table s.bar s.channels) s.table c.give_bottle.new.self c.send.new.self d (bottles.act k (bottles.GiveBottle c.args.r (diner_of s.table).held)) (with_held (held_by d k) c.other_end-v.result _ false) c.self.invariant
     refl c.in_ok-give_bottle.ensures.done refl refl refl (subst (λ n. (u : ℕ) (t : Thing) → held_by d (bottles.act k (bottles.GiveBottle c.args.r (diner_of s.table).held)) u t ≡ with_held (held_by d k) c.other_end-v.result (Bottle n) false u t) (sym c.number.ensures) (after_give_bottle d k c.args.r c.other_end-v.result c.in-Some.value d.held v)) (c.send.ensures.slots s.plan s.me (held_by d k) c.self.invariant.channels)
 
-pub returns-clause-done : goal.returns-clause-done
-returns-clause-done c =
+pub returns : goal.returns
+returns c =
     let s = c.self.inside in
     let k = drinker_of s.bar in
     let v : c.other_end-v.result ≡ k.peer c.args.r = c.other_end-v.ensures.peer ∙ sym (c.self.invariant.peers c.args.r) in
     let sent = ap (λ n. queued_to (links_of s.plan.run s.me s.channels) c.other_end-v.result (msg.Bottle n c.in-Some.value)) c.number.ensures ∙ ap (λ w. queued_to (links_of s.plan.run s.me s.channels) w (msg.Bottle c.args.r c.in-Some.value)) v in
     let with_value = ap (λ o. sent_links (links_of s.plan.run s.me s.channels) (bottle_message (k.peer c.args.r) c.args.r o)) (sym c.in-Some.is ∙ c.value.ensures ∙ ap (λ (b : BarValue). (drinker_of b).bottle c.args.r) c.bar.ensures) in
-    pairs_are s.plan s.me s.table c.give_bottle.new.self c.send.new.self _ _ _ refl c.in_ok-give_bottle.ensures.done (c.send.ensures.links s.plan.run s.me ∙ sent ∙ with_value)
-    ∙ ap (λ (p : PairsValue). after_bottle_rule (pairs_of p) (bottles.GiveBottle c.args.r (diner_of p.table).held)) c.self.view_is
+    record {
+      office = search rules;
+      not_now = search rules;
+      done = pairs_are s.plan s.me s.table c.give_bottle.new.self c.send.new.self _ _ _ refl c.in_ok-give_bottle.ensures.done (c.send.ensures.links s.plan.run s.me ∙ sent ∙ with_value)
+          ∙ ap (λ (p : PairsValue). after_bottle_rule (pairs_of p) (bottles.GiveBottle c.args.r (diner_of p.table).held)) c.self.view_is;
+      unchanged = search rules;
+    }

@@ -1,4 +1,4 @@
-use Rattle.std.proofs.Common.{false, refl, ap, ◌∙◌}
+use Rattle.std.proofs.Common.{false, refl, ap, ◌∙◌, rules}
 use Rattle.dining_core.specs.Diners as forks
 use Rattle.dining_core.specs.refinement.Tables.{diner_of}
 use Rattle.drinking_core.specs.refinement.Bars.{drinker_of}
@@ -16,8 +16,13 @@ invariant_of-self-2 c =
     still_pairs (pairs_value s.plan s.me s.table s.bar s.channels) c.give_fork.new.self s.bar c.send.new.self (forks.act d (forks.GiveFork c.args.v)) k (with_held (held_by d k) c.args.v _ false) c.self.invariant
     c.in_ok-give_fork.ensures.done refl refl refl refl (after_give_fork d k c.args.v) (c.send.ensures.slots s.plan s.me (held_by d k) c.self.invariant.channels)
 
-pub returns-clause-done : goal.returns-clause-done
-returns-clause-done c =
+pub returns : goal.returns
+returns c =
     let s = c.self.inside in
-    pairs_are s.plan s.me c.give_fork.new.self s.bar c.send.new.self _ _ _ c.in_ok-give_fork.ensures.done refl (c.send.ensures.links s.plan.run s.me)
-    ∙ ap (λ (p : PairsValue). after_fork_rule (pairs_of p) (forks.GiveFork c.args.v)) c.self.view_is
+    record {
+      office = search rules;
+      not_now = search rules;
+      done = pairs_are s.plan s.me c.give_fork.new.self s.bar c.send.new.self _ _ _ c.in_ok-give_fork.ensures.done refl (c.send.ensures.links s.plan.run s.me)
+          ∙ ap (λ (p : PairsValue). after_fork_rule (pairs_of p) (forks.GiveFork c.args.v)) c.self.view_is;
+      unchanged = search rules;
+    }
