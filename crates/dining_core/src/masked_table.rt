@@ -51,8 +51,7 @@ impl MaskedTable {
     {
         let table = Table::open(alloc, plan, id)?;
         let near = near_in(plan.neighbours(id));
-        let held = held_in(&table);
-        let tokens = tokens_in(&table);
+        let (held, tokens) = here_in(&table);
         Ok(MaskedTable {
             table,
             near,
@@ -183,22 +182,16 @@ fn near_in(neighbours: &[OfficeId]) -> Mask16
     mask
 }
 
-fn held_in(table: &Table) -> Mask16
-    ensures { Tells result (diner_of table.now).held }
+/// Of which offices the fork is here, and of which the request token.
+fn here_in(table: &Table) -> (Mask16, Mask16)
+    ensures held { Tells result.0 (diner_of table.now).held }
+    ensures tokens { Tells result.1 (diner_of table.now).token }
 {
-    let mut mask = Mask16::empty();
+    let mut held = Mask16::empty();
+    let mut tokens = Mask16::empty();
     for v in 0..16u8 {
-        mask.put(v as u32, table.holds(OfficeId::new(v)));
+        held.put(v as u32, table.holds(OfficeId::new(v)));
+        tokens.put(v as u32, table.has_token(OfficeId::new(v)));
     }
-    mask
-}
-
-fn tokens_in(table: &Table) -> Mask16
-    ensures { Tells result (diner_of table.now).token }
-{
-    let mut mask = Mask16::empty();
-    for v in 0..16u8 {
-        mask.put(v as u32, table.has_token(OfficeId::new(v)));
-    }
-    mask
+    (held, tokens)
 }

@@ -11,7 +11,7 @@ invariant_of-result c =
     record {
       few = subst (λ (l : List ℕ). All (λ v. v < 16) l) same (λ k d lt. omega (arith, c.neighbours.ensures.offices k d lt, c.neighbours.ensures.consistent.offices_fit));
       neighbours = λ v low. c.near_in-near.ensures v low ∙ ap (λ (l : List ℕ). is_among l v) same;
-      forks = c.held_in-held.ensures;
+      forks = c.here_in.ensures.held;
       unused = λ v low. c.empty.ensures v ∙ sym (ap (λ (d : Diner). d.clean v) c.in_ok-table.ensures);
-      requests = c.tokens_in-tokens.ensures;
+      requests = c.here_in.ensures.tokens;
     }

@@ -1,7 +1,0 @@
-use Rattle.std.proofs.Common.{◌≡◌, ◌<◌, ℕ}
-use Rattle.bit_masks.specs.Sets.{is_in16}
-use Rattle.dining_core.specs.refinement.Tables.{diner_of}
-use Rattle.dining_core.proofs.masked_table.tokens_in.Given as goal
-
-abbrev pub invariant-loop-v : goal.invariant-loop-v
-invariant-loop-v l = (i : ℕ) → i < l.v → is_in16 l.mask i ≡ (diner_of l.table).token i
