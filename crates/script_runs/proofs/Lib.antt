@@ -4,3 +4,4 @@ mod Steps
 mod Advancing
 mod Settling
 mod OneWay
+mod ToldActs

@@ -1,19 +1,22 @@
 //! Simulations, and what is printed of them.
 
-ghost use Rattle.std.specs.Prelude.{◌≡◌, ◌++◌, ◌∷◌, [], codes, false, IfOk, IfErr, OnOk};
+ghost use Rattle.std.specs.Prelude.{◌≡◌, ◌≢◌, ◌++◌, ◌∷◌, [], codes, false, Err, IfOk, IfErr, OnOk};
 ghost use Rattle.std.specs.Fmt.{decimal};
 ghost use Rattle.std.specs.List.{flat_map};
 ghost use Rattle.std.specs.String.{string_bytes};
 ghost use Rattle.std.specs.Io.KnownBytes.{Appends, append_known};
 ghost use Rattle.frame_world.specs.declared.event.WorldEvent.TheVariants as events;
+ghost use Rattle.office_journal.specs.declared.reply.Refusal.TheVariants as refused;
+ghost use Rattle.frame_world.specs.declared.refusal.WorldRefusal.TheVariants as refusals;
+ghost use Rattle.frame_world.specs.RefusalText.{refusal_text};
 ghost use Rattle.frame_world.specs.Worlds.{opening, happens};
 ghost use Rattle.frame_world.specs.Standstill.{place_of, IsStep, IsNextMessage};
-ghost use Rattle.script_runs.specs.Script.{act_with, acts_with};
+ghost use Rattle.script_runs.specs.Script.{acts_with};
 ghost use Rattle.script_runs.specs.Runs.{as_said, run_of, all_told, at_most, does, delivered, stepped};
 ghost use Rattle.script_runs.specs.Script as scripts;
 ghost use Rattle.run_reports.specs.Telling.{Unwritten};
 ghost use Rattle.script_runs.specs.Transcript.{told_line, told_report, said_line, transcript, IsSerialRun};
-ghost use Rattle.script_runs.specs.refinement.Steps.{Answers, Says, Answered, AnswersStep};
+ghost use Rattle.script_runs.specs.refinement.Steps.{Says, Answered, AnswersStep};
 
 use crate::event::ScriptEvent;
 use crate::said::Said;
@@ -115,7 +118,8 @@ fn tell_event<W: Write>(
     }
 }
 
-/// An event happens in the world, and its line is added.
+/// An event happens in the world, where its session is there, and its line is added. An answer isn't handed on: its words are
+/// written where it is given.
 fn add_event(
     text: &mut String,
     world: &mut World,
@@ -125,41 +129,38 @@ fn add_event(
     ensures line { OnOk result (string_bytes text.new ≡ string_bytes text.old ++ flat_map told_line (all_told world.old (acts_with programs.now (event ∷ [])))) }
     ensures world { OnOk result (world.new ≡ run_of world.old (acts_with programs.now (event ∷ []))) }
 {
-    match happen(world, programs, event) {
-        None => Ok(()),
-        Some(Err(WorldRefusal::Office(site_core::Refusal::Memory))) => Err(AllocError),
-        Some(said) => add_said(text, world.frames(), said),
-    }
-}
-
-/// What is said of an event, where its session is there.
-fn happen(
-    world: &mut World,
-    programs: &[Program],
-    event: ScriptEvent,
-) -> Option<Result<Said, WorldRefusal>>
-    ensures { Answers world.old (act_with programs.now event) result world.new }
-{
     match event {
         ScriptEvent::Submit(n) => {
-            let program = nth(programs, n)?;
-            Some(replied(world.submit(program.office(), program)))
+            let Some(program) = nth(programs, n) else {
+                return Ok(());
+            };
+            let answer = world.submit(program.office(), program);
+            add_answer(text, world.frames(), &answer)
         }
-        ScriptEvent::Withdraw(office, ticket) => Some(replied(world.withdraw(office, ticket))),
-        ScriptEvent::Do(office, rule) => Some(replied(world.act(office, &rule))),
-        ScriptEvent::Advance(office, n) => Some(advance(world, office, n)),
-        ScriptEvent::Settle(n) => Some(settle(world, n)),
-        ScriptEvent::Send(office, neighbour, i) => Some(replied(world.send(office, neighbour, i))),
-        ScriptEvent::Deliver(k) => Some(replied(world.deliver(k))),
-    }
-}
-
-fn replied(reply: Result<Reply, WorldRefusal>) -> Result<Said, WorldRefusal>
-    ensures { result ≡ as_said reply }
-{
-    match reply {
-        Ok(reply) => Ok(Said::Replied(reply)),
-        Err(refusal) => Err(refusal),
+        ScriptEvent::Withdraw(office, ticket) => {
+            let answer = world.withdraw(office, ticket);
+            add_answer(text, world.frames(), &answer)
+        }
+        ScriptEvent::Do(office, rule) => {
+            let answer = world.act(office, &rule);
+            add_answer(text, world.frames(), &answer)
+        }
+        ScriptEvent::Send(office, neighbour, i) => {
+            let answer = world.send(office, neighbour, i);
+            add_answer(text, world.frames(), &answer)
+        }
+        ScriptEvent::Deliver(k) => {
+            let answer = world.deliver(k);
+            add_answer(text, world.frames(), &answer)
+        }
+        ScriptEvent::Advance(office, n) => {
+            let said = advance(world, office, n);
+            add_said(text, world.frames(), &said)
+        }
+        ScriptEvent::Settle(n) => {
+            let said = settle(world, n);
+            add_said(text, world.frames(), &said)
+        }
     }
 }
 
@@ -243,26 +244,54 @@ fn send_and_deliver(
     world.deliver(world.frames())
 }
 
-/// The line of what is said, where so many frames were sent.
-///
-/// So a frame is named by the number by which it can be delivered.
+/// The line of an answer, where so many frames were sent: so a frame is named by the number by which it can be delivered. Memory
+/// that ran out has none.
+fn add_answer(
+    text: &mut String,
+    frames: usize,
+    answer: &Result<Reply, WorldRefusal>,
+) -> Result<(), AllocError>
+    ensures line { OnOk result (string_bytes text.new ≡ string_bytes text.old ++ said_line frames (as_said answer.now)) }
+    ensures memory { OnOk result (answer.now ≢ Err (refusals.Office refused.Memory)) }
+{
+    match answer {
+        Ok(reply) => add_reply(text, Some(frames), reply)?,
+        Err(refusal) => add_refusal(text, *refusal)?,
+    }
+    text.push_str("\n")
+}
+
+/// The line of what is said, likewise.
 fn add_said(
     text: &mut String,
     frames: usize,
-    said: Result<Said, WorldRefusal>,
+    said: &Result<Said, WorldRefusal>,
 ) -> Result<(), AllocError>
-    ensures { OnOk result (string_bytes text.new ≡ string_bytes text.old ++ said_line frames said) }
+    ensures line { OnOk result (string_bytes text.new ≡ string_bytes text.old ++ said_line frames said.now) }
+    ensures memory { OnOk result (said.now ≢ Err (refusals.Office refused.Memory)) }
 {
     match said {
-        Ok(Said::Replied(reply)) => add_reply(text, Some(frames), &reply)?,
-        Ok(Said::Rules(n)) => add_rules(text, n)?,
-        Ok(Said::Settled(n)) => write!(text, "settled {n} finished")?,
-        Ok(Said::Open(n)) => write!(text, "settled {n} open")?,
-        Err(refusal) => {
-            write!(text, "refused {refusal}")?;
-        }
+        Ok(Said::Replied(reply)) => add_reply(text, Some(frames), reply)?,
+        Ok(Said::Rules(n)) => add_rules(text, *n)?,
+        Ok(Said::Settled(n)) => add_settled(text, *n, " finished")?,
+        Ok(Said::Open(n)) => add_settled(text, *n, " open")?,
+        Err(why) => add_refusal(text, *why)?,
     }
     text.push_str("\n")
+}
+
+/// Why an event is refused. That memory ran out isn't told so, but ends the run.
+fn add_refusal(text: &mut String, refusal: WorldRefusal) -> Result<(), AllocError>
+    ensures words { OnOk result (string_bytes text.new ≡ string_bytes text.old ++ (codes "refused " ++ refusal_text refusal)) }
+    ensures memory { OnOk result (refusal ≢ refusals.Office refused.Memory) }
+{
+    match refusal {
+        WorldRefusal::Office(site_core::Refusal::Memory) => Err(AllocError),
+        told => {
+            text.push_str("refused ")?;
+            text.push_str(told.text())
+        }
+    }
 }
 
 /// How many rules an office did.
@@ -271,4 +300,13 @@ fn add_rules(text: &mut String, n: u16) -> Result<(), AllocError>
 {
     text.push_str("rules ")?;
     add_number(text, u64::from(n))
+}
+
+/// How many steps a world did, and how it ended.
+fn add_settled(text: &mut String, n: u32, end: &str) -> Result<(), AllocError>
+    ensures { OnOk result (string_bytes text.new ≡ string_bytes text.old ++ (codes "settled " ++ (decimal n ++ end.now))) }
+{
+    text.push_str("settled ")?;
+    add_number(text, u64::from(n))?;
+    text.push_str(end)
 }

@@ -7,19 +7,11 @@ use Rattle.frame_world.specs.declared.refusal.WorldRefusal.TheVariants as refusa
 use Rattle.frame_world.specs.Worlds as worlds
 use Rattle.frame_world.specs.Worlds.{World}
 use Rattle.script_runs.specs.declared.said.Said.{Said}
-use Rattle.script_runs.specs.Script.{Act}
-use Rattle.script_runs.specs.Runs.{Told, does}
+use Rattle.script_runs.specs.Runs.{Told}
 
 -- that is said, and the world is so; or memory ran out
 abbrev pub Says : Told → Result Said WorldRefusal → World → Type 0
 Says t said w' = (said ≡ Err (refusal.Office refused.Memory)) ⊎ ((said ≡ t.0) × (w' ≡ t.1))
-
--- something is said of an act, and where there is none nothing happens
-abbrev pub Answers : World → Option Act → Option (Result Said WorldRefusal) → World → Type 0
-Answers w None None w' = w' ≡ w
-Answers w None (Some said) w' = ⊥
-Answers w (Some x) None w' = ⊥
-Answers w (Some x) (Some said) w' = Says (does w x) said w'
 
 -- that is answered, and the world is so; or memory ran out
 abbrev pub Answered : worlds.Answer → Result Reply WorldRefusal → World → Type 0
