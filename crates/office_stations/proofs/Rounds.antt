@@ -10,7 +10,8 @@ use Rattle.socket_pump.specs.Turns.{Times, Turned, Stage}
 use Rattle.office_stations.specs.declared.fault.RunFault.{RunFault}
 use Rattle.office_stations.specs.declared.fault.RunFault.TheVariants.{WireFailed}
 use Rattle.office_stations.specs.declared.pace.TimedTurn.{TimedTurn}
-use Rattle.office_stations.specs.Rounds.{of_office, run_fault, Takes, TakesAll, Refuses, Lacks, Fills, StopsFilling, Turns, failed, BreaksOff}
+use Rattle.office_stations.specs.Rounds.{of_office, run_fault, Takes, TakesAll, Refuses, Lacks, Fills, StopsFilling, Turns, BreaksOff}
+use Rattle.office_sockets.specs.Waits.{failed}
 use Rattle.office_stations.specs.refinement.Standings.{standing, Answered, PassedOver}
 
 -- ---- sessions that are taken

@@ -11,8 +11,9 @@ use Rattle.locked_office.specs.Calls.{Key, DeskPass, Does, Looks}
 use Rattle.socket_pump.specs.declared.pump.Turn.{Turn}
 use Rattle.socket_pump.specs.declared.pump.PumpFault.{PumpFault}
 use Rattle.socket_pump.specs.declared.pump.PumpFault.TheVariants as pump
-use Rattle.socket_pump.specs.Wires.{Account, risen}
+use Rattle.socket_pump.specs.Wires.{Account}
 use Rattle.socket_pump.specs.Turns.{Times, Turned, Stage}
+use Rattle.office_sockets.specs.Waits.{failed}
 use Rattle.office_stations.specs.declared.fault.RunFault.{RunFault}
 use Rattle.office_stations.specs.declared.fault.RunFault.TheVariants.{Memory, WireFailed, JournalFull}
 use Rattle.office_stations.specs.declared.pace.TimedTurn.{TimedTurn}
@@ -94,10 +95,6 @@ pub record Turns (tells : Bool) (tag : ℕ) (k : Key) (t : TimedTurn) (a b : Sta
   pub after : DeskPass
   pub turned : Turned tells tag k a.last t.at a.pass a.wire t.turn b.wire after b.last
   pub looked : (after ≡ b.pass) ⊎ Looks k after b.pass
-
--- what a wire tells once a call more failed
-abbrev pub failed : Account → Account
-failed a = record a { failures = risen a.failures }
 
 -- the wait before the turn failed and was counted so, or the turn broke off; and that is this fault
 abbrev pub BreaksOff : Bool → ℕ → Key → Standing → Standing → RunFault → Type 0

@@ -2,8 +2,8 @@
 
 ghost use Rattle.std.specs.Prelude.{◌<◌};
 
-use crate::socket::Socket;
 use office_map::OfficeId;
+use office_sockets::Socket;
 use run_remarks::Way;
 use socket_pump::Turn;
 use std::alloc::{AllocError, Global};

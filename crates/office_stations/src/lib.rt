@@ -5,15 +5,14 @@
 //!   its neighbours, [`Hearing`] and [`Ways`], may be handed from thread to thread.
 //! - [`submit_some`] submits the sessions of a list that are the office's, as it takes them. So a run is rounds of sessions and turns
 //!   (`specs/Rounds.antt`), of which those count that [`TimedTurn`] says.
-//! - [`Binds`], [`Socket`], [`Wakes`]: what is needed of a network. [`UdpSockets`] is UDP; tests have sockets in memory.
+//! - [`Binds`], [`Socket`], [`Wakes`]: what is needed of a network, from `office_sockets`.
 //! - [`Gate`]: is called before each turn, so that a test can hold an office.
 //! - [`Watch`]: is told once a second how far a run is, and of neighbours that were never reached or heard; [`Shared`] is what
 //!   several offices know of that. Who submits an office's sessions sleeps there in the office's [`Room`], while it takes no more.
 //!
 //! How often a turn comes, and that a datagram arrives, is no promise.
 //!
-//! Not said: that an address is one of this machine's; that nothing was waited for at the socket but by
-//! [`Station::wait`]; over UDP, what the system was asked, and how long it waited; that who sleeps in a room wakes. Tests show the last.
+//! Not said: that nothing was waited for at the socket but by [`Station::wait`]; that who sleeps in a room wakes. Tests show the last.
 #![tactic(auto)]
 
 mod address;
@@ -27,10 +26,7 @@ mod pace;
 mod room;
 mod sessions;
 mod shared;
-mod socket;
 mod station;
-mod udp;
-mod waits;
 mod watch;
 
 pub use crate::address::without_address;
@@ -44,8 +40,6 @@ pub use crate::pace::{Pace, TimedTurn};
 pub use crate::room::Room;
 pub use crate::sessions::{add_lines, count_finished, count_of};
 pub use crate::shared::Shared;
-pub use crate::socket::{Binds, Socket, Wakes};
 pub use crate::station::{Station, at_address};
-pub use crate::udp::{UdpSocket, UdpSockets};
-pub use crate::waits::Waits;
 pub use crate::watch::{Progress, Quiet, Watch};
+pub use office_sockets::{Binds, Socket, UdpSocket, UdpSockets, Waits, Wakes};

@@ -1,7 +1,7 @@
 //! How it was waited at a socket.
 
 ghost use Rattle.std.specs.Prelude.{◌≡◌};
-ghost use Rattle.office_stations.specs.Waits.{no_waits, one_more};
+ghost use Rattle.office_sockets.specs.Waits.{no_waits, one_more};
 
 /// How often it was waited at a socket, and for how many milliseconds at most the last time.
 ///

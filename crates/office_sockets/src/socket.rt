@@ -1,9 +1,9 @@
 //! Wires that are bound to an address.
 
 ghost use Rattle.std.specs.Prelude.{◌≡◌, ◌<◌, OnOk, OnErr};
-ghost use Rattle.office_stations.specs.Rounds.{failed};
-ghost use Rattle.office_stations.specs.Waits.{one_more};
-ghost use Rattle.office_stations.specs.declared.waits.Waits.{Waits};
+ghost use Rattle.office_sockets.specs.Waits.{failed};
+ghost use Rattle.office_sockets.specs.Waits.{one_more};
+ghost use Rattle.office_sockets.specs.declared.waits.Waits.{Waits};
 
 use office_map::OfficeId;
 use socket_pump::{Contact, Wire, WireFailed};

@@ -1,0 +1,17 @@
+//! Sockets of offices: wires at an address, which can be waited at.
+//!
+//! - [`Socket`]: a wire that has an address, knows those of the neighbours, and is waited at until a datagram comes, it is woken, or so
+//!   many milliseconds are over. How it was waited is kept in [`Waits`] (`specs/Waits.antt`).
+//! - [`Wakes`] wakes who waits there; [`Binds`] makes both.
+//! - [`UdpSockets`] is UDP. Tests have sockets in memory.
+//!
+//! Not said: that an address is one of this machine's; over UDP, what the system was asked, and how long it waited.
+#![tactic(auto)]
+
+mod socket;
+mod udp;
+mod waits;
+
+pub use crate::socket::{Binds, Socket, Wakes};
+pub use crate::udp::{UdpSocket, UdpSockets};
+pub use crate::waits::Waits;
