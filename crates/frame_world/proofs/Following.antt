@@ -49,7 +49,7 @@ pub record Moves (plan : PlanValue) (pairs : ℕ → Pairs) (a : ℕ) (step : Pa
   pub bars : bars_of (moved pairs a step) ≡ bars_then plan (bars_of pairs) (bottle_event a (pairs a) step)
 
 -- a frame that comes is one that was sent to it
-abbrev Arrived : (ℕ → Pairs) → ℕ → PairStep → Type 0
+abbrev pub Arrived : (ℕ → Pairs) → ℕ → PairStep → Type 0
 Arrived pairs a Stays = Unit {0}
 Arrived pairs a (ByFork rule) = Unit {0}
 Arrived pairs a (ByBottle rule) = Unit {0}
@@ -125,11 +125,11 @@ bars_more : (plan : PlanValue) (w : bars.World) (es : List bars.Event) (e : bars
 bars_more plan w [] e = refl
 bars_more plan w (x ∷ xs) e = bars_more plan (bars.happens plan w x) xs e
 
-tables_go_on : (plan : PlanValue) (w w' : tables.World) (e : Option tables.Event) → w' ≡ tables_then plan w e → IsOfTables plan w → IsOfTables plan w'
+pub tables_go_on : (plan : PlanValue) (w w' : tables.World) (e : Option tables.Event) → w' ≡ tables_then plan w e → IsOfTables plan w → IsOfTables plan w'
 tables_go_on plan w w' None is o = record { events = o.events; led = is ∙ o.led }
 tables_go_on plan w w' (Some e) is o = record { events = o.events ++ e ∷ []; led = is ∙ ap (λ x. tables.happens plan x e) o.led ∙ sym (tables_more plan (tables.opening plan) o.events e) }
 
-bars_go_on : (plan : PlanValue) (w w' : bars.World) (e : Option bars.Event) → w' ≡ bars_then plan w e → IsOfBars plan w → IsOfBars plan w'
+pub bars_go_on : (plan : PlanValue) (w w' : bars.World) (e : Option bars.Event) → w' ≡ bars_then plan w e → IsOfBars plan w → IsOfBars plan w'
 bars_go_on plan w w' None is o = record { events = o.events; led = is ∙ o.led }
 bars_go_on plan w w' (Some e) is o = record { events = o.events ++ e ∷ []; led = is ∙ ap (λ x. bars.happens plan x e) o.led ∙ sym (bars_more plan (bars.opening plan) o.events e) }
 

@@ -35,7 +35,7 @@ who_drinks_has_its_bottles laws plan es c = record {
 -- ---- one bottle
 
 -- at one of four places, it is the only one
-only_one : (v : Value) (a b c d : Bool) → num a + (num b + (num c + num d)) ≡ 1 →
+pub only_one : (v : Value) (a b c d : Bool) → num a + (num b + (num c + num d)) ≡ 1 →
     listed (cond a (Some v) None) ++ (listed (cond b (Some v) None) ++ (cond c (v ∷ []) [] ++ cond d (v ∷ []) [])) ≡ v ∷ []
 only_one v true false false false e = refl
 only_one v false true false false e = refl
@@ -50,7 +50,7 @@ only_one v false true false true e = absurd (omega (arith, e))
 only_one v false false true true e = absurd (omega (arith, e))
 
 -- with one of these, or on the way from one to the other
-abbrev at_ends : ℕ → ℕ → Spot → Bool
+abbrev pub at_ends : ℕ → ℕ → Spot → Bool
 at_ends x y (With a) = x == a || y == a
 at_ends x y (Toward a v) = (x == a && y == v) || (x == v && y == a)
 
@@ -59,7 +59,7 @@ both true b h k = k
 both false b h k = absurd cc
 
 -- the spot is one of the four
-one_spot : (x y : ℕ) → (x ≡ y → ⊥) → (spot : Spot) → at_ends x y spot ≡ true → num (is_with spot x) + (num (is_with spot y) + (num (is_toward spot x y) + num (is_toward spot y x))) ≡ 1
+pub one_spot : (x y : ℕ) → (x ≡ y → ⊥) → (spot : Spot) → at_ends x y spot ≡ true → num (is_with spot x) + (num (is_with spot y) + (num (is_toward spot x y) + num (is_toward spot y x))) ≡ 1
 one_spot x y ne (With a) e = ⊎_elim
     (λ i. let other : (y == a) ≡ false = ne_eqb y a (λ k. ne (eqb-true x a i ∙ sym k)) in omega (arith, ap num i, ap num other))
     (λ i. let other : (x == a) ≡ false = ne_eqb x a (λ k. ne (k ∙ sym (eqb-true y a i))) in omega (arith, ap num i, ap num other))
@@ -76,7 +76,7 @@ one_spot x y ne (Toward a v) e = ⊎_elim
     omega (arith, ap num here, ap num other))
     (or_cases (x == a && y == v) (x == v && y == a) e)
 
-ends_at : (plan : PlanValue) (r : ℕ) (x : RecordEntry) (spot : Spot) → slice_get plan.records r ≡ Some x → is_at_ends plan r spot ≡ true → at_ends x.first x.second spot ≡ true
+pub ends_at : (plan : PlanValue) (r : ℕ) (x : RecordEntry) (spot : Spot) → slice_get plan.records r ≡ Some x → is_at_ends plan r spot ≡ true → at_ends x.first x.second spot ≡ true
 ends_at plan r x (With a) e h = ap (λ o. option_map_or (λ (y : RecordEntry). has_end y a) o false) (sym e) ∙ h
 ends_at plan r x (Toward a v) e h = ap (λ o. option_map_or (lies_between a v) o false) (sym e) ∙ h
 

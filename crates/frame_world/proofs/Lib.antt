@@ -1,22 +1,22 @@
-mod Answers
-mod OneLink
-mod Links
-mod WaysBetween
-mod TablesFollow
-mod BarsFollow
-mod Following
-mod PlacesAndForks
+pub mod Answers
+pub mod OneLink
+pub mod Links
+pub mod WaysBetween
+pub mod TablesFollow
+pub mod BarsFollow
+pub mod Following
+pub mod PlacesAndForks
 mod SentFrames
 mod TimelyCounts
 mod WhatWaits
 mod FewWait
 mod NoneEarly
-mod Sessions
-mod SerialRun
-mod SerialSessions
+pub mod Sessions
+pub mod SerialRun
+pub mod SerialSessions
 mod RisingTickets
 pub mod Tickets
-mod HeadlineLaws
+pub mod HeadlineLaws
 mod Standstill
 mod StepsTaken
 mod FrameBytes

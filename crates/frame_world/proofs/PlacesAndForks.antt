@@ -25,7 +25,7 @@ use Rattle.frame_world.specs.WorldLaws.{seated}
 use Rattle.frame_world.proofs.Following.{Follow, follows}
 
 -- as many bottles as messages that carry them
-counted : (r : ℕ) (ms : List Msg) → length (bottles_in r ms) ≡ count_carrying (thing.Bottle r) ms
+pub counted : (r : ℕ) (ms : List Msg) → length (bottles_in r ms) ≡ count_carrying (thing.Bottle r) ms
 counted r [] = refl
 counted r (msg.Bottle q x ∷ ms) = at (r == q) (counted r ms)
   where

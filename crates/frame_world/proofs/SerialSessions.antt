@@ -67,15 +67,15 @@ pub record IsSerial (plan : PlanValue) (s : State) : Type 0 where
 -- ---- events that finish nothing
 
 -- no end of a session
-abbrev IsNoEnd : Option bars.Event → Type 0
+abbrev pub IsNoEnd : Option bars.Event → Type 0
 IsNoEnd None = Unit {0}
 IsNoEnd (Some e) = (plan : PlanValue) (w : bars.World) → bars.finishes plan w e ≡ false
 
-values_stay : (plan : PlanValue) (w w' : bars.World) (e : Option bars.Event) (r : ℕ) (v : Value) → bars.ValuesStay → IsNoEnd e → w' ≡ bars_then plan w e → bars.HasValue w r v → bars.HasValue w' r v
+pub values_stay : (plan : PlanValue) (w w' : bars.World) (e : Option bars.Event) (r : ℕ) (v : Value) → bars.ValuesStay → IsNoEnd e → w' ≡ bars_then plan w e → bars.HasValue w r v → bars.HasValue w' r v
 values_stay plan w w' None r v law none is h = subst (λ k. bars.HasValue k r v) (sym is) h
 values_stay plan w w' (Some e) r v law none is h = subst (λ k. bars.HasValue k r v) (sym is) (law plan w e r v (none plan w) h)
 
-nothing_ends : (a u : ℕ) (m : Option Msg) → IsNoEnd (bottle_coming a u m)
+pub nothing_ends : (a u : ℕ) (m : Option Msg) → IsNoEnd (bottle_coming a u m)
 nothing_ends a u None = tt
 nothing_ends a u (Some msg.AskFork) = tt
 nothing_ends a u (Some msg.Fork) = tt
@@ -100,7 +100,7 @@ goes_on plan s s' a e r o led none stay h = record {
 -- ---- the end of a session
 
 -- what an office has held, whoever has a value there
-held_value : (w : bars.World) (a r : ℕ) (v : Value) → bars.HasValue w r v → holds (w.drinker a) r ≡ true → (w.drinker a).bottle r ≡ Some v
+pub held_value : (w : bars.World) (a r : ℕ) (v : Value) → bars.HasValue w r v → holds (w.drinker a) r ≡ true → (w.drinker a).bottle r ≡ Some v
 held_value w a r v h e = go (bars.is_with h.spot a) (h.at.here a)
   where
     go : (b : Bool) → (w.drinker a).bottle r ≡ cond b (Some v) None → (w.drinker a).bottle r ≡ Some v
@@ -108,7 +108,7 @@ held_value w a r v h e = go (bars.is_with h.spot a) (h.at.here a)
     go false is = absurd (not_true (holds (w.drinker a) r) e (ap is_some is))
 
 -- whose bottle the office has not
-not_here : (w : bars.World) (a r : ℕ) (v : Value) (h : bars.HasValue w r v) → bars.is_with h.spot a ≡ false → holds (w.drinker a) r ≡ false
+pub not_here : (w : bars.World) (a r : ℕ) (v : Value) (h : bars.HasValue w r v) → bars.is_with h.spot a ≡ false → holds (w.drinker a) r ≡ false
 not_here w a r v h e = ap is_some (h.at.here a) ∙ ap (λ b. is_some (cond b (Some v) None)) e
 
 -- the serial run's next program is the one that an office finishes
@@ -312,7 +312,7 @@ kept_on plan laws s s' k i = record {
 }
 
 -- the bottles start with the plan's values
-first_values : (plan : PlanValue) (r : ℕ) → bars.BottlesStartWithTheirValues → r < length plan.records → bars.HasValue (bars.opening plan) r (start_map plan r)
+pub first_values : (plan : PlanValue) (r : ℕ) → bars.BottlesStartWithTheirValues → r < length plan.records → bars.HasValue (bars.opening plan) r (start_map plan r)
 first_values plan r law lt =
     let e = entry_of plan r lt in
     let there : slice_get (start_values plan) r ≡ Some e.0.value = slice_get-map (λ (x : RecordEntry). x.value) plan.records r ∙ ap (option_map (λ (x : RecordEntry). x.value)) e.1 in
