@@ -172,17 +172,17 @@ broken_off plan a xs s (Some stop) some h = record {
 -- ---- one entry, whatever became of it
 
 -- what a step leaves: the journal goes on, or is as it was
-pub kept_step : (s s' : Site) (e : Event) (result : Result Reply Refusal) → Steps s 0 e result s' → (more : List Entry) × (s' ≡ record { plan = s.plan; me = s.me; entries = s.entries ++ more })
-kept_step s s' e result steps = ⊎_elim (λ h. as_it_was h.1) (λ h. by_answer (answer s.plan s.me (office_of s) e) h.1) steps
+pub kept_step : (tag : ℕ) (s s' : Site) (e : Event) (result : Result Reply Refusal) → Steps s tag e result s' → (more : List Entry) × (s' ≡ record { plan = s.plan; me = s.me; entries = s.entries ++ more })
+kept_step tag s s' e result steps = ⊎_elim (λ h. as_it_was h.1) (λ h. by_answer (answer s.plan s.me (office_of s) e) h.1) steps
   where
     as_it_was : s' ≡ s → (more : List Entry) × (s' ≡ record { plan = s.plan; me = s.me; entries = s.entries ++ more })
     as_it_was h = ([], h ∙ ap (λ l. record { plan = s.plan; me = s.me; entries = l }) (sym (append-nil s.entries)))
 
-    by_room : (x : Reply × Office) (full : Bool) → s' ≡ (cond {A = Result Reply Refusal × Site} full (Err refusal.JournalFull, s) (Ok x.0, noted s 0 e x.0)).1 → (more : List Entry) × (s' ≡ record { plan = s.plan; me = s.me; entries = s.entries ++ more })
+    by_room : (x : Reply × Office) (full : Bool) → s' ≡ (cond {A = Result Reply Refusal × Site} full (Err refusal.JournalFull, s) (Ok x.0, noted s tag e x.0)).1 → (more : List Entry) × (s' ≡ record { plan = s.plan; me = s.me; entries = s.entries ++ more })
     by_room x true h = as_it_was h
-    by_room x false h = (record { tag = 0; event = e; reply = x.0 } ∷ [], h)
+    by_room x false h = (record { tag = tag; event = e; reply = x.0 } ∷ [], h)
 
-    by_answer : (x : Answer) → s' ≡ (recorded s 0 e x).1 → (more : List Entry) × (s' ≡ record { plan = s.plan; me = s.me; entries = s.entries ++ more })
+    by_answer : (x : Answer) → s' ≡ (recorded s tag e x).1 → (more : List Entry) × (s' ≡ record { plan = s.plan; me = s.me; entries = s.entries ++ more })
     by_answer (Ok x) h = by_room x (nat_le most_entries (length s.entries)) h
     by_answer (Err r) h = as_it_was h
 

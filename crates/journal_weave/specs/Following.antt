@@ -9,9 +9,13 @@ use Rattle.journal_weave.specs.Weaving.{untagged}
 abbrev pub site_of : PlanValue → ℕ → List Entry → Site
 site_of plan a entries = record { plan = plan; me = a; entries = map untagged entries }
 
--- the office accepts the event of an entry, with the entry's reply
+-- the office accepts the event of an entry under this tag, with the entry's reply
+abbrev pub GivesAs : ℕ → Site → Entry → Type 0
+GivesAs tag s x = step s tag x.event ≡ (Ok x.reply, noted s tag x.event x.reply)
+
+-- it does so under the tag of a world's events
 abbrev pub Gives : Site → Entry → Type 0
-Gives s x = step s 0 x.event ≡ (Ok x.reply, noted s 0 x.event x.reply)
+Gives s x = GivesAs 0 s x
 
 -- it gives each of the first n entries where that stands
 abbrev pub Follows : PlanValue → ℕ → List Entry → ℕ → Type 0

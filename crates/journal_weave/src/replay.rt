@@ -7,7 +7,7 @@ ghost use Rattle.office_journal.specs.Shown.{entry_shown};
 ghost use Rattle.office_journal.specs.declared.event.Entry.{Entry};
 ghost use Rattle.office_journal.specs.declared.event.Event.TheVariants as events;
 ghost use Rattle.site_core.specs.Journals.{noted};
-ghost use Rattle.journal_weave.specs.Following.{Gives};
+ghost use Rattle.journal_weave.specs.Following.{GivesAs};
 ghost use Rattle.journal_weave.specs.Replays.{given, IsReplay};
 
 use crate::given::GivenJournal;
@@ -67,7 +67,7 @@ impl Replay {
             return Ok(());
         }
         let given = self.office.journal().len();
-        if gives(&mut self.office, entry)? {
+        if gives(&mut self.office, 0, entry)? {
             return Ok(());
         }
         self.stop = Some(Stop {
@@ -157,13 +157,14 @@ fn follow(replay: &mut Replay, entries: &[Entry]) -> Result<(), AllocError>
     Ok(())
 }
 
-/// Whether an office accepts an entry's event with its reply. If so it has taken that step.
-fn gives(office: &mut Office, entry: &Entry) -> Result<bool, AllocError>
-    ensures given { IfOk result (λ b. b ≡ true → Gives office.old entry.now × (office.new ≡ noted office.old 0 entry.now.event entry.now.reply)) }
-    ensures other { IfOk result (λ b. b ≡ false → Gives office.old entry.now → ⊥) }
+/// Whether an office accepts an entry's event under this tag, with the entry's reply. If so it has taken that step.
+pub fn gives(office: &mut Office, tag: u8, entry: &Entry) -> Result<bool, AllocError>
+    requires { tag < 16 }
+    ensures given { IfOk result (λ b. b ≡ true → GivesAs tag office.old entry.now × (office.new ≡ noted office.old tag entry.now.event entry.now.reply)) }
+    ensures other { IfOk result (λ b. b ≡ false → GivesAs tag office.old entry.now → ⊥) }
     ensures kept { IfOk result (λ _. (more : List Entry) × (office.new ≡ record { plan = office.old.plan; me = office.old.me; entries = office.old.entries ++ more })) }
 {
-    match office.step(0, &entry.event) {
+    match office.step(tag, &entry.event) {
         Ok(reply) => Ok(is_same(&reply, &entry.reply)),
         Err(Refusal::Memory) => Err(AllocError),
         Err(_) => Ok(false),

@@ -1,13 +1,13 @@
 //! An office that is opened again.
 
-ghost use Rattle.std.specs.Prelude.{◌≡◌, ◌<◌, ◌↔◌, [], true, false, length, IfOk, IfErr, IsTrue};
+ghost use Rattle.std.specs.Prelude.{◌≡◌, ◌<◌, [], true, false, length, IfOk, IfErr};
 ghost use Rattle.site_core.specs.Journals.{IsLegal, noted};
 ghost use Rattle.office_restarts.specs.Reopening.{site_with, IsNoJournal};
 ghost use Rattle.office_restarts.specs.refinement.Giving.{Gives};
 
 use crate::fault::ReopenFault;
 use office_map::{OfficeId, Plan};
-use site_core::{Entry, Office, Refusal, Reply};
+use site_core::{Entry, Office};
 use std::alloc::{AllocError, Global};
 
 /// The office of which these entries are the journal. It is the one that had accepted them, and goes on where they end.
@@ -41,7 +41,7 @@ pub fn reopened(
     Ok(office)
 }
 
-/// Whether an office accepts an entry's event with its reply. If so it has that entry more.
+/// Whether an office accepts an entry's event under its tag, with its reply. If so it has that entry more.
 fn gives(office: &mut Office, entry: &Entry) -> Result<bool, AllocError>
     ensures given { IfOk result (λ b. b ≡ true → office.new ≡ noted office.old entry.now.tag entry.now.event entry.now.reply) }
     ensures other { IfOk result (λ b. b ≡ false → Gives office.old entry.now → ⊥) }
@@ -52,15 +52,5 @@ fn gives(office: &mut Office, entry: &Entry) -> Result<bool, AllocError>
     if entry.tag >= 16 {
         return Ok(false);
     }
-    match office.step(entry.tag, &entry.event) {
-        Ok(reply) => Ok(is_same(&reply, &entry.reply)),
-        Err(Refusal::Memory) => Err(AllocError),
-        Err(_) => Ok(false),
-    }
-}
-
-fn is_same(a: &Reply, b: &Reply) -> bool
-    ensures { IsTrue result ↔ (a.now ≡ b.now) }
-{
-    a == b
+    journal_weave::gives(office, entry.tag, entry)
 }
