@@ -9,7 +9,7 @@ use durable_turns::{Mail, TurnFault};
 use journal_stores::{MemoryStore, Store};
 use journal_texts::{add_header, read_journal, text, whole_lines};
 use locked_office::Desk;
-use memory_wires::MemoryWire;
+use memory_wires::{FaultWire, MemoryWire};
 use office_map::{OfficeId, Plan};
 use office_restarts::reopened;
 use own_lock::Pass;
@@ -32,15 +32,18 @@ const PAIR: &str =
 const SESSIONS: &str =
     "session a\nset x = read x - 30\nset y = read y + 30\nend\nsession b\nset x = read x + 1\nend\n";
 
-/// An office with its store, in which its first `stood` entries stand; how many sessions it was given when it was opened, and how
-/// many of the datagrams that left came to the other.
+/// More calls than any wire here gets.
+const NEVER: u64 = u64::MAX;
+
+/// An office with its store, in which its first `stood` entries stand, and a wire that fails at a call; how many sessions it was given
+/// when it was opened, and how many of the datagrams that left came to the other.
 #[derive(Drop)]
 struct Side {
     me: OfficeId,
     desk: Desk,
     pass: Pass<Office>,
     pump: Pump,
-    wire: MemoryWire,
+    wire: FaultWire<MemoryWire>,
     mail: Mail,
     store: MemoryStore,
     stood: usize,
@@ -118,16 +121,38 @@ fn only(desk: &Desk, passes: &mut Vec<Pass<Office>>) -> Option<Pass<Office>>
     passes.pop()
 }
 
+/// A wire of which so many calls go before one fails.
+fn failing(alloc: Global, calls: u64) -> FaultWire<MemoryWire> {
+    FaultWire::new(MemoryWire::new(alloc), calls)
+}
+
 /// An office of the plan that goes on with what is found, in a box: who owns so many fields and leaves early is long to prove.
 fn open_side(alloc: Global, plan: &Plan, me: OfficeId, found: &[u8]) -> Result<Box<Side>, Fail> {
+    open_failing(alloc, plan, me, found, NEVER)
+}
+
+/// The same, where so many calls of its wire go before one fails.
+fn open_failing(
+    alloc: Global,
+    plan: &Plan,
+    me: OfficeId,
+    found: &[u8],
+    calls: u64,
+) -> Result<Box<Side>, Fail> {
     let kept = kept(alloc, plan, me, found)?;
     let office = office_of(alloc, plan, me, kept.as_str())?;
     let pump = pump_of(alloc, &office)?;
     let store = store_of(alloc, &office, kept.as_str())?;
-    side_of(alloc, office, pump, store)
+    side_of(alloc, office, pump, store, calls)
 }
 
-fn side_of(alloc: Global, office: Office, pump: Pump, store: MemoryStore) -> Result<Box<Side>, Fail>
+fn side_of(
+    alloc: Global,
+    office: Office,
+    pump: Pump,
+    store: MemoryStore,
+    calls: u64,
+) -> Result<Box<Side>, Fail>
     requires key { (office.plan, office.me) ≡ pump.key }
     requires stood { store.stood ≡ journal_text office.plan office.me office.entries }
 {
@@ -143,7 +168,7 @@ fn side_of(alloc: Global, office: Office, pump: Pump, store: MemoryStore) -> Res
                 desk,
                 pass,
                 pump,
-                wire: MemoryWire::new(alloc),
+                wire: failing(alloc, calls),
                 mail: Mail::new(alloc),
                 store,
                 stood,
@@ -181,7 +206,7 @@ fn turn<R: Wait>(rt: &R, alloc: Global, side: &mut Side, now: u64) -> Result<Tur
 
 /// What went out since comes to the other.
 fn carry(side: &mut Side, other: &mut MemoryWire) -> Result<(), Fail> {
-    let all = side.wire.accepted();
+    let all = side.wire.wire.accepted();
     for i in side.carried..all.len() {
         other.comes(all[i].1.bytes())?;
     }
@@ -210,8 +235,13 @@ struct Both {
 }
 
 fn open_both(alloc: Global, plan: &Plan) -> Result<Both, Fail> {
-    let a = open_side(alloc, plan, OfficeId::new(0), &[])?;
-    let b = open_side(alloc, plan, OfficeId::new(1), &[])?;
+    open_both_failing(alloc, plan, NEVER, NEVER)
+}
+
+/// The same, where of each one's wire so many calls go before one fails.
+fn open_both_failing(alloc: Global, plan: &Plan, calls_a: u64, calls_b: u64) -> Result<Both, Fail> {
+    let a = open_failing(alloc, plan, OfficeId::new(0), &[], calls_a)?;
+    let b = open_failing(alloc, plan, OfficeId::new(1), &[], calls_b)?;
     Ok(Both { a, b })
 }
 
@@ -254,9 +284,9 @@ fn crosses<R: Wait + Abort>(
     };
     assert_eq!(rt; submit(rt, a, program), Some(1));
     assert_eq!(rt; turn(rt, alloc, a, 0), did([0, 0, 4, 1]));
-    carry(a, &mut b.wire)?;
+    carry(a, &mut b.wire.wire)?;
     assert_eq!(rt; turn(rt, alloc, b, 0), did([1, 0, 1, 1]));
-    carry(b, &mut a.wire)?;
+    carry(b, &mut a.wire.wire)?;
     assert_eq!(rt; turn(rt, alloc, a, 0), did([1, 0, 4, 1]));
     assert_eq!(rt; value_after(rt, a), Some(70));
     Ok(())
@@ -268,8 +298,7 @@ fn a_wire_fails_at_each_call(rt: HostRuntime) -> Result<(), Fail> {
     let plan = Plan::read(rt.alloc(), PAIR.as_bytes())?;
     let programs = programs(rt.alloc(), &plan)?;
     for call in 0..12 {
-        let mut both = open_both(rt.alloc(), &plan)?;
-        both.a.wire.fail_at(call);
+        let mut both = open_both_failing(rt.alloc(), &plan, call, NEVER)?;
         let told = goes_on(&rt, rt.alloc(), &mut both.a, &mut both.b, &programs)?;
         assert_eq!(rt; told, (1, Some(70)), "call {call}");
     }
@@ -291,9 +320,9 @@ fn goes_on<R: Wait>(
     let mut failed: u32 = 0;
     for round in 0..15u64 {
         failed = broke_off(turn(rt, alloc, a, round * 50))?.saturating_add(failed);
-        carry(a, &mut b.wire)?;
+        carry(a, &mut b.wire.wire)?;
         failed = broke_off(turn(rt, alloc, b, round * 50))?.saturating_add(failed);
-        carry(b, &mut a.wire)?;
+        carry(b, &mut a.wire.wire)?;
     }
     Ok((failed, value_after(rt, a)))
 }

@@ -1,12 +1,16 @@
-//! Wires in memory, by which tests tell what an office hears and see what it says.
+//! Wires in memory, by which tests tell what an office hears and see what it says, and wires that fail.
 //!
-//! - A [`MemoryWire`] hands out what [`MemoryWire::comes`] put in, writes down all that goes out and all that it answered, and fails
-//!   where it is told to. Contracts see its account (`socket_pump`'s `specs/Wires.antt`).
+//! - A [`MemoryWire`] hands out what [`MemoryWire::comes`] put in, and writes down all that goes out and all that it answered. It
+//!   fails where it has no memory for that. Contracts see its account (`socket_pump`'s `specs/Wires.antt`).
+//! - A [`FaultWire`] is any wire that fails once more, at the call that was chosen (`specs/OneFault.antt`). It meets the contract of
+//!   a wire, so what `socket_pump` says of a turn over a wire that fails holds over it.
 //! - A [`Datagram`] is the bytes of one.
 //!
-//! Not said: at which call it fails, and what it hands out next.
+//! Not said: what a wire in memory hands out next.
 #![tactic(auto)]
 
+mod fault;
 mod wire;
 
+pub use crate::fault::FaultWire;
 pub use crate::wire::{Datagram, MemoryWire};

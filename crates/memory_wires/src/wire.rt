@@ -47,8 +47,6 @@ impl Datagram {
 pub struct MemoryWire {
     alloc: Global,
     inbox: VecDeque<Datagram>,
-    calls: u64,
-    fails_at: Option<u64>,
     failures: u64,
     received: Vec<Option<Datagram>>,
     accepted: Vec<(OfficeId, Datagram)>,
@@ -63,15 +61,13 @@ impl Model for MemoryWire {
 }
 
 impl MemoryWire {
-    /// A wire on which nothing came, and that doesn't fail but for want of memory.
+    /// A wire on which nothing came. It fails for want of memory alone.
     pub fn new(alloc: Global) -> MemoryWire
         ensures { result ≡ counted 0 }
     {
         MemoryWire {
             alloc,
             inbox: VecDeque::new(alloc),
-            calls: 0,
-            fails_at: None,
             failures: 0,
             received: Vec::new(alloc),
             accepted: Vec::new(alloc),
@@ -87,27 +83,11 @@ impl MemoryWire {
         Ok(())
     }
 
-    /// The call of `receive` or `send` with that number fails, of those to come and those that were, from 0 on.
-    pub fn fail_at(&mut self, call: u64)
-        ensures { self.new ≡ self.old }
-    {
-        self.fails_at = Some(call);
-    }
-
     /// What went out, the first first.
     pub fn accepted(&self) -> &[(OfficeId, Datagram)]
         ensures { result.now ≡ self.now.accepted }
     {
         self.accepted.as_slice()
-    }
-
-    // Whether this call is to fail.
-    fn fails(&mut self) -> bool
-        ensures { self.new ≡ self.old }
-    {
-        let fails = self.fails_at == Some(self.calls);
-        self.calls = self.calls.saturating_add(1);
-        fails
     }
 
     fn failed(&mut self) -> WireFailed
@@ -126,9 +106,6 @@ impl Wire for MemoryWire {
     ghost tells = { true };
 
     fn receive(&mut self, buffer: &mut [u8; 64]) -> Result<Option<usize>, WireFailed> {
-        if self.fails() {
-            return Err(self.failed());
-        }
         let Some(datagram) = self.inbox.pop_front() else {
             let Ok(()) = self.received.push(None) else {
                 return Err(self.failed());
@@ -147,9 +124,6 @@ impl Wire for MemoryWire {
     }
 
     fn send(&mut self, to: OfficeId, bytes: &[u8]) -> Result<(), WireFailed> {
-        if self.fails() {
-            return Err(self.failed());
-        }
         let Ok(datagram) = Datagram::of(self.alloc, bytes) else {
             return Err(self.failed());
         };

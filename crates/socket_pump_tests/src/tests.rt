@@ -4,7 +4,7 @@ ghost use Rattle.own_lock.specs.Passes.{IsOf, AreIdle};
 use bottle_values::Value;
 use frame_codec::decode;
 use locked_office::Desk;
-use memory_wires::MemoryWire;
+use memory_wires::{FaultWire, MemoryWire};
 use office_map::{OfficeId, Plan};
 use own_lock::Pass;
 use session_language::read_sessions;
@@ -178,16 +178,19 @@ fn did(counts: [u32; 4]) -> Result<Turn, PumpFault> {
     })
 }
 
-/// Both offices, with a wire each; what one sends comes to the other.
+/// Both offices, with a wire each, which fails at a call; what one sends comes to the other.
 #[derive(Drop)]
 struct Both {
     a: Box<Side>,
     b: Box<Side>,
-    wire_a: MemoryWire,
-    wire_b: MemoryWire,
+    wire_a: FaultWire<MemoryWire>,
+    wire_b: FaultWire<MemoryWire>,
     from_a: usize,
     from_b: usize,
 }
+
+/// More calls than any wire here gets.
+const NEVER: u64 = u64::MAX;
 
 fn open_both(alloc: Global) -> Result<Box<Both>, Fail> {
     open_both_of(alloc, PAIR)
@@ -195,17 +198,22 @@ fn open_both(alloc: Global) -> Result<Box<Both>, Fail> {
 
 /// The first two offices of the plan.
 fn open_both_of(alloc: Global, plan: &str) -> Result<Box<Both>, Fail> {
-    let a = open_side(alloc, plan, 0)?;
-    let b = open_side(alloc, plan, 1)?;
-    Ok(Box::new(alloc, linked(alloc, a, b))?)
+    open_failing(alloc, plan, NEVER, NEVER)
 }
 
-fn linked(alloc: Global, a: Box<Side>, b: Box<Side>) -> Both {
+/// The same, where of each one's wire so many calls go before one fails.
+fn open_failing(alloc: Global, plan: &str, calls_a: u64, calls_b: u64) -> Result<Box<Both>, Fail> {
+    let a = open_side(alloc, plan, 0)?;
+    let b = open_side(alloc, plan, 1)?;
+    Ok(Box::new(alloc, linked(alloc, a, b, calls_a, calls_b))?)
+}
+
+fn linked(alloc: Global, a: Box<Side>, b: Box<Side>, calls_a: u64, calls_b: u64) -> Both {
     Both {
         a,
         b,
-        wire_a: MemoryWire::new(alloc),
-        wire_b: MemoryWire::new(alloc),
+        wire_a: FaultWire::new(MemoryWire::new(alloc), calls_a),
+        wire_b: FaultWire::new(MemoryWire::new(alloc), calls_b),
         from_a: 0,
         from_b: 0,
     }
@@ -230,10 +238,10 @@ impl Both {
     /// What went out comes to the other.
     fn carry(&mut self) -> Result<(), Fail> {
         carry(
-            &self.wire_a,
+            &self.wire_a.wire,
             &mut self.from_a,
             OfficeId::new(1),
-            &mut self.wire_b,
+            &mut self.wire_b.wire,
         )?;
         self.carry_back()
     }
@@ -241,17 +249,17 @@ impl Both {
     /// What the second sent comes to the first.
     fn carry_back(&mut self) -> Result<(), Fail> {
         carry(
-            &self.wire_b,
+            &self.wire_b.wire,
             &mut self.from_b,
             OfficeId::new(0),
-            &mut self.wire_a,
+            &mut self.wire_a.wire,
         )
     }
 
     /// The first sent two frames in each of four turns. Of all these one comes to the second.
     fn first_of_the_fourth_comes(&mut self) -> Result<(), Fail> {
-        match self.wire_a.accepted().get(6) {
-            Some(sent) => Ok(self.wire_b.comes(sent.1.bytes())?),
+        match self.wire_a.wire.accepted().get(6) {
+            Some(sent) => Ok(self.wire_b.wire.comes(sent.1.bytes())?),
             None => Err(Fail::from("a frame")),
         }
     }
@@ -427,7 +435,7 @@ fn the_last_datagram_stays(rt: HostRuntime) -> Result<(), Fail> {
 
 fn stays<R: Wait + Abort>(rt: &R, both: &mut Both) -> Result<(), Fail> {
     for _ in 0..33 {
-        both.wire_a.comes(b"no frame")?;
+        both.wire_a.wire.comes(b"no frame")?;
     }
     assert_eq!(rt; both.turn_a(rt, 0), did([0, 32, 0, 0]));
     assert_eq!(rt; both.turn_a(rt, 0), did([0, 1, 0, 0]));
@@ -435,46 +443,51 @@ fn stays<R: Wait + Abort>(rt: &R, both: &mut Both) -> Result<(), Fail> {
     Ok(())
 }
 
-/// A wire that fails once, at whichever call, breaks off that turn alone, and the session finishes.
+/// A wire that fails once, at whichever call, breaks off the turn in which it does and no other, and the session finishes.
 #[test]
 fn a_wire_fails_at_each_call(rt: HostRuntime) -> Result<(), Fail> {
     let programs = programs(rt.alloc())?;
-    fail_at_each(&rt, rt.alloc(), &programs)
-}
-
-fn fail_at_each<R: Wait + Abort>(rt: &R, alloc: Global, programs: &[Program]) -> Result<(), Fail> {
-    for call in 0..12 {
-        let told = first_fails(rt, alloc, programs, call)?;
-        assert_eq!(rt; told, (1, Some(70)), "a's call {call}");
-        let told = second_fails(rt, alloc, programs, call)?;
-        assert_eq!(rt; told, (1, Some(70)), "b's call {call}");
-    }
+    let calls = fail_at_each(&rt, rt.alloc(), &programs, Who::A)?;
+    assert!(rt; calls > 15, "a's calls: {calls}");
+    let calls = fail_at_each(&rt, rt.alloc(), &programs, Who::B)?;
+    assert!(rt; calls > 15, "b's calls: {calls}");
     Ok(())
 }
 
-fn first_fails<R: Wait>(
+/// Each call of its wire fails, in a run of its own, up to one that isn't made. How many were made.
+fn fail_at_each<R: Wait + Abort>(
     rt: &R,
     alloc: Global,
     programs: &[Program],
-    call: u64,
-) -> Result<(u32, Option<i64>), Fail> {
-    let mut both = open_both(alloc)?;
-    both.wire_a.fail_at(call);
-    goes_on(rt, &mut both, programs)
+    who: Who,
+) -> Result<u64, Fail> {
+    for call in 0..100 {
+        let (failed, value) = fails_at(rt, alloc, programs, who, call)?;
+        assert_eq!(rt; value, Some(70), "call {call}");
+        if failed == 0 {
+            return Ok(call);
+        }
+        assert_eq!(rt; failed, 1, "call {call}");
+    }
+    Err(Fail::from("fewer calls"))
 }
 
-fn second_fails<R: Wait>(
+fn fails_at<R: Wait>(
     rt: &R,
     alloc: Global,
     programs: &[Program],
+    who: Who,
     call: u64,
 ) -> Result<(u32, Option<i64>), Fail> {
-    let mut both = open_both(alloc)?;
-    both.wire_b.fail_at(call);
+    let (calls_a, calls_b) = match who {
+        Who::A => (call, NEVER),
+        Who::B => (NEVER, call),
+    };
+    let mut both = open_failing(alloc, PAIR, calls_a, calls_b)?;
     goes_on(rt, &mut both, programs)
 }
 
-/// How many turns of thirty broke off since the wire failed, and what the session left.
+/// In how many turns of thirty the wire failed, and what the session left.
 fn goes_on<R: Wait>(
     rt: &R,
     both: &mut Both,
@@ -488,12 +501,28 @@ fn goes_on<R: Wait>(
     };
     let mut failed = 0;
     for round in 0..15u64 {
-        failed = broke_off(both.turn_a(rt, round * 50))?.saturating_add(failed);
+        failed = failed_in(rt, &mut both.a, &mut both.wire_a, round * 50)?.saturating_add(failed);
         both.carry()?;
-        failed = broke_off(both.turn_b(rt, round * 50))?.saturating_add(failed);
+        failed = failed_in(rt, &mut both.b, &mut both.wire_b, round * 50)?.saturating_add(failed);
         both.carry()?;
     }
     Ok((failed, value_after(rt, &mut both.a, ticket)))
+}
+
+/// 1 where the wire failed in the turn: it breaks off just then.
+fn failed_in<R: Wait>(
+    rt: &R,
+    side: &mut Side,
+    wire: &mut FaultWire<MemoryWire>,
+    now: u64,
+) -> Result<u32, Fail> {
+    let before = wire.left.is_some();
+    let broke = broke_off(turn(rt, side, wire, now))?;
+    let fails = before && wire.left.is_none();
+    if broke != u32::from(fails) {
+        return Err(Fail::from("a turn that breaks off where its wire fails"));
+    }
+    Ok(broke)
 }
 
 /// 1 where the wire failed.
@@ -521,8 +550,8 @@ fn many_cross<R: Wait + Abort>(rt: &R, both: &mut Both, programs: &[Program]) ->
     for ticket in 1..252u32 {
         cross_both(rt, both, first, second, ticket)?;
     }
-    assert_eq!(rt; messages(&both.wire_a), 1504);
-    assert_eq!(rt; messages(&both.wire_b), 1504);
+    assert_eq!(rt; messages(&both.wire_a.wire), 1504);
+    assert_eq!(rt; messages(&both.wire_b.wire), 1504);
     Ok(())
 }
 
@@ -589,7 +618,7 @@ fn one_gets_no_frame<R: Wait + Abort>(
     }
     assert_eq!(rt; value_after(rt, &mut both.b, 1), Some(70));
     assert_eq!(rt; value_after(rt, &mut both.a, 1), None);
-    assert_eq!(rt; frames_to(&both.wire_a, OfficeId::new(2)), 3);
+    assert_eq!(rt; frames_to(&both.wire_a.wire, OfficeId::new(2)), 3);
     Ok(())
 }
 

@@ -266,7 +266,7 @@ const FAILED: &str =
 fn a_failing_socket_ends_a_run(rt: HostRuntime) -> Result<(), Fail> {
     for (call, printed) in [(0, "unfinished 1\n"), (1, GAVE), (2, GAVE)] {
         let mut binds = Deaf::new(rt.alloc());
-        binds.fails_at = Some(call);
+        binds.fails_at = call;
         let around = Around {
             binds: &binds,
             gate: &Open,

@@ -4,7 +4,7 @@ use crate::tests::Memory;
 use crate::tests::shelves::NoStores;
 use drink_program::exit::Exit;
 use drink_program::program::answer;
-use memory_wires::MemoryWire;
+use memory_wires::{FaultWire, MemoryWire};
 use office_map::OfficeId;
 use office_stations::{Around, Binds, Gate, Open, Quiet, Socket, Waits, Wakes};
 use output_files::InMemory;
@@ -21,8 +21,8 @@ use std::thread::Threads;
 #[derive(Drop)]
 pub struct Deaf {
     alloc: Global,
-    /// The call of each socket that fails.
-    pub fails_at: Option<u64>,
+    /// How many calls of each socket go before one fails.
+    pub fails_at: u64,
     /// What is answered in place of a socket.
     pub refusal: Option<ErrorKind>,
 }
@@ -31,7 +31,7 @@ impl Deaf {
     pub fn new(alloc: Global) -> Deaf {
         Deaf {
             alloc,
-            fails_at: None,
+            fails_at: u64::MAX,
             refusal: None,
         }
     }
@@ -46,10 +46,7 @@ impl Binds for Deaf {
         if let Some(kind) = self.refusal {
             return Err(io::Error::from(kind));
         }
-        let mut wire = MemoryWire::new(self.alloc);
-        if let Some(call) = self.fails_at {
-            wire.fail_at(call);
-        }
+        let wire = FaultWire::new(MemoryWire::new(self.alloc), self.fails_at);
         let waits = Waits::none();
         Ok((DeafSocket { wire, at, waits }, Bell))
     }
@@ -57,15 +54,16 @@ impl Binds for Deaf {
 
 #[derive(Drop)]
 pub struct DeafSocket {
-    wire: MemoryWire,
+    wire: FaultWire<MemoryWire>,
     at: SocketAddr,
     waits: Waits,
 }
 
 impl Wire for DeafSocket {
     ghost use Rattle.std.specs.Prelude.{true};
+    ghost use Rattle.memory_wires.specs.OneFault.{with_fault};
 
-    ghost account = { λ s. s.wire };
+    ghost account = { λ s. with_fault s.wire.left s.wire.wire };
 
     ghost tells = { true };
 

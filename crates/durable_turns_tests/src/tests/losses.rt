@@ -1,6 +1,8 @@
 //! Offices whose stores or wires fail are lost, and opened again from what is found.
 
-use crate::tests::{Both, PAIR, Side, carry, open_both, open_side, programs, turn, value_after};
+use crate::tests::{
+    Both, NEVER, PAIR, Side, carry, open_both_failing, open_side, programs, turn, value_after,
+};
 use durable_turns::TurnFault;
 use journal_stores::MemoryStore;
 use journal_weave::{GivenJournal, weave};
@@ -111,7 +113,7 @@ fn go_on<R: Wait>(
             alloc,
             plan,
             &mut both.a,
-            &mut both.b.wire,
+            &mut both.b.wire.wire,
             &mut a,
             round * 50,
         )?;
@@ -121,7 +123,7 @@ fn go_on<R: Wait>(
             alloc,
             plan,
             &mut both.b,
-            &mut both.a.wire,
+            &mut both.a.wire.wire,
             &mut b,
             round * 50,
         )?;
@@ -200,10 +202,35 @@ enum By {
     Wire(u64),
 }
 
-fn fail(side: &mut Side, by: By) {
+/// How many calls of its wire go before one fails.
+fn calls_of(by: By) -> u64 {
+    match by {
+        By::Store(_, _) => NEVER,
+        By::Wire(call) => call,
+    }
+}
+
+fn fail_store(side: &mut Side, by: By) {
     match by {
         By::Store(call, found) => side.store.fail_at(call, found),
-        By::Wire(call) => side.wire.fail_at(call),
+        By::Wire(_) => {}
+    }
+}
+
+/// Both offices, of which that one is lost so.
+fn open_lost(alloc: Global, plan: &Plan, who: Who, by: By) -> Result<Both, Fail> {
+    let calls = calls_of(by);
+    match who {
+        Who::A => {
+            let mut both = open_both_failing(alloc, plan, calls, NEVER)?;
+            fail_store(&mut both.a, by);
+            Ok(both)
+        }
+        Who::B => {
+            let mut both = open_both_failing(alloc, plan, NEVER, calls)?;
+            fail_store(&mut both.b, by);
+            Ok(both)
+        }
     }
 }
 
@@ -215,11 +242,7 @@ fn lost_by<R: Wait + Abort>(
     who: Who,
     by: By,
 ) -> Result<Losses, Fail> {
-    let mut both = open_both(alloc, &given.plan)?;
-    match who {
-        Who::A => fail(&mut both.a, by),
-        Who::B => fail(&mut both.b, by),
-    }
+    let mut both = open_lost(alloc, &given.plan, who, by)?;
     let (a, b) = go_on(rt, alloc, &given.plan, &mut both, &given.programs)?;
     let told = (a.told, b.told);
     assert!(rt; told == (Some(70), Some(71)) || told == (Some(71), Some(101)));

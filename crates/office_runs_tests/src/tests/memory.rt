@@ -1,9 +1,7 @@
 //! Sockets in memory. Their ports are the numbers of mailboxes, from 1.
 
-ghost use Rattle.std.specs.Prelude.{◌≡◌, OnOk, OnErr};
-
 use frame_codec::decode;
-use memory_wires::Datagram;
+use memory_wires::{Datagram, FaultWire};
 use office_map::OfficeId;
 use office_stations::{Binds, Socket, Waits, Wakes};
 use socket_pump::{Contact, Wire, WireFailed};
@@ -77,8 +75,8 @@ pub(crate) enum Comes {
     Nothing,
 }
 
-/// What binds them. The one with this number, from 0, is refused, and of each the call of `receive` or `send` with that number
-/// fails, from 0. A frame for the office with the number `lost` is lost, and said to be so for want of a route.
+/// What binds them. The one with this number, from 0, is refused, and of each so many calls of `receive` and `send` go before one
+/// fails. A frame for the office with the number `lost` is lost, and said to be so for want of a route.
 #[derive(Drop)]
 pub(crate) struct MemorySockets<'a, R: Wait + Clock> {
     rt: &'a R,
@@ -111,7 +109,7 @@ impl<'a, R: Wait + Clock> MemorySockets<'a, R> {
         }
     }
 
-    /// Of each the call of `receive` or `send` with that number fails, from 0.
+    /// Of each so many calls of `receive` and `send` go before one fails.
     pub(crate) fn fail_at(&mut self, call: u64) {
         self.fails_at = call;
     }
@@ -155,21 +153,24 @@ impl<'a, R: Wait + Clock> MemorySockets<'a, R> {
     }
 }
 
-/// One of them.
+/// Where one of them hands out what came to its mailbox, and puts what goes out into those of others.
 #[derive(Drop)]
-pub(crate) struct MemorySocket<'a, R: Wait + Clock> {
+pub(crate) struct Mailing<'a, R: Wait + Clock> {
     rt: &'a R,
     alloc: Global,
     boxes: &'a [Mailbox],
     own: usize,
     peers: [usize; 16],
-    calls: u64,
-    fails_at: u64,
-    failures: u64,
-    waits: Waits,
     comes: Comes,
     lost: u8,
     contacts: [Contact; 16],
+}
+
+/// One of them.
+#[derive(Drop)]
+pub(crate) struct MemorySocket<'a, R: Wait + Clock> {
+    mail: FaultWire<Mailing<'a, R>>,
+    waits: Waits,
 }
 
 /// What wakes who sleeps at a socket in memory. It says at the mailbox when it is gone, and who submits the office's sessions with it.
@@ -212,19 +213,19 @@ impl<'a, R: Wait + Clock> Binds for MemorySockets<'a, R> {
         } else {
             usize::from(at.port()) - 1
         };
-        let socket = MemorySocket {
+        let mail = Mailing {
             rt: self.rt,
             alloc: self.alloc,
             boxes: self.boxes,
             own,
             peers: [usize::MAX; 16],
-            calls: 0,
-            fails_at: self.fails_at,
-            failures: 0,
-            waits: Waits::none(),
             comes: self.comes,
             lost: self.lost,
             contacts: [Contact::none(); 16],
+        };
+        let socket = MemorySocket {
+            mail: FaultWire::new(mail, self.fails_at),
+            waits: Waits::none(),
         };
         let alarm = Alarm {
             mailbox: self.boxes.get(own),
@@ -233,23 +234,7 @@ impl<'a, R: Wait + Clock> Binds for MemorySockets<'a, R> {
     }
 }
 
-impl<'a, R: Wait + Clock> MemorySocket<'a, R> {
-    ghost use Rattle.socket_pump.specs.Wires.{risen};
-
-    // A call, and how it fails, if it does.
-    fn called(&mut self) -> Result<(), WireFailed>
-        ensures fine { OnOk result (self.new.failures ≡ self.old.failures) }
-        ensures failed { OnErr result (self.new.failures ≡ risen self.old.failures) }
-    {
-        let fails = self.calls == self.fails_at;
-        self.calls = self.calls.saturating_add(1);
-        if !fails {
-            return Ok(());
-        }
-        self.failures = self.failures.saturating_add(1);
-        Err(WireFailed)
-    }
-
+impl<'a, R: Wait + Clock> Mailing<'a, R> {
     // Waits at its mailbox, for so many milliseconds at most, if nobody sleeps there.
     fn rest(&self, mailbox: &Mailbox, most: u64) {
         if most == 0 || self.comes == Comes::Nothing {
@@ -261,9 +246,7 @@ impl<'a, R: Wait + Clock> MemorySocket<'a, R> {
         }
     }
 
-    fn hear(&mut self, bytes: &[u8])
-        ensures { self.new.failures ≡ self.old.failures }
-    {
+    fn hear(&mut self, bytes: &[u8]) {
         if let Ok(frame) = decode(bytes) {
             if let Some(contact) = self.contacts.get_mut(usize::from(frame.from())) {
                 contact.heard = contact.heard.saturating_add(1);
@@ -271,34 +254,29 @@ impl<'a, R: Wait + Clock> MemorySocket<'a, R> {
         }
     }
 
-    fn count_lost(&mut self, to: OfficeId)
-        ensures { self.new.failures ≡ self.old.failures }
-    {
+    fn count_lost(&mut self, to: OfficeId) {
         if let Some(contact) = self.contacts.get_mut(to.index()) {
             contact.lost = contact.lost.saturating_add(1);
             contact.cause = Some(101);
         }
     }
 
-    fn count_gone(&mut self, to: OfficeId)
-        ensures { self.new.failures ≡ self.old.failures }
-    {
+    fn count_gone(&mut self, to: OfficeId) {
         if let Some(contact) = self.contacts.get_mut(to.index()) {
             contact.went = contact.went.saturating_add(1);
         }
     }
 }
 
-impl<'a, R: Wait + Clock> Wire for MemorySocket<'a, R> {
+impl<'a, R: Wait + Clock> Wire for Mailing<'a, R> {
     ghost use Rattle.socket_pump.specs.Wires.{counted};
     ghost use Rattle.std.specs.Prelude.{false};
 
-    ghost account = { λ w. counted w.failures };
+    ghost account = { λ _. counted 0 };
 
     ghost tells = { false };
 
     fn receive(&mut self, buffer: &mut [u8; 64]) -> Result<Option<usize>, WireFailed> {
-        self.called()?;
         if self.comes == Comes::Noise {
             buffer[0] = 0;
             return Ok(Some(1));
@@ -317,7 +295,6 @@ impl<'a, R: Wait + Clock> Wire for MemorySocket<'a, R> {
     }
 
     fn send(&mut self, to: OfficeId, bytes: &[u8]) -> Result<(), WireFailed> {
-        self.called()?;
         if to.number() == self.lost {
             self.count_lost(to);
             return Ok(());
@@ -338,29 +315,50 @@ impl<'a, R: Wait + Clock> Wire for MemorySocket<'a, R> {
     }
 }
 
+impl<'a, R: Wait + Clock> Wire for MemorySocket<'a, R> {
+    ghost use Rattle.socket_pump.specs.Wires.{counted};
+    ghost use Rattle.memory_wires.specs.OneFault.{with_fault};
+    ghost use Rattle.std.specs.Prelude.{false};
+
+    ghost account = { λ s. with_fault s.mail.left (counted 0) };
+
+    ghost tells = { false };
+
+    fn receive(&mut self, buffer: &mut [u8; 64]) -> Result<Option<usize>, WireFailed> {
+        self.mail.receive(buffer)
+    }
+
+    fn send(&mut self, to: OfficeId, bytes: &[u8]) -> Result<(), WireFailed> {
+        self.mail.send(to, bytes)
+    }
+}
+
 impl<'a, R: Wait + Clock> Socket for MemorySocket<'a, R> {
     ghost waits = { λ s. s.waits };
 
     fn address(&self) -> io::Result<SocketAddr> {
-        let port = u16::try_from(self.own).unwrap_or(0).wrapping_add(1);
+        let port = u16::try_from(self.mail.wire.own)
+            .unwrap_or(0)
+            .wrapping_add(1);
         Ok(SocketAddr::from((Ipv4Addr::LOCALHOST, port)))
     }
 
     fn set_peer(&mut self, v: OfficeId, at: SocketAddr) {
-        if self.comes != Comes::Nothing {
-            self.peers[v.index()] = usize::from(at.port()).saturating_sub(1);
+        if self.mail.wire.comes != Comes::Nothing {
+            self.mail.wire.peers[v.index()] = usize::from(at.port()).saturating_sub(1);
         }
     }
 
     fn contact(&self, v: OfficeId) -> Contact {
-        self.contacts[v.index()]
+        self.mail.wire.contacts[v.index()]
     }
 
     fn poll(&mut self, most: u64) -> Result<(), WireFailed> {
         self.waits = self.waits.and(most);
-        if let Some(mailbox) = self.boxes.get(self.own) {
+        let mail = &self.mail.wire;
+        if let Some(mailbox) = mail.boxes.get(mail.own) {
             mailbox.waited.fetch_add(most, Ordering::SeqCst);
-            self.rest(mailbox, most);
+            mail.rest(mailbox, most);
         }
         Ok(())
     }
