@@ -8,6 +8,7 @@ use std::test::Fail;
 
 mod caller;
 mod endings;
+mod hostile_frames;
 mod long;
 mod queue;
 mod readers;

@@ -250,20 +250,21 @@ fn play(
     steps: &[Step],
 ) -> Result<(), Fail> {
     let mut offices = offices(alloc, plan)?;
-    take_steps(alloc, text, &mut offices, programs, steps)?;
+    let mut frames = Vec::new(alloc);
+    take_steps(text, &mut offices, &mut frames, programs, steps)?;
     describe_all(text, &offices)
 }
 
-fn take_steps(
-    alloc: Global,
+/// Takes these steps, after those that made these frames, and tells what is answered.
+pub fn take_steps(
     text: &mut String,
     offices: &mut Vec<Office>,
+    frames: &mut Vec<Frame>,
     programs: &[Program],
     steps: &[Step],
 ) -> Result<(), Fail> {
-    let mut frames = Vec::new(alloc);
     for step in steps {
-        take_step(text, offices, &mut frames, programs, *step)?;
+        take_step(text, offices, frames, programs, *step)?;
     }
     Ok(())
 }
