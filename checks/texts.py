@@ -186,14 +186,17 @@ def torn(check):
 
 
 def full(check):
-    """An office has a million events, the last of which is a session: a step of `settle` there is refused, and all before it stands.
-    An audit reads its journal whole."""
-    script = b"send a b 0\n" + b"deliver 1\n" * (MOST_EVENTS - 1) + b"submit 1\nsettle 9\ndeliver 1\n"
+    """An office has room for four entries more: a session, a step of `settle`, and two of the three rules that `advance` has to do.
+    Then its journal is full: `advance` is refused at the third, and so are `settle` and what comes. All before it stands, and an
+    audit reads its journal whole."""
+    script = b"send a b 0\n" + b"deliver 1\n" * (MOST_EVENTS - 4) + b"submit 1\nsettle 1\nadvance b 9\nsettle 9\nadvance b 1\ndeliver 1\n"
     check.files({"theirs.txt": b"session b\ngive 1\nend\n", "full.txt": script})
     made = frame(1, 0, 1, 0, 0).hex().encode()
-    wanted = b"frame 1 %s\n" % made + b"acked\n" * (MOST_EVENTS - 1) + b"ticket 1\n" + b"refused O4 JournalFull\n" * 2 + b"unfinished 1\nvalue x 5\n"
+    wanted = b"frame 1 %s\n" % made + b"acked\n" * (MOST_EVENTS - 4) + b"ticket 1\nsettled 1 open\n" + b"refused O4 JournalFull\n" * 4 + b"unfinished 1\nvalue x 5\n"
     check.wants("full: an office that accepted a million events", check.run("sim plan.txt theirs.txt full.txt --journals full"), 0, wanted, b"")
-    check.equal("full: how many lines its journal has", check.bytes_of("full/b.journal").count(b"\n"), MOST_EVENTS + 1)
+    journal = check.bytes_of("full/b.journal")
+    check.equal("full: how many lines its journal has", journal.count(b"\n"), MOST_EVENTS + 1)
+    check.equal("full: what stands before what was refused", journal.splitlines()[-3:], [b"0 do start = done", b"0 do drink = done", b"0 do work 256 = done"])
     check.wants("full: an audit of its journal", check.run("audit plan.txt full/a.journal full/b.journal"), 0, b"unfinished 1\nvalue x 5\n", b"")
 
 

@@ -17,6 +17,7 @@ use std::sync::Wait;
 use std::test::Fail;
 
 mod caller;
+mod full_journal;
 mod sockets;
 
 /// Two offices, and two records of theirs.
