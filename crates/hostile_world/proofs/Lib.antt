@@ -1,0 +1,7 @@
+mod Masks
+mod MaskedSteps
+mod MaskedPlans
+mod MaskedWorlds
+mod HonestThings
+mod HonestValues
+mod HonestSessions

@@ -1,0 +1,2 @@
+pub mod Hostile
+pub mod Claims
