@@ -5,3 +5,4 @@ mod MaskedWorlds
 mod HonestThings
 mod HonestValues
 mod HonestSessions
+mod HonestEndings

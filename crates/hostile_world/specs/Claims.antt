@@ -5,6 +5,7 @@ use Rattle.bottle_values.specs.Values.{Value}
 use Rattle.office_map.specs.declared.entries.RecordEntry.{RecordEntry}
 use Rattle.office_map.specs.PlanValue.{PlanValue}
 use Rattle.office_map.specs.Consistency.{IsConsistent}
+use Rattle.session_meaning.specs.Meaning.{alone}
 use Rattle.serial_replay.specs.Serial.{start_map}
 use Rattle.token_channel.specs.declared.thing.Thing.{Thing}
 use Rattle.token_channel.specs.Ends.{is_shared}
@@ -52,6 +53,10 @@ BottlesKeepTheirValues honest w = (r : ℕ) → has_honest_ends honest w.plan r 
 abbrev pub SessionsReadWhatWasLeft : (ℕ → Bool) → World → Type 0
 SessionsReadWhatWasLeft honest w = (before later : List Finished) (f : Finished) → finished_there honest w ≡ before ++ f ∷ later →
     All (λ (x : ℕ × Value). has_honest_ends honest w.plan x.0 ≡ true → x.1 ≡ written x.0 (start_map w.plan x.0) before) f.outcome.ending.reads
+
+-- each session that finished at one of them ended as its program does alone on what it read
+abbrev pub SessionsEndAsAlone : (ℕ → Bool) → World → Type 0
+SessionsEndAsAlone honest w = All (λ (f : Finished). f.outcome.ending ≡ alone f.program f.outcome.ending.reads) (finished_there honest w)
 
 -- ---- laws
 

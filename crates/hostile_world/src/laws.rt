@@ -1,6 +1,6 @@
 //! What holds between offices that keep to the rules, whatever frames others make up.
 
-ghost use Rattle.hostile_world.specs.Claims.{Always, HaveOnePlaceEach, HaveTrueCounts, BottlesKeepTheirValues, SessionsReadWhatWasLeft};
+ghost use Rattle.hostile_world.specs.Claims.{Always, HaveOnePlaceEach, HaveTrueCounts, BottlesKeepTheirValues, SessionsReadWhatWasLeft, SessionsEndAsAlone};
 
 use dining_core::laws as tables;
 use drinking_core::laws as bars;
@@ -57,4 +57,11 @@ pub fn honest_sessions_read_what_was_left()
     tells_what_it_read();
     what_comes_was_away();
     what_follows_was_away();
+}
+
+/// Each session that finished at one of them ended as its program does alone on what it read.
+pub fn honest_sessions_end_as_alone()
+    ensures { Always SessionsEndAsAlone }
+{
+    tells_what_it_read();
 }

@@ -5,7 +5,8 @@
 //! - `specs/Hostile.antt`: a world as in `frame_world`, in which an office that keeps to no rule sends any frame at all, to
 //!   anybody. What it makes up comes like any other: any of them, at any time, as often as it likes.
 //! - `specs/Claims.antt`: what two offices share that keep to the rules has one place each, and their counts are true; their
-//!   records' bottles keep the values that were written, and sessions read these. [`laws`] has it proved.
+//!   records' bottles keep the values that were written, sessions read these, and end as they do alone on what they read.
+//!   [`laws`] has it proved.
 //!
 //! How it is proved: a mask shows of each office only what it shares with offices that keep to the rules; all else is as the
 //! plan starts it, and an office that keeps to none stands at its start for ever (`proofs/Masks.antt`). What happens to an
