@@ -1,0 +1,4 @@
+mod Blocks
+mod Places
+mod Cuts
+mod PlainLines
