@@ -1,5 +1,8 @@
 -- What was read of a line is what it says.
 use Rattle.std.proofs.Common.{◌≡◌, ◌≢◌, ℕ, List, [], ◌∷◌, ◌++◌, length, Option, Some, None, Ok, refl, sym, ap, subst, arith}
+use Rattle.office_map.specs.PlanValue.{PlanValue}
+use Rattle.office_map.specs.PlanText.{and_then}
+use Rattle.marked_lines.specs.Words.{plain_words}
 use Rattle.session_meaning.specs.ProgramValue.{ProgramValue}
 use Rattle.frame_codec.specs.Frame.{Fields}
 use Rattle.office_journal.specs.declared.event.Event.TheVariants as event
@@ -8,8 +11,13 @@ use Rattle.office_journal.specs.declared.reply.Reply.TheVariants as reply
 use Rattle.run_words.specs.Digits.{bytes_in, IsFrameWord}
 use Rattle.run_words.specs.declared.digits.FrameWord.TheVariants as frame
 use Rattle.journal_texts.specs.declared.line.Told.TheVariants as told
-use Rattle.journal_texts.specs.Lines.{took_by, sent_by, one_program}
+use Rattle.journal_texts.specs.Lines.{took_by, sent_by, one_program, said_by, said_of}
 use Rattle.journal_texts.specs.refinement.ReadLines.{Reads}
+
+-- what words say, where they are the line's
+pub said_is : (p : PlanValue) (line : List ℕ) (words : Option (List (List ℕ))) → words ≡ plain_words line → and_then words (said_by p) ≡ said_of p line
+unfolding said_of
+said_is p line words is = ap (λ w. and_then w (said_by p)) is
 
 -- frames that came
 

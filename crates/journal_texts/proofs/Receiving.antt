@@ -1,8 +1,10 @@
 -- What is told of a journal, line by line.
-use Rattle.std.proofs.Common.{◌≡◌, ◌≤◌, ◌<◌, ◌+◌, ℕ, List, [], ◌∷◌, ◌++◌, length, Bool, true, false, Some, None, Result, Ok, Err, refl, sym, ap, subst, ◌∙◌, arith, length-append, inr}
+use Rattle.std.proofs.Common.{◌≡◌, ◌≤◌, ◌<◌, ◌+◌, ℕ, List, [], ◌∷◌, ◌++◌, length, Bool, true, false, Option, Some, None, Result, Ok, Err, refl, sym, ap, subst, ◌∙◌, arith, length-append, inr}
 use Rattle.std.specs.Prelude.{IfOk, IfErr}
 use Rattle.office_map.specs.PlanValue.{PlanValue}
+use Rattle.office_map.specs.PlanText.{and_then}
 use Rattle.text_lines.specs.Text.{statements}
+use Rattle.marked_lines.specs.Words.{plain_words}
 use Rattle.office_journal.specs.declared.event.Entry.{Entry}
 use Rattle.journal_texts.specs.declared.fault.JournalRule.{JournalRule}
 use Rattle.journal_texts.specs.declared.fault.JournalFault.{JournalFault}
@@ -10,10 +12,11 @@ use Rattle.journal_texts.specs.declared.fault.JournalFault.TheVariants as fault
 use Rattle.journal_texts.specs.declared.journal_text.JournalText.{JournalText}
 use Rattle.journal_texts.specs.declared.line.Told.{Told}
 use Rattle.journal_texts.specs.declared.line.Told.TheVariants as told
-use Rattle.journal_texts.specs.Lines.{said_of}
+use Rattle.journal_texts.specs.Lines.{said_by}
 use Rattle.journal_texts.specs.JournalText.{header_of, IsJournal, IsFirstFault, RefusesLines, IsFaultOf}
 use Rattle.journal_texts.specs.Receiving.{IsReadAs}
 use Rattle.journal_texts.specs.refinement.ReadLines.{Reads, Adds, GoOn, AreTold, IsLineFault}
+use Rattle.journal_texts.proofs.ReadLines.{said_is}
 use Rattle.journal_texts.proofs.Journals.{Walked, none_read, further, all_read, is_faulty, is_journal}
 
 -- what was told of the lines before the rest: no more entries than the bytes that went
@@ -32,13 +35,13 @@ adds_one false xs (told.AnEntry x) more ys a = omega (arith, ap length a.1)
 adds_one true xs told.NoFrame more ys a = omega (arith, ap length a.1)
 adds_one false xs told.NoFrame more ys a = omega (arith, ap length a.1)
 
-pub told_more : (p : PlanValue) (all rest after : List (ℕ × List ℕ)) (number : ℕ) (line : List ℕ) (t : Told) (whole left left' : ℕ) (ends more : Bool) (holds holds' : List Entry → Bool → Type 0) → rest ≡ (number, line) ∷ after
-    → Reads (said_of p line) (Some t) → ((xs : List Entry) → holds xs ends → GoOn ends xs t more holds') → left' < left → ToldSoFar p all rest whole left ends holds → ToldSoFar p all after whole left' more holds'
-told_more p all rest after number line t whole left left' ends more holds holds' first reads goes less so =
+pub told_more : (p : PlanValue) (all rest after : List (ℕ × List ℕ)) (number : ℕ) (line : List ℕ) (words : Option (List (List ℕ))) (t : Told) (whole left left' : ℕ) (ends more : Bool) (holds holds' : List Entry → Bool → Type 0) → rest ≡ (number, line) ∷ after
+    → words ≡ plain_words line → Reads (and_then words (said_by p)) (Some t) → ((xs : List Entry) → holds xs ends → GoOn ends xs t more holds') → left' < left → ToldSoFar p all rest whole left ends holds → ToldSoFar p all after whole left' more holds'
+told_more p all rest after number line words t whole left left' ends more holds holds' first split reads goes less so =
     let g = goes so.entries so.held in
     record {
       entries = g.0;
-      walked = further p all rest after number line t so.entries g.0 ends more first reads g.1 so.walked;
+      walked = further p all rest after number line t so.entries g.0 ends more first (subst (λ s. Reads s (Some t)) (said_is p line words split) reads) g.1 so.walked;
       few = omega (arith, adds_one ends so.entries t more g.0 g.1, so.few, less);
       held = g.2;
     }
@@ -47,9 +50,9 @@ pub told_all : (p : PlanValue) (all rest : List (ℕ × List ℕ)) (whole left :
 told_all p all rest whole left goes_on holds none so = record { entries = so.entries; ends = goes_on; have = all_read p all rest so.entries goes_on none so.walked; few = omega (arith, so.few); held = so.held }
 
 -- the next line says nothing
-pub told_fault : (p : PlanValue) (all rest after : List (ℕ × List ℕ)) (number : ℕ) (line : List ℕ) (whole left : ℕ) (goes_on : Bool) (holds : List Entry → Bool → Type 0) → rest ≡ (number, line) ∷ after
-    → Reads (said_of p line) None → ToldSoFar p all rest whole left goes_on holds → IsFirstFault p all number
-told_fault p all rest after number line whole left goes_on holds first reads so = is_faulty p all rest after number line so.entries goes_on first reads so.walked
+pub told_fault : (p : PlanValue) (all rest after : List (ℕ × List ℕ)) (number : ℕ) (line : List ℕ) (words : Option (List (List ℕ))) (whole left : ℕ) (goes_on : Bool) (holds : List Entry → Bool → Type 0) → rest ≡ (number, line) ∷ after
+    → words ≡ plain_words line → Reads (and_then words (said_by p)) None → ToldSoFar p all rest whole left goes_on holds → IsFirstFault p all number
+told_fault p all rest after number line words whole left goes_on holds first split reads so = is_faulty p all rest after number line so.entries goes_on first (subst (λ s. Reads s None) (said_is p line words split) reads) so.walked
 
 -- ---- one line more, by what it says
 

@@ -2,12 +2,13 @@
 
 ghost use Rattle.std.specs.Prelude.{◌≡◌, Some, None, Ok, ◌&&◌, if◌then◌else◌, IfOk};
 ghost use Rattle.std.specs.Str.{bytes_eq};
-ghost use Rattle.text_lines.specs.Text.{words_of};
+ghost use Rattle.office_map.specs.PlanText.{and_then};
 ghost use Rattle.run_words.specs.Digits.{bytes_in};
-ghost use Rattle.journal_texts.specs.Lines.{said_of, said_after, tag_of, took_line, do_line, send_line, submit_line, withdraw_line, done_by, withdrawn_by, took_by, submitted_by, sent_by, program_in, one_program, is_done};
+ghost use Rattle.journal_texts.specs.Lines.{said_by, said_after, tag_of, took_line, do_line, send_line, submit_line, withdraw_line, done_by, withdrawn_by, took_by, submitted_by, sent_by, program_in, one_program, is_done};
 ghost use Rattle.journal_texts.specs.declared.line.Told.TheVariants as tolds;
 ghost use Rattle.journal_texts.specs.refinement.ReadLines.{Reads};
 
+use marked_lines::Words;
 use office_map::{OfficeId, Plan};
 use run_words::digits::{FrameWord, bytes, frame_word};
 use run_words::replies::arrival_named;
@@ -17,7 +18,7 @@ use session_language::{LangFault, read_sessions};
 use session_programs::Program;
 use site_core::{Entry, Event, Reply, Rule};
 use std::alloc::{AllocError, Global};
-use text_lines::{first_word, is_plain, number};
+use text_lines::number;
 
 /// Tags are below.
 const TAGS: u64 = 16;
@@ -33,20 +34,24 @@ pub(crate) enum Told {
     NoFrame,
 }
 
-/// What a line says, if it says something.
-#[tactic(auto, unfolding(crate::specs::Lines::said_of))]
-pub(crate) fn read_line(alloc: Global, plan: &Plan, line: &[u8]) -> Result<Option<Told>, AllocError>
-    ensures { IfOk result (Reads (said_of plan.now line.now)) }
+/// What a line says, if it says something: one with these words, or one that isn't plain.
+pub(crate) fn read_line(
+    alloc: Global,
+    plan: &Plan,
+    line: Option<Words<'_>>,
+) -> Result<Option<Told>, AllocError>
+    ensures { IfOk result (Reads (and_then line.entry (said_by plan.now))) }
 {
-    if !is_plain(line) {
+    let Some(words) = line else {
         return Ok(None);
-    }
-    let Some((first, left)) = first_word(line) else {
+    };
+    let mut words = words;
+    let Some(first) = words.next() else {
         return Ok(None);
     };
     match tag(first) {
         None => Ok(None),
-        Some(tag) => told_after(alloc, plan, tag, left),
+        Some(tag) => told_after(alloc, plan, tag, &mut words),
     }
 }
 
@@ -58,104 +63,114 @@ fn tag(word: &[u8]) -> Option<u8>
 }
 
 /// What the words after a tag say.
-fn told_after(alloc: Global, plan: &Plan, tag: u8, left: &[u8]) -> Result<Option<Told>, AllocError>
-    ensures { IfOk result (Reads (said_after plan.now tag (words_of left.now))) }
+fn told_after(
+    alloc: Global,
+    plan: &Plan,
+    tag: u8,
+    words: &mut Words<'_>,
+) -> Result<Option<Told>, AllocError>
+    ensures { IfOk result (Reads (said_after plan.now tag words.old)) }
 {
-    let Some((keyword, left)) = first_word(left) else {
+    let Some(keyword) = words.next() else {
         return Ok(None);
     };
     if is(keyword, "took") {
-        return Ok(took_line(tag, left));
+        return Ok(took_line(tag, words));
     }
     if is(keyword, "do") {
-        return Ok(do_line(plan, tag, left));
+        return Ok(do_line(plan, tag, words));
     }
     if is(keyword, "send") {
-        return Ok(send_line(plan, tag, left));
+        return Ok(send_line(plan, tag, words));
     }
     if is(keyword, "submit") {
-        return submit_line(alloc, plan, tag, left);
+        return submit_line(alloc, plan, tag, words);
     }
     if is(keyword, "withdraw") {
-        return Ok(withdraw_line(tag, left));
+        return Ok(withdraw_line(tag, words));
     }
     Ok(None)
 }
 
 /// A frame that came.
-fn took_line(tag: u8, left: &[u8]) -> Option<Told>
-    ensures { Reads (took_line tag (words_of left.now)) result }
+fn took_line(tag: u8, words: &mut Words<'_>) -> Option<Told>
+    ensures { Reads (took_line tag words.old) result }
 {
-    let (word, left) = first_word(left)?;
-    let (sign, left) = first_word(left)?;
-    let (what, left) = first_word(left)?;
-    if first_word(left).is_some() || !is(sign, "=") {
+    let word = words.next()?;
+    let sign = words.next()?;
+    let what = words.next()?;
+    if words.next().is_some() || !is(sign, "=") {
         return None;
     }
     came(tag, word, arrival_named(what))
 }
 
 /// A rule that was done, of a word or of two.
-fn do_line(plan: &Plan, tag: u8, left: &[u8]) -> Option<Told>
-    ensures { Reads (do_line plan.now tag (words_of left.now)) result }
+fn do_line(plan: &Plan, tag: u8, words: &mut Words<'_>) -> Option<Told>
+    ensures { Reads (do_line plan.now tag words.old) result }
 {
-    let (name, left) = first_word(left)?;
-    let (a, left) = first_word(left)?;
-    let (b, left) = first_word(left)?;
-    let Some((c, left)) = first_word(left) else {
+    let name = words.next()?;
+    let a = words.next()?;
+    let b = words.next()?;
+    let Some(c) = words.next() else {
         return done(tag, rule_named(name), is_done(a, b));
     };
-    match first_word(left) {
+    match words.next() {
         Some(_) => None,
         None => done(tag, rule_with(plan, name, a), is_done(b, c)),
     }
 }
 
 /// A frame that was made.
-fn send_line(plan: &Plan, tag: u8, left: &[u8]) -> Option<Told>
-    ensures { Reads (send_line plan.now tag (words_of left.now)) result }
+fn send_line(plan: &Plan, tag: u8, words: &mut Words<'_>) -> Option<Told>
+    ensures { Reads (send_line plan.now tag words.old) result }
 {
-    let (neighbour, left) = first_word(left)?;
-    let (i, left) = first_word(left)?;
-    let (sign, left) = first_word(left)?;
-    let (answer, left) = first_word(left)?;
-    let (word, left) = first_word(left)?;
-    if first_word(left).is_some() || !are(sign, "=", answer, "frame") {
+    let neighbour = words.next()?;
+    let i = words.next()?;
+    let sign = words.next()?;
+    let answer = words.next()?;
+    let word = words.next()?;
+    if words.next().is_some() || !are(sign, "=", answer, "frame") {
         return None;
     }
     made(tag, office_by(plan, neighbour), number(i), word)
 }
 
 /// A session that was submitted.
-fn submit_line(alloc: Global, plan: &Plan, tag: u8, left: &[u8]) -> Result<Option<Told>, AllocError>
-    ensures { IfOk result (Reads (submit_line plan.now tag (words_of left.now))) }
+fn submit_line(
+    alloc: Global,
+    plan: &Plan,
+    tag: u8,
+    words: &mut Words<'_>,
+) -> Result<Option<Told>, AllocError>
+    ensures { IfOk result (Reads (submit_line plan.now tag words.old)) }
 {
-    let Some((word, left)) = first_word(left) else {
+    let Some(word) = words.next() else {
         return Ok(None);
     };
-    let Some((sign, left)) = first_word(left) else {
+    let Some(sign) = words.next() else {
         return Ok(None);
     };
-    let Some((answer, left)) = first_word(left) else {
+    let Some(answer) = words.next() else {
         return Ok(None);
     };
-    let Some((ticket, left)) = first_word(left) else {
+    let Some(ticket) = words.next() else {
         return Ok(None);
     };
-    if first_word(left).is_some() || !are(sign, "=", answer, "ticket") {
+    if words.next().is_some() || !are(sign, "=", answer, "ticket") {
         return Ok(None);
     }
     submitted(alloc, plan, tag, word, great_count_by(u32::MAX, ticket))
 }
 
 /// A session that was withdrawn.
-fn withdraw_line(tag: u8, left: &[u8]) -> Option<Told>
-    ensures { Reads (withdraw_line tag (words_of left.now)) result }
+fn withdraw_line(tag: u8, words: &mut Words<'_>) -> Option<Told>
+    ensures { Reads (withdraw_line tag words.old) result }
 {
-    let (ticket, left) = first_word(left)?;
-    let (sign, left) = first_word(left)?;
-    let (answer, left) = first_word(left)?;
-    if first_word(left).is_some() || !is_done(sign, answer) {
+    let ticket = words.next()?;
+    let sign = words.next()?;
+    let answer = words.next()?;
+    if words.next().is_some() || !is_done(sign, answer) {
         return None;
     }
     withdrawn(tag, great_count_by(u32::MAX, ticket))

@@ -13,6 +13,7 @@ use crate::fault::{JournalFault, JournalRule, refused};
 use crate::header::header;
 use crate::journal_text::JournalText;
 use crate::line::{Told, read_line};
+use marked_lines::next_words;
 use office_map::{OfficeId, Plan};
 use std::alloc::{AllocError, Global};
 use text_lines::Statements;
@@ -54,7 +55,7 @@ pub fn read_into<E: Entries>(alloc: Global, text: &[u8], plan: &Plan) -> Result<
 }
 
 /// What was told of the office's journal, whose entries are those of these lines.
-#[tactic(auto, using(crate::proofs::Receiving::told_all, crate::proofs::Receiving::told_fault))]
+#[tactic(auto, using(crate::proofs::Receiving::told_all))]
 fn told_of<E: Entries>(
     alloc: Global,
     plan: &Plan,
@@ -69,8 +70,8 @@ fn told_of<E: Entries>(
     let mut left = statements;
     let mut told = E::begin(alloc, plan, office)?;
     let mut goes_on = true;
-    while let Some((line, statement)) = left.next() {
-        match read_line(alloc, plan, statement)? {
+    while let Some((line, _statement, words)) = next_words(&mut left) {
+        match read_line(alloc, plan, words)? {
             Some(what) => goes_on = tell_one(&mut told, goes_on, what)?,
             None => return Err(refused(JournalRule::Journal, line)),
         }

@@ -1,8 +1,9 @@
-use Rattle.std.proofs.Common.{length, subst}
+use Rattle.std.proofs.Common.{None, length, refl, sym, subst}
+use Rattle.office_map.specs.PlanText.{and_then}
 use Rattle.text_lines.specs.Text.{lines, statements_from}
-use Rattle.journal_texts.specs.Lines.{said_of}
-use Rattle.journal_texts.specs.refinement.ReadLines.{Reads}
-use Rattle.journal_texts.proofs.Receiving.{told_none, told_more}
+use Rattle.journal_texts.specs.Lines.{said_by}
+use Rattle.journal_texts.specs.refinement.ReadLines.{Reads, IsLineFault}
+use Rattle.journal_texts.proofs.Receiving.{told_none, told_more, told_fault}
 use Rattle.journal_texts.proofs.reading.told_of.Goals as goal
 
 pub loop-line-init : goal.loop-line-init
@@ -17,7 +18,16 @@ loop-line-preserved g c =
     let all = statements_from c.args.statements.number (lines c.args.statements.rest.now) in
     record {
       fits = c.in-Some.ensures.fits;
-      told = told_more p all _ _ c.in-Some.line c.in-Some.statement.now c.in-Some-2.what _ _ _ c.loop-line.goes_on c.in_ok-goes_on-in-Some-2.goes_on _ _ c.in-Some.ensures.gives
-          (subst (Reads (said_of p c.in-Some.statement.now)) c.in-Some-2.is c.in_ok-what.ensures)
+      told = told_more p all _ _ c.in-Some.line c.in-Some._statement.now c.in-Some.words c.in-Some-2.what _ _ _ c.loop-line.goes_on c.in_ok-goes_on-in-Some-2.goes_on _ _ c.in-Some.ensures.gives
+          c.in-Some.ensures.words (subst (Reads (and_then c.in-Some.words (said_by p))) c.in-Some-2.is c.in_ok-what.ensures)
           (λ xs held. c.in_ok-goes_on-in-Some-2.ensures p c.args.office xs held) c.in-Some.ensures.shorter c.loop-line.invariant.told;
     }
+
+-- the line that says nothing
+pub returns-in-None-clause-fault : goal.returns-in-None-clause-fault
+returns-in-None-clause-fault g c =
+    let p = c.args.plan.now in
+    let all = statements_from c.args.statements.number (lines c.args.statements.rest.now) in
+    let reads : Reads (and_then c.in-Some.words (said_by p)) None = subst (Reads (and_then c.in-Some.words (said_by p))) c.in-None.is c.in_ok-what.ensures in
+    subst (IsLineFault p all) (sym c.refused.ensures)
+    (refl, told_fault p all _ _ c.in-Some.line c.in-Some._statement.now c.in-Some.words _ _ c.loop-line.goes_on _ c.in-Some.ensures.gives c.in-Some.ensures.words reads c.loop-line.invariant.told)
