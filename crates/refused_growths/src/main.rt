@@ -18,7 +18,7 @@ use session_language::{LangFault, read_sessions};
 use session_meaning::{Outcome, RecordValues};
 use session_programs::Program;
 use site_core::{Event, Office, Refusal, Reply, Rule};
-use std::alloc::{AllocError, Global};
+use std::alloc::{AllocError, AllocFailed, Global};
 use std::io;
 use std::process::ExitCode;
 use thiserror::Error;
@@ -48,6 +48,12 @@ enum Fault {
     Sessions(#[from] LangFault),
     #[error(transparent)]
     Output(#[from] io::Error),
+}
+
+impl<T: Drop> From<AllocFailed<T>> for Fault {
+    fn from(_e: AllocFailed<T>) -> Fault {
+        Fault::Memory(AllocError)
+    }
 }
 
 fn main(rt: HostRuntime) -> ExitCode {
