@@ -6,7 +6,7 @@ DATA, COUNT = 1, 2
 ASK_FORK, FORK, ASK_BOTTLE, BOTTLE = 1, 2, 3, 4
 # The bytes of a message of each kind.
 LENGTHS = {ASK_FORK: 27, FORK: 27, ASK_BOTTLE: 29, BOTTLE: 37}
-# More turns than any office here comes to the end of.
+# As many as an office may take.
 TURNS = 100_000
 
 
@@ -53,13 +53,25 @@ class Office:
     """An office that runs, with its store."""
 
     def __init__(self, program, folder, plan, name, port, sessions, turns=TURNS, new=True, env=None):
-        self.port, self.store, self.said = port, os.path.join(folder, f"{name}.store"), os.path.join(folder, f"{name}.said")
+        self.port, self.store, self.said, self.env = port, os.path.join(folder, f"{name}.store"), os.path.join(folder, f"{name}.said"), env
         if new and os.path.exists(self.store):
             os.remove(self.store)
-        words = [program, "run", plan, name, sessions, "--turns", str(turns), "--store", self.store, "--sync", "none", *(["--new"] if new else [])]
-        with open(self.said, "wb") as said:
-            self.process = subprocess.Popen(words, stdin=subprocess.DEVNULL, stdout=said, stderr=subprocess.STDOUT, env=env)
-        self.read, self.rest = 0, b""
+        self.words = [program, "run", plan, name, sessions, "--turns", str(turns), "--store", self.store, "--sync", "none"]
+        self.starts, self.read, self.rest = 0, 0, b""
+        self.start(new)
+
+    def start(self, new=False):
+        """It goes on from its store, or makes it."""
+        self.starts += 1
+        with open(self.said, "wb" if self.starts == 1 else "ab") as said:
+            self.process = subprocess.Popen([*self.words, *(["--new"] if new else [])], stdin=subprocess.DEVNULL, stdout=said, stderr=subprocess.STDOUT, env=self.env)
+
+    def goes_on(self):
+        """Where it came to the end of its turns, it is started again from its store."""
+        if self.process.wait() not in (0, 1) or not self.told().splitlines()[-1].startswith(b"unfinished "):
+            raise SystemExit(f"the office at port {self.port} ended with {self.process.returncode}: {self.told()[-300:]!r}")
+        self.start()
+        self.has_socket()
 
     def has_socket(self, seconds=60):
         """Until it has one: what comes before is lost."""
