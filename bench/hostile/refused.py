@@ -1,16 +1,17 @@
 #!/usr/bin/env python3
 """The instructions of a datagram that an office refuses, the system's calls left out: what a run to which so many come has more than one
-to which none comes. Turns that bring nothing else don't count, so both do as many idle ones.
+to which none comes. Turns that bring nothing else don't count, so both do as many idle ones. The office stands still while a burst comes,
+so that each of its turns finds as many as it takes.
 
 usage: refused.py PROGRAM FOLDER
 """
-import os, re, subprocess, sys, time
+import os, re, signal, subprocess, sys, time
 
 from offices import ASK_FORK, BOTTLE, FORK, HOST, RUN, doors, frame, ports_of, socket_line, write
 
 PLAN = "plan 1 run {run}\noffice a {host}:{own}\noffice b {host}:{other}\npair a b fork a\nrecord r a b 0 at a\n"
-# In so many turns without work more time goes by than in these bursts.
-TURNS, BURSTS, BURST, PAUSE = 1500, 100, 32, 0.02
+# In so many turns without work more time goes by than in these bursts. A turn takes 32 datagrams, and four times that many have room.
+TURNS, BURSTS, BURST = 3000, 25, 128
 KINDS = {
     "F1 Short": b"D",
     "F3 Version": frame(1, 0, 1, 0, ASK_FORK, version=2),
@@ -32,13 +33,17 @@ def instructions(program, folder, datagram, bursts):
     process = subprocess.Popen(words, stdin=subprocess.DEVNULL, stdout=subprocess.DEVNULL)
     while socket_line(port) is None:
         time.sleep(0.05)
+    begun = time.monotonic()
     for _ in range(bursts):
+        process.send_signal(signal.SIGSTOP)
         for _ in range(BURST):
             door.sendto(datagram, (HOST, port))
-        time.sleep(PAUSE)
+        process.send_signal(signal.SIGCONT)
+        while (line := socket_line(port)) and line[0]:
+            time.sleep(0.001)
     waiting, dropped = socket_line(port) or sys.exit("refused.py: the office ended before all came")
-    if waiting or dropped:
-        sys.exit(f"refused.py: {waiting} bytes wait, and {dropped} datagrams were dropped")
+    if waiting or dropped or time.monotonic() - begun > 0.8 * TURNS * 0.005:
+        sys.exit(f"refused.py: {waiting} bytes wait, {dropped} datagrams were dropped, and {time.monotonic() - begun:.0f} seconds went by")
     if process.wait():
         sys.exit(f"refused.py: status {process.returncode}")
     door.close()
@@ -48,10 +53,10 @@ def instructions(program, folder, datagram, bursts):
 
 def main():
     program, folder = sys.argv[1:]
+    none = instructions(program, folder, b"", 0)
     print("| A refused datagram | Instructions |\n|---|---|")
     for name, datagram in KINDS.items():
-        none, all_of_them = (instructions(program, folder, datagram, it) for it in (0, BURSTS))
-        print(f"| {name} | {(all_of_them - none) / (BURSTS * BURST):.0f} |")
+        print(f"| {name} | {(instructions(program, folder, datagram, BURSTS) - none) / (BURSTS * BURST):.0f} |", flush=True)
 
 
 main()
