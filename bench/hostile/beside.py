@@ -4,14 +4,15 @@
 usage: beside.py PROGRAM FLOOD COUNTS.SO FOLDER        FLOOD is flood.c, built, and COUNTS.SO bench/store/counts.c
 
 Both have sessions on the one record that they share, so that its bottle goes to and fro; they keep their journals in stores that aren't
-synced, which print what finishes. The time goes from the first turn, which both begin together, to the last message that is sent.
-Medians of nine runs. Fails where a session doesn't finish.
+synced, which print what finishes. The time goes from the first turn, which both begin together, to the last message that is sent; a run
+is over in a tenth of a second, since a text has 1,024 sessions at most. So what a datagram of the flood takes is told by the time that
+the offices were on a processor, and by how many came. Medians of 41 runs. Fails where a session doesn't finish.
 """
 import os, struct, subprocess, sys, time
 
 from offices import HOST, RUN, Office, doors, ports_of, write
 
-RATES, RUNS, EACH, SECONDS = (0, 1_000, 10_000, 100_000), 9, 1024, 120
+RATES, RUNS, EACH, WORK, ENOUGH, SECONDS = (0, 1_000, 10_000, 50_000, 100_000, 200_000), 41, 1024, 9_990, 5_000, 120
 NAMES = ("a", "b")
 PLAN = "plan 1 run {run}\noffice a {host}:{a}\noffice b {host}:{b}\npair a b fork a\nrecord r a b 0 at a\n"
 # Where these counts stand in the file, of bench/store/counts.c: when the first turn was, and the last message; and what came.
@@ -23,8 +24,14 @@ def counts(at):
         return struct.unpack(f"{COUNTS}Q", file.read())
 
 
+def ran(pid):
+    """The seconds that a process was on a processor."""
+    with open(f"/proc/{pid}/schedstat", encoding="ascii") as file:
+        return int(file.read().split()[0]) / 1e9
+
+
 def run(program, flood, library, folder, rate):
-    """The seconds of a run, and how many datagrams came to each office in each of them."""
+    """The seconds of a run, how many datagrams came to both offices, and the seconds that these were on a processor."""
     held = doors(2)
     ports = ports_of(held)
     for it in held:
@@ -40,7 +47,7 @@ def run(program, flood, library, folder, rate):
         if os.path.exists(tells[-1]):
             os.remove(tells[-1])
         env = {**os.environ, "LD_PRELOAD": library, "COUNTS": tells[-1], "START": start, "OFFICES": "2"}
-        sessions = write(folder, f"beside.{name}", f"session {name}\nset r = read r + 1\nend\n" * EACH)
+        sessions = write(folder, f"beside.{name}", f"session {name}\nset r = read r + 1\nrepeat {WORK}\nend\nend\n" * EACH)
         offices.append(Office(program, folder, plan, name, port, sessions, env=env))
     try:
         end = time.monotonic() + SECONDS
@@ -48,6 +55,7 @@ def run(program, flood, library, folder, rate):
             if time.monotonic() > end or any(it.process.poll() is not None for it in offices):
                 sys.exit(f"beside.py: {rate} a second: {[it.told()[-200:] for it in offices]}")
             time.sleep(0.01)
+        took = sum(ran(it.process.pid) for it in offices)
         told = [counts(it) for it in tells]
     finally:
         for it in offices:
@@ -56,7 +64,7 @@ def run(program, flood, library, folder, rate):
             flooding.terminate()
             flooding.communicate()
     seconds = (max(it[SENT_LAST] for it in told) - max(it[BEGUN] for it in told)) / 1e9
-    return seconds, sum(it[COME] for it in told) / 2
+    return seconds, sum(it[COME] for it in told), took
 
 
 def main():
@@ -65,11 +73,14 @@ def main():
     for _ in range(RUNS):
         for rate in RATES:
             runs[rate].append(run(*words, rate))
-    median = {it: sorted(runs[it])[RUNS // 2][0] for it in RATES}
-    print("| Datagrams a second to each | Sessions a second | By those without | Microseconds more, for a datagram of the flood |\n|---|---|---|---|")
+    middle = {it: [sorted(column)[RUNS // 2] for column in zip(*runs[it])] for it in RATES}
+    _, came_without, took_without = middle[0]
+    print("| Datagrams a second to each | Sessions a second | Datagrams that came | Milliseconds on a processor | Microseconds more, for each that came more |\n|---|---|---|---|---|")
     for rate in RATES:
-        more = f"{1e6 * (median[rate] - median[0]) / (rate * median[rate]):.2f}" if rate else "-"
-        print(f"| {rate} | {2 * EACH / median[rate]:.0f} | {median[0] / median[rate]:.2f} | {more} |")
+        seconds, came, took = middle[rate]
+        # Fewer are lost in what one run differs from another.
+        more = f"{1e6 * (took - took_without) / (came - came_without):.2f}" if came > came_without + ENOUGH else "-"
+        print(f"| {rate} | {2 * EACH / seconds:.0f} | {came} | {1000 * took:.0f} | {more} |")
 
 
 main()
