@@ -60,14 +60,16 @@ takes() {
 }
 
 # WHAT: the instructions of an audit that is `woven` or `refused`, or -. Where memory grows, the C library copies it by one
-# instruction that moves as many bytes as it is told, and callgrind counts it once for each byte; so it is told to copy by others.
+# instruction that moves as many bytes as it is told, and clears it by another; callgrind counts either once for each byte. So it is
+# told to do it by others.
 instructions() {
     if ! command -v valgrind > /dev/null; then
         echo -
         return
     fi
     came=woven
-    GLIBC_TUNABLES=glibc.cpu.x86_rep_movsb_threshold=1000000000 valgrind --tool=callgrind --callgrind-out-file="$work/callgrind" \
+    GLIBC_TUNABLES=glibc.cpu.x86_rep_movsb_threshold=1000000000:glibc.cpu.x86_rep_stosb_threshold=1000000000 \
+        valgrind --tool=callgrind --callgrind-out-file="$work/callgrind" \
         "$program" audit "$work/plan" "$work"/journal.* > /dev/null 2> "$work/log" || came=refused
     if [ "$came" != "$1" ]; then
         echo "$0: the journals aren't $1" >&2
