@@ -1,1 +1,2 @@
 mod Days
+mod Numbers

@@ -1,6 +1,8 @@
 //! Plans that start with the values that a serial run left.
 //!
 //! - `specs/Days.antt`: the plan that carries values on, and what holds of it; [`laws`] has it proved.
+//! - [`run_numbers::next_run`] is the number of the next day's run. Of 4,294,967,296 days in turn no two have one number
+//!   (`specs/RunNumbers.antt`), so that no frame of an earlier day is taken for one of today's.
 //!
 //! The program carries no day on yet. Not said: that a plan which carries values on can be written as a text; which
 //! tickets the sessions have; that what a day's offices left is carried, for which the headline says that their
@@ -8,3 +10,4 @@
 #![tactic(auto)]
 
 pub mod laws;
+pub mod run_numbers;
