@@ -1,0 +1,12 @@
+mod Places
+mod ValueWords
+mod LinesRead
+mod Names
+mod OfficesRead
+mod PairsRead
+mod RecordsRead
+mod TextsRead
+mod PairsOrdered
+mod CarriedPlans
+mod AddressesRead
+mod NextPlansRead

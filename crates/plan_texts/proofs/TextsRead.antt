@@ -1,0 +1,98 @@
+-- The text of a plan means that plan.
+use Rattle.std.proofs.Common.{◌≡◌, ℕ, ◌+◌, ◌^◌, ◌<◌, ◌≤◌, List, [], ◌∷◌, ◌++◌, length, Bool, true, false, ◌&&◌, nat_lt, Result, Ok, Err, Option, Some, None, if◌then◌else◌, codes, refl, sym, ap, ap₂, ◌∙◌, arith}
+use Rattle.std.proofs.lemmas.List.{append-nil}
+use Rattle.std.specs.List.{list_all, flat_map}
+use Rattle.std.specs.Option.{ok_or}
+use Rattle.std.specs.Fmt.{decimal}
+use Rattle.std.proofs.lemmas.Bool.Decides.{nat_tests}
+use Rattle.office_map.specs.declared.fault.PlanRule.TheVariants.{Header, Limit}
+use Rattle.office_map.specs.declared.fault.PlanRefusal.{PlanRefusal}
+use Rattle.office_map.specs.Limits.{most_text}
+use Rattle.office_map.specs.PlanValue.{PlanValue, with_office, with_pair, with_record}
+use Rattle.office_map.specs.PlanText.{◌>>=◌, ◌>>◌, refuse_if, and_then, small_number, run_of, at_line, read_header, read_lines, read_statements, plan_of}
+use Rattle.text_lines.specs.Text.{lines, number_of, statements, statements_from}
+use Rattle.session_language.proofs.canonical.Lexemes.{number_again}
+use Rattle.run_words.specs.Words.{is_word, line_of_words}
+use Rattle.run_words.proofs.LinesOfWords.{lines_are_cut}
+use Rattle.run_words.proofs.NamesAndNumbers.{number_word}
+use Rattle.plan_texts.specs.WrittenPlans.{header_words, office_words, pair_words, record_words, office_lines, pair_lines, record_lines, ended, plan_text, IsWritable, PlanTextsAreRead}
+use Rattle.plan_texts.proofs.LinesRead.{statement_is, section_read, all_added}
+use Rattle.plan_texts.proofs.OfficesRead.{offices_read, offices_added}
+use Rattle.plan_texts.proofs.PairsRead.{pairs_read, pairs_added}
+use Rattle.plan_texts.proofs.RecordsRead.{records_read, records_added}
+
+abbrev too_much : PlanRefusal
+too_much = record { rule = Limit; line = 0 }
+
+abbrev empty : ℕ → PlanValue
+empty run = record { run = run; offices = []; pairs = []; records = [] }
+
+header_good : (run : ℕ) → run < 2 ^ 32 → list_all is_word (header_words run) ≡ true
+header_good run small = ap (λ b. b && true) (number_word run (omega arith))
+
+header_read : (run n : ℕ) → run < 2 ^ 32 → read_header (n, line_of_words (header_words run)) ≡ Ok (empty run)
+unfolding read_header
+header_read run n small =
+    let fits : nat_lt run (2 ^ 32) ≡ true = grind (arith, nat_tests) in
+    ap (λ o. at_line n (ok_or (and_then o run_of) Header >>= λ k. Ok (empty k))) (lines_are_cut (header_words run) (header_good run small))
+    ∙ ap (λ o. at_line n (ok_or (small_number o) Header >>= λ k. Ok (empty k))) (number_again run (omega arith))
+    ∙ ap (λ b. at_line n (ok_or (if b then Some run else None) Header >>= λ k. Ok (empty k))) fits
+
+whole : (b : Bool) (r : Result PlanValue PlanRefusal) (p : PlanValue) (e f : PlanRefusal) → b ≡ false → r ≡ Ok p → nat_lt (length p.offices) 2 ≡ false
+    → (refuse_if b e >> (r >>= λ q. refuse_if (nat_lt (length q.offices) 2) f >> Ok q)) ≡ Ok p
+whole b r p e f short read some =
+    ap (λ t. refuse_if t e >> (r >>= λ q. refuse_if (nat_lt (length q.offices) 2) f >> Ok q)) short
+    ∙ ap (λ t. t >>= λ q. refuse_if (nat_lt (length q.offices) 2) f >> Ok q) read
+    ∙ ap (λ t. refuse_if t f >> Ok p) some
+
+module _ (p : PlanValue) (w : IsWritable p) where
+  abbrev with_offices : PlanValue
+  with_offices = record { run = p.run; offices = p.offices; pairs = []; records = [] }
+
+  abbrev with_pairs : PlanValue
+  with_pairs = record { run = p.run; offices = p.offices; pairs = p.pairs; records = [] }
+
+  offices_then : (n : ℕ) (rest : List ℕ) → (m : ℕ) × (read_lines (empty p.run) (statements_from n (lines (office_lines p.offices ++ rest))) ≡ read_lines with_offices (statements_from m (lines rest)))
+  offices_then n rest =
+      let s = section_read office_words with_office (empty p.run) p.offices n rest (offices_read p w.consistent w.addresses) in
+      (s.0, s.1 ∙ ap (λ q. read_lines q (statements_from s.0 (lines rest))) (offices_added p w.consistent w.addresses))
+
+  pairs_then : (n : ℕ) (rest : List ℕ) → (m : ℕ) × (read_lines with_offices (statements_from n (lines (pair_lines p p.pairs ++ rest))) ≡ read_lines with_pairs (statements_from m (lines rest)))
+  pairs_then n rest =
+      let s = section_read (pair_words p) with_pair with_offices p.pairs n rest (pairs_read p w.consistent) in
+      (s.0, s.1 ∙ ap (λ q. read_lines q (statements_from s.0 (lines rest))) (pairs_added p w.consistent))
+
+  records_last : (n : ℕ) → read_lines with_pairs (statements_from n (lines (record_lines p p.records))) ≡ Ok p
+  records_last n =
+      let s = section_read (record_words p) with_record with_pairs p.records n [] (records_read p w.consistent w.values) in
+      ap (λ t. read_lines with_pairs (statements_from n (lines t))) (sym (append-nil (record_lines p p.records)))
+      ∙ s.1
+      ∙ ap Ok (records_added p w.consistent w.values)
+
+  lines_read : (n : ℕ) → read_lines (empty p.run) (statements_from n (lines (office_lines p.offices ++ (pair_lines p p.pairs ++ record_lines p p.records)))) ≡ Ok p
+  lines_read n =
+      let offices = offices_then n (pair_lines p p.pairs ++ record_lines p p.records) in
+      let pairs = pairs_then offices.0 (record_lines p p.records) in
+      offices.1 ∙ pairs.1 ∙ records_last pairs.0
+
+  statements_are : statements (plan_text p) ≡ (1, line_of_words (header_words p.run)) ∷ statements_from 2 (lines (office_lines p.offices ++ (pair_lines p p.pairs ++ record_lines p p.records)))
+  unfolding plan_text
+  statements_are =
+      statement_is 1 (codes "plan") (codes "1" ∷ codes "run" ∷ decimal p.run ∷ []) (office_lines p.offices ++ (pair_lines p p.pairs ++ record_lines p p.records)) (record { some = omega arith; bytes = refl }) (header_good p.run w.run)
+
+  statements_read : read_statements (statements (plan_text p)) ≡ Ok p
+  statements_read =
+      let rest = statements_from 2 (lines (office_lines p.offices ++ (pair_lines p p.pairs ++ record_lines p p.records))) in
+      ap read_statements statements_are
+      ∙ ap (λ r. r >>= λ q. read_lines q rest) (header_read p.run 1 w.run)
+      ∙ lines_read 2
+
+  pub text_read : plan_of (plan_text p) ≡ Ok p
+  unfolding plan_of
+  text_read =
+      let short : nat_lt most_text (length (plan_text p)) ≡ false = (let le = w.short in grind (arith, nat_tests)) in
+      let some : nat_lt (length p.offices) 2 ≡ false = (let le = w.two_offices in grind (arith, nat_tests)) in
+      whole (nat_lt most_text (length (plan_text p))) (read_statements (statements (plan_text p))) p too_much too_much short statements_read some
+
+pub texts_are_read : PlanTextsAreRead
+texts_are_read p w = text_read p w
