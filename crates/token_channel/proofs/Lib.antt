@@ -4,5 +4,6 @@ pub mod FrameArrival
 pub mod StartsOnce
 pub mod Opening
 pub mod FewWait
+pub mod WaitingMessages
 pub mod KeptMessages
 pub mod TakenHeld

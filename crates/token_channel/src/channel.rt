@@ -21,7 +21,7 @@ use frame_codec::{Frame, Msg};
 use office_map::{OfficeId, Plan};
 use std::alloc::{AllocError, Global};
 use std::marker::Model;
-use window_link::{Arrival, Link, LinkFault, MAX_KEPT};
+use window_link::{Arrival, Link, LinkFault, MAX_KEPT, Waiting};
 
 /// One office's end of the channel to a neighbour: the link, and what is held here of the things
 /// that the two share.
@@ -91,7 +91,7 @@ impl Channel {
 
     /// The messages after those, the oldest first. What waits isn't held, and waits once; so at most
     /// as many wait as there are things.
-    pub fn waiting(&self) -> &[Msg]
+    pub fn waiting(&self) -> &Waiting
         ensures value { result.now ≡ self.now.link.sending.waiting }
         ensures apart { IsApart self.now }
         ensures few { length result.now ≤ length self.now.places }
@@ -277,6 +277,6 @@ impl Channel {
             return true;
         }
         let known = count.saturating_sub(self.acked()) as usize;
-        places::waits(thing, &self.waiting()[known..])
+        places::waits_after(thing, self.waiting(), known)
     }
 }

@@ -1,13 +1,13 @@
 //! What is held at an end.
 
-ghost use Rattle.std.specs.Prelude.{◌≡◌, ◌++◌, ◌<◌, length, IfOk, IsTrue};
+ghost use Rattle.std.specs.Prelude.{◌≡◌, ◌++◌, ◌<◌, ◌≤◌, length, drop, IfOk, IsTrue};
 ghost use Rattle.office_map.specs.PlanValue.{are_neighbours};
 ghost use Rattle.token_channel.specs.Places.{holds, shares, waits, changed, with_token, places_of};
 
 use crate::thing::{SharedThing, Thing};
-use frame_codec::Msg;
 use office_map::{OfficeId, Plan};
 use std::alloc::{AllocError, Global};
+use window_link::Waiting;
 
 pub fn holds(places: &[SharedThing], thing: Thing) -> bool
     ensures { result ≡ holds places.now thing }
@@ -23,10 +23,17 @@ pub fn shares(places: &[SharedThing], thing: Thing) -> bool
     places.iter().any(|place| place.thing.is(thing))
 }
 
-pub fn waits(thing: Thing, messages: &[Msg]) -> bool
-    ensures { result ≡ waits thing messages.now }
+/// Whether it waits among the messages after so many older ones.
+pub fn waits_after(thing: Thing, messages: &Waiting, known: usize) -> bool
+    requires { known ≤ length messages.now }
+    ensures { result ≡ waits thing (drop known messages.now) }
 {
-    messages.iter().any(|msg| thing.is(Thing::of(*msg)))
+    for i in known..messages.len() {
+        if thing.is(Thing::of(messages.message(i))) {
+            return true;
+        }
+    }
+    false
 }
 
 /// The thing came or went.

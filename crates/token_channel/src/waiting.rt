@@ -11,6 +11,7 @@ use crate::channel::Channel;
 use bottle_values::Value;
 use frame_codec::Msg;
 use office_map::RecordId;
+use window_link::Waiting;
 
 /// The number and the value of the message that waits with that bottle.
 pub fn waiting_bottle(channel: &Channel, r: RecordId) -> Option<(u64, Value)>
@@ -22,12 +23,12 @@ pub fn waiting_bottle(channel: &Channel, r: RecordId) -> Option<(u64, Value)>
 }
 
 /// The place and the value of the message with that bottle.
-fn bottle_among(messages: &[Msg], r: RecordId) -> Option<(usize, Value)>
+fn bottle_among(messages: &Waiting, r: RecordId) -> Option<(usize, Value)>
     ensures some { IfSome result (λ a. slice_get messages.now a.0 ≡ Some (msg.Bottle r a.1)) }
     ensures none { IfNone result ((i : ℕ) (x : bottle.Value) → slice_get messages.now i ≡ Some (msg.Bottle r x) → ⊥) }
 {
-    for (i, message) in messages.iter().enumerate() {
-        if let Some(value) = value_in(message, r) {
+    for i in 0..messages.len() {
+        if let Some(value) = value_in(&messages.message(i), r) {
             return Some((i, value));
         }
     }

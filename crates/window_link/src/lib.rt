@@ -10,8 +10,8 @@
 //!   begins what was sent, what is acknowledged was taken, and the rest waits (`HasLawfulStreams`, in
 //!   `specs/Two.antt`, over the streams of `specs/Streams.antt`).
 //!
-//! `sending` and `receiving` are the two windows of an end. No call of [`Link`] takes memory. It
-//! stands on `frame_codec` and `arrayvec`.
+//! `sending` and `receiving` are the two windows of an end, and `waiting` is the ring of those that wait. No call of
+//! [`Link`] takes memory. It stands on `frame_codec`.
 //!
 //! A frame's count is used first, whatever the frame brings; then its message is taken, where its number is the next
 //! one. One that is kept follows once those before it are taken: on a network that reorders, it isn't sent again. One
@@ -29,9 +29,10 @@ pub mod laws;
 mod link;
 mod receiving;
 mod sending;
+mod waiting;
 
 pub use arrival::Arrival;
 pub use fault::LinkFault;
 pub use link::Link;
 pub use receiving::MAX_KEPT;
-pub use sending::MAX_WAITING;
+pub use waiting::{MAX_WAITING, Waiting};

@@ -10,7 +10,8 @@ ghost use Rattle.window_link.specs.Limits.{greatest};
 use crate::arrival::Arrival;
 use crate::fault::LinkFault;
 use crate::receiving::ReceiveWindow;
-use crate::sending::{MAX_WAITING, SendWindow};
+use crate::sending::SendWindow;
+use crate::waiting::{MAX_WAITING, Waiting};
 use frame_codec::{Frame, Msg};
 use std::marker::Model;
 
@@ -81,7 +82,7 @@ impl Link {
     }
 
     /// The messages after those, the oldest first. The first has the number after `acked`.
-    pub fn waiting(&self) -> &[Msg]
+    pub fn waiting(&self) -> &Waiting
         ensures value { result.now ≡ self.now.sending.waiting }
         ensures few { length result.now ≤ MAX_WAITING }
         ensures range { used self.now.sending < sequence_space }
@@ -110,7 +111,7 @@ impl Link {
         requires last { i ≤ length self.now.sending.waiting }
         ensures { result ≡ frame_of self.now i }
     {
-        let msg = self.waiting()[i - 1];
+        let msg = self.waiting().message(i - 1);
         let number = self.acked() + i as u64;
         Frame::data(self.run, self.me, self.peer, number, self.taken(), msg)
     }

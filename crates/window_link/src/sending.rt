@@ -6,18 +6,15 @@ ghost use Rattle.frame_codec.specs.Limits.{sequence_space};
 ghost use Rattle.window_link.specs.Limits.{greatest};
 
 use crate::fault::LinkFault;
-use arrayvec::ArrayVec;
+use crate::waiting::{MAX_WAITING, Waiting};
 use frame_codec::{MAX_NUMBER, Msg};
 use std::marker::Model;
-
-/// How many messages may wait for acknowledgement.
-pub const MAX_WAITING: usize = 18;
 
 /// How many messages the peer is known to have taken, and those after them.
 #[derive(Drop)]
 pub struct SendWindow {
     acked: u64,
-    waiting: ArrayVec<Msg, MAX_WAITING>,
+    waiting: Waiting,
 }
 
 impl Model for SendWindow {
@@ -28,9 +25,9 @@ impl Model for SendWindow {
 
     ghost Value = { Sending };
 
-    ghost view = { λ w. record { acked = w.acked; waiting = w.waiting.items } };
+    ghost view = { λ w. record { acked = w.acked; waiting = w.waiting } };
 
-    ghost invariant = { λ w. (length w.waiting.items ≤ most_waiting) × (w.acked + length w.waiting.items < sequence_space) };
+    ghost invariant = { λ w. (length w.waiting ≤ most_waiting) × (w.acked + length w.waiting < sequence_space) };
 }
 
 impl SendWindow {
@@ -41,14 +38,14 @@ impl SendWindow {
     {
         SendWindow {
             acked: sent,
-            waiting: ArrayVec::new(),
+            waiting: Waiting::none(),
         }
     }
 
     pub fn has_room(&self) -> bool
         ensures { IsTrue result ↔ (length self.now.waiting < MAX_WAITING) }
     {
-        !self.waiting.is_full()
+        self.waiting.len() < MAX_WAITING
     }
 
     pub fn acked(&self) -> u64
@@ -58,7 +55,7 @@ impl SendWindow {
         self.acked
     }
 
-    pub fn waiting(&self) -> &[Msg]
+    pub fn waiting(&self) -> &Waiting
         ensures value { result.now ≡ self.now.waiting }
         ensures few { length result.now ≤ MAX_WAITING }
         ensures range { used self.now < sequence_space }
@@ -91,18 +88,13 @@ impl SendWindow {
     }
 
     /// The peer has taken the messages up to this number.
-    ///
-    /// Those that are left move to the front, by one copy within the window. Numbering places around a ring would save
-    /// that copy; but the waiting messages would be no slice then, and an arrival is well within its instructions.
     pub fn acknowledge(&mut self, count: u64)
         requires { count ≤ used self.old }
         ensures { self.new ≡ acknowledged self.old count }
     {
         if count > self.acked {
             let known = (count - self.acked) as usize;
-            let left = self.waiting.len() - known;
-            self.waiting.copy_within(known.., 0);
-            self.waiting.truncate(left);
+            self.waiting.drop_oldest(known);
             self.acked = count;
         }
     }

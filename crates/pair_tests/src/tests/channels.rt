@@ -9,7 +9,7 @@ use std::alloc::{AllocError, Global};
 use std::process::Abort;
 use std::test::Fail;
 use token_channel::{Channel, ChannelFault, Taken, Thing, laws};
-use window_link::{Arrival, LinkFault};
+use window_link::{Arrival, LinkFault, Waiting};
 
 const ONE_RECORD: &str =
     "plan 1 run 42\noffice a -\noffice b -\npair a b fork a\nrecord x a b 100 at a\n";
@@ -251,12 +251,14 @@ fn arrives(rt: &impl Abort, draws: &mut Draws, end: &mut Channel, frames: &[Fram
 }
 
 // How many of these messages, from one on, carry the thing.
-fn carried(thing: Thing, waiting: &[Msg], from: usize) -> usize {
-    waiting
-        .iter()
-        .skip(from)
-        .filter(|msg| Thing::of(**msg).is(thing))
-        .count()
+fn carried(thing: Thing, waiting: &Waiting, from: usize) -> usize {
+    let mut count = 0;
+    for i in from..waiting.len() {
+        if Thing::of(waiting.message(i)).is(thing) {
+            count += 1;
+        }
+    }
+    count
 }
 
 // Each thing is held at one end, or is on its way.

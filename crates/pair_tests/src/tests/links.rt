@@ -2,9 +2,10 @@ ghost use Rattle.std.specs.Prelude.{◌<◌};
 ghost use Rattle.frame_codec.specs.Limits.{sequence_space};
 
 use frame_codec::{Frame, Msg};
+use std::alloc::{AllocError, Global};
 use std::process::Abort;
 use std::test::Fail;
-use window_link::{Arrival, Link, LinkFault};
+use window_link::{Arrival, Link, LinkFault, Waiting};
 
 mod two_ends;
 
@@ -35,7 +36,39 @@ fn eighteen_messages_wait(rt: HostRuntime) -> Result<(), Fail> {
     for bottle in 0..18 {
         asked.push(Msg::AskBottle(bottle))?;
     }
-    assert_eq!(rt; link.waiting(), asked.as_slice());
+    assert_eq!(rt; listed(rt.alloc(), link.waiting())?, asked);
+    Ok(())
+}
+
+// The messages that wait, the oldest first.
+fn listed(alloc: Global, waiting: &Waiting) -> Result<Vec<Msg>, AllocError> {
+    let mut messages = Vec::new(alloc);
+    for i in 0..waiting.len() {
+        messages.push(waiting.message(i))?;
+    }
+    Ok(messages)
+}
+
+// Messages go on round the places: those that are left, and those that came since, are told in order.
+#[test]
+fn messages_wait_in_order_round_the_ring(rt: HostRuntime) -> Result<(), Fail> {
+    let mut link = Link::open(42, 0, 1);
+    for bottle in 0..18 {
+        if link.has_room() {
+            assert_eq!(rt; link.queue(Msg::AskBottle(bottle)), Ok(()));
+        }
+    }
+    for acked in 0..60 {
+        let mut asked = Vec::new(rt.alloc());
+        for bottle in acked..acked + 18 {
+            asked.push(Msg::AskBottle(bottle))?;
+        }
+        assert_eq!(rt; listed(rt.alloc(), link.waiting())?, asked);
+        let ack = Frame::ack(42, 1, 0, u64::from(acked) + 1);
+        assert_eq!(rt; link.arrive(&ack), Ok(Arrival::Acked));
+        assert!(rt; link.has_room());
+        assert_eq!(rt; link.queue(Msg::AskBottle(acked + 18)), Ok(()));
+    }
     Ok(())
 }
 

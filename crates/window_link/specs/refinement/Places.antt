@@ -1,7 +1,15 @@
--- The places in which the code keeps messages: each number's place is the number modulo their count.
+-- The places in which the code keeps messages.
 use Rattle.std.specs.Prelude.{◌≡◌, ℕ, ◌+◌, ◌%◌, ◌≤◌, List, ◌++◌, drop, take, get_or, Option, Some, None}
 use Rattle.frame_codec.specs.declared.message.Msg.{Msg}
 use Rattle.window_link.specs.Limits.{most_kept}
+
+-- ---- of messages that wait
+
+-- so many, from the first place on, round the end
+abbrev pub ring : ℕ → ℕ → List Msg → List Msg
+ring first count places = take count (drop first places ++ take first places)
+
+-- ---- of messages that are kept: each number's place is the number modulo their count
 
 -- the places from that of a number on, round the end
 abbrev pub from_place : ℕ → List (Option Msg) → List (Option Msg)

@@ -203,7 +203,11 @@ impl Way {
         assert_eq!(rt; taker.taken(), taken as u64);
         let acked = sender.acked() as usize;
         assert!(rt; acked <= taken);
-        assert_eq!(rt; self.sent.get(acked..), Some(sender.waiting()));
+        let waiting = sender.waiting();
+        assert_eq!(rt; self.sent.len(), acked + waiting.len());
+        for i in 0..waiting.len() {
+            assert_eq!(rt; self.sent.get(acked + i), Some(&waiting.message(i)));
+        }
     }
 }
 

@@ -11,5 +11,5 @@ returns-clause-range c =
     let most = numbers_in_range c.self.inside.pairs c.self.inside.agenda c.self.inside.journal.entries c.self.invariant c.args.v in
     let link = c.in_ok-channel.ensures.link c.in_ok-channel.channel refl in
     let acked = c.acked.ensures.value ∙ ap (λ (l : LinkState). l.sending.acked) link in
-    let waiting = ap length c.waiting.ensures.value ∙ ap (λ (l : LinkState). length l.sending.waiting) link in
+    let waiting = c.len.ensures.len ∙ ap length c.waiting.ensures.value ∙ ap (λ (l : LinkState). length l.sending.waiting) link in
     omega (arith, most, acked, waiting)
