@@ -2,7 +2,7 @@
 
 use crate::ending::RecordValues;
 use crate::slots::{
-    Slot, are_sorted, first_value, set_slot, slots_in, slots_of, sorted_value, with_room, writes_in,
+    Slot, are_sorted, place_in, set_slot, slots_in, slots_of, value_of, with_room, writes_in,
 };
 use bottle_values::Value;
 use office_map::RecordId;
@@ -38,7 +38,7 @@ impl Model for WorkingCopy {
 }
 
 impl WorkingCopy {
-    ghost use Rattle.std.specs.Prelude.{◌≡◌, [], IfOk, OnOk, OnErr, map};
+    ghost use Rattle.std.specs.Prelude.{◌≡◌, ◌==◌, ℕ, [], Some, IfOk, OnOk, OnErr, map, position};
     ghost use Rattle.session_meaning.specs.Meaning.{slot_of, value_in, set_in, writes_of};
 
     /// The copy as the session begins.
@@ -98,16 +98,28 @@ impl WorkingCopy {
     pub fn value(&self, id: RecordId) -> Value
         ensures { result ≡ value_in self.now id }
     {
-        if self.is_sorted {
-            sorted_value(&self.slots, id)
-        } else {
-            first_value(&self.slots, id)
-        }
+        value_of(&self.slots, self.is_sorted, id)
+    }
+
+    /// Where a record's first slot is, if it has one. It stays there when records are set.
+    pub fn place(&self, id: RecordId) -> Option<usize>
+        ensures { result ≡ position (λ s. s.r == id) self.now }
+    {
+        place_in(&self.slots, self.is_sorted, id)
+    }
+
+    /// The value of the record whose place this is.
+    pub fn value_at(&self, place: usize) -> Value
+        requires { (id : ℕ) × (position (λ s. s.r == id) self.now ≡ Some place) }
+        ensures { (id : ℕ) → position (λ s. s.r == id) self.now ≡ Some place → result ≡ value_in self.now id }
+    {
+        self.slots[place].value
     }
 
     /// Sets a record, if it is there.
     pub fn set(&mut self, id: RecordId, value: Value)
-        ensures { self.new ≡ set_in id value self.old }
+        ensures set { self.new ≡ set_in id value self.old }
+        ensures places { (r : ℕ) → position (λ s. s.r == r) self.new ≡ position (λ s. s.r == r) self.old }
     {
         set_slot(&mut self.slots, id, value);
     }

@@ -1,17 +1,17 @@
 -- Slots in order of record: where a record's slot is, and that setting one keeps them in order.
-use Rattle.std.proofs.Common.{◌≡◌, ℕ, zero, suc, ◌<◌, ◌≤◌, ◌+◌, ◌-◌, List, [], ◌∷◌, length, map, get_or, Bool, true, false, ◌==◌, ◌⊎◌, inl, inr, if◌then◌else◌, refl, sym, ap, ◌∙◌, subst, arith}
+use Rattle.std.proofs.Common.{◌≡◌, ℕ, zero, suc, ◌<◌, ◌≤◌, ◌+◌, ◌-◌, List, [], ◌∷◌, length, map, get_or, Bool, true, false, not, cond, ◌==◌, ◌⊎◌, inl, inr, Option, Some, None, if◌then◌else◌, refl, sym, ap, ◌∙◌, subst, arith}
 use Rattle.std.proofs.lemmas.Bool.{cases_lt}
 use Rattle.std.proofs.lemmas.Bool.Decides.{nat_tests}
 use Rattle.std.proofs.lemmas.List.{get_or-map, length-map}
-use Rattle.std.specs.List.{slice_index}
+use Rattle.std.specs.List.{slice_index, position, position_or_len}
 use Rattle.std.specs.List.Sorted.{IsStrictlyIncreasing}
 use Rattle.std.proofs.lemmas.List.Kept.{AllPairs-from_increasing}
 use Rattle.bottle_values.specs.Values.{Value}
 use Rattle.session_meaning.specs.Meaning as meaning
-use Rattle.session_meaning.specs.Meaning.{set_in, value_in}
-use Rattle.bottle_values.specs.Operations.{nought}
+use Rattle.session_meaning.specs.Meaning.{set_in}
 use Rattle.session_meaning.specs.declared.slots.Slot.{Slot}
 use Rattle.session_meaning.specs.refinement.CopiedSlots.{slot_of}
+use Rattle.session_meaning.proofs.working_copies.RecordLookup.{is_of, within, is_within, not_within}
 
 -- slots in order of record
 abbrev pub ids : List Slot → List ℕ
@@ -52,19 +52,28 @@ sorted_more slots i a b before lt up k below = by_order (cases_lt (k + 1) i)
         let u : (get_or slots k a).id ≡ (get_or slots (i - 1) a).id = ap (λ j. (get_or slots j a).id) f in
         let v : (get_or slots (k + 1) b).id ≡ (get_or slots i b).id = ap (λ j. (get_or slots j b).id) e in omega arith
 
--- the value at a place before which all are of earlier records
-pub value_at : (slots : List Slot) (id k : ℕ) (d : Slot) → ((i : ℕ) (e : Slot) → i < k → (get_or slots i e).id < id) → k < length slots → (get_or slots k d).id ≡ id
-    → (get_or slots k d).value ≡ value_in (map slot_of slots) id
-value_at [] id k d before lt is = absurd (omega arith)
-value_at (s ∷ rest) id zero d before lt is = let yes : (s.id == id) ≡ true = grind (is, arith, nat_tests) in sym (ap (λ b. if b then s.value else value_in (map slot_of rest) id) yes)
-value_at (s ∷ rest) id (suc k) d before lt is =
+-- the place before which all are of earlier records is the first of this one
+place_first : (slots : List Slot) (id k : ℕ) (d : Slot) → ((i : ℕ) (e : Slot) → i < k → (get_or slots i e).id < id) → k < length slots → (get_or slots k d).id ≡ id → position_or_len (is_of id) slots ≡ k
+place_first [] id k d before lt is = absurd (omega arith)
+place_first (s ∷ rest) id zero d before lt is = let yes : (s.id == id) ≡ true = grind (is, arith, nat_tests) in ap (λ b. cond (not b) (1 + position_or_len (is_of id) rest) 0) yes
+place_first (s ∷ rest) id (suc k) d before lt is =
     let low : s.id < id = before 0 d (omega arith) in
     let no : (s.id == id) ≡ false = grind (low, arith, nat_tests) in
-    value_at rest id k d (λ i e h. before (suc i) e (omega arith)) (omega arith) is ∙ sym (ap (λ b. if b then s.value else value_in (map slot_of rest) id) no)
+    let more : position_or_len (is_of id) rest ≡ k = place_first rest id k d (λ i e h. before (suc i) e (omega arith)) (omega arith) is in
+    ap (λ b. cond (not b) (1 + position_or_len (is_of id) rest) 0) no ∙ omega (arith, more)
 
-none_of : (slots : List Slot) (id : ℕ) → ((i : ℕ) (e : Slot) → i < length slots → ((get_or slots i e).id == id) ≡ false) → nought ≡ value_in (map slot_of slots) id
-none_of [] id h = refl
-none_of (s ∷ rest) id h = none_of rest id (λ i e lt. h (suc i) e (omega arith)) ∙ sym (ap (λ b. if b then s.value else value_in (map slot_of rest) id) (h 0 s (omega arith)))
+pub placed : (slots : List Slot) (id k : ℕ) (d : Slot) → ((i : ℕ) (e : Slot) → i < k → (get_or slots i e).id < id) → k < length slots → (get_or slots k d).id ≡ id → position (is_of id) slots ≡ Some k
+placed slots id k d before lt is = ap (λ n. within n (length slots)) (place_first slots id k d before lt is) ∙ is_within k (length slots) lt
+
+none_of : (slots : List Slot) (id : ℕ) → ((i : ℕ) (e : Slot) → i < length slots → ((get_or slots i e).id == id) ≡ false) → length slots ≤ position_or_len (is_of id) slots
+none_of [] id h = omega arith
+none_of (s ∷ rest) id h =
+    let more : length rest ≤ position_or_len (is_of id) rest = none_of rest id (λ i e lt. h (suc i) e (omega arith)) in
+    let here : position_or_len (is_of id) (s ∷ rest) ≡ 1 + position_or_len (is_of id) rest = ap (λ b. cond (not b) (1 + position_or_len (is_of id) rest) 0) (h 0 s (omega arith)) in
+    omega (arith, more, here)
+
+nowhere : (slots : List Slot) (id : ℕ) → ((i : ℕ) (e : Slot) → i < length slots → ((get_or slots i e).id == id) ≡ false) → position (is_of id) slots ≡ None
+nowhere slots id h = not_within (position_or_len (is_of id) slots) (length slots) (none_of slots id h)
 
 module _ (slots : List Slot) (order : IsStrictlyIncreasing (ids slots)) where
   id_at : (i : ℕ) (e : Slot) → i < length slots → get_or (ids slots) i 0 ≡ (get_or slots i e).id
@@ -99,11 +108,11 @@ module _ (slots : List Slot) (order : IsStrictlyIncreasing (ids slots)) where
 
   -- where none before a place is of this record, and the slot there isn't, no slot is
   module _ (id place : ℕ) (before : (i : ℕ) (e : Slot) → i < place → (get_or slots i e).id < id) where
-    pub past_all : length slots ≤ place → nought ≡ value_in (map slot_of slots) id
-    past_all le = none_of slots id (λ i e lt. let low : (get_or slots i e).id < id = before i e (omega arith) in grind (low, arith, nat_tests))
+    pub past_all : length slots ≤ place → position (is_of id) slots ≡ None
+    past_all le = nowhere slots id (λ i e lt. let low : (get_or slots i e).id < id = before i e (omega arith) in grind (low, arith, nat_tests))
 
-    pub another : (d : Slot) → place < length slots → id ≤ (get_or slots place d).id → ((get_or slots place d).id == id) ≡ false → nought ≡ value_in (map slot_of slots) id
-    another d there high other = none_of slots id (λ i e lt. by_order i e lt (cases_lt i place) (cases_lt place i))
+    pub another : (d : Slot) → place < length slots → id ≤ (get_or slots place d).id → ((get_or slots place d).id == id) ≡ false → position (is_of id) slots ≡ None
+    another d there high other = nowhere slots id (λ i e lt. by_order i e lt (cases_lt i place) (cases_lt place i))
       where
         by_order : (i : ℕ) (e : Slot) → i < length slots → (i < place) ⊎ (place ≤ i) → (place < i) ⊎ (i ≤ place) → ((get_or slots i e).id == id) ≡ false
         by_order i e lt (inl h) w = let low : (get_or slots i e).id < id = before i e h in grind (low, arith, nat_tests)

@@ -1,4 +1,5 @@
-use Rattle.std.proofs.Common.{arith}
+use Rattle.std.proofs.Common.{◌≡◌, sym, ap, ◌∙◌, arith}
+use Rattle.session_meaning.proofs.working_copies.RecordLookup.{position_kept}
 use Rattle.session_meaning.proofs.working_copies.SortedSlots.{order_kept}
 use Rattle.session_meaning.proofs.working_copy.WorkingCopy.set.Goals as goal
 
@@ -6,5 +7,5 @@ pub invariant_of-self : goal.invariant_of-self
 invariant_of-self c =
     (λ is_sorted. order_kept c.self.inside.slots.items c.set_slot.new.slots.items c.args.id c.args.value c.set_slot.ensures.set (c.self.invariant.0 is_sorted), c.self.invariant.1, omega (arith, c.self.invariant.2, c.set_slot.ensures.len))
 
-pub returns : goal.returns
-returns c = cc
+pub returns-clause-set : goal.returns-clause-set
+returns-clause-set c = cc
