@@ -31,8 +31,9 @@ pub fn evaluate(
 {
     let mut top = Value::from(0);
     let mut waiting = 0;
-    for node in e.nodes().iter() {
-        match *node {
+    let nodes = e.nodes();
+    for i in 0..nodes.len() {
+        match nodes.node(i) {
             Node::Literal(value) => {
                 below[waiting] = top;
                 waiting += 1;

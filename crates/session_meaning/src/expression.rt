@@ -1,10 +1,10 @@
 //! Expressions.
 
 ghost use Rattle.std.specs.Prelude.{◌≡◌, IfOk};
-ghost use Rattle.session_meaning.specs.refinement.ExpressionNodes.{nodes_in};
 ghost use Rattle.session_meaning.specs.refinement.Postfix.{postfix, tree_of, IsPostfix};
 
 use crate::node::Node;
+use crate::nodes::{KeptNodes, Nodes};
 use std::alloc::{AllocError, Global};
 use std::marker::Model;
 
@@ -14,17 +14,7 @@ use std::marker::Model;
 /// read in one pass and worked out on a stack; contracts still see the tree (`Term`), through `postfix`.
 #[derive(Drop)]
 pub struct Expression {
-    nodes: Nodes,
-}
-
-/// One node stands in its place, and several in memory of their own.
-///
-/// Most statements of a ledger give, set or let one value: a list for each of them would take and give back memory for
-/// 16 bytes.
-#[derive(Drop)]
-pub(crate) enum Nodes {
-    One([Node; 1]),
-    Several(Vec<Node>),
+    kept: KeptNodes,
 }
 
 impl Model for Expression {
@@ -39,9 +29,9 @@ impl Model for Expression {
 
     ghost coded = { let nodes : Coded Node = Prim.hlevel codes in term_code nodes };
 
-    ghost view = { λ e. tree_of (nodes_in e.nodes) };
+    ghost view = { λ e. tree_of (nodes_in e.kept) };
 
-    ghost invariant = { λ e. IsPostfix (nodes_in e.nodes) };
+    ghost invariant = { λ e. IsPostfix (nodes_in e.kept) };
 }
 
 impl Expression {
@@ -51,34 +41,14 @@ impl Expression {
         ensures { IfOk result (λ e. e ≡ tree_of nodes.now) }
     {
         Ok(Expression {
-            nodes: Nodes::of(alloc, nodes)?,
+            kept: KeptNodes::of(alloc, nodes)?,
         })
     }
 
     /// The nodes, each operator after its operands.
-    pub fn nodes(&self) -> &[Node]
-        ensures { result.now ≡ postfix self.now }
+    pub fn nodes(&self) -> Nodes<'_>
+        ensures { result ≡ postfix self.now }
     {
-        self.nodes.as_slice()
-    }
-}
-
-impl Nodes {
-    fn of(alloc: Global, nodes: &[Node]) -> Result<Nodes, AllocError>
-        ensures { IfOk result (λ n. nodes_in n ≡ nodes.now) }
-    {
-        match nodes {
-            [node] => Ok(Nodes::One([*node])),
-            _ => Ok(Nodes::Several(Vec::from_slice(alloc, nodes)?)),
-        }
-    }
-
-    fn as_slice(&self) -> &[Node]
-        ensures { result.now ≡ nodes_in self.now }
-    {
-        match self {
-            Nodes::One(node) => node.as_slice(),
-            Nodes::Several(nodes) => nodes,
-        }
+        Nodes::of(self.kept.as_slice())
     }
 }

@@ -11,7 +11,8 @@
 //! - [`needs`] are the records that a session needs, in order (`needs_of`, in `specs/Needs.antt`).
 //! - [`laws`]: a session writes only what it needs, tells what it read, needs just the records that it names, and takes
 //!   as many steps as its length, which is at most its cost and 1.
-//! - Expressions are kept in postfix order (`specs/refinement/Postfix.antt`); [`operands`] takes them apart.
+//! - Expressions are kept in postfix order (`specs/refinement/Postfix.antt`), and their [`Nodes`] are told one at a time;
+//!   [`operands`] takes them apart.
 //!
 //! It stands below the language: what a session does alone, how long that takes and what it costs needs a tree and no
 //! text. So what works a session out, or proves something of it, stands on this crate.
@@ -25,6 +26,7 @@ pub mod laws;
 pub mod measures;
 pub mod needs;
 mod node;
+mod nodes;
 pub mod operands;
 mod slots;
 mod tree;
@@ -34,6 +36,7 @@ mod working_copy;
 pub use crate::ending::{End, Ending, Gives, Outcome, RecordValues};
 pub use crate::expression::Expression;
 pub use crate::node::{Comparison, Node, Operator};
+pub use crate::nodes::Nodes;
 pub use crate::tree::{Condition, Statement};
 pub use crate::variables::Variables;
 pub use crate::working_copy::WorkingCopy;

@@ -5,6 +5,7 @@ ghost use Rattle.session_meaning.specs.Needs.{with_record, term_needs, nodes_nee
 
 use crate::expression::Expression;
 use crate::node::Node;
+use crate::nodes::Nodes;
 use office_map::RecordId;
 use std::alloc::AllocError;
 
@@ -14,15 +15,15 @@ use std::alloc::AllocError;
 pub fn add_reads(needs: &mut Vec<RecordId>, e: &Expression) -> Result<(), AllocError>
     ensures { OnOk result (needs.new.items ≡ term_needs e.now needs.old.items) }
 {
-    add_nodes(needs, e.nodes())
+    add_nodes(needs, &e.nodes())
 }
 
-fn add_nodes(needs: &mut Vec<RecordId>, nodes: &[Node]) -> Result<(), AllocError>
+fn add_nodes(needs: &mut Vec<RecordId>, nodes: &Nodes<'_>) -> Result<(), AllocError>
     ensures { OnOk result (needs.new.items ≡ nodes_needs nodes.now needs.old.items) }
 {
-    for node in nodes {
-        if let Node::Read(id) = node {
-            add_record(needs, *id)?;
+    for i in 0..nodes.len() {
+        if let Node::Read(id) = nodes.node(i) {
+            add_record(needs, id)?;
         }
     }
     Ok(())

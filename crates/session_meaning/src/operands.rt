@@ -6,18 +6,19 @@ ghost use Rattle.session_meaning.specs.refinement.Postfix.{postfix};
 ghost use Rattle.session_meaning.specs.refinement.PostfixSplit.{after_back};
 
 use crate::node::Node;
+use crate::nodes::Nodes;
 
 /// Two expressions, one after the other, apart.
-pub fn operands(nodes: &[Node]) -> (&[Node], &[Node])
-    ensures apart { (a b : Term) → nodes.now ≡ postfix a ++ postfix b → (result.0.now ≡ postfix a) × (result.1.now ≡ postfix b) }
-    ensures left_within { length result.0.now ≤ length nodes.now }
-    ensures right_within { length result.1.now ≤ length nodes.now }
+pub fn operands<'a>(nodes: &Nodes<'a>) -> (Nodes<'a>, Nodes<'a>)
+    ensures apart { (a b : Term) → nodes.now ≡ postfix a ++ postfix b → (result.0 ≡ postfix a) × (result.1 ≡ postfix b) }
+    ensures left_within { length result.0 ≤ length nodes.now }
+    ensures right_within { length result.1 ≤ length nodes.now }
 {
     nodes.split_at(start_of_last(nodes))
 }
 
 /// Where the last expression begins.
-fn start_of_last(nodes: &[Node]) -> usize
+fn start_of_last(nodes: &Nodes<'_>) -> usize
     ensures at { reverse (take result nodes.now) ≡ after_back 1 (reverse nodes.now) }
     ensures within { result ≤ length nodes.now }
 {
@@ -28,7 +29,7 @@ fn start_of_last(nodes: &[Node]) -> usize
             return 0;
         }
         at -= 1;
-        match nodes[at] {
+        match nodes.node(at) {
             Node::Literal(_) | Node::Variable(_) | Node::Read(_) => wanted -= 1,
             Node::Negate => {}
             Node::Apply(_) => wanted += 1,

@@ -156,7 +156,7 @@ fn write_require(
 fn write_expression(out: &mut String, words: &Words<'_>, e: &Expression) -> Result<(), AllocError>
     ensures { OnOk result (string_bytes out.new ≡ string_bytes out.old ++ term_text (words_of words.now) e.now) }
 {
-    write_term(out, words, e.nodes())
+    write_term(out, words, &e.nodes())
 }
 
 fn write_condition(out: &mut String, words: &Words<'_>, c: &Condition) -> Result<(), AllocError>

@@ -12,36 +12,36 @@ use bottle_values::Value;
 use itoa::Buffer;
 use office_map::RecordId;
 use session_meaning::operands::operands;
-use session_meaning::{Node, Operator};
+use session_meaning::{Node, Nodes, Operator};
 use std::alloc::AllocError;
 
 /// What an expression may stand as without parentheses.
-fn rank(nodes: &[Node]) -> Rank
+fn rank(nodes: &Nodes<'_>) -> Rank
     ensures { (e : Term) → nodes.now ≡ postfix e → result ≡ rank_of e }
 {
-    match nodes.last() {
-        Some(Node::Apply(Operator::Times)) => Rank::Product,
-        Some(Node::Apply(_)) => Rank::Sum,
+    match nodes.split_last() {
+        Some((Node::Apply(Operator::Times), _)) => Rank::Product,
+        Some((Node::Apply(_), _)) => Rank::Sum,
         _ => Rank::Factor,
     }
 }
 
 #[cycle(text)]
-pub fn write_term(out: &mut String, words: &Words<'_>, nodes: &[Node]) -> Result<(), AllocError>
+pub fn write_term(out: &mut String, words: &Words<'_>, nodes: &Nodes<'_>) -> Result<(), AllocError>
     ensures { (e : Term) → nodes.now ≡ postfix e → OnOk result (string_bytes out.new ≡ string_bytes out.old ++ term_text (words_of words.now) e) }
 {
     let Some((last, rest)) = nodes.split_last() else {
         return Ok(());
     };
     match last {
-        Node::Literal(value) => write_literal(out, *value),
-        Node::Variable(place) => write_variable(out, words, *place),
-        Node::Read(record) => write_read(out, words, *record),
+        Node::Literal(value) => write_literal(out, value),
+        Node::Variable(place) => write_variable(out, words, place),
+        Node::Read(record) => write_read(out, words, record),
         Node::Negate => {
             out.push_str("-")?;
-            write_factor(out, words, rest)
+            write_factor(out, words, &rest)
         }
-        Node::Apply(operator) => write_operation(out, words, *operator, rest),
+        Node::Apply(operator) => write_operation(out, words, operator, &rest),
     }
 }
 
@@ -50,32 +50,32 @@ fn write_operation(
     out: &mut String,
     words: &Words<'_>,
     operator: Operator,
-    nodes: &[Node],
+    nodes: &Nodes<'_>,
 ) -> Result<(), AllocError>
     ensures { (a b : Term) → nodes.now ≡ postfix a ++ postfix b → OnOk result (string_bytes out.new ≡ string_bytes out.old ++ operation_text (words_of words.now) operator a b) }
 {
     let (left, right) = operands(nodes);
     match operator {
         Operator::Times => {
-            write_product(out, words, left)?;
+            write_product(out, words, &left)?;
             out.push_str(" * ")?;
-            write_factor(out, words, right)
+            write_factor(out, words, &right)
         }
         Operator::Plus => {
-            write_term(out, words, left)?;
+            write_term(out, words, &left)?;
             out.push_str(" + ")?;
-            write_product(out, words, right)
+            write_product(out, words, &right)
         }
         Operator::Minus => {
-            write_term(out, words, left)?;
+            write_term(out, words, &left)?;
             out.push_str(" - ")?;
-            write_product(out, words, right)
+            write_product(out, words, &right)
         }
     }
 }
 
 #[cycle(text)]
-fn write_factor(out: &mut String, words: &Words<'_>, nodes: &[Node]) -> Result<(), AllocError>
+fn write_factor(out: &mut String, words: &Words<'_>, nodes: &Nodes<'_>) -> Result<(), AllocError>
     ensures { (e : Term) → nodes.now ≡ postfix e → OnOk result (string_bytes out.new ≡ string_bytes out.old ++ factor_text (rank_of e) (term_text (words_of words.now) e)) }
 {
     match rank(nodes) {
@@ -89,7 +89,7 @@ fn write_factor(out: &mut String, words: &Words<'_>, nodes: &[Node]) -> Result<(
 }
 
 #[cycle(text)]
-fn write_product(out: &mut String, words: &Words<'_>, nodes: &[Node]) -> Result<(), AllocError>
+fn write_product(out: &mut String, words: &Words<'_>, nodes: &Nodes<'_>) -> Result<(), AllocError>
     ensures { (e : Term) → nodes.now ≡ postfix e → OnOk result (string_bytes out.new ≡ string_bytes out.old ++ product_text (rank_of e) (term_text (words_of words.now) e)) }
 {
     match rank(nodes) {

@@ -1,8 +1,10 @@
 -- One more node, and the bytes of what waits.
-use Rattle.std.proofs.Common.{◌≡◌, ◌≤◌, ℕ, ◌+◌, min, List, [], ◌∷◌, ◌++◌, length, sym, ap, ◌∙◌, arith, length-append, codes, ◌<◌, take, get_or, suc, slice_index_or, slice_set}
+use Rattle.std.proofs.Common.{◌≡◌, ◌≤◌, ℕ, ◌+◌, min, List, [], ◌∷◌, ◌++◌, length, sym, ap, ◌∙◌, arith, length-append, codes, take, suc, Some, slice_index_or, slice_set}
 use Rattle.std.proofs.Math.Seq.{take-suc, take-suc-set}
-use Rattle.std.proofs.lemmas.List.{take_more, take_all, length-set}
+use Rattle.std.proofs.lemmas.List.{take_all, length-set}
 use Rattle.std.specs.Fmt.{decimal}
+use Rattle.std.specs.Prelude.{slice_get}
+use Rattle.bottle_values.specs.ListLaws.{first_more}
 use Rattle.session_meaning.specs.declared.node.Operator.{Operator}
 use Rattle.session_meaning.specs.declared.node.Operator.TheVariants as op
 use Rattle.session_meaning.specs.declared.node.Node.TheVariants.{Apply, Negate}
@@ -100,12 +102,12 @@ pub loop_bytes : (w : Words) (n : ℕ) (b : Block) → length (command_text w (L
 loop_bytes w n b = omega (arith, length-append (line (codes "repeat " ++ decimal n)) (block_text w b ++ line (codes "end")), length-append (codes "repeat " ++ decimal n) (10 ∷ []), length-append (codes "repeat ") (decimal n), length-append (block_text w b) (line (codes "end")))
 
 -- one more node
-pub one_more : (w : Words) (nodes : List Node) (i n : ℕ) (d node : Node) (ranks : List Rank) → i < length nodes → node ≡ get_or nodes i d →
+pub one_more : (w : Words) (nodes : List Node) (i n : ℕ) (node : Node) (ranks : List Rank) → slice_get nodes i ≡ Some node →
     ranks ≡ ranks_of (push_node node (push_nodes (take i nodes) [])) → n ≡ min 16385 (bytes_of w (push_node node (push_nodes (take i nodes) []))) →
     (n ≤ 16385) × ((ranks ≡ ranks_of (push_nodes (take (i + 1) nodes) [])) × (n ≡ min 16385 (bytes_of w (push_nodes (take (i + 1) nodes) []))))
-one_more w nodes i n d node ranks h is f g =
+one_more w nodes i n node ranks is f g =
     let more : push_node node (push_nodes (take i nodes) []) ≡ push_nodes (take (i + 1) nodes) [] =
-    ap (λ x. push_node x (push_nodes (take i nodes) [])) is ∙ sym (push_nodes-append (take i nodes) (get_or nodes i d ∷ []) []) ∙ ap (λ ns. push_nodes ns []) (sym (take_more nodes i d h)) in
+    sym (push_nodes-append (take i nodes) (node ∷ []) []) ∙ ap (λ ns. push_nodes ns []) (sym (first_more nodes i node is)) in
     (omega (arith, g), (f ∙ ap ranks_of more, g ∙ ap (λ st. min 16385 (bytes_of w st)) more))
 
 -- what the nodes of an expression leave

@@ -15,7 +15,7 @@ ghost use Rattle.session_sizes.specs.refinement.TextSizes.{ranks_of, bytes_of, a
 use crate::limits::{MOST_BYTES, MOST_COST, MOST_STATEMENTS, PAST_BYTES, SHORT_EXTENT};
 use bottle_values::Value;
 use session_meaning::measures::block_measures;
-use session_meaning::{Condition, Expression, Node, Operator, Statement};
+use session_meaning::{Condition, Expression, Node, Nodes, Operator, Statement};
 use session_programs::{Rank, comparison_text, magnitude};
 use std::alloc::{AllocError, Global};
 use text_lines::ShortName;
@@ -128,21 +128,21 @@ fn expression_size(
 ) -> Result<u32, AllocError>
     ensures { IfOk result (λ n. n ≡ min past_bytes (length (term_text (wide_words variables.now) e.now))) }
 {
-    nodes_size(ranks, variables, e.nodes())
+    nodes_size(ranks, variables, &e.nodes())
 }
 
 /// The bytes of what nodes in postfix order leave.
 fn nodes_size(
     ranks: &mut Vec<Rank>,
     variables: &[ShortName],
-    nodes: &[Node],
+    nodes: &Nodes<'_>,
 ) -> Result<u32, AllocError>
     ensures { IfOk result (λ n. n ≡ min past_bytes (bytes_of (wide_words variables.now) (push_nodes nodes.now []))) }
 {
     ranks.clear();
     let mut size = 0;
-    for node in nodes {
-        size = with_node(ranks, size, variables, *node)?;
+    for i in 0..nodes.len() {
+        size = with_node(ranks, size, variables, nodes.node(i))?;
     }
     Ok(size)
 }

@@ -3,5 +3,5 @@ use Rattle.session_meaning.specs.Needs.{nodes_needs}
 use Rattle.session_meaning.proofs.needs.add_nodes.Given as goal
 
 -- the nodes that are left, on what is needed so far, need what all of them do
-abbrev pub invariant-loop-node : goal.invariant-loop-node
-invariant-loop-node l = nodes_needs (drop l.node-index l.nodes) l.needs.items ≡ nodes_needs l.nodes l.fn.needs.items
+abbrev pub invariant-loop-i : goal.invariant-loop-i
+invariant-loop-i l = nodes_needs (drop l.i l.nodes) l.needs.items ≡ nodes_needs l.nodes l.fn.needs.items

@@ -5,8 +5,8 @@ use Rattle.session_sizes.specs.refinement.TextSizes.{ranks_of, bytes_of}
 use Rattle.session_sizes.proofs.sizes.nodes_size.Given as goal
 
 -- what the nodes so far leave
-abbrev pub invariant-loop-node : goal.invariant-loop-node
-invariant-loop-node l =
+abbrev pub invariant-loop-i : goal.invariant-loop-i
+invariant-loop-i l =
     (l.size ≤ 16385)
-    × ((l.ranks.items ≡ ranks_of (push_nodes (take l.node-index l.nodes) []))
-    × (l.size ≡ min 16385 (bytes_of (wide_words l.variables) (push_nodes (take l.node-index l.nodes) []))))
+    × ((l.ranks.items ≡ ranks_of (push_nodes (take l.i l.nodes) []))
+    × (l.size ≡ min 16385 (bytes_of (wide_words l.variables) (push_nodes (take l.i l.nodes) []))))

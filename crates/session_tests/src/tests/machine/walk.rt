@@ -231,8 +231,8 @@ impl Walk {
     }
 
     /// What a node makes of the numbers before it.
-    fn result(&self, node: &Node, numbers: &mut Vec<i64>) -> i128 {
-        match *node {
+    fn result(&self, node: Node, numbers: &mut Vec<i64>) -> i128 {
+        match node {
             Node::Literal(value) => i128::from(value.number()),
             Node::Variable(place) => {
                 let number = self.variables.get(usize::from(place)).copied();
@@ -250,7 +250,9 @@ impl Walk {
 
     fn value(&mut self, e: &Expression) -> Result<i64, Halt> {
         let mut numbers: Vec<i64> = Vec::new(self.alloc);
-        for node in e.nodes() {
+        let nodes = e.nodes();
+        for i in 0..nodes.len() {
+            let node = nodes.node(i);
             self.counts();
             let number = self.result(node, &mut numbers);
             self.at_minus = matches!(node, Node::Negate);
