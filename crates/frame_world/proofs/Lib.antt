@@ -8,6 +8,7 @@ pub mod Following
 pub mod PlacesAndForks
 mod SentFrames
 mod TimelyCounts
+mod OneMessage
 mod WhatWaits
 mod FewWait
 mod NoneEarly

@@ -117,6 +117,10 @@ abbrev pub CountsAreTimely : World → Type 0
 CountsAreTimely w = (k : ℕ) (f : Fields) → slice_get w.frames k ≡ Some f → (before later : List Entry) → (site_at w f.from).entries ≡ before ++ later →
     used (link_at w.plan f.from before f.to).sending < f.number → (link_at w.plan f.from before f.to).receiving.taken ≤ f.count
 
+-- a number is of one message: two frames that were sent, and are the same but for their messages, are the same
+abbrev pub NumbersTellMessages : World → Type 0
+NumbersTellMessages w = (j k : ℕ) (f g : Fields) → slice_get w.frames j ≡ Some f → slice_get w.frames k ≡ Some g → record f { msg = g.msg } ≡ g → f ≡ g
+
 -- which events led to a world from its plan
 pub record IsReached (w : World) : Type 0 where
   pub events : List WorldEvent

@@ -1,6 +1,6 @@
 //! The headline, over definitions: what holds of every world that a list of events leads to.
 
-ghost use Rattle.frame_world.specs.Headline.{Always, HasSerialSessions, HasSerialValues, HasOnePlaceEach, NeighboursEatApart, EatersHaveTheirForks, DrinkersHaveTheirBottles, FramesAreTaken, NoneIsEarly, CountsAreTimely, PrecedenceHasNoRing, FramesInRangeGoByBytes};
+ghost use Rattle.frame_world.specs.Headline.{Always, HasSerialSessions, HasSerialValues, HasOnePlaceEach, NeighboursEatApart, EatersHaveTheirForks, DrinkersHaveTheirBottles, FramesAreTaken, NoneIsEarly, CountsAreTimely, NumbersTellMessages, PrecedenceHasNoRing, FramesInRangeGoByBytes};
 ghost use Rattle.frame_world.specs.Tickets.{HaveTheirTickets, TicketsRise, TellsEachOffice};
 ghost use Rattle.frame_world.specs.Standstill.{NeverStuck, RulesAreDone, MessagesAreTaken};
 ghost use Rattle.frame_world.specs.Waiting.{EachIsHeldOrWaits, FewMessagesWait, NoFrameIsFarAhead};
@@ -107,6 +107,11 @@ pub fn counts_are_timely()
 {
     links_only_grow();
 }
+
+/// A number is of one message: two frames that were ever sent, and are the same but for their messages, are the same.
+pub fn numbers_tell_messages()
+    ensures { Always NumbersTellMessages }
+{}
 
 /// Each thing that an office shares with another is held there, or waits there once for the other, or neither.
 pub fn each_is_held_or_waits()
