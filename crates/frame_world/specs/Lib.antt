@@ -1,4 +1,6 @@
 pub mod Worlds
+pub mod Sent
+pub mod SentLaws
 pub mod WorldStates
 pub mod WorldLaws
 pub mod Ways

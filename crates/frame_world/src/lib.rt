@@ -3,7 +3,8 @@
 //! sessions run alone, one after another in finishing order, from the plan's values; and each record has one bottle,
 //! which carries that serial run's value.
 //!
-//! There is no code here but the events' type and their refusals; what runs such a world keeps to `happens`.
+//! There is no code here but the events' type, their refusals, and where a frame is told; what runs such a world keeps to
+//! `happens`.
 //!
 //! - `specs/Worlds.antt`: the offices with their journals, all frames that were ever sent, the finished sessions; what an
 //!   event answers and leaves. An event is an office's own (`site_core`), or a frame of the list that comes to its
@@ -11,8 +12,8 @@
 //! - `specs/Ways.antt`: what is on the way from one office to another, at how many places a thing is, and all bottles of
 //!   a record; the tables (`dining_core`) and the bars (`drinking_core`) that the offices are.
 //! - `specs/Headline.antt`: what holds of every world; [`laws`] has it proved. `specs/Tickets.antt`: which tickets the
-//!   finished sessions have. `specs/Waiting.antt`: how much waits at an office, and how far ahead of its addressee a frame
-//!   is. `specs/Standstill.antt`: what a world does next, left to itself, and that it can be done.
+//!   finished sessions have. `specs/Sent.antt`: which entry of which office tells a frame. `specs/Waiting.antt`: how much
+//!   waits at an office, and how far ahead of its addressee a frame is. `specs/Standstill.antt`: what a world does next, left to itself, and that it can be done.
 //!
 //! How it is proved: what happens to an office is, to tables and bars, an event of theirs or nothing
 //! (`proofs/TablesFollow.antt`, `proofs/BarsFollow.antt`), which needs of the links that each frame says the truth, and
@@ -71,7 +72,9 @@ mod event;
 pub mod laws;
 mod next_step;
 mod refusal;
+mod sent;
 
 pub use crate::event::WorldEvent;
 pub use crate::next_step::NextStep;
 pub use crate::refusal::WorldRefusal;
+pub use crate::sent::SentAt;

@@ -1,8 +1,8 @@
 -- What the offices that follow their journals leave, and what is told of it.
 use Rattle.std.proofs.Common.{◌≡◌, ℕ, List, map, inl, inr, ◌⊎◌, sym, subst}
-use Rattle.frame_codec.specs.Frame.{Fields}
 use Rattle.office_map.specs.PlanValue.{PlanValue}
 use Rattle.frame_world.specs.declared.event.WorldEvent.{WorldEvent}
+use Rattle.frame_world.specs.declared.sent.SentAt.{SentAt}
 use Rattle.frame_world.specs.Worlds.{opening, run_of}
 use Rattle.site_core.specs.Journals.{Site}
 use Rattle.world_schedule.specs.Records.{IsLeftBy}
@@ -19,13 +19,13 @@ abbrev sites_of : List ReplayValue → List Site
 sites_of rs = map (λ (r : ReplayValue). r.site) rs
 
 -- a schedule leaves them, with what it leaves beside them
-pub left_by : (p : PlanValue) (journals : List GivenJournal) (rs : List ReplayValue) (frames : List Fields) (order : List ℕ) (h : IsRecord p journals rs frames order) → IsLeftBy p h.events (sites_of rs) frames order
-left_by p journals rs frames order h = record { leaves = h.leaves; sends = h.sends; fit = h.fit; finishes = h.finishes }
+pub left_by : (p : PlanValue) (journals : List GivenJournal) (rs : List ReplayValue) (sent : List SentAt) (order : List ℕ) (h : IsRecord p journals rs sent order) → IsLeftBy p h.events (sites_of rs) sent order
+left_by p journals rs sent order h = record { leaves = h.leaves; sends = h.sends; fit = h.fit; finishes = h.finishes }
 
 -- and its report is told
-pub tells_woven : (p : PlanValue) (journals : List GivenJournal) (rs : List ReplayValue) (frames : List Fields) (order : List ℕ) (text : List ℕ) → IsRecord p journals rs frames order
-    → ((events : List WorldEvent) → IsLeftBy p events (sites_of rs) frames order → IsToldOf (run_of (opening p) events) text) → TellsWoven p journals text
-tells_woven p journals rs frames order text h told = record { events = h.events; woven = h.woven; report = told h.events (left_by p journals rs frames order h) }
+pub tells_woven : (p : PlanValue) (journals : List GivenJournal) (rs : List ReplayValue) (sent : List SentAt) (order : List ℕ) (text : List ℕ) → IsRecord p journals rs sent order
+    → ((events : List WorldEvent) → IsLeftBy p events (sites_of rs) sent order → IsToldOf (run_of (opening p) events) text) → TellsWoven p journals text
+tells_woven p journals rs sent order text h told = record { events = h.events; woven = h.woven; report = told h.events (left_by p journals rs sent order h) }
 
 -- no schedule does: an entry is named
 pub tells_unwoven : (p : PlanValue) (journals : List GivenJournal) (fault : WeaveFault) (text : List ℕ) → Names p fault text → IsUnwoven p journals fault
@@ -35,6 +35,6 @@ tells_unwoven p journals (faults.Unwoven office entry) text names left (inl memo
 tells_unwoven p journals (faults.Unwoven office entry) text names left (inr never) = record { office = office; entry = entry; left = left; never = never; line = names }
 
 -- the same of copies of these
-pub left_of_copies : (p q : PlanValue) (events : List WorldEvent) (sites sites' : List Site) (frames : List Fields) (order order' : List ℕ) → q ≡ p → sites' ≡ sites → order' ≡ order → IsLeftBy p events sites frames order → IsLeftBy q events sites' frames order'
-left_of_copies p q events sites sites' frames order order' plan offices places left =
-    subst (λ x. IsLeftBy x events sites' frames order') (sym plan) (subst (λ l. IsLeftBy p events l frames order') (sym offices) (subst (IsLeftBy p events sites frames) (sym places) left))
+pub left_of_copies : (p q : PlanValue) (events : List WorldEvent) (sites sites' : List Site) (sent : List SentAt) (order order' : List ℕ) → q ≡ p → sites' ≡ sites → order' ≡ order → IsLeftBy p events sites sent order → IsLeftBy q events sites' sent order'
+left_of_copies p q events sites sites' sent order order' plan offices places left =
+    subst (λ x. IsLeftBy x events sites' sent order') (sym plan) (subst (λ l. IsLeftBy p events l sent order') (sym offices) (subst (IsLeftBy p events sites frames) (sym places) left))

@@ -82,20 +82,20 @@ fn named(alloc: Global, plan: &Plan, office: OfficeId, entry: usize) -> Result<S
 
 /// The report of the world to which a schedule leads.
 ///
-/// Its offices are those that followed their journals to the ends: so nothing is done a second time. Frames and where sessions
-/// finished are the schedule's.
+/// Its offices are those that followed their journals to the ends: so nothing is done a second time. Which entries tell its frames,
+/// and where sessions finished, are the schedule's.
 fn report(
     alloc: Global,
     plan: &Plan,
     replays: Vec<Replay>,
     left: Record,
 ) -> Result<String, AllocError>
-    requires { (events : List WorldEvent) × IsLeftBy plan.now events (map (λ r. r.site) replays.items) left.frames.items left.finished.items }
-    ensures { IfOk result (λ text. (events : List WorldEvent) → IsLeftBy plan.now events (map (λ r. r.site) replays.items) left.frames.items left.finished.items → IsToldOf (run_of (opening plan.now) events) (string_bytes text)) }
+    requires { (events : List WorldEvent) × IsLeftBy plan.now events (map (λ r. r.site) replays.items) left.sent.items left.finished.items }
+    ensures { IfOk result (λ text. (events : List WorldEvent) → IsLeftBy plan.now events (map (λ r. r.site) replays.items) left.sent.items left.finished.items → IsToldOf (run_of (opening plan.now) events) (string_bytes text)) }
 {
     let offices = offices_of(alloc, replays)?;
     let plan = plan.copy(alloc)?;
-    let world = World::of_record(alloc, plan, offices, left.frames, &left.finished)?;
+    let world = World::of_record(alloc, plan, offices, left.sent, &left.finished)?;
     tell(alloc, &world)
 }
 

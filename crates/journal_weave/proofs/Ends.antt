@@ -11,7 +11,8 @@ use Rattle.frame_world.specs.declared.event.WorldEvent.{WorldEvent}
 use Rattle.frame_world.specs.Worlds.{World, silent, opening, site_at, run_of}
 use Rattle.frame_world.specs.WorldStates.{IsSeated}
 use Rattle.frame_world.specs.WorldLaws.{seated}
-use Rattle.frame_codec.specs.Frame.{Fields, IsFrame}
+use Rattle.frame_world.specs.declared.sent.SentAt.{SentAt}
+use Rattle.frame_world.specs.Sent.{TellsFrames}
 use Rattle.journal_weave.specs.declared.given.GivenJournal.{GivenJournal}
 use Rattle.journal_weave.specs.declared.key.FrameKey.{FrameKey}
 use Rattle.journal_weave.specs.declared.merge.Merge.{Merge}
@@ -23,7 +24,7 @@ use Rattle.journal_weave.specs.Following.{site_of, Gives, IsLimit}
 use Rattle.journal_weave.specs.ReplayValue.{ReplayValue}
 use Rattle.journal_weave.specs.Replays.{given, given_at, AreReplays, IsRecord}
 use Rattle.journal_weave.specs.refinement.Finishers.{finishers}
-use Rattle.journal_weave.specs.refinement.Merging.{CannotCome, AreFollowed, Knows, IsMerged, IsAtEnd, IsStuck}
+use Rattle.journal_weave.specs.refinement.Merging.{CannotCome, AreFollowed, IsMerged, IsAtEnd, IsStuck}
 use Rattle.journal_weave.specs.refinement.Standing.{IsFirstLeft}
 use Rattle.journal_weave.proofs.EntriesTold.{other_default}
 use Rattle.journal_weave.proofs.AcceptedEvents.{site_is}
@@ -163,15 +164,14 @@ module _ (C : FrameKey → FrameKey → Ordering) (plan : PlanValue) (journals :
         ∙ sym (get_or-map (λ (x : ReplayValue). x.site) rs a r.0 (silent plan 0) within))
 
     -- what the schedule leaves beside them
-    pub is_record : (frames : List Fields) (finished : List ℕ) → ((fs : List Fields) → Knows C m.sent fs → frames ≡ fs) → finishers events ≡ finished → IsRecord plan journals rs frames finished
-    is_record frames finished known noted =
-        let same : frames ≡ w.frames = known w.frames merged.sent in
+    pub is_record : (sent : List SentAt) (finished : List ℕ) → sent ≡ m.sent.sent.items → finishers events ≡ finished → IsRecord plan journals rs sent finished
+    is_record sent finished same noted =
         record {
           events = events;
           woven = is_woven none;
           leaves = leaves;
-          sends = sym same;
-          fit = subst (All IsFrame) (sym same) merged.sent.fit;
+          sends = subst (TellsFrames w) (sym same) merged.marks;
+          fit = merged.sent.fit;
           finishes = where_finished plan events merged.accepted ∙ noted;
         }
 

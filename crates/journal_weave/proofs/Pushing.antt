@@ -2,13 +2,15 @@
 use Rattle.std.proofs.Common.{◌≡◌, ◌≢◌, ℕ, zero, suc, ◌+◌, ◌<◌, ◌≤◌, List, [], ◌∷◌, ◌++◌, length, map, sum, take, get_or, set, Some, refl, sym, ap, subst, ◌∙◌, arith, ⊎_elim}
 use Rattle.std.specs.Prelude.{slice_get, replicate}
 use Rattle.std.proofs.lemmas.Bool.{cases_eq, cases_lt}
-use Rattle.std.proofs.lemmas.List.{length-replicate, get_or-map, get_or-replicate, get_or_past, get_or-set_same, get_or-set_other}
+use Rattle.std.proofs.lemmas.List.{length-replicate, get_or-map, get_or-replicate, get_or_past, get_or-set_same, get_or-set_other, nil_from_length}
+use Rattle.std.proofs.lemmas.Option.{slice_get_within}
 use Rattle.std.proofs.lemmas.List.Sums.{sum_by-set}
 use Rattle.std.specs.declared.cmp.Ordering.{Ordering}
 use Rattle.office_map.specs.PlanValue.{PlanValue}
 use Rattle.office_journal.specs.declared.event.Entry.{Entry}
 use Rattle.frame_world.specs.declared.event.WorldEvent.{WorldEvent}
 use Rattle.frame_world.specs.Worlds.{opening, frames_of, run_of}
+use Rattle.frame_world.specs.Sent.{sent_by, TellsFrames}
 use Rattle.journal_weave.specs.declared.key.FrameKey.{FrameKey}
 use Rattle.journal_weave.specs.declared.merge.Merge.{Merge}
 use Rattle.journal_weave.specs.Weaving.{untagged}
@@ -16,7 +18,7 @@ use Rattle.journal_weave.specs.ReplayValue.{ReplayValue}
 use Rattle.journal_weave.specs.Replays.{given}
 use Rattle.journal_weave.specs.refinement.Merging.{IsEventAt, Knows, GoesOn, IsMerged, IsWithin, AreFollowed, Has, Follows}
 use Rattle.journal_weave.proofs.AcceptedEvents.{nothing_told}
-use Rattle.journal_weave.proofs.Merging.{has_more, frames_after}
+use Rattle.journal_weave.proofs.Merging.{has_more, frames_after, told_after, has_all}
 
 -- how many entries of each office a merge has
 abbrev pub at_of : Merge → ℕ → ℕ
@@ -30,6 +32,7 @@ starts C m n at knows plan told = record {
   accepted = tt;
   has = λ a. nothing_told plan a ∙ ap (λ k. map untagged (take k (told a))) (sym (ap (λ l. get_or l a 0) at ∙ nought_at n a));
   sent = knows;
+  marks = subst (TellsFrames (opening plan)) (sym (nil_from_length m.sent.sent.items knows.count)) refl;
 }
 
 pub starts_within : (at : List ℕ) (n : ℕ) → at ≡ replicate n 0 → (rs : List ReplayValue) (a : ℕ) → get_or at a 0 ≤ get_or (map given rs) a 0
@@ -69,6 +72,10 @@ pushed C m m' a x e rs r office there is g below at plan told es size followed m
       has = more.entries;
       sent = subst (Knows C m'.sent) (sym (frames_after plan told (at_of m) es a y.0 e goes))
           (subst (λ (z : Entry). Knows C m'.sent ((run_of (opening plan) es).frames ++ frames_of z.reply)) (sym y.2) (g.sent (run_of (opening plan) es).frames merged.sent));
+      marks = subst (TellsFrames (run_of (opening plan) (es ++ e ∷ [])))
+          (ap (λ k. m.sent.sent.items ++ sent_by a k y.0.reply) (has_all plan told (at_of m) es has a (omega (arith, slice_get_within (told a) (at_of m a) y.0 y.1)))
+          ∙ ap (λ (z : Entry). m.sent.sent.items ++ sent_by a (at_of m a) z.reply) y.2 ∙ sym g.marks)
+          (told_after plan told (at_of m) es a y.0 e goes m.sent.sent.items merged.marks);
     }
 
 pub within_more : (m m' : Merge) (a : ℕ) (rs : List ReplayValue) (r : ReplayValue) → a < length m.at.items → a < length rs → r ≡ get_or rs a r → m'.at.items ≡ set m.at.items a (at_of m a + 1) → at_of m a < given r → IsWithin rs m → IsWithin rs m'

@@ -6,6 +6,7 @@ use Rattle.std.specs.Ordering.{is_eq}
 use Rattle.std.specs.declared.cmp.Ordering.{Ordering}
 use Rattle.std.proofs.lemmas.Bool.{false≢true}
 use Rattle.frame_codec.specs.Frame.{Fields, IsFrame}
+use Rattle.std.proofs.lemmas.List.{length-append}
 use Rattle.std.proofs.lemmas.List.Elements.{All-nil, All-cons, All-append}
 use Rattle.journal_weave.specs.declared.key.FrameKey.{FrameKey}
 use Rattle.journal_weave.specs.declared.sent.SentFrames.{SentFrames}
@@ -18,10 +19,10 @@ module _ (C : FrameKey → FrameKey → Ordering) (s s' : SentFrames) (f : Field
   abbrev alike : Fields → Bool
   alike g = is_eq (C (key_of f) (key_of g))
 
-  pub known_more : (k : FrameKey) (n : ℕ) → IsFrame f → k ≡ key_of f → ((g : Fields) → IsTrue (alike g) ↔ (f ≡ g)) → s'.frames.items ≡ s.frames.items ++ f ∷ [] → n ≡ length s.frames.items + 1 →
+  pub known_more : (k : FrameKey) (n : ℕ) → IsFrame f → k ≡ key_of f → ((g : Fields) → IsTrue (alike g) ↔ (f ≡ g)) → length s'.sent.items ≡ length s.sent.items + 1 → n ≡ length s.sent.items + 1 →
       ((q : FrameKey) → get C s'.numbers q ≡ cond (is_eq (C k q)) (Some n) (get C s.numbers q)) → (frames : List Fields) → Knows C s frames → Knows C s' (frames ++ f ∷ [])
   known_more k n fits key apart more count updates frames known = record {
-    list = more ∙ ap (λ l. l ++ f ∷ []) known.list;
+    count = omega (arith, more, known.count, length-append frames (f ∷ []));
     fit = All-append IsFrame frames (f ∷ []) known.fit (All-cons IsFrame f [] fits (All-nil IsFrame));
     right = λ g i is. by_same g i (alike g) refl (sym (now g) ∙ is);
     all = λ g is j at. none g (alike g) refl (sym (now g) ∙ is) j at;
@@ -33,7 +34,7 @@ module _ (C : FrameKey → FrameKey → Ordering) (s s' : SentFrames) (f : Field
       by_same : (g : Fields) (i : ℕ) (b : Bool) → alike g ≡ b → cond b (Some n) (number_in C s g) ≡ Some i → WasSent (frames ++ f ∷ []) g i
       by_same g i true e is =
           let number : n ≡ i = cc in
-          (length frames, sym number ∙ omega (arith, count, ap length known.list), at_seam frames f [] ∙ ap Some ((apart g).0 e))
+          (length frames, sym number ∙ omega (arith, count, known.count), at_seam frames f [] ∙ ap Some ((apart g).0 e))
       by_same g i false e is = let w = known.right g i is in (w.0, w.1, get_left frames (f ∷ []) w.0 g w.2)
 
       none : (g : Fields) (b : Bool) → alike g ≡ b → cond b (Some n) (number_in C s g) ≡ None → WasNotSent (frames ++ f ∷ []) g

@@ -4,7 +4,9 @@ use Rattle.office_map.specs.PlanValue.{PlanValue}
 use Rattle.frame_codec.specs.Frame.{Fields, IsFrame}
 use Rattle.office_journal.specs.declared.event.Entry.{Entry}
 use Rattle.frame_world.specs.declared.event.WorldEvent.{WorldEvent}
+use Rattle.frame_world.specs.declared.sent.SentAt.{SentAt}
 use Rattle.frame_world.specs.Worlds.{Finished, opening, run_of}
+use Rattle.frame_world.specs.Sent.{TellsFrames}
 use Rattle.journal_weave.specs.declared.given.GivenJournal.{GivenJournal}
 use Rattle.journal_weave.specs.declared.stop.Stop.{Stop}
 use Rattle.journal_weave.specs.Weaving.{untagged}
@@ -46,12 +48,12 @@ pub record AreReplays (plan : PlanValue) (journals : List GivenJournal) (rs : Li
   pub count : length rs ≡ length journals
   pub each : (a : ℕ) (j : GivenJournal) (r : ReplayValue) → a < length rs → j ≡ get_or journals a j → r ≡ get_or rs a r → IsReplay plan a j.entries.items j.ends r
 
--- The journals are woven from a schedule, which leaves the offices that follow them. It sends these frames, and by its events sessions
--- finish at these offices, in order.
-pub record IsRecord (plan : PlanValue) (journals : List GivenJournal) (rs : List ReplayValue) (frames : List Fields) (finished : List ℕ) : Type 0 where
+-- The journals are woven from a schedule, which leaves the offices that follow them. It sends the frames that these entries tell, one
+-- each, and by its events sessions finish at these offices, in order.
+pub record IsRecord (plan : PlanValue) (journals : List GivenJournal) (rs : List ReplayValue) (sent : List SentAt) (finished : List ℕ) : Type 0 where
   pub events : List WorldEvent
   pub woven : IsWovenFrom plan journals events
   pub leaves : (run_of (opening plan) events).sites ≡ map (λ (r : ReplayValue). r.site) rs
-  pub sends : (run_of (opening plan) events).frames ≡ frames
-  pub fit : All IsFrame frames
+  pub sends : TellsFrames (run_of (opening plan) events) sent
+  pub fit : All IsFrame (run_of (opening plan) events).frames
   pub finishes : map (λ (f : Finished). f.outcome.office) (run_of (opening plan) events).finished ≡ finished

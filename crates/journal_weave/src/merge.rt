@@ -8,6 +8,7 @@ ghost use Rattle.office_journal.specs.declared.event.Entry.{Entry};
 ghost use Rattle.office_journal.specs.declared.event.Event.TheVariants as events;
 ghost use Rattle.frame_world.specs.declared.event.WorldEvent.{WorldEvent};
 ghost use Rattle.frame_world.specs.Worlds.{frames_of};
+ghost use Rattle.frame_world.specs.Sent.{sent_by};
 ghost use Rattle.journal_weave.specs.Replays.{given};
 ghost use Rattle.journal_weave.specs.ReplayValue.{ReplayValue};
 ghost use Rattle.journal_weave.specs.refinement.Merging.{Knows, IsFound, GoesNext, AddsEvent, IsMerged, IsStuck, IsWithin, StuckAt};
@@ -16,7 +17,7 @@ use crate::key::FrameKey;
 use crate::replay::Replay;
 use crate::sent::SentFrames;
 use frame_codec::Frame;
-use frame_world::WorldEvent;
+use frame_world::{SentAt, WorldEvent};
 use office_map::OfficeId;
 use site_core::{EventRef, Reply};
 use std::alloc::{AllocError, Global};
@@ -162,18 +163,20 @@ impl Merge {
         requires next { get_or self.old.at.items a 0 + 1 < 2 ^ 32 }
         ensures at { OnOk result (self.new.at.items ≡ set self.old.at.items a (get_or self.old.at.items a 0 + 1)) }
         ensures sent { OnOk result ((frames : List Fields) → Knows ⟦<FrameKey as Ord>⟧.cmp self.old.sent frames → Knows ⟦<FrameKey as Ord>⟧.cmp self.new.sent (frames ++ frames_of reply.now)) }
+        ensures marks { OnOk result (self.new.sent.sent.items ≡ self.old.sent.sent.items ++ sent_by a (get_or self.old.at.items a 0) reply.now) }
         ensures turn { self.new.turn ≡ self.old.turn }
         ensures size { length self.new.at.items ≡ length self.old.at.items }
     {
-        self.sent.add_of(reply)?;
+        let entry = self.at[a.index()];
+        self.sent.add_of(a, entry, reply)?;
         self.at[a.index()] += 1;
         Ok(())
     }
 
-    /// The frames that were sent, the first first.
-    pub(crate) fn into_frames(self) -> Vec<Frame>
-        ensures { (frames : List Fields) → Knows ⟦<FrameKey as Ord>⟧.cmp self.sent frames → result.items ≡ frames }
+    /// Which entries tell the frames that were sent, the first first.
+    pub(crate) fn into_sent(self) -> Vec<SentAt>
+        ensures { result.items ≡ self.sent.sent.items }
     {
-        self.sent.into_frames()
+        self.sent.into_sent()
     }
 }

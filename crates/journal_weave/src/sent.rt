@@ -3,10 +3,13 @@
 ghost use Rattle.std.specs.Prelude.{◌≡◌, ◌+◌, ◌<◌, ◌≤◌, ◌^◌, ◌++◌, ◌∷◌, [], List, OnOk, IfSome, IfNone};
 ghost use Rattle.frame_codec.specs.Frame.{Fields, IsFrame};
 ghost use Rattle.frame_world.specs.Worlds.{frames_of};
+ghost use Rattle.frame_world.specs.Sent.{sent_by};
 ghost use Rattle.journal_weave.specs.refinement.Merging.{Knows, WasSent, WasNotSent};
 
 use crate::key::{FrameKey, frames_are_told_apart};
 use frame_codec::Frame;
+use frame_world::SentAt;
+use office_map::OfficeId;
 use site_core::Reply;
 use std::alloc::{AllocError, Global};
 use std::collections::BTreeMap;
@@ -21,8 +24,8 @@ use std::collections::BTreeMap;
 pub(crate) struct SentFrames {
     /// From 1. A frame that was sent more than once has the last of its numbers.
     numbers: BTreeMap<FrameKey, usize>,
-    /// The frames, the first sent first.
-    frames: Vec<Frame>,
+    /// Which entry of which office tells each, the first sent first.
+    sent: Vec<SentAt>,
 }
 
 impl SentFrames {
@@ -32,28 +35,35 @@ impl SentFrames {
     {
         SentFrames {
             numbers: BTreeMap::new(alloc),
-            frames: Vec::new(alloc),
+            sent: Vec::new(alloc),
         }
     }
 
-    /// The frame that a reply is, if it is one.
-    pub(crate) fn add_of(&mut self, reply: &Reply) -> Result<(), AllocError>
-        ensures { OnOk result ((frames : List Fields) → Knows ⟦<FrameKey as Ord>⟧.cmp self.old frames → Knows ⟦<FrameKey as Ord>⟧.cmp self.new (frames ++ frames_of reply.now)) }
+    /// The frame that the reply of an office's entry is, if it is one.
+    pub(crate) fn add_of(
+        &mut self,
+        office: OfficeId,
+        entry: u32,
+        reply: &Reply,
+    ) -> Result<(), AllocError>
+        ensures known { OnOk result ((frames : List Fields) → Knows ⟦<FrameKey as Ord>⟧.cmp self.old frames → Knows ⟦<FrameKey as Ord>⟧.cmp self.new (frames ++ frames_of reply.now)) }
+        ensures marks { OnOk result (self.new.sent.items ≡ self.old.sent.items ++ sent_by office entry reply.now) }
     {
         match reply {
-            Reply::Frame(frame) => self.add(frame),
+            Reply::Frame(frame) => self.add(office, entry, frame),
             _ => Ok(()),
         }
     }
 
-    /// One frame more.
-    fn add(&mut self, frame: &Frame) -> Result<(), AllocError>
-        ensures { OnOk result ((frames : List Fields) → Knows ⟦<FrameKey as Ord>⟧.cmp self.old frames → Knows ⟦<FrameKey as Ord>⟧.cmp self.new (frames ++ frame.now ∷ [])) }
+    /// One frame more, which that entry tells.
+    fn add(&mut self, office: OfficeId, entry: u32, frame: &Frame) -> Result<(), AllocError>
+        ensures known { OnOk result ((frames : List Fields) → Knows ⟦<FrameKey as Ord>⟧.cmp self.old frames → Knows ⟦<FrameKey as Ord>⟧.cmp self.new (frames ++ frame.now ∷ [])) }
+        ensures marks { OnOk result (self.new.sent.items ≡ self.old.sent.items ++ record { office = office; entry = entry } ∷ []) }
     {
         frames_are_told_apart();
         is_in_range(frame);
-        self.frames.push(*frame)?;
-        self.numbers.insert(FrameKey::of(frame), self.frames.len())?;
+        self.sent.push(SentAt { office, entry })?;
+        self.numbers.insert(FrameKey::of(frame), self.sent.len())?;
         Ok(())
     }
 
@@ -65,11 +75,11 @@ impl SentFrames {
         self.numbers.get(&FrameKey::of(frame)).copied()
     }
 
-    /// The frames, the first sent first.
-    pub(crate) fn into_frames(self) -> Vec<Frame>
-        ensures { (frames : List Fields) → Knows ⟦<FrameKey as Ord>⟧.cmp self frames → result.items ≡ frames }
+    /// Which entries tell the frames, the first sent first.
+    pub(crate) fn into_sent(self) -> Vec<SentAt>
+        ensures { result.items ≡ self.sent.items }
     {
-        self.frames
+        self.sent
     }
 }
 

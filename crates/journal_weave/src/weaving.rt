@@ -18,8 +18,7 @@ use crate::laws::{none_goes_further, woven_is_serial};
 use crate::merge::Merge;
 use crate::replay::{Replay, replayed};
 use crate::standing::first_left;
-use frame_codec::Frame;
-use frame_world::WorldEvent;
+use frame_world::{SentAt, WorldEvent};
 use office_map::{OfficeId, Plan};
 use site_core::Rule;
 use std::alloc::{AllocError, Global};
@@ -27,8 +26,8 @@ use std::alloc::{AllocError, Global};
 /// What a schedule leaves, beside what its offices are at their ends.
 #[derive(Drop)]
 pub struct Record {
-    /// The frames that it sends, the first first.
-    pub frames: Vec<Frame>,
+    /// Which entries tell the frames that it sends, the first first.
+    pub sent: Vec<SentAt>,
     /// The offices at which its sessions finish, in order.
     pub finished: Vec<OfficeId>,
 }
@@ -74,7 +73,7 @@ pub fn weave(
 /// As [`weave`].
 pub fn woven(alloc: Global, plan: &Plan, replays: &[Replay]) -> Result<Record, WeaveFault>
     requires { length replays.now ≡ length plan.now.offices }
-    ensures woven { IfOk result (λ r. (journals : List GivenJournal) → AreReplays plan.now journals replays.now → IsRecord plan.now journals replays.now r.frames.items r.finished.items) }
+    ensures woven { IfOk result (λ r. (journals : List GivenJournal) → AreReplays plan.now journals replays.now → IsRecord plan.now journals replays.now r.sent.items r.finished.items) }
     ensures unwoven { IfErr result (λ fault. (journals : List GivenJournal) → AreReplays plan.now journals replays.now → IsUnwoven plan.now journals fault) }
     ensures never { IfErr result (λ fault. (fault ≡ faults.Memory) ⊎ ((journals : List GivenJournal) → AreReplays plan.now journals replays.now → (events : List WorldEvent) → IsWovenFrom plan.now journals events → ⊥)) }
 {
@@ -89,7 +88,7 @@ pub fn woven(alloc: Global, plan: &Plan, replays: &[Replay]) -> Result<Record, W
             entry: left.1,
         }),
         None => Ok(Record {
-            frames: merge.into_frames(),
+            sent: merge.into_sent(),
             finished,
         }),
     }

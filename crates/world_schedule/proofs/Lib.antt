@@ -4,6 +4,7 @@ mod Asking
 mod WorldSteps
 mod EventSteps
 mod Runs
+mod SentEntries
 mod Records
 mod Orders
 mod Finishing

@@ -25,7 +25,7 @@ use Rattle.frame_world.specs.Tickets.{IsBelow, TellsEachOffice}
 use Rattle.frame_world.specs.TicketLaws.{finished_at, office_tickets_rise}
 use Rattle.world_schedule.specs.declared.finished.Finished as mark
 use Rattle.world_schedule.specs.Readers.{listed_as, mark_of}
-use Rattle.world_schedule.specs.Records.{IsLeftBy}
+use Rattle.world_schedule.specs.refinement.LeftWith.{IsLeftWith}
 use Rattle.world_schedule.specs.refinement.Orders.{TellInOrder}
 use Rattle.world_schedule.specs.refinement.WorldOfCode.{no_session, finished_from, finished_of, has_ticket, found_in, finished_in, world_in, IsSiteOf, IsKnown, IsWorld}
 use Rattle.world_schedule.proofs.FinishedSessions.{from_append, outcomes_told, each_is_found, IsFoundIn}
@@ -201,7 +201,7 @@ outcome_marks (f ∷ fs) = ap (λ l. listed_as f ∷ l) (outcome_marks fs)
 pub site_there : (sites : List Site) (a : ℕ) (s d : Site) → a < length sites → s ≡ get_or sites a s → get_or sites a d ≡ s
 site_there sites a s d lt is = get_or_from_slice_get sites a s d (slice_get-get_or sites a s lt ∙ ap Some (sym is))
 
-module _ (plan : PlanValue) (es : List WorldEvent) (sites : List Site) (frames : List Fields) (order : List ℕ) (law : SessionsGoInOrder) (left : IsLeftBy plan es sites frames order)
+module _ (plan : PlanValue) (es : List WorldEvent) (sites : List Site) (frames : List Fields) (order : List ℕ) (law : SessionsGoInOrder) (left : IsLeftWith plan es sites frames order)
     (legal : (a : ℕ) (s : Site) → a < length sites → s ≡ get_or sites a s → IsLegal s) where
   abbrev v : World
   v = worlds.run_of (opening plan) es

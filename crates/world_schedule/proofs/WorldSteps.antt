@@ -120,7 +120,7 @@ known_longer plan sites a e r m lt known =
 same_finished : (plan : PlanValue) (sites : List Site) (a : ℕ) (e : Event) (r : Reply) (m : mark.Finished) → a < length sites → IsKnown plan sites m → finished_in plan (with_entry plan sites a e r) m ≡ finished_in plan sites m
 same_finished plan sites a e r m lt known = ap (λ o. unwrap_or o no_session) (found_longer plan sites a e r m lt known)
 
-same_map : {X Y : Type 0} (P : X → Type 0) (f g : X → Y) → ((x : X) → P x → f x ≡ g x) → (xs : List X) → All P xs → map f xs ≡ map g xs
+pub same_map : {X Y : Type 0} (P : X → Type 0) (f g : X → Y) → ((x : X) → P x → f x ≡ g x) → (xs : List X) → All P xs → map f xs ≡ map g xs
 same_map P f g same [] h = refl
 same_map P f g same (x ∷ xs) h = ap (λ y. y ∷ map f xs) (same x (All-head P x xs h)) ∙ ap (λ l. g x ∷ l) (same_map P f g same xs (All-tail P x xs h))
 

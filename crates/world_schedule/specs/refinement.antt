@@ -3,3 +3,4 @@ pub mod Handing
 pub mod Bottles
 pub mod Orders
 pub mod Marks
+pub mod LeftWith

@@ -11,13 +11,14 @@ ghost use Rattle.office_journal.specs.declared.rule.Rule.TheVariants as rules;
 ghost use Rattle.site_core.specs.Journals.{Site, Steps, office_of};
 ghost use Rattle.site_core.specs.Offices.{answer};
 ghost use Rattle.frame_world.specs.Worlds.{frames_of};
+ghost use Rattle.frame_world.specs.Sent.{told_in, sent_by};
 ghost use Rattle.world_schedule.specs.Readers.{mark_of, listed_as};
 ghost use Rattle.world_schedule.specs.refinement.WorldOfCode.{finishes};
 ghost use Rattle.world_schedule.specs.refinement.Handing.{Hands, passed_on};
 
 use crate::finished::Finished;
 use frame_codec::Frame;
-use frame_world::WorldRefusal;
+use frame_world::{SentAt, WorldRefusal};
 use office_map::OfficeId;
 use session_meaning::Outcome;
 use session_programs::Program;
@@ -136,29 +137,30 @@ pub(crate) fn mark_of(outcome: &Outcome) -> Finished
     }
 }
 
-/// An office makes a frame, which is kept.
+/// An office makes a frame, and which entry tells it is kept.
 pub(crate) fn send(
     offices: &mut Vec<Office>,
-    frames: &mut Vec<Frame>,
+    sent: &mut Vec<SentAt>,
     from: OfficeId,
     to: OfficeId,
     i: usize,
 ) -> Result<Reply, WorldRefusal>
     ensures office { Hands offices.old.items from (events.Send to i) result offices.new.items }
-    ensures kept { IfOk result (λ r. frames.new.items ≡ frames.old.items ++ frames_of r) }
+    ensures kept { IfOk result (λ r. (d : Site) → sent.new.items ≡ sent.old.items ++ sent_by from (length (get_or offices.old.items from d).entries) r) }
     ensures fit { IfOk result (λ r. All IsFrame (frames_of r)) }
-    ensures unsent { OnErr result (frames.new.items ≡ frames.old.items) }
+    ensures unsent { OnErr result (sent.new.items ≡ sent.old.items) }
 {
     if from.index() >= offices.len() {
         return Err(WorldRefusal::NoOffice);
     }
-    let Ok(()) = frames.reserve(1) else {
+    let Ok(()) = sent.reserve(1) else {
         let refusal = not_sent(&offices[from.index()], to, i);
         return Err(WorldRefusal::Office(refusal));
     };
+    let entry = entries_of(&offices[from.index()]);
     match offices[from.index()].send(0, to, i) {
         Ok(reply) => {
-            keep(frames, &reply);
+            keep(sent, from, entry, &reply);
             Ok(reply)
         }
         Err(refusal) => Err(WorldRefusal::Office(refusal)),
@@ -185,15 +187,34 @@ fn makes(office: &Office, to: OfficeId, i: usize) -> bool
     }
 }
 
-/// The frame that a reply tells is kept.
-fn keep(frames: &mut Vec<Frame>, reply: &Reply)
-    requires { vec_len frames.old < vec_capacity frames.old }
-    ensures kept { frames.new.items ≡ frames.old.items ++ frames_of reply.now }
+/// How many entries an office has.
+fn entries_of(office: &Office) -> u32
+    ensures { result ≡ length office.now.entries }
+{
+    // Its journal is legal, so that these are few.
+    office.journal().len() as u32
+}
+
+/// Where the frame that a reply tells is told is kept: by this entry of the office.
+fn keep(sent: &mut Vec<SentAt>, office: OfficeId, entry: u32, reply: &Reply)
+    requires { vec_len sent.old < vec_capacity sent.old }
+    ensures kept { sent.new.items ≡ sent.old.items ++ sent_by office entry reply.now }
     ensures fit { All IsFrame (frames_of reply.now) }
 {
     if let Reply::Frame(frame) = reply {
         is_in_range(frame);
-        frames.push_reserved(*frame);
+        sent.push_reserved(SentAt { office, entry });
+    }
+}
+
+/// The frame that an entry of an office tells, if it tells one.
+pub(crate) fn frame_told(office: &Office, entry: u32) -> Option<Frame>
+    ensures { result ≡ told_in office.now.entries entry }
+{
+    let entry = office.journal().get(entry as usize)?;
+    match entry.reply {
+        Reply::Frame(frame) => Some(frame),
+        _ => None,
     }
 }
 

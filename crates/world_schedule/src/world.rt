@@ -35,7 +35,7 @@ use frame_world::laws::{
     precedence_has_no_ring, sent_frames_are_taken, sessions_are_serial, things_have_one_place,
     tickets_rise, who_drinks_has_its_bottles, who_eats_has_its_forks,
 };
-use frame_world::{NextStep, WorldEvent, WorldRefusal};
+use frame_world::{NextStep, SentAt, WorldEvent, WorldRefusal};
 use office_map::{OfficeId, Plan, RecordId};
 use session_meaning::Outcome;
 use session_programs::Program;
@@ -53,14 +53,15 @@ pub struct Stopped {
 
 /// All offices of a plan with their journals, every frame that they sent, and which sessions finished.
 ///
-/// It keeps frames, not bytes. That each is in the format's ranges is its invariant, so each has its one spelling, and
-/// who hands on the bytes hands on the frame.
+/// Of a frame it keeps which entry of which office tells it, as of a finished session: the frame is in that journal. It is no
+/// bytes, but that each is in the format's ranges is the world's invariant; so each has its one spelling, and who hands on the
+/// bytes hands on the frame.
 #[derive(Drop)]
 pub struct World {
     alloc: Global,
     plan: Plan,
     offices: Vec<Office>,
-    frames: Vec<Frame>,
+    sent: Vec<SentAt>,
     finished: Vec<Finished>,
 }
 
@@ -69,15 +70,15 @@ impl Model for World {
     ghost use Rattle.session_meaning.specs.declared.node.Node.{Node};
     ghost use Rattle.session_meaning.specs.refinement.TreeEncoding.{Mark, term_code, block_code};
     ghost use Rattle.frame_world.specs.Worlds as worlds;
-    ghost use Rattle.world_schedule.specs.refinement.WorldOfCode.{world_in, IsWorld};
+    ghost use Rattle.world_schedule.specs.refinement.WorldOfCode.{world_in, frames_in, IsWorld, AreTold};
 
     ghost Value = { worlds.World };
 
     ghost coded = { let nodes : Coded Node = Prim.hlevel codes in let marks : Coded Mark = Prim.hlevel (codes, term_code nodes) in Prim.hlevel (codes, block_code marks) };
 
-    ghost view = { λ w. world_in w.plan w.offices.items w.frames.items w.finished.items };
+    ghost view = { λ w. world_in w.plan w.offices.items (frames_in w.plan w.offices.items w.sent.items) w.finished.items };
 
-    ghost invariant = { λ w. IsWorld w.plan w.offices.items w.frames.items w.finished.items };
+    ghost invariant = { λ w. IsWorld w.plan w.offices.items (frames_in w.plan w.offices.items w.sent.items) w.finished.items × AreTold w.plan w.offices.items w.sent.items };
 }
 
 impl World {
@@ -91,22 +92,22 @@ impl World {
             alloc,
             plan,
             offices,
-            frames: Vec::new(alloc),
+            sent: Vec::new(alloc),
             finished: Vec::new(alloc),
         })
     }
 
-    /// The world to which events led that left these offices, in order of number, sent these frames, and by which sessions finished at
-    /// the offices of this order. No event is done again.
+    /// The world to which events led that left these offices, in order of number, sent the frames that these entries tell, and by
+    /// which sessions finished at the offices of this order. No event is done again.
     pub fn of_record(
         alloc: Global,
         plan: Plan,
         offices: Vec<Office>,
-        frames: Vec<Frame>,
+        sent: Vec<SentAt>,
         order: &[OfficeId],
     ) -> Result<World, AllocError>
-        requires { (events : List WorldEvent) × IsLeftBy plan events offices.items frames.items order.now }
-        ensures { IfOk result (λ w. (events : List WorldEvent) → IsLeftBy plan events offices.items frames.items order.now → w ≡ run_of (opening plan) events) }
+        requires { (events : List WorldEvent) × IsLeftBy plan events offices.items sent.items order.now }
+        ensures { IfOk result (λ w. (events : List WorldEvent) → IsLeftBy plan events offices.items sent.items order.now → w ≡ run_of (opening plan) events) }
     {
         each_office_is_told();
         sessions_go_in_order();
@@ -118,7 +119,7 @@ impl World {
             alloc,
             plan,
             offices,
-            frames,
+            sent,
             finished,
         })
     }
@@ -190,7 +191,7 @@ impl World {
     pub fn send(&mut self, from: OfficeId, to: OfficeId, i: usize) -> Result<Reply, WorldRefusal>
         ensures { Applies self.old (events.Send from to i) result self.new }
     {
-        happening::send(&mut self.offices, &mut self.frames, from, to, i)
+        happening::send(&mut self.offices, &mut self.sent, from, to, i)
     }
 
     /// The event that the frame which was sent as the `k`-th of all, from 1, comes to its addressee.
@@ -322,7 +323,7 @@ impl World {
     pub fn frames(&self) -> usize
         ensures { result ≡ length self.now.frames }
     {
-        self.frames.len()
+        self.sent.len()
     }
 
     /// The frame that was sent as the `k`-th of all, from 1.
@@ -332,7 +333,8 @@ impl World {
         if k == 0 {
             return None;
         }
-        self.frames.get(k - 1).copied()
+        let sent = self.sent.get(k - 1)?;
+        happening::frame_told(&self.offices[sent.office.index()], sent.entry)
     }
 
     /// Which sessions finished, in finishing order. Each has the ticket that was answered when it was submitted, and those

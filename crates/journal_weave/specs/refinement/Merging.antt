@@ -11,6 +11,7 @@ use Rattle.frame_world.specs.declared.event.WorldEvent.{WorldEvent}
 use Rattle.frame_world.specs.declared.event.WorldEvent.TheVariants as happening
 use Rattle.frame_world.specs.Worlds.{World, opening, frames_of, run_of, AreAccepted}
 use Rattle.frame_world.specs.WorldStates.{IsSeated}
+use Rattle.frame_world.specs.Sent.{sent_by, TellsFrames}
 use Rattle.journal_weave.specs.declared.key.FrameKey.{FrameKey}
 use Rattle.journal_weave.specs.declared.sent.SentFrames.{SentFrames}
 use Rattle.journal_weave.specs.declared.merge.Merge.{Merge}
@@ -85,7 +86,7 @@ module _ (C : FrameKey → FrameKey → Ordering) where
 
   -- the frames of a world, each with a number that it was sent under
   pub record Knows (s : SentFrames) (frames : List Fields) : Type 0 where
-    pub list : s.frames.items ≡ frames
+    pub count : length s.sent.items ≡ length frames
     pub fit : All IsFrame frames
     pub right : (f : Fields) (k : ℕ) → number_in s f ≡ Some k → WasSent frames f k
     pub all : (f : Fields) → number_in s f ≡ None → WasNotSent frames f
@@ -95,11 +96,13 @@ module _ (C : FrameKey → FrameKey → Ordering) where
     pub accepted : AreAccepted (opening plan) events
     pub has : (a : ℕ) → entries_at (run_of (opening plan) events) a ≡ map untagged (take (get_or m.at.items a 0) (told a))
     pub sent : Knows m.sent (run_of (opening plan) events).frames
+    pub marks : TellsFrames (run_of (opening plan) events) m.sent.sent.items
 
   -- the office's next entry goes on the schedule, by this event
   pub record GoesOn (m m' : Merge) (a : ℕ) (x : Entry) (e : WorldEvent) : Type 0 where
     pub at : m'.at.items ≡ set m.at.items a (get_or m.at.items a 0 + 1)
     pub sent : (frames : List Fields) → Knows m.sent frames → Knows m'.sent (frames ++ frames_of x.reply)
+    pub marks : m'.sent.sent.items ≡ m.sent.sent.items ++ sent_by a (get_or m.at.items a 0) x.reply
     pub is : (frames : List Fields) → Knows m.sent frames → IsEventAt frames a x.event e
 
   -- the office has a next entry, which it gave, and which goes on the schedule by this event

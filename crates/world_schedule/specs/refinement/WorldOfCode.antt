@@ -1,5 +1,5 @@
--- The world that the code keeps: of a finished session it keeps the office and the ticket.
-use Rattle.std.specs.Prelude.{◌≡◌, ℕ, ◌<◌, Bool, true, ◌==◌, List, [], ◌∷◌, ◌++◌, length, map, get_or, find, Option, is_some, unwrap_or, All}
+-- The world that the code keeps: of a finished session it keeps the office and the ticket, and of a frame the office and the entry.
+use Rattle.std.specs.Prelude.{◌≡◌, ℕ, ◌<◌, Bool, true, ◌==◌, List, [], ◌∷◌, ◌++◌, length, map, get_or, find, Option, None, is_some, unwrap_or, All}
 use Rattle.frame_codec.specs.Frame.{Fields, IsFrame}
 use Rattle.office_map.specs.PlanValue.{PlanValue}
 use Rattle.office_map.specs.Consistency.{IsAccepted}
@@ -9,7 +9,9 @@ use Rattle.office_journal.specs.declared.event.Event.{Event}
 use Rattle.office_journal.specs.declared.event.Entry.{Entry}
 use Rattle.site_core.specs.Offices.{Office, opened}
 use Rattle.site_core.specs.Journals.{Site, office_of, after, IsLegal}
+use Rattle.frame_world.specs.declared.sent.SentAt.{SentAt}
 use Rattle.frame_world.specs.Worlds.{World, Finished, silent, finished_by}
+use Rattle.frame_world.specs.Sent.{told_at}
 use Rattle.frame_world.specs.Headline.{IsReached}
 use Rattle.world_schedule.specs.declared.finished.Finished as mark
 
@@ -42,6 +44,24 @@ found_in plan sites m = find (has_ticket m.ticket) (finished_of (get_or sites m.
 
 abbrev pub finished_in : PlanValue → List Site → mark.Finished → Finished
 finished_in plan sites m = unwrap_or (found_in plan sites m) no_session
+
+-- what stands for a frame that no entry tells
+abbrev pub no_frame : Fields
+no_frame = record { run = 0; from = 0; to = 0; number = 0; count = 0; msg = None }
+
+abbrev pub frame_in : PlanValue → List Site → SentAt → Fields
+frame_in plan sites m = unwrap_or (told_at plan sites m) no_frame
+
+-- the frames that are told there
+abbrev pub frames_in : PlanValue → List Site → List SentAt → List Fields
+frames_in plan sites sent = map (frame_in plan sites) sent
+
+-- an entry tells a frame there
+abbrev pub IsTold : PlanValue → List Site → SentAt → Type 0
+IsTold plan sites m = is_some (told_at plan sites m) ≡ true
+
+abbrev pub AreTold : PlanValue → List Site → List SentAt → Type 0
+AreTold plan sites sent = All (IsTold plan sites) sent
 
 abbrev pub world_in : PlanValue → List Site → List Fields → List mark.Finished → World
 world_in plan sites frames marks = record { plan = plan; sites = sites; frames = frames; finished = map (finished_in plan sites) marks }

@@ -13,16 +13,16 @@ report-requires c =
     let rs = c.args.replays.items in
     let js = c.requires.follow.0 in
     let are = subst (λ (l : List ReplayValue). AreReplays p js l) (sym c.deref.ensures.value) c.requires.follow.1 in
-    let h = subst (λ (l : List ReplayValue). IsRecord p js l c.in-Ok.left.frames.items c.in-Ok.left.finished.items) c.deref.ensures.value (c.in-Ok.ensures.woven js are) in
-    (h.events, left_by p js rs c.in-Ok.left.frames.items c.in-Ok.left.finished.items h)
+    let h = subst (λ (l : List ReplayValue). IsRecord p js l c.in-Ok.left.sent.items c.in-Ok.left.finished.items) c.deref.ensures.value (c.in-Ok.ensures.woven js are) in
+    (h.events, left_by p js rs c.in-Ok.left.sent.items c.in-Ok.left.finished.items h)
 
 pub returns-in_ok-text-in-Ok-clause-woven : goal.returns-in_ok-text-in-Ok-clause-woven
 returns-in_ok-text-in-Ok-clause-woven c so js follow =
     let p = c.args.plan.now in
     let rs = c.args.replays.items in
     let are = subst (λ (l : List ReplayValue). AreReplays p js l) (sym c.deref.ensures.value) follow in
-    let h = subst (λ (l : List ReplayValue). IsRecord p js l c.in-Ok.left.frames.items c.in-Ok.left.finished.items) c.deref.ensures.value (c.in-Ok.ensures.woven js are) in
-    tells_woven p js rs c.in-Ok.left.frames.items c.in-Ok.left.finished.items _ h c.in_ok-text-in-Ok.ensures
+    let h = subst (λ (l : List ReplayValue). IsRecord p js l c.in-Ok.left.sent.items c.in-Ok.left.finished.items) c.deref.ensures.value (c.in-Ok.ensures.woven js are) in
+    tells_woven p js rs c.in-Ok.left.sent.items c.in-Ok.left.finished.items _ h c.in_ok-text-in-Ok.ensures
 
 pub returns-in_ok-text-in-Err-clause-unwoven : goal.returns-in_ok-text-in-Err-clause-unwoven
 returns-in_ok-text-in-Err-clause-unwoven c not_woven js follow =

@@ -25,4 +25,4 @@ returns-in-None-clause-woven c journals are =
     let m = c.in_ok-merge.merge in
     let e = c.in_ok-merge.ensures.end in
     let none : IsFirstLeft rs m.at.items None = subst (λ o. IsFirstLeft rs m.at.items o) c.in-None.is c.first_left.ensures in
-    is_record _ c.args.plan.now journals rs m e.0 are e.2 none c.into_frames.result.items _ c.into_frames.ensures e.1
+    is_record _ c.args.plan.now journals rs m e.0 are e.2 none c.into_sent.result.items _ c.into_sent.ensures e.1

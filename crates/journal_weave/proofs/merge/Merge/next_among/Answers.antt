@@ -44,7 +44,7 @@ returns-in-Some-clause-event c =
     let m' : Merge = record { at = c.next_of.new.self.at; sent = c.next_of.new.self.sent; turn = c.loop-a.a } in
     let r = c.index-replays-a.result in
     let g = goes_as cmp-value.it _ m c.next_of.new.self _ c.loop-a.a r c.in-Some.event c.loop-a.invariant.same c.new.ensures (rw c.in-Some.is at c.in_ok-event.ensures.goes) in
-    event_added cmp-value.it rs m m' c.loop-a.a r c.in-Some.event c.requires.size (omega (arith, c.loop-a-test.true, c.requires.last)) c.index-replays-a.is (g.0, g.1, g.2, record { at = g.3.at; sent = g.3.sent; is = g.3.is })
+    event_added cmp-value.it rs m m' c.loop-a.a r c.in-Some.event c.requires.size (omega (arith, c.loop-a-test.true, c.requires.last)) c.index-replays-a.is (g.0, g.1, g.2, record { at = g.3.at; sent = g.3.sent; marks = g.3.marks; is = g.3.is })
 
 pub returns-in-Some-clause-longer : goal.returns-in-Some-clause-longer
 returns-in-Some-clause-longer c =

@@ -4,6 +4,7 @@ use Rattle.site_core.specs.Journals.{office_of}
 use Rattle.site_core.specs.Readers.{outcome_with}
 use Rattle.frame_world.specs.Worlds.{World}
 use Rattle.frame_world.specs.Headline.{outcomes}
+use Rattle.world_schedule.specs.refinement.WorldOfCode.{frames_in}
 use Rattle.world_schedule.proofs.Finishing.{outcome_at}
 use Rattle.world_schedule.proofs.world.World.outcome.Goals as goal
 
@@ -17,4 +18,4 @@ returns c =
     let here : m ≡ get_or w.finished.items c.args.i m = found.1 ∙ ap (λ l. get_or l c.args.i m) c.deref.ensures.value in
     c.outcome.ensures
     ∙ subst (λ (v : World). outcome_with (office_of s).agenda.outcomes m.ticket ≡ slice_get (outcomes v) c.args.i) c.self.view_is
-    (outcome_at w.plan w.offices.items w.frames.items w.finished.items c.args.i m s c.self.invariant lt here (c.index-office.ensures ∙ ap (λ k. get_or w.offices.items k s) c.index.ensures))
+    (outcome_at w.plan w.offices.items (frames_in w.plan w.offices.items w.sent.items) w.finished.items c.args.i m s c.self.invariant.0 lt here (c.index-office.ensures ∙ ap (λ k. get_or w.offices.items k s) c.index.ensures))

@@ -1,29 +1,56 @@
-use Rattle.std.proofs.Common.{◌≡◌, ◌++◌, refl, subst}
+use Rattle.std.proofs.Common.{◌≡◌, ◌++◌, length, get_or, refl, subst}
 use Rattle.std.specs.Prelude.{All}
+use Rattle.std.proofs.lemmas.Result.{on_ok_weaker}
 use Rattle.frame_codec.specs.Frame.{IsFrame}
 use Rattle.office_journal.specs.declared.event.Event.TheVariants as event
 use Rattle.office_journal.specs.declared.reply.Reply.{Reply}
+use Rattle.site_core.specs.Journals.{Site}
 use Rattle.frame_world.specs.declared.event.WorldEvent.TheVariants as happening
-use Rattle.frame_world.specs.Worlds.{OrMemory, handed, frames_of}
-use Rattle.world_schedule.specs.refinement.WorldOfCode.{world_in}
+use Rattle.frame_world.specs.Worlds.{OrMemory, handed, silent, frames_of}
+use Rattle.frame_world.specs.Sent.{sent_by}
+use Rattle.world_schedule.specs.refinement.WorldOfCode.{world_in, frames_in}
 use Rattle.world_schedule.proofs.WorldSteps.{applies, stays}
 use Rattle.world_schedule.proofs.EventSteps.{beside_send, of_ok, of_err}
+use Rattle.world_schedule.proofs.SentEntries.{frames_more, frames_same, sent_told}
 use Rattle.world_schedule.proofs.world.World.send.Goals as goal
 
 pub invariant_of-self : goal.invariant_of-self
 invariant_of-self c =
     let w = c.self.inside in
-    let frames' = c.send.new.frames.items in
-    stays w.plan w.offices.items c.send.new.offices.items w.frames.items frames' w.finished.items w.finished.items c.args.from (event.Send c.args.to c.args.i) c.send.result (happening.Send c.args.from c.args.to c.args.i) c.self.invariant c.send.ensures.office
-    (beside_send w.plan w.offices.items c.args.from c.args.to c.args.i c.send.result c.send.new.offices.items w.frames.items frames' w.finished.items
-    (of_ok (λ (r : Reply). frames' ≡ w.frames.items ++ frames_of r) c.send.result c.send.ensures.kept) (of_ok (λ (r : Reply). All IsFrame (frames_of r)) c.send.result c.send.ensures.fit) (of_err (frames' ≡ w.frames.items) c.send.result c.send.ensures.unsent)) refl
+    let from = c.args.from in
+    let e = event.Send c.args.to c.args.i in
+    let sites = w.offices.items in
+    let sites' = c.send.new.offices.items in
+    let sent' = c.send.new.sent.items in
+    let fs = frames_in w.plan sites w.sent.items in
+    let fs' = frames_in w.plan sites' sent' in
+    let kept = of_ok (λ (r : Reply). sent' ≡ w.sent.items ++ sent_by from (length (get_or sites from (silent w.plan from)).entries) r) c.send.result
+    (on_ok_weaker c.send.result (λ h. h (silent w.plan from)) c.send.ensures.kept) in
+    let unsent = of_err (sent' ≡ w.sent.items) c.send.result c.send.ensures.unsent in (
+      stays w.plan sites sites' fs fs' w.finished.items w.finished.items from e c.send.result (happening.Send from c.args.to c.args.i) c.self.invariant.0 c.send.ensures.office
+          (beside_send w.plan sites from c.args.to c.args.i c.send.result sites' fs fs' w.finished.items
+          (λ r is. frames_more w.plan sites from e c.send.result sites' w.sent.items sent' r c.send.ensures.office c.self.invariant.1 is (kept r is))
+          (of_ok (λ (r : Reply). All IsFrame (frames_of r)) c.send.result c.send.ensures.fit)
+          (λ x is. frames_same w.plan sites from e c.send.result sites' w.sent.items sent' c.send.ensures.office c.self.invariant.1 (unsent x is))) refl,
+      sent_told w.plan sites from e c.send.result sites' w.sent.items sent' c.send.ensures.office c.self.invariant.1 kept unsent,
+    )
 
 pub returns : goal.returns
 returns c =
     let w = c.self.inside in
+    let from = c.args.from in
     let e = event.Send c.args.to c.args.i in
-    let frames' = c.send.new.frames.items in
-    subst (λ x. OrMemory x (handed x c.args.from e) c.send.result (world_in w.plan c.send.new.offices.items frames' w.finished.items)) c.self.view_is
-    (applies w.plan w.offices.items c.send.new.offices.items w.frames.items frames' w.finished.items w.finished.items c.args.from e c.send.result c.self.invariant c.send.ensures.office
-    (beside_send w.plan w.offices.items c.args.from c.args.to c.args.i c.send.result c.send.new.offices.items w.frames.items frames' w.finished.items
-    (of_ok (λ (r : Reply). frames' ≡ w.frames.items ++ frames_of r) c.send.result c.send.ensures.kept) (of_ok (λ (r : Reply). All IsFrame (frames_of r)) c.send.result c.send.ensures.fit) (of_err (frames' ≡ w.frames.items) c.send.result c.send.ensures.unsent)))
+    let sites = w.offices.items in
+    let sites' = c.send.new.offices.items in
+    let sent' = c.send.new.sent.items in
+    let fs = frames_in w.plan sites w.sent.items in
+    let fs' = frames_in w.plan sites' sent' in
+    let kept = of_ok (λ (r : Reply). sent' ≡ w.sent.items ++ sent_by from (length (get_or sites from (silent w.plan from)).entries) r) c.send.result
+    (on_ok_weaker c.send.result (λ h. h (silent w.plan from)) c.send.ensures.kept) in
+    let unsent = of_err (sent' ≡ w.sent.items) c.send.result c.send.ensures.unsent in
+    subst (λ x. OrMemory x (handed x from e) c.send.result (world_in w.plan sites' fs' w.finished.items)) c.self.view_is
+    (applies w.plan sites sites' fs fs' w.finished.items w.finished.items from e c.send.result c.self.invariant.0 c.send.ensures.office
+    (beside_send w.plan sites from c.args.to c.args.i c.send.result sites' fs fs' w.finished.items
+    (λ r is. frames_more w.plan sites from e c.send.result sites' w.sent.items sent' r c.send.ensures.office c.self.invariant.1 is (kept r is))
+    (of_ok (λ (r : Reply). All IsFrame (frames_of r)) c.send.result c.send.ensures.fit)
+    (λ x is. frames_same w.plan sites from e c.send.result sites' w.sent.items sent' c.send.ensures.office c.self.invariant.1 (unsent x is))))
