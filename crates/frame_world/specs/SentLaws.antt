@@ -3,7 +3,7 @@ use Rattle.std.proofs.Common.{◌≡◌, ◌≢◌, ℕ, ◌+◌, ◌<◌, List,
 use Rattle.std.specs.Prelude.{slice_get, is_some, true}
 use Rattle.std.specs.Option.{option_and_then}
 use Rattle.std.proofs.lemmas.Bool.{cases_eq}
-use Rattle.std.proofs.lemmas.List.{get_or-set_same, get_or-set_other, map-append}
+use Rattle.std.proofs.lemmas.List.{get_or-set_same, get_or-set_other}
 use Rattle.bottle_values.specs.ListLaws.{get_left, at_seam}
 use Rattle.frame_codec.specs.Frame.{Fields}
 use Rattle.office_map.specs.PlanValue.{PlanValue}
@@ -13,8 +13,8 @@ use Rattle.office_journal.specs.declared.reply.Reply.{Reply}
 use Rattle.office_journal.specs.declared.reply.Reply.TheVariants as reply
 use Rattle.site_core.specs.Journals.{Site, noted}
 use Rattle.frame_world.specs.declared.sent.SentAt.{SentAt}
-use Rattle.frame_world.specs.Worlds.{World, silent, site_at, frames_of}
-use Rattle.frame_world.specs.Sent.{frame_told, entry_tells, told_in, told_at, sent_by, TellsFrames}
+use Rattle.frame_world.specs.Worlds.{silent, frames_of}
+use Rattle.frame_world.specs.Sent.{frame_told, entry_tells, told_in, told_at, sent_by}
 
 -- an entry more leaves what the others tell
 told_longer : (es : List Entry) (x : Entry) (n : ℕ) → is_some (told_in es n) ≡ true → told_in (es ++ x ∷ []) n ≡ told_in es n
@@ -72,25 +72,3 @@ told_now plan sites a e r lt = go r at_end
     go reply.Repeat is = refl
     go reply.Kept is = refl
     go reply.Early is = refl
-
--- ---- a world
-
-still_all : (plan : PlanValue) (sites : List Site) (a : ℕ) (e : Event) (r : Reply) (sent : List SentAt) (fs : List Fields) → a < length sites → map (told_at plan sites) sent ≡ map Some fs → map (told_at plan (with_noted plan sites a e r)) sent ≡ map Some fs
-still_all plan sites a e r [] fs lt told = told
-still_all plan sites a e r (m ∷ sent) [] lt told = absurd cc
-still_all plan sites a e r (m ∷ sent) (f ∷ fs) lt told =
-    let here : told_at plan sites m ≡ Some f = cc in
-    let later : map (told_at plan sites) sent ≡ map Some fs = cc in
-    ap (λ o. o ∷ map (told_at plan (with_noted plan sites a e r)) sent) (told_still plan sites a e r m lt (ap is_some here) ∙ here) ∙ ap (λ l. Some f ∷ l) (still_all plan sites a e r sent fs lt later)
-
--- where an office has an entry more, its frame is told with the others
-pub tells_more : (w w' : World) (sent : List SentAt) (a : ℕ) (e : Event) (r : Reply) → w'.plan ≡ w.plan → w'.sites ≡ with_noted w.plan w.sites a e r → w'.frames ≡ w.frames ++ frames_of r → a < length w.sites →
-    TellsFrames w sent → TellsFrames w' (sent ++ sent_by a (length (site_at w a).entries) r)
-tells_more w w' sent a e r plan sites frames lt told =
-    let marks : List SentAt = sent_by a (length (site_at w a).entries) r in
-    let now : List Site = with_noted w.plan w.sites a e r in
-    ap (λ p. map (told_at p w'.sites) (sent ++ marks)) plan ∙ ap (λ l. map (told_at w.plan l) (sent ++ marks)) sites
-    ∙ map-append (told_at w.plan now) sent marks
-    ∙ ap (λ l. l ++ map (told_at w.plan now) marks) (still_all w.plan w.sites a e r sent w.frames lt told)
-    ∙ ap (λ l. map Some w.frames ++ l) (told_now w.plan w.sites a e r lt)
-    ∙ sym (map-append Some w.frames (frames_of r)) ∙ ap (map Some) (sym frames)

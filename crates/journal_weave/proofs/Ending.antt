@@ -16,6 +16,7 @@ use Rattle.journal_weave.specs.declared.merge.Merge.{Merge}
 use Rattle.journal_weave.specs.Weaving.{untagged, entries_at, IsWoven, GoesAlong}
 use Rattle.journal_weave.specs.Given.{told_in, lines_of, IsWovenFrom, AreFurthest, Stands}
 use Rattle.journal_weave.specs.Laws.{NoneGoesFurther}
+use Rattle.journal_weave.specs.ReplayValue.{ReplayValue}
 use Rattle.journal_weave.specs.refinement.Merging.{IsMerged, Has}
 use Rattle.journal_weave.proofs.Merging.{Cannot, no_way, goes_along, has_all}
 use Rattle.journal_weave.proofs.Pushing.{at_of}
@@ -59,7 +60,7 @@ all_end (j ∷ journals) h (suc k) d lt = all_end journals (λ a. h (suc a)) k d
 
 -- ---- the end
 
-module _ (C : FrameKey → FrameKey → Ordering) (plan : PlanValue) (told : ℕ → List Entry) (m : Merge) (events : List WorldEvent) (merged : IsMerged C plan told m events) (within : (a : ℕ) → at_of m a ≤ length (told a)) where
+module _ (C : FrameKey → FrameKey → Ordering) (rs : List ReplayValue) (plan : PlanValue) (told : ℕ → List Entry) (m : Merge) (events : List WorldEvent) (merged : IsMerged C rs plan told m events) (within : (a : ℕ) → at_of m a ≤ length (told a)) where
   pub has : Has plan told (at_of m) events
   has = record { accepted = merged.accepted; entries = merged.has }
 
@@ -100,11 +101,11 @@ never_woven plan journals at a furthest stands events w =
     )
 
 -- where none does, the schedule is
-pub all_woven : (C : FrameKey → FrameKey → Ordering) (plan : PlanValue) (journals : List GivenJournal) (m : Merge) (events : List WorldEvent) → IsMerged C plan (told_in journals) m events → ((a : ℕ) → at_of m a ≤ length (told_in journals a)) →
+pub all_woven : (C : FrameKey → FrameKey → Ordering) (rs : List ReplayValue) (plan : PlanValue) (journals : List GivenJournal) (m : Merge) (events : List WorldEvent) → IsMerged C rs plan (told_in journals) m events → ((a : ℕ) → at_of m a ≤ length (told_in journals a)) →
     ((a : ℕ) → Stands journals (at_of m) a → ⊥) → IsWovenFrom plan journals events
-all_woven C plan journals m events merged within none =
+all_woven C rs plan journals m events merged within none =
     let past : (a : ℕ) → lines_of journals a ≤ at_of m a = λ a. ⊎_elim (λ lt. absurd (none a lt)) (λ ge. ge) (cases_lt (at_of m a) (lines_of journals a)) in
     record {
       whole = all_end journals (λ a. omega (arith, past a, within a));
-      woven = woven C plan (told_in journals) m events merged within (λ a. omega (arith, past a, told_within journals a));
+      woven = woven C rs plan (told_in journals) m events merged within (λ a. omega (arith, past a, told_within journals a));
     }

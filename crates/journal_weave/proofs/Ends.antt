@@ -4,6 +4,7 @@ use Rattle.std.specs.Prelude.{slice_get, Option, All, is_some, true}
 use Rattle.std.proofs.lemmas.Bool.{cases_lt}
 use Rattle.std.proofs.lemmas.List.{length-map, get_or-map, get_or_past, ext_get_or}
 use Rattle.std.proofs.Math.Seq.{take-length}
+use Rattle.std.specs.Option.{option_and_then}
 use Rattle.std.specs.declared.cmp.Ordering.{Ordering}
 use Rattle.office_map.specs.PlanValue.{PlanValue}
 use Rattle.office_journal.specs.declared.event.Entry.{Entry}
@@ -12,7 +13,7 @@ use Rattle.frame_world.specs.Worlds.{World, silent, opening, site_at, run_of}
 use Rattle.frame_world.specs.WorldStates.{IsSeated}
 use Rattle.frame_world.specs.WorldLaws.{seated}
 use Rattle.frame_world.specs.declared.sent.SentAt.{SentAt}
-use Rattle.frame_world.specs.Sent.{TellsFrames}
+use Rattle.frame_world.specs.Sent as sent
 use Rattle.journal_weave.specs.declared.given.GivenJournal.{GivenJournal}
 use Rattle.journal_weave.specs.declared.key.FrameKey.{FrameKey}
 use Rattle.journal_weave.specs.declared.merge.Merge.{Merge}
@@ -24,7 +25,7 @@ use Rattle.journal_weave.specs.Following.{site_of, Gives, IsLimit}
 use Rattle.journal_weave.specs.ReplayValue.{ReplayValue}
 use Rattle.journal_weave.specs.Replays.{given, given_at, AreReplays, IsRecord}
 use Rattle.journal_weave.specs.refinement.Finishers.{finishers}
-use Rattle.journal_weave.specs.refinement.Merging.{CannotCome, AreFollowed, IsMerged, IsAtEnd, IsStuck}
+use Rattle.journal_weave.specs.refinement.Merging.{CannotCome, AreOne, AreFollowed, told_by, IsMerged, IsAtEnd, IsStuck}
 use Rattle.journal_weave.specs.refinement.Standing.{IsFirstLeft}
 use Rattle.journal_weave.proofs.EntriesTold.{other_default}
 use Rattle.journal_weave.proofs.AcceptedEvents.{site_is}
@@ -53,11 +54,11 @@ followed plan journals rs are a r lt is =
     let told = told_at journals a j.0 inside j.1 in
     (subst (λ l. IsLimit plan a l (given r)) (sym told) h.limit, h.has ∙ ap (λ l. map untagged (take (given r) l)) (sym told))
 
-module _ (C : FrameKey → FrameKey → Ordering) (plan : PlanValue) (journals : List GivenJournal) (rs : List ReplayValue) (m : Merge) (events : List WorldEvent) (are : AreReplays plan journals rs) (end : IsAtEnd C plan rs m events) where
+module _ (C : FrameKey → FrameKey → Ordering) (plan : PlanValue) (journals : List GivenJournal) (rs : List ReplayValue) (m : Merge) (events : List WorldEvent) (are : AreReplays plan journals rs) (end : IsAtEnd C rs plan m events) where
   abbrev told : ℕ → List Entry
   told = told_in journals
 
-  merged : IsMerged C plan told m events
+  merged : IsMerged C rs plan told m events
   merged = end.merged told (followed plan journals rs are)
 
   within : (a : ℕ) → at_of m a ≤ length (told a)
@@ -77,8 +78,8 @@ module _ (C : FrameKey → FrameKey → Ordering) (plan : PlanValue) (journals :
       nothing zero e = cc
       nothing (suc n) e = cc
 
-  cannot : (a : ℕ) → Cannot plan told (at_of m) (run_of (opening plan) events).frames a
-  cannot a x next = ⊎_elim inside (λ ge. absurd (no_entry a x ge next)) (cases_lt a (length rs))
+  cannot : AreOne (run_of (opening plan) events).frames → (a : ℕ) → Cannot plan told (at_of m) (run_of (opening plan) events).frames a
+  cannot one a x next = ⊎_elim inside (λ ge. absurd (no_entry a x ge next)) (cases_lt a (length rs))
     where
       inside : a < length rs → (Gives (site_of plan a (take (at_of m a) (told a))) x → ⊥) ⊎ CannotCome (run_of (opening plan) events).frames a x.event
       inside lt = by (end.stuck a lt r.0 r.1)
@@ -100,7 +101,7 @@ module _ (C : FrameKey → FrameKey → Ordering) (plan : PlanValue) (journals :
               let same : given r.0 ≡ at_of m a = omega (arith, ge, limit) in
               inl (subst (λ n. slice_get (told a) n ≡ Some x → Gives (site_of plan a (take n (told a))) x → ⊥) same (f.0.no_more x) next)
 
-          by : IsStuck C m a r.0 → (Gives (site_of plan a (take (at_of m a) (told a))) x → ⊥) ⊎ CannotCome (run_of (opening plan) events).frames a x.event
+          by : IsStuck C rs m a r.0 → (Gives (site_of plan a (take (at_of m a) (told a))) x → ⊥) ⊎ CannotCome (run_of (opening plan) events).frames a x.event
           by (inl (inl ge)) = at_limit ge
           by (inl (inr none)) = ⊎_elim
               (λ below. absurd (there_is r.0.site.entries (at_of m a) (omega (arith, below, enough)) none))
@@ -112,16 +113,16 @@ module _ (C : FrameKey → FrameKey → Ordering) (plan : PlanValue) (journals :
               let both : Some z.0 ≡ Some x = sym z.1 ∙ next in
               let one : z.0 ≡ x = cc in
               let events_same : y.event ≡ x.event = ap (λ (w : Entry). w.event) (sym z.2) ∙ ap (λ (w : Entry). w.event) one in
-              inr (subst (λ e. CannotCome (run_of (opening plan) events).frames a e) events_same (never (run_of (opening plan) events).frames merged.sent)))
+              inr (subst (λ e. CannotCome (run_of (opening plan) events).frames a e) events_same (never (run_of (opening plan) events).frames merged.sent one)))
               at_limit
               (cases_lt (at_of m a) (given r.0))
 
-  pub most : NoneGoesFurther → AreFurthest plan told (at_of m)
-  most law = furthest C plan told m events merged within cannot law
+  pub most : NoneGoesFurther → AreOne (run_of (opening plan) events).frames → AreFurthest plan told (at_of m)
+  most law one = furthest C rs plan told m events merged within (cannot one) law
 
   -- nobody stands
   pub is_woven : IsFirstLeft rs m.at.items None → IsWovenFrom plan journals events
-  is_woven none = all_woven C plan journals m events merged within (none_stands plan journals rs m.at.items are end.within none)
+  is_woven none = all_woven C rs plan journals m events merged within (none_stands plan journals rs m.at.items are end.within none)
 
   -- each office followed its journal to the end then, and so it is what the schedule leaves
   module _ (none : IsFirstLeft rs m.at.items None) where
@@ -163,27 +164,44 @@ module _ (C : FrameKey → FrameKey → Ordering) (plan : PlanValue) (journals :
         ∙ ap (λ (x : ReplayValue). x.site) r.1
         ∙ sym (get_or-map (λ (x : ReplayValue). x.site) rs a r.0 (silent plan 0) within))
 
+    -- what an entry tells there it tells of the office that followed its journal
+    told_so : (x : SentAt) → sent.told_at w.plan w.sites x ≡ told_by rs x
+    told_so x = ap (λ l. sent.told_in (get_or l x.office (silent w.plan x.office)).entries x.entry) leaves ∙ by rs x.office
+      where
+        by : (qs : List ReplayValue) (k : ℕ) → sent.told_in (get_or (map (λ (r : ReplayValue). r.site) qs) k (silent w.plan x.office)).entries x.entry ≡ option_and_then (λ (r : ReplayValue). sent.told_in r.site.entries x.entry) (slice_get qs k)
+        by [] k = nothing x.entry
+          where
+            nothing : (n : ℕ) → sent.told_in [] n ≡ None
+            nothing zero = refl
+            nothing (suc n) = refl
+        by (q ∷ qs) zero = refl
+        by (q ∷ qs) (suc k) = by qs k
+
+    same_map : {X Y : Type 0} (f g : X → Y) → ((x : X) → f x ≡ g x) → (xs : List X) → map f xs ≡ map g xs
+    same_map f g h [] = refl
+    same_map f g h (x ∷ xs) = ap (λ y. y ∷ map f xs) (h x) ∙ ap (λ l. g x ∷ l) (same_map f g h xs)
+
     -- what the schedule leaves beside them
-    pub is_record : (sent : List SentAt) (finished : List ℕ) → sent ≡ m.sent.sent.items → finishers events ≡ finished → IsRecord plan journals rs sent finished
-    is_record sent finished same noted =
+    pub is_record : (marks : List SentAt) (finished : List ℕ) → marks ≡ m.sent.sent.items → finishers events ≡ finished → IsRecord plan journals rs marks finished
+    is_record marks finished same noted =
         record {
           events = events;
           woven = is_woven none;
           leaves = leaves;
-          sends = subst (TellsFrames w) (sym same) merged.marks;
+          sends = ap (map (sent.told_at w.plan w.sites)) same ∙ same_map (sent.told_at w.plan w.sites) (told_by rs) told_so m.sent.sent.items ∙ merged.sent.told;
           fit = merged.sent.fit;
           finishes = where_finished plan events merged.accepted ∙ noted;
         }
 
   -- an office is to be named
-  pub is_left : NoneGoesFurther → (a entry : ℕ) → IsFirstLeft rs m.at.items (Some (a, entry)) → IsLeft plan journals a entry
-  is_left law a entry left = record {
+  pub is_left : NoneGoesFurther → AreOne (run_of (opening plan) events).frames → (a entry : ℕ) → IsFirstLeft rs m.at.items (Some (a, entry)) → IsLeft plan journals a entry
+  is_left law one a entry left = record {
     at = at_of m;
-    furthest = most law;
+    furthest = most law one;
     stands = stands plan journals rs m.at.items are end.within a left.0;
     named = named plan journals rs m.at.items are end.within a left.2;
     next = left.1;
   }
 
-  pub is_never : NoneGoesFurther → (a entry : ℕ) → IsFirstLeft rs m.at.items (Some (a, entry)) → (es : List WorldEvent) → IsWovenFrom plan journals es → ⊥
-  is_never law a entry left = never_woven plan journals (at_of m) a (most law) (stands plan journals rs m.at.items are end.within a left.0)
+  pub is_never : NoneGoesFurther → AreOne (run_of (opening plan) events).frames → (a entry : ℕ) → IsFirstLeft rs m.at.items (Some (a, entry)) → (es : List WorldEvent) → IsWovenFrom plan journals es → ⊥
+  is_never law one a entry left = never_woven plan journals (at_of m) a (most law one) (stands plan journals rs m.at.items are end.within a left.0)

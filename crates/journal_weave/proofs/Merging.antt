@@ -12,9 +12,6 @@ use Rattle.site_core.specs.Journals.{Site}
 use Rattle.frame_world.specs.declared.event.WorldEvent.{WorldEvent}
 use Rattle.frame_world.specs.Worlds.{World, opening, site_at, frames_of, handed, delivered, frame_at, happens, run_of, AreAccepted}
 use Rattle.frame_world.specs.WorldLaws.{seated}
-use Rattle.frame_world.specs.declared.sent.SentAt.{SentAt}
-use Rattle.frame_world.specs.Sent.{sent_by, TellsFrames}
-use Rattle.frame_world.specs.SentLaws.{tells_more}
 use Rattle.journal_weave.specs.Weaving.{untagged, entries_at, GoesAlong}
 use Rattle.journal_weave.specs.Laws.{CanGoOn}
 use Rattle.journal_weave.specs.Following.{site_of, Gives}
@@ -60,9 +57,6 @@ module _ (plan : PlanValue) (told : ℕ → List Entry) (at : ℕ → ℕ) (sche
 
   pub frames_after : (run_of (opening plan) (schedule ++ e ∷ [])).frames ≡ w.frames ++ frames_of x.reply
   frames_after = ap (λ (v : World). v.frames) after
-
-  pub told_after : (sent : List SentAt) → TellsFrames w sent → TellsFrames (run_of (opening plan) (schedule ++ e ∷ [])) (sent ++ sent_by a (length (site_at w a).entries) x.reply)
-  told_after sent told = subst (λ v. TellsFrames v (sent ++ sent_by a (length (site_at w a).entries) x.reply)) (sym after) (tells_more w (grown w a x.event x.reply) sent a x.event x.reply refl refl refl grows.inside told)
 
   -- the office has one entry more
   one_more : (n : ℕ) → n ≡ at a + 1 → entries_at (run_of (opening plan) (schedule ++ e ∷ [])) a ≡ map untagged (take n (told a))

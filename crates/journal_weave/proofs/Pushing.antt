@@ -2,23 +2,24 @@
 use Rattle.std.proofs.Common.{◌≡◌, ◌≢◌, ℕ, zero, suc, ◌+◌, ◌<◌, ◌≤◌, List, [], ◌∷◌, ◌++◌, length, map, sum, take, get_or, set, Some, refl, sym, ap, subst, ◌∙◌, arith, ⊎_elim}
 use Rattle.std.specs.Prelude.{slice_get, replicate}
 use Rattle.std.proofs.lemmas.Bool.{cases_eq, cases_lt}
-use Rattle.std.proofs.lemmas.List.{length-replicate, get_or-map, get_or-replicate, get_or_past, get_or-set_same, get_or-set_other, nil_from_length}
-use Rattle.std.proofs.lemmas.Option.{slice_get_within}
+use Rattle.std.proofs.lemmas.List.{length-replicate, get_or-map, get_or-replicate, get_or_past, get_or-set_same, get_or-set_other}
+use Rattle.std.specs.Option.{option_and_then}
+use Rattle.std.proofs.lemmas.Option.{slice_get-get_or}
 use Rattle.std.proofs.lemmas.List.Sums.{sum_by-set}
 use Rattle.std.specs.declared.cmp.Ordering.{Ordering}
 use Rattle.office_map.specs.PlanValue.{PlanValue}
 use Rattle.office_journal.specs.declared.event.Entry.{Entry}
 use Rattle.frame_world.specs.declared.event.WorldEvent.{WorldEvent}
 use Rattle.frame_world.specs.Worlds.{opening, frames_of, run_of}
-use Rattle.frame_world.specs.Sent.{sent_by, TellsFrames}
+use Rattle.frame_world.specs.Sent.{frame_told, entry_tells, told_in}
 use Rattle.journal_weave.specs.declared.key.FrameKey.{FrameKey}
 use Rattle.journal_weave.specs.declared.merge.Merge.{Merge}
 use Rattle.journal_weave.specs.Weaving.{untagged}
 use Rattle.journal_weave.specs.ReplayValue.{ReplayValue}
 use Rattle.journal_weave.specs.Replays.{given}
-use Rattle.journal_weave.specs.refinement.Merging.{IsEventAt, Knows, GoesOn, IsMerged, IsWithin, AreFollowed, Has, Follows}
+use Rattle.journal_weave.specs.refinement.Merging.{IsEventAt, told_by, Knows, GoesOn, IsMerged, IsWithin, AreFollowed, Has, Follows}
 use Rattle.journal_weave.proofs.AcceptedEvents.{nothing_told}
-use Rattle.journal_weave.proofs.Merging.{has_more, frames_after, told_after, has_all}
+use Rattle.journal_weave.proofs.Merging.{has_more, frames_after}
 
 -- how many entries of each office a merge has
 abbrev pub at_of : Merge → ℕ → ℕ
@@ -27,12 +28,11 @@ at_of m a = get_or m.at.items a 0
 pub nought_at : (n a : ℕ) → ◌≡◌ {A = ℕ} (get_or (replicate n 0) a 0) 0
 nought_at n a = ⊎_elim (λ lt. get_or-replicate n a 0 0 lt) (λ ge. get_or_past (replicate n 0) a 0 (omega (arith, ge, length-replicate {A = ℕ} n 0))) (cases_lt a n)
 
-pub starts : (C : FrameKey → FrameKey → Ordering) (m : Merge) (n : ℕ) → m.at.items ≡ replicate n 0 → Knows C m.sent [] → (plan : PlanValue) (told : ℕ → List Entry) → IsMerged C plan told m []
-starts C m n at knows plan told = record {
+pub starts : (C : FrameKey → FrameKey → Ordering) (rs : List ReplayValue) (m : Merge) (n : ℕ) → m.at.items ≡ replicate n 0 → Knows C rs m.sent [] → (plan : PlanValue) (told : ℕ → List Entry) → IsMerged C rs plan told m []
+starts C rs m n at knows plan told = record {
   accepted = tt;
   has = λ a. nothing_told plan a ∙ ap (λ k. map untagged (take k (told a))) (sym (ap (λ l. get_or l a 0) at ∙ nought_at n a));
   sent = knows;
-  marks = subst (TellsFrames (opening plan)) (sym (nil_from_length m.sent.sent.items knows.count)) refl;
 }
 
 pub starts_within : (at : List ℕ) (n : ℕ) → at ≡ replicate n 0 → (rs : List ReplayValue) (a : ℕ) → get_or at a 0 ≤ get_or (map given rs) a 0
@@ -50,10 +50,10 @@ told_from (suc n) (z ∷ xs) (y ∷ ys) (suc i) x e lt at = let rest : take n ys
 
 -- ---- one entry more
 
-pub pushed : (C : FrameKey → FrameKey → Ordering) (m m' : Merge) (a : ℕ) (x : Entry) (e : WorldEvent) (rs : List ReplayValue) (r : ReplayValue) → a < length m.at.items → a < length rs → r ≡ get_or rs a r → GoesOn C m m' a x e →
+pub pushed : (C : FrameKey → FrameKey → Ordering) (rs : List ReplayValue) (m m' : Merge) (a : ℕ) (x : Entry) (e : WorldEvent) (r : ReplayValue) → a < length m.at.items → a < length rs → r ≡ get_or rs a r → GoesOn C rs m m' a x e →
     at_of m a < given r → slice_get r.site.entries (at_of m a) ≡ Some x →
-    (plan : PlanValue) (told : ℕ → List Entry) (es : List WorldEvent) → length rs ≡ length plan.offices → AreFollowed plan told rs → IsMerged C plan told m es → IsMerged C plan told m' (es ++ e ∷ [])
-pushed C m m' a x e rs r office there is g below at plan told es size followed merged =
+    (plan : PlanValue) (told : ℕ → List Entry) (es : List WorldEvent) → length rs ≡ length plan.offices → AreFollowed plan told rs → IsMerged C rs plan told m es → IsMerged C rs plan told m' (es ++ e ∷ [])
+pushed C rs m m' a x e r office there is g below at plan told es size followed merged =
     let f = followed a r there is in
     let y = told_from (given r) (told a) r.site.entries (at_of m a) x f.1 below at in
     let has : Has plan told (at_of m) es = record { accepted = merged.accepted; entries = merged.has } in
@@ -66,16 +66,14 @@ pushed C m m' a x e rs r office there is g below at plan told es size followed m
     } in
     let here : at_of m' a ≡ at_of m a + 1 = ap (λ l. get_or l a 0) g.at ∙ get_or-set_same m.at.items a (at_of m a + 1) 0 office in
     let others : (b : ℕ) → b ≢ a → at_of m' b ≡ at_of m b = λ b ne. ap (λ l. get_or l b 0) g.at ∙ get_or-set_other m.at.items a b (at_of m a + 1) 0 ne in
+    let tells : told_by rs (record { office = a; entry = at_of m a }) ≡ frame_told x.reply =
+    ap (option_and_then (λ (q : ReplayValue). told_in q.site.entries (at_of m a))) (slice_get-get_or rs a r there ∙ ap Some (sym is)) ∙ ap (option_and_then entry_tells) at in
     let more : Has plan told (at_of m') (es ++ e ∷ []) = has_more plan told (at_of m) es a y.0 e goes (at_of m') here others in
     record {
       accepted = more.accepted;
       has = more.entries;
-      sent = subst (Knows C m'.sent) (sym (frames_after plan told (at_of m) es a y.0 e goes))
-          (subst (λ (z : Entry). Knows C m'.sent ((run_of (opening plan) es).frames ++ frames_of z.reply)) (sym y.2) (g.sent (run_of (opening plan) es).frames merged.sent));
-      marks = subst (TellsFrames (run_of (opening plan) (es ++ e ∷ [])))
-          (ap (λ k. m.sent.sent.items ++ sent_by a k y.0.reply) (has_all plan told (at_of m) es has a (omega (arith, slice_get_within (told a) (at_of m a) y.0 y.1)))
-          ∙ ap (λ (z : Entry). m.sent.sent.items ++ sent_by a (at_of m a) z.reply) y.2 ∙ sym g.marks)
-          (told_after plan told (at_of m) es a y.0 e goes m.sent.sent.items merged.marks);
+      sent = subst (Knows C rs m'.sent) (sym (frames_after plan told (at_of m) es a y.0 e goes))
+          (subst (λ (z : Entry). Knows C rs m'.sent ((run_of (opening plan) es).frames ++ frames_of z.reply)) (sym y.2) (g.sent tells (run_of (opening plan) es).frames merged.sent));
     }
 
 pub within_more : (m m' : Merge) (a : ℕ) (rs : List ReplayValue) (r : ReplayValue) → a < length m.at.items → a < length rs → r ≡ get_or rs a r → m'.at.items ≡ set m.at.items a (at_of m a + 1) → at_of m a < given r → IsWithin rs m → IsWithin rs m'

@@ -19,13 +19,13 @@ module _ (C : FrameKey → FrameKey → Ordering) (rs : List ReplayValue) (m : M
   pub stuck_none : (first last : ℕ) → last ≤ first → StuckBetween first last
   stuck_none first last le a from to = absurd (omega (arith, le, from, to))
 
-  pub stuck_next : (first k : ℕ) (s : ReplayValue) → k < length rs → s ≡ get_or rs k s → IsStuck C m k s → StuckBetween first k → StuckBetween first (k + 1)
+  pub stuck_next : (first k : ℕ) (s : ReplayValue) → k < length rs → s ≡ get_or rs k s → IsStuck C rs m k s → StuckBetween first k → StuckBetween first (k + 1)
   stuck_next first k s lt is stuck before a from to r at = ⊎_elim
       (λ less. before a from less r at)
       (λ ge.
       let here : k ≡ a = omega (arith, ge, to) in
       let same : s ≡ r = is ∙ other_default rs k r s lt ∙ ap (λ n. get_or rs n r) here ∙ sym at in
-      subst (λ n. IsStuck C m n r) here (subst (IsStuck C m k) same stuck))
+      subst (λ n. IsStuck C rs m n r) here (subst (IsStuck C rs m k) same stuck))
       (cases_lt a k)
 
   pub stuck_all : (turn : ℕ) → StuckBetween turn (length rs) → StuckBetween 0 turn → (a : ℕ) → a < length rs → StuckAt C rs m a
@@ -40,15 +40,15 @@ all_none (Ok (Some x)) f h = tt
 -- ---- an office goes on
 
 -- the same merge, and the same office
-pub goes_as : (C : FrameKey → FrameKey → Ordering) (m0 m m' : Merge) (b a : ℕ) (r : ReplayValue) (e : WorldEvent) → m0 ≡ m → b ≡ a → GoesNext C m0 m' b r e → GoesNext C m m' a r e
-goes_as C m0 m m' b a r e same here g = subst (λ n. GoesNext C m m' n r e) here (subst (λ x. GoesNext C x m' b r e) same g)
+pub goes_as : (C : FrameKey → FrameKey → Ordering) (rs : List ReplayValue) (m0 m m' : Merge) (b a : ℕ) (r : ReplayValue) (e : WorldEvent) → m0 ≡ m → b ≡ a → GoesNext C rs m0 m' b r e → GoesNext C rs m m' a r e
+goes_as C rs m0 m m' b a r e same here g = subst (λ n. GoesNext C rs m m' n r e) here (subst (λ x. GoesNext C rs x m' b r e) same g)
 
-module _ (C : FrameKey → FrameKey → Ordering) (rs : List ReplayValue) (m m' : Merge) (a : ℕ) (r : ReplayValue) (e : WorldEvent) (size : length m.at.items ≡ length rs) (there : a < length rs) (is : r ≡ get_or rs a r) (g : GoesNext C m m' a r e) where
+module _ (C : FrameKey → FrameKey → Ordering) (rs : List ReplayValue) (m m' : Merge) (a : ℕ) (r : ReplayValue) (e : WorldEvent) (size : length m.at.items ≡ length rs) (there : a < length rs) (is : r ≡ get_or rs a r) (g : GoesNext C rs m m' a r e) where
   office : a < length m.at.items
   office = omega (arith, there, size)
 
   pub event_added : AddsEvent C rs m m' e
-  event_added plan told es one_each followed merged = pushed C m m' a g.0 e rs r office there is g.3 g.1 g.2 plan told es one_each followed merged
+  event_added plan told es one_each followed merged = pushed C rs m m' a g.0 e r office there is g.3 g.1 g.2 plan told es one_each followed merged
 
   pub kept_within : IsWithin rs m → IsWithin rs m'
   kept_within within = within_more m m' a rs r office there is g.3.at g.1 within

@@ -8,10 +8,10 @@ ghost use Rattle.office_journal.specs.declared.event.Entry.{Entry};
 ghost use Rattle.office_journal.specs.declared.event.Event.TheVariants as events;
 ghost use Rattle.frame_world.specs.declared.event.WorldEvent.{WorldEvent};
 ghost use Rattle.frame_world.specs.Worlds.{frames_of};
-ghost use Rattle.frame_world.specs.Sent.{sent_by};
+ghost use Rattle.frame_world.specs.Sent.{frame_told};
 ghost use Rattle.journal_weave.specs.Replays.{given};
 ghost use Rattle.journal_weave.specs.ReplayValue.{ReplayValue};
-ghost use Rattle.journal_weave.specs.refinement.Merging.{Knows, IsFound, GoesNext, AddsEvent, IsMerged, IsStuck, IsWithin, StuckAt};
+ghost use Rattle.journal_weave.specs.refinement.Merging.{Knows, told_by, IsFound, GoesNext, AddsEvent, IsMerged, IsStuck, IsWithin, StuckAt};
 
 use crate::key::FrameKey;
 use crate::replay::Replay;
@@ -41,7 +41,7 @@ impl Merge {
         ensures size { IfOk result (λ m. length m.at.items ≡ offices) }
         ensures turn { IfOk result (λ m. m.turn ≤ offices) }
         ensures within { IfOk result (λ m. (rs : List ReplayValue) → IsWithin rs m) }
-        ensures merged { IfOk result (λ m. (plan : PlanValue) (told : ℕ → List Entry) → IsMerged ⟦<FrameKey as Ord>⟧.cmp plan told m []) }
+        ensures merged { IfOk result (λ m. (rs : List ReplayValue) (plan : PlanValue) (told : ℕ → List Entry) → IsMerged ⟦<FrameKey as Ord>⟧.cmp rs plan told m []) }
     {
         Ok(Merge {
             at: vec![in alloc; 0; offices]?,
@@ -101,7 +101,7 @@ impl Merge {
         ensures stuck { IfOk result (λ o. IfNone o ((a : ℕ) → first ≤ a → a < last → StuckAt ⟦<FrameKey as Ord>⟧.cmp replays.now self.old a)) }
     {
         for a in first..last {
-            if let Some(event) = self.next_of(OfficeId::new(a as u8), &replays[a])? {
+            if let Some(event) = self.next_of(OfficeId::new(a as u8), &replays[a], replays)? {
                 self.turn = a;
                 return Ok(Some(event));
             }
@@ -110,10 +110,15 @@ impl Merge {
     }
 
     /// The event of the office's next entry that it gave, where there is one and no frame of it is lacking. The schedule has it then.
-    fn next_of(&mut self, a: OfficeId, replay: &Replay) -> Result<Option<WorldEvent>, AllocError>
+    fn next_of(
+        &mut self,
+        a: OfficeId,
+        replay: &Replay,
+        replays: &[Replay],
+    ) -> Result<Option<WorldEvent>, AllocError>
         requires { a < length self.old.at.items }
-        ensures goes { IfOk result (λ o. IfSome o (GoesNext ⟦<FrameKey as Ord>⟧.cmp self.old self.new a replay.now)) }
-        ensures stuck { IfOk result (λ o. IfNone o (IsStuck ⟦<FrameKey as Ord>⟧.cmp self.old a replay.now)) }
+        ensures goes { IfOk result (λ o. IfSome o (GoesNext ⟦<FrameKey as Ord>⟧.cmp replays.now self.old self.new a replay.now)) }
+        ensures stuck { IfOk result (λ o. IfNone o (IsStuck ⟦<FrameKey as Ord>⟧.cmp replays.now self.old a replay.now)) }
         ensures same { IfOk result (λ o. IfNone o (self.new ≡ self.old)) }
         ensures turn { self.new.turn ≡ self.old.turn }
         ensures size { length self.new.at.items ≡ length self.old.at.items }
@@ -126,7 +131,7 @@ impl Merge {
         let Some(entry) = replay.entry(at) else {
             return Ok(None);
         };
-        let Some(event) = self.event_of(a, &entry.event)? else {
+        let Some(event) = self.event_of(a, &entry.event, replays)? else {
             return Ok(None);
         };
         self.push(a, &entry.reply)?;
@@ -134,26 +139,31 @@ impl Merge {
     }
 
     /// The world's event that is this event of the office, if its frame is there for it.
-    fn event_of(&self, a: OfficeId, event: &EventRef<'_>) -> Result<Option<WorldEvent>, AllocError>
-        ensures { IfOk result (λ found. (frames : List Fields) → Knows ⟦<FrameKey as Ord>⟧.cmp self.now.sent frames → IsFound frames a (event_shown event.now) found) }
+    fn event_of(
+        &self,
+        a: OfficeId,
+        event: &EventRef<'_>,
+        replays: &[Replay],
+    ) -> Result<Option<WorldEvent>, AllocError>
+        ensures { IfOk result (λ found. (frames : List Fields) → Knows ⟦<FrameKey as Ord>⟧.cmp replays.now self.now.sent frames → IsFound frames a (event_shown event.now) found) }
     {
         match *event {
             EventRef::Submit(program) => Ok(Some(WorldEvent::Submit(a, program.copy()?))),
             EventRef::Do(rule) => Ok(Some(WorldEvent::Do(a, rule))),
             EventRef::Send(v, i) => Ok(Some(WorldEvent::Send(a, v, i))),
-            EventRef::Took(frame) => Ok(self.arrival_of(a, &frame)),
+            EventRef::Took(frame) => Ok(self.arrival_of(a, &frame, replays)),
             EventRef::Withdraw(ticket) => Ok(Some(WorldEvent::Withdraw(a, ticket))),
         }
     }
 
     /// The event that the frame comes to the office.
-    fn arrival_of(&self, a: OfficeId, frame: &Frame) -> Option<WorldEvent>
-        ensures { (frames : List Fields) → Knows ⟦<FrameKey as Ord>⟧.cmp self.now.sent frames → IsFound frames a (events.Took frame.now) result }
+    fn arrival_of(&self, a: OfficeId, frame: &Frame, replays: &[Replay]) -> Option<WorldEvent>
+        ensures { (frames : List Fields) → Knows ⟦<FrameKey as Ord>⟧.cmp replays.now self.now.sent frames → IsFound frames a (events.Took frame.now) result }
     {
         if frame.to() != a.number() {
             return None;
         }
-        let k = self.sent.number_of(frame)?;
+        let k = self.sent.number_of(replays, frame)?;
         Some(WorldEvent::Deliver(k))
     }
 
@@ -162,8 +172,7 @@ impl Merge {
         requires office { a < length self.old.at.items }
         requires next { get_or self.old.at.items a 0 + 1 < 2 ^ 32 }
         ensures at { OnOk result (self.new.at.items ≡ set self.old.at.items a (get_or self.old.at.items a 0 + 1)) }
-        ensures sent { OnOk result ((frames : List Fields) → Knows ⟦<FrameKey as Ord>⟧.cmp self.old.sent frames → Knows ⟦<FrameKey as Ord>⟧.cmp self.new.sent (frames ++ frames_of reply.now)) }
-        ensures marks { OnOk result (self.new.sent.sent.items ≡ self.old.sent.sent.items ++ sent_by a (get_or self.old.at.items a 0) reply.now) }
+        ensures sent { OnOk result ((rs : List ReplayValue) → told_by rs (record { office = a; entry = get_or self.old.at.items a 0 }) ≡ frame_told reply.now → (frames : List Fields) → Knows ⟦<FrameKey as Ord>⟧.cmp rs self.old.sent frames → Knows ⟦<FrameKey as Ord>⟧.cmp rs self.new.sent (frames ++ frames_of reply.now)) }
         ensures turn { self.new.turn ≡ self.old.turn }
         ensures size { length self.new.at.items ≡ length self.old.at.items }
     {

@@ -1,12 +1,14 @@
 //! The frames of a schedule.
 
-ghost use Rattle.std.specs.Prelude.{◌≡◌, ◌+◌, ◌<◌, ◌≤◌, ◌^◌, ◌++◌, ◌∷◌, [], List, OnOk, IfSome, IfNone};
+ghost use Rattle.std.specs.Prelude.{◌≡◌, ◌↔◌, ◌++◌, ◌∷◌, [], List, Some, IsTrue, OnOk, IfSome, IfNone};
 ghost use Rattle.frame_codec.specs.Frame.{Fields, IsFrame};
 ghost use Rattle.frame_world.specs.Worlds.{frames_of};
-ghost use Rattle.frame_world.specs.Sent.{sent_by};
-ghost use Rattle.journal_weave.specs.refinement.Merging.{Knows, WasSent, WasNotSent};
+ghost use Rattle.frame_world.specs.Sent.{frame_told};
+ghost use Rattle.journal_weave.specs.ReplayValue.{ReplayValue};
+ghost use Rattle.journal_weave.specs.refinement.Merging.{Knows, WasSent, WasNotSent, AreOne, number_in, told_by};
 
-use crate::key::{FrameKey, frames_are_told_apart};
+use crate::key::{FrameKey, keys_are_told_apart};
+use crate::replay::Replay;
 use frame_codec::Frame;
 use frame_world::SentAt;
 use office_map::OfficeId;
@@ -14,12 +16,12 @@ use site_core::Reply;
 use std::alloc::{AllocError, Global};
 use std::collections::BTreeMap;
 
-/// The frames that a schedule sends, each with a number that it was sent under. They are kept in order, so that the time of a
-/// look-up grows with the logarithm of their count, whatever they say.
+/// The frames that a schedule sends, each with a number that it was sent under. They are kept in order of all but their
+/// messages, so that the time of a look-up grows with the logarithm of their count, whatever they say; the frame itself is
+/// compared where its office tells it.
 ///
-/// They aren't hashed: the kit's maps hash by a seed that is fixed, and of a frame the value comes last, so who writes
-/// a journal can choose values whose frames all collide, and then each entry looks at all others. Slots by number, in
-/// which counts only rise, would do too, but that has to be shown through the links as well.
+/// They aren't hashed: the kit's maps hash by a seed that is fixed, so who writes a journal could choose numbers whose frames
+/// all collide, and then each entry looks at all others.
 #[derive(Drop)]
 pub(crate) struct SentFrames {
     /// From 1. A frame that was sent more than once has the last of its numbers.
@@ -31,7 +33,7 @@ pub(crate) struct SentFrames {
 impl SentFrames {
     /// None was sent.
     pub(crate) fn new(alloc: Global) -> SentFrames
-        ensures { Knows ⟦<FrameKey as Ord>⟧.cmp result [] }
+        ensures { (rs : List ReplayValue) → Knows ⟦<FrameKey as Ord>⟧.cmp rs result [] }
     {
         SentFrames {
             numbers: BTreeMap::new(alloc),
@@ -46,8 +48,7 @@ impl SentFrames {
         entry: u32,
         reply: &Reply,
     ) -> Result<(), AllocError>
-        ensures known { OnOk result ((frames : List Fields) → Knows ⟦<FrameKey as Ord>⟧.cmp self.old frames → Knows ⟦<FrameKey as Ord>⟧.cmp self.new (frames ++ frames_of reply.now)) }
-        ensures marks { OnOk result (self.new.sent.items ≡ self.old.sent.items ++ sent_by office entry reply.now) }
+        ensures { OnOk result ((rs : List ReplayValue) → told_by rs (record { office = office; entry = entry }) ≡ frame_told reply.now → (frames : List Fields) → Knows ⟦<FrameKey as Ord>⟧.cmp rs self.old frames → Knows ⟦<FrameKey as Ord>⟧.cmp rs self.new (frames ++ frames_of reply.now)) }
     {
         match reply {
             Reply::Frame(frame) => self.add(office, entry, frame),
@@ -57,22 +58,45 @@ impl SentFrames {
 
     /// One frame more, which that entry tells.
     fn add(&mut self, office: OfficeId, entry: u32, frame: &Frame) -> Result<(), AllocError>
-        ensures known { OnOk result ((frames : List Fields) → Knows ⟦<FrameKey as Ord>⟧.cmp self.old frames → Knows ⟦<FrameKey as Ord>⟧.cmp self.new (frames ++ frame.now ∷ [])) }
-        ensures marks { OnOk result (self.new.sent.items ≡ self.old.sent.items ++ record { office = office; entry = entry } ∷ []) }
+        ensures { OnOk result ((rs : List ReplayValue) → told_by rs (record { office = office; entry = entry }) ≡ Some frame.now → (frames : List Fields) → Knows ⟦<FrameKey as Ord>⟧.cmp rs self.old frames → Knows ⟦<FrameKey as Ord>⟧.cmp rs self.new (frames ++ frame.now ∷ [])) }
     {
-        frames_are_told_apart();
+        keys_are_told_apart();
         is_in_range(frame);
         self.sent.push(SentAt { office, entry })?;
         self.numbers.insert(FrameKey::of(frame), self.sent.len())?;
         Ok(())
     }
 
-    /// A number under which that frame was sent, if it was.
-    pub(crate) fn number_of(&self, frame: &Frame) -> Option<usize>
-        ensures sent { IfSome result (λ k. (frames : List Fields) → Knows ⟦<FrameKey as Ord>⟧.cmp self.now frames → WasSent frames frame.now k) }
-        ensures never { IfNone result ((frames : List Fields) → Knows ⟦<FrameKey as Ord>⟧.cmp self.now frames → WasNotSent frames frame.now) }
+    /// A number under which that frame was sent, if it was, where these offices followed their journals.
+    pub(crate) fn number_of(&self, replays: &[Replay], frame: &Frame) -> Option<usize>
+        ensures sent { IfSome result (λ k. (frames : List Fields) → Knows ⟦<FrameKey as Ord>⟧.cmp replays.now self.now frames → WasSent frames frame.now k) }
+        ensures never { IfNone result ((frames : List Fields) → Knows ⟦<FrameKey as Ord>⟧.cmp replays.now self.now frames → AreOne frames → WasNotSent frames frame.now) }
+    {
+        let number = self.number_of_key(frame)?;
+        let made = self.frame_at(replays, number);
+        if is_frame(&made, frame) {
+            Some(number)
+        } else {
+            None
+        }
+    }
+
+    /// A number under which a frame was sent that is the same but for its message, if one was.
+    fn number_of_key(&self, frame: &Frame) -> Option<usize>
+        ensures { result ≡ number_in ⟦<FrameKey as Ord>⟧.cmp self.now frame.now }
     {
         self.numbers.get(&FrameKey::of(frame)).copied()
+    }
+
+    /// The frame that was sent under that number.
+    fn frame_at(&self, replays: &[Replay], number: usize) -> Option<Frame>
+        ensures { (frames : List Fields) (f : Fields) → Knows ⟦<FrameKey as Ord>⟧.cmp replays.now self.now frames → WasSent frames f number → result ≡ Some f }
+    {
+        if number == 0 {
+            return None;
+        }
+        let sent = self.sent.get(number - 1)?;
+        told_at(replays, *sent)
     }
 
     /// Which entries tell the frames, the first sent first.
@@ -81,6 +105,24 @@ impl SentFrames {
     {
         self.sent
     }
+}
+
+/// The frame that an entry of an office tells, if it tells one.
+fn told_at(replays: &[Replay], sent: SentAt) -> Option<Frame>
+    ensures { result ≡ told_by replays.now sent }
+{
+    let replay = replays.get(sent.office.index())?;
+    let entry = replay.entry(sent.entry as usize)?;
+    match entry.reply {
+        Reply::Frame(frame) => Some(frame),
+        _ => None,
+    }
+}
+
+fn is_frame(made: &Option<Frame>, frame: &Frame) -> bool
+    ensures { IsTrue result ↔ (made.now ≡ Some frame.now) }
+{
+    *made == Some(*frame)
 }
 
 /// Each field of a frame is in the format's range.

@@ -18,6 +18,7 @@ use crate::laws::{none_goes_further, woven_is_serial};
 use crate::merge::Merge;
 use crate::replay::{Replay, replayed};
 use crate::standing::first_left;
+use frame_world::laws::numbers_tell_messages;
 use frame_world::{SentAt, WorldEvent};
 use office_map::{OfficeId, Plan};
 use site_core::Rule;
@@ -52,6 +53,7 @@ pub fn weave(
     ensures never { IfErr result (λ fault. (fault ≡ faults.Memory) ⊎ ((events : List WorldEvent) → IsWovenFrom plan.now journals.now events → ⊥)) }
 {
     none_goes_further();
+    numbers_tell_messages();
     woven_is_serial();
     // An accepted plan is consistent.
     let _ = plan.offices();
@@ -78,6 +80,7 @@ pub fn woven(alloc: Global, plan: &Plan, replays: &[Replay]) -> Result<Record, W
     ensures never { IfErr result (λ fault. (fault ≡ faults.Memory) ⊎ ((journals : List GivenJournal) → AreReplays plan.now journals replays.now → (events : List WorldEvent) → IsWovenFrom plan.now journals events → ⊥)) }
 {
     none_goes_further();
+    numbers_tell_messages();
     // A plan has few offices.
     let _ = plan.offices();
     let mut finished = Vec::new(alloc);
@@ -121,7 +124,7 @@ fn scheduled(
     requires one_each { length replays.now ≡ length plan.now.offices }
     requires empty { schedule.old.items ≡ [] }
     ensures size { IfOk result (λ m. length m.at.items ≡ length replays.now) }
-    ensures end { IfOk result (λ m. IsAtEnd ⟦<FrameKey as Ord>⟧.cmp plan.now replays.now m schedule.new.items) }
+    ensures end { IfOk result (λ m. IsAtEnd ⟦<FrameKey as Ord>⟧.cmp replays.now plan.now m schedule.new.items) }
 {
     let mut merge = Merge::new(alloc, plan.offices())?;
     while let Some(event) = merge.next(replays)? {
@@ -140,7 +143,7 @@ fn finishes(
     requires one_each { length replays.now ≡ length plan.now.offices }
     requires empty { finished.old.items ≡ [] }
     ensures size { IfOk result (λ m. length m.at.items ≡ length replays.now) }
-    ensures end { IfOk result (λ m. (es : List WorldEvent) × (finishers es ≡ finished.new.items) × IsAtEnd ⟦<FrameKey as Ord>⟧.cmp plan.now replays.now m es) }
+    ensures end { IfOk result (λ m. (es : List WorldEvent) × (finishers es ≡ finished.new.items) × IsAtEnd ⟦<FrameKey as Ord>⟧.cmp replays.now plan.now m es) }
 {
     let mut merge = Merge::new(alloc, plan.offices())?;
     while let Some(event) = merge.next(replays)? {

@@ -1,5 +1,6 @@
 -- What is kept while journals are merged.
 use Rattle.std.specs.Prelude.{◌≡◌, ◌≢◌, ℕ, suc, ◌+◌, ◌<◌, ◌≤◌, List, [], ◌∷◌, ◌++◌, length, map, take, get_or, set, slice_get, Option, Some, None, All, ◌⊎◌}
+use Rattle.std.specs.Option.{option_and_then}
 use Rattle.std.specs.BTreeMap.{get}
 use Rattle.std.specs.declared.cmp.Ordering.{Ordering}
 use Rattle.office_map.specs.PlanValue.{PlanValue}
@@ -11,7 +12,8 @@ use Rattle.frame_world.specs.declared.event.WorldEvent.{WorldEvent}
 use Rattle.frame_world.specs.declared.event.WorldEvent.TheVariants as happening
 use Rattle.frame_world.specs.Worlds.{World, opening, frames_of, run_of, AreAccepted}
 use Rattle.frame_world.specs.WorldStates.{IsSeated}
-use Rattle.frame_world.specs.Sent.{sent_by, TellsFrames}
+use Rattle.frame_world.specs.declared.sent.SentAt.{SentAt}
+use Rattle.frame_world.specs.Sent.{frame_told, told_in}
 use Rattle.journal_weave.specs.declared.key.FrameKey.{FrameKey}
 use Rattle.journal_weave.specs.declared.sent.SentFrames.{SentFrames}
 use Rattle.journal_weave.specs.declared.merge.Merge.{Merge}
@@ -45,10 +47,14 @@ pub record CannotCome (frames : List Fields) (a : ℕ) (e : Event) : Type 0 wher
   pub takes : e ≡ event.Took frame
   pub lacks : (frame.to ≢ a) ⊎ WasNotSent frames frame
 
--- the event of the world for an office's event, if there is one
+-- frames that are the same but for their messages are the same
+abbrev pub AreOne : List Fields → Type 0
+AreOne frames = (j k : ℕ) (f g : Fields) → slice_get frames j ≡ Some f → slice_get frames k ≡ Some g → key_of f ≡ key_of g → f ≡ g
+
+-- the event of the world for an office's event, if there is one; else it can't come, where these are
 abbrev pub IsFound : List Fields → ℕ → Event → Option WorldEvent → Type 0
 IsFound frames a e (Some found) = IsEventAt frames a e found
-IsFound frames a e None = CannotCome frames a e
+IsFound frames a e None = AreOne frames → CannotCome frames a e
 
 -- ---- a schedule
 
@@ -80,29 +86,37 @@ AreFollowed plan told rs = (a : ℕ) (r : ReplayValue) → a < length rs → r �
 abbrev pub IsWithin : List ReplayValue → Merge → Type 0
 IsWithin rs m = (a : ℕ) → get_or m.at.items a 0 ≤ get_or (map given rs) a 0
 
-module _ (C : FrameKey → FrameKey → Ordering) where
-  abbrev pub number_in : SentFrames → Fields → Option ℕ
-  number_in s f = get C s.numbers (key_of f)
+-- the frame that the entry of an office tells, where these offices followed their journals
+abbrev pub told_by : List ReplayValue → SentAt → Option Fields
+told_by rs m = option_and_then (λ (r : ReplayValue). told_in r.site.entries m.entry) (slice_get rs m.office)
 
+-- a frame was sent under that number, and it is this one but for its message
+pub record WasSentAs (frames : List Fields) (f : Fields) (k : ℕ) : Type 0 where
+  pub frame : Fields
+  pub same : key_of frame ≡ key_of f
+  pub sent : WasSent frames frame k
+
+abbrev pub number_in : (FrameKey → FrameKey → Ordering) → SentFrames → Fields → Option ℕ
+number_in C s f = get C s.numbers (key_of f)
+
+module _ (C : FrameKey → FrameKey → Ordering) (rs : List ReplayValue) where
   -- the frames of a world, each with a number that it was sent under
   pub record Knows (s : SentFrames) (frames : List Fields) : Type 0 where
-    pub count : length s.sent.items ≡ length frames
+    pub told : map (told_by rs) s.sent.items ≡ map Some frames
     pub fit : All IsFrame frames
-    pub right : (f : Fields) (k : ℕ) → number_in s f ≡ Some k → WasSent frames f k
-    pub all : (f : Fields) → number_in s f ≡ None → WasNotSent frames f
+    pub right : (f : Fields) (k : ℕ) → number_in C s f ≡ Some k → WasSentAs frames f k
+    pub all : (f g : Fields) → number_in C s f ≡ None → key_of g ≡ key_of f → WasNotSent frames g
 
   -- the schedule is accepted, and has so many first entries of each office
   pub record IsMerged (plan : PlanValue) (told : ℕ → List Entry) (m : Merge) (events : List WorldEvent) : Type 0 where
     pub accepted : AreAccepted (opening plan) events
     pub has : (a : ℕ) → entries_at (run_of (opening plan) events) a ≡ map untagged (take (get_or m.at.items a 0) (told a))
     pub sent : Knows m.sent (run_of (opening plan) events).frames
-    pub marks : TellsFrames (run_of (opening plan) events) m.sent.sent.items
 
   -- the office's next entry goes on the schedule, by this event
   pub record GoesOn (m m' : Merge) (a : ℕ) (x : Entry) (e : WorldEvent) : Type 0 where
     pub at : m'.at.items ≡ set m.at.items a (get_or m.at.items a 0 + 1)
-    pub sent : (frames : List Fields) → Knows m.sent frames → Knows m'.sent (frames ++ frames_of x.reply)
-    pub marks : m'.sent.sent.items ≡ m.sent.sent.items ++ sent_by a (get_or m.at.items a 0) x.reply
+    pub sent : told_by rs (record { office = a; entry = get_or m.at.items a 0 }) ≡ frame_told x.reply → (frames : List Fields) → Knows m.sent frames → Knows m'.sent (frames ++ frames_of x.reply)
     pub is : (frames : List Fields) → Knows m.sent frames → IsEventAt frames a x.event e
 
   -- the office has a next entry, which it gave, and which goes on the schedule by this event
@@ -110,20 +124,20 @@ module _ (C : FrameKey → FrameKey → Ordering) where
   GoesNext m m' a r e = (x : Entry) × (get_or m.at.items a 0 < given r) × (slice_get r.site.entries (get_or m.at.items a 0) ≡ Some x) × GoesOn m m' a x e
 
   -- whatever these offices follow, the event comes to the schedule
-  abbrev pub AddsEvent : List ReplayValue → Merge → Merge → WorldEvent → Type 0
-  AddsEvent rs m m' e = (plan : PlanValue) (told : ℕ → List Entry) (es : List WorldEvent) → length rs ≡ length plan.offices → AreFollowed plan told rs → IsMerged plan told m es → IsMerged plan told m' (es ++ e ∷ [])
+  abbrev pub AddsEvent : Merge → Merge → WorldEvent → Type 0
+  AddsEvent m m' e = (plan : PlanValue) (told : ℕ → List Entry) (es : List WorldEvent) → length rs ≡ length plan.offices → AreFollowed plan told rs → IsMerged plan told m es → IsMerged plan told m' (es ++ e ∷ [])
 
   -- the office gave no more, or has none, or its next entry takes a frame that can't come
   abbrev pub IsStuck : Merge → ℕ → ReplayValue → Type 0
   IsStuck m a r =
       ((given r ≤ get_or m.at.items a 0) ⊎ (slice_get r.site.entries (get_or m.at.items a 0) ≡ None))
-      ⊎ ((x : Entry) × (slice_get r.site.entries (get_or m.at.items a 0) ≡ Some x) × ((frames : List Fields) → Knows m.sent frames → CannotCome frames a x.event))
+      ⊎ ((x : Entry) × (slice_get r.site.entries (get_or m.at.items a 0) ≡ Some x) × ((frames : List Fields) → Knows m.sent frames → AreOne frames → CannotCome frames a x.event))
 
-  abbrev pub StuckAt : List ReplayValue → Merge → ℕ → Type 0
-  StuckAt rs m a = (r : ReplayValue) → r ≡ get_or rs a r → IsStuck m a r
+  abbrev pub StuckAt : Merge → ℕ → Type 0
+  StuckAt m a = (r : ReplayValue) → r ≡ get_or rs a r → IsStuck m a r
 
   -- whatever these offices follow, the schedule has the first of it, and no office goes on
-  pub record IsAtEnd (plan : PlanValue) (rs : List ReplayValue) (m : Merge) (events : List WorldEvent) : Type 0 where
+  pub record IsAtEnd (plan : PlanValue) (m : Merge) (events : List WorldEvent) : Type 0 where
     pub within : IsWithin rs m
     pub merged : (told : ℕ → List Entry) → AreFollowed plan told rs → IsMerged plan told m events
-    pub stuck : (a : ℕ) → a < length rs → StuckAt rs m a
+    pub stuck : (a : ℕ) → a < length rs → StuckAt m a

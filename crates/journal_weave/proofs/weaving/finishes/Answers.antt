@@ -14,7 +14,7 @@ loop-merge-init c = record {
   within = c.in_ok-merge.ensures.within c.args.replays.now;
   events = [];
   noted = sym c.requires.empty;
-  merged = λ told follow. c.in_ok-merge.ensures.merged c.args.plan.now told;
+  merged = λ told follow. c.in_ok-merge.ensures.merged c.args.replays.now c.args.plan.now told;
 }
 
 pub next-requires-clause-few : goal.next-requires-clause-few
@@ -48,5 +48,5 @@ returns-clause-end c =
     let stuck = rw c.in_default.is at c.in_ok-event.ensures.stuck in (
       k.events,
       k.noted,
-      subst (λ m. IsAtEnd cmp-value.it c.args.plan.now c.args.replays.now m k.events) (sym same) (record { within = k.within; merged = k.merged; stuck = stuck }),
+      subst (λ m. IsAtEnd cmp-value.it c.args.replays.now c.args.plan.now m k.events) (sym same) (record { within = k.within; merged = k.merged; stuck = stuck }),
     )

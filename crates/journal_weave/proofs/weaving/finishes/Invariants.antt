@@ -14,7 +14,7 @@ invariant-loop-merge l = record {
   within : IsWithin l.replays l.merge;
   events : List WorldEvent;
   noted : finishers events ≡ l.finished.items;
-  merged : (told : ℕ → List Entry) → AreFollowed l.plan told l.replays → IsMerged cmp-value.it l.plan told l.merge events;
+  merged : (told : ℕ → List Entry) → AreFollowed l.plan told l.replays → IsMerged cmp-value.it l.replays l.plan told l.merge events;
 }
 
 abbrev pub decreases-loop-merge : goal.decreases-loop-merge

@@ -10,7 +10,7 @@ loop-merge-init c = record {
   size = c.in_ok-merge.ensures.size ∙ c.offices.ensures.count ∙ sym c.requires.one_each;
   turn = omega (arith, c.in_ok-merge.ensures.turn, c.offices.ensures.count, c.requires.one_each);
   within = c.in_ok-merge.ensures.within c.args.replays.now;
-  merged = λ told follow. subst (λ es. IsMerged cmp-value.it c.args.plan.now told c.in_ok-merge.merge es) (sym c.requires.empty) (c.in_ok-merge.ensures.merged c.args.plan.now told);
+  merged = λ told follow. subst (λ es. IsMerged cmp-value.it c.args.replays.now c.args.plan.now told c.in_ok-merge.merge es) (sym c.requires.empty) (c.in_ok-merge.ensures.merged c.args.replays.now c.args.plan.now told);
 }
 
 pub next-requires-clause-few : goal.next-requires-clause-few
@@ -26,7 +26,7 @@ loop-merge-preserved c =
       turn = e.turn;
       within = e.within;
       merged = λ told follow.
-          subst (λ es. IsMerged cmp-value.it c.args.plan.now told c.next.new.self es) (sym c.in_ok-push.ensures.items)
+          subst (λ es. IsMerged cmp-value.it c.args.replays.now c.args.plan.now told c.next.new.self es) (sym c.in_ok-push.ensures.items)
           (goes c.args.plan.now told c.loop-merge.schedule.items c.requires.one_each follow (k.merged told follow));
     }
 
@@ -41,4 +41,4 @@ returns-clause-end c =
     let k = c.loop-merge.invariant in
     let same = rw c.in_default.is at c.in_ok-event.ensures.same in
     let stuck = rw c.in_default.is at c.in_ok-event.ensures.stuck in
-    subst (λ m. IsAtEnd cmp-value.it c.args.plan.now c.args.replays.now m c.loop-merge.schedule.items) (sym same) (record { within = k.within; merged = k.merged; stuck = stuck })
+    subst (λ m. IsAtEnd cmp-value.it c.args.replays.now c.args.plan.now m c.loop-merge.schedule.items) (sym same) (record { within = k.within; merged = k.merged; stuck = stuck })

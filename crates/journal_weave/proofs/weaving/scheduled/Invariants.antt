@@ -10,7 +10,7 @@ invariant-loop-merge l = record {
   size : length l.merge.at.items ≡ length l.replays;
   turn : l.merge.turn ≤ length l.replays;
   within : IsWithin l.replays l.merge;
-  merged : (told : ℕ → List Entry) → AreFollowed l.plan told l.replays → IsMerged cmp-value.it l.plan told l.merge l.schedule.items;
+  merged : (told : ℕ → List Entry) → AreFollowed l.plan told l.replays → IsMerged cmp-value.it l.replays l.plan told l.merge l.schedule.items;
 }
 
 abbrev pub decreases-loop-merge : goal.decreases-loop-merge

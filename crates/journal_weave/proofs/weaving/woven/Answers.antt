@@ -1,6 +1,8 @@
 use Rattle.std.proofs.Common.{None, Some, inr, subst, arith}
 use Rattle.journal_weave.specs.refinement.Standing.{IsFirstLeft}
+use Rattle.frame_world.specs.Worlds.{opening, run_of}
 use Rattle.journal_weave.proofs.Ends.{is_record, is_left, is_never}
+use Rattle.journal_weave.proofs.SentFrames.{are_one}
 use Rattle.journal_weave.proofs.weaving.woven.Goals as goal
 
 pub returns-in-Some : goal.returns-in-Some
@@ -12,8 +14,8 @@ returns-in-Some c =
     let left : IsFirstLeft rs m.at.items (Some c.in-Some.left) = subst (λ o. IsFirstLeft rs m.at.items o) c.in-Some.is c.first_left.ensures in
     record {
       woven = tt;
-      unwoven = λ journals are. is_left _ plan journals rs m e.0 are e.2 c.none_goes_further.ensures c.in-Some.left.0 c.in-Some.left.1 left;
-      never = inr (λ journals are. is_never _ plan journals rs m e.0 are e.2 c.none_goes_further.ensures c.in-Some.left.0 c.in-Some.left.1 left);
+      unwoven = λ journals are. is_left _ plan journals rs m e.0 are e.2 c.none_goes_further.ensures (are_one (run_of (opening plan) e.0) (c.numbers_tell_messages.ensures plan e.0 c.offices.ensures.consistent)) c.in-Some.left.0 c.in-Some.left.1 left;
+      never = inr (λ journals are. is_never _ plan journals rs m e.0 are e.2 c.none_goes_further.ensures (are_one (run_of (opening plan) e.0) (c.numbers_tell_messages.ensures plan e.0 c.offices.ensures.consistent)) c.in-Some.left.0 c.in-Some.left.1 left);
     }
 
 pub first_left-requires-clause-few : goal.first_left-requires-clause-few

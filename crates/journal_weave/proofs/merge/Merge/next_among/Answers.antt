@@ -21,7 +21,7 @@ loop-a-preserved c =
     let none = rw c.in_default.is at e.stuck in
     let still = rw c.in_default.is at e.same in
     let lt : c.loop-a.a < length rs = omega (arith, c.loop-a-test.true, c.requires.last) in
-    let stuck : IsStuck cmp-value.it m c.loop-a.a r = subst (λ n. IsStuck cmp-value.it m n r) c.new.ensures (subst (λ (x : Merge). IsStuck cmp-value.it x c.new.result r) k.same none) in
+    let stuck : IsStuck cmp-value.it rs m c.loop-a.a r = subst (λ n. IsStuck cmp-value.it rs m n r) c.new.ensures (subst (λ (x : Merge). IsStuck cmp-value.it rs x c.new.result r) k.same none) in
     record {
       same = still ∙ k.same;
       stuck = stuck_next cmp-value.it rs m c.args.first c.loop-a.a r lt c.index-replays-a.is stuck k.stuck;
@@ -34,7 +34,7 @@ returns-in-Some-clause-within c =
     let rs = c.args.replays.now in
     let m : Merge = c.args.self.now in
     let r = c.index-replays-a.result in
-    let g = goes_as cmp-value.it _ m c.next_of.new.self _ c.loop-a.a r c.in-Some.event c.loop-a.invariant.same c.new.ensures (rw c.in-Some.is at c.in_ok-event.ensures.goes) in
+    let g = goes_as cmp-value.it rs _ m c.next_of.new.self _ c.loop-a.a r c.in-Some.event c.loop-a.invariant.same c.new.ensures (rw c.in-Some.is at c.in_ok-event.ensures.goes) in
     kept_within cmp-value.it rs m c.next_of.new.self c.loop-a.a r c.in-Some.event c.requires.size (omega (arith, c.loop-a-test.true, c.requires.last)) c.index-replays-a.is g c.requires.within
 
 pub returns-in-Some-clause-event : goal.returns-in-Some-clause-event
@@ -43,15 +43,15 @@ returns-in-Some-clause-event c =
     let m : Merge = c.args.self.now in
     let m' : Merge = record { at = c.next_of.new.self.at; sent = c.next_of.new.self.sent; turn = c.loop-a.a } in
     let r = c.index-replays-a.result in
-    let g = goes_as cmp-value.it _ m c.next_of.new.self _ c.loop-a.a r c.in-Some.event c.loop-a.invariant.same c.new.ensures (rw c.in-Some.is at c.in_ok-event.ensures.goes) in
-    event_added cmp-value.it rs m m' c.loop-a.a r c.in-Some.event c.requires.size (omega (arith, c.loop-a-test.true, c.requires.last)) c.index-replays-a.is (g.0, g.1, g.2, record { at = g.3.at; sent = g.3.sent; marks = g.3.marks; is = g.3.is })
+    let g = goes_as cmp-value.it rs _ m c.next_of.new.self _ c.loop-a.a r c.in-Some.event c.loop-a.invariant.same c.new.ensures (rw c.in-Some.is at c.in_ok-event.ensures.goes) in
+    event_added cmp-value.it rs m m' c.loop-a.a r c.in-Some.event c.requires.size (omega (arith, c.loop-a-test.true, c.requires.last)) c.index-replays-a.is (g.0, g.1, g.2, record { at = g.3.at; sent = g.3.sent; is = g.3.is })
 
 pub returns-in-Some-clause-longer : goal.returns-in-Some-clause-longer
 returns-in-Some-clause-longer c =
     let rs = c.args.replays.now in
     let m : Merge = c.args.self.now in
     let r = c.index-replays-a.result in
-    let g = goes_as cmp-value.it _ m c.next_of.new.self _ c.loop-a.a r c.in-Some.event c.loop-a.invariant.same c.new.ensures (rw c.in-Some.is at c.in_ok-event.ensures.goes) in
+    let g = goes_as cmp-value.it rs _ m c.next_of.new.self _ c.loop-a.a r c.in-Some.event c.loop-a.invariant.same c.new.ensures (rw c.in-Some.is at c.in_ok-event.ensures.goes) in
     longer_by_one cmp-value.it rs m c.next_of.new.self c.loop-a.a r c.in-Some.event c.requires.size (omega (arith, c.loop-a-test.true, c.requires.last)) c.index-replays-a.is g
 
 -- ---- none does

@@ -24,5 +24,5 @@ returns-clause-goes c =
       entry_shown c.in-Some.entry,
       omega (arith, c.if-at-given.false, c.done-at.ensures.count, c.given-given.ensures.count),
       ap (slice_get c.args.replay.now.site.entries) (sym c.done-at.ensures.count) ∙ sym c.in-Some.ensures,
-      record { at = c.in_ok-push.ensures.at; sent = c.in_ok-push.ensures.sent; marks = c.in_ok-push.ensures.marks; is = found },
+      record { at = c.in_ok-push.ensures.at; sent = c.in_ok-push.ensures.sent c.args.replays.now; is = found },
     )
