@@ -1,5 +1,7 @@
 pub mod Values
 pub mod Operations
+pub mod Texts
+pub mod Versions
 pub mod Bytes
 pub mod Printed
 pub mod Lists

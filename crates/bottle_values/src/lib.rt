@@ -6,6 +6,7 @@
 //! - `to_bytes` gives the eight bytes of two's complement, the highest first, and `of_bytes` is its
 //!   inverse on all of `[u8; 8]` (`bytes_of` and `twos_complement`, in `specs/Bytes.antt`).
 //! - A value prints as `value_text` says (`specs/Printed.antt`).
+//! - A [`Text`] is up to 64 bytes (`specs/Texts.antt`), and a [`Version`] that of a plan. No value is a text yet.
 //! - What all crates say of lists, maps and numbers has its laws in `specs/ListLaws.antt` and `specs/MapLaws.antt`.
 //!
 //! No call takes memory.
@@ -24,6 +25,12 @@ ghost use Rattle.bottle_values.specs.Operations.{is_i64, is_value, sum, differen
 ghost use Rattle.bottle_values.specs.Bytes.{bytes_of, twos_complement};
 ghost use Rattle.bottle_values.specs.Printed.{value_text};
 ghost use Rattle.bottle_values.specs.refinement.Checked.{number_or_overflow};
+
+mod text;
+mod version;
+
+pub use text::{MAX_TEXT, Text, is_text_byte};
+pub use version::Version;
 
 use std::fmt;
 use std::marker::Model;

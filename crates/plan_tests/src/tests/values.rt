@@ -1,6 +1,6 @@
 ghost use Rattle.std.specs.Prelude.{◌≡◌};
 
-use bottle_values::{Value, ValueFault};
+use bottle_values::{MAX_TEXT, Text, Value, ValueFault, Version};
 use std::test::Fail;
 
 fn value(number: i64) -> Value {
@@ -78,4 +78,36 @@ fn values_and_overflows_are_printed(rt: HostRuntime) -> Result<(), Fail> {
     let overflow = format!(in rt.alloc(); "{}", ValueFault::Overflow)?;
     assert_eq!(rt; overflow.as_str(), "V1 Overflow");
     Ok(())
+}
+
+#[test]
+fn texts_are_visible_bytes(rt: HostRuntime) {
+    for byte in 0..=255 {
+        let stands = (32..=126).contains(&byte) && byte != 34;
+        assert_eq!(rt; Text::of(&[byte]).is_some(), stands, "{byte}");
+    }
+    assert_eq!(rt; Text::of(b""), Some(Text::empty()));
+    let longest = [b'a'; MAX_TEXT];
+    assert_eq!(rt;
+        Text::of(&longest).map(|text| text.as_bytes().len()),
+        Some(64)
+    );
+    assert_eq!(rt; Text::of(&[b'a'; MAX_TEXT + 1]), None);
+}
+
+#[test]
+fn texts_are_joined_up_to_64_bytes(rt: HostRuntime) {
+    let no = Text::of(b"no").expect(&rt, "a text");
+    let yes = Text::of(b"-yes").expect(&rt, "a text");
+    assert_eq!(rt; no.join(yes), Text::of(b"no-yes"));
+    assert_eq!(rt; no.join(Text::empty()), Some(no));
+    assert!(rt; no.equals(no) && !no.equals(yes));
+    let most = Text::of(&[b'a'; MAX_TEXT - 2]).expect(&rt, "a text");
+    assert_eq!(rt; most.join(no).map(|text| text.as_bytes().len()), Some(64));
+    assert_eq!(rt; most.join(yes), None);
+}
+
+#[test]
+fn versions_have_numbers(rt: HostRuntime) {
+    assert_eq!(rt; [Version::One.number(), Version::Two.number()], [1, 2]);
 }
