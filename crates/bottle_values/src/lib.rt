@@ -62,6 +62,9 @@ pub enum ValueFault {
     /// The exact result is below `i64::MIN` or above `i64::MAX`.
     #[error("V1 Overflow")]
     Overflow,
+    /// A text stands where only a number can. No value is a text yet.
+    #[error("V2 Mismatch")]
+    Mismatch,
 }
 
 impl Value {

@@ -45,7 +45,7 @@ fn has_given(end: End, environment: &Environment) -> bool
 {
     match end {
         End::Done => !environment.gives.is_empty(),
-        End::Refused(_) | End::Overflow => false,
+        End::Refused(_) | End::Overflow | End::Mismatch => false,
     }
 }
 
@@ -55,7 +55,7 @@ fn written(alloc: Global, end: End, environment: &mut Environment) -> RecordValu
 {
     match end {
         End::Done => environment.records.take_writes(alloc),
-        End::Refused(_) | End::Overflow => RecordValues::new(alloc),
+        End::Refused(_) | End::Overflow | End::Mismatch => RecordValues::new(alloc),
     }
 }
 

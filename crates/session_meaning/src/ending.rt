@@ -15,6 +15,8 @@ pub enum End {
     Refused(u16),
     /// A result was no i64.
     Overflow,
+    /// A text stood where only a number can.
+    Mismatch,
 }
 
 impl End {
@@ -26,6 +28,7 @@ impl End {
     {
         match fault {
             ValueFault::Overflow => End::Overflow,
+            ValueFault::Mismatch => End::Mismatch,
         }
     }
 }

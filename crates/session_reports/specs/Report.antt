@@ -7,7 +7,7 @@ use Rattle.bottle_values.specs.Operations.{nought}
 use Rattle.bottle_values.specs.Printed.{value_text}
 use Rattle.office_map.specs.PlanValue.{PlanValue}
 use Rattle.session_meaning.specs.declared.ending.End.{End}
-use Rattle.session_meaning.specs.declared.ending.End.TheVariants.{Done, Refused, Overflow}
+use Rattle.session_meaning.specs.declared.ending.End.TheVariants.{Done, Refused, Overflow, Mismatch}
 use Rattle.session_meaning.specs.declared.ending.Outcome.{Outcome}
 use Rattle.session_reports.specs.Names.{office_name, record_name}
 
@@ -15,6 +15,7 @@ abbrev pub end_text : End → List ℕ
 end_text Done = codes "done"
 end_text (Refused code) = codes "refused " ++ decimal code
 end_text Overflow = codes "overflow"
+end_text Mismatch = codes "mismatch"
 
 -- each after a space; of an empty list a -
 abbrev pub listed : {A : Type 0} → (A → List ℕ) → List A → List ℕ

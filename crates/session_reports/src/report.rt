@@ -62,6 +62,7 @@ fn add_end(text: &mut String, end: End) -> Result<(), AllocError>
         End::Done => text.push_str("done"),
         End::Refused(code) => write!(text, "refused {code}"),
         End::Overflow => text.push_str("overflow"),
+        End::Mismatch => text.push_str("mismatch"),
     }
 }
 

@@ -125,6 +125,7 @@ fn describe_ending(text: &mut String, plan: &Plan, ending: &Ending) -> Result<()
         End::Done => text.push_str("done")?,
         End::Refused(code) => write!(text, "refused {code}")?,
         End::Overflow => text.push_str("overflow")?,
+        End::Mismatch => text.push_str("mismatch")?,
     }
     text.push_str(" reads")?;
     describe_records(text, plan, ending.reads.as_slice())?;

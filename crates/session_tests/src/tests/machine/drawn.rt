@@ -257,6 +257,8 @@ impl Seen {
                 let place = 2 * statement + usize::from(walk.at_minus);
                 one_more(&mut self.overflows, place);
             }
+            // Values are numbers here.
+            End::Mismatch => {}
         }
         one_more(&mut self.deepest, walk.deepest as usize);
     }
