@@ -29,12 +29,11 @@ ghost use Rattle.bottle_values.specs.refinement.Checked.{number_or_overflow};
 mod text;
 mod version;
 
-pub use text::{MAX_TEXT, Text, is_text_byte};
-pub use version::Version;
-
 use std::fmt;
 use std::marker::Model;
+pub use text::{MAX_TEXT, Text, is_text_byte};
 use thiserror::Error;
+pub use version::Version;
 
 /// The value of a record. It prints as its number, in decimal.
 ///

@@ -16,7 +16,7 @@ with_values m r (x ∷ xs) = record x { value = m r } ∷ with_values m (suc r) 
 
 -- a plan with other values and another run number, and all else as it was
 abbrev pub carried : PlanValue → ℕ → (ℕ → Value) → PlanValue
-carried p run m = record { run = run; offices = p.offices; pairs = p.pairs; records = with_values m 0 p.records }
+carried p run m = record { version = p.version; run = run; offices = p.offices; pairs = p.pairs; records = with_values m 0 p.records }
 
 -- it starts with these values
 abbrev pub CarriedStartsWith : Type 0

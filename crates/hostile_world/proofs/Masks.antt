@@ -65,7 +65,7 @@ joined h e = h e.first && h e.second
 
 -- the plan of such pairs alone, without records
 abbrev pub table_plan : (ℕ → Bool) → PlanValue → PlanValue
-table_plan h p = record { run = p.run; offices = p.offices; pairs = filter (joined h) p.pairs; records = [] }
+table_plan h p = record { version = p.version; run = p.run; offices = p.offices; pairs = filter (joined h) p.pairs; records = [] }
 
 abbrev pub masked_diner : (ℕ → Bool) → PlanValue → ℕ → Diner → Diner
 masked_diner h p a d = record {

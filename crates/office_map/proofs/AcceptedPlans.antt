@@ -4,6 +4,7 @@ use Rattle.std.specs.Option.{ok_or}
 use Rattle.std.specs.Result.{MatchResult}
 use Rattle.std.proofs.lemmas.Bool.{eqb-false, leb-false, ltb-false, not-false}
 use Rattle.bottle_values.specs.Values.{Value}
+use Rattle.bottle_values.specs.declared.version.Version.TheVariants.{One}
 use Rattle.office_map.specs.declared.entries.OfficeEntry.{OfficeEntry}
 use Rattle.office_map.specs.declared.entries.PairEntry.{PairEntry}
 use Rattle.office_map.specs.declared.entries.RecordEntry.{RecordEntry}
@@ -80,7 +81,7 @@ at_its_line n last low high (Ok q) ok = ok
 at_its_line n last low high (Err rule) ok = (low, high)
 
 -- an empty plan
-pub empty : (run : ℕ) → IsConsistent (record { run = run; offices = []; pairs = []; records = [] })
+pub empty : (run : ℕ) → IsConsistent (record { version = One; run = run; offices = []; pairs = []; records = [] })
 empty run = record {
   offices_fit = omega arith;
   offices_are_named = λ k d lt. absurd (omega arith);
@@ -95,7 +96,7 @@ empty run = record {
   records_fit = λ a b. omega arith;
 }
 
-header_kept : (run : Option ℕ) → Keeps (ok_or run Header >>= λ n. Ok (record { run = n; offices = []; pairs = []; records = [] }))
+header_kept : (run : Option ℕ) → Keeps (ok_or run Header >>= λ n. Ok (record { version = One; run = n; offices = []; pairs = []; records = [] }))
 header_kept None = tt
 header_kept (Some n) = empty n
 

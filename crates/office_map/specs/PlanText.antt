@@ -6,6 +6,7 @@ use Rattle.std.specs.Option.{ok_or}
 use Rattle.std.specs.Result.{MatchResult}
 use Rattle.bottle_values.specs.Values.{Value}
 use Rattle.bottle_values.specs.Values.{Number}
+use Rattle.bottle_values.specs.declared.version.Version.TheVariants.{One}
 use Rattle.office_map.specs.declared.entries.OfficeEntry.{OfficeEntry}
 use Rattle.office_map.specs.declared.fault.PlanRule.{PlanRule}
 use Rattle.office_map.specs.declared.fault.PlanRule.TheVariants.{Header, Line, NameTwice, UnknownName, SelfPair, PairTwice, Limit}
@@ -144,7 +145,7 @@ plain_words line = if list_all is_plain line then Some (words_of line) else None
 unfoldable pub read_header : ℕ × List ℕ → Result PlanValue PlanRefusal
 read_header l = at_line l.0 (do
   run ← ok_or (and_then (plain_words l.1) run_of) Header
-  Ok (record { run = run; offices = []; pairs = []; records = [] }))
+  Ok (record { version = One; run = run; offices = []; pairs = []; records = [] }))
 
 unfoldable pub read_line : PlanValue → ℕ × List ℕ → Result PlanValue PlanRefusal
 read_line p l = at_line l.0 (do

@@ -5,12 +5,14 @@ use Rattle.std.specs.List.{list_any, range_with_len}
 use Rattle.std.specs.Option.{option_map_or}
 use Rattle.std.specs.Str.{bytes_eq}
 use Rattle.bottle_values.specs.Values.{Value}
+use Rattle.bottle_values.specs.declared.version.Version.{Version}
 use Rattle.office_map.specs.declared.entries.OfficeEntry.{OfficeEntry}
 use Rattle.office_map.specs.declared.entries.PairEntry.{PairEntry}
 use Rattle.office_map.specs.declared.entries.RecordEntry.{RecordEntry}
 
--- the run's number, and the offices, pairs and records in the order of their lines
+-- the version, the run's number, and the offices, pairs and records in the order of their lines
 pub record PlanValue : Type 0 where
+  pub version : Version
   pub run : ℕ
   pub offices : List OfficeEntry
   pub pairs : List PairEntry

@@ -9,7 +9,7 @@ use crate::index::{OfficeIndex, index};
 use crate::plan_entries::PlanEntries;
 use crate::precedence::order;
 use crate::read::read_entries;
-use bottle_values::Value;
+use bottle_values::{Value, Version};
 use std::alloc::{AllocError, Global};
 use std::marker::Model;
 use std::sync::Arc;
@@ -94,6 +94,13 @@ impl Plan {
         ensures { IfOk result (λ v. IsLeastFirst self.now v.items) }
     {
         Vec::from_slice(alloc, self.said.order.as_slice())
+    }
+
+    /// The version, whose number stands in every frame of the run.
+    pub fn version(&self) -> Version
+        ensures { result ≡ self.now.version }
+    {
+        self.said.tables.version()
     }
 
     /// The run's number, which stands in every frame.

@@ -15,7 +15,7 @@ use crate::line::Declaration;
 use crate::new_entries::{NewOffice, NewPair, NewRecord};
 use crate::records::RecordTable;
 use crate::word::Word;
-use bottle_values::Value;
+use bottle_values::{Value, Version};
 use std::alloc::Global;
 use std::marker::Model;
 use text_lines::ShortName;
@@ -28,6 +28,7 @@ const PAIR_PLACES: usize = MOST_OFFICES * MOST_OFFICES;
 /// Offices, pairs and records in the order of their lines.
 #[derive(Drop)]
 pub(crate) struct PlanEntries {
+    version: Version,
     run: u32,
     offices: Vec<OfficeEntry>,
     pairs: Vec<PairEntry>,
@@ -45,9 +46,9 @@ impl Model for PlanEntries {
 
     ghost Value = { PlanValue };
 
-    ghost view = { λ t. record { run = t.run; offices = t.offices.items; pairs = t.pairs.items; records = t.records } };
+    ghost view = { λ t. record { version = t.version; run = t.run; offices = t.offices.items; pairs = t.pairs.items; records = t.records } };
 
-    ghost invariant = { λ t. IsConsistent (record { run = t.run; offices = t.offices.items; pairs = t.pairs.items; records = t.records }) × CountsRecords t.records t.counts × MarksPairs t.pairs.items t.joined };
+    ghost invariant = { λ t. IsConsistent (record { version = t.version; run = t.run; offices = t.offices.items; pairs = t.pairs.items; records = t.records }) × CountsRecords t.records t.counts × MarksPairs t.pairs.items t.joined };
 }
 
 impl PlanEntries {
@@ -58,11 +59,14 @@ impl PlanEntries {
     ghost use Rattle.office_map.specs.refinement.PlanReader.{seen, Fails};
     ghost use Rattle.bottle_values.specs.Memory.{UnlessMemory};
     ghost use Rattle.office_map.specs.Consistency.{IsConsistent};
+    ghost use Rattle.bottle_values.specs.declared.version.Version.TheVariants as versions;
 
+    /// Of version 1.
     pub fn new(alloc: Global, run: u32) -> PlanEntries
-        ensures { result ≡ record { run = run; offices = []; pairs = []; records = [] } }
+        ensures { result ≡ record { version = versions.One; run = run; offices = []; pairs = []; records = [] } }
     {
         PlanEntries {
+            version: Version::One,
             run,
             offices: Vec::new(alloc),
             pairs: Vec::new(alloc),
@@ -70,6 +74,12 @@ impl PlanEntries {
             counts: [0; PAIR_PLACES],
             joined: [false; PAIR_PLACES],
         }
+    }
+
+    pub fn version(&self) -> Version
+        ensures { result ≡ self.now.version }
+    {
+        self.version
     }
 
     pub fn run(&self) -> u32
