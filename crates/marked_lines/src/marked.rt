@@ -49,25 +49,29 @@ fn cut<'a>(left: &mut Marked<'a>) -> &'a [u8]
     ensures shorter { left.new.end < left.old.end }
     ensures words { words_of (take left.old.end left.old.text.now) ≡ put_before result.now (words_of (take left.new.end left.new.text.now)) }
 {
-    if left.low == 0 && left.seen < left.end {
-        return cut_unmarked(left);
+    if left.low == 0 {
+        let (word, rest) = cut_unmarked(*left);
+        *left = rest;
+        return word;
     }
     let at = marked_place(*left);
     cut_at(left, at)
 }
 
-/// The same, where no mark tells the place: the text is looked at again.
+/// The same of a line of which no mark is left: the text is looked at again. By value, so that the marks of other lines needn't stand
+/// in memory.
 #[inline(never)]
-fn cut_unmarked<'a>(left: &mut Marked<'a>) -> &'a [u8]
-    requires marked { IsMarked left.old.text.now left.old.end left.old.low left.old.seen }
-    requires some { 0 < left.old.end }
-    ensures marked { IsMarked left.new.text.now left.new.end left.new.low left.new.seen }
-    ensures shorter { left.new.end < left.old.end }
-    ensures words { words_of (take left.old.end left.old.text.now) ≡ put_before result.now (words_of (take left.new.end left.new.text.now)) }
+fn cut_unmarked<'a>(line: Marked<'a>) -> (&'a [u8], Marked<'a>)
+    requires marked { IsMarked line.text.now line.end line.low line.seen }
+    requires some { 0 < line.end }
+    ensures marked { IsMarked result.1.text.now result.1.end result.1.low result.1.seen }
+    ensures shorter { result.1.end < line.entry.end }
+    ensures words { words_of (take line.entry.end line.entry.text.now) ≡ put_before result.0.now (words_of (take result.1.end result.1.text.now)) }
 {
-    *left = look(left.text, left.end);
-    let at = place(*left);
-    cut_at(left, at)
+    let mut left = look(line.text, line.end);
+    let at = place(left);
+    let word = cut_at(&mut left, at);
+    (word, left)
 }
 
 /// The bytes before the line's first blank, where that has this place.
