@@ -17,7 +17,9 @@ use std::sync::Wait;
 use std::test::Fail;
 
 mod caller;
+mod failing_wires;
 mod full_journal;
+mod resends;
 mod sockets;
 
 /// Two offices, and two records of theirs.
@@ -27,20 +29,6 @@ const PAIR: &str =
 /// A session of each: one moves 30 from one record to the other, and one moves them back.
 const SESSIONS: &str =
     "session a\nset x = read x - 30\nset y = read y + 30\nend\nsession b\nset x = read x + 30\nset y = read y - 30\nend\n";
-
-/// An office between two others, with a record of each.
-const STAR: &str =
-    "plan 1 run 42\noffice a -\noffice b -\noffice c -\npair a b fork a\npair a c fork a\nrecord x a b 100 at a\nrecord y a c 0 at c\n";
-
-/// A session of the middle one, for which the third has to give its bottle, and one of the second, for which the middle one has to.
-const STAR_SESSIONS: &str =
-    "session a\nset y = read y + 1\nend\nsession b\nset x = read x - 30\nend\n";
-
-/// Two records that the second office has, and a session of the first for which it has to give both.
-const TWO_RECORDS: &str =
-    "plan 1 run 42\noffice a -\noffice b -\npair a b fork a\nrecord x a b 0 at b\nrecord y a b 0 at b\n";
-
-const TWO_RECORDS_SESSION: &str = "session a\nset x = read x + 1\nset y = read y + 1\nend\n";
 
 /// An office with its pump.
 #[derive(Drop)]
@@ -256,14 +244,6 @@ impl Both {
             &mut self.wire_a.wire,
         )
     }
-
-    /// The first sent two frames in each of four turns. Of all these one comes to the second.
-    fn first_of_the_fourth_comes(&mut self) -> Result<(), Fail> {
-        match self.wire_a.wire.accepted().get(6) {
-            Some(sent) => Ok(self.wire_b.wire.comes(sent.1.bytes())?),
-            None => Err(Fail::from("a frame")),
-        }
-    }
 }
 
 #[derive(Clone, Copy)]
@@ -285,34 +265,6 @@ static RESTS: [Turned; 3] = [
     Turned(Who::B, 0, [1, 0, 0, 0], false),
     Turned(Who::A, 1000, [0, 0, 0, 0], false),
     Turned(Who::B, 1000, [0, 0, 0, 0], false),
-];
-
-static SENDS_AGAIN: [Turned; 8] = [
-    Turned(Who::A, 7, [0, 0, 4, 1], false),
-    Turned(Who::A, 56, [0, 0, 0, 0], false),
-    Turned(Who::A, 57, [0, 0, 0, 1], true),
-    Turned(Who::B, 57, [2, 0, 1, 1], false),
-    Turned(Who::A, 156, [0, 0, 0, 0], false),
-    Turned(Who::A, 157, [0, 0, 0, 1], true),
-    Turned(Who::B, 60, [1, 0, 0, 1], true),
-    Turned(Who::A, 157, [2, 0, 4, 1], false),
-];
-
-/// When a message goes out again that went out first at 1000 and is never answered.
-static GOES_OUT_AT: [u64; 10] = [
-    1050, 1150, 1350, 1750, 2550, 4150, 7350, 12350, 17350, 22350,
-];
-
-/// How many frames go out at what time, when one of two messages that went out last at 350 is known to be taken since 360.
-static GOES_OUT_AFTER: [(u64, u32); 8] = [
-    (399, 0),
-    (400, 1),
-    (449, 0),
-    (450, 1),
-    (549, 0),
-    (550, 1),
-    (749, 0),
-    (750, 1),
 ];
 
 fn take_turns<R: Wait + Abort>(rt: &R, both: &mut Both, turns: &[Turned]) -> Result<(), Fail> {
@@ -344,89 +296,6 @@ fn crosses<R: Wait + Abort>(rt: &R, both: &mut Both, programs: &[Program]) -> Re
     take_turns(rt, both, &RESTS)
 }
 
-/// A message that isn't answered goes out again after 50 milliseconds, then after 100, and not before; one that comes twice is
-/// answered by a count where no message is due.
-#[test]
-fn a_message_goes_out_again(rt: HostRuntime) -> Result<(), Fail> {
-    let programs = programs(rt.alloc())?;
-    let mut both = open_both(rt.alloc())?;
-    goes_out_again(&rt, &mut both, &programs)
-}
-
-fn goes_out_again<R: Wait + Abort>(
-    rt: &R,
-    both: &mut Both,
-    programs: &[Program],
-) -> Result<(), Fail> {
-    let Some(program) = programs.get(0) else {
-        return Err(Fail::from("a session"));
-    };
-    assert_eq!(rt; submit(rt, &mut both.a, program), Some(1));
-    take_turns(rt, both, &SENDS_AGAIN)?;
-    assert_eq!(rt; value_after(rt, &mut both.a, 1), Some(70));
-    Ok(())
-}
-
-/// How many frames go out in the first office's turn at that time.
-fn sent_at<R: Wait>(rt: &R, both: &mut Both, now: u64) -> Result<u32, Fail> {
-    match both.turn_a(rt, now) {
-        Ok(turn) => Ok(turn.sent),
-        Err(_) => Err(Fail::from("a turn")),
-    }
-}
-
-/// A message that is never answered goes out again after 50 milliseconds, 100, 200 and so on, at last each 5 seconds, and at no
-/// other time.
-#[test]
-fn resends_back_off(rt: HostRuntime) -> Result<(), Fail> {
-    let programs = programs(rt.alloc())?;
-    let mut both = open_both(rt.alloc())?;
-    back_off(&rt, &mut both, &programs)
-}
-
-fn back_off<R: Wait + Abort>(rt: &R, both: &mut Both, programs: &[Program]) -> Result<(), Fail> {
-    let Some(program) = programs.get(0) else {
-        return Err(Fail::from("a session"));
-    };
-    assert_eq!(rt; submit(rt, &mut both.a, program), Some(1));
-    assert_eq!(rt; sent_at(rt, both, 1000)?, 1);
-    for at in GOES_OUT_AT.iter() {
-        assert_eq!(rt; sent_at(rt, both, *at - 1)?, 0, "just before {at}");
-        assert_eq!(rt; sent_at(rt, both, *at)?, 1, "at {at}");
-    }
-    Ok(())
-}
-
-/// Of two messages the first is taken at last. Once that is known, the second goes out as often as a new one.
-#[test]
-fn an_answer_ends_the_back_off(rt: HostRuntime) -> Result<(), Fail> {
-    let programs = programs_of(rt.alloc(), TWO_RECORDS, TWO_RECORDS_SESSION)?;
-    let mut both = open_both_of(rt.alloc(), TWO_RECORDS)?;
-    one_is_answered(&rt, &mut both, &programs)
-}
-
-fn one_is_answered<R: Wait + Abort>(
-    rt: &R,
-    both: &mut Both,
-    programs: &[Program],
-) -> Result<(), Fail> {
-    let Some(program) = programs.get(0) else {
-        return Err(Fail::from("a session"));
-    };
-    assert_eq!(rt; submit(rt, &mut both.a, program), Some(1));
-    for now in [0, 50, 150, 350] {
-        assert_eq!(rt; sent_at(rt, both, now)?, 2, "at {now}");
-    }
-    both.first_of_the_fourth_comes()?;
-    assert_eq!(rt; broke_off(both.turn_b(rt, 350))?, 0);
-    both.carry_back()?;
-    assert_eq!(rt; broke_off(both.turn_a(rt, 360))?, 0);
-    for (now, sent) in GOES_OUT_AFTER.iter() {
-        assert_eq!(rt; sent_at(rt, both, *now)?, *sent, "at {now}");
-    }
-    Ok(())
-}
-
 /// Of 33 datagrams one stays for the next turn.
 #[test]
 fn the_last_datagram_stays(rt: HostRuntime) -> Result<(), Fail> {
@@ -442,88 +311,6 @@ fn stays<R: Wait + Abort>(rt: &R, both: &mut Both) -> Result<(), Fail> {
     assert_eq!(rt; both.turn_a(rt, 0), did([0, 1, 0, 0]));
     assert_eq!(rt; both.turn_a(rt, 0), did([0, 0, 0, 0]));
     Ok(())
-}
-
-/// A wire that fails once, at whichever call, breaks off the turn in which it does and no other, and the session finishes.
-#[test]
-fn a_wire_fails_at_each_call(rt: HostRuntime) -> Result<(), Fail> {
-    let programs = programs(rt.alloc())?;
-    let calls = fail_at_each(&rt, rt.alloc(), &programs, Who::A)?;
-    assert!(rt; calls > 15, "a's calls: {calls}");
-    let calls = fail_at_each(&rt, rt.alloc(), &programs, Who::B)?;
-    assert!(rt; calls > 15, "b's calls: {calls}");
-    Ok(())
-}
-
-/// Each call of its wire fails, in a run of its own, up to one that isn't made. How many were made.
-fn fail_at_each<R: Wait + Abort>(
-    rt: &R,
-    alloc: Global,
-    programs: &[Program],
-    who: Who,
-) -> Result<u64, Fail> {
-    for call in 0..100 {
-        let (failed, value) = fails_at(rt, alloc, programs, who, call)?;
-        assert_eq!(rt; value, Some(70), "call {call}");
-        if failed == 0 {
-            return Ok(call);
-        }
-        assert_eq!(rt; failed, 1, "call {call}");
-    }
-    Err(Fail::from("fewer calls"))
-}
-
-fn fails_at<R: Wait>(
-    rt: &R,
-    alloc: Global,
-    programs: &[Program],
-    who: Who,
-    call: u64,
-) -> Result<(u32, Option<i64>), Fail> {
-    let (calls_a, calls_b) = match who {
-        Who::A => (call, NEVER),
-        Who::B => (NEVER, call),
-    };
-    let mut both = open_failing(alloc, PAIR, calls_a, calls_b)?;
-    goes_on(rt, &mut both, programs)
-}
-
-/// In how many turns of thirty the wire failed, and what the session left.
-fn goes_on<R: Wait>(
-    rt: &R,
-    both: &mut Both,
-    programs: &[Program],
-) -> Result<(u32, Option<i64>), Fail> {
-    let Some(program) = programs.get(0) else {
-        return Err(Fail::from("a session"));
-    };
-    let Some(ticket) = submit(rt, &mut both.a, program) else {
-        return Err(Fail::from("a ticket"));
-    };
-    let mut failed = 0;
-    for round in 0..15u64 {
-        failed = failed_in(rt, &mut both.a, &mut both.wire_a, round * 50)?.saturating_add(failed);
-        both.carry()?;
-        failed = failed_in(rt, &mut both.b, &mut both.wire_b, round * 50)?.saturating_add(failed);
-        both.carry()?;
-    }
-    Ok((failed, value_after(rt, &mut both.a, ticket)))
-}
-
-/// 1 where the wire failed in the turn: it breaks off just then.
-fn failed_in<R: Wait>(
-    rt: &R,
-    side: &mut Side,
-    wire: &mut FaultWire<MemoryWire>,
-    now: u64,
-) -> Result<u32, Fail> {
-    let before = wire.left.is_some();
-    let broke = broke_off(turn(rt, side, wire, now))?;
-    let fails = before && wire.left.is_none();
-    if broke != u32::from(fails) {
-        return Err(Fail::from("a turn that breaks off where its wire fails"));
-    }
-    Ok(broke)
 }
 
 /// 1 where the wire failed.
@@ -590,39 +377,4 @@ fn round<R: Wait>(rt: &R, both: &mut Both) -> Result<(), Fail> {
         both.carry()?;
     }
     Ok(())
-}
-
-/// Of the middle of three offices each frame for the third is lost. It sends them on and on, ever more seldom though the second
-/// answers, and serves the second.
-#[test]
-fn a_neighbour_gets_no_frame(rt: HostRuntime) -> Result<(), Fail> {
-    let programs = programs_of(rt.alloc(), STAR, STAR_SESSIONS)?;
-    let mut both = open_both_of(rt.alloc(), STAR)?;
-    one_gets_no_frame(&rt, &mut both, &programs)
-}
-
-fn one_gets_no_frame<R: Wait + Abort>(
-    rt: &R,
-    both: &mut Both,
-    programs: &[Program],
-) -> Result<(), Fail> {
-    let (Some(first), Some(second)) = (programs.get(0), programs.get(1)) else {
-        return Err(Fail::from("sessions"));
-    };
-    assert_eq!(rt; submit(rt, &mut both.a, first), Some(1));
-    assert_eq!(rt; submit(rt, &mut both.b, second), Some(1));
-    for now in [0, 50, 100, 150] {
-        assert_eq!(rt; broke_off(both.turn_a(rt, now))?, 0);
-        both.carry()?;
-        assert_eq!(rt; broke_off(both.turn_b(rt, now))?, 0);
-        both.carry()?;
-    }
-    assert_eq!(rt; value_after(rt, &mut both.b, 1), Some(70));
-    assert_eq!(rt; value_after(rt, &mut both.a, 1), None);
-    assert_eq!(rt; frames_to(&both.wire_a.wire, OfficeId::new(2)), 3);
-    Ok(())
-}
-
-fn frames_to(wire: &MemoryWire, v: OfficeId) -> usize {
-    wire.accepted().iter().filter(|sent| sent.0 == v).count()
 }
