@@ -2,7 +2,7 @@
 use Rattle.std.proofs.Common.{◌≡◌, ◌≢◌, ℕ, List, [], ◌∷◌, ◌++◌, length, Option, Some, None, Ok, refl, sym, ap, subst, arith}
 use Rattle.office_map.specs.PlanValue.{PlanValue}
 use Rattle.office_map.specs.PlanText.{and_then}
-use Rattle.marked_lines.specs.Words.{plain_words}
+use Rattle.text_lines.specs.Text.{plain_words}
 use Rattle.session_meaning.specs.ProgramValue.{ProgramValue}
 use Rattle.frame_codec.specs.Frame.{Fields}
 use Rattle.office_journal.specs.declared.event.Event.TheVariants as event

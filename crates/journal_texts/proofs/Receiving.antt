@@ -3,8 +3,7 @@ use Rattle.std.proofs.Common.{◌≡◌, ◌≤◌, ◌<◌, ◌+◌, ℕ, List,
 use Rattle.std.specs.Prelude.{IfOk, IfErr}
 use Rattle.office_map.specs.PlanValue.{PlanValue}
 use Rattle.office_map.specs.PlanText.{and_then}
-use Rattle.text_lines.specs.Text.{statements}
-use Rattle.marked_lines.specs.Words.{plain_words}
+use Rattle.text_lines.specs.Text.{statements, plain_words}
 use Rattle.office_journal.specs.declared.event.Entry.{Entry}
 use Rattle.journal_texts.specs.declared.fault.JournalRule.{JournalRule}
 use Rattle.journal_texts.specs.declared.fault.JournalFault.{JournalFault}

@@ -4,7 +4,8 @@ use Rattle.std.specs.Prelude.{if◌then◌else◌, ◌==◌}
 use Rattle.std.specs.Option.{ok_or}
 use Rattle.std.proofs.lemmas.List.Quantifiers.{position-Some}
 use Rattle.office_map.specs.PlanValue.{PlanValue, office_named}
-use Rattle.office_map.specs.PlanText.{and_then, plain_words}
+use Rattle.office_map.specs.PlanText.{and_then}
+use Rattle.text_lines.specs.Text.{plain_words}
 use Rattle.office_map.specs.declared.entries.OfficeEntry.{OfficeEntry}
 use Rattle.journal_texts.specs.declared.fault.JournalRule.{JournalRule}
 use Rattle.journal_texts.specs.declared.fault.JournalRule.TheVariants.{Journal, JournalHeader}

@@ -3,8 +3,8 @@ use Rattle.std.specs.Prelude.{◌≡◌, ℕ, List, [], ◌∷◌, ◌++◌, map
 use Rattle.std.specs.Option.{ok_or}
 use Rattle.std.specs.Str.{bytes_eq}
 use Rattle.office_map.specs.PlanValue.{PlanValue, office_named}
-use Rattle.text_lines.specs.Text.{name_of, number_of, statements}
-use Rattle.office_map.specs.PlanText.{and_then, plain_words}
+use Rattle.text_lines.specs.Text.{name_of, number_of, statements, plain_words}
+use Rattle.office_map.specs.PlanText.{and_then}
 use Rattle.office_journal.specs.declared.event.Entry.{Entry}
 use Rattle.journal_texts.specs.declared.fault.JournalRule.{JournalRule}
 use Rattle.journal_texts.specs.declared.fault.JournalRule.TheVariants.{Journal, JournalHeader}

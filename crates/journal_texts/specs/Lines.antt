@@ -4,8 +4,8 @@ use Rattle.std.specs.Str.{bytes_eq}
 use Rattle.frame_codec.specs.Frame.{Fields}
 use Rattle.frame_codec.specs.Version01.{Spells}
 use Rattle.office_map.specs.PlanValue.{PlanValue}
-use Rattle.text_lines.specs.Text.{number_of}
-use Rattle.office_map.specs.PlanText.{and_then, plain_words}
+use Rattle.text_lines.specs.Text.{number_of, plain_words}
+use Rattle.office_map.specs.PlanText.{and_then}
 use Rattle.session_meaning.specs.ProgramValue.{ProgramValue}
 use Rattle.session_language.specs.declared.fault.SessionRefusal.{SessionRefusal}
 use Rattle.session_language.specs.Reading.{sessions_of}

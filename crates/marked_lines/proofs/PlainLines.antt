@@ -6,9 +6,8 @@ use Rattle.std.proofs.lemmas.Bool.{and_parts, and_from}
 use Rattle.std.proofs.lemmas.Bool.Decides.{nat_tests}
 use Rattle.std.proofs.lemmas.List.{length-take-le}
 use Rattle.std.proofs.lemmas.List.Sums.{position_or_len_is}
-use Rattle.text_lines.specs.Text.{lines, is_newline, is_plain, says_something, statements_from, words_of}
+use Rattle.text_lines.specs.Text.{lines, is_newline, is_plain, plain_words, says_something, statements_from, words_of}
 use Rattle.text_lines.specs.TextLaws.{lines_cut}
-use Rattle.marked_lines.specs.Words.{plain_words}
 use Rattle.marked_lines.specs.refinement.Marks.{is_printable, BeginsPlain}
 
 all_of : (p : ℕ → Bool) (n : ℕ) (xs : List ℕ) → n ≤ length xs → ((k : ℕ) → k < n → p (get_or xs k 0) ≡ true) → list_all p (take n xs) ≡ true

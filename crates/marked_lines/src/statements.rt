@@ -1,8 +1,7 @@
 //! The lines of a text that say something, each with its words.
 
 ghost use Rattle.std.specs.Prelude.{◌≡◌, ◌∷◌, [], ◌<◌, ◌+◌, ◌^◌, ℕ, length, take, drop, MatchOption, OnSome, IfSome};
-ghost use Rattle.text_lines.specs.Text.{statements_from, lines};
-ghost use Rattle.marked_lines.specs.Words.{plain_words};
+ghost use Rattle.text_lines.specs.Text.{statements_from, lines, plain_words};
 ghost use Rattle.marked_lines.specs.refinement.Marks.{BeginsPlain};
 
 use crate::marks::printable_run;

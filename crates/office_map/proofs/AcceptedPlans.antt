@@ -14,10 +14,10 @@ use Rattle.office_map.specs.declared.fault.PlanRefusal.{PlanRefusal}
 use Rattle.office_map.specs.declared.fault.PlanFault.{PlanFault}
 use Rattle.office_map.specs.declared.fault.PlanFault.TheVariants.{Memory, Refused, Ring}
 use Rattle.office_map.specs.PlanValue.{PlanValue, office_named, record_named, are_neighbours, records_between, with_office, with_pair, with_record}
-use Rattle.office_map.specs.PlanText.{◌>>=◌, ◌>>◌, refuse_if, Declaration, AnOffice, APair, ARecord, is_address_taken, declare, office_of, pair_of, record_of, value_of, declaration_of, at_line, and_then, plain_words, run_of, read_header, read_line, read_lines, read_statements, plan_of, IsLineOf, IfRefused}
+use Rattle.office_map.specs.PlanText.{◌>>=◌, ◌>>◌, refuse_if, Declaration, AnOffice, APair, ARecord, is_address_taken, declare, office_of, pair_of, record_of, value_of, declaration_of, at_line, and_then, run_of, read_header, read_line, read_lines, read_statements, plan_of, IsLineOf, IfRefused}
 use Rattle.std.specs.Str.{bytes_eq}
 use Rattle.office_map.specs.Address.{address_of_word}
-use Rattle.text_lines.specs.Text.{is_name, name_of, lines, says_something, statements_from, statements}
+use Rattle.text_lines.specs.Text.{is_name, name_of, lines, says_something, statements_from, statements, plain_words}
 use Rattle.office_map.specs.Consistency.{IsConsistent, IsComplete, ReadsCompletePlans}
 use Rattle.office_map.proofs.ConsistencyKept.{none_found, is_office, office_consistent, pair_consistent, record_consistent}
 use Rattle.office_map.specs.refinement.PlanReader.{Fails}

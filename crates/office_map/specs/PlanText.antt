@@ -1,6 +1,6 @@
 -- Which plan the lines of a text mean, and which is their first fault.
 use Rattle.std.specs.Prelude.{◌≡◌, ℕ, ◌^◌, ◌≤◌, ◌⊎◌, List, [], ◌∷◌, ◌++◌, length, Bool, not, ◌&&◌, ◌||◌, ◌==◌, nat_lt, nat_le, Option, Some, None, Result, Ok, Err, if◌then◌else◌, codes, is_some, option_map, ℤ, pos, neg_ℤ}
-use Rattle.std.specs.List.{list_any, list_all}
+use Rattle.std.specs.List.{list_any}
 use Rattle.std.specs.Str.{bytes_eq}
 use Rattle.std.specs.Option.{ok_or}
 use Rattle.std.specs.Result.{MatchResult}
@@ -16,7 +16,7 @@ use Rattle.office_map.specs.declared.ring.Ring as rings
 use Rattle.office_map.specs.declared.fault.PlanFault.TheVariants.{Memory, Refused, Ring}
 use Rattle.office_map.specs.PlanValue.{PlanValue, office_named, record_named, are_neighbours, records_between, with_office, with_pair, with_record, no_address}
 use Rattle.office_map.specs.Precedence.{IsNamedRing, HasOrder}
-use Rattle.text_lines.specs.Text.{name_of, is_plain, number_of, words_of, lines, statements}
+use Rattle.text_lines.specs.Text.{name_of, plain_words, number_of, lines, statements}
 use Rattle.office_map.specs.Address.{address_of_word}
 use Rattle.office_map.specs.Limits.{most_offices, most_pair_records, most_text}
 
@@ -137,10 +137,6 @@ declare p (ARecord name a b value at_first) = do
 abbrev pub at_line : {A : Type 0} → ℕ → Result A PlanRule → Result A PlanRefusal
 at_line n (Ok x) = Ok x
 at_line n (Err rule) = Err (record { rule = rule; line = n })
-
--- the words of a line of plain bytes
-abbrev pub plain_words : List ℕ → Option (List (List ℕ))
-plain_words line = if list_all is_plain line then Some (words_of line) else None
 
 unfoldable pub read_header : ℕ × List ℕ → Result PlanValue PlanRefusal
 read_header l = at_line l.0 (do

@@ -1,8 +1,8 @@
 //! The tables of a plan, from its text.
 
 ghost use Rattle.std.specs.Prelude.{◌≡◌, ◌<◌, ◌+◌, ◌^◌, length, map, option_map, IfOk};
-ghost use Rattle.text_lines.specs.Text.{lines, statements_from};
-ghost use Rattle.office_map.specs.PlanText.{plan_of, plain_words, read_line, read_lines, read_header};
+ghost use Rattle.text_lines.specs.Text.{lines, statements_from, plain_words};
+ghost use Rattle.office_map.specs.PlanText.{plan_of, read_line, read_lines, read_header};
 ghost use Rattle.office_map.specs.refinement.PlanReader.{Fails};
 ghost use Rattle.bottle_values.specs.Memory.{UnlessMemory};
 

@@ -13,8 +13,8 @@ use Rattle.office_map.specs.declared.fault.PlanRefusal.{PlanRefusal}
 use Rattle.office_map.specs.Address.{is_address, address_of_word}
 use Rattle.office_map.specs.Limits.{most_text}
 use Rattle.office_map.specs.PlanValue.{PlanValue, office_named, record_named, are_neighbours, records_between, with_office, with_pair, with_record}
-use Rattle.office_map.specs.PlanText.{◌>>=◌, ◌>>◌, refuse_if, Declaration, AnOffice, APair, ARecord, is_address_taken, declare, office_of, pair_of, record_of, value_of, declaration_of, at_line, and_then, plain_words, run_of, read_header, read_line, read_lines, read_statements, plan_of}
-use Rattle.text_lines.specs.Text.{name_of, statements}
+use Rattle.office_map.specs.PlanText.{◌>>=◌, ◌>>◌, refuse_if, Declaration, AnOffice, APair, ARecord, is_address_taken, declare, office_of, pair_of, record_of, value_of, declaration_of, at_line, and_then, run_of, read_header, read_line, read_lines, read_statements, plan_of}
+use Rattle.text_lines.specs.Text.{name_of, statements, plain_words}
 use Rattle.plan_texts.specs.WrittenPlans.{HasAddresses, PlansOfTextsHaveAddresses}
 
 abbrev Keeps : Result PlanValue PlanRule → Type 0

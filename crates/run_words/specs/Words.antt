@@ -2,8 +2,8 @@
 use Rattle.std.specs.Prelude.{◌≡◌, ℕ, List, ◌&&◌, nat_lt, nat_le, Bool, true, Option, Some, None, if◌then◌else◌, length}
 use Rattle.std.specs.List.{list_all, join_with_byte}
 use Rattle.office_map.specs.PlanValue.{PlanValue, office_named, record_named}
-use Rattle.text_lines.specs.Text.{name_of, number_of}
-use Rattle.office_map.specs.PlanText.{and_then, plain_words}
+use Rattle.text_lines.specs.Text.{name_of, number_of, plain_words}
+use Rattle.office_map.specs.PlanText.{and_then}
 pub use Rattle.session_reports.specs.Names.{office_name, record_name}
 
 -- the office that a word names

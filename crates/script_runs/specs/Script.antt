@@ -4,8 +4,8 @@ use Rattle.std.specs.Prelude.{◌≡◌, ℕ, ◌-◌, ◌<◌, ◌≤◌, ◌�
 use Rattle.std.specs.List.{filter_map}
 use Rattle.std.specs.Str.{bytes_eq}
 use Rattle.office_map.specs.PlanValue.{PlanValue}
-use Rattle.text_lines.specs.Text.{number_of, statements}
-use Rattle.office_map.specs.PlanText.{and_then, plain_words}
+use Rattle.text_lines.specs.Text.{number_of, statements, plain_words}
+use Rattle.office_map.specs.PlanText.{and_then}
 use Rattle.session_meaning.specs.ProgramValue.{ProgramValue}
 use Rattle.office_journal.specs.declared.rule.Rule.{Rule}
 use Rattle.run_words.specs.Words.{office_by, count_by}

@@ -55,6 +55,10 @@ number_of word =
 abbrev pub is_plain : ℕ → Bool
 is_plain b = b == 9 || (nat_le 32 b && nat_le b 126)
 
+-- the words of a line of such bytes
+abbrev pub plain_words : List ℕ → Option (List (List ℕ))
+plain_words line = if list_all is_plain line then Some (words_of line) else None
+
 -- neither blank nor a comment: the first byte other than a space or tab is there, and is no #
 abbrev pub says_something : List ℕ → Bool
 says_something [] = false
