@@ -34,6 +34,7 @@ consistent_there h p c = record {
   offices_fit = c.offices_fit;
   offices_are_named = c.offices_are_named;
   office_names = c.office_names;
+  offices_have_addresses = c.offices_have_addresses;
   addresses = c.addresses;
   ends_are_offices = All-filter (joined h) (λ (pair : PairEntry). (pair.first < length p.offices) × (pair.second < length p.offices)) p.pairs c.ends_are_offices;
   ends_differ = All-filter (joined h) (λ (pair : PairEntry). pair.first ≢ pair.second) p.pairs c.ends_differ;

@@ -16,7 +16,7 @@ use Rattle.office_map.specs.declared.fault.PlanFault.TheVariants.{Memory, Refuse
 use Rattle.office_map.specs.PlanValue.{PlanValue, office_named, record_named, are_neighbours, records_between, with_office, with_pair, with_record}
 use Rattle.office_map.specs.PlanText.{◌>>=◌, ◌>>◌, refuse_if, Declaration, AnOffice, APair, ARecord, is_address_taken, declare, office_of, pair_of, record_of, value_of, declaration_of, at_line, and_then, run_of, read_header, read_line, read_lines, read_statements, plan_of, IsLineOf, IfRefused}
 use Rattle.std.specs.Str.{bytes_eq}
-use Rattle.office_map.specs.Address.{address_of_word}
+use Rattle.office_map.specs.Address.{is_address, address_of_word}
 use Rattle.text_lines.specs.Text.{is_name, name_of, lines, says_something, statements_from, statements, plain_words}
 use Rattle.office_map.specs.Consistency.{IsConsistent, IsComplete, ReadsCompletePlans}
 use Rattle.office_map.proofs.ConsistencyKept.{none_found, is_office, office_consistent, pair_consistent, record_consistent}
@@ -55,16 +55,16 @@ record_kept (Some x) (Some y) apart named full q h = by_tests (apart x y) named 
     by_tests false false true d e g = tt
     by_tests false false false d e g = h x y d e g
 
--- what a line declares has a name
+-- what a line declares has a name, and an office an address
 abbrev IsNamed : Declaration → Type 0
-IsNamed (AnOffice name address) = is_name name ≡ true
+IsNamed (AnOffice name address) = (is_name name ≡ true) × (is_address address ≡ true)
 IsNamed (APair a b at_first) = Unit {0}
 IsNamed (ARecord name a b value at_first) = is_name name ≡ true
 
 declare_keeps : (p : PlanValue) (d : Declaration) → IsConsistent p → IsNamed d → Keeps (declare p d)
 declare_keeps p (AnOffice name address) ok named =
     let o : OfficeEntry = record { name = name; address = address } in
-    office_kept p (with_office p o) (is_some (office_named p name)) (is_address_taken p address) (nat_le 16 (length p.offices)) (λ fresh free room. office_consistent p o ok named (none_found _ fresh) free (leb-false 16 (length p.offices) room))
+    office_kept p (with_office p o) (is_some (office_named p name)) (is_address_taken p address) (nat_le 16 (length p.offices)) (λ fresh free room. office_consistent p o ok named.0 named.1 (none_found _ fresh) free (leb-false 16 (length p.offices) room))
 declare_keeps p (APair a b at_first) ok named =
     let pair : ℕ → ℕ → PairEntry = λ x y. record { first = x; second = y; fork_at_first = at_first } in
     pair_kept (office_named p a) (office_named p b) (λ x y. eqb x y) (λ x y. are_neighbours p x y) (λ x y. with_pair p (pair x y)) (λ x y e f apart fresh. pair_consistent p (pair x y) ok (is_office p a x e) (is_office p b y f) (eqb-false x y apart) fresh)
@@ -86,6 +86,7 @@ empty run = record {
   offices_fit = omega arith;
   offices_are_named = λ k d lt. absurd (omega arith);
   office_names = λ i j d lt short. absurd (omega arith);
+  offices_have_addresses = λ k d lt. absurd (omega arith);
   addresses = λ i j d lt short. absurd (omega arith);
   ends_are_offices = λ k d lt. absurd (omega arith);
   ends_differ = λ k d lt. absurd (omega arith);
@@ -116,10 +117,18 @@ named_by false word h = tt
 named : (word : List ℕ) → IfSome (name_of word) (λ name. is_name name ≡ true)
 named word = named_by (is_name word) word refl
 
-office_named_so : (name address : Option (List ℕ)) → IfSome name (λ n. is_name n ≡ true) → IfSome (office_of name address) IsNamed
-office_named_so (Some name) (Some address) h = h
-office_named_so (Some name) None h = tt
-office_named_so None address h = tt
+-- and one that is taken for an address is one
+addressed_by : (b : Bool) (word : List ℕ) → is_address word ≡ b → IfSome (if b then Some word else None) (λ address. is_address address ≡ true)
+addressed_by true word h = h
+addressed_by false word h = tt
+
+addressed : (word : List ℕ) → IfSome (address_of_word word) (λ address. is_address address ≡ true)
+addressed word = addressed_by (is_address word) word refl
+
+office_named_so : (name address : Option (List ℕ)) → IfSome name (λ n. is_name n ≡ true) → IfSome address (λ a. is_address a ≡ true) → IfSome (office_of name address) IsNamed
+office_named_so (Some name) (Some address) h a = (h, a)
+office_named_so (Some name) None h a = tt
+office_named_so None address h a = tt
 
 pair_named_so : (a b : Option (List ℕ)) (at_first : Bool) → IfSome (pair_of a b at_first) IsNamed
 pair_named_so (Some a) (Some b) at_first = tt
@@ -141,7 +150,7 @@ declared_named : (words : List (List ℕ)) → IfSome (declaration_of words) IsN
 declared_named [] = tt
 declared_named (a ∷ []) = tt
 declared_named (a ∷ b ∷ []) = tt
-declared_named (keyword ∷ name ∷ address ∷ []) = if_so (bytes_eq keyword (codes "office")) _ (office_named_so (name_of name) (address_of_word address) (named name))
+declared_named (keyword ∷ name ∷ address ∷ []) = if_so (bytes_eq keyword (codes "office")) _ (office_named_so (name_of name) (address_of_word address) (named name) (addressed address))
 declared_named (a ∷ b ∷ c ∷ d ∷ []) = tt
 declared_named (keyword ∷ a ∷ b ∷ fork ∷ end ∷ []) = if_so _ _ (pair_named_so (name_of a) (name_of b) (bytes_eq end a))
 declared_named (a ∷ b ∷ c ∷ d ∷ e ∷ f ∷ []) = tt

@@ -1,6 +1,7 @@
 -- Addresses are ASCII, and words with too many parts are none.
-use Rattle.std.proofs.Common.{◌≡◌, ℕ, zero, suc, ◌<◌, List, [], ◌∷◌, length, get_or, true, false, ◌⊎◌, inl, inr, refl, arith, codes, subst, sym}
+use Rattle.std.proofs.Common.{Bor, ◌≡◌, ℕ, zero, suc, ◌<◌, List, [], ◌∷◌, length, get_or, Option, Some, None, IfSome, IsTrue, true, false, ◌⊎◌, inl, inr, refl, arith, codes, subst, sym}
 use Rattle.std.specs.List.{slice_split, list_all}
+use Rattle.std.specs.Option.{option_copied}
 use Rattle.std.specs.Str.{bytes_eq, IsUtf8}
 use Rattle.std.proofs.lemmas.Bool.{and_parts, or_cases}
 use Rattle.std.proofs.lemmas.Bool.Decides.{nat_tests}
@@ -42,3 +43,8 @@ address_is_text word h = by_kind (or_cases (bytes_eq word (codes "-")) (is_socke
     by_kind : (bytes_eq word (codes "-") ≡ true) ⊎ (is_socket word ≡ true) → IsUtf8 word
     by_kind (inl e) = subst IsUtf8 (sym ((bytes_eq-Decides word (codes "-")).0 e)) (IsUtf8-from_ascii (codes "-") dash_below)
     by_kind (inr s) = IsUtf8-from_ascii word (all_below word (and_parts _ _ s).0)
+
+-- what stands for such a word is an address
+pub read_of : (o : Option (Bor (List ℕ))) (word : List ℕ) → option_copied o ≡ Some word → is_address word ≡ true → IfSome o (λ a. IsTrue (is_address a.now))
+read_of None word e h = tt
+read_of (Some a) word e h = let is : a.now ≡ word = cc in rw is h

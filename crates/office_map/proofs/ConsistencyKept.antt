@@ -13,6 +13,7 @@ use Rattle.office_map.specs.declared.entries.OfficeEntry.{OfficeEntry}
 use Rattle.office_map.specs.declared.entries.PairEntry.{PairEntry}
 use Rattle.office_map.specs.declared.entries.RecordEntry.{RecordEntry}
 use Rattle.office_map.specs.PlanValue.{PlanValue, office_named, record_named, joins, are_neighbours, lies_between, records_between, with_office, with_pair, with_record, no_address, fork_end}
+use Rattle.office_map.specs.Address.{is_address}
 use Rattle.office_map.specs.PlanText.{is_address_taken}
 use Rattle.text_lines.specs.Text.{is_name}
 use Rattle.office_map.specs.Consistency.{IsConsistent}
@@ -44,13 +45,14 @@ free_address p address free k d lt e =
         let others : list_any (λ (o : OfficeEntry). bytes_eq o.address address) p.offices ≡ false = rw h at free in
         absurd (differ _ _ (no_element_passes (λ (o : OfficeEntry). bytes_eq o.address address) p.offices others k d lt) e)
 
-pub office_consistent : (p : PlanValue) (o : OfficeEntry) → IsConsistent p → is_name o.name ≡ true → office_named p o.name ≡ None → is_address_taken p o.address ≡ false → length p.offices < 16 → IsConsistent (with_office p o)
-office_consistent p o ok named fresh free room =
+pub office_consistent : (p : PlanValue) (o : OfficeEntry) → IsConsistent p → is_name o.name ≡ true → is_address o.address ≡ true → office_named p o.name ≡ None → is_address_taken p o.address ≡ false → length p.offices < 16 → IsConsistent (with_office p o)
+office_consistent p o ok named addressed fresh free room =
     let longer : length (p.offices ++ o ∷ []) ≡ length p.offices + 1 = length-append p.offices (o ∷ []) in
     record {
       offices_fit = omega arith;
       offices_are_named = All-push (λ (e : OfficeEntry). IsTrue (is_name e.name)) p.offices o ok.offices_are_named named;
       office_names = all_pairs_push (λ (a b : OfficeEntry). a.name ≢ b.name) p.offices o ok.office_names (λ k d lt. differ _ _ (none_passes (λ (e : OfficeEntry). bytes_eq e.name o.name) p.offices fresh k d lt));
+      offices_have_addresses = All-push (λ (e : OfficeEntry). IsTrue (is_address e.address)) p.offices o ok.offices_have_addresses addressed;
       addresses = all_pairs_push (λ (a b : OfficeEntry). a.address ≡ b.address → a.address ≡ no_address) p.offices o ok.addresses (free_address p o.address free);
       ends_are_offices = All-weaker (λ (pair : PairEntry). (pair.first < length p.offices) × (pair.second < length p.offices)) (λ (pair : PairEntry). (pair.first < length (p.offices ++ o ∷ [])) × (pair.second < length (p.offices ++ o ∷ []))) (λ pair h. (omega (arith, h), omega (arith, h))) p.pairs ok.ends_are_offices;
       ends_differ = ok.ends_differ;
@@ -70,6 +72,7 @@ pair_consistent p pair ok first second apart fresh =
       offices_fit = ok.offices_fit;
       offices_are_named = ok.offices_are_named;
       office_names = ok.office_names;
+      offices_have_addresses = ok.offices_have_addresses;
       addresses = ok.addresses;
       ends_are_offices = All-push (λ (e : PairEntry). (e.first < length p.offices) × (e.second < length p.offices)) p.pairs pair ok.ends_are_offices (first, second);
       ends_differ = All-push (λ (e : PairEntry). e.first ≢ e.second) p.pairs pair ok.ends_differ apart;
@@ -120,6 +123,7 @@ record_consistent p r ok named pair fresh room =
       offices_fit = ok.offices_fit;
       offices_are_named = ok.offices_are_named;
       office_names = ok.office_names;
+      offices_have_addresses = ok.offices_have_addresses;
       addresses = ok.addresses;
       ends_are_offices = ok.ends_are_offices;
       ends_differ = ok.ends_differ;
@@ -178,12 +182,13 @@ pub none_found : {A : Type 0} (o : Option A) → is_some o ≡ false → o ≡ N
 none_found None h = refl
 none_found (Some x) h = (cc)
 
-pub office_added : (p now : PlanValue) (o : OfficeEntry) (found : Option ℕ) (taken : Bool) (name address : List ℕ) → IsConsistent p → is_name name ≡ true → p ≡ now → found ≡ office_named now name → is_some found ≡ false → taken ≡ is_address_taken now address → taken ≡ false → length p.offices < 16 → o.name ≡ name → o.address ≡ address → IsConsistent (with_office p o)
-office_added p now o found taken name address ok is same named fresh looked free room n a =
+pub office_added : (p now : PlanValue) (o : OfficeEntry) (found : Option ℕ) (taken : Bool) (name address : List ℕ) → IsConsistent p → is_name name ≡ true → is_address address ≡ true → p ≡ now → found ≡ office_named now name → is_some found ≡ false → taken ≡ is_address_taken now address → taken ≡ false → length p.offices < 16 → o.name ≡ name → o.address ≡ address → IsConsistent (with_office p o)
+office_added p now o found taken name address ok is has same named fresh looked free room n a =
     let unnamed : office_named p o.name ≡ None = rw (n, same) (sym named ∙ none_found found fresh) in
     let unused : is_address_taken p o.address ≡ false = rw (a, same) (sym looked ∙ free) in
     let good : is_name o.name ≡ true = rw n is in
-    office_consistent p o ok good unnamed unused room
+    let addressed : is_address o.address ≡ true = rw a has in
+    office_consistent p o ok good addressed unnamed unused room
 
 pub record_added : (p now : PlanValue) (r : RecordEntry) (found : Option ℕ) (pair : Bool) (count : ℕ) (name : List ℕ) → IsConsistent p → is_name name ≡ true → p ≡ now → pair ≡ are_neighbours now r.first r.second → pair ≡ true → found ≡ record_named now name → is_some found ≡ false → count ≡ records_between now r.first r.second → count < 8 → r.name ≡ name → IsConsistent (with_record p r)
 record_added p now r found pair count name ok is same looked joined named fresh counted few n =

@@ -6,19 +6,21 @@ use Rattle.office_map.specs.declared.entries.PairEntry.{PairEntry}
 use Rattle.office_map.specs.declared.entries.RecordEntry.{RecordEntry}
 use Rattle.office_map.specs.declared.fault.PlanRefusal.{PlanRefusal}
 use Rattle.office_map.specs.PlanValue.{PlanValue, no_address, joins, are_neighbours, records_between}
+use Rattle.office_map.specs.Address.{is_address}
 use Rattle.office_map.specs.Precedence.{HasOrder}
 use Rattle.office_map.specs.PlanText.{plan_of, IsLineOf}
 use Rattle.text_lines.specs.Text.{is_name}
 use Rattle.std.specs.Prelude.{List}
 use Rattle.office_map.specs.Limits.{most_offices, most_pair_records}
 
--- The tables agree with one another, and no limit is passed. Offices and records have names, each its own, and no two
--- offices one address; a pair or a record joins two different declared offices, no two offices have two pairs, and a
--- record lies between neighbours.
+-- The tables agree with one another, and no limit is passed. Offices and records have names, each its own; each office has
+-- an address or `-`, and no two have one address; a pair or a record joins two different declared offices, no two offices
+-- have two pairs, and a record lies between neighbours.
 pub record IsConsistent (p : PlanValue) : Type 0 where
   pub offices_fit : length p.offices ≤ most_offices
   pub offices_are_named : All (λ (o : OfficeEntry). IsTrue (is_name o.name)) p.offices
   pub office_names : AllPairs (λ (a b : OfficeEntry). a.name ≢ b.name) p.offices
+  pub offices_have_addresses : All (λ (o : OfficeEntry). IsTrue (is_address o.address)) p.offices
   pub addresses : AllPairs (λ (a b : OfficeEntry). a.address ≡ b.address → a.address ≡ no_address) p.offices
   pub ends_are_offices : All (λ (pair : PairEntry). (pair.first < length p.offices) × (pair.second < length p.offices)) p.pairs
   pub ends_differ : All (λ (pair : PairEntry). pair.first ≢ pair.second) p.pairs

@@ -1,6 +1,6 @@
 //! Addresses: four octets with dots, a colon and a port.
 
-ghost use Rattle.std.specs.Prelude.{◌≡◌, ◌∷◌, [], ◌==◌, MatchOption};
+ghost use Rattle.std.specs.Prelude.{◌≡◌, ◌∷◌, [], ◌==◌, MatchOption, IfSome, IsTrue};
 ghost use Rattle.std.specs.Option.{option_copied};
 ghost use Rattle.std.specs.List.{list_all, slice_split};
 ghost use Rattle.office_map.specs.Address.{is_socket, is_address, is_address_byte, is_host_and_port, is_host, is_dot, is_colon, is_octet, is_port, is_number_within, has_leading_zero, address_of_word};
@@ -9,7 +9,8 @@ use text_lines::{number, place_of};
 
 /// A word as text, if it is an address or `-`.
 pub(crate) fn address(word: &[u8]) -> Option<&str>
-    ensures { option_copied result ≡ address_of_word word.now }
+    ensures word { option_copied result ≡ address_of_word word.now }
+    ensures address { IfSome result (λ a. IsTrue (is_address a.now)) }
 {
     if is_address(word) {
         str::from_utf8(word).ok()

@@ -66,6 +66,7 @@ mod ring;
 mod ring_search;
 mod word;
 
+pub use entries::PairEntry;
 pub use fault::{PlanFault, PlanRefusal, PlanRule, RING_RULE};
 pub use ids::{OfficeId, RecordId};
 pub use plan::Plan;

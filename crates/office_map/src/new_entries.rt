@@ -2,6 +2,7 @@
 
 ghost use Rattle.std.specs.Prelude.{IsTrue};
 ghost use Rattle.text_lines.specs.Text.{is_name};
+ghost use Rattle.office_map.specs.Address.{is_address};
 
 use text_lines::ShortName;
 
@@ -11,6 +12,7 @@ pub(crate) struct NewOffice<'a> {
     pub name: ShortName,
     pub address: &'a str,
     ghost named: { IsTrue (is_name name) },
+    ghost addressed: { IsTrue (is_address address.now) },
 }
 
 /// A pair that a line declares.

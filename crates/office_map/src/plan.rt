@@ -2,7 +2,7 @@
 
 ghost use Rattle.std.specs.Prelude.{◌≡◌, ◌≢◌, ◌<◌, ◌≤◌, ◌^◌, ◌*◌, ◌⊎◌, length, slice_get, Some, IfOk, IfErr, IsTrue, All, AllPairs};
 
-use crate::entries::{OfficeEntry, RecordEntry};
+use crate::entries::{OfficeEntry, PairEntry, RecordEntry};
 use crate::fault::PlanFault;
 use crate::ids::{OfficeId, RecordId};
 use crate::index::{OfficeIndex, index};
@@ -118,6 +118,14 @@ impl Plan {
         ensures accepted { IsAccepted self.now }
     {
         self.said.tables.offices().len()
+    }
+
+    /// The pairs, in the order of their lines.
+    pub fn pairs(&self) -> &[PairEntry]
+        ensures all { result.now ≡ self.now.pairs }
+        ensures offices { All (λ pair. (pair.first < length self.now.offices) × (pair.second < length self.now.offices)) result.now }
+    {
+        self.said.tables.pairs()
     }
 
     /// How many records there are.
