@@ -1,6 +1,6 @@
 //! The nodes of an expression, as it keeps them.
 
-ghost use Rattle.std.specs.Prelude.{◌≡◌, ◌∷◌, [], ◌++◌, ◌<◌, ◌≤◌, ◌+◌, length, map, take, drop, slice_get, Some, IfOk, IfSome, IfNone};
+ghost use Rattle.std.specs.Prelude.{◌≡◌, ◌∷◌, [], ◌++◌, ◌<◌, ◌≤◌, ◌+◌, ◌^◌, length, map, take, drop, slice_get, Some, IfOk, IfSome, IfNone};
 ghost use Rattle.session_meaning.specs.refinement.ExpressionNodes.{node_of, nodes_in};
 
 use crate::node::{Node, Operator};
@@ -111,9 +111,10 @@ impl<'a> Nodes<'a> {
         Nodes { kept }
     }
 
-    /// How many there are.
+    /// How many there are. No memory holds more.
     pub fn len(&self) -> usize
-        ensures { result ≡ length self.now }
+        ensures len { result ≡ length self.now }
+        ensures few { length self.now < 2 ^ 60 }
     {
         self.kept.len()
     }
@@ -124,7 +125,8 @@ impl<'a> Nodes<'a> {
         ensures node { slice_get self.now i ≡ Some result }
         ensures rest { drop i self.now ≡ result ∷ drop (i + 1) self.now }
     {
-        self.kept[i].node()
+        let kept = self.kept;
+        kept[i].node()
     }
 
     /// The last node, and those before it.

@@ -1,4 +1,4 @@
-use Rattle.std.proofs.Common.{◌≡◌, ◌<◌, ◌∷◌, ◌+◌, List, length, get_or, drop, map, Some, sym, ap, ◌∙◌, arith}
+use Rattle.std.proofs.Common.{◌≡◌, ◌<◌, ◌∷◌, ◌+◌, List, length, get_or, drop, Some, sym, ap, ◌∙◌, arith}
 use Rattle.std.proofs.lemmas.List.{length-map, get_or-map, drop_more}
 use Rattle.std.proofs.lemmas.Option.{slice_get-get_or}
 use Rattle.session_meaning.specs.declared.node.Node.{Node}
@@ -11,7 +11,7 @@ returns-clause-node c =
     let ns : List Node = c.args.self.now in
     let within : c.args.i < length kept = omega (arith, c.requires, length-map kept node_of, ap length c.self.view_is) in
     let told : get_or ns c.args.i c.node.result ≡ c.node.result =
-    ap (λ (l : List Node). get_or l c.args.i c.node.result) (sym c.self.view_is) ∙ get_or-map node_of kept c.args.i c.index-self-kept.result c.node.result within ∙ sym (ap node_of c.index-self-kept.is) ∙ sym c.node.ensures in
+    ap (λ (l : List Node). get_or l c.args.i c.node.result) (sym c.self.view_is) ∙ get_or-map node_of kept c.args.i c.index-kept-i.result c.node.result within ∙ ap node_of (sym c.index-kept-i.is) ∙ sym c.node.ensures in
     slice_get-get_or ns c.args.i c.node.result c.requires ∙ ap Some told
 
 pub returns-clause-rest : goal.returns-clause-rest
@@ -20,5 +20,5 @@ returns-clause-rest c =
     let ns : List Node = c.args.self.now in
     let within : c.args.i < length kept = omega (arith, c.requires, length-map kept node_of, ap length c.self.view_is) in
     let told : get_or ns c.args.i c.node.result ≡ c.node.result =
-    ap (λ (l : List Node). get_or l c.args.i c.node.result) (sym c.self.view_is) ∙ get_or-map node_of kept c.args.i c.index-self-kept.result c.node.result within ∙ sym (ap node_of c.index-self-kept.is) ∙ sym c.node.ensures in
+    ap (λ (l : List Node). get_or l c.args.i c.node.result) (sym c.self.view_is) ∙ get_or-map node_of kept c.args.i c.index-kept-i.result c.node.result within ∙ ap node_of (sym c.index-kept-i.is) ∙ sym c.node.ensures in
     drop_more ns c.args.i c.node.result c.requires ∙ ap (λ n. n ∷ drop (c.args.i + 1) ns) told

@@ -1,5 +1,7 @@
-use Rattle.std.proofs.Common.{◌≡◌, sym, ap, ◌∙◌, arith}
-use Rattle.session_meaning.proofs.working_copies.RecordLookup.{position_kept}
+use Rattle.std.proofs.Common.{map, ap, ◌∙◌, arith}
+use Rattle.std.specs.List.{position}
+use Rattle.session_meaning.specs.refinement.CopiedSlots.{slot_of}
+use Rattle.session_meaning.proofs.working_copies.RecordLookup.{is_in, position_kept}
 use Rattle.session_meaning.proofs.working_copies.SortedSlots.{order_kept}
 use Rattle.session_meaning.proofs.working_copy.WorkingCopy.set.Goals as goal
 
@@ -9,3 +11,6 @@ invariant_of-self c =
 
 pub returns-clause-set : goal.returns-clause-set
 returns-clause-set c = cc
+
+pub returns-clause-places : goal.returns-clause-places
+returns-clause-places c = λ r. ap (position (is_in r)) c.set_slot.ensures.set ∙ position_kept (map slot_of c.self.inside.slots.items) c.args.id r c.args.value ∙ ap (position (is_in r)) c.self.view_is
