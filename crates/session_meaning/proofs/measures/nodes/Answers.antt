@@ -3,7 +3,7 @@ use Rattle.session_meaning.proofs.session_measures.Saturation.{nodes_are}
 use Rattle.session_meaning.proofs.measures.nodes.Goals as goal
 
 pub returns-then-count-lt10001 : goal.returns-then-count-lt10001
-returns-then-count-lt10001 c = omega (arith, ap length c.nodes-count.ensures, nodes_are c.args.e.now)
+returns-then-count-lt10001 c = omega (arith, c.len-count.ensures.len, ap length c.nodes.ensures, nodes_are c.args.e.now)
 
 pub returns-else-count-lt10001 : goal.returns-else-count-lt10001
-returns-else-count-lt10001 c = omega (arith, ap length c.nodes-count.ensures, nodes_are c.args.e.now)
+returns-else-count-lt10001 c = omega (arith, c.len-count.ensures.len, ap length c.nodes.ensures, nodes_are c.args.e.now)
