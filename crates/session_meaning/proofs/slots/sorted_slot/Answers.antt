@@ -1,6 +1,6 @@
-use Rattle.std.proofs.Common.{refl, sym, ◌∙◌, arith}
+use Rattle.std.proofs.Common.{sym, ◌∙◌, arith}
 use Rattle.std.proofs.lemmas.Bool.{eqb-true}
-use Rattle.session_meaning.proofs.working_copies.SortedSlots.{alike, placed, past_all, another}
+use Rattle.session_meaning.proofs.working_copies.SortedSlots.{placed, past_all, another}
 use Rattle.session_meaning.proofs.slots.sorted_slot.Goals as goal
 use Rattle.session_meaning.proofs.slots.sorted_slot.Goals.{else-place-slots-via-then-place-slots+else-eq, else-place-slots-via-else-place-slots}
 

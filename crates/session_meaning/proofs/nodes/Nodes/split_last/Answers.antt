@@ -1,4 +1,4 @@
-use Rattle.std.proofs.Common.{◌≡◌, ◌++◌, ◌∷◌, [], List, length, map, sym, ap, ◌∙◌, arith, length-append, rules}
+use Rattle.std.proofs.Common.{◌≡◌, ◌++◌, ◌∷◌, [], length, map, sym, ap, ◌∙◌, arith, length-append, rules}
 use Rattle.std.proofs.lemmas.List.{map-append}
 use Rattle.session_meaning.specs.declared.node.Node.{Node}
 use Rattle.session_meaning.specs.refinement.ExpressionNodes.{node_of}

@@ -1,8 +1,8 @@
-use Rattle.std.proofs.Common.{sym, ap, ◌∙◌}
+use Rattle.std.proofs.Common.{ap, ◌∙◌}
 use Rattle.std.specs.List.{position}
 use Rattle.session_meaning.specs.Meaning.{value_in}
 use Rattle.session_meaning.specs.declared.slots.Slot.{Slot}
-use Rattle.session_meaning.proofs.working_copies.RecordLookup.{is_in, place_within, value_shown}
+use Rattle.session_meaning.proofs.working_copies.RecordLookup.{is_in, value_shown}
 use Rattle.session_meaning.proofs.working_copy.WorkingCopy.value_at.Goals as goal
 
 pub returns : goal.returns
