@@ -37,4 +37,4 @@ tells_unwoven p journals (faults.Unwoven office entry) text names left (inr neve
 -- the same of copies of these
 pub left_of_copies : (p q : PlanValue) (events : List WorldEvent) (sites sites' : List Site) (sent : List SentAt) (order order' : List ℕ) → q ≡ p → sites' ≡ sites → order' ≡ order → IsLeftBy p events sites sent order → IsLeftBy q events sites' sent order'
 left_of_copies p q events sites sites' sent order order' plan offices places left =
-    subst (λ x. IsLeftBy x events sites' sent order') (sym plan) (subst (λ l. IsLeftBy p events l sent order') (sym offices) (subst (IsLeftBy p events sites frames) (sym places) left))
+    subst (λ x. IsLeftBy x events sites' sent order') (sym plan) (subst (λ l. IsLeftBy p events l sent order') (sym offices) (subst (IsLeftBy p events sites sent) (sym places) left))

@@ -111,8 +111,8 @@ module _ (C : FrameKey → FrameKey → Ordering) (plan : PlanValue) (journals :
               (λ below.
               let z = told_from (given r.0) (told a) r.0.site.entries (at_of m a) y f.1 below there in
               let both : Some z.0 ≡ Some x = sym z.1 ∙ next in
-              let one : z.0 ≡ x = cc in
-              let events_same : y.event ≡ x.event = ap (λ (w : Entry). w.event) (sym z.2) ∙ ap (λ (w : Entry). w.event) one in
+              let same : z.0 ≡ x = cc in
+              let events_same : y.event ≡ x.event = ap (λ (w : Entry). w.event) (sym z.2) ∙ ap (λ (w : Entry). w.event) same in
               inr (subst (λ e. CannotCome (run_of (opening plan) events).frames a e) events_same (never (run_of (opening plan) events).frames merged.sent one)))
               at_limit
               (cases_lt (at_of m a) (given r.0))

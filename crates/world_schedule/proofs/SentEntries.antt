@@ -1,10 +1,10 @@
 -- The frames of a world are those that entries tell, and stay so as offices go on.
-use Rattle.std.proofs.Common.{◌≡◌, ℕ, zero, suc, ◌-◌, ◌<◌, List, [], ◌∷◌, ◌++◌, length, map, get_or, Option, Some, None, Ok, Err, refl, sym, ap, subst, ◌∙◌, arith, ⊎_elim}
-use Rattle.std.specs.Prelude.{Result, slice_get, is_some, unwrap_or, true, All}
+use Rattle.std.proofs.Common.{◌≡◌, ℕ, zero, suc, ◌-◌, ◌<◌, ◌≤◌, List, [], ◌∷◌, ◌++◌, length, map, get_or, Option, Some, None, Ok, Err, refl, sym, ap, subst, ◌∙◌, arith, ⊎_elim}
+use Rattle.std.specs.Prelude.{Result, IfOk, slice_get, is_some, unwrap_or, true, All}
 use Rattle.std.specs.Option.{option_and_then}
 use Rattle.std.proofs.lemmas.Bool.{cases_lt}
-use Rattle.std.proofs.lemmas.List.{map-append, get_or_past, get_or_read}
-use Rattle.std.proofs.lemmas.Option.{slice_get-get_or}
+use Rattle.std.proofs.lemmas.List.{map-append, length-map, get_or_past, get_or_read}
+use Rattle.std.proofs.lemmas.Option.{slice_get-get_or, slice_get_past}
 use Rattle.bottle_values.specs.ListLaws.{nothing_at}
 use Rattle.std.proofs.lemmas.List.Elements.{All-nil, All-cons, All-head, All-tail, All-weaker, All-append}
 use Rattle.frame_codec.specs.Frame.{Fields, IsFrame}
@@ -26,6 +26,7 @@ use Rattle.world_schedule.specs.refinement.LeftWith.{IsLeftWith}
 use Rattle.world_schedule.specs.refinement.WorldOfCode.{no_frame, frame_in, frames_in, world_in, IsWorld, IsTold, AreTold}
 use Rattle.world_schedule.specs.refinement.Handing.{Hands}
 use Rattle.world_schedule.proofs.WorldSteps.{Handled, Same, Grown, handled, same_map}
+use Rattle.world_schedule.proofs.EventSteps.{of_ok}
 
 -- ---- lists of entries that tell frames
 
@@ -101,6 +102,11 @@ more_are_told plan sites a e result sites' sent sent' r hands told is more =
     subst (AreTold plan sites') (sym more)
     (All-append (IsTold plan sites') sent marks (stay_told plan sites a e result sites' sent hands told) (are_they (told_at plan sites') marks (frames_of r) (more_told plan sites a e result sites' r hands is)).1)
 
+-- what the entry is whose frame is kept
+pub kept_there : (plan : PlanValue) (sites : List Site) (a : ℕ) (sent sent' : List SentAt) (result : Result Reply WorldRefusal) → IfOk result (λ r. (d : Site) → sent' ≡ sent ++ sent_by a (length (get_or sites a d).entries) r) →
+    (r : Reply) → result ≡ Ok r → sent' ≡ sent ++ sent_by a (length (get_or sites a (silent plan a)).entries) r
+kept_there plan sites a sent sent' result h r is = of_ok (λ (q : Reply). (d : Site) → sent' ≡ sent ++ sent_by a (length (get_or sites a d).entries) q) result h r is (silent plan a)
+
 -- of an event that sends
 pub sent_told : (plan : PlanValue) (sites : List Site) (a : ℕ) (e : Event) (result : Result Reply WorldRefusal) (sites' : List Site) (sent sent' : List SentAt) → Hands sites a e result sites' → AreTold plan sites sent →
     ((r : Reply) → result ≡ Ok r → sent' ≡ sent ++ sent_by a (length (get_or sites a (silent plan a)).entries) r) → ((x : WorldRefusal) → result ≡ Err x → sent' ≡ sent) → AreTold plan sites' sent'
@@ -123,6 +129,14 @@ frame_there g (n ∷ ms) (suc k) m told at = frame_there g ms k m (All-tail (λ 
 pub frame_at_entry : (plan : PlanValue) (sites : List Site) (sent : List SentAt) (k : ℕ) (m : SentAt) → AreTold plan sites sent → slice_get sent k ≡ Some m → told_at plan sites m ≡ slice_get (frames_in plan sites sent) k
 frame_at_entry plan sites sent k m told at = frame_there (told_at plan sites) sent k m told at
 
+-- and past them none was sent
+pub frame_past : (plan : PlanValue) (sites : List Site) (sent : List SentAt) (marks : List mark.Finished) (v : World) (k : ℕ) → world_in plan sites (frames_in plan sites sent) marks ≡ v → (k ≡ 0 → ⊥) → length sent ≤ k - 1 → None ≡ frame_at v k
+frame_past plan sites sent marks v k view later past = none k later past ∙ ap (λ w. frame_at w k) view
+  where
+    none : (n : ℕ) → (n ≡ 0 → ⊥) → length sent ≤ n - 1 → None ≡ frame_at (world_in plan sites (frames_in plan sites sent) marks) n
+    none zero h le = absurd (h refl)
+    none (suc n) h le = sym (slice_get_past (frames_in plan sites sent) n (omega (arith, le, length-map sent (frame_in plan sites))))
+
 -- an office beyond the last tells nothing
 told_within : (plan : PlanValue) (sites : List Site) (m : SentAt) → IsTold plan sites m → m.office < length sites
 told_within plan sites m h = ⊎_elim (λ lt. lt) (λ ge. absurd (nothing (ap (λ (s : Site). is_some (told_in s.entries m.entry)) (sym (get_or_past sites m.office (silent plan m.office) ge)) ∙ h))) (cases_lt m.office (length sites))
@@ -133,6 +147,10 @@ told_within plan sites m h = ⊎_elim (λ lt. lt) (λ ge. absurd (nothing (ap (�
         by : (o : Option Entry) → slice_get [] m.entry ≡ o → is_some (option_and_then entry_tells o) ≡ true → ⊥
         by None is k = cc
         by (Some x) is k = nothing_at m.entry x is
+
+-- the entry of each mark is of an office that is there
+pub office_there : (plan : PlanValue) (sites : List Site) (sent : List SentAt) (i : ℕ) (m : SentAt) → AreTold plan sites sent → i < length sent → m ≡ get_or sent i m → m.office < length sites
+office_there plan sites sent i m told lt is = told_within plan sites m (subst (IsTold plan sites) (sym is) (told i m lt))
 
 -- the k-th frame is what the entry of the k-th mark tells
 pub frame_here : (plan : PlanValue) (sites : List Site) (sent : List SentAt) (marks : List mark.Finished) (v : World) (k : ℕ) (m : SentAt) (s : Site) → world_in plan sites (frames_in plan sites sent) marks ≡ v → AreTold plan sites sent → (k ≡ 0 → ⊥) → k - 1 < length sent →
