@@ -1,5 +1,5 @@
 -- A number of a link is of one message: frames that are the same but for their messages are the same.
-use Rattle.std.proofs.Common.{◌≡◌, ℕ, zero, suc, ◌+◌, ◌-◌, ◌<◌, ◌≤◌, ◌⊎◌, Bool, true, false, cond, length, get_or, Option, None, Some, refl, sym, ap, subst, ◌∙◌, arith, inl, inr, ⊎_elim}
+use Rattle.std.proofs.Common.{◌≡◌, ℕ, zero, suc, ◌+◌, ◌-◌, ◌<◌, Bool, true, false, cond, length, get_or, None, Some, refl, sym, ap, subst, ◌∙◌, arith, ⊎_elim}
 use Rattle.std.specs.Prelude.{slice_get, nat_le}
 use Rattle.std.proofs.lemmas.Bool.Decides.{nat_tests}
 use Rattle.std.proofs.lemmas.Option.{slice_get-get_or}
@@ -9,13 +9,11 @@ use Rattle.frame_codec.specs.Frame.{Fields}
 use Rattle.office_map.specs.PlanValue.{PlanValue}
 use Rattle.window_link.specs.Links.{LinkState, frame_with}
 use Rattle.site_core.specs.Offices.{frame_on}
-use Rattle.site_core.specs.Pairs.{Pairs}
 use Rattle.frame_world.specs.Worlds.{opening, run_of}
 use Rattle.frame_world.specs.Headline.{Always, NumbersTellMessages}
 use Rattle.frame_world.specs.WorldStates.{State, state_of, starting, IsAccepted}
 use Rattle.frame_world.specs.WorldLaws.{through}
 use Rattle.frame_world.proofs.OneLink.{Carries, Known, Waits}
-use Rattle.frame_world.proofs.Links.{IsHonest}
 use Rattle.frame_world.proofs.Following.{pairs_in, Follows, follows_on, starts, IsNew, old_or_new}
 use Rattle.frame_world.proofs.SentFrames.{IsOfLink, of_link}
 

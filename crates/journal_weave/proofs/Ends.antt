@@ -1,6 +1,6 @@
 -- The end of a merge of what offices gave of their journals.
 use Rattle.std.proofs.Common.{◌≡◌, ℕ, zero, suc, ◌<◌, ◌≤◌, List, [], ◌∷◌, length, map, take, get_or, Some, refl, sym, ap, subst, ◌∙◌, arith, inl, inr, ◌⊎◌, ⊎_elim, None}
-use Rattle.std.specs.Prelude.{slice_get, Option, All, is_some, true}
+use Rattle.std.specs.Prelude.{slice_get, Option, is_some, true}
 use Rattle.std.proofs.lemmas.Bool.{cases_lt}
 use Rattle.std.proofs.lemmas.List.{length-map, get_or-map, get_or_past, ext_get_or}
 use Rattle.std.proofs.Math.Seq.{take-length}

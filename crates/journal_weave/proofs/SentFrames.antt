@@ -1,14 +1,18 @@
 -- One frame more in the map of frames that were sent, and what is looked up there.
-use Rattle.std.proofs.Common.{◌≡◌, ℕ, zero, suc, ◌+◌, Bool, true, false, cond, List, [], ◌∷◌, ◌++◌, length, map, Option, None, Some, refl, sym, ap, ◌∙◌, subst, arith, ⊎_elim}
+use Rattle.std.proofs.Common.{◌≡◌, ℕ, zero, suc, ◌+◌, ◌<◌, ◌≤◌, Bool, true, false, cond, List, [], ◌∷◌, ◌++◌, length, map, get_or, Option, None, Some, refl, sym, ap, ◌∙◌, subst, arith, ⊎_elim}
 use Rattle.std.specs.Prelude.{IsTrue, ◌↔◌, slice_get}
 use Rattle.std.specs.BTreeMap.{get}
+use Rattle.std.specs.Option.{option_and_then}
 use Rattle.std.specs.Ordering.{is_eq}
 use Rattle.std.specs.declared.cmp.Ordering.{Ordering}
 use Rattle.std.proofs.lemmas.Bool.{false≢true}
 use Rattle.std.proofs.lemmas.List.{length-map, map-append}
+use Rattle.std.proofs.lemmas.Option.{slice_get-get_or, slice_get_past}
 use Rattle.std.proofs.lemmas.List.Elements.{All-nil, All-cons, All-append}
 use Rattle.frame_codec.specs.Frame.{Fields, IsFrame}
+use Rattle.office_journal.specs.declared.event.Entry.{Entry}
 use Rattle.frame_world.specs.declared.sent.SentAt.{SentAt}
+use Rattle.frame_world.specs.Sent.{entry_tells, told_in}
 use Rattle.frame_world.specs.Worlds.{World}
 use Rattle.frame_world.specs.Headline.{NumbersTellMessages}
 use Rattle.journal_weave.specs.declared.key.FrameKey.{FrameKey}
@@ -64,6 +68,14 @@ told_there g (n ∷ ms) (h ∷ fs) zero m f told here there =
     let same : n ≡ m = cc in
     ap g (sym same) ∙ first ∙ there
 told_there g (n ∷ ms) (h ∷ fs) (suc j) m f told here there = let later : map g ms ≡ map Some fs = cc in told_there g ms fs j m f later here there
+
+-- an office that isn't there tells none
+pub nobody_tells : (rs : List ReplayValue) (m : SentAt) → length rs ≤ m.office → None ≡ told_by rs m
+nobody_tells rs m ge = ap (option_and_then (λ (r : ReplayValue). told_in r.site.entries m.entry)) (sym (slice_get_past rs m.office ge))
+
+-- one that is tells that of its entry
+pub tells : (rs : List ReplayValue) (m : SentAt) (r : ReplayValue) (o : Option Entry) → m.office < length rs → r ≡ get_or rs m.office r → o ≡ slice_get r.site.entries m.entry → option_and_then entry_tells o ≡ told_by rs m
+tells rs m r o lt is at = ap (option_and_then entry_tells) at ∙ ap (option_and_then (λ (q : ReplayValue). told_in q.site.entries m.entry)) (ap Some is ∙ sym (slice_get-get_or rs m.office r lt))
 
 -- one of that key which is the frame
 pub was_sent : (frames : List Fields) (f g : Fields) (k : ℕ) → g ≡ f → WasSent frames g k → WasSent frames f k

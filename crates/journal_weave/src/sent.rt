@@ -111,10 +111,22 @@ impl SentFrames {
 fn told_at(replays: &[Replay], sent: SentAt) -> Option<Frame>
     ensures { result ≡ told_by replays.now sent }
 {
-    let replay = replays.get(sent.office.index())?;
-    let entry = replay.entry(sent.entry as usize)?;
-    match entry.reply {
-        Reply::Frame(frame) => Some(frame),
+    let a = sent.office.index();
+    if a >= replays.len() {
+        return None;
+    }
+    let Some(entry) = replays[a].entry(sent.entry as usize) else {
+        return None;
+    };
+    frame_in(&entry.reply)
+}
+
+/// The frame that a reply tells, if it tells one.
+fn frame_in(reply: &Reply) -> Option<Frame>
+    ensures { result ≡ frame_told reply.now }
+{
+    match reply {
+        Reply::Frame(frame) => Some(*frame),
         _ => None,
     }
 }

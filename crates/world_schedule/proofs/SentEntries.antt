@@ -19,7 +19,7 @@ use Rattle.frame_world.specs.declared.refusal.WorldRefusal.{WorldRefusal}
 use Rattle.frame_world.specs.Worlds.{World, Answer, silent, opening, run_of, frames_of, frame_at, OrMemory}
 use Rattle.frame_world.specs.WorldLaws.{seated}
 use Rattle.frame_world.specs.Sent.{entry_tells, told_in, told_at, sent_by}
-use Rattle.frame_world.specs.SentLaws.{with_noted, told_still, told_now}
+use Rattle.frame_world.specs.SentLaws.{told_still, told_now}
 use Rattle.world_schedule.specs.declared.finished.Finished as mark
 use Rattle.world_schedule.specs.Records.{IsLeftBy}
 use Rattle.world_schedule.specs.refinement.LeftWith.{IsLeftWith}
