@@ -252,10 +252,10 @@ fn arrives(rt: &impl Abort, draws: &mut Draws, end: &mut Channel, frames: &[Fram
 
 // How many of these messages, from one on, carry the thing.
 fn carried(thing: Thing, waiting: &Waiting, from: usize) -> usize {
-    let mut count = 0;
+    let mut count = 0usize;
     for i in from..waiting.len() {
         if Thing::of(waiting.message(i)).is(thing) {
-            count += 1;
+            count = count.saturating_add(1);
         }
     }
     count
