@@ -1,5 +1,5 @@
 -- Datagrams, cut where their seals begin.
-use Rattle.std.proofs.Common.{◌≡◌, ◌≢◌, ℕ, zero, suc, ◌+◌, ◌-◌, ◌<◌, ◌≤◌, ◌⊎◌, inl, inr, List, [], ◌∷◌, ◌++◌, length, take, drop, Bool, true, false, refl, sym, ap, ap₂, ◌∙◌, subst, arith, length-append, ⊎_elim}
+use Rattle.std.proofs.Common.{◌≡◌, ◌≢◌, ℕ, zero, suc, ◌-◌, ◌<◌, ◌≤◌, ◌⊎◌, inl, inr, List, [], ◌∷◌, ◌++◌, length, take, drop, Bool, true, false, refl, sym, ap, ap₂, ◌∙◌, arith, length-append, ⊎_elim}
 use Rattle.std.specs.Prelude.{Contains}
 use Rattle.std.specs.List.{slice_index_or}
 use Rattle.std.specs.Str.{bytes_eq}
@@ -12,7 +12,7 @@ use Rattle.sha2.proofs.Facts256.{length-sha256}
 use Rattle.sha2.specs.Sha256.{sha256}
 use Rattle.sealed_frames.specs.Hmac.{keyed_digest, masked}
 use Rattle.sealed_frames.specs.Seals.{differing_bits, seal_of, sealed}
-use Rattle.sealed_frames.specs.SealLaws.{OneFrameIsSealedSo, IsForgery, SealedOrForged}
+use Rattle.sealed_frames.specs.SealLaws.{OneFrameIsSealedSo, SealedOrForged}
 use Rattle.sealed_frames.proofs.Differences.{same_from_no_bits, none_from_itself}
 
 digest_long : (secret frame : List ℕ) → length (keyed_digest secret frame) ≡ 32

@@ -1,5 +1,5 @@
 -- Frames under a seal: a frame's bytes, and behind them the first bytes of its keyed digest.
-use Rattle.std.specs.Prelude.{◌≡◌, ℕ, ◌++◌, List, [], ◌∷◌, take, bit_or, bit_xor, Contains}
+use Rattle.std.specs.Prelude.{ℕ, ◌++◌, List, [], ◌∷◌, take, bit_or, bit_xor}
 use Rattle.sealed_frames.specs.Hmac.{keyed_digest}
 
 -- the seal of a frame under a secret's block: the first 16 bytes of its keyed digest
