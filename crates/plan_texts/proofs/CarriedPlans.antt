@@ -1,13 +1,13 @@
 -- The plan that carries values on is consistent as the plan is.
-use Rattle.std.proofs.Common.{◌≡◌, ◌≢◌, ℕ, zero, suc, ◌+◌, ◌<◌, ◌≤◌, List, [], ◌∷◌, ◌++◌, length, get_or, Bool, cond, refl, sym, ap, ap₂, ◌∙◌, subst, arith, length-append}
-use Rattle.std.specs.Prelude.{All, AllPairs, IsTrue}
+use Rattle.std.proofs.Common.{◌≡◌, ℕ, zero, suc, ◌+◌, ◌<◌, List, [], ◌∷◌, ◌++◌, length, get_or, cond, refl, sym, ap, ◌∙◌, subst, arith}
+use Rattle.std.specs.Prelude.{All, IsTrue}
 use Rattle.std.specs.List.{count_by}
 use Rattle.std.proofs.lemmas.List.Elements.{All-nil, All-cons, All-head, All-tail}
 use Rattle.std.proofs.lemmas.List.Sums.{sum_by-cons}
 use Rattle.bottle_values.specs.Values.{Value}
 use Rattle.bottle_values.specs.Operations.{is_value}
 use Rattle.office_map.specs.declared.entries.RecordEntry.{RecordEntry}
-use Rattle.office_map.specs.PlanValue.{PlanValue, are_neighbours, lies_between, records_between}
+use Rattle.office_map.specs.PlanValue.{PlanValue, are_neighbours, lies_between}
 use Rattle.office_map.specs.Precedence.{HasOrder}
 use Rattle.office_map.specs.Consistency.{IsConsistent}
 use Rattle.text_lines.specs.Text.{is_name}
@@ -48,6 +48,7 @@ consistent_with p run m ok = record {
   offices_fit = ok.offices_fit;
   offices_are_named = ok.offices_are_named;
   office_names = ok.office_names;
+  offices_have_addresses = ok.offices_have_addresses;
   addresses = ok.addresses;
   ends_are_offices = ok.ends_are_offices;
   ends_differ = ok.ends_differ;

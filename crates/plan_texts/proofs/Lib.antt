@@ -6,7 +6,6 @@ mod OfficesRead
 mod PairsRead
 mod RecordsRead
 mod TextsRead
-mod PairsOrdered
 mod CarriedPlans
-mod AddressesRead
 mod NextPlansRead
+mod WrittenLines

@@ -1,8 +1,8 @@
 -- The lines of offices are read.
-use Rattle.std.proofs.Common.{◌≡◌, ◌≢◌, ℕ, ◌+◌, ◌<◌, ◌≤◌, List, [], ◌∷◌, ◌++◌, length, get_or, Bool, true, false, not, ◌&&◌, ◌||◌, nat_lt, nat_le, Result, Ok, Err, Option, Some, None, is_some, if◌then◌else◌, codes, refl, sym, ap, ap₂, ◌∙◌, subst, arith, length-append, append_assoc, ⊎_elim}
+use Rattle.std.proofs.Common.{◌≡◌, ◌≢◌, ℕ, ◌+◌, List, [], ◌∷◌, ◌++◌, length, get_or, Bool, true, false, not, ◌&&◌, nat_lt, nat_le, Ok, Some, None, is_some, if◌then◌else◌, codes, refl, sym, ap, ap₂, ◌∙◌, subst, arith, length-append, append_assoc, ⊎_elim}
 use Rattle.std.proofs.lemmas.List.{append-nil}
 use Rattle.std.specs.Prelude.{All, AllPairs, IsTrue}
-use Rattle.std.specs.List.{list_all, list_any, position, slice_split}
+use Rattle.std.specs.List.{list_all, list_any}
 use Rattle.std.specs.Str.{bytes_eq}
 use Rattle.std.proofs.lemmas.Bool.{and_parts, or_cases, both_ways}
 use Rattle.std.proofs.lemmas.Bool.Decides.{nat_tests}
@@ -10,14 +10,13 @@ use Rattle.std.proofs.lemmas.List.Folds.{list_any_none}
 use Rattle.std.proofs.lemmas.Slice.Eq.{bytes_eq-Decides}
 use Rattle.bottle_values.specs.ListLaws.{all_weaker}
 use Rattle.office_map.specs.declared.entries.OfficeEntry.{OfficeEntry}
-use Rattle.office_map.specs.declared.fault.PlanRule.{PlanRule}
 use Rattle.office_map.specs.declared.fault.PlanRule.TheVariants.{NameTwice, Limit}
-use Rattle.office_map.specs.Address.{is_address, is_address_byte, is_socket, address_of_word}
+use Rattle.office_map.specs.Address.{is_address, is_address_byte, is_socket}
 use Rattle.office_map.specs.PlanValue.{PlanValue, office_named, with_office, no_address}
-use Rattle.office_map.specs.PlanText.{◌>>◌, refuse_if, AnOffice, office_of, is_address_taken, declare}
+use Rattle.office_map.specs.PlanText.{◌>>◌, refuse_if, AnOffice, office_of, is_address_taken}
 use Rattle.office_map.specs.Consistency.{IsConsistent}
-use Rattle.text_lines.specs.Text.{is_name, name_of}
-use Rattle.session_language.proofs.canonical.Lexemes.{IsWord, name_bytes, name_again}
+use Rattle.text_lines.specs.Text.{is_name}
+use Rattle.session_language.proofs.canonical.Lexemes.{name_bytes, name_again}
 use Rattle.run_words.specs.Words.{is_visible, is_word}
 use Rattle.run_words.proofs.NamesAndNumbers.{is_a_word}
 use Rattle.plan_texts.specs.WrittenPlans.{office_words}
@@ -49,9 +48,9 @@ office_done q false true full e f g = absurd cc
 office_done q false false true e f g = absurd cc
 office_done q false false false e f g = refl
 
-module _ (p : PlanValue) (ok : IsConsistent p) (addresses : All (λ (o : OfficeEntry). IsTrue (is_address o.address)) p.offices) where
+module _ (p : PlanValue) (ok : IsConsistent p) where
   abbrev so_far : List OfficeEntry → PlanValue
-  so_far offices = record { run = p.run; offices = offices; pairs = []; records = [] }
+  so_far offices = record { version = p.version; run = p.run; offices = offices; pairs = []; records = [] }
 
   free : (pre : List OfficeEntry) (x : OfficeEntry) → All (λ (y : OfficeEntry). y.address ≡ x.address → y.address ≡ no_address) pre → is_address_taken (so_far pre) x.address ≡ false
   free pre x h = by_test (bytes_eq x.address no_address) refl
@@ -70,7 +69,7 @@ module _ (p : PlanValue) (ok : IsConsistent p) (addresses : All (λ (o : OfficeE
       let Differ : OfficeEntry → OfficeEntry → Type 0 = λ a b. a.name ≢ b.name in
       let Apart : OfficeEntry → OfficeEntry → Type 0 = λ a b. a.address ≡ b.address → a.address ≡ no_address in
       let named : is_name x.name ≡ true = middle Named pre x xs (subst (All Named) (sym whole) ok.offices_are_named) in
-      let address : is_address x.address ≡ true = middle HasAddress pre x xs (subst (All HasAddress) (sym whole) addresses) in
+      let address : is_address x.address ≡ true = middle HasAddress pre x xs (subst (All HasAddress) (sym whole) ok.offices_have_addresses) in
       let new = new_name (λ (o : OfficeEntry). o.name) pre x xs (subst (AllPairs Differ) (sym whole) ok.office_names) in
       let apart = before_it Apart pre x xs (subst (AllPairs Apart) (sym whole) ok.addresses) in
       let room : nat_le 16 (length pre) ≡ false = not_at_least 16 (length pre) (omega (arith, ap length whole, length-append pre (x ∷ xs), ok.offices_fit)) in

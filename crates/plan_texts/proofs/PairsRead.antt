@@ -1,17 +1,15 @@
 -- The lines of pairs are read.
-use Rattle.std.proofs.Common.{◌≡◌, ◌≢◌, ℕ, ◌<◌, List, [], ◌∷◌, ◌++◌, length, Bool, true, false, ◌&&◌, ◌||◌, Result, Ok, Err, Option, Some, None, if◌then◌else◌, codes, refl, sym, ap, ap₂, ◌∙◌, subst, arith, append_assoc}
+use Rattle.std.proofs.Common.{◌≡◌, ◌≢◌, ℕ, ◌<◌, List, [], ◌∷◌, ◌++◌, length, Bool, true, false, ◌&&◌, Ok, Option, Some, None, if◌then◌else◌, codes, refl, sym, ap, ap₂, ◌∙◌, subst, arith, append_assoc}
 use Rattle.std.proofs.lemmas.List.{append-nil}
 use Rattle.std.specs.Prelude.{All, AllPairs, ◌==◌}
-use Rattle.std.specs.List.{list_all, list_any}
 use Rattle.std.specs.Option.{ok_or}
 use Rattle.std.specs.Str.{bytes_eq}
 use Rattle.std.proofs.lemmas.Bool.{eqb-true, false_from_ne_true}
 use Rattle.std.proofs.lemmas.List.Folds.{list_any_none}
 use Rattle.office_map.specs.declared.entries.PairEntry.{PairEntry}
-use Rattle.office_map.specs.declared.fault.PlanRule.{PlanRule}
 use Rattle.office_map.specs.declared.fault.PlanRule.TheVariants.{UnknownName, SelfPair, PairTwice}
 use Rattle.office_map.specs.PlanValue.{PlanValue, office_named, joins, are_neighbours, fork_end, with_pair}
-use Rattle.office_map.specs.PlanText.{◌>>=◌, ◌>>◌, refuse_if, APair, pair_of, declare}
+use Rattle.office_map.specs.PlanText.{◌>>=◌, ◌>>◌, refuse_if, APair, pair_of}
 use Rattle.office_map.specs.Consistency.{IsConsistent}
 use Rattle.text_lines.specs.Text.{name_of}
 use Rattle.session_reports.specs.Names.{office_name}
@@ -36,7 +34,7 @@ pair_done a b same joined q x y e f s j =
 
 module _ (p : PlanValue) (ok : IsConsistent p) where
   abbrev so_far : List PairEntry → PlanValue
-  so_far pairs = record { run = p.run; offices = p.offices; pairs = pairs; records = [] }
+  so_far pairs = record { version = p.version; run = p.run; offices = p.offices; pairs = pairs; records = [] }
 
   one_pair : (pre : List PairEntry) (x : PairEntry) (xs : List PairEntry) → pre ++ x ∷ xs ≡ p.pairs → Reads (so_far pre) (pair_words p x) (with_pair (so_far pre) x)
   one_pair pre x xs whole =

@@ -1,5 +1,5 @@
 -- An element of a list, and those before it.
-use Rattle.std.proofs.Common.{◌≡◌, ◌≢◌, ℕ, suc, ◌+◌, ◌<◌, ◌≤◌, List, [], ◌∷◌, ◌++◌, length, get_or, Bool, true, false, not, cond, nat_lt, nat_le, Option, Some, None, refl, sym, ap, ◌∙◌, subst, arith, length-append}
+use Rattle.std.proofs.Common.{◌≡◌, ◌≢◌, ℕ, ◌+◌, ◌<◌, ◌≤◌, List, [], ◌∷◌, ◌++◌, length, get_or, Bool, true, false, not, cond, nat_lt, nat_le, Some, None, refl, ap, ◌∙◌, subst, arith, length-append}
 use Rattle.std.specs.Prelude.{All, AllPairs}
 use Rattle.std.specs.List.{position, position_or_len, count_by}
 use Rattle.std.specs.Str.{bytes_eq}
@@ -19,21 +19,6 @@ other_bytes v w h = false_from_ne_true (bytes_eq v w) (λ e. h ((bytes_eq-Decide
 -- numbers and tests of them
 pub not_at_least : (n c : ℕ) → c < n → nat_le n c ≡ false
 not_at_least n c h = grind (arith, nat_tests)
-
-pub less_from : (a b : ℕ) → nat_lt a b ≡ true → a < b
-less_from a b h = grind (arith, nat_tests)
-
-pub true_from_less : (a b : ℕ) → a < b → nat_lt a b ≡ true
-true_from_less a b h = grind (arith, nat_tests)
-
-pub lt_later : (s m : ℕ) → s < m → s < suc m
-lt_later s m h = omega (arith, h)
-
-pub lt_next : (s m : ℕ) → s ≡ m → s < suc m
-lt_next s m h = omega (arith, h)
-
-pub no_room : (s t m : ℕ) → s ≡ t → s < m → t ≡ m → ⊥
-no_room s t m same lt is = omega (arith, same, lt, is)
 
 -- the element in the middle
 pub middle : {X : Type 0} (P : X → Type 0) (pre : List X) (x : X) (xs : List X) → All P (pre ++ x ∷ xs) → P x

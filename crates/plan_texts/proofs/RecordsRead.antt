@@ -1,19 +1,18 @@
 -- The lines of records are read.
-use Rattle.std.proofs.Common.{◌≡◌, ◌≢◌, ℕ, ◌+◌, ◌<◌, ◌≤◌, List, [], ◌∷◌, ◌++◌, length, Bool, true, false, not, ◌&&◌, ◌||◌, nat_le, Result, Ok, Err, Option, Some, None, is_some, if◌then◌else◌, codes, refl, sym, ap, ap₂, ◌∙◌, subst, arith, append_assoc}
+use Rattle.std.proofs.Common.{◌≡◌, ◌≢◌, ℕ, ◌+◌, ◌<◌, List, [], ◌∷◌, ◌++◌, Bool, true, false, not, ◌&&◌, nat_le, Ok, Option, Some, None, is_some, if◌then◌else◌, codes, refl, sym, ap, ◌∙◌, subst, arith, append_assoc}
 use Rattle.std.proofs.lemmas.List.{append-nil}
 use Rattle.std.specs.Prelude.{All, AllPairs, IsTrue, ◌==◌}
-use Rattle.std.specs.List.{list_all, list_any, count_by}
+use Rattle.std.specs.List.{count_by}
 use Rattle.std.specs.Option.{ok_or}
 use Rattle.std.specs.Str.{bytes_eq}
 use Rattle.std.proofs.lemmas.Bool.{and_from, eq-eqb, or_left}
 use Rattle.bottle_values.specs.Operations.{is_value}
 use Rattle.bottle_values.specs.Printed.{value_text}
 use Rattle.office_map.specs.declared.entries.RecordEntry.{RecordEntry}
-use Rattle.office_map.specs.declared.fault.PlanRule.{PlanRule}
 use Rattle.office_map.specs.declared.fault.PlanRule.TheVariants.{UnknownName, NameTwice, Limit}
 use Rattle.office_map.specs.NeighbourLaws.{neighbours_apart}
 use Rattle.office_map.specs.PlanValue.{PlanValue, office_named, record_named, are_neighbours, lies_between, records_between, start_end, with_record}
-use Rattle.office_map.specs.PlanText.{◌>>=◌, ◌>>◌, refuse_if, ARecord, record_of, value_of, declare}
+use Rattle.office_map.specs.PlanText.{◌>>=◌, ◌>>◌, refuse_if, ARecord, record_of, value_of}
 use Rattle.office_map.specs.Consistency.{IsConsistent}
 use Rattle.text_lines.specs.Text.{is_name, name_of}
 use Rattle.session_language.proofs.canonical.Lexemes.{name_again}
@@ -42,7 +41,7 @@ record_done a b apart named full q x y e f s n g =
 
 module _ (p : PlanValue) (ok : IsConsistent p) (values : All (λ (r : RecordEntry). IsTrue (is_value r.value)) p.records) where
   abbrev so_far : List RecordEntry → PlanValue
-  so_far records = record { run = p.run; offices = p.offices; pairs = p.pairs; records = records }
+  so_far records = record { version = p.version; run = p.run; offices = p.offices; pairs = p.pairs; records = records }
 
   one_record : (pre : List RecordEntry) (x : RecordEntry) (xs : List RecordEntry) → pre ++ x ∷ xs ≡ p.records → Reads (so_far pre) (record_words p x) (with_record (so_far pre) x)
   one_record pre x xs whole =

@@ -1,22 +1,24 @@
 -- The text of a plan means that plan.
-use Rattle.std.proofs.Common.{◌≡◌, ℕ, ◌+◌, ◌^◌, ◌<◌, ◌≤◌, List, [], ◌∷◌, ◌++◌, length, Bool, true, false, ◌&&◌, nat_lt, Result, Ok, Err, Option, Some, None, if◌then◌else◌, codes, refl, sym, ap, ap₂, ◌∙◌, arith}
+use Rattle.std.proofs.Common.{◌≡◌, ℕ, ◌+◌, ◌^◌, ◌<◌, List, [], ◌∷◌, ◌++◌, length, Bool, true, false, ◌&&◌, nat_lt, Result, Ok, Some, None, if◌then◌else◌, codes, refl, sym, ap, ◌∙◌, arith, lit<}
 use Rattle.std.proofs.lemmas.List.{append-nil}
-use Rattle.std.specs.List.{list_all, flat_map}
+use Rattle.std.specs.List.{list_all}
 use Rattle.std.specs.Option.{ok_or}
 use Rattle.std.specs.Fmt.{decimal}
 use Rattle.std.proofs.lemmas.Bool.Decides.{nat_tests}
+use Rattle.std.proofs.lemmas.Fmt.{decimal_digit}
+use Rattle.bottle_values.specs.declared.version.Version.TheVariants.{One}
 use Rattle.office_map.specs.declared.fault.PlanRule.TheVariants.{Header, Limit}
 use Rattle.office_map.specs.declared.fault.PlanRefusal.{PlanRefusal}
 use Rattle.office_map.specs.Limits.{most_text}
 use Rattle.office_map.specs.PlanValue.{PlanValue, with_office, with_pair, with_record}
 use Rattle.office_map.specs.PlanText.{◌>>=◌, ◌>>◌, refuse_if, and_then, small_number, run_of, at_line, read_header, read_lines, read_statements, plan_of}
-use Rattle.text_lines.specs.Text.{lines, number_of, statements, statements_from}
+use Rattle.text_lines.specs.Text.{lines, statements, statements_from}
 use Rattle.session_language.proofs.canonical.Lexemes.{number_again}
 use Rattle.run_words.specs.Words.{is_word, line_of_words}
 use Rattle.run_words.proofs.LinesOfWords.{lines_are_cut}
 use Rattle.run_words.proofs.NamesAndNumbers.{number_word}
 use Rattle.plan_texts.specs.WrittenPlans.{header_words, office_words, pair_words, record_words, office_lines, pair_lines, record_lines, ended, plan_text, IsWritable, PlanTextsAreRead}
-use Rattle.plan_texts.proofs.LinesRead.{statement_is, section_read, all_added}
+use Rattle.plan_texts.proofs.LinesRead.{statement_is, section_read}
 use Rattle.plan_texts.proofs.OfficesRead.{offices_read, offices_added}
 use Rattle.plan_texts.proofs.PairsRead.{pairs_read, pairs_added}
 use Rattle.plan_texts.proofs.RecordsRead.{records_read, records_added}
@@ -25,16 +27,23 @@ abbrev too_much : PlanRefusal
 too_much = record { rule = Limit; line = 0 }
 
 abbrev empty : ℕ → PlanValue
-empty run = record { run = run; offices = []; pairs = []; records = [] }
+empty run = record { version = One; run = run; offices = []; pairs = []; records = [] }
 
-header_good : (run : ℕ) → run < 2 ^ 32 → list_all is_word (header_words run) ≡ true
+-- the words of the first line of version 1
+abbrev first_words : ℕ → List (List ℕ)
+first_words run = codes "plan" ∷ codes "1" ∷ codes "run" ∷ decimal run ∷ []
+
+header_is : (run : ℕ) → header_words One run ≡ first_words run
+header_is run = let one : decimal 1 ≡ codes "1" = decimal_digit 1 (lit< tt) in ap (λ w. codes "plan" ∷ w ∷ codes "run" ∷ decimal run ∷ []) one
+
+header_good : (run : ℕ) → run < 2 ^ 32 → list_all is_word (first_words run) ≡ true
 header_good run small = ap (λ b. b && true) (number_word run (omega arith))
 
-header_read : (run n : ℕ) → run < 2 ^ 32 → read_header (n, line_of_words (header_words run)) ≡ Ok (empty run)
+header_read : (run n : ℕ) → run < 2 ^ 32 → read_header (n, line_of_words (first_words run)) ≡ Ok (empty run)
 unfolding read_header
 header_read run n small =
     let fits : nat_lt run (2 ^ 32) ≡ true = grind (arith, nat_tests) in
-    ap (λ o. at_line n (ok_or (and_then o run_of) Header >>= λ k. Ok (empty k))) (lines_are_cut (header_words run) (header_good run small))
+    ap (λ o. at_line n (ok_or (and_then o run_of) Header >>= λ k. Ok (empty k))) (lines_are_cut (first_words run) (header_good run small))
     ∙ ap (λ o. at_line n (ok_or (small_number o) Header >>= λ k. Ok (empty k))) (number_again run (omega arith))
     ∙ ap (λ b. at_line n (ok_or (if b then Some run else None) Header >>= λ k. Ok (empty k))) fits
 
@@ -46,16 +55,19 @@ whole b r p e f short read some =
     ∙ ap (λ t. refuse_if t f >> Ok p) some
 
 module _ (p : PlanValue) (w : IsWritable p) where
+  abbrev with_header : PlanValue
+  with_header = record { version = p.version; run = p.run; offices = []; pairs = []; records = [] }
+
   abbrev with_offices : PlanValue
-  with_offices = record { run = p.run; offices = p.offices; pairs = []; records = [] }
+  with_offices = record { version = p.version; run = p.run; offices = p.offices; pairs = []; records = [] }
 
   abbrev with_pairs : PlanValue
-  with_pairs = record { run = p.run; offices = p.offices; pairs = p.pairs; records = [] }
+  with_pairs = record { version = p.version; run = p.run; offices = p.offices; pairs = p.pairs; records = [] }
 
-  offices_then : (n : ℕ) (rest : List ℕ) → (m : ℕ) × (read_lines (empty p.run) (statements_from n (lines (office_lines p.offices ++ rest))) ≡ read_lines with_offices (statements_from m (lines rest)))
+  offices_then : (n : ℕ) (rest : List ℕ) → (m : ℕ) × (read_lines with_header (statements_from n (lines (office_lines p.offices ++ rest))) ≡ read_lines with_offices (statements_from m (lines rest)))
   offices_then n rest =
-      let s = section_read office_words with_office (empty p.run) p.offices n rest (offices_read p w.consistent w.addresses) in
-      (s.0, s.1 ∙ ap (λ q. read_lines q (statements_from s.0 (lines rest))) (offices_added p w.consistent w.addresses))
+      let s = section_read office_words with_office with_header p.offices n rest (offices_read p w.consistent) in
+      (s.0, s.1 ∙ ap (λ q. read_lines q (statements_from s.0 (lines rest))) (offices_added p w.consistent))
 
   pairs_then : (n : ℕ) (rest : List ℕ) → (m : ℕ) × (read_lines with_offices (statements_from n (lines (pair_lines p p.pairs ++ rest))) ≡ read_lines with_pairs (statements_from m (lines rest)))
   pairs_then n rest =
@@ -69,22 +81,24 @@ module _ (p : PlanValue) (w : IsWritable p) where
       ∙ s.1
       ∙ ap Ok (records_added p w.consistent w.values)
 
-  lines_read : (n : ℕ) → read_lines (empty p.run) (statements_from n (lines (office_lines p.offices ++ (pair_lines p p.pairs ++ record_lines p p.records)))) ≡ Ok p
+  lines_read : (n : ℕ) → read_lines with_header (statements_from n (lines (office_lines p.offices ++ (pair_lines p p.pairs ++ record_lines p p.records)))) ≡ Ok p
   lines_read n =
       let offices = offices_then n (pair_lines p p.pairs ++ record_lines p p.records) in
       let pairs = pairs_then offices.0 (record_lines p p.records) in
       offices.1 ∙ pairs.1 ∙ records_last pairs.0
 
-  statements_are : statements (plan_text p) ≡ (1, line_of_words (header_words p.run)) ∷ statements_from 2 (lines (office_lines p.offices ++ (pair_lines p p.pairs ++ record_lines p p.records)))
+  statements_are : statements (plan_text p) ≡ (1, line_of_words (first_words p.run)) ∷ statements_from 2 (lines (office_lines p.offices ++ (pair_lines p p.pairs ++ record_lines p p.records)))
   unfolding plan_text
   statements_are =
-      statement_is 1 (codes "plan") (codes "1" ∷ codes "run" ∷ decimal p.run ∷ []) (office_lines p.offices ++ (pair_lines p p.pairs ++ record_lines p p.records)) (record { some = omega arith; bytes = refl }) (header_good p.run w.run)
+      ap (λ ws. statements (ended ws ++ (office_lines p.offices ++ (pair_lines p p.pairs ++ record_lines p p.records)))) (ap (λ v. header_words v p.run) w.version ∙ header_is p.run)
+      ∙ statement_is 1 (codes "plan") (codes "1" ∷ codes "run" ∷ decimal p.run ∷ []) (office_lines p.offices ++ (pair_lines p p.pairs ++ record_lines p p.records)) (record { some = omega arith; bytes = refl }) (header_good p.run w.run)
 
   statements_read : read_statements (statements (plan_text p)) ≡ Ok p
   statements_read =
       let rest = statements_from 2 (lines (office_lines p.offices ++ (pair_lines p p.pairs ++ record_lines p p.records))) in
       ap read_statements statements_are
       ∙ ap (λ r. r >>= λ q. read_lines q rest) (header_read p.run 1 w.run)
+      ∙ ap (λ v. read_lines (record { version = v; run = p.run; offices = []; pairs = []; records = [] }) rest) (sym w.version)
       ∙ lines_read 2
 
   pub text_read : plan_of (plan_text p) ≡ Ok p

@@ -1,21 +1,20 @@
 -- The word of a value is read as that value.
-use Rattle.std.proofs.Common.{◌≡◌, ℕ, suc, ◌+◌, ◌/◌, ◌%◌, ◌^◌, ◌<◌, ◌≤◌, ◌⊎◌, ◌&&◌, List, [], ◌∷◌, ◌++◌, length, Bool, true, false, nat_lt, Option, Some, None, option_map, if◌then◌else◌, codes, refl, sym, ap, ap₂, ◌∙◌, arith, lit<, lit≤, ⊎_elim}
+use Rattle.std.proofs.Common.{◌≡◌, ℕ, suc, ◌+◌, ◌/◌, ◌%◌, ◌^◌, ◌<◌, ◌≤◌, ◌⊎◌, ◌&&◌, List, [], ◌∷◌, ◌++◌, length, Bool, true, false, nat_lt, Some, None, option_map, if◌then◌else◌, codes, refl, sym, ap, ap₂, ◌∙◌, arith, lit<, lit≤, ⊎_elim}
 use Rattle.std.specs.Prelude.{ℤ, pos, negsuc, neg_ℤ, ◌==◌}
 use Rattle.std.specs.List.{list_all}
 use Rattle.std.specs.Str.{bytes_eq}
 use Rattle.std.specs.Fmt.{decimal, signed_decimal}
-use Rattle.std.proofs.lemmas.Bool.{and_parts, both_ways, cases_lt}
+use Rattle.std.proofs.lemmas.Bool.{and_parts, cases_lt}
 use Rattle.std.proofs.lemmas.Bool.Decides.{nat_tests}
 use Rattle.std.proofs.lemmas.Fmt.{decimal_digit, decimal_step}
 use Rattle.std.proofs.lemmas.Slice.Eq.{bytes_eq-Decides}
 use Rattle.bottle_values.specs.Values.{Value, Number}
 use Rattle.bottle_values.specs.Operations.{is_value}
 use Rattle.bottle_values.specs.Printed.{value_text}
-use Rattle.bottle_values.specs.ListLaws.{all_weaker}
 use Rattle.office_map.specs.PlanText.{negative_of, integer_of, value_of}
 use Rattle.text_lines.specs.Text.{number_of, is_name_byte}
 use Rattle.run_words.specs.Words.{is_visible, is_word}
-use Rattle.run_words.proofs.NamesAndNumbers.{is_a_word, number_word}
+use Rattle.run_words.proofs.NamesAndNumbers.{number_word}
 use Rattle.session_language.proofs.canonical.Lexemes.{IsWord, number_is_word, number_again}
 
 -- a word that doesn't begin with a sign

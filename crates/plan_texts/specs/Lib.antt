@@ -1,3 +1,3 @@
 pub mod WrittenPlans
-pub mod PairsInOrder
 pub mod NextPlans
+pub mod refinement

@@ -2,6 +2,7 @@
 use Rattle.std.specs.Prelude.{◌≡◌, ℕ, ◌<◌, ◌≤◌, List, length, true, Ok}
 use Rattle.bottle_values.specs.Values.{Value}
 use Rattle.bottle_values.specs.Operations.{is_value}
+use Rattle.bottle_values.specs.declared.version.Version.TheVariants.{One}
 use Rattle.office_map.specs.Consistency.{IsAccepted}
 use Rattle.office_map.specs.Limits.{most_text}
 use Rattle.office_map.specs.PlanValue.{PlanValue}
@@ -10,22 +11,19 @@ use Rattle.office_map.specs.Precedence.{HasOrder}
 use Rattle.serial_replay.specs.Serial.{start_map}
 use Rattle.carried_days.specs.Days.{carried}
 use Rattle.carried_days.specs.RunNumbers.{run_after}
-use Rattle.plan_texts.specs.PairsInOrder.{in_order, HaveTheSamePairs}
-use Rattle.plan_texts.specs.WrittenPlans.{plan_text, HasAddresses}
+use Rattle.plan_texts.specs.WrittenPlans.{plan_text}
 
 -- the plan of the next day: the same offices, pairs and records, with these values, and the next run number
 abbrev pub next_plan : PlanValue → (ℕ → Value) → PlanValue
-next_plan p m = in_order (carried p (run_after p.run 1) m)
+next_plan p m = carried p (run_after p.run 1) m
 
--- What a text of the next day's plan means: that plan, which has no ring; whose pairs are those of the plan, with their forks at the same
--- ends; and which starts with these values.
+-- What a text of the next day's plan means: that plan, which has no ring, and which starts with these values.
 pub record IsNextPlan (p : PlanValue) (m : ℕ → Value) (text : List ℕ) : Type 0 where
   pub written : text ≡ plan_text (next_plan p m)
-  pub read : length text ≤ most_text → plan_of text ≡ Ok (next_plan p m)
+  pub read : p.version ≡ One → length text ≤ most_text → plan_of text ≡ Ok (next_plan p m)
   pub ordered : HasOrder (next_plan p m)
-  pub pairs : HaveTheSamePairs p (next_plan p m)
   pub starts : (r : ℕ) → r < length p.records → start_map (next_plan p m) r ≡ m r
 
 -- so it is of the text of each, whatever values are carried on
 abbrev pub NextPlansAreRead : Type 0
-NextPlansAreRead = (p : PlanValue) (m : ℕ → Value) → IsAccepted p → HasAddresses p → ((r : ℕ) → r < length p.records → is_value (m r) ≡ true) → IsNextPlan p m (plan_text (next_plan p m))
+NextPlansAreRead = (p : PlanValue) (m : ℕ → Value) → IsAccepted p → ((r : ℕ) → r < length p.records → is_value (m r) ≡ true) → IsNextPlan p m (plan_text (next_plan p m))

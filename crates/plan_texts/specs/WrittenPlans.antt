@@ -4,10 +4,12 @@ use Rattle.std.specs.List.{flat_map}
 use Rattle.std.specs.Fmt.{decimal}
 use Rattle.bottle_values.specs.Printed.{value_text}
 use Rattle.bottle_values.specs.Operations.{is_value}
+use Rattle.bottle_values.specs.Versions.{number_of}
+use Rattle.bottle_values.specs.declared.version.Version.{Version}
+use Rattle.bottle_values.specs.declared.version.Version.TheVariants.{One}
 use Rattle.office_map.specs.declared.entries.OfficeEntry.{OfficeEntry}
 use Rattle.office_map.specs.declared.entries.PairEntry.{PairEntry}
 use Rattle.office_map.specs.declared.entries.RecordEntry.{RecordEntry}
-use Rattle.office_map.specs.Address.{is_address}
 use Rattle.office_map.specs.Limits.{most_text}
 use Rattle.office_map.specs.PlanValue.{PlanValue, fork_end, start_end}
 use Rattle.office_map.specs.PlanText.{plan_of}
@@ -15,9 +17,9 @@ use Rattle.office_map.specs.Consistency.{IsConsistent}
 use Rattle.session_reports.specs.Names.{office_name}
 use Rattle.run_words.specs.Words.{line_of_words}
 
--- plan 1 run N
-abbrev pub header_words : ℕ → List (List ℕ)
-header_words run = codes "plan" ∷ codes "1" ∷ codes "run" ∷ decimal run ∷ []
+-- plan VERSION run N
+abbrev pub header_words : Version → ℕ → List (List ℕ)
+header_words version run = codes "plan" ∷ decimal (number_of version) ∷ codes "run" ∷ decimal run ∷ []
 
 -- office NAME ADDR
 abbrev pub office_words : OfficeEntry → List (List ℕ)
@@ -47,25 +49,17 @@ record_lines p = flat_map (λ r. ended (record_words p r))
 
 -- the text of a plan: its run, its offices, its pairs and its records, a line each
 unfoldable pub plan_text : PlanValue → List ℕ
-plan_text p = ended (header_words p.run) ++ (office_lines p.offices ++ (pair_lines p p.pairs ++ record_lines p p.records))
+plan_text p = ended (header_words p.version p.run) ++ (office_lines p.offices ++ (pair_lines p p.pairs ++ record_lines p p.records))
 
--- each office's word is an address, or `-`
-abbrev pub HasAddresses : PlanValue → Type 0
-HasAddresses p = All (λ (o : OfficeEntry). IsTrue (is_address o.address)) p.offices
-
--- a plan that a text can mean: its words are addresses, its numbers fit, and the text isn't too long
+-- a plan that a text can mean: it is of version 1, its numbers fit, and the text isn't too long
 pub record IsWritable (p : PlanValue) : Type 0 where
   pub consistent : IsConsistent p
   pub two_offices : 2 ≤ length p.offices
+  pub version : p.version ≡ One
   pub run : p.run < 2 ^ 32
-  pub addresses : HasAddresses p
   pub values : All (λ (r : RecordEntry). IsTrue (is_value r.value)) p.records
   pub short : length (plan_text p) ≤ most_text
 
 -- the text of a plan means that plan
 abbrev pub PlanTextsAreRead : Type 0
 PlanTextsAreRead = (p : PlanValue) → IsWritable p → plan_of (plan_text p) ≡ Ok p
-
--- each plan that a text means has addresses
-abbrev pub PlansOfTextsHaveAddresses : Type 0
-PlansOfTextsHaveAddresses = (text : List ℕ) (p : PlanValue) → plan_of text ≡ Ok p → HasAddresses p

@@ -1,8 +1,13 @@
 //! The text of a plan, which is read as that plan.
 //!
 //! - `specs/WrittenPlans.antt`: how a plan is written, and that its text means it ([`laws`] has it proved).
-//! - `specs/PairsInOrder.antt`: the pairs of a plan in the order of their offices' numbers.
-//! - `specs/NextPlans.antt`: the plan of the next day.
+//! - [`next_plan`] writes the plan of the next day (`specs/NextPlans.antt`): the same offices, pairs and records in the order of
+//!   their lines, the next run number, and the values that are carried on. It has no ring, and starts with these values.
+//!
+//! Not said: that the text of so large a plan is short enough to be read; how plans of version 2 are written.
 #![tactic(auto)]
 
 pub mod laws;
+pub mod writing;
+
+pub use crate::writing::next_plan;
