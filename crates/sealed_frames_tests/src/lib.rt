@@ -1,0 +1,5 @@
+//! Tests of `sealed_frames`: the published vectors of HMAC-SHA-256, and what is opened and what isn't.
+#![tactic(auto)]
+
+#[cfg(test)]
+mod tests;
