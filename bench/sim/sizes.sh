@@ -1,11 +1,11 @@
 #!/bin/sh
-# Prints how many bytes a journal's entry and a frame take. A vector of them that grows may have room for as many again.
+# Prints how many bytes a journal's entry and a frame of a world take. A vector of them that grows may have room for as many again.
 # Needs rt.
 #
 #   sh bench/sim/sizes.sh
 set -eu
 here=$(cd "$(dirname "$0")" && pwd)
 top=$here/../..
-uses="site_core frame_codec"
+uses="site_core frame_world"
 . "$top/bench/shared/crate.sh"
 "$work/crates/$program/out/$program"
