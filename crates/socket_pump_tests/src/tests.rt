@@ -30,6 +30,14 @@ const PAIR: &str =
 const SESSIONS: &str =
     "session a\nset x = read x - 30\nset y = read y + 30\nend\nsession b\nset x = read x + 30\nset y = read y - 30\nend\n";
 
+/// An office between two others, with a record of each.
+const STAR: &str =
+    "plan 1 run 42\noffice a -\noffice b -\noffice c -\npair a b fork a\npair a c fork a\nrecord x a b 100 at a\nrecord y a c 0 at c\n";
+
+/// A session of the middle one, for which the third has to give its bottle, and one of the second, for which the middle one has to.
+const STAR_SESSIONS: &str =
+    "session a\nset y = read y + 1\nend\nsession b\nset x = read x - 30\nend\n";
+
 /// An office with its pump.
 #[derive(Drop)]
 struct Side {

@@ -1,8 +1,8 @@
 //! Messages that aren't answered go out again, ever more seldom.
 
 use crate::tests::{
-    Both, Turned, Who, broke_off, open_both, open_both_of, programs, programs_of, submit,
-    take_turns, value_after,
+    Both, STAR, STAR_SESSIONS, Turned, Who, broke_off, open_both, open_both_of, programs,
+    programs_of, submit, take_turns, value_after,
 };
 use memory_wires::MemoryWire;
 use office_map::OfficeId;
@@ -10,14 +10,6 @@ use session_programs::Program;
 use std::process::Abort;
 use std::sync::Wait;
 use std::test::Fail;
-
-/// An office between two others, with a record of each.
-const STAR: &str =
-    "plan 1 run 42\noffice a -\noffice b -\noffice c -\npair a b fork a\npair a c fork a\nrecord x a b 100 at a\nrecord y a c 0 at c\n";
-
-/// A session of the middle one, for which the third has to give its bottle, and one of the second, for which the middle one has to.
-const STAR_SESSIONS: &str =
-    "session a\nset y = read y + 1\nend\nsession b\nset x = read x - 30\nend\n";
 
 /// Two records that the second office has, and a session of the first for which it has to give both.
 const TWO_RECORDS: &str =

@@ -231,8 +231,8 @@ impl Walk {
     }
 
     /// What a node makes of the numbers before it.
-    fn result(&self, node: Node, numbers: &mut Vec<i64>) -> i128 {
-        match node {
+    fn result(&self, node: &Node, numbers: &mut Vec<i64>) -> i128 {
+        match *node {
             Node::Literal(value) => i128::from(value.number()),
             Node::Variable(place) => {
                 let number = self.variables.get(usize::from(place)).copied();
@@ -254,8 +254,8 @@ impl Walk {
         for i in 0..nodes.len() {
             let node = nodes.node(i);
             self.counts();
-            let number = self.result(node, &mut numbers);
-            self.at_minus = matches!(node, Node::Negate);
+            let number = self.result(&node, &mut numbers);
+            self.at_minus = matches!(&node, Node::Negate);
             let Ok(number) = i64::try_from(number) else {
                 return Err(Halt::Ended(End::Overflow));
             };
