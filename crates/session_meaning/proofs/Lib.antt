@@ -1,8 +1,6 @@
 mod PostfixSplit
-mod PostfixNeeds
-mod SortedNeeds
 mod EndingLaws
 mod WorkedExamples
-mod session_measures
+mod StepsAreCounted
 mod working_copies
 pub mod Refilled

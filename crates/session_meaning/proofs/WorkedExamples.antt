@@ -7,7 +7,6 @@ use Rattle.session_meaning.specs.declared.node.Comparison.TheVariants as cmp
 use Rattle.session_meaning.specs.declared.ending.End.TheVariants.{Done, Refused, Overflow}
 use Rattle.session_meaning.specs.Tree.{Term, Constant, Var, ReadOf, Neg, Bin, Test, LetVar, SetTo, GiveOf, Requires, When, Choice, Loop, Block, Nothing, Then}
 use Rattle.session_meaning.specs.ProgramValue.{ProgramValue}
-use Rattle.session_meaning.specs.Measures.{block_cost, block_statements}
 use Rattle.session_meaning.specs.Meaning.{alone}
 use Rattle.session_meaning.specs.Length.{length_on}
 
@@ -31,12 +30,6 @@ counting =
     program ((105 ∷ []) ∷ [])
     (Then (LetVar 0 (number 0))
     (Then (Loop 3 (Then (LetVar 0 (Bin op.Plus (Var 0) (number 1))) (Then (Choice (record { left = Bin op.Times (Var 0) (number 2); comparison = cmp.Greater; right = number 3 }) (Then (GiveOf (Var 0)) Nothing) (Then (GiveOf (Neg (Var 0))) Nothing)) Nothing))) Nothing))
-
-pub counting_cost : ◌≡◌ {A = ℕ} (block_cost counting.body) 45
-counting_cost = refl
-
-pub counting_statements : ◌≡◌ {A = ℕ} (block_statements counting.body) 6
-counting_statements = refl
 
 pub counting_length : ◌≡◌ {A = ℕ} (length_on counting []) 44
 unfolding length_on

@@ -1,10 +1,7 @@
 pub mod Tree
 pub mod ProgramValue
-pub mod Needs
-pub mod Naming
 pub mod Meaning
 pub mod Length
 pub mod Stepwise
-pub mod Measures
 pub mod Laws
 pub mod refinement

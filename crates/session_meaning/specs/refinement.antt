@@ -4,5 +4,4 @@ pub mod TreeOfStatements
 pub mod RowLaws
 pub mod ExpressionNodes
 pub mod Postfix
-pub mod Extent
 pub mod CopiedSlots

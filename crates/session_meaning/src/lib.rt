@@ -1,4 +1,4 @@
-//! The tree of a session: what it does alone, how long that takes, what it costs, and which records it needs.
+//! The tree of a session: what it does alone, and how long that takes.
 //!
 //! - A session is a list of [`Statement`]s over [`Expression`]s. Contracts see them as trees (`specs/Tree.antt`), and a
 //!   whole program with its office and its variables' names as a `ProgramValue` (`specs/ProgramValue.antt`).
@@ -7,15 +7,12 @@
 //!   an [`Outcome`] with its office and its ticket there.
 //! - A running session has a [`WorkingCopy`] of its records and its [`Variables`]; their calls, [`Operator::apply`] and
 //!   [`Comparison::holds`] are those of `specs/Meaning.antt`.
-//! - [`measures`] are what a session costs, gives and has of statements (`specs/Measures.antt`), exact up to 10,000.
-//! - [`needs`] are the records that a session needs, in order (`needs_of`, in `specs/Needs.antt`).
-//! - [`laws`]: a session writes only what it needs, tells what it read, needs just the records that it names, and takes
-//!   as many steps as its length, which is at most its cost and 1.
+//! - [`laws`]: a session writes only what it was given, tells what it read, and takes as many steps as its length.
 //! - Expressions are kept in postfix order (`specs/refinement/Postfix.antt`), and their [`Nodes`] are told one at a time;
 //!   [`operands`] takes them apart.
 //!
-//! It stands below the language: what a session does alone, how long that takes and what it costs needs a tree and no
-//! text. So what works a session out, or proves something of it, stands on this crate.
+//! It stands below the language: what a session does alone and how long that takes needs a tree and no text. So what
+//! works a session out, or proves something of it, stands on this crate.
 //!
 //! Not said: what one count of a length takes on a machine.
 #![tactic(auto)]
@@ -23,8 +20,6 @@
 mod ending;
 mod expression;
 pub mod laws;
-pub mod measures;
-pub mod needs;
 mod node;
 mod nodes;
 pub mod operands;

@@ -1,3 +1,0 @@
-pub mod Saturation
-pub mod LengthWithinCost
-pub mod StepsAreCounted

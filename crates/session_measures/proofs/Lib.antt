@@ -1,0 +1,5 @@
+mod Saturation
+mod LengthWithinCost
+mod PostfixNeeds
+mod SortedNeeds
+mod WorkedExamples

@@ -1,0 +1,5 @@
+pub mod Measures
+pub mod Needs
+pub mod Naming
+pub mod Laws
+pub mod refinement

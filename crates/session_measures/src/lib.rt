@@ -1,0 +1,13 @@
+//! What is told of a session without running it: what it costs, how many values it gives, and which records it needs.
+//!
+//! - [`measures`] are what a session costs, gives and has of statements (`specs/Measures.antt`), exact up to 10,000.
+//! - [`needs`] are the records that a session needs, in order (`needs_of`, in `specs/Needs.antt`).
+//! - [`laws`]: a session's length is at most its cost and 1, and it needs just the records that it names
+//!   (`specs/Naming.antt`).
+//!
+//! Not said: what a session costs on a machine; its cost bounds how often its parts are worked out, by its length.
+#![tactic(auto)]
+
+pub mod laws;
+pub mod measures;
+pub mod needs;
