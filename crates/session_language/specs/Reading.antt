@@ -12,8 +12,8 @@ use Rattle.session_meaning.specs.Tree.{Term, Test, Command, LetVar, SetTo, GiveO
 use Rattle.session_meaning.specs.refinement.TreeOfStatements.{block_from}
 use Rattle.session_meaning.specs.ProgramValue.{ProgramValue}
 use Rattle.session_language.specs.Names.{Scope, placed, record_of, knows_variables, knows_records}
-use Rattle.session_meaning.specs.Needs.{with_record, term_needs, test_needs}
-use Rattle.session_meaning.specs.Measures.{block_gives}
+use Rattle.session_measures.specs.Needs.{with_record, term_needs, test_needs}
+use Rattle.session_measures.specs.Measures.{block_gives}
 use Rattle.session_programs.specs.Program.{is_too_long}
 use Rattle.session_language.specs.declared.keyword.Keyword.{Keyword}
 use Rattle.session_language.specs.Lexer.{Piece, pieces_of}
@@ -255,6 +255,7 @@ take_form p x Closes = take_closing x x.open_session
 abbrev pub take_formed : PlanValue → Reading → Option Form → Result Reading SessionRule
 take_formed p x form = ok_or form Syntax >>= take_form p x
 
+-- what a line leaves of what was read before it, or why it is refused
 abbrev pub take_line : PlanValue → Reading → List ℕ → Result Reading SessionRule
 take_line p x line = take_formed p x (form_of (pieces_of line))
 
@@ -271,6 +272,7 @@ abbrev pub read_lines : PlanValue → Reading → List (ℕ × List ℕ) → Res
 read_lines p x [] = Ok x
 read_lines p x (l ∷ ls) = at_line l.0 (take_line p x l.1) >>= λ y. read_lines p y ls
 
+-- before the first line
 abbrev pub nothing_read : Reading
 nothing_read = record { done = []; open_session = None }
 

@@ -14,7 +14,7 @@ use crate::parts::Parts;
 use crate::scope::Scope;
 use crate::spoken::{Spoken, speak};
 use office_map::{OfficeId, Plan};
-use session_meaning::measures::block_measures;
+use session_measures::measures::block_measures;
 use session_programs::Program;
 use session_sizes::are_too_long;
 use std::alloc::Global;

@@ -64,7 +64,7 @@ impl<T: Drop> From<AllocFailed<T>> for LangFault {
 
 /// Why a line was not taken; which line it is, its reader knows.
 #[derive(Drop)]
-pub(crate) enum Stop {
+pub enum Stop {
     Memory,
     Refused(SessionRule),
 }

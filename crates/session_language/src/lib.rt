@@ -26,6 +26,7 @@
 //! - A program's canonical text under a plan that it fits means that program, and nothing else ([`laws::reads_back`]).
 //! - A [`Program`] is that of `session_programs`, its tree and what it does alone are those of `session_meaning`; this
 //!   crate passes on their types.
+//! - A [`Reader`] takes the lines of a text one at a time (`take_line`, in `specs/Reading.antt`).
 //! - Reading an expression takes one pass and no recursion; the grammar is in `specs/Grammar.antt`, the words of a line
 //!   in `specs/Lexer.antt` (their code is [`lexer`]), the limits in `specs/Limits.antt` (the code has its own,
 //!   [`limits`]).
@@ -59,8 +60,9 @@ mod spoken;
 mod summary;
 mod token;
 
-pub use crate::fault::{LangFault, SessionRefusal, SessionRule};
+pub use crate::fault::{LangFault, SessionRefusal, SessionRule, Stop};
 pub use crate::read::read_sessions;
+pub use crate::reader::Reader;
 pub use session_meaning::{
     Comparison, Condition, End, Ending, Expression, Gives, Node, Operator, Outcome, RecordValues,
     Statement, Variables, WorkingCopy,

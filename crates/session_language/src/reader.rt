@@ -1,6 +1,6 @@
 //! Sessions from texts, line by line.
 
-ghost use Rattle.std.specs.Prelude.{◌≡◌};
+ghost use Rattle.std.specs.Prelude.{◌≡◌, [], is_some};
 ghost use Rattle.office_map.specs.PlanValue.{PlanValue};
 ghost use Rattle.session_language.specs.Lexer.{pieces_of};
 ghost use Rattle.session_language.specs.Form.{name_alone, IsStatement};
@@ -21,12 +21,12 @@ use std::alloc::Global;
 use std::mem;
 use text_lines::{Guesses, ShortName, short_name};
 
-/// The sessions that are closed, the one that is open, and the builder of expressions.
+/// The sessions that are closed, the one that is open, and the builder of expressions. After a refusal none reads on.
 #[derive(Drop)]
-pub(crate) struct Reader {
-    pub builder: Builder,
-    pub done: Vec<Program>,
-    pub open_session: Option<Draft>,
+pub struct Reader {
+    pub(crate) builder: Builder,
+    pub(crate) done: Vec<Program>,
+    pub(crate) open_session: Option<Draft>,
 }
 
 impl Reader {
@@ -60,6 +60,21 @@ impl Reader {
             open_session: _,
         } = self;
         done
+    }
+
+    /// The sessions that are closed: nothing is left of them here.
+    pub fn take_done(&mut self, alloc: Global) -> Vec<Program>
+        ensures taken { result.items ≡ (reading_of self.old).done }
+        ensures left { reading_of self.new ≡ record { done = []; open_session = (reading_of self.old).open_session } }
+    {
+        mem::replace(&mut self.done, Vec::new(alloc))
+    }
+
+    /// Whether a session is open.
+    pub fn is_open(&self) -> bool
+        ensures { result ≡ is_some (reading_of self.now).open_session }
+    {
+        self.open_session.is_some()
     }
 
     /// Takes one line that says something.

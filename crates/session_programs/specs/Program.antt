@@ -4,8 +4,8 @@ use Rattle.std.specs.List.{list_all}
 use Rattle.office_map.specs.PlanValue.{PlanValue, is_end, office_name_of, record_name_of}
 use Rattle.session_meaning.specs.ProgramValue.{ProgramValue}
 use Rattle.session_meaning.specs.Tree.{Block}
-use Rattle.session_meaning.specs.Needs.{needs_of}
-use Rattle.session_meaning.specs.Measures.{block_statements, block_cost}
+use Rattle.session_measures.specs.Needs.{needs_of}
+use Rattle.session_measures.specs.Measures.{block_statements, block_cost}
 use Rattle.session_programs.specs.Limits.{most_statements, most_cost, most_bytes}
 use Rattle.session_programs.specs.Text.{Words, session_text, wide_words}
 

@@ -6,8 +6,8 @@ ghost use Rattle.std.specs.List.{list_all};
 ghost use Rattle.std.specs.String.{string_bytes};
 ghost use Rattle.office_map.specs.PlanValue.{is_end};
 ghost use Rattle.session_meaning.specs.refinement.TreeOfStatements.{block_of};
-ghost use Rattle.session_meaning.specs.Needs.{needs_of};
-ghost use Rattle.session_meaning.specs.Naming.{BlockNames};
+ghost use Rattle.session_measures.specs.Needs.{needs_of};
+ghost use Rattle.session_measures.specs.Naming.{BlockNames};
 ghost use Rattle.session_programs.specs.WellFormed.{IsWellFormed};
 ghost use Rattle.session_programs.specs.refinement.Listing.{code_of};
 
@@ -16,7 +16,7 @@ use crate::listing::session_text;
 use crate::words::{RecordNames, Words};
 use office_map::{OfficeId, Plan, RecordId};
 use session_meaning::Statement;
-use session_meaning::laws::needs_what_it_names;
+use session_measures::laws::needs_what_it_names;
 use std::alloc::{AllocError, Global};
 use std::marker::Model;
 use std::sync::Arc;
@@ -58,7 +58,7 @@ impl Model for Program {
     ghost use Rattle.session_meaning.specs.declared.node.Node.{Node};
     ghost use Rattle.session_meaning.specs.refinement.TreeEncoding.{Mark, term_code, block_code};
     ghost use Rattle.session_meaning.specs.refinement.TreeOfStatements.{block_of};
-    ghost use Rattle.session_meaning.specs.Needs.{needs_of};
+    ghost use Rattle.session_measures.specs.Needs.{needs_of};
     ghost use Rattle.session_programs.specs.WellFormed.{IsWellFormed};
     ghost use Rattle.session_programs.specs.refinement.Listing.{code_of};
 

@@ -15,8 +15,8 @@ use Rattle.session_programs.specs.declared.rank.Rank.{Rank}
 use Rattle.session_programs.specs.declared.rank.Rank.TheVariants.{Factor, Product, Sum}
 use Rattle.session_meaning.specs.Tree.{Term, Constant, Var, ReadOf, Neg, Bin, Test, Command, LetVar, SetTo, GiveOf, Requires, When, Choice, Loop, Block, Nothing, Then}
 use Rattle.session_programs.specs.Program.{are_too_long}
-use Rattle.session_meaning.specs.Measures.{nodes, test_nodes, block_cost, block_statements}
-use Rattle.session_meaning.specs.refinement.Extent.{extent, block_extent}
+use Rattle.session_measures.specs.Measures.{nodes, test_nodes, block_cost, block_statements}
+use Rattle.session_measures.specs.refinement.Extent.{extent, block_extent}
 use Rattle.session_programs.specs.WellFormed.{IsUnsigned, IsLiteral, IsOver, IsTestOver, IsStatementOver, known_after, known_after_block, AreStatements}
 use Rattle.session_programs.specs.Text.{Words, magnitude, literal, variable_name, wide_words, rank_of, term_text, comparison_text, test_text, let_text, set_text, require_text, line, command_text, block_text, session_text}
 use Rattle.session_sizes.specs.refinement.TextSizes.{around_factor, around_product, around_both}

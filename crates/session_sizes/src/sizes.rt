@@ -14,8 +14,8 @@ ghost use Rattle.session_sizes.specs.refinement.TextSizes.{ranks_of, bytes_of, a
 
 use crate::limits::{MOST_BYTES, MOST_COST, MOST_STATEMENTS, PAST_BYTES, SHORT_EXTENT};
 use bottle_values::Value;
-use session_meaning::measures::block_measures;
 use session_meaning::{Condition, Expression, Node, Nodes, Operator, Statement};
+use session_measures::measures::block_measures;
 use session_programs::{Rank, comparison_text, magnitude};
 use std::alloc::{AllocError, Global};
 use text_lines::ShortName;

@@ -2,3 +2,5 @@ mod language;
 mod machine;
 mod meaning;
 mod replay;
+mod requests;
+mod streams;

@@ -4,7 +4,7 @@ use Rattle.std.specs.List.{list_all}
 use Rattle.std.proofs.lemmas.Bool.{and_parts}
 use Rattle.std.proofs.lemmas.Bool.Decides.{nat_tests}
 use Rattle.session_meaning.specs.Tree.{Term, Constant, Var, ReadOf, Neg, Bin, Test, Command, LetVar, SetTo, GiveOf, Requires, When, Choice, Loop, Block, Nothing, Then}
-use Rattle.session_meaning.specs.Needs.{with_record, term_needs, test_needs, command_needs, block_needs}
+use Rattle.session_measures.specs.Needs.{with_record, term_needs, test_needs, command_needs, block_needs}
 use Rattle.session_language.proofs.session_reading.ProgramsFit.{and_true, term_within}
 use Rattle.session_language.proofs.canonical.TextLines.{command_within}
 

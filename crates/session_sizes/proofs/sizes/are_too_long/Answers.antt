@@ -1,7 +1,7 @@
 use Rattle.std.proofs.Common.{◌≤◌, rules, sym}
-use Rattle.session_meaning.specs.Measures.{block_statements, block_cost}
+use Rattle.session_measures.specs.Measures.{block_statements, block_cost}
 use Rattle.session_meaning.specs.refinement.TreeOfStatements.{block_of}
-use Rattle.session_meaning.specs.refinement.Extent.{block_extent}
+use Rattle.session_measures.specs.refinement.Extent.{block_extent}
 use Rattle.session_sizes.proofs.ExtentBoundsSize.{short_by_extent}
 use Rattle.session_sizes.proofs.sizes.are_too_long.Goals as goal
 

@@ -1,0 +1,5 @@
+mod Cutting
+mod Names
+mod Parts
+mod Lines
+mod Added

@@ -1,0 +1,4 @@
+pub mod Requests
+pub mod Bytes
+pub mod RequestLaws
+pub mod refinement

@@ -1,0 +1,3 @@
+pub mod SecretText
+pub mod SecretLaws
+pub mod refinement

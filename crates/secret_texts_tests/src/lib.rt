@@ -1,0 +1,5 @@
+//! Tests of `secret_texts`: which texts are refused, with which line, and what an office has by a text.
+#![tactic(auto)]
+
+#[cfg(test)]
+mod tests;

@@ -1,0 +1,5 @@
+mod PartsHeard
+mod LinesRead
+mod TextsHeard
+mod FaultsHeard
+mod LinesClose
