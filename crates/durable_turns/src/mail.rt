@@ -104,7 +104,7 @@ impl Mail {
     pub(crate) fn comes(&mut self, bytes: &[u8])
         requires fresh { self.old ≡ fresh self.old.came }
         requires room { length self.old.came < 32 }
-        requires short { length bytes.now ≤ 64 }
+        requires short { length bytes.now ≤ 128 }
         ensures { self.new ≡ fresh (self.old.came ++ bytes.now ∷ []) }
     {
         self.came.push(Letter::of(bytes));
@@ -127,7 +127,7 @@ impl Mail {
 
     // The next of those that came is handed on.
     fn next(&mut self, buffer: &mut [u8; MOST_BYTES]) -> Option<usize>
-        ensures within { IfSome result (λ n. n ≤ 64) }
+        ensures within { IfSome result (λ n. n ≤ 128) }
         ensures next { IfSome result (λ n. slice_get self.old.came self.old.handed ≡ Some (take n buffer.new)) }
         ensures handed { OnSome result (self.new ≡ record self.old { handed = self.old.handed + 1 }) }
         ensures goes_on { OnSome result (self.old.ended ≡ false) }
@@ -146,7 +146,7 @@ impl Wire for Mail {
 
     ghost tells = { true };
 
-    fn receive(&mut self, buffer: &mut [u8; 64]) -> Result<Option<usize>, WireFailed> {
+    fn receive(&mut self, buffer: &mut [u8; 128]) -> Result<Option<usize>, WireFailed> {
         if let Some(count) = self.next(buffer) {
             return Ok(Some(count));
         }

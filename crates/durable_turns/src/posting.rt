@@ -35,7 +35,7 @@ fn fetch_one<W: Wire>(wire: &mut W, mail: &mut Mail) -> Result<bool, TurnFault>
     ensures one { IfOk result (λ more. FetchesOne W.tells (W.account wire.old) mail.old.came more (W.account wire.new) mail.new) }
     ensures fault { IfErr result (λ f. f ≡ faults.WireFailed) }
 {
-    let mut buffer = [0; 64];
+    let mut buffer = [0; 128];
     match wire.receive(&mut buffer) {
         Ok(Some(count)) => {
             mail.comes(&buffer[..count]);

@@ -9,34 +9,34 @@ use Rattle.frame_codec.specs.declared.message.Msg.{Msg}
 use Rattle.frame_codec.specs.Frame.{IsMsg}
 use Rattle.frame_codec.specs.Header.{header, ack_kind}
 use Rattle.frame_codec.specs.refinement.DecodedParts.{BeginsWith, code_of, fields_of, is_numbered_by}
-use Rattle.frame_codec.specs.Version01.{Spells, message, spelling}
+use Rattle.frame_codec.specs.Spelling.{Spells, message, spelling}
 
 -- the header, and what follows it
-whole : (bytes tail : List ℕ) (h : Header) (k : Kind) → BeginsWith 1 bytes h → h.kind ≡ k → drop 26 bytes ≡ tail → bytes ≡ header 1 (code_of k) (fields_of h) ++ tail
+whole : (bytes tail : List ℕ) (h : Header) (k : Kind) → BeginsWith bytes h → h.kind ≡ k → drop 26 bytes ≡ tail → bytes ≡ header (code_of k) (fields_of h) ++ tail
 whole bytes tail h k begun is follows =
     sym (take-append-drop 26 bytes)
-    ∙ ap (λ (l : List ℕ). l ++ drop 26 bytes) (begun.spelled ∙ ap (λ (j : Kind). header 1 (code_of j) (fields_of h)) is)
-    ∙ ap (λ (l : List ℕ). header 1 (code_of k) (fields_of h) ++ l) follows
+    ∙ ap (λ (l : List ℕ). l ++ drop 26 bytes) (begun.spelled ∙ ap (λ (j : Kind). header (code_of j) (fields_of h)) is)
+    ∙ ap (λ (l : List ℕ). header (code_of k) (fields_of h) ++ l) follows
 
-numbered : (bytes : List ℕ) (h : Header) (k : Kind) → BeginsWith 1 bytes h → h.kind ≡ k → is_numbered_by k h.number ≡ true
+numbered : (bytes : List ℕ) (h : Header) (k : Kind) → BeginsWith bytes h → h.kind ≡ k → is_numbered_by k h.number ≡ true
 numbered bytes h k begun is = ap (λ (j : Kind). is_numbered_by j h.number) (sym is) ∙ begun.number
 
-pub spells_data : (bytes : List ℕ) (h : Header) (m : Msg) → BeginsWith 1 bytes h → h.kind ≡ Data → drop 26 bytes ≡ message m → IsMsg m
-    → Spells bytes (record { run = h.run; from = h.from; to = h.to; number = h.number; count = h.count; msg = Some m })
+pub spells_data : (bytes : List ℕ) (h : Header) (m : Msg) → BeginsWith bytes h → h.kind ≡ Data → drop 26 bytes ≡ message h.version m → IsMsg m
+    → Spells bytes (record { version = h.version; run = h.run; from = h.from; to = h.to; number = h.number; count = h.count; msg = Some m })
 unfolding spelling
 spells_data bytes h m begun is follows fits =
     let both = and_parts _ _ (numbered bytes h Data begun is) in
     record {
       in_range = record { run = begun.run; from = begun.from; to = begun.to; number = (ltb-true _ _ both.0, ltb-true _ _ both.1); count = begun.count; msg = fits };
-      is = whole bytes (message m) h Data begun is follows;
+      is = whole bytes (message h.version m) h Data begun is follows;
     }
 
-pub spells_ack : (bytes : List ℕ) (h : Header) → BeginsWith 1 bytes h → h.kind ≡ Ack → drop 26 bytes ≡ []
-    → Spells bytes (record { run = h.run; from = h.from; to = h.to; number = 0; count = h.count; msg = None })
+pub spells_ack : (bytes : List ℕ) (h : Header) → BeginsWith bytes h → h.kind ≡ Ack → drop 26 bytes ≡ []
+    → Spells bytes (record { version = h.version; run = h.run; from = h.from; to = h.to; number = 0; count = h.count; msg = None })
 unfolding spelling
 spells_ack bytes h begun is follows =
     let number : h.number ≡ 0 = eqb-true _ _ (numbered bytes h Ack begun is) in
     record {
       in_range = record { run = begun.run; from = begun.from; to = begun.to; number = refl; count = begun.count; msg = tt };
-      is = whole bytes [] h Ack begun is follows ∙ ap (λ (n : ℕ). header 1 ack_kind (record { run = h.run; from = h.from; to = h.to; number = n; count = h.count; msg = None }) ++ []) number;
+      is = whole bytes [] h Ack begun is follows ∙ ap (λ (n : ℕ). header ack_kind (record { version = h.version; run = h.run; from = h.from; to = h.to; number = n; count = h.count; msg = None }) ++ []) number;
     }

@@ -1,15 +1,19 @@
 -- The first fault of bytes: that of their header, or else that of what follows it.
-use Rattle.std.proofs.Common.{◌≡◌, ℕ, ◌+◌, ◌≤◌, Bool, true, false, cond, ltb, List, [], ◌∷◌, ◌++◌, length, drop, get_or, Option, Some, None, refl, sym, ap, ◌∙◌, arith}
+use Rattle.std.proofs.Common.{◌≡◌, ℕ, ◌+◌, ◌<◌, ◌≤◌, Bool, true, false, cond, not, ◌&&◌, leb, ltb, List, [], ◌∷◌, ◌++◌, length, drop, get_or, Option, Some, None, refl, sym, ap, ◌∙◌, arith}
+use Rattle.std.specs.Prelude.{◌==◌}
 use Rattle.std.specs.List.{find}
-use Rattle.std.proofs.lemmas.Bool.{lt-ltb}
+use Rattle.std.proofs.lemmas.Bool.{lt-ltb, eq-eqb, eqb-true}
 use Rattle.std.proofs.lemmas.List.{get_or-drop, get_or-take, get_or_past, length-drop}
+use Rattle.bottle_values.specs.Versions.{number_of}
+use Rattle.bottle_values.specs.declared.version.Version as versions
+use Rattle.bottle_values.specs.declared.version.Version.TheVariants.{One, Two}
 use Rattle.frame_codec.specs.declared.fault.FrameFault.{FrameFault}
-use Rattle.frame_codec.specs.declared.fault.FrameFault.TheVariants.{Short, Magic, Version, Kind, Number, Count, Tag, Length}
+use Rattle.frame_codec.specs.declared.fault.FrameFault.TheVariants.{Short, Magic, Version, Kind, Number, Count, Tag, ValueForm, Length, TextByte}
 use Rattle.frame_codec.specs.declared.header.Kind.TheVariants.{Data}
 use Rattle.frame_codec.specs.declared.header.Header.{Header}
 use Rattle.frame_codec.specs.Header.{header_fault, data_kind}
-use Rattle.frame_codec.specs.refinement.DecodedParts.{BeginsWith, code_of, message_fault}
-use Rattle.frame_codec.specs.Version01.{has, first_fault}
+use Rattle.frame_codec.specs.refinement.DecodedParts.{BeginsWith, code_of, bottle_fault, message_fault}
+use Rattle.frame_codec.specs.Spelling.{length_by_tag, has, first_fault}
 
 cond_none : (b : Bool) (x : FrameFault) (r : Option FrameFault) → cond b (Some x) r ≡ None → (b ≡ false) × (r ≡ None)
 cond_none true x r h = absurd cc
@@ -32,30 +36,119 @@ find-append_some test (x ∷ xs) ys e h =
 abbrev header_faults : List FrameFault
 header_faults = Short ∷ Magic ∷ Version ∷ Kind ∷ Number ∷ Count ∷ []
 
+abbrev later_faults : List FrameFault
+later_faults = Tag ∷ ValueForm ∷ Length ∷ TextByte ∷ []
+
 abbrev later_fault : List ℕ → Option FrameFault
-later_fault bytes = find (has bytes) (Tag ∷ Length ∷ [])
+later_fault bytes = find (has bytes) later_faults
 
 -- a fault of the header comes first
-pub first_fault-in_header : (bytes : List ℕ) (e : FrameFault) → header_fault 1 bytes ≡ Some e → first_fault bytes ≡ Some e
+pub first_fault-in_header : (bytes : List ℕ) (e : FrameFault) → header_fault bytes ≡ Some e → first_fault bytes ≡ Some e
 unfolding header_fault first_fault
-first_fault-in_header bytes e h = find-append_some (has bytes) header_faults (Tag ∷ Length ∷ []) e h
+first_fault-in_header bytes e h = find-append_some (has bytes) header_faults later_faults e h
 
-first_fault-after_header : (bytes : List ℕ) → header_fault 1 bytes ≡ None → first_fault bytes ≡ later_fault bytes
+first_fault-after_header : (bytes : List ℕ) → header_fault bytes ≡ None → first_fault bytes ≡ later_fault bytes
 unfolding header_fault first_fault
-first_fault-after_header bytes h = find-append_none (has bytes) header_faults (Tag ∷ Length ∷ []) h
+first_fault-after_header bytes h = find-append_none (has bytes) header_faults later_faults h
 
-later_fault-message : (bytes tail : List ℕ) → 26 ≤ length bytes → get_or bytes 3 0 ≡ data_kind → drop 26 bytes ≡ tail → later_fault bytes ≡ message_fault tail
-later_fault-message bytes [] whole kind is =
+-- what is looked at behind a data frame's header: whether the version is 02, how long the bytes are, the tag, and the form
+abbrev later_of : Bool → ℕ → ℕ → ℕ → Option FrameFault
+later_of second size tag form =
+    cond (ltb 26 size && not (leb 1 tag && leb tag 4)) (Some Tag)
+    (cond ((second && ltb 26 size && tag == 4 && ltb 29 size) && not (form == 1)) (Some ValueForm)
+    (cond (not (size == length_by_tag second tag)) (Some Length) None))
+
+abbrev is_two : versions.Version → Bool
+is_two v = number_of v == 2
+
+later_read : (v : versions.Version) (bytes : List ℕ) → get_or bytes 2 0 ≡ number_of v → get_or bytes 3 0 ≡ data_kind
+    → later_fault bytes ≡ later_of (is_two v) (length bytes) (get_or bytes 26 0) (get_or bytes 29 0)
+later_read v bytes version kind = rw (version, kind) refl
+
+flip : {A : Type 0} (b : Bool) (x y : A) → cond (not b) x y ≡ cond b y x
+flip true x y = refl
+flip false x y = refl
+
+same_truth : (b c : Bool) → (b ≡ true → c ≡ true) → (c ≡ true → b ≡ true) → b ≡ c
+same_truth true c there back = sym (there refl)
+same_truth false true there back = back refl
+same_truth false false there back = refl
+
+-- a length and what stands before it
+shifted : (k n m : ℕ) → (k + n == k + m) ≡ (n == m)
+shifted k n m = same_truth _ _ (λ e. eq-eqb n m (let h = eqb-true (k + n) (k + m) e in omega arith)) (λ e. eq-eqb (k + n) (k + m) (let h = eqb-true n m e in omega arith))
+
+number_fault_is : (k n : ℕ) → cond (not (k + n == k + 8)) (Some Length) None ≡ cond (n == 8) None (Some Length)
+number_fault_is k n = flip (k + n == k + 8) (Some Length) None ∙ ap (λ b. cond b None (Some Length)) (shifted k n 8)
+
+longer : (k n : ℕ) → 26 < k → ltb 26 (k + n) ≡ true
+longer k n h = lt-ltb 26 (k + n) (omega arith)
+
+-- of a bottle: of each version, where its record and its form are there
+of_one : (n form : ℕ) → later_of false (29 + n) 4 form ≡ cond (n == 8) None (Some Length)
+of_one n form =
+    let long : ltb 26 (29 + n) ≡ true = longer 29 n (omega arith) in
+    rw long (number_fault_is 29 n)
+
+of_two : (n form : ℕ) → later_of true (30 + n) 4 form ≡ cond (form == 1) (cond (n == 8) None (Some Length)) (Some ValueForm)
+of_two n form =
+    let long : ltb 26 (30 + n) ≡ true = longer 30 n (omega arith) in
+    let there : ltb 29 (30 + n) ≡ true = lt-ltb 29 (30 + n) (omega arith) in
+    rw (long, there) (flip (form == 1) (Some ValueForm) _ ∙ ap (λ r. cond (form == 1) r (Some ValueForm)) (number_fault_is 30 n))
+
+-- by how many bytes there are behind its tag
+of_bottle : (v : versions.Version) (rest : List ℕ) → later_of (is_two v) (27 + length rest) 4 (get_or rest 2 0) ≡ bottle_fault v rest
+of_bottle One [] = refl
+of_bottle One (high ∷ []) = refl
+of_bottle One (high ∷ low ∷ value) =
+    let size : 27 + length (high ∷ low ∷ value) ≡ 29 + length value = omega arith in
+    ap (λ k. later_of false k 4 (get_or (high ∷ low ∷ value) 2 0)) size ∙ of_one (length value) (get_or (high ∷ low ∷ value) 2 0)
+of_bottle Two [] = refl
+of_bottle Two (high ∷ []) = refl
+of_bottle Two (high ∷ low ∷ []) = refl
+of_bottle Two (high ∷ low ∷ form ∷ value) =
+    let size : 27 + length (high ∷ low ∷ form ∷ value) ≡ 30 + length value = omega arith in
+    ap (λ k. later_of true k 4 form) size ∙ of_two (length value) form
+
+-- of any other message
+of_another : (v : versions.Version) (tag : ℕ) (rest : List ℕ) → (tag == 4) ≡ false → later_of (is_two v) (27 + length rest) tag (get_or rest 2 0) ≡ message_fault v (tag ∷ rest)
+of_another v tag rest other =
+    let long : ltb 26 (27 + length rest) ≡ true = longer 27 (length rest) (omega arith) in
+    rw (long, other) (by_version v)
+  where
+    by_size : (b : Bool) → cond (not (27 + length rest == cond b 29 27)) (Some Length) None ≡ cond (length rest == cond b 2 0) None (Some Length)
+    by_size true = flip (27 + length rest == 29) (Some Length) None ∙ ap (λ x. cond x None (Some Length)) (shifted 27 (length rest) 2)
+    by_size false = flip (27 + length rest == 27) (Some Length) None ∙ ap (λ x. cond x None (Some Length)) (shifted 27 (length rest) 0)
+
+    by_version : (w : versions.Version) → cond (not (leb 1 tag && leb tag 4)) (Some Tag) (cond ((is_two w && true && false && ltb 29 (27 + length rest)) && not (get_or rest 2 0 == 1)) (Some ValueForm) (cond (not (27 + length rest == cond (tag == 3) 29 27)) (Some Length) None))
+        ≡ cond (not (leb 1 tag && leb tag 4)) (Some Tag) (cond (length rest == cond (tag == 3) 2 0) None (Some Length))
+    by_version One = ap (cond (not (leb 1 tag && leb tag 4)) (Some Tag)) (by_size (tag == 3))
+    by_version Two = ap (cond (not (leb 1 tag && leb tag 4)) (Some Tag)) (by_size (tag == 3))
+
+of_message : (v : versions.Version) (tag : ℕ) (rest : List ℕ) → later_of (is_two v) (27 + length rest) tag (get_or rest 2 0) ≡ message_fault v (tag ∷ rest)
+of_message v tag rest = go (tag == 4) refl
+  where
+    go : (b : Bool) → (tag == 4) ≡ b → later_of (is_two v) (27 + length rest) tag (get_or rest 2 0) ≡ message_fault v (tag ∷ rest)
+    go true is = rw (eqb-true tag 4 is) (of_bottle v rest)
+    go false is = of_another v tag rest is
+
+later_fault-message : (v : versions.Version) (bytes tail : List ℕ) → 26 ≤ length bytes → get_or bytes 2 0 ≡ number_of v → get_or bytes 3 0 ≡ data_kind → drop 26 bytes ≡ tail → later_fault bytes ≡ message_fault v tail
+later_fault-message v bytes [] whole version kind is =
     let len : length bytes ≡ 26 = omega (arith, length-drop 26 bytes, ap length is) in
-    rw (kind, len, get_or_past bytes 26 0 (omega arith)) refl
-later_fault-message bytes (tag ∷ rest) whole kind is =
-    let len : length bytes ≡ 26 + length (tag ∷ rest) = omega (arith, length-drop 26 bytes, ap length is) in
+    later_read v bytes version kind ∙ rw (len, get_or_past bytes 26 0 (omega arith)) (nothing v)
+  where
+    nothing : (v : versions.Version) → later_of (is_two v) 26 0 (get_or bytes 29 0) ≡ Some Length
+    nothing One = refl
+    nothing Two = refl
+later_fault-message v bytes (tag ∷ rest) whole version kind is =
+    let len : length bytes ≡ 27 + length rest = omega (arith, length-drop 26 bytes, ap length is) in
     let first : get_or bytes 26 0 ≡ tag = sym (get_or-drop 26 bytes 0 0) ∙ ap (λ (l : List ℕ). get_or l 0 0) is in
-    let long : ltb 26 (26 + length (tag ∷ rest)) ≡ true = lt-ltb 26 (26 + length (tag ∷ rest)) (omega arith) in
-    rw (kind, len, first, long) refl
+    let form : get_or bytes 29 0 ≡ get_or rest 2 0 = sym (get_or-drop 26 bytes 3 0) ∙ ap (λ (l : List ℕ). get_or l 3 0) is in
+    later_read v bytes version kind ∙ rw (len, first, form) (of_message v tag rest)
 
 -- behind the good header of a data frame, it is the message's
-pub first_fault-of_message : (bytes : List ℕ) (h : Header) → BeginsWith 1 bytes h → header_fault 1 bytes ≡ None → h.kind ≡ Data → first_fault bytes ≡ message_fault (drop 26 bytes)
+pub first_fault-of_message : (bytes : List ℕ) (h : Header) → BeginsWith bytes h → header_fault bytes ≡ None → h.kind ≡ Data → first_fault bytes ≡ message_fault h.version (drop 26 bytes)
 first_fault-of_message bytes h begun faultless is =
+    let version : get_or bytes 2 0 ≡ number_of h.version = sym (get_or-take 26 bytes 2 0 (omega arith)) ∙ ap (λ (l : List ℕ). get_or l 2 0) begun.spelled in
     let kind : get_or bytes 3 0 ≡ data_kind = sym (get_or-take 26 bytes 3 0 (omega arith)) ∙ ap (λ (l : List ℕ). get_or l 3 0) begun.spelled ∙ ap code_of is in
-    first_fault-after_header bytes faultless ∙ later_fault-message bytes (drop 26 bytes) begun.whole kind refl
+    first_fault-after_header bytes faultless ∙ later_fault-message h.version bytes (drop 26 bytes) begun.whole version kind refl

@@ -1,12 +1,14 @@
 -- What a frame says, and the range of each of its fields.
 use Rattle.std.specs.Prelude.{◌≡◌, ℕ, ◌<◌, ◌^◌, Option, Some, None, IsTrue, IfSome}
 use Rattle.bottle_values.specs.Operations.{is_value}
+use Rattle.bottle_values.specs.declared.version.Version.{Version}
 use Rattle.frame_codec.specs.declared.message.Msg.{Msg}
 use Rattle.frame_codec.specs.declared.message.Msg.TheVariants.{AskFork, Fork, AskBottle, Bottle}
 use Rattle.frame_codec.specs.Limits.{sequence_space}
 
 -- a frame, field by field; one without a message is an acknowledgement
 pub record Fields : Type 0 where
+  pub version : Version
   pub run : ℕ
   pub from : ℕ
   pub to : ℕ

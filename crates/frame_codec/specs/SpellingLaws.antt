@@ -6,13 +6,15 @@ use Rattle.byteorder.specs.Endian.{big_bytes, big_number}
 use Rattle.byteorder.specs.Numbers.{big_number-reads_back}
 use Rattle.bottle_values.specs.Operations.{is_i64, is_value}
 use Rattle.bottle_values.specs.Bytes.{bytes_of, twos_complement}
-use Rattle.bottle_values.specs.Values.{number_in}
-use Rattle.bottle_values.specs.Values.{Value, Number}
+use Rattle.bottle_values.specs.Values.{Value, Number, number_in}
+use Rattle.bottle_values.specs.Versions.{number_of}
+use Rattle.bottle_values.specs.declared.version.Version.{Version}
+use Rattle.bottle_values.specs.declared.version.Version.TheVariants.{One, Two}
 use Rattle.frame_codec.specs.declared.message.Msg.{Msg}
 use Rattle.frame_codec.specs.declared.message.Msg.TheVariants.{AskFork, Fork, AskBottle, Bottle}
 use Rattle.frame_codec.specs.Frame.{Fields, IsFrame, IsMsg, IsNumbered}
 use Rattle.frame_codec.specs.Header.{kind_of}
-use Rattle.frame_codec.specs.Version01.{Spells, message, body, spelling}
+use Rattle.frame_codec.specs.Spelling.{Spells, value_bytes, message, body, spelling}
 
 -- ---- fields
 
@@ -35,46 +37,58 @@ below (negsuc n) f = omega arith
 same_value : (v w : Value) → IsTrue (is_value v) → IsTrue (is_value w) → bytes_of (number_in v) ≡ bytes_of (number_in w) → v ≡ w
 same_value (Number y) (Number z) fv fw e = ap Number (same_int y z fv fw (same_number 8 _ _ (below y fv) (below z fw) e))
 
+-- no value begins another of its version
+pub record SameValue (v w : Value) (x y : List ℕ) : Type 0 where
+  pub same : v ≡ w
+  pub rest : x ≡ y
+
+same_spelled_value : (version : Version) (v w : Value) (x y : List ℕ) → IsTrue (is_value v) → IsTrue (is_value w) → value_bytes version v ++ x ≡ value_bytes version w ++ y → SameValue v w x y
+same_spelled_value One v w x y fv fw e =
+    record { same = same_value v w fv fw (ap (take 8) e); rest = ap (drop 8) e }
+same_spelled_value Two v w x y fv fw e =
+    record { same = same_value v w fv fw (ap (λ (l : List ℕ). take 8 (drop 1 l)) e); rest = ap (drop 9) e }
+
 -- ---- messages
 
--- no message begins another
+-- no message begins another of its version
 pub record SameMessage (m n : Msg) (x y : List ℕ) : Type 0 where
   pub same : m ≡ n
   pub rest : x ≡ y
 
-same_message : (m n : Msg) (x y : List ℕ) → IsMsg m → IsMsg n → message m ++ x ≡ message n ++ y → SameMessage m n x y
-same_message AskFork AskFork x y fm fn e = record { same = refl; rest = cc }
-same_message AskFork Fork x y fm fn e = absurd cc
-same_message AskFork (AskBottle b) x y fm fn e = absurd cc
-same_message AskFork (Bottle b w) x y fm fn e = absurd cc
-same_message Fork AskFork x y fm fn e = absurd cc
-same_message Fork Fork x y fm fn e = record { same = refl; rest = cc }
-same_message Fork (AskBottle b) x y fm fn e = absurd cc
-same_message Fork (Bottle b w) x y fm fn e = absurd cc
-same_message (AskBottle a) AskFork x y fm fn e = absurd cc
-same_message (AskBottle a) Fork x y fm fn e = absurd cc
-same_message (AskBottle a) (AskBottle b) x y fm fn e =
+same_message : (version : Version) (m n : Msg) (x y : List ℕ) → IsMsg m → IsMsg n → message version m ++ x ≡ message version n ++ y → SameMessage m n x y
+same_message version AskFork AskFork x y fm fn e = record { same = refl; rest = cc }
+same_message version AskFork Fork x y fm fn e = absurd cc
+same_message version AskFork (AskBottle b) x y fm fn e = absurd cc
+same_message version AskFork (Bottle b w) x y fm fn e = absurd cc
+same_message version Fork AskFork x y fm fn e = absurd cc
+same_message version Fork Fork x y fm fn e = record { same = refl; rest = cc }
+same_message version Fork (AskBottle b) x y fm fn e = absurd cc
+same_message version Fork (Bottle b w) x y fm fn e = absurd cc
+same_message version (AskBottle a) AskFork x y fm fn e = absurd cc
+same_message version (AskBottle a) Fork x y fm fn e = absurd cc
+same_message version (AskBottle a) (AskBottle b) x y fm fn e =
     record { same = ap AskBottle (same_number 2 a b fm fn (ap (λ (l : List ℕ). take 2 (drop 1 l)) e)); rest = ap (drop 3) e }
-same_message (AskBottle a) (Bottle b w) x y fm fn e = absurd cc
-same_message (Bottle a v) AskFork x y fm fn e = absurd cc
-same_message (Bottle a v) Fork x y fm fn e = absurd cc
-same_message (Bottle a v) (AskBottle b) x y fm fn e = absurd cc
-same_message (Bottle a v) (Bottle b w) x y fm fn e =
+same_message version (AskBottle a) (Bottle b w) x y fm fn e = absurd cc
+same_message version (Bottle a v) AskFork x y fm fn e = absurd cc
+same_message version (Bottle a v) Fork x y fm fn e = absurd cc
+same_message version (Bottle a v) (AskBottle b) x y fm fn e = absurd cc
+same_message version (Bottle a v) (Bottle b w) x y fm fn e =
     let bottle : a ≡ b = same_number 2 a b fm.0 fn.0 (ap (λ (l : List ℕ). take 2 (drop 1 l)) e) in
-    let value : v ≡ w = same_value v w fm.1 fn.1 (ap (λ (l : List ℕ). take 8 (drop 3 l)) e) in
-    record { same = ap (λ (r : ℕ). Bottle r v) bottle ∙ ap (λ (u : Value). Bottle b u) value; rest = ap (drop 11) e }
+    let behind : value_bytes version v ++ x ≡ value_bytes version w ++ y = ap (drop 3) e in
+    let value = same_spelled_value version v w x y fm.1 fn.1 behind in
+    record { same = ap (λ (r : ℕ). Bottle r v) bottle ∙ ap (λ (u : Value). Bottle b u) value.same; rest = value.rest }
 
 -- the same of what follows a header, where the kinds agree
 pub record SameBody (m n : Option Msg) (x y : List ℕ) : Type 0 where
   pub same : m ≡ n
   pub rest : x ≡ y
 
-same_body : (m n : Option Msg) (x y : List ℕ) → IfSome m IsMsg → IfSome n IsMsg → kind_of m ≡ kind_of n → body m ++ x ≡ body n ++ y → SameBody m n x y
-same_body None None x y fm fn k e = record { same = refl; rest = e }
-same_body None (Some n) x y fm fn k e = absurd (omega arith)
-same_body (Some m) None x y fm fn k e = absurd (omega arith)
-same_body (Some m) (Some n) x y fm fn k e =
-    let s = same_message m n x y fm fn e in record { same = ap Some s.same; rest = s.rest }
+same_body : (version : Version) (m n : Option Msg) (x y : List ℕ) → IfSome m IsMsg → IfSome n IsMsg → kind_of m ≡ kind_of n → body version m ++ x ≡ body version n ++ y → SameBody m n x y
+same_body version None None x y fm fn k e = record { same = refl; rest = e }
+same_body version None (Some n) x y fm fn k e = absurd (omega arith)
+same_body version (Some m) None x y fm fn k e = absurd (omega arith)
+same_body version (Some m) (Some n) x y fm fn k e =
+    let s = same_message version m n x y fm fn e in record { same = ap Some s.same; rest = s.rest }
 
 -- ---- frames
 
@@ -82,32 +96,42 @@ number_fits : (m : Option Msg) (number : ℕ) → IsNumbered m number → number
 number_fits None number h = omega arith
 number_fits (Some m) number h = let high = h.1 in omega arith
 
-frame_of : ℕ → ℕ → ℕ → ℕ → ℕ → Option Msg → Fields
-frame_of run from to number count msg =
-    record { run = run; from = from; to = to; number = number; count = count; msg = msg }
+frame_of : Version → ℕ → ℕ → ℕ → ℕ → ℕ → Option Msg → Fields
+frame_of version run from to number count msg =
+    record { version = version; run = run; from = from; to = to; number = number; count = count; msg = msg }
 
-same_fields : (f g : Fields) → f.run ≡ g.run → f.from ≡ g.from → f.to ≡ g.to → f.number ≡ g.number → f.count ≡ g.count → f.msg ≡ g.msg → f ≡ g
+same_fields : (f g : Fields) → f.version ≡ g.version → f.run ≡ g.run → f.from ≡ g.from → f.to ≡ g.to → f.number ≡ g.number → f.count ≡ g.count → f.msg ≡ g.msg → f ≡ g
 unfolding frame_of
-same_fields f g run from to number count msg =
-    ap (λ (r : ℕ). frame_of r f.from f.to f.number f.count f.msg) run
-    ∙ ap (λ (r : ℕ). frame_of g.run r f.to f.number f.count f.msg) from
-    ∙ ap (λ (r : ℕ). frame_of g.run g.from r f.number f.count f.msg) to
-    ∙ ap (λ (r : ℕ). frame_of g.run g.from g.to r f.count f.msg) number
-    ∙ ap (λ (r : ℕ). frame_of g.run g.from g.to g.number r f.msg) count
-    ∙ ap (λ (m : Option Msg). frame_of g.run g.from g.to g.number g.count m) msg
+same_fields f g version run from to number count msg =
+    ap (λ (v : Version). frame_of v f.run f.from f.to f.number f.count f.msg) version
+    ∙ ap (λ (r : ℕ). frame_of g.version r f.from f.to f.number f.count f.msg) run
+    ∙ ap (λ (r : ℕ). frame_of g.version g.run r f.to f.number f.count f.msg) from
+    ∙ ap (λ (r : ℕ). frame_of g.version g.run g.from r f.number f.count f.msg) to
+    ∙ ap (λ (r : ℕ). frame_of g.version g.run g.from g.to r f.count f.msg) number
+    ∙ ap (λ (r : ℕ). frame_of g.version g.run g.from g.to g.number r f.msg) count
+    ∙ ap (λ (m : Option Msg). frame_of g.version g.run g.from g.to g.number g.count m) msg
+
+-- a version is told by its number
+pub same_version : (v w : Version) → number_of v ≡ number_of w → v ≡ w
+same_version One One e = refl
+same_version One Two e = absurd (omega arith)
+same_version Two One e = absurd (omega arith)
+same_version Two Two e = refl
 
 -- two spellings with the same bytes behind one another are of one frame
 same_spelled : (f g : Fields) (x y : List ℕ) → IsFrame f → IsFrame g → spelling f ++ x ≡ spelling g ++ y → f ≡ g
 unfolding spelling
 same_spelled f g x y ff fg e =
+    let version = same_version f.version g.version (ap (λ (l : List ℕ). get_or l 2 0) e) in
     let run = same_number 4 f.run g.run ff.run fg.run (ap (λ (l : List ℕ). take 4 (drop 4 l)) e) in
     let from : f.from ≡ g.from = ap (λ (l : List ℕ). get_or l 8 0) e in
     let to : f.to ≡ g.to = ap (λ (l : List ℕ). get_or l 9 0) e in
     let number = same_number 8 f.number g.number (number_fits f.msg f.number ff.number) (number_fits g.msg g.number fg.number) (ap (λ (l : List ℕ). take 8 (drop 10 l)) e) in
     let count = same_number 8 f.count g.count (let low = ff.count in omega arith) (let low = fg.count in omega arith) (ap (λ (l : List ℕ). take 8 (drop 18 l)) e) in
     let kind : kind_of f.msg ≡ kind_of g.msg = ap (λ (l : List ℕ). get_or l 3 0) e in
-    let msg = same_body f.msg g.msg x y ff.msg fg.msg kind (ap (drop 26) e) in
-    same_fields f g run from to number count msg.same
+    let behind : body g.version f.msg ++ x ≡ body g.version g.msg ++ y = ap (λ (v : Version). body v f.msg ++ x) (sym version) ∙ ap (drop 26) e in
+    let msg = same_body g.version f.msg g.msg x y ff.msg fg.msg kind behind in
+    same_fields f g version run from to number count msg.same
 
 -- no spelling begins another
 pub same_spelling : (a b x y : List ℕ) (f g : Fields) → Spells a f → Spells b g → a ++ x ≡ b ++ y → (a ≡ b) × (f ≡ g)

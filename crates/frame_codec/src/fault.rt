@@ -13,7 +13,7 @@ pub enum FrameFault {
     Short,
     /// The first two bytes aren't `44 50`.
     Magic,
-    /// The version isn't the one that is read.
+    /// The version is neither 01 nor 02.
     Version,
     /// The kind is neither data nor acknowledgement.
     Kind,
@@ -23,8 +23,12 @@ pub enum FrameFault {
     Count,
     /// A data frame's tag is none of 01 to 04.
     Tag,
-    /// The frame is longer or shorter than its kind and tag say.
+    /// In version 02 the byte behind a bottle's record is no form of a value.
+    ValueForm,
+    /// The frame is longer or shorter than its version, kind, tag and form say.
     Length,
+    /// A byte of a text is none that may stand in one. No value is a text yet.
+    TextByte,
 }
 
 impl FrameFault {
@@ -40,7 +44,9 @@ impl FrameFault {
             FrameFault::Number => "F5 Number",
             FrameFault::Count => "F6 Count",
             FrameFault::Tag => "F7 Tag",
+            FrameFault::ValueForm => "F9 ValueForm",
             FrameFault::Length => "F8 Length",
+            FrameFault::TextByte => "F10 TextByte",
         }
     }
 }

@@ -5,6 +5,7 @@ ghost use Rattle.frame_codec.specs.Frame.{IsNumbered};
 ghost use Rattle.frame_codec.specs.Limits.{sequence_space};
 
 use crate::message::Msg;
+use bottle_values::Version;
 use std::marker::Model;
 
 /// The greatest number of a message, and the greatest count.
@@ -17,6 +18,7 @@ pub struct Frame {
     run: u32,
     from: u8,
     to: u8,
+    version: Version,
     number: u64,
     count: u64,
     msg: Option<Msg>,
@@ -29,22 +31,31 @@ impl Model for Frame {
 
     ghost Value = { Fields };
 
-    ghost view = { λ f. record { run = f.run; from = f.from; to = f.to; number = f.number; count = f.count; msg = f.msg } };
+    ghost view = { λ f. record { version = f.version; run = f.run; from = f.from; to = f.to; number = f.number; count = f.count; msg = f.msg } };
 
     ghost invariant = { λ f. IsNumbered f.msg f.number × (f.count < sequence_space) };
 
-    ghost inverse = { λ f. record { run = f.run; from = f.from; to = f.to; number = f.number; count = f.count; msg = f.msg } };
+    ghost inverse = { λ f. record { version = f.version; run = f.run; from = f.from; to = f.to; number = f.number; count = f.count; msg = f.msg } };
 }
 
 impl Frame {
     /// A message with its number, from 1 to `MAX_NUMBER`, and the count of messages taken in order.
-    pub fn data(run: u32, from: u8, to: u8, number: u64, count: u64, msg: Msg) -> Frame
+    pub fn data(
+        version: Version,
+        run: u32,
+        from: u8,
+        to: u8,
+        number: u64,
+        count: u64,
+        msg: Msg,
+    ) -> Frame
         requires positive { 0 < number }
         requires number { number < sequence_space }
         requires count { count < sequence_space }
-        ensures { result ≡ record { run = run; from = from; to = to; number = number; count = count; msg = Some msg } }
+        ensures { result ≡ record { version = version; run = run; from = from; to = to; number = number; count = count; msg = Some msg } }
     {
         Frame {
+            version,
             run,
             from,
             to,
@@ -55,11 +66,12 @@ impl Frame {
     }
 
     /// The count of messages taken in order, with no message.
-    pub fn ack(run: u32, from: u8, to: u8, count: u64) -> Frame
+    pub fn ack(version: Version, run: u32, from: u8, to: u8, count: u64) -> Frame
         requires { count < sequence_space }
-        ensures { result ≡ record { run = run; from = from; to = to; number = 0; count = count; msg = None } }
+        ensures { result ≡ record { version = version; run = run; from = from; to = to; number = 0; count = count; msg = None } }
     {
         Frame {
+            version,
             run,
             from,
             to,
@@ -67,6 +79,13 @@ impl Frame {
             count,
             msg: None,
         }
+    }
+
+    /// The version of the format in which it is spelled.
+    pub fn version(&self) -> Version
+        ensures { result ≡ self.now.version }
+    {
+        self.version
     }
 
     /// The number of the run that the plan names.

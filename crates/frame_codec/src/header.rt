@@ -1,7 +1,8 @@
-//! The 26 bytes that each frame begins with, in any version of the format.
+//! The 26 bytes that each frame begins with, in either version of the format.
 
 ghost use Rattle.std.specs.Prelude.{◌≡◌, ◌≢◌, ◌≤◌, ◌++◌, length, drop, IfOk, IfSome, IfNone};
 ghost use Rattle.std.specs.Result.{result_err};
+ghost use Rattle.bottle_values.specs.Versions.{number_of};
 ghost use Rattle.frame_codec.specs.Frame.{IsFrame};
 ghost use Rattle.frame_codec.specs.Header.{ack_kind, data_kind, header, header_fault, kind_of};
 ghost use Rattle.frame_codec.specs.refinement.DecodedParts.{BeginsWith, code_of, is_numbered_by};
@@ -9,6 +10,7 @@ ghost use Rattle.frame_codec.specs.refinement.DecodedParts.{BeginsWith, code_of,
 use crate::fault::FrameFault;
 use crate::frame::{Frame, MAX_NUMBER};
 use crate::message::Msg;
+use bottle_values::Version;
 use byteorder::{BigEndian, ByteOrder};
 
 /// How many bytes a header has.
@@ -19,6 +21,18 @@ const MAGIC: [u8; 2] = [0x44, 0x50];
 const DATA: u8 = 1;
 
 const ACK: u8 = 2;
+
+/// The version that a header's third byte names.
+fn version_of(code: u8) -> Option<Version>
+    ensures known { IfSome result (λ version. code ≡ number_of version) }
+    ensures unknown { IfNone result ((code ≢ 1) × (code ≢ 2)) }
+{
+    match code {
+        1 => Some(Version::One),
+        2 => Some(Version::Two),
+        _ => None,
+    }
+}
 
 /// Whether a message follows the header.
 #[derive(Clone, Copy)]
@@ -54,6 +68,7 @@ impl Kind {
 /// What a header says, with its numbers in range.
 #[derive(Clone, Copy)]
 pub struct Header {
+    pub version: Version,
     pub kind: Kind,
     pub run: u32,
     pub from: u8,
@@ -63,11 +78,11 @@ pub struct Header {
 }
 
 impl Header {
-    /// The header of a frame of that version.
+    /// The header of a frame.
     #[tactic(auto, unfolding(crate::specs::Header::header_fault))]
-    pub fn read(bytes: &[u8], version: u8) -> Result<Header, FrameFault>
-        ensures found { IfOk result (BeginsWith version bytes.now) }
-        ensures fault { result_err result ≡ header_fault version bytes.now }
+    pub fn read(bytes: &[u8]) -> Result<Header, FrameFault>
+        ensures found { IfOk result (BeginsWith bytes.now) }
+        ensures fault { result_err result ≡ header_fault bytes.now }
     {
         if bytes.len() < HEADER_LENGTH {
             return Err(FrameFault::Short);
@@ -75,9 +90,9 @@ impl Header {
         if bytes[0] != MAGIC[0] || bytes[1] != MAGIC[1] {
             return Err(FrameFault::Magic);
         }
-        if bytes[2] != version {
+        let Some(version) = version_of(bytes[2]) else {
             return Err(FrameFault::Version);
-        }
+        };
         let Some(kind) = Kind::of_code(bytes[3]) else {
             return Err(FrameFault::Kind);
         };
@@ -90,6 +105,7 @@ impl Header {
             return Err(FrameFault::Count);
         }
         Ok(Header {
+            version,
             kind,
             run: BigEndian::read_u32(&bytes[4..]),
             from: bytes[8],
@@ -111,14 +127,14 @@ fn kind_byte(msg: Option<Msg>) -> u8
 }
 
 /// Writes the frame's header to the front of `out`.
-pub fn write_header(frame: &Frame, version: u8, out: &mut [u8])
+pub fn write_header(frame: &Frame, out: &mut [u8])
     requires { HEADER_LENGTH ≤ length out.old }
-    ensures written { out.new ≡ header version (kind_of frame.now.msg) frame.now ++ drop 26 out.old }
+    ensures written { out.new ≡ header (kind_of frame.now.msg) frame.now ++ drop 26 out.old }
     ensures range { IsFrame frame.now }
 {
     out[0] = MAGIC[0];
     out[1] = MAGIC[1];
-    out[2] = version;
+    out[2] = frame.version().number();
     out[3] = kind_byte(frame.msg());
     BigEndian::write_u32(&mut out[4..], frame.run());
     out[8] = frame.from();

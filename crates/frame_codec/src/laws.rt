@@ -1,10 +1,10 @@
-//! Laws of the grammar of version 01, apart from the functions that read and write it.
+//! Laws of the grammar of both versions, apart from the functions that read and write it.
 
 ghost use Rattle.std.specs.Prelude.{◌≡◌, List, ℕ, ◌++◌};
 ghost use Rattle.frame_codec.specs.Frame.{Fields, IsFrame};
-ghost use Rattle.frame_codec.specs.Version01.{Spells, spelling};
+ghost use Rattle.frame_codec.specs.Spelling.{Spells, spelling};
 
-/// No spelling of a frame begins a spelling of another, whatever follows either of them.
+/// No spelling of a frame begins a spelling of another, of either version, whatever follows either of them.
 pub fn no_spelling_begins_another()
     ensures { (a b x y : List ℕ) (f g : Fields) → Spells a f → Spells b g → a ++ x ≡ b ++ y → (a ≡ b) × (f ≡ g) }
 {}

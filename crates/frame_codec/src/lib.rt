@@ -3,29 +3,29 @@
 //! - A [`Frame`] is data, with a numbered message, or an acknowledgement. Its type keeps each field
 //!   in the format's range (`IsFrame`, in `specs/Frame.antt`).
 //! - [`decode`] answers a frame exactly where the grammar relates all of the bytes and that frame
-//!   (its clauses `found` and `only`; the grammar is `Spells`, in `specs/Version01.antt`), and else
+//!   (its clauses `found` and `only`; the grammar is `Spells`, in `specs/Spelling.antt`), and else
 //!   the first fault that applies (`fault`; the list is `has`, in the same file).
 //! - [`encode`] writes the one spelling of the frame (`spelled`, `length`) and leaves the rest of the
 //!   buffer (`rest`).
 //! - [`laws`] says of the grammar alone that no spelling begins another, that each frame has one
 //!   spelling, and that each spelling is of one frame.
 //!
-//! What stands in `frame`, `message`, `fault` and `header` holds for any version of the format, and
-//! `version_01` has what is that version's own. No call takes memory. It stands on `byteorder` and
-//! `bottle_values`.
+//! The two versions differ in the third byte and in how a value is spelled, which is told in `body`. No call takes
+//! memory. It stands on `byteorder` and `bottle_values`.
 //!
-//! Not said: anything of other versions, but that they are refused (F3); that a frame's run and offices are those of a
-//! plan.
+//! Not said: anything of other versions, but that they are refused (F3); that a frame's version, run and offices are
+//! those of a plan.
 #![tactic(auto)]
 
+mod body;
 mod fault;
 mod frame;
 mod header;
 pub mod laws;
 mod message;
-mod version_01;
+mod spelling;
 
 pub use fault::FrameFault;
 pub use frame::{Frame, MAX_NUMBER};
 pub use message::Msg;
-pub use version_01::{MAX_LENGTH, decode, encode};
+pub use spelling::{MAX_LENGTH, decode, encode};

@@ -269,7 +269,7 @@ follows_on plan s s' h i = subst (Follow plan s'.frames) (sym (pairs_after plan 
 
 pub starts : (plan : PlanValue) → Follows plan (starting plan)
 starts plan = record {
-  linked = linked_at_start plan.run (pairs_in (starting plan)) (λ a v. refl);
+  linked = linked_at_start plan.run plan.version (pairs_in (starting plan)) (λ a v. refl);
   honest = λ k f e. absurd cc;
   tables = record { events = []; led = refl };
   bars = record { events = []; led = refl };

@@ -4,7 +4,7 @@ use Rattle.std.specs.Prelude.{All}
 use Rattle.std.proofs.lemmas.List.Elements.{All-get_or}
 use Rattle.std.proofs.lemmas.Option.{slice_get_within, get_or_from_slice_get}
 use Rattle.frame_codec.specs.Frame.{Fields, IsFrame}
-use Rattle.frame_codec.specs.Version01.{Spells, spelling}
+use Rattle.frame_codec.specs.Spelling.{Spells, spelling}
 use Rattle.frame_world.specs.Worlds.{World, frame_at}
 use Rattle.frame_world.specs.Headline.{GoesByBytes, FramesInRangeGoByBytes}
 

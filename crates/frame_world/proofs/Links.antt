@@ -4,6 +4,7 @@ use Rattle.std.specs.Prelude.{◌==◌, slice_get, nat_le}
 use Rattle.std.proofs.lemmas.Bool.{cases_eq}
 use Rattle.bottle_values.specs.Maps.{put}
 use Rattle.bottle_values.specs.MapLaws.{put_cases}
+use Rattle.bottle_values.specs.declared.version.Version.{Version}
 use Rattle.frame_codec.specs.declared.message.Msg.{Msg}
 use Rattle.frame_codec.specs.Frame.{Fields}
 use Rattle.window_link.specs.Windows.{Sending, Receiving, queued, acknowledged}
@@ -106,7 +107,7 @@ quiet pairs a p' e h = record {
     same = links_kept pairs a p' e
 
 abbrev pub queued_link : LinkState → Msg → LinkState
-queued_link l m = record { run = l.run; me = l.me; peer = l.peer; sending = queued l.sending m; receiving = l.receiving }
+queued_link l m = record { run = l.run; me = l.me; peer = l.peer; sending = queued l.sending m; receiving = l.receiving; version = l.version }
 
 queues : (pairs : ℕ → Pairs) (a v : ℕ) (m : Msg) (p' : Pairs) → p'.link ≡ queued_to (pairs a).link v m → AreLinked pairs → Goes pairs a (Some (v, m)) (put pairs a p')
 queues pairs a v m p' e h = record {
@@ -369,8 +370,8 @@ follows_in pairs u a (Some m) p' e h next =
 
 -- ---- at the start, and a frame that is made
 
-pub linked_at_start : (run : ℕ) (pairs : ℕ → Pairs) → ((a v : ℕ) → (pairs a).link v ≡ resumed run a v 0 0) → AreLinked pairs
-linked_at_start run pairs e = record {
+pub linked_at_start : (run : ℕ) (version : Version) (pairs : ℕ → Pairs) → ((a v : ℕ) → (pairs a).link v ≡ resumed run a v 0 0 version) → AreLinked pairs
+linked_at_start run version pairs e = record {
   me = λ a v. ap (λ (l : LinkState). l.me) (e a v);
   peer = λ a v. ap (λ (l : LinkState). l.peer) (e a v);
   linked = λ a v. linked_as _ _ _ _ (ap (λ (l : LinkState). l.sending) (e a v)) (ap (λ (l : LinkState). l.receiving.taken) (e v a)) (record { known = omega arith; most = omega arith });
@@ -384,7 +385,7 @@ made_honest pairs a v i f h e = of i e
     l = (pairs a).link v
 
     made : ℕ → Option Msg → Fields
-    made n m = record { run = l.run; from = l.me; to = l.peer; number = n; count = l.receiving.taken; msg = m }
+    made n m = record { version = l.version; run = l.run; from = l.me; to = l.peer; number = n; count = l.receiving.taken; msg = m }
 
     honest : (n : ℕ) (m : Option Msg) → ((x : Msg) → m ≡ Some x → Carries l.sending n x) → IsHonest pairs (made n m)
     honest n m carries = record {

@@ -1,4 +1,4 @@
--- A number of a link is of one message: frames that are the same but for their messages are the same.
+-- A number of a link is of one message, whatever is sent.
 use Rattle.std.proofs.Common.{◌≡◌, ℕ, zero, suc, ◌+◌, ◌-◌, ◌<◌, Bool, true, false, cond, length, get_or, None, Some, refl, sym, ap, subst, ◌∙◌, arith, ⊎_elim}
 use Rattle.std.specs.Prelude.{slice_get, nat_le}
 use Rattle.std.proofs.lemmas.Bool.Decides.{nat_tests}
@@ -109,7 +109,4 @@ told_at_start : (plan : PlanValue) → AreTold plan (starting plan)
 told_at_start plan = record { follows = starts plan; said = λ k f e. absurd cc; same = λ j k f g e d from to number. absurd cc }
 
 pub numbers_tell_messages : Always NumbersTellMessages
-numbers_tell_messages plan es c j k f g there here is =
-    let told : AreTold plan (state_of (run_of (opening plan) es)) = through plan (AreTold plan) (told_at_start plan) (told_on plan) es in
-    let same : f.msg ≡ g.msg = told.same j k f g there here (ap (λ (x : Fields). x.from) is) (ap (λ (x : Fields). x.to) is) (ap (λ (x : Fields). x.number) is) in
-    ap (λ m. record f { msg = m }) same ∙ is
+numbers_tell_messages plan es c = (through plan (AreTold plan) (told_at_start plan) (told_on plan) es).same

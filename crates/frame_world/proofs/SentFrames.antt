@@ -6,6 +6,7 @@ use Rattle.std.proofs.lemmas.Bool.{cases_lt, eq-eqb, eqb-true}
 use Rattle.std.proofs.lemmas.Bool.Decides.{nat_tests}
 use Rattle.bottle_values.specs.Lists.{num}
 use Rattle.bottle_values.specs.Maps.{put}
+use Rattle.bottle_values.specs.Versions.{number_of}
 use Rattle.frame_codec.specs.declared.message.Msg.{Msg}
 use Rattle.frame_codec.specs.Frame.{Fields}
 use Rattle.office_map.specs.PlanValue.{PlanValue, are_neighbours}
@@ -175,6 +176,7 @@ still_crossed pairs a step f m l l' one h is old = go step l' one h
 -- what a frame that was just made has of its link
 pub record IsOfLink (l : LinkState) (f : Fields) : Type 0 where
   pub run : f.run ≡ l.run
+  pub version : f.version ≡ l.version
   pub from : f.from ≡ l.me
   pub to : f.to ≡ l.peer
   pub count : f.count ≡ l.receiving.taken
@@ -184,7 +186,7 @@ pub of_link : (l : LinkState) (i : ℕ) (f : Fields) → frame_on l i ≡ Some f
 of_link l i f e = by i e
   where
     made : (n : ℕ) (m : Option Msg) → n ≤ used l.sending → frame_with l n m ≡ f → IsOfLink l f
-    made n m most is = subst (IsOfLink l) is (record { run = refl; from = refl; to = refl; count = refl; number = most })
+    made n m most is = subst (IsOfLink l) is (record { run = refl; version = refl; from = refl; to = refl; count = refl; number = most })
 
     by : (i : ℕ) → frame_on l i ≡ Some f → IsOfLink l f
     by zero e = let is : frame_with l 0 None ≡ f = cc in made 0 None (omega arith) is
@@ -200,6 +202,8 @@ of_link l i f e = by i e
 pub record AreTimely (plan : PlanValue) (frames : List Fields) (pairs : ℕ → Pairs) : Type 0 where
   pub runs : (a v : ℕ) → ((pairs a).link v).run ≡ plan.run
   pub run : (k : ℕ) (f : Fields) → slice_get frames k ≡ Some f → f.run ≡ plan.run
+  pub versions : (a v : ℕ) → ((pairs a).link v).version ≡ plan.version
+  pub version : (k : ℕ) (f : Fields) → slice_get frames k ≡ Some f → f.version ≡ plan.version
   pub near : (k : ℕ) (f : Fields) → slice_get frames k ≡ Some f → are_neighbours plan f.from f.to ≡ true
   pub numbered : (k : ℕ) (f : Fields) → slice_get frames k ≡ Some f → f.number ≤ used (sending_of pairs f.from f.to)
   pub crossed : (k : ℕ) (f : Fields) (m : Msg) → slice_get frames k ≡ Some f → f.msg ≡ Some m → Crossed ((pairs f.to).link f.from) f m
@@ -231,6 +235,8 @@ timely_made : tables.EachHasOnePlace → bars.EachHasOnePlace → (plan : PlanVa
 timely_made forks bottles plan s s' c t i = record {
   runs = t.timely.runs;
   run = λ k f e. ⊎_elim (t.timely.run k f) (λ n. (of_link ((pairs_in s n.sender).link n.receiver) n.place f n.made).run ∙ t.timely.runs n.sender n.receiver) (old_or_new plan s s' i k f e);
+  versions = t.timely.versions;
+  version = λ k f e. ⊎_elim (t.timely.version k f) (λ n. (of_link ((pairs_in s n.sender).link n.receiver) n.place f n.made).version ∙ t.timely.versions n.sender n.receiver) (old_or_new plan s s' i k f e);
   near = λ k f e. ⊎_elim (t.timely.near k f) (near_new f) (old_or_new plan s s' i k f e);
   numbered = λ k f e. ⊎_elim (t.timely.numbered k f) (numbered_new f) (old_or_new plan s s' i k f e);
   crossed = λ k f m e is. ⊎_elim (λ old. t.timely.crossed k f m old is) (λ n. crossed_new f m n is) (old_or_new plan s s' i k f e);
@@ -262,6 +268,8 @@ timely_step : tables.EachHasOnePlace → bars.EachHasOnePlace → (plan : PlanVa
 timely_step forks bottles plan frames pairs a step c l h' t = record {
   runs = λ x v. kept_on_links pairs a step x v (λ l. l.run ≡ plan.run) (t.runs x v) (λ m. t.runs x v) (λ g. t.runs x v) (λ o. t.runs x v);
   run = t.run;
+  versions = λ x v. kept_on_links pairs a step x v (λ l. l.version ≡ plan.version) (t.versions x v) (λ m. t.versions x v) (λ g. t.versions x v) (λ o. t.versions x v);
+  version = t.version;
   near = t.near;
   numbered = λ k f e. numbers_grow pairs a step f (t.numbered k f e);
   crossed = λ k f m e is. still_crossed pairs a step f m l h'.linked (one_way forks bottles plan frames (moved pairs a step) c h') (h'.honest k f e) is (t.crossed k f m e is);
@@ -283,7 +291,7 @@ timely_on forks bottles plan s s' c t i = subst (FollowTimely plan s'.frames) (s
         record { follows = next; timely = timely_step forks bottles plan s'.frames qs i.place (ByKept v o) c k.follows.linked next k.timely }
 
 timely_at_start : (plan : PlanValue) → AreTimely plan [] (pairs_in (starting plan))
-timely_at_start plan = record { runs = λ a v. refl; run = λ k f e. absurd cc; near = λ k f e. absurd cc; numbered = λ k f e. absurd cc; crossed = λ k f m e is. absurd cc }
+timely_at_start plan = record { runs = λ a v. refl; run = λ k f e. absurd cc; versions = λ a v. refl; version = λ k f e. absurd cc; near = λ k f e. absurd cc; numbered = λ k f e. absurd cc; crossed = λ k f m e is. absurd cc }
 
 pub timely : tables.EachHasOnePlace → bars.EachHasOnePlace → (plan : PlanValue) (es : List WorldEvent) → IsConsistent plan → IsTimely plan (state_of (run_of (opening plan) es))
 timely forks bottles plan es c = through plan (IsTimely plan) (record { follows = starts plan; timely = timely_at_start plan }) (λ s s' t i. timely_on forks bottles plan s s' c t i) es
@@ -347,11 +355,17 @@ fine forks bottles plan s c t k f e =
         (eq-eqb f.from l.peer (sym (t.follows.linked.peer f.to f.from)))
         (eq-eqb f.to l.me (sym (t.follows.linked.me f.to f.from)))
 
+    of_version : (number_of f.version == number_of l.version) ≡ true
+    of_version = eq-eqb (number_of f.version) (number_of l.version) (ap number_of (t.timely.version k f e ∙ sym (t.timely.versions f.to f.from)))
+
     known : nat_lt (used l.sending) f.count ≡ false
     known = not_less (used l.sending) f.count (omega (arith, honest.count, (t.follows.linked.linked f.to f.from).most))
 
     link_fine : fault_of l f ≡ None
-    link_fine = ap (λ b. cond (not b) (Some linkfault.Stranger) (cond (nat_lt (used l.sending) f.count) (Some linkfault.AckAhead) None)) is_mine ∙ ap (λ b. cond b (Some linkfault.AckAhead) None) known
+    link_fine =
+        ap (λ b. cond (not b) (Some linkfault.Stranger) (cond (not (number_of f.version == number_of l.version)) (Some linkfault.WrongVersion) (cond (nat_lt (used l.sending) f.count) (Some linkfault.AckAhead) None))) is_mine
+        ∙ ap (λ b. cond (not b) (Some linkfault.WrongVersion) (cond (nat_lt (used l.sending) f.count) (Some linkfault.AckAhead) None)) of_version
+        ∙ ap (λ b. cond b (Some linkfault.AckAhead) None) known
 
     brought_fine : (m : Msg) → f.msg ≡ Some m → l.receiving.taken < f.number → breach_among (is_shared plan f.to f.from) (held p f.from) l f.count m ≡ false
     brought_fine m is later =

@@ -15,7 +15,7 @@ use Rattle.frame_codec.specs.Frame.{Fields}
 use Rattle.office_map.specs.PlanValue.{PlanValue, is_end, has_ends, peer, records_of}
 use Rattle.office_map.specs.NeighbourLaws.{peer_is, among_records}
 use Rattle.session_meaning.specs.ProgramValue.{ProgramValue}
-use Rattle.session_meaning.specs.Needs.{needs_of}
+use Rattle.session_measures.specs.Needs.{needs_of}
 use Rattle.session_programs.specs.Program.{fits}
 use Rattle.window_link.specs.declared.arrival.Arrival.{Arrival}
 use Rattle.window_link.specs.declared.arrival.Arrival.TheVariants as arrival

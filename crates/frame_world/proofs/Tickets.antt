@@ -24,11 +24,13 @@ use Rattle.office_journal.specs.declared.reply.Reply.TheVariants as reply
 use Rattle.site_core.specs.Agenda.{Agenda, Current, Idle, Gathering, Working, started, begun, worked, submitted, without_waiting, with_current}
 use Rattle.site_core.specs.Agenda as agenda
 use Rattle.site_core.specs.Offices.{Office, act, value_in, answer}
+use Rattle.site_core.specs.Submitted.{submitted_by, submitted_in}
+use Rattle.site_core.specs.JournalLaws.{submitted_more}
 use Rattle.site_core.specs.Tickets.{SessionsGoInOrder}
 use Rattle.frame_world.specs.declared.event.WorldEvent.{WorldEvent}
 use Rattle.frame_world.specs.Worlds.{World, Finished, opening, run_of, ended_as, ended, finished_by, site_at}
 use Rattle.frame_world.specs.Headline.{Always, outcomes}
-use Rattle.frame_world.specs.Tickets.{IsBelow, submitted_by, submitted_in, submitted_as, session_of, HaveTheirTickets, TicketsRise, TellsEachOffice}
+use Rattle.frame_world.specs.Tickets.{IsBelow, submitted_as, session_of, HaveTheirTickets, TicketsRise, TellsEachOffice}
 use Rattle.frame_world.specs.WorldStates.{State, state_of, starting, entry_of, IsAccepted}
 use Rattle.frame_world.specs.WorldLaws.{through}
 use Rattle.frame_world.proofs.Answers.{was_submitted, was_done, was_sent, was_taken, was_withdrawn}
@@ -52,10 +54,6 @@ abbrev IsFrom : List Entry → Session → Type 0
 IsFrom entries s = submitted_as entries s.ticket ≡ Some s
 
 -- ---- one entry more
-
-submitted_more : (xs : List Entry) (x : Entry) → submitted_in (xs ++ x ∷ []) ≡ submitted_in xs ++ submitted_by x.event x.reply
-submitted_more [] x = append-nil (submitted_by x.event x.reply)
-submitted_more (y ∷ ys) x = ap (λ l. submitted_by y.event y.reply ++ l) (submitted_more ys x) ∙ sym (append_assoc (submitted_by y.event y.reply) (submitted_in ys) (submitted_by x.event x.reply))
 
 slice_get_end : (xs : List Session) (s : Session) → slice_get (xs ++ s ∷ []) (length xs) ≡ Some s
 slice_get_end [] s = refl

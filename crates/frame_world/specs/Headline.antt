@@ -5,13 +5,13 @@ use Rattle.bottle_values.specs.Values.{Value}
 use Rattle.bottle_values.specs.Lists.{num}
 use Rattle.bottle_values.specs.Maps.{reads_of}
 use Rattle.frame_codec.specs.Frame.{Fields, IsFrame}
-use Rattle.frame_codec.specs.Version01.{Spells, spelling}
+use Rattle.frame_codec.specs.Spelling.{Spells, spelling}
 use Rattle.office_map.specs.PlanValue.{PlanValue, are_neighbours}
 use Rattle.office_map.specs.Consistency.{IsConsistent, IsAccepted}
 use Rattle.session_meaning.specs.declared.ending.Ending.{Ending}
 use Rattle.session_meaning.specs.declared.ending.Outcome.{Outcome}
 use Rattle.session_meaning.specs.ProgramValue.{ProgramValue}
-use Rattle.session_meaning.specs.Needs.{needs_of}
+use Rattle.session_measures.specs.Needs.{needs_of}
 use Rattle.serial_replay.specs.Serial.{start_map, map_of, outcomes_of}
 use Rattle.window_link.specs.Windows.{used}
 use Rattle.token_channel.specs.declared.thing.Thing.{Thing}
@@ -117,9 +117,9 @@ abbrev pub CountsAreTimely : World → Type 0
 CountsAreTimely w = (k : ℕ) (f : Fields) → slice_get w.frames k ≡ Some f → (before later : List Entry) → (site_at w f.from).entries ≡ before ++ later →
     used (link_at w.plan f.from before f.to).sending < f.number → (link_at w.plan f.from before f.to).receiving.taken ≤ f.count
 
--- a number is of one message: two frames that were sent, and are the same but for their messages, are the same
+-- a number is of one message: two frames that an office ever sent to another under one number have the same message
 abbrev pub NumbersTellMessages : World → Type 0
-NumbersTellMessages w = (j k : ℕ) (f g : Fields) → slice_get w.frames j ≡ Some f → slice_get w.frames k ≡ Some g → record f { msg = g.msg } ≡ g → f ≡ g
+NumbersTellMessages w = (j k : ℕ) (f g : Fields) → slice_get w.frames j ≡ Some f → slice_get w.frames k ≡ Some g → f.from ≡ g.from → f.to ≡ g.to → f.number ≡ g.number → f.msg ≡ g.msg
 
 -- which events led to a world from its plan
 pub record IsReached (w : World) : Type 0 where

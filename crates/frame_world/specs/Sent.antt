@@ -1,19 +1,15 @@
 -- Which entry of which office tells a frame.
-use Rattle.std.specs.Prelude.{◌≡◌, ℕ, List, [], ◌∷◌, get_or, slice_get, map, Option, Some, None}
+use Rattle.std.specs.Prelude.{◌≡◌, ℕ, List, [], ◌∷◌, get_or, slice_get, map, Option, Some}
 use Rattle.std.specs.Option.{option_and_then}
 use Rattle.frame_codec.specs.Frame.{Fields}
 use Rattle.office_map.specs.PlanValue.{PlanValue}
 use Rattle.office_journal.specs.declared.event.Entry.{Entry}
 use Rattle.office_journal.specs.declared.reply.Reply.{Reply}
 use Rattle.office_journal.specs.declared.reply.Reply.TheVariants as reply
+use Rattle.office_journal.specs.Replies.{frame_told}
 use Rattle.site_core.specs.Journals.{Site}
 use Rattle.frame_world.specs.declared.sent.SentAt.{SentAt}
 use Rattle.frame_world.specs.Worlds.{World, silent}
-
--- the frame that a reply tells, if it tells one
-abbrev pub frame_told : Reply → Option Fields
-frame_told (reply.Frame f) = Some f
-frame_told _ = None
 
 -- the frame that an entry tells
 abbrev pub entry_tells : Entry → Option Fields

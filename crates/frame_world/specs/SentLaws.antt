@@ -10,10 +10,11 @@ use Rattle.office_journal.specs.declared.event.Event.{Event}
 use Rattle.office_journal.specs.declared.event.Entry.{Entry}
 use Rattle.office_journal.specs.declared.reply.Reply.{Reply}
 use Rattle.office_journal.specs.declared.reply.Reply.TheVariants as reply
+use Rattle.office_journal.specs.Replies.{frame_told}
 use Rattle.site_core.specs.Journals.{Site, noted}
 use Rattle.frame_world.specs.declared.sent.SentAt.{SentAt}
 use Rattle.frame_world.specs.Worlds.{silent, frames_of}
-use Rattle.frame_world.specs.Sent.{frame_told, entry_tells, told_in, told_at, sent_by}
+use Rattle.frame_world.specs.Sent.{entry_tells, told_in, told_at, sent_by}
 
 -- an entry more leaves what the others tell
 told_longer : (es : List Entry) (x : Entry) (n : ℕ) → is_some (told_in es n) ≡ true → told_in (es ++ x ∷ []) n ≡ told_in es n

@@ -1,24 +1,11 @@
 -- The tickets of the finished sessions. An office's tickets number the sessions that were submitted there, from 1.
-use Rattle.std.specs.Prelude.{◌≡◌, ◌<◌, ◌==◌, ℕ, zero, suc, List, [], ◌∷◌, ◌++◌, filter, slice_get, Option, None, Some, All, AllPairs}
+use Rattle.std.specs.Prelude.{◌≡◌, ◌<◌, ◌==◌, ℕ, zero, suc, List, filter, slice_get, Option, None, Some, All, AllPairs}
 use Rattle.session_meaning.specs.declared.ending.Outcome.{Outcome}
 use Rattle.session_agenda.specs.declared.session.Session.{Session}
-use Rattle.office_journal.specs.declared.event.Event.{Event}
-use Rattle.office_journal.specs.declared.event.Event.TheVariants as event
 use Rattle.office_journal.specs.declared.event.Entry.{Entry}
-use Rattle.office_journal.specs.declared.reply.Reply.{Reply}
-use Rattle.office_journal.specs.declared.reply.Reply.TheVariants as reply
+use Rattle.site_core.specs.Submitted.{submitted_in}
 use Rattle.frame_world.specs.Worlds.{World, Finished, site_at, office_at}
 use Rattle.frame_world.specs.Headline.{outcomes}
-
--- the session that an event submits, with the ticket that is answered
-abbrev pub submitted_by : Event → Reply → List Session
-submitted_by (event.Submit p) (reply.Ticket t) = record { ticket = t; program = p } ∷ []
-submitted_by _ _ = []
-
--- the sessions that were submitted by these entries, in order, each with the ticket that was answered
-abbrev pub submitted_in : List Entry → List Session
-submitted_in [] = []
-submitted_in (x ∷ xs) = submitted_by x.event x.reply ++ submitted_in xs
 
 -- the session that was submitted as the n-th, from 1
 abbrev pub submitted_as : List Entry → ℕ → Option Session

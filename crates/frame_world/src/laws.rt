@@ -108,7 +108,7 @@ pub fn counts_are_timely()
     links_only_grow();
 }
 
-/// A number is of one message: two frames that were ever sent, and are the same but for their messages, are the same.
+/// A number is of one message: two frames that an office ever sent to another under one number have the same message.
 pub fn numbers_tell_messages()
     ensures { Always NumbersTellMessages }
 {}

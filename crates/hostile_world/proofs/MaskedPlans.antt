@@ -94,7 +94,7 @@ abbrev started : PlanValue → ℕ → Pairs
 started p = pairs.opened p
 
 -- each link is as it starts, be it shown or not
-pub links_start : (h : ℕ → Bool) (p : PlanValue) (a v : ℕ) → (masks h p (started p) a).link v ≡ resumed p.run a v 0 0
+pub links_start : (h : ℕ → Bool) (p : PlanValue) (a v : ℕ) → (masks h p (started p) a).link v ≡ resumed p.run a v 0 0 p.version
 links_start h p a v = by (h a)
   where
     by : (b : Bool) → (cond b (seen h p a (started p a)) (unseen h p a)).link v ≡ first_link p a v
@@ -138,4 +138,4 @@ bars_start h p =
     world d b t = record { drinker = d; bottles_on_way = b; tokens_on_way = t }
 
 pub linked_start : (h : ℕ → Bool) (p : PlanValue) → AreLinked (masks h p (started p))
-linked_start h p = linked_at_start p.run (masks h p (started p)) (links_start h p)
+linked_start h p = linked_at_start p.run p.version (masks h p (started p)) (links_start h p)

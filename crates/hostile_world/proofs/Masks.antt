@@ -93,7 +93,7 @@ masked_drinker h p a k = record {
 }
 
 abbrev pub first_link : PlanValue → ℕ → ℕ → LinkState
-first_link p a v = resumed p.run a v 0 0
+first_link p a v = resumed p.run a v 0 0 p.version
 
 abbrev pub masked_links : (ℕ → Bool) → PlanValue → ℕ → (ℕ → LinkState) → ℕ → LinkState
 masked_links h p a link = λ v. cond (h v) (link v) (first_link p a v)

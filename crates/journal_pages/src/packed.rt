@@ -1,11 +1,11 @@
 //! An entry in 32 bytes.
 
-ghost use Rattle.std.specs.Prelude.{◌≡◌, ◌/◌, ◌%◌, ◌^◌, ◌<◌};
+ghost use Rattle.std.specs.Prelude.{◌≡◌, ◌/◌, ◌%◌, ◌^◌, ◌<◌, ◌≤◌};
 ghost use Rattle.frame_codec.specs.Frame.{IsNumbered};
 ghost use Rattle.journal_pages.specs.refinement.PackedFrames as packed;
 
 use crate::kind::Kind;
-use bottle_values::Value;
+use bottle_values::{Value, Version};
 use frame_codec::{Frame, Msg};
 use std::marker::Model;
 use std::mem::size_of;
@@ -36,7 +36,8 @@ pub struct Packed {
     count_high: u16,
     /// The record that a frame's message names; the record of a rule, or the instructions of its work.
     which: u16,
-    /// The tag, and 16 for each message before the one that a frame brings. That of a frame with the number 0 says nothing.
+    /// The tag, 16 for each message before the one that a frame brings, and 64 for a frame of version 02. The message of a frame
+    /// with the number 0 says nothing.
     head: u8,
     kind: Kind,
     from: u8,
@@ -50,11 +51,11 @@ pub struct Packed {
 impl Model for Packed {
     ghost use Rattle.std.specs.Prelude.{◌/◌, ◌%◌};
     ghost use Rattle.journal_pages.specs.Told.{Told};
-    ghost use Rattle.journal_pages.specs.refinement.PackedFrames.{joined, message_in, frame_with};
+    ghost use Rattle.journal_pages.specs.refinement.PackedFrames.{joined, message_in, version_in, frame_with};
 
     ghost Value = { Told };
 
-    ghost view = { λ p. record { kind = p.kind; tag = p.head % 16; ticket = p.run; place = p.number_low; v = p.v; i = p.i; which = p.which; frame = frame_with p.run p.from p.to (joined p.number_low p.number_high) (joined p.count_low p.count_high) (message_in (p.head / 16) p.which p.value) } };
+    ghost view = { λ p. record { kind = p.kind; tag = p.head % 16; ticket = p.run; place = p.number_low; v = p.v; i = p.i; which = p.which; frame = frame_with (version_in (p.head / 16)) p.run p.from p.to (joined p.number_low p.number_high) (joined p.count_low p.count_high) (message_in ((p.head / 16) % 4) p.which p.value) } };
 }
 
 const _: () = prove!(size_of::<Packed>() == ENTRY_BYTES);
@@ -130,7 +131,7 @@ impl Packed {
             number_high: high(number),
             count_high: high(taken),
             which: which_of(&carried),
-            head: head(code_of(&carried), tag),
+            head: head(code_of_version(frame.version()) + code_of(&carried), tag),
             kind,
             from: frame.from(),
             to: frame.to(),
@@ -194,11 +195,12 @@ impl Packed {
     {
         let number = joined(self.number_low, self.number_high);
         let count = joined(self.count_low, self.count_high);
+        let version = version_in(self.head / 16);
         if number == 0 {
-            return Frame::ack(self.run, self.from, self.to, count);
+            return Frame::ack(version, self.run, self.from, self.to, count);
         }
-        let msg = message(self.head / 16, self.which, self.value);
-        Frame::data(self.run, self.from, self.to, number, count, msg)
+        let msg = message(self.head / 16 % 4, self.which, self.value);
+        Frame::data(version, self.run, self.from, self.to, number, count, msg)
     }
 }
 
@@ -211,15 +213,35 @@ fn number_of(frame: &Frame) -> u64
     frame.number()
 }
 
-/// A tag below 16 and the message's code in one byte.
+/// A tag below 16, and a code of a version and a message, in one byte.
 #[tactic(auto, using(crate::proofs::PackedFrames::head_tag, crate::proofs::PackedFrames::head_code))]
 fn head(code: u8, tag: u8) -> u8
-    requires code { code < 4 }
+    requires code { code < 8 }
     requires tag { tag < 16 }
     ensures tag { result % 16 ≡ tag }
     ensures code { result / 16 ≡ code }
 {
     code * 16 + tag
+}
+
+fn code_of_version(version: Version) -> u8
+    ensures code { result ≡ packed.code_of_version version }
+    ensures few { result ≤ 4 }
+{
+    match version {
+        Version::One => 0,
+        Version::Two => 4,
+    }
+}
+
+/// The version that stands in that code.
+fn version_in(code: u8) -> Version
+    ensures { result ≡ packed.version_in code }
+{
+    if code < 4 {
+        return Version::One;
+    }
+    Version::Two
 }
 
 fn code_of(msg: &Msg) -> u8

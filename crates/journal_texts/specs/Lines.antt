@@ -2,7 +2,7 @@
 use Rattle.std.specs.Prelude.{◌≡◌, ℕ, List, [], ◌∷◌, Bool, ◌&&◌, nat_lt, Option, Some, None, Result, Ok, Err, option_map, if◌then◌else◌, codes}
 use Rattle.std.specs.Str.{bytes_eq}
 use Rattle.frame_codec.specs.Frame.{Fields}
-use Rattle.frame_codec.specs.Version01.{Spells}
+use Rattle.frame_codec.specs.Spelling.{Spells}
 use Rattle.office_map.specs.PlanValue.{PlanValue}
 use Rattle.text_lines.specs.Text.{number_of, plain_words}
 use Rattle.office_map.specs.PlanText.{and_then}

@@ -11,6 +11,7 @@ use Rattle.std.proofs.lemmas.Option.{slice_get-get_or, slice_get_past}
 use Rattle.std.proofs.lemmas.List.Elements.{All-nil, All-cons, All-append}
 use Rattle.frame_codec.specs.Frame.{Fields, IsFrame}
 use Rattle.office_journal.specs.declared.event.Entry.{Entry}
+use Rattle.frame_codec.specs.SpellingLaws.{same_version}
 use Rattle.frame_world.specs.declared.sent.SentAt.{SentAt}
 use Rattle.frame_world.specs.Sent.{entry_tells, told_in}
 use Rattle.frame_world.specs.Worlds.{World}
@@ -89,11 +90,14 @@ was_not_sent frames f k one found other j at = other found.frame found.sent (one
 
 same_but : (f g : Fields) → key_of f ≡ key_of g → record f { msg = g.msg } ≡ g
 same_but f g e =
-    ap (λ n. record { run = f.run; from = f.from; to = f.to; number = n; count = f.count; msg = g.msg }) (ap (λ (k : FrameKey). k.number) e)
-    ∙ ap (λ n. record { run = f.run; from = f.from; to = f.to; number = g.number; count = n; msg = g.msg }) (ap (λ (k : FrameKey). k.count) e)
-    ∙ ap (λ a. record { run = f.run; from = a; to = f.to; number = g.number; count = g.count; msg = g.msg }) (ap (λ (k : FrameKey). k.from) e)
-    ∙ ap (λ a. record { run = f.run; from = g.from; to = a; number = g.number; count = g.count; msg = g.msg }) (ap (λ (k : FrameKey). k.to) e)
-    ∙ ap (λ r. record { run = r; from = g.from; to = g.to; number = g.number; count = g.count; msg = g.msg }) (ap (λ (k : FrameKey). k.run) e)
+    ap (λ n. record { version = f.version; run = f.run; from = f.from; to = f.to; number = n; count = f.count; msg = g.msg }) (ap (λ (k : FrameKey). k.number) e)
+    ∙ ap (λ n. record { version = f.version; run = f.run; from = f.from; to = f.to; number = g.number; count = n; msg = g.msg }) (ap (λ (k : FrameKey). k.count) e)
+    ∙ ap (λ a. record { version = f.version; run = f.run; from = a; to = f.to; number = g.number; count = g.count; msg = g.msg }) (ap (λ (k : FrameKey). k.from) e)
+    ∙ ap (λ a. record { version = f.version; run = f.run; from = g.from; to = a; number = g.number; count = g.count; msg = g.msg }) (ap (λ (k : FrameKey). k.to) e)
+    ∙ ap (λ r. record { version = f.version; run = r; from = g.from; to = g.to; number = g.number; count = g.count; msg = g.msg }) (ap (λ (k : FrameKey). k.run) e)
+    ∙ ap (λ v. record { version = v; run = g.run; from = g.from; to = g.to; number = g.number; count = g.count; msg = g.msg }) (same_version f.version g.version (ap (λ (k : FrameKey). k.version) e))
 
 pub are_one : (w : World) → NumbersTellMessages w → AreOne w.frames
-are_one w law j k f g at there e = law j k f g at there (same_but f g e)
+are_one w law j k f g at there e =
+    let same : f.msg ≡ g.msg = law j k f g at there (ap (λ (x : FrameKey). x.from) e) (ap (λ (x : FrameKey). x.to) e) (ap (λ (x : FrameKey). x.number) e) in
+    ap (λ m. record f { msg = m }) same ∙ same_but f g e

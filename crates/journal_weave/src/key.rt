@@ -10,13 +10,14 @@ use frame_codec::Frame;
 /// What a frame says but for its message, ordered by its number and its count, and then by the rest.
 ///
 /// Of frames that were sent this tells one from another, since a number is of one message. Number and count come first, since
-/// they tell most frames apart.
+/// they tell most frames apart. The narrow fields stand before the run, so that none is padded.
 #[derive(Clone, Copy, PartialEq, Eq, PartialOrd, Ord)]
 pub(crate) struct FrameKey {
     number: u64,
     count: u64,
     from: u8,
     to: u8,
+    version: u8,
     run: u32,
 }
 
@@ -30,6 +31,7 @@ impl FrameKey {
             count: frame.count(),
             from: frame.from(),
             to: frame.to(),
+            version: frame.version().number(),
             run: frame.run(),
         }
     }

@@ -8,7 +8,7 @@ ghost use Rattle.office_journal.specs.declared.event.Entry.{Entry};
 ghost use Rattle.office_journal.specs.declared.event.Event.TheVariants as events;
 ghost use Rattle.frame_world.specs.declared.event.WorldEvent.{WorldEvent};
 ghost use Rattle.frame_world.specs.Worlds.{frames_of};
-ghost use Rattle.frame_world.specs.Sent.{frame_told};
+ghost use Rattle.office_journal.specs.Replies.{frame_told};
 ghost use Rattle.journal_weave.specs.Replays.{given};
 ghost use Rattle.journal_weave.specs.ReplayValue.{ReplayValue};
 ghost use Rattle.journal_weave.specs.refinement.Merging.{Knows, told_by, IsFound, GoesNext, AddsEvent, IsMerged, IsStuck, IsWithin, StuckAt};

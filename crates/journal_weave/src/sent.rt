@@ -3,7 +3,7 @@
 ghost use Rattle.std.specs.Prelude.{◌≡◌, ◌↔◌, ◌++◌, ◌∷◌, [], List, Some, IsTrue, OnOk, IfSome, IfNone};
 ghost use Rattle.frame_codec.specs.Frame.{Fields, IsFrame};
 ghost use Rattle.frame_world.specs.Worlds.{frames_of};
-ghost use Rattle.frame_world.specs.Sent.{frame_told};
+ghost use Rattle.office_journal.specs.Replies.{frame_told};
 ghost use Rattle.journal_weave.specs.ReplayValue.{ReplayValue};
 ghost use Rattle.journal_weave.specs.refinement.Merging.{Knows, WasSent, WasNotSent, AreOne, number_in, told_by};
 
@@ -118,17 +118,7 @@ fn told_at(replays: &[Replay], sent: SentAt) -> Option<Frame>
     let Some(entry) = replays[a].entry(sent.entry as usize) else {
         return None;
     };
-    frame_in(&entry.reply)
-}
-
-/// The frame that a reply tells, if it tells one.
-fn frame_in(reply: &Reply) -> Option<Frame>
-    ensures { result ≡ frame_told reply.now }
-{
-    match reply {
-        Reply::Frame(frame) => Some(*frame),
-        _ => None,
-    }
+    entry.reply.frame_told()
 }
 
 fn is_frame(made: &Option<Frame>, frame: &Frame) -> bool

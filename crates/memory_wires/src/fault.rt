@@ -38,8 +38,8 @@ impl<W: Wire> Wire for FaultWire<W> {
 
     ghost tells = { W.tells };
 
-    fn receive(&mut self, buffer: &mut [u8; 64]) -> Result<Option<usize>, WireFailed>
-        ensures within { IfOk result (λ o. IfSome o (λ n. n ≤ 64)) }
+    fn receive(&mut self, buffer: &mut [u8; 128]) -> Result<Option<usize>, WireFailed>
+        ensures within { IfOk result (λ o. IfSome o (λ n. n ≤ 128)) }
         ensures account { Hands W.tells (with_fault self.old.left (W.account self.old.wire)) result buffer.new (with_fault self.new.left (W.account self.new.wire)) }
         ensures left { self.new.left ≡ after_call self.old.left }
         ensures fails { is_due self.old.left ≡ true → IsErr result × (self.new.wire ≡ self.old.wire) }

@@ -74,7 +74,7 @@ impl MemoryWire {
         }
     }
 
-    /// A datagram comes, after those that came before. Of more than 64 bytes the first 64 are handed out.
+    /// A datagram comes, after those that came before. Of more than 128 bytes the first 128 are handed out.
     pub fn comes(&mut self, bytes: &[u8]) -> Result<(), AllocError>
         ensures { self.new ≡ self.old }
     {
@@ -105,14 +105,14 @@ impl Wire for MemoryWire {
 
     ghost tells = { true };
 
-    fn receive(&mut self, buffer: &mut [u8; 64]) -> Result<Option<usize>, WireFailed> {
+    fn receive(&mut self, buffer: &mut [u8; 128]) -> Result<Option<usize>, WireFailed> {
         let Some(datagram) = self.inbox.pop_front() else {
             let Ok(()) = self.received.push(None) else {
                 return Err(self.failed());
             };
             return Ok(None);
         };
-        let count = datagram.bytes().len().min(64);
+        let count = datagram.bytes().len().min(128);
         buffer[..count].copy_from_slice(&datagram.bytes()[..count]);
         let Ok(kept) = Datagram::of(self.alloc, &buffer[..count]) else {
             return Err(self.failed());

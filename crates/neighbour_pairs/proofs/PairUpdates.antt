@@ -34,6 +34,6 @@ made d k l = record { diner = d; drinker = k; link = l }
 
 -- what the parts mean is what the pairs mean
 pub pairs_are : (plan : PlanValue) (me : ℕ) (table : TableValue) (bar : BarValue) (channels : List Slot) (d : Diner) (k : Drinker) (l : ℕ → LinkState) →
-    diner_of table ≡ d → drinker_of bar ≡ k → links_of plan.run me channels ≡ l → pairs_of (pairs_value plan me table bar channels) ≡ record { diner = d; drinker = k; link = l }
+    diner_of table ≡ d → drinker_of bar ≡ k → links_of plan.run plan.version me channels ≡ l → pairs_of (pairs_value plan me table bar channels) ≡ record { diner = d; drinker = k; link = l }
 pairs_are plan me table bar channels d k l ed ek el =
-    ap (λ x. made x (drinker_of bar) (links_of plan.run me channels)) ed ∙ ap (λ x. made d x (links_of plan.run me channels)) ek ∙ ap (λ x. made d k x) el
+    ap (λ x. made x (drinker_of bar) (links_of plan.run plan.version me channels)) ed ∙ ap (λ x. made d x (links_of plan.run plan.version me channels)) ek ∙ ap (λ x. made d k x) el

@@ -57,10 +57,10 @@ slots_at_start p me v opens h = subst (IsSlotOf p me v (held_by (forks.diner_at_
     )
     go false e = e
 
-pub links_at_start : (p : PlanValue) (me : ℕ) → IsConsistent p → links_of p.run me (slots p me) ≡ (λ v. resumed p.run me v 0 0)
-links_at_start p me h = fun_ext (λ v. ap (link_in p.run me v) (slot_is p me v h) ∙ go v (are_neighbours p me v))
+pub links_at_start : (p : PlanValue) (me : ℕ) → IsConsistent p → links_of p.run p.version me (slots p me) ≡ (λ v. resumed p.run me v 0 0 p.version)
+links_at_start p me h = fun_ext (λ v. ap (link_in p.run p.version me v) (slot_is p me v h) ∙ go v (are_neighbours p me v))
   where
-    go : (v : ℕ) (b : Bool) → link_in p.run me v (cond b (Some (channels.opened p me v)) None) ≡ resumed p.run me v 0 0
+    go : (v : ℕ) (b : Bool) → link_in p.run p.version me v (cond b (Some (channels.opened p me v)) None) ≡ resumed p.run me v 0 0 p.version
     go v true = refl
     go v false = refl
 
@@ -79,4 +79,4 @@ opening_pairs p me table bar cs opens h lt ed ek ec = record {
 
 pub opened_pairs : (p : PlanValue) (me : ℕ) (table : TableValue) (bar : BarValue) (cs : List Slot) → IsConsistent p →
     diner_of table ≡ forks.diner_at_start p me → drinker_of bar ≡ bottles.opened p me → cs ≡ map (slot_at_start p me) (range_with_len 0 (length p.offices)) → pairs_of (pairs_value p me table bar cs) ≡ opened p me
-opened_pairs p me table bar cs h ed ek ec = pairs_are p me table bar cs _ _ _ ed ek (ap (links_of p.run me) ec ∙ links_at_start p me h)
+opened_pairs p me table bar cs h ed ek ec = pairs_are p me table bar cs _ _ _ ed ek (ap (links_of p.run p.version me) ec ∙ links_at_start p me h)

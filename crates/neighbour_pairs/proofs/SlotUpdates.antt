@@ -5,6 +5,7 @@ use Rattle.std.proofs.lemmas.Bool.{eq-eqb, ne_eqb, cases_eq, cases_lt}
 use Rattle.std.proofs.lemmas.List.{get_or-set_same, get_or-set_other, get_or_past, get_or_read}
 use mathlib.Core.Path.{fun_ext}
 use Rattle.bottle_values.specs.Maps.{put}
+use Rattle.bottle_values.specs.declared.version.Version.{Version}
 use Rattle.frame_codec.specs.declared.message.Msg.{Msg}
 use Rattle.frame_codec.specs.Frame.{Fields}
 use Rattle.office_map.specs.PlanValue.{PlanValue}
@@ -42,10 +43,10 @@ slots_put plan me here slots v c c' h lt is sh hd all u = ⊎_elim
     (λ ne. subst (IsSlotOf plan me u (put here v h u)) (sym (get_or-set_other slots v u (Some c') None ne)) (subst (λ k. IsSlotOf plan me u k (slot_at slots u)) (sym (put_other here v u h ne)) (all u)))
     (cases_eq u v)
 
-links_put : (run me : ℕ) (slots : List Slot) (v : ℕ) (c' : ChannelState) → v < length slots → links_of run me (set slots v (Some c')) ≡ put (links_of run me slots) v c'.link
-links_put run me slots v c' lt = fun_ext (λ u. ⊎_elim
-    (λ e. ap (link_in run me u) (ap (slot_at (set slots v (Some c'))) e ∙ get_or-set_same slots v (Some c') None lt) ∙ sym (put_same (links_of run me slots) v u c'.link e))
-    (λ ne. ap (link_in run me u) (get_or-set_other slots v u (Some c') None ne) ∙ sym (put_other (links_of run me slots) v u c'.link ne))
+links_put : (run : ℕ) (version : Version) (me : ℕ) (slots : List Slot) (v : ℕ) (c' : ChannelState) → v < length slots → links_of run version me (set slots v (Some c')) ≡ put (links_of run version me slots) v c'.link
+links_put run version me slots v c' lt = fun_ext (λ u. ⊎_elim
+    (λ e. ap (link_in run version me u) (ap (slot_at (set slots v (Some c'))) e ∙ get_or-set_same slots v (Some c') None lt) ∙ sym (put_same (links_of run version me slots) v u c'.link e))
+    (λ ne. ap (link_in run version me u) (get_or-set_other slots v u (Some c') None ne) ∙ sym (put_other (links_of run version me slots) v u c'.link ne))
     (cases_eq u v))
 
 hold_same : (f g : Thing → Bool) (t u : Thing) (b : Bool) → ((x : Thing) → f x ≡ g x) → hold f t b u ≡ hold g t b u
@@ -72,12 +73,12 @@ slots_sent plan me here slots slots' v (Some c) m stays lt has is new hd all u =
     (slots_put plan me here slots v c (sent c m) (hold (here v) (thing_of m) false) lt is (λ t. (stays c t).0 m)
     (λ t. hd t ∙ hold_same (holds c.places) (here v) (thing_of m) t false (held_here plan me v (here v) c (subst (IsSlotOf plan me v (here v)) is (all v)))) all u)
 
-pub links_sent : (run me : ℕ) (slots slots' : List Slot) (v : ℕ) (slot : Slot) (m : Msg) → v < length slots → slot_holds slot (thing_of m) ≡ true → slot_at slots v ≡ slot → slots' ≡ set slots v (slot_sent slot m) →
-    links_of run me slots' ≡ queued_to (links_of run me slots) v m
-links_sent run me slots slots' v None m lt has is new = cc
-links_sent run me slots slots' v (Some c) m lt has is new =
-    ap (links_of run me) new ∙ links_put run me slots v (sent c m) lt
-    ∙ ap (λ (s : Slot). put (links_of run me slots) v (record { run = (link_in run me v s).run; me = (link_in run me v s).me; peer = (link_in run me v s).peer; sending = queued (link_in run me v s).sending m; receiving = (link_in run me v s).receiving })) (sym is)
+pub links_sent : (run : ℕ) (version : Version) (me : ℕ) (slots slots' : List Slot) (v : ℕ) (slot : Slot) (m : Msg) → v < length slots → slot_holds slot (thing_of m) ≡ true → slot_at slots v ≡ slot → slots' ≡ set slots v (slot_sent slot m) →
+    links_of run version me slots' ≡ queued_to (links_of run version me slots) v m
+links_sent run version me slots slots' v None m lt has is new = cc
+links_sent run version me slots slots' v (Some c) m lt has is new =
+    ap (links_of run version me) new ∙ links_put run version me slots v (sent c m) lt
+    ∙ ap (λ (s : Slot). put (links_of run version me slots) v (record { run = (link_in run version me v s).run; me = (link_in run version me v s).me; peer = (link_in run version me v s).peer; sending = queued (link_in run version me v s).sending m; receiving = (link_in run version me v s).receiving; version = (link_in run version me v s).version })) (sym is)
 
 -- ---- what is taken with a frame
 
@@ -94,10 +95,10 @@ looked_at slots v looked c d there value is at =
     let both : ◌≡◌ {A = Slot} (Some c) (Some d) = sym is ∙ get_or_read slots v looked (within_slots slots v there) value None ∙ at in
     cc
 
-pub links_taking : (run me : ℕ) (slots slots' : List Slot) (v : ℕ) (c : ChannelState) (f : Fields) → v < length slots → slot_at slots v ≡ Some c → slots' ≡ set slots v (slot_taking (slot_at slots v) f) →
-    links_of run me slots' ≡ put (links_of run me slots) v (after_taking c f).link
-links_taking run me slots slots' v c f lt is new =
-    ap (links_of run me) new ∙ ap (λ (s : Slot). links_of run me (set slots v (slot_taking s f))) is ∙ links_put run me slots v (after_taking c f) lt
+pub links_taking : (run : ℕ) (version : Version) (me : ℕ) (slots slots' : List Slot) (v : ℕ) (c : ChannelState) (f : Fields) → v < length slots → slot_at slots v ≡ Some c → slots' ≡ set slots v (slot_taking (slot_at slots v) f) →
+    links_of run version me slots' ≡ put (links_of run version me slots) v (after_taking c f).link
+links_taking run version me slots slots' v c f lt is new =
+    ap (links_of run version me) new ∙ ap (λ (s : Slot). links_of run version me (set slots v (slot_taking s f))) is ∙ links_put run version me slots v (after_taking c f) lt
 
 -- the channel to v has what it had, and holds this
 pub slots_taking : (plan : PlanValue) (me : ℕ) (here : ℕ → Thing → Bool) (slots slots' : List Slot) (v : ℕ) (c : ChannelState) (f : Fields) → v < length slots → slot_at slots v ≡ Some c → slots' ≡ set slots v (slot_taking (slot_at slots v) f) →

@@ -264,7 +264,7 @@ code_agrees p v c are is =
       peers = λ r h. are.peers r ∙ peer_is p.plan r p.me v h;
       same_things = to.1.shared;
       same_held = to.1.held;
-      same_link = ap (link_in p.plan.run p.me v) is;
+      same_link = ap (link_in p.plan.run p.plan.version p.me v) is;
     }
 
 -- the channel refuses it no more than the office does
@@ -310,7 +310,7 @@ took_from p f c channels' laws are none is lt new =
           still_pairs p table' bar' channels' (forks_came o.diner v ms) (bottles_came o.drinker ms) (put (held o) v (holds c'.places)) are ed ek (neighbours_stay o.diner v ms) like.0 like.1 there
           (slots_taking p.plan p.me (held o) p.channels channels' v c f lt is new (λ t. h.agrees.same_things t ∙ sym (g.same_things t)) are.channels);
       is = λ table' bar' ed ek.
-          pairs_are p.plan p.me table' bar' channels' (forks_came o.diner v ms) (bottles_came o.drinker ms) (put o.link v c'.link) ed ek (links_taking p.plan.run p.me p.channels channels' v c f lt is new) ∙ sym h.is;
+          pairs_are p.plan p.me table' bar' channels' (forks_came o.diner v ms) (bottles_came o.drinker ms) (put o.link v c'.link) ed ek (links_taking p.plan.run p.plan.version p.me p.channels channels' v c f lt is new) ∙ sym h.is;
     }
 
 -- as the code has it, which knows who sent the frame by a number of its own

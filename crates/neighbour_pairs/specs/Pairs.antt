@@ -30,7 +30,7 @@ pub record Pairs : Type 0 where
 
 -- at the start forks and bottles are where the plan puts them, and nothing was sent
 abbrev pub opened : PlanValue → ℕ → Pairs
-opened plan me = record { diner = forks.diner_at_start plan me; drinker = bottles.opened plan me; link = λ v. resumed plan.run me v 0 0 }
+opened plan me = record { diner = forks.diner_at_start plan me; drinker = bottles.opened plan me; link = λ v. resumed plan.run me v 0 0 plan.version }
 
 -- the office waits for bottles
 abbrev pub is_thirsty : Pairs → Bool
@@ -57,6 +57,7 @@ queued_to link v m = put link v (record {
   peer = (link v).peer;
   sending = queued (link v).sending m;
   receiving = (link v).receiving;
+  version = (link v).version;
 })
 
 abbrev pub sent : (ℕ → LinkState) → Option (ℕ × Msg) → ℕ → LinkState

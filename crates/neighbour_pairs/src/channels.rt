@@ -4,6 +4,7 @@ ghost use Rattle.std.specs.Prelude.{◌≡◌, ◌<◌, ℕ, Bool, length, map, 
 ghost use Rattle.std.specs.List.{range_with_len};
 ghost use Rattle.std.specs.Option.{option_copied};
 ghost use Rattle.std.proofs.Math.ListN.{set};
+ghost use Rattle.bottle_values.specs.declared.version.Version.{Version};
 ghost use Rattle.bottle_values.specs.Maps.{put};
 ghost use Rattle.office_map.specs.PlanValue.{PlanValue};
 ghost use Rattle.window_link.specs.Limits.{greatest};
@@ -73,7 +74,7 @@ impl Channels {
     pub fn send(&mut self, v: OfficeId, msg: Msg)
         requires held { slot_holds (slot_at self.old v) (thing_of msg) ≡ true }
         requires room { slot_used (slot_at self.old v) < greatest }
-        ensures links { (run me : ℕ) → links_of run me self.new ≡ queued_to (links_of run me self.old) v msg }
+        ensures links { (run me : ℕ) (version : Version) → links_of run version me self.new ≡ queued_to (links_of run version me self.old) v msg }
         ensures slots { (plan : PlanValue) (me : ℕ) (here : ℕ → Thing → Bool) → ((u : ℕ) → IsSlotOf plan me u (here u) (slot_at self.old u)) →
             (u : ℕ) → IsSlotOf plan me u (put here v (hold (here v) (thing_of msg) false) u) (slot_at self.new u) }
     {

@@ -1,4 +1,6 @@
--- What an office replies to what a frame was.
+-- What an office replies to what a frame was, and the frame that a reply tells.
+use Rattle.std.specs.Prelude.{Option, Some, None}
+use Rattle.frame_codec.specs.Frame.{Fields}
 use Rattle.window_link.specs.declared.arrival.Arrival.{Arrival}
 use Rattle.window_link.specs.declared.arrival.Arrival.TheVariants as arrival
 use Rattle.office_journal.specs.declared.reply.Reply.{Reply}
@@ -11,3 +13,8 @@ reply_to (arrival.Fresh m) = reply.Taken
 reply_to arrival.Repeat = reply.Repeat
 reply_to arrival.Kept = reply.Kept
 reply_to arrival.Early = reply.Early
+
+-- the frame that a reply tells, if it tells one
+abbrev pub frame_told : Reply → Option Fields
+frame_told (reply.Frame f) = Some f
+frame_told _ = None

@@ -2,7 +2,7 @@
 
 ghost use Rattle.office_journal.specs.RefusalText.{refusal_text};
 ghost use Rattle.std.specs.Prelude.{◌≡◌, Some};
-ghost use Rattle.office_journal.specs.Replies.{reply_to};
+ghost use Rattle.office_journal.specs.Replies.{reply_to, frame_told};
 ghost use Rattle.office_journal.specs.declared.reply.Refusal.TheVariants as refusals;
 
 use dining_core::NotNow;
@@ -45,6 +45,16 @@ impl Reply {
             Arrival::Repeat => Reply::Repeat,
             Arrival::Kept => Reply::Kept,
             Arrival::Early => Reply::Early,
+        }
+    }
+
+    /// The frame that it tells, if it tells one.
+    pub fn frame_told(&self) -> Option<Frame>
+        ensures { result ≡ frame_told self.now }
+    {
+        match self {
+            Reply::Frame(frame) => Some(*frame),
+            _ => None,
         }
     }
 }

@@ -49,7 +49,7 @@ impl Wire for UdpSocket {
 
     ghost tells = { false };
 
-    fn receive(&mut self, buffer: &mut [u8; 64]) -> Result<Option<usize>, WireFailed> {
+    fn receive(&mut self, buffer: &mut [u8; 128]) -> Result<Option<usize>, WireFailed> {
         self.wire.receive(buffer)
     }
 

@@ -1,4 +1,4 @@
--- Words of digits: which bytes they are, and that no frame is longer than 37 bytes.
+-- Words of digits: which bytes they are, and that no frame is longer than 95 bytes.
 use Rattle.std.proofs.Common.{◌≡◌, ℕ, ◌%◌, ◌<◌, ◌≤◌, List, ◌++◌, length, true, false, ◌&&◌, nat_lt, Option, Some, None, Result, Ok, Err, refl, sym, ap, ap₂, ◌∙◌, subst, arith}
 use Rattle.std.specs.List.{list_all}
 use Rattle.std.specs.Result.{result_ok}
@@ -8,12 +8,14 @@ use Rattle.hex.specs.Hex.{decode_of, is_hex_digit}
 use Rattle.hex.specs.declared.error.FromHexError.{FromHexError}
 use Rattle.hex.proofs.HexLemmas.{decode_of-ok, decode_of-odd, decode_of-digits}
 use Rattle.bottle_values.specs.ListLaws.{all_weaker}
+use Rattle.bottle_values.specs.declared.version.Version.{Version}
+use Rattle.bottle_values.specs.declared.version.Version.TheVariants.{One, Two}
 use Rattle.frame_codec.specs.declared.fault.FrameFault.{FrameFault}
 use Rattle.frame_codec.specs.declared.message.Msg.{Msg}
 use Rattle.frame_codec.specs.declared.message.Msg.TheVariants.{AskFork, Fork, AskBottle, Bottle}
 use Rattle.frame_codec.specs.Frame.{Fields}
 use Rattle.frame_codec.specs.Header.{header, kind_of}
-use Rattle.frame_codec.specs.Version01.{Spells, spelling, body}
+use Rattle.frame_codec.specs.Spelling.{Spells, spelling, body}
 use Rattle.run_words.specs.Words.{is_visible, is_word}
 use Rattle.run_words.specs.Digits.{bytes_in}
 
@@ -37,20 +39,21 @@ other_digits word h = go (decode_of word) refl
     go (Err e) is = refl
     go (Ok bytes) is = let all = list_all-from_AllPass is_hex_digit word (decode_of-ok word bytes is).1 in cc (sym all ∙ h)
 
--- a frame has 26 to 37 bytes
-size : (k : ℕ) (f : Fields) (msg : Option Msg) → (26 ≤ length (header 1 k f ++ body msg)) × (length (header 1 k f ++ body msg) ≤ 37)
-size k f None = (omega arith, omega arith)
-size k f (Some AskFork) = (omega arith, omega arith)
-size k f (Some Fork) = (omega arith, omega arith)
-size k f (Some (AskBottle r)) = (omega arith, omega arith)
-size k f (Some (Bottle r v)) = (omega arith, omega arith)
+-- a frame has 26 to 95 bytes
+size : (k : ℕ) (f : Fields) (version : Version) (msg : Option Msg) → (26 ≤ length (header k f ++ body version msg)) × (length (header k f ++ body version msg) ≤ 95)
+size k f version None = (omega arith, omega arith)
+size k f version (Some AskFork) = (omega arith, omega arith)
+size k f version (Some Fork) = (omega arith, omega arith)
+size k f version (Some (AskBottle r)) = (omega arith, omega arith)
+size k f One (Some (Bottle r v)) = (omega arith, omega arith)
+size k f Two (Some (Bottle r v)) = (omega arith, omega arith)
 
-pub frame_size : (bytes : List ℕ) (f : Fields) → Spells bytes f → (26 ≤ length bytes) × (length bytes ≤ 37)
+pub frame_size : (bytes : List ℕ) (f : Fields) → Spells bytes f → (26 ≤ length bytes) × (length bytes ≤ 95)
 unfolding spelling
-frame_size bytes f h = subst (λ bs. (26 ≤ length bs) × (length bs ≤ 37)) (sym h.is) (size (kind_of f.msg) f f.msg)
+frame_size bytes f h = subst (λ bs. (26 ≤ length bs) × (length bs ≤ 95)) (sym h.is) (size (kind_of f.msg) f f.version f.msg)
 
 -- so more digits spell none
-pub longer_digits : (word : List ℕ) → length word % 2 ≡ 0 → list_all is_hex_digit word ≡ true → 74 < length word
+pub longer_digits : (word : List ℕ) → length word % 2 ≡ 0 → list_all is_hex_digit word ≡ true → 190 < length word
     → (bytes : List ℕ) × (bytes_in word ≡ Some bytes) × ((f : Fields) → Spells bytes f → ⊥)
 longer_digits word even all long =
     let r = decode_of-digits word even (AllPass-from_list_all is_hex_digit word all) in

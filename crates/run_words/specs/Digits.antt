@@ -3,7 +3,7 @@ use Rattle.std.specs.Prelude.{◌≡◌, ℕ, List, Option, Some, None}
 use Rattle.std.specs.Result.{result_ok}
 use Rattle.hex.specs.Hex.{encode_lower, decode_of}
 use Rattle.frame_codec.specs.Frame.{Fields}
-use Rattle.frame_codec.specs.Version01.{Spells, spelling}
+use Rattle.frame_codec.specs.Spelling.{Spells, spelling}
 use Rattle.run_words.specs.declared.digits.FrameWord.{FrameWord}
 use Rattle.run_words.specs.declared.digits.FrameWord.TheVariants.{Spelled, NoFrame, NoDigits}
 

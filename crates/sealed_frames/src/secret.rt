@@ -11,7 +11,7 @@ use std::marker::Model;
 pub const SEAL_BYTES: usize = 16;
 
 /// The longest frame with its seal.
-pub const MAX_SEALED_BYTES: usize = 64;
+pub const MAX_SEALED_BYTES: usize = 128;
 
 /// What two neighbours share and nobody else has. A contract sees it as its key's block.
 #[derive(Drop)]
@@ -38,7 +38,7 @@ impl Secret {
     /// Writes the frame and its seal to the front of `out`, and returns how many bytes they are. The bytes behind them stay as
     /// they were.
     pub fn seal(&self, frame: &[u8], out: &mut [u8; MAX_SEALED_BYTES]) -> usize
-        requires { length frame.now + 16 ≤ 64 }
+        requires { length frame.now + 16 ≤ 128 }
         ensures written { take result out.new ≡ sealed self.now frame.now }
         ensures length { result ≡ length frame.now + 16 }
         ensures rest { drop result out.new ≡ drop result out.old }

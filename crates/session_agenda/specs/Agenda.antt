@@ -6,7 +6,7 @@ use Rattle.bottle_values.specs.Maps.{reads_of}
 use Rattle.session_meaning.specs.declared.ending.Ending.{Ending}
 use Rattle.session_meaning.specs.declared.ending.Outcome.{Outcome}
 use Rattle.session_meaning.specs.ProgramValue.{ProgramValue}
-use Rattle.session_meaning.specs.Needs.{needs_of}
+use Rattle.session_measures.specs.Needs.{needs_of}
 use Rattle.session_machine.specs.Pieces.{ending_after}
 use Rattle.session_agenda.specs.declared.session.Session.{Session}
 use Rattle.session_agenda.specs.Limits.{most_unfinished, longest_piece}

@@ -7,7 +7,7 @@ ghost use Rattle.session_meaning.specs.ProgramValue.{ProgramValue};
 ghost use Rattle.session_agenda.specs.declared.agenda.Phase.TheVariants as phases;
 ghost use Rattle.session_agenda.specs.Agenda as sessions;
 ghost use Rattle.session_agenda.specs.Agenda.{empty, unfinished, is_full, submitted, is_waiting, is_gathering, without_waiting, first_needs, started, gathering, begun, may_work, worked, ending_of, writes_of, with_current, finished};
-ghost use Rattle.session_meaning.specs.Needs.{needs_of};
+ghost use Rattle.session_measures.specs.Needs.{needs_of};
 ghost use Rattle.bottle_values.specs.Maps.{reads_of};
 ghost use Rattle.session_agenda.specs.refinement.AgendaOfCode.{Means};
 

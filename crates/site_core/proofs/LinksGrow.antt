@@ -41,7 +41,7 @@ queued_grows : (link : ℕ → LinkState) (x : ℕ) (m : Msg) (v : ℕ) → Grow
 queued_grows link x m v = put_cases link x new v (Grows (link v)) (λ e. subst (λ k. Grows (link k) new) (sym e) direct) (λ ne. same (link v))
   where
     new : LinkState
-    new = record { run = (link x).run; me = (link x).me; peer = (link x).peer; sending = queued (link x).sending m; receiving = (link x).receiving }
+    new = record { run = (link x).run; me = (link x).me; peer = (link x).peer; sending = queued (link x).sending m; receiving = (link x).receiving; version = (link x).version }
 
     direct : Grows (link x) new
     direct = record { acked = omega arith; used = omega (arith, length-append (link x).sending.waiting (m ∷ [])); taken = omega arith }

@@ -12,9 +12,9 @@ use Rattle.office_map.specs.PlanValue.{PlanValue, are_neighbours}
 use Rattle.window_link.specs.WindowLaws.{known_used}
 use Rattle.session_meaning.specs.ProgramValue.{ProgramValue}
 use Rattle.window_link.specs.declared.fault.LinkFault.{LinkFault}
-use Rattle.window_link.specs.declared.fault.LinkFault.TheVariants.{Stranger, AckAhead}
+use Rattle.window_link.specs.declared.fault.LinkFault.TheVariants.{Stranger, WrongVersion, AckAhead}
 use Rattle.window_link.specs.Windows.{used}
-use Rattle.window_link.specs.Links.{LinkState, fault_of, is_own, after_arrival}
+use Rattle.window_link.specs.Links.{LinkState, fault_of, is_own, is_of_version, after_arrival}
 use Rattle.token_channel.specs.Channels.{link_fault_or, link_then}
 use Rattle.dining_core.specs.Diners as forks
 use Rattle.drinking_core.specs.Drinkers as bottles
@@ -67,12 +67,13 @@ after_sent n link (Some x) h = after_put (n + 1) link x.0 _ (more n link h) (ome
 -- ---- frames
 
 none_ahead : (l : LinkState) (f : Fields) → fault_of l f ≡ None → f.count ≤ used l.sending
-none_ahead l f e = go (is_own l f) (nat_lt (used l.sending) f.count) refl e
+none_ahead l f e = go (is_own l f) (is_of_version l f) (nat_lt (used l.sending) f.count) refl e
   where
-    go : (a b : Bool) → nat_lt (used l.sending) f.count ≡ b → cond (not a) (Some Stranger) (cond b (Some AckAhead) None) ≡ None → f.count ≤ used l.sending
-    go false b h k = absurd cc
-    go true true h k = absurd cc
-    go true false h k = grind (arith, nat_tests, h)
+    go : (a v b : Bool) → nat_lt (used l.sending) f.count ≡ b → cond (not a) (Some Stranger) (cond (not v) (Some WrongVersion) (cond b (Some AckAhead) None)) ≡ None → f.count ≤ used l.sending
+    go false v b h k = absurd cc
+    go true false b h k = absurd cc
+    go true true true h k = absurd cc
+    go true true false h k = grind (arith, nat_tests, h)
 
 no_link_fault : (fault : Option LinkFault) (b : Bool) → link_fault_or fault b ≡ None → fault ≡ None
 no_link_fault None b e = refl

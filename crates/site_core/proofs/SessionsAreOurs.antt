@@ -9,7 +9,7 @@ use Rattle.bottle_values.specs.Maps.{reads_of}
 use Rattle.office_map.specs.PlanValue.{PlanValue, is_end}
 use Rattle.session_meaning.specs.ProgramValue.{ProgramValue}
 use Rattle.session_programs.specs.Program.{fits}
-use Rattle.session_meaning.specs.Needs.{needs_of}
+use Rattle.session_measures.specs.Needs.{needs_of}
 use Rattle.session_agenda.specs.declared.session.Session.{Session}
 use Rattle.bottle_values.specs.Values.{Value}
 use Rattle.session_agenda.specs.Agenda.{Agenda, Current, Idle, Gathering, Working, first_needs, gathering, begun, with_current}

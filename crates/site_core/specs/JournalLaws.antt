@@ -1,5 +1,5 @@
 -- What follows of the ends of journals.
-use Rattle.std.proofs.Common.{◌≡◌, ℕ, ◌≤◌, ◌<◌, false, List, [], ◌∷◌, ◌++◌, length, Ok, refl, arith, length-append}
+use Rattle.std.proofs.Common.{◌≡◌, ℕ, ◌≤◌, ◌<◌, false, List, [], ◌∷◌, ◌++◌, length, Ok, refl, sym, ap, ◌∙◌, arith, length-append, append_assoc, append-nil}
 use Rattle.std.specs.Prelude.{nat_le}
 use Rattle.std.proofs.lemmas.Bool.{leb-false}
 use Rattle.office_map.specs.PlanValue.{PlanValue}
@@ -9,6 +9,7 @@ use Rattle.office_journal.specs.declared.event.Entry.{Entry}
 use Rattle.office_journal.specs.declared.reply.Reply.{Reply}
 use Rattle.site_core.specs.Offices.{Office, answer, opened}
 use Rattle.site_core.specs.Journals.{Site, after, run_of, office_of, noted, AreAccepted, IsLegal}
+use Rattle.site_core.specs.Submitted.{submitted_by, submitted_in}
 
 run_append : (plan : PlanValue) (me : ℕ) (o : Office) (xs : List Entry) (x : Entry) → run_of plan me o (xs ++ x ∷ []) ≡ after plan me (run_of plan me o xs) x.event
 run_append plan me o [] x = refl
@@ -41,3 +42,8 @@ legal_empty plan me = record { accepted = tt; few = omega arith }
 pub office_empty : (plan : PlanValue) (me : ℕ) → office_of (record { plan = plan; me = me; entries = [] }) ≡ opened plan me
 unfolding office_of
 office_empty plan me = refl
+
+-- an entry more submits its own session last
+pub submitted_more : (xs : List Entry) (x : Entry) → submitted_in (xs ++ x ∷ []) ≡ submitted_in xs ++ submitted_by x.event x.reply
+submitted_more [] x = append-nil (submitted_by x.event x.reply)
+submitted_more (y ∷ ys) x = ap (λ l. submitted_by y.event y.reply ++ l) (submitted_more ys x) ∙ sym (append_assoc (submitted_by y.event y.reply) (submitted_in ys) (submitted_by x.event x.reply))

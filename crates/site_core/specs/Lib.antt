@@ -6,6 +6,7 @@ pub use Rattle.office_journal.specs.Shown
 pub mod Limits
 pub mod Offices
 pub mod Journals
+pub mod Submitted
 pub mod JournalLaws
 pub mod WithdrawalLaws
 pub mod RuleOrder

@@ -4,7 +4,7 @@ use Rattle.std.specs.Prelude.{nat_le, ◌↔◌}
 use Rattle.std.proofs.lemmas.Bool.{cases_eq}
 use Rattle.std.proofs.lemmas.Bool.Decides.{nat_tests}
 use Rattle.frame_codec.specs.Frame.{Fields}
-use Rattle.frame_codec.specs.Version01.{spelling}
+use Rattle.frame_codec.specs.Spelling.{spelling}
 use Rattle.office_map.specs.PlanValue.{are_neighbours}
 use Rattle.window_link.specs.Links.{ack_frame_of}
 use Rattle.office_journal.specs.declared.event.Event.TheVariants.{Send}

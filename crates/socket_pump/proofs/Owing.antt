@@ -1,7 +1,7 @@
 -- Whom an office owes a count: who brought a message, and got none.
 use Rattle.std.proofs.Common.{◌≡◌, ℕ, zero, suc, ◌⊎◌, inl, inr, Bool, true, false, List, [], ◌∷◌, ◌++◌, length, Option, None, Some, Result, Ok, Err, IfOk, refl, sym, subst, ◌∙◌, arith, ⊎_elim, replicate}
 use Rattle.frame_codec.specs.Frame.{Fields}
-use Rattle.frame_codec.specs.Version01.{Spells}
+use Rattle.frame_codec.specs.Spelling.{Spells}
 use Rattle.frame_codec.specs.declared.fault.FrameFault.{FrameFault}
 use Rattle.office_map.specs.PlanValue.{are_neighbours}
 use Rattle.office_journal.specs.declared.event.Event.TheVariants.{Took}

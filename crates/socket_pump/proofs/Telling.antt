@@ -4,7 +4,7 @@ use Rattle.std.specs.Prelude.{◌%◌, Ok, Err}
 use Rattle.std.proofs.lemmas.Bool.{cases_eq}
 use Rattle.std.proofs.lemmas.List.{append-nil, append_cancel_left}
 use Rattle.frame_codec.specs.Frame.{Fields}
-use Rattle.frame_codec.specs.Version01.{spelling}
+use Rattle.frame_codec.specs.Spelling.{spelling}
 use Rattle.window_link.specs.Windows.{used}
 use Rattle.own_lock.specs.Passes.{pass_after_take}
 use Rattle.site_core.specs.Limits.{most_entries}

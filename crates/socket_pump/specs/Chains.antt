@@ -1,7 +1,7 @@
 -- What a pass does at its desk, one call after another. Entries of others may stand between.
 use Rattle.std.specs.Prelude.{◌≡◌, ℕ, ◌+◌, ◌⊎◌, List, [], ◌∷◌, ◌++◌, Option, Some, Result, Ok, Err}
 use Rattle.frame_codec.specs.Frame.{Fields}
-use Rattle.frame_codec.specs.Version01.{Spells, spelling}
+use Rattle.frame_codec.specs.Spelling.{Spells, spelling}
 use Rattle.office_journal.specs.declared.event.Entry.{Entry}
 use Rattle.office_journal.specs.declared.event.Event.TheVariants.{Send, Took}
 use Rattle.office_journal.specs.declared.reply.Reply.{Reply}

@@ -2,7 +2,7 @@
 use Rattle.std.specs.Prelude.{◌≡◌, ℕ, ℤ, ◌<◌, List, get_or, take, Option, Some, None, IsSome, Result, Ok, Err}
 use Rattle.std.specs.declared.net.socket_addr.SocketAddr.{SocketAddr}
 use Rattle.frame_codec.specs.Frame.{Fields}
-use Rattle.frame_codec.specs.Version01.{Spells}
+use Rattle.frame_codec.specs.Spelling.{Spells}
 use Rattle.socket_pump.specs.declared.contact.Contact.{Contact}
 use Rattle.socket_pump.specs.Wires.{risen}
 

@@ -3,7 +3,7 @@
 ghost use Rattle.std.specs.Prelude.{◌≡◌, ◌<◌, ◌≤◌, ◌%◌, ◌⊎◌, ◌∷◌, [], ℕ, List, true, false, None, IfOk, MatchResult, length};
 ghost use Rattle.office_map.specs.PlanValue.{are_neighbours};
 ghost use Rattle.own_lock.specs.Passes.{IsOf};
-ghost use Rattle.frame_codec.specs.Version01.{spelling};
+ghost use Rattle.frame_codec.specs.Spelling.{spelling};
 ghost use Rattle.office_journal.specs.declared.reply.Refusal.TheVariants as refusals;
 ghost use Rattle.locked_office.specs.Calls.{Stays};
 ghost use Rattle.socket_pump.specs.Wires.{Accepts};
@@ -397,7 +397,7 @@ fn hear_one<R: Wait, W: Wire>(
         (λ o. HeardOne W.tells pass.old.tag desk.now.key pass.old (W.account wire.old) senders.old o (W.account wire.new) pass.new senders.new)
         (λ f. BrokeOne W.tells pass.old.tag desk.now.key pass.old (W.account wire.old) f (W.account wire.new) pass.new) }
 {
-    let mut buffer = [0; 64];
+    let mut buffer = [0; 128];
     let count = match wire.receive(&mut buffer) {
         Ok(Some(count)) => count,
         Ok(None) => return Ok(None),

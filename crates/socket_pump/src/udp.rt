@@ -145,8 +145,8 @@ impl Wire for UdpWire {
 
     ghost tells = { false };
 
-    fn receive(&mut self, buffer: &mut [u8; 64]) -> Result<Option<usize>, WireFailed>
-        ensures within { IfOk result (λ o. IfSome o (λ n. n ≤ 64)) }
+    fn receive(&mut self, buffer: &mut [u8; 128]) -> Result<Option<usize>, WireFailed>
+        ensures within { IfOk result (λ o. IfSome o (λ n. n ≤ 128)) }
         ensures account { Hands false (counted self.old.failures) result buffer.new (counted self.new.failures) }
         ensures comes_in { ComesIn self.old result buffer.new self.new }
     {
@@ -177,8 +177,8 @@ impl Wire for UdpWire {
 }
 
 // The next datagram, or none where none came, or a failure where no read gets through.
-fn read(socket: &UdpSocket, buffer: &mut [u8; 64]) -> Result<Option<usize>, WireFailed>
-    ensures within { IfOk result (λ o. IfSome o (λ n. n ≤ 64)) }
+fn read(socket: &UdpSocket, buffer: &mut [u8; 128]) -> Result<Option<usize>, WireFailed>
+    ensures within { IfOk result (λ o. IfSome o (λ n. n ≤ 128)) }
 {
     for _ in 0..MOST_READS {
         match socket.recv_from(buffer) {

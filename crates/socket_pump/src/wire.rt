@@ -23,8 +23,8 @@ pub trait Wire {
     ghost tells: { Bool };
 
     /// The next datagram that came, as far as the buffer has room, and how many bytes that is; or none where none came.
-    fn receive(&mut self, buffer: &mut [u8; 64]) -> Result<Option<usize>, WireFailed>
-        ensures within { IfOk result (λ o. IfSome o (λ n. n ≤ 64)) }
+    fn receive(&mut self, buffer: &mut [u8; 128]) -> Result<Option<usize>, WireFailed>
+        ensures within { IfOk result (λ o. IfSome o (λ n. n ≤ 128)) }
         ensures account { Hands tells (account self.old) result buffer.new (account self.new) };
 
     /// A datagram goes out.

@@ -28,13 +28,13 @@ IsApart c = Apart c.places c.link.sending.waiting
 
 -- the channel as the plan starts it
 abbrev pub opened : PlanValue → ℕ → ℕ → ChannelState
-opened p me peer = record { link = resumed p.run me peer 0 0; places = places_of p me peer }
+opened p me peer = record { link = resumed p.run me peer 0 0 p.version; places = places_of p me peer }
 
 -- the channel after a thing was sent: it is held no more, and its message waits
 abbrev pub sent : ChannelState → Msg → ChannelState
 sent c msg =
     record {
-      link = record { run = c.link.run; me = c.link.me; peer = c.link.peer; sending = queued c.link.sending msg; receiving = c.link.receiving };
+      link = record { run = c.link.run; me = c.link.me; peer = c.link.peer; sending = queued c.link.sending msg; receiving = c.link.receiving; version = c.link.version };
       places = changed c.places (thing_of msg) false;
     }
 
@@ -96,7 +96,7 @@ window_then r None = without_next r
 window_then r (Some m) = advanced r
 
 abbrev pub link_then : LinkState → Option Msg → LinkState
-link_then l o = record { run = l.run; me = l.me; peer = l.peer; sending = l.sending; receiving = window_then l.receiving o }
+link_then l o = record { run = l.run; me = l.me; peer = l.peer; sending = l.sending; receiving = window_then l.receiving o; version = l.version }
 
 -- the message kept of the next number, unless it would be a breach by now
 abbrev pub follows : ChannelState → Option Msg

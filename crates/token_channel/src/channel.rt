@@ -62,7 +62,7 @@ impl Channel {
         // The plan is consistent, so that few records are shared.
         let _ = plan.offices();
         let places = places::open(alloc, plan, me, peer)?;
-        let link = Link::open(plan.run(), me.number(), peer.number());
+        let link = Link::open(plan.run(), me.number(), peer.number(), plan.version());
         Ok(Channel { link, places })
     }
 

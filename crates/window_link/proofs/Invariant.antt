@@ -4,6 +4,7 @@ use Rattle.std.specs.Prelude.{slice_get, ◌&&◌}
 use Rattle.std.proofs.lemmas.Bool.{cond_both, ltb-true}
 use Rattle.std.proofs.lemmas.List.{length-append, length-drop}
 use Rattle.bottle_values.specs.ListLaws.{get_left, get_push, get-drop}
+use Rattle.bottle_values.specs.declared.version.Version.{Version}
 use Rattle.frame_codec.specs.declared.message.Msg.{Msg}
 use Rattle.window_link.specs.declared.laws.event.End.{End}
 use Rattle.window_link.specs.declared.laws.event.End.TheVariants.{Left, Right}
@@ -62,6 +63,7 @@ grows_none s = record { sent = λ k msg e. e; taken = omega arith }
 -- the frame of an end is of a message that it sent, and its count is of messages that it took
 pub record Honest (p : Pair) (posted : Posted) : Type 0 where
   pub run : posted.frame.run ≡ p.run
+  pub version : posted.frame.version ≡ p.version
   pub from : posted.frame.from ≡ p.office posted.by
   pub to : posted.frame.to ≡ p.office (other posted.by)
   pub count : posted.frame.count ≤ length (p.stream (other posted.by)).taken
@@ -72,12 +74,13 @@ pub record Sound (p : Pair) : Type 0 where
   pub honest : (k : ℕ) (posted : Posted) → slice_get p.frames k ≡ Some posted → Honest p posted
 
 with_streams : Pair → (End → Stream) → Pair
-with_streams p f = record { run = p.run; office = p.office; stream = f; frames = p.frames }
+with_streams p f = record { run = p.run; office = p.office; stream = f; frames = p.frames; version = p.version }
 
 honest_grown : (p : Pair) (f : End → Stream) (posted : Posted) → ((e : End) → Grows (p.stream e) (f e)) → Honest p posted → Honest (with_streams p f) posted
 unfolding with_streams
 honest_grown p f posted g h = record {
   run = h.run;
+  version = h.version;
   from = h.from;
   to = h.to;
   count = let more = (g (other posted.by)).taken in let old = h.count in omega arith;
@@ -127,8 +130,8 @@ sound_post : (p : Pair) (e : End) (number : ℕ) (msg : Option Msg) → Sound p 
 sound_post p e number msg S placed = record {
   lawful = S.lawful;
   honest = λ k posted is. ⊎_elim
-      (λ old. let h = S.honest k posted old in record { run = h.run; from = h.from; to = h.to; count = h.count; sent = h.sent })
-      (λ new. subst (Honest _) new (record { run = refl; from = refl; to = refl; count = omega arith; sent = placed }))
+      (λ old. let h = S.honest k posted old in record { run = h.run; version = h.version; from = h.from; to = h.to; count = h.count; sent = h.sent })
+      (λ new. subst (Honest _) new (record { run = refl; version = refl; from = refl; to = refl; count = omega arith; sent = placed }))
       (get_push p.frames _ posted k is);
 }
 
@@ -246,8 +249,8 @@ pub sound_run : (p : Pair) (events : List LinkEvent) → Sound p → Sound (run_
 sound_run p [] S = S
 sound_run p (event ∷ events) S = sound_run (happens p event).1 events (sound_happens p event S)
 
-pub sound_opening : (run : ℕ) (office : End → ℕ) → Sound (opening run office)
-sound_opening run office = record {
+pub sound_opening : (run : ℕ) (office : End → ℕ) (version : Version) → Sound (opening run office version)
+sound_opening run office version = record {
   lawful = λ e. record { ahead = []; begins = refl; acknowledged = omega arith; few = omega arith; kept = λ k m is. absurd (none most_kept k m is) };
   honest = λ k posted is. absurd cc;
 }
@@ -258,4 +261,4 @@ sound_opening run office = record {
     none (suc n) (suc k) m e = none n k m e
 
 pub streams_kept : StreamsStayLawful
-streams_kept run office events e = (sound_run (opening run office) events (sound_opening run office)).lawful e
+streams_kept run office version events e = (sound_run (opening run office version) events (sound_opening run office version)).lawful e

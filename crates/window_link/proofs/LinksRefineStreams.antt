@@ -3,6 +3,7 @@ use Rattle.std.proofs.Common.{◌≡◌, ℕ, zero, suc, ◌+◌, ◌-◌, ◌�
 use Rattle.std.specs.Prelude.{◌&&◌, ◌==◌, nat_lt}
 use Rattle.std.proofs.lemmas.Bool.{eq-eqb, le-ltb}
 use Rattle.std.proofs.lemmas.List.{length-append, length-drop, drop-drop, drop-append-le, append-nil}
+use Rattle.bottle_values.specs.Versions.{number_of}
 use Rattle.frame_codec.specs.declared.message.Msg.{Msg}
 use Rattle.frame_codec.specs.Frame.{Fields}
 use Rattle.window_link.specs.declared.laws.event.End.{End}
@@ -12,7 +13,7 @@ use Rattle.window_link.specs.declared.laws.event.LinkEvent.{LinkEvent}
 use Rattle.window_link.specs.declared.laws.event.LinkEvent.TheVariants.{Queue, Make, Ack, Arrive}
 use Rattle.window_link.specs.declared.laws.event.LinkReply.{LinkReply}
 use Rattle.window_link.specs.declared.laws.event.LinkReply.TheVariants.{Idle, Queued, Made, Arrived}
-use Rattle.window_link.specs.declared.fault.LinkFault.TheVariants.{Stranger, AckAhead}
+use Rattle.window_link.specs.declared.fault.LinkFault.TheVariants.{Stranger, WrongVersion, AckAhead}
 use Rattle.window_link.specs.declared.arrival.Arrival.{Arrival}
 use Rattle.window_link.specs.declared.arrival.Arrival.TheVariants.{Acked, Fresh, Repeat, Kept, Early}
 use Rattle.window_link.specs.Windows.{Sending, Receiving, arrival, next_kept, kept_after, advanced, after_message}
@@ -36,6 +37,7 @@ shown_link p e out back = record {
   peer = p.office (other e);
   sending = record { acked = out.acked; waiting = waiting out };
   receiving = window_of back;
+  version = p.version;
 }
 
 at_is : (p : Pair) (e : End) → at (ends_of p) e ≡ link_at p e
@@ -55,6 +57,7 @@ with_window p e r = record {
   peer = p.office (other e);
   sending = record { acked = (p.stream e).acked; waiting = waiting (p.stream e) };
   receiving = r;
+  version = p.version;
 }
 
 link_sent : (p : Pair) (e : End) (s : Stream) → window_of s ≡ window_of (p.stream e) → shown_link p (other e) (p.stream (other e)) s ≡ at (ends_of p) (other e)
@@ -93,7 +96,7 @@ link_more p e msg h =
     ap (λ (ms : List Msg). with_waiting p e ms) (drop-append-le (p.stream e).acked (p.stream e).sent (msg ∷ []) (acked_low (p.stream e) h))
   where
     with_waiting : Pair → End → List Msg → LinkState
-    with_waiting p e ms = record { run = p.run; me = p.office e; peer = p.office (other e); sending = record { acked = (p.stream e).acked; waiting = ms }; receiving = window_of (p.stream (other e)) }
+    with_waiting p e ms = record { run = p.run; me = p.office e; peer = p.office (other e); sending = record { acked = (p.stream e).acked; waiting = ms }; receiving = window_of (p.stream (other e)); version = p.version }
 
 -- a link in the place of the same link
 with_same : (t : Ends) (e : End) → with_link t e (at t e) ≡ t
@@ -138,6 +141,7 @@ link_with p e acked ms r = record {
   peer = p.office (other e);
   sending = record { acked = acked; waiting = ms };
   receiving = r;
+  version = p.version;
 }
 
 link_same : (p : Pair) (e : End) (out out' back back' : Stream) → out'.sent ≡ out.sent → out'.acked ≡ out.acked → window_of back' ≡ window_of back → shown_link p e out' back' ≡ shown_link p e out back
@@ -241,8 +245,8 @@ step_is p (Arrive k) S = step_deliver p (nth p.frames k)
 
 -- ---- no frame is refused
 
-no_fault : (a b c d : Bool) → a ≡ true → b ≡ true → c ≡ true → d ≡ false → cond (not (a && b && c)) (Some Stranger) (cond d (Some AckAhead) None) ≡ None
-no_fault a b c d ae be ce de = rw (ae, be, ce, de) refl
+no_fault : (a b c v d : Bool) → a ≡ true → b ≡ true → c ≡ true → v ≡ true → d ≡ false → cond (not (a && b && c)) (Some Stranger) (cond (not v) (Some WrongVersion) (cond d (Some AckAhead) None)) ≡ None
+no_fault a b c v d ae be ce ve de = rw (ae, be, ce, ve, de) refl
 
 other_other : (e : End) → other (other e) ≡ e
 other_other Left = refl
@@ -255,8 +259,8 @@ accepts_one p posted S h =
     let back = p.stream (other e) in
     let low : f.count ≤ back.acked + length (waiting back) = let c = h.count in omega (arith, c, used_is back (S.lawful (other e)), ap length (S.lawful (other e)).begins, length-append back.taken (S.lawful (other e)).ahead) in
     ap (λ l. fault_of l f) (at_is p (other e))
-    ∙ no_fault (f.run == p.run) (f.from == p.office (other (other e))) (f.to == p.office (other e)) (nat_lt (back.acked + length (waiting back)) f.count)
-    (eq-eqb f.run p.run h.run) (eq-eqb _ _ (h.from ∙ ap p.office (sym (other_other e)))) (eq-eqb _ _ h.to) (le-ltb _ _ low)
+    ∙ no_fault (f.run == p.run) (f.from == p.office (other (other e))) (f.to == p.office (other e)) (number_of f.version == number_of p.version) (nat_lt (back.acked + length (waiting back)) f.count)
+    (eq-eqb f.run p.run h.run) (eq-eqb _ _ (h.from ∙ ap p.office (sym (other_other e)))) (eq-eqb _ _ h.to) (eq-eqb _ _ (ap number_of h.version)) (le-ltb _ _ low)
 
 pub accepts_all : (p : Pair) → Sound p → Accepts (ends_of p)
 accepts_all p S k posted is = accepts_one p posted S (S.honest k posted is)

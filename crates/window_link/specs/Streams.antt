@@ -1,5 +1,6 @@
 -- What goes each way between two ends, told as whole lists, and what each event does to it.
 use Rattle.std.specs.Prelude.{◌≡◌, ℕ, zero, suc, ◌+◌, ◌-◌, ◌≤◌, max, Bool, ◌&&◌, nat_lt, if◌then◌else◌, List, [], ◌∷◌, ◌++◌, length, drop, replicate, get_or, slice_get, Option, Some, None}
+use Rattle.bottle_values.specs.declared.version.Version.{Version}
 use Rattle.frame_codec.specs.declared.message.Msg.{Msg}
 use Rattle.frame_codec.specs.Frame.{Fields}
 use Rattle.window_link.specs.declared.laws.event.End.{End}
@@ -37,12 +38,13 @@ pub record IsLawful (s : Stream) : Type 0 where
   pub few : length (waiting s) ≤ most_waiting
   pub kept : (k : ℕ) (msg : Msg) → get_or s.kept k None ≡ Some msg → slice_get s.sent (length s.taken + k) ≡ Some msg
 
--- two ends: the run's number, the offices' numbers, what each end sends, every frame that was made
+-- two ends: the run's number, the offices' numbers, what each end sends, every frame that was made, and the version of all of them
 pub record Pair : Type 0 where
   pub run : ℕ
   pub office : End → ℕ
   pub stream : End → Stream
   pub frames : List Posted
+  pub version : Version
 
 abbrev pub other : End → End
 other Left = Right
@@ -57,7 +59,7 @@ with_end f Right x Right = x
 
 abbrev pub with_stream : Pair → End → Stream → Pair
 with_stream p e s =
-    record { run = p.run; office = p.office; stream = with_end p.stream e s; frames = p.frames }
+    record { run = p.run; office = p.office; stream = with_end p.stream e s; frames = p.frames; version = p.version }
 
 -- the k-th of a list, from 1
 abbrev pub nth : {X : Type 0} → List X → ℕ → Option X
@@ -80,8 +82,8 @@ send p e msg =
 -- a frame of that end has the count of what the end has taken by now
 abbrev pub post : Pair → End → ℕ → Option Msg → LinkReply × Pair
 post p e number msg =
-    let frame : Fields = record { run = p.run; from = p.office e; to = p.office (other e); number = number; count = length (p.stream (other e)).taken; msg = msg } in
-    (Made, record { run = p.run; office = p.office; stream = p.stream; frames = p.frames ++ record { by = e; frame = frame } ∷ [] })
+    let frame : Fields = record { version = p.version; run = p.run; from = p.office e; to = p.office (other e); number = number; count = length (p.stream (other e)).taken; msg = msg } in
+    (Made, record { run = p.run; office = p.office; stream = p.stream; frames = p.frames ++ record { by = e; frame = frame } ∷ []; version = p.version })
 
 abbrev pub post_waiting : Pair → End → ℕ → Option Msg → LinkReply × Pair
 post_waiting p e i None = (Idle, p)
@@ -135,8 +137,8 @@ happens p (Arrive k) = deliver p (nth p.frames k)
 abbrev pub empty : Stream
 empty = record { sent = []; taken = []; acked = 0; kept = replicate most_kept None }
 
-abbrev pub opening : ℕ → (End → ℕ) → Pair
-opening run office = record { run = run; office = office; stream = λ e. empty; frames = [] }
+abbrev pub opening : ℕ → (End → ℕ) → Version → Pair
+opening run office version = record { run = run; office = office; stream = λ e. empty; frames = []; version = version }
 
 abbrev pub run_of : Pair → List LinkEvent → Pair
 run_of p [] = p
@@ -144,4 +146,5 @@ run_of p (event ∷ events) = run_of (happens p event).1 events
 
 -- Over every list of events, both ends are lawful.
 abbrev pub StreamsStayLawful : Type 0
-StreamsStayLawful = (run : ℕ) (office : End → ℕ) (events : List LinkEvent) (e : End) → IsLawful ((run_of (opening run office) events).stream e)
+StreamsStayLawful =
+    (run : ℕ) (office : End → ℕ) (version : Version) (events : List LinkEvent) (e : End) → IsLawful ((run_of (opening run office version) events).stream e)

@@ -1,5 +1,6 @@
 -- Two linked ends as contracts see them, and which lists of events led to them.
 use Rattle.std.specs.Prelude.{◌≡◌, ℕ, List, ◌∷◌, [], ◌++◌, length, slice_get, Some, None, Bool, true, false}
+use Rattle.bottle_values.specs.declared.version.Version.{Version}
 use Rattle.window_link.specs.declared.laws.event.End.{End}
 use Rattle.window_link.specs.declared.laws.event.End.TheVariants.{Left, Right}
 use Rattle.window_link.specs.declared.laws.event.Posted.{Posted}
@@ -29,16 +30,18 @@ link_at p e =
       peer = p.office (other e);
       sending = record { acked = (p.stream e).acked; waiting = waiting (p.stream e) };
       receiving = record { taken = length (p.stream (other e)).taken; kept = (p.stream (other e)).kept };
+      version = p.version;
     }
 
 abbrev pub ends_of : Pair → Ends
 ends_of p = record { left = link_at p Left; right = link_at p Right; frames = p.frames }
 
--- the run's number and the offices' numbers
+-- the run's number, the offices' numbers, and the version
 pub record Names : Type 0 where
   pub run : ℕ
   pub left : ℕ
   pub right : ℕ
+  pub version : Version
 
 abbrev pub office_at : Names → End → ℕ
 office_at names Left = names.left
@@ -46,7 +49,7 @@ office_at names Right = names.right
 
 -- both ends after these events, from the opening
 abbrev pub after : Names → List LinkEvent → Pair
-after names events = run_of (opening names.run (office_at names)) events
+after names events = run_of (opening names.run (office_at names) names.version) events
 
 -- these events led to these ends
 abbrev pub LedTo : Names → List LinkEvent → Ends → Type 0

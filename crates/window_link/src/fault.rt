@@ -11,6 +11,8 @@ use std::fmt;
 pub enum LinkFault {
     /// The frame is of another run, or doesn't go from the peer to this end.
     Stranger,
+    /// The frame is of another version than this end.
+    WrongVersion,
     /// The frame's count is past the last number that was used.
     AckAhead,
     /// The greatest number was used.
@@ -24,6 +26,7 @@ impl LinkFault {
     {
         match self {
             LinkFault::Stranger => "L1 Stranger",
+            LinkFault::WrongVersion => "L4 WrongVersion",
             LinkFault::AckAhead => "L2 AckAhead",
             LinkFault::Worn => "L3 Worn",
         }

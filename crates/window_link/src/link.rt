@@ -12,6 +12,7 @@ use crate::fault::LinkFault;
 use crate::receiving::ReceiveWindow;
 use crate::sending::SendWindow;
 use crate::waiting::{MAX_WAITING, Waiting};
+use bottle_values::Version;
 use frame_codec::{Frame, Msg};
 use std::marker::Model;
 
@@ -21,6 +22,7 @@ pub struct Link {
     run: u32,
     me: u8,
     peer: u8,
+    version: Version,
     sending: SendWindow,
     receiving: ReceiveWindow,
 }
@@ -30,24 +32,24 @@ impl Model for Link {
 
     ghost Value = { LinkState };
 
-    ghost view = { λ l. record { run = l.run; me = l.me; peer = l.peer; sending = l.sending; receiving = l.receiving } };
+    ghost view = { λ l. record { run = l.run; me = l.me; peer = l.peer; sending = l.sending; receiving = l.receiving; version = l.version } };
 }
 
 impl Link {
-    /// A link on which nothing was sent. The run's number stands in each frame, with the numbers of
-    /// the two offices.
-    pub fn open(run: u32, me: u8, peer: u8) -> Link
-        ensures { result ≡ resumed run me peer 0 0 }
+    /// A link on which nothing was sent. The version stands in each frame, with the run's number and the
+    /// numbers of the two offices.
+    pub fn open(run: u32, me: u8, peer: u8, version: Version) -> Link
+        ensures { result ≡ resumed run me peer 0 0 version }
     {
-        Link::resume(run, me, peer, 0, 0)
+        Link::resume(run, me, peer, 0, 0, version)
     }
 
     /// A link whose numbers up to `sent` were used, and which has taken the messages up to `taken`.
     /// Nothing waits.
-    pub fn resume(run: u32, me: u8, peer: u8, sent: u64, taken: u64) -> Link
+    pub fn resume(run: u32, me: u8, peer: u8, sent: u64, taken: u64, version: Version) -> Link
         requires sent { sent < sequence_space }
         requires taken { taken < sequence_space }
-        ensures { result ≡ resumed run me peer sent taken }
+        ensures { result ≡ resumed run me peer sent taken version }
     {
         Link {
             run,
@@ -55,6 +57,7 @@ impl Link {
             peer,
             sending: SendWindow::after(sent),
             receiving: ReceiveWindow::after(taken),
+            version,
         }
     }
 
@@ -113,17 +116,25 @@ impl Link {
     {
         let msg = self.waiting().message(i - 1);
         let number = self.acked() + i as u64;
-        Frame::data(self.run, self.me, self.peer, number, self.taken(), msg)
+        Frame::data(
+            self.version,
+            self.run,
+            self.me,
+            self.peer,
+            number,
+            self.taken(),
+            msg,
+        )
     }
 
     /// A frame with the count alone.
     pub fn ack_frame(&self) -> Frame
         ensures { result ≡ ack_frame_of self.now }
     {
-        Frame::ack(self.run, self.me, self.peer, self.taken())
+        Frame::ack(self.version, self.run, self.me, self.peer, self.taken())
     }
 
-    /// What is wrong with a frame that comes: `Stranger` before `AckAhead`.
+    /// What is wrong with a frame that comes: `Stranger` before `WrongVersion`, and that before `AckAhead`.
     ///
     /// `check` and `accept` are calls of their own, and `arrive` is both. A channel has to look at what a frame brings
     /// after the link has judged it and before its count is used; so no check is made twice. Two linked ends show that
@@ -133,6 +144,9 @@ impl Link {
     {
         if frame.run() != self.run || frame.from() != self.peer || frame.to() != self.me {
             return Err(LinkFault::Stranger);
+        }
+        if frame.version().number() != self.version.number() {
+            return Err(LinkFault::WrongVersion);
         }
         if frame.count() > self.sending.last_number() {
             return Err(LinkFault::AckAhead);
@@ -185,7 +199,7 @@ impl Link {
     /// Takes in a frame that comes.
     ///
     /// # Errors
-    /// `Stranger`, or else `AckAhead`. The link is as it was.
+    /// `Stranger`, or else `WrongVersion`, or else `AckAhead`. The link is as it was.
     pub fn arrive(&mut self, frame: &Frame) -> Result<Arrival, LinkFault>
         ensures fault { result_err result ≡ fault_of self.old frame.now }
         ensures arrival { IfOk result (λ arrival. arrival ≡ arrival_at self.old frame.now) }

@@ -32,7 +32,7 @@ put_peers : (link : ℕ → LinkState) (x : ℕ) (l : LinkState) → l.peer ≡ 
 put_peers link x l same h v = put_cases link x l v (λ (k : LinkState). k.peer ≡ v) (λ e. same ∙ h x ∙ sym e) (λ ne. h v)
 
 queued_peers : (link : ℕ → LinkState) (x : ℕ) (m : Msg) → ArePeers link → ArePeers (queued_to link x m)
-queued_peers link x m h = put_peers link x (record { run = (link x).run; me = (link x).me; peer = (link x).peer; sending = queued (link x).sending m; receiving = (link x).receiving }) refl h
+queued_peers link x m h = put_peers link x (record { run = (link x).run; me = (link x).me; peer = (link x).peer; sending = queued (link x).sending m; receiving = (link x).receiving; version = (link x).version }) refl h
 
 sent_peers : (link : ℕ → LinkState) (m : Option (ℕ × Msg)) → ArePeers link → ArePeers (sent link m)
 sent_peers link None h = h

@@ -11,7 +11,7 @@ ghost use Rattle.office_journal.specs.declared.rule.Rule.TheVariants as rules;
 ghost use Rattle.site_core.specs.Journals.{Site, Steps, office_of};
 ghost use Rattle.site_core.specs.Offices.{answer};
 ghost use Rattle.frame_world.specs.Worlds.{frames_of};
-ghost use Rattle.frame_world.specs.Sent.{frame_told, told_in, sent_by};
+ghost use Rattle.frame_world.specs.Sent.{told_in, sent_by};
 ghost use Rattle.world_schedule.specs.Readers.{mark_of, listed_as};
 ghost use Rattle.world_schedule.specs.refinement.WorldOfCode.{finishes};
 ghost use Rattle.world_schedule.specs.refinement.Handing.{Hands, passed_on};
@@ -214,17 +214,7 @@ pub(crate) fn frame_told(office: &Office, entry: u32) -> Option<Frame>
     let Some(entry) = office.journal().get(entry as usize) else {
         return None;
     };
-    frame_in(&entry.reply)
-}
-
-/// The frame that a reply tells, if it tells one.
-fn frame_in(reply: &Reply) -> Option<Frame>
-    ensures { result ≡ frame_told reply.now }
-{
-    match reply {
-        Reply::Frame(frame) => Some(*frame),
-        _ => None,
-    }
+    entry.reply.frame_told()
 }
 
 /// Each field of a frame is in the format's range.

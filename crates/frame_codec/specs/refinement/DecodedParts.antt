@@ -1,13 +1,14 @@
 -- What the code holds between reading a header and making the frame.
 use Rattle.std.specs.Prelude.{◌≡◌, ℕ, ◌<◌, ◌≤◌, ◌^◌, Bool, IsTrue, ◌+◌, not, ◌&&◌, ◌==◌, nat_lt, nat_le, if◌then◌else◌, List, [], ◌∷◌, length, take, Option, Some, None}
+use Rattle.bottle_values.specs.declared.version.Version.{Version}
+use Rattle.bottle_values.specs.declared.version.Version.TheVariants.{One, Two}
 use Rattle.frame_codec.specs.declared.header.Kind.{Kind}
 use Rattle.frame_codec.specs.declared.header.Kind.TheVariants.{Data, Ack}
 use Rattle.frame_codec.specs.declared.header.Header.{Header}
 use Rattle.frame_codec.specs.declared.fault.FrameFault.{FrameFault}
-use Rattle.frame_codec.specs.declared.fault.FrameFault.TheVariants.{Tag, Length}
+use Rattle.frame_codec.specs.declared.fault.FrameFault.TheVariants.{Tag, ValueForm, Length}
 use Rattle.frame_codec.specs.Frame.{Fields}
 use Rattle.frame_codec.specs.Header.{data_kind, ack_kind, header}
-use Rattle.frame_codec.specs.Version01.{length_by_tag}
 use Rattle.frame_codec.specs.Limits.{sequence_space}
 
 abbrev pub code_of : Kind → ℕ
@@ -17,26 +18,44 @@ code_of Ack = ack_kind
 -- what the header says, as a frame whose message is still to come
 abbrev pub fields_of : Header → Fields
 fields_of h =
-    record { run = h.run; from = h.from; to = h.to; number = h.number; count = h.count; msg = None }
+    record { version = h.version; run = h.run; from = h.from; to = h.to; number = h.number; count = h.count; msg = None }
 
 -- whether a frame of that kind may have the number
 abbrev pub is_numbered_by : Kind → ℕ → Bool
 is_numbered_by Data number = nat_lt 0 number && nat_lt number sequence_space
 is_numbered_by Ack number = number == 0
 
--- the bytes begin with this header of that version, and its fields are in range
-pub record BeginsWith (version : ℕ) (bytes : List ℕ) (h : Header) : Type 0 where
+-- the bytes begin with this header, and its fields are in range
+pub record BeginsWith (bytes : List ℕ) (h : Header) : Type 0 where
   pub whole : 26 ≤ length bytes
-  pub spelled : take 26 bytes ≡ header version (code_of h.kind) (fields_of h)
+  pub spelled : take 26 bytes ≡ header (code_of h.kind) (fields_of h)
   pub run : h.run < 2 ^ 32
   pub from : h.from < 2 ^ 8
   pub to : h.to < 2 ^ 8
   pub number : IsTrue (is_numbered_by h.kind h.number)
   pub count : h.count < sequence_space
 
--- the first fault of what follows a data frame's header
-abbrev pub message_fault : List ℕ → Option FrameFault
-message_fault [] = Some Length
-message_fault (tag ∷ rest) =
-    if not (nat_le 1 tag && nat_le tag 4) then Some Tag
-    else if not (26 + length (tag ∷ rest) == length_by_tag tag) then Some Length else None
+-- ---- the first fault of a part of the bytes, which ends where they end
+
+-- of a number's bytes
+abbrev pub number_fault : List ℕ → Option FrameFault
+number_fault bytes = if length bytes == 8 then None else Some Length
+
+-- of a value's
+abbrev pub value_fault : Version → List ℕ → Option FrameFault
+value_fault One bytes = number_fault bytes
+value_fault Two [] = Some Length
+value_fault Two (form ∷ rest) = if form == 1 then number_fault rest else Some ValueForm
+
+-- of what follows the tag of a bottle
+abbrev pub bottle_fault : Version → List ℕ → Option FrameFault
+bottle_fault version [] = Some Length
+bottle_fault version (high ∷ []) = Some Length
+bottle_fault version (high ∷ low ∷ value) = value_fault version value
+
+-- of what follows a data frame's header
+abbrev pub message_fault : Version → List ℕ → Option FrameFault
+message_fault version [] = Some Length
+message_fault version (tag ∷ rest) =
+    if not (nat_le 1 tag && nat_le tag 4) then Some Tag else if tag == 4 then bottle_fault version rest
+    else if length rest == (if tag == 3 then 2 else 0) then None else Some Length

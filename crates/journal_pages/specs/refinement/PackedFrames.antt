@@ -1,7 +1,9 @@
 -- What the parts of a packed frame mean.
-use Rattle.std.specs.Prelude.{ℕ, ◌+◌, ◌*◌, ◌^◌, ◌==◌, if◌then◌else◌, Option, None, Some, unwrap_or}
+use Rattle.std.specs.Prelude.{ℕ, ◌+◌, ◌*◌, ◌^◌, ◌==◌, nat_lt, if◌then◌else◌, Option, None, Some, unwrap_or}
 use Rattle.bottle_values.specs.Values.{Value}
 use Rattle.bottle_values.specs.Operations.{nought}
+use Rattle.bottle_values.specs.declared.version.Version.{Version}
+use Rattle.bottle_values.specs.declared.version.Version.TheVariants.{One, Two}
 use Rattle.frame_codec.specs.Frame.{Fields}
 use Rattle.frame_codec.specs.declared.message.Msg.{Msg}
 use Rattle.frame_codec.specs.declared.message.Msg.TheVariants as msg
@@ -16,6 +18,14 @@ code_of msg.AskFork = 0
 code_of msg.Fork = 1
 code_of (msg.AskBottle r) = 2
 code_of (msg.Bottle r x) = 3
+
+-- the version, beside which a message's code stands
+abbrev pub code_of_version : Version → ℕ
+code_of_version One = 0
+code_of_version Two = 4
+
+abbrev pub version_in : ℕ → Version
+version_in code = if nat_lt code 4 then One else Two
 
 -- the record that it names, or 0
 abbrev pub which_of : Msg → ℕ
@@ -36,9 +46,9 @@ abbrev pub message_in : ℕ → ℕ → Value → Msg
 message_in code r x = if code == 0 then msg.AskFork else if code == 1 then msg.Fork else if code == 2 then msg.AskBottle r else msg.Bottle r x
 
 -- a frame with the number 0 is one of the count alone
-abbrev pub frame_with : ℕ → ℕ → ℕ → ℕ → ℕ → Msg → Fields
-frame_with run from to number count m =
-    record { run = run; from = from; to = to; number = number; count = count; msg = (if number == 0 then None else Some m) }
+abbrev pub frame_with : Version → ℕ → ℕ → ℕ → ℕ → ℕ → Msg → Fields
+frame_with version run from to number count m =
+    record { version = version; run = run; from = from; to = to; number = number; count = count; msg = (if number == 0 then None else Some m) }
 
 -- what a frame's message is packed as: that of an acknowledgement says nothing, since its number is 0
 abbrev pub packed_message : Option Msg → Msg

@@ -8,12 +8,13 @@ use Rattle.frame_codec.specs.Frame.{Fields, IsFrame}
 use Rattle.office_journal.specs.declared.event.Event.{Event}
 use Rattle.office_journal.specs.declared.event.Event.TheVariants as event
 use Rattle.office_journal.specs.declared.event.Entry.{Entry}
+use Rattle.office_journal.specs.Replies.{frame_told}
 use Rattle.frame_world.specs.declared.event.WorldEvent.{WorldEvent}
 use Rattle.frame_world.specs.declared.event.WorldEvent.TheVariants as happening
 use Rattle.frame_world.specs.Worlds.{World, opening, frames_of, run_of, AreAccepted}
 use Rattle.frame_world.specs.WorldStates.{IsSeated}
 use Rattle.frame_world.specs.declared.sent.SentAt.{SentAt}
-use Rattle.frame_world.specs.Sent.{frame_told, told_in}
+use Rattle.frame_world.specs.Sent.{told_in}
 use Rattle.journal_weave.specs.declared.key.FrameKey.{FrameKey}
 use Rattle.journal_weave.specs.declared.sent.SentFrames.{SentFrames}
 use Rattle.journal_weave.specs.declared.merge.Merge.{Merge}

@@ -163,6 +163,7 @@ fn of_smaller_count(frame: &Frame) -> Frame {
     let count = frame.count().saturating_sub(1);
     match frame.msg() {
         Some(msg) => Frame::data(
+            frame.version(),
             frame.run(),
             frame.from(),
             frame.to(),

@@ -24,7 +24,7 @@ pub record PairsValue : Type 0 where
   pub channels : List Slot
 
 abbrev pub pairs_of : PairsValue → Pairs
-pairs_of p = record { diner = diner_of p.table; drinker = drinker_of p.bar; link = links_of p.plan.run p.me p.channels }
+pairs_of p = record { diner = diner_of p.table; drinker = drinker_of p.bar; link = links_of p.plan.run p.plan.version p.me p.channels }
 
 -- they are those of this office of this plan
 abbrev pub IsOf : PlanValue → ℕ → PairsValue → Type 0

@@ -1,6 +1,7 @@
 -- The channels that the code keeps: a place for each office of the plan, empty where that is no neighbour.
 use Rattle.std.specs.Prelude.{◌≡◌, ℕ, Bool, true, false, if◌then◌else◌, List, get_or, Option, None, Some, option_map}
 use Rattle.std.specs.Option.{option_map_or}
+use Rattle.bottle_values.specs.declared.version.Version.{Version}
 use Rattle.frame_codec.specs.declared.message.Msg.{Msg}
 use Rattle.frame_codec.specs.Frame.{Fields}
 use Rattle.office_map.specs.PlanValue.{PlanValue, are_neighbours}
@@ -18,12 +19,12 @@ abbrev pub slot_at : List Slot → ℕ → Slot
 slot_at slots v = get_or slots v None
 
 -- the link in a slot; with an office that is no neighbour nothing was ever sent
-abbrev pub link_in : ℕ → ℕ → ℕ → Slot → LinkState
-link_in run me v None = resumed run me v 0 0
-link_in run me v (Some c) = c.link
+abbrev pub link_in : ℕ → Version → ℕ → ℕ → Slot → LinkState
+link_in run version me v None = resumed run me v 0 0 version
+link_in run version me v (Some c) = c.link
 
-abbrev pub links_of : ℕ → ℕ → List Slot → ℕ → LinkState
-links_of run me slots v = link_in run me v (slot_at slots v)
+abbrev pub links_of : ℕ → Version → ℕ → List Slot → ℕ → LinkState
+links_of run version me slots v = link_in run version me v (slot_at slots v)
 
 abbrev pub slot_holds : Slot → Thing → Bool
 slot_holds slot t = option_map_or (λ (c : ChannelState). holds c.places t) slot false

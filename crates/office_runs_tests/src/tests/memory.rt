@@ -276,7 +276,7 @@ impl<'a, R: Wait + Clock> Wire for Mailing<'a, R> {
 
     ghost tells = { false };
 
-    fn receive(&mut self, buffer: &mut [u8; 64]) -> Result<Option<usize>, WireFailed> {
+    fn receive(&mut self, buffer: &mut [u8; 128]) -> Result<Option<usize>, WireFailed> {
         if self.comes == Comes::Noise {
             buffer[0] = 0;
             return Ok(Some(1));
@@ -324,7 +324,7 @@ impl<'a, R: Wait + Clock> Wire for MemorySocket<'a, R> {
 
     ghost tells = { false };
 
-    fn receive(&mut self, buffer: &mut [u8; 64]) -> Result<Option<usize>, WireFailed> {
+    fn receive(&mut self, buffer: &mut [u8; 128]) -> Result<Option<usize>, WireFailed> {
         self.mail.receive(buffer)
     }
 

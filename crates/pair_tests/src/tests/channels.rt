@@ -1,6 +1,6 @@
 ghost use Rattle.std.specs.Prelude.{◌<◌};
 
-use bottle_values::Value;
+use bottle_values::{Value, Version};
 use frame_codec::{Frame, Msg};
 use office_map::{OfficeId, Plan};
 use rand_core::utils::NextWord;
@@ -84,17 +84,17 @@ fn comes(rt: &impl Abort, at: &mut Channel, frame: Frame, expected: Result<Arriv
 #[test]
 fn what_is_held_is_not_taken(rt: HostRuntime) -> Result<(), Fail> {
     let (mut a, _) = ends(&rt, rt.alloc(), TWO_RECORDS)?;
-    let fork = Frame::data(42, 1, 0, 1, 0, Msg::Fork);
+    let fork = Frame::data(Version::One, 42, 1, 0, 1, 0, Msg::Fork);
     comes(&rt, &mut a, fork, Err(ChannelFault::Breach));
-    let foreign = Frame::data(42, 1, 0, 1, 0, Msg::AskBottle(2));
+    let foreign = Frame::data(Version::One, 42, 1, 0, 1, 0, Msg::AskBottle(2));
     comes(&rt, &mut a, foreign, Err(ChannelFault::Breach));
-    let token = Frame::data(42, 1, 0, 1, 0, Msg::AskFork);
+    let token = Frame::data(Version::One, 42, 1, 0, 1, 0, Msg::AskFork);
     comes(&rt, &mut a, token, Ok(Arrival::Fresh(Msg::AskFork)));
     comes(&rt, &mut a, token, Ok(Arrival::Repeat));
     comes(
         &rt,
         &mut a,
-        Frame::data(42, 1, 0, 3, 0, Msg::Fork),
+        Frame::data(Version::One, 42, 1, 0, 3, 0, Msg::Fork),
         Ok(Arrival::Kept),
     );
     Ok(())
@@ -103,9 +103,9 @@ fn what_is_held_is_not_taken(rt: HostRuntime) -> Result<(), Fail> {
 #[test]
 fn what_was_kept_is_thrown_out(rt: HostRuntime) -> Result<(), Fail> {
     let (mut a, _) = ends(&rt, rt.alloc(), TWO_RECORDS)?;
-    let fork = Frame::data(42, 1, 0, 2, 0, Msg::Fork);
+    let fork = Frame::data(Version::One, 42, 1, 0, 2, 0, Msg::Fork);
     comes(&rt, &mut a, fork, Ok(Arrival::Kept));
-    let token = Frame::data(42, 1, 0, 1, 0, Msg::AskFork);
+    let token = Frame::data(Version::One, 42, 1, 0, 1, 0, Msg::AskFork);
     comes(&rt, &mut a, token, Ok(Arrival::Fresh(Msg::AskFork)));
     assert!(rt; a.taken() == 1);
     Ok(())
@@ -118,11 +118,11 @@ fn what_was_kept_follows(rt: HostRuntime) -> Result<(), Fail> {
         comes(
             &rt,
             &mut a,
-            Frame::data(42, 1, 0, number, 0, msg),
+            Frame::data(Version::One, 42, 1, 0, number, 0, msg),
             Ok(Arrival::Kept),
         );
     }
-    match a.take(&Frame::data(42, 1, 0, 1, 0, Msg::AskFork)) {
+    match a.take(&Frame::data(Version::One, 42, 1, 0, 1, 0, Msg::AskFork)) {
         Ok(Taken::Fresh(messages)) => {
             let all = [Msg::AskFork, bottle(1, 7), Msg::AskBottle(0)];
             assert_eq!(rt; messages.as_slice(), all.as_slice());
@@ -142,30 +142,35 @@ fn what_waits_is_not_taken(rt: HostRuntime) -> Result<(), Fail> {
     comes(
         &rt,
         &mut a,
-        Frame::data(42, 1, 0, 1, 0, Msg::AskBottle(1)),
+        Frame::data(Version::One, 42, 1, 0, 1, 0, Msg::AskBottle(1)),
         Err(ChannelFault::Breach),
     );
     comes(
         &rt,
         &mut a,
-        Frame::data(42, 1, 0, 1, 2, Msg::AskBottle(1)),
+        Frame::data(Version::One, 42, 1, 0, 1, 2, Msg::AskBottle(1)),
         Err(ahead),
     );
     comes(
         &rt,
         &mut a,
-        Frame::data(42, 1, 0, 1, 1, Msg::AskBottle(1)),
+        Frame::data(Version::One, 42, 1, 0, 1, 1, Msg::AskBottle(1)),
         Ok(Arrival::Fresh(Msg::AskBottle(1))),
     );
     let stranger = ChannelFault::Link(LinkFault::Stranger);
     comes(
         &rt,
         &mut a,
-        Frame::data(43, 1, 0, 2, 9, Msg::Fork),
+        Frame::data(Version::One, 43, 1, 0, 2, 9, Msg::Fork),
         Err(stranger),
     );
-    comes(&rt, &mut a, Frame::ack(42, 1, 0, 0), Ok(Arrival::Acked));
-    assert_eq!(rt; a.ack_frame(), Frame::ack(42, 0, 1, 1));
+    comes(
+        &rt,
+        &mut a,
+        Frame::ack(Version::One, 42, 1, 0, 0),
+        Ok(Arrival::Acked),
+    );
+    assert_eq!(rt; a.ack_frame(), Frame::ack(Version::One, 42, 0, 1, 1));
     Ok(())
 }
 
@@ -174,6 +179,10 @@ fn faults_are_printed_with_their_codes(rt: HostRuntime) -> Result<(), Fail> {
     for (fault, text) in [
         (ChannelFault::Breach, "C1 Breach"),
         (ChannelFault::Link(LinkFault::Stranger), "L1 Stranger"),
+        (
+            ChannelFault::Link(LinkFault::WrongVersion),
+            "L4 WrongVersion",
+        ),
         (ChannelFault::Link(LinkFault::AckAhead), "L2 AckAhead"),
     ] {
         let printed = format!(in rt.alloc(); "{fault}")?;

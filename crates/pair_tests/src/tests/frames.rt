@@ -1,12 +1,13 @@
 ghost use Rattle.std.specs.Prelude.{◌≡◌, ◌<◌, ◌^◌, Ok};
 ghost use Rattle.frame_codec.specs.Limits.{sequence_space};
 
-use bottle_values::Value;
+use bottle_values::{Value, Version};
 use frame_codec::{Frame, FrameFault, MAX_LENGTH, MAX_NUMBER, Msg, decode, encode, laws};
 use std::process::Abort;
 use std::test::Fail;
 
 mod changed_bytes;
+mod second_version;
 
 const BOTTLE: [u8; 37] =
     *b"\x44\x50\x01\x01\x00\x00\x00\x2a\x00\x01\x00\x00\x00\x00\x00\x00\x00\x01\x00\x00\x00\x00\x00\x00\x00\x00\x04\x00\x05\xff\xff\xff\xff\xff\xff\xff\xff";
@@ -30,6 +31,7 @@ fn bottle(run: u32, count: u64, record: u16, number: i64) -> Frame
     requires { count < sequence_space }
 {
     Frame::data(
+        Version::One,
         run,
         0,
         1,
@@ -66,12 +68,20 @@ fn read_again(frame: &Frame) -> Result<Frame, FrameFault>
 fn each_case_has_its_spelling(rt: HostRuntime) {
     is_spelled(&rt, bottle(42, 0, 5, -1), &BOTTLE);
     is_spelled(&rt, bottle(9, 1, 0, 8), &EIGHT);
-    is_spelled(&rt, Frame::ack(42, 0, 1, 3), &ACK);
-    is_spelled(&rt, Frame::data(42, 1, 0, 1, 0, Msg::AskFork), &ASK_FORK);
-    is_spelled(&rt, Frame::data(42, 1, 0, 2, 2, Msg::Fork), &FORK);
+    is_spelled(&rt, Frame::ack(Version::One, 42, 0, 1, 3), &ACK);
     is_spelled(
         &rt,
-        Frame::data(42, 0, 1, 1, 0, Msg::AskBottle(1)),
+        Frame::data(Version::One, 42, 1, 0, 1, 0, Msg::AskFork),
+        &ASK_FORK,
+    );
+    is_spelled(
+        &rt,
+        Frame::data(Version::One, 42, 1, 0, 2, 2, Msg::Fork),
+        &FORK,
+    );
+    is_spelled(
+        &rt,
+        Frame::data(Version::One, 42, 0, 1, 1, 0, Msg::AskBottle(1)),
         &ASK_BOTTLE,
     );
 }
@@ -162,17 +172,22 @@ fn the_first_of_several_faults_is_told(rt: HostRuntime) -> Result<(), Fail> {
 
 #[test]
 fn readers_tell_the_fields(rt: HostRuntime) {
-    let frame = Frame::data(7, 2, 3, MAX_NUMBER, 4, Msg::Fork);
+    let frame = Frame::data(Version::One, 7, 2, 3, MAX_NUMBER, 4, Msg::Fork);
+    assert_eq!(rt; frame.version(), Version::One);
     assert_eq!(rt; frame.run(), 7);
     assert_eq!(rt; frame.from(), 2);
     assert_eq!(rt; frame.to(), 3);
     assert_eq!(rt; frame.number(), 281474976710655);
     assert_eq!(rt; frame.count(), 4);
     assert_eq!(rt; frame.msg(), Some(Msg::Fork));
-    let ack = Frame::ack(7, 2, 3, MAX_NUMBER);
+    let ack = Frame::ack(Version::One, 7, 2, 3, MAX_NUMBER);
     assert_eq!(rt; ack.number(), 0);
     assert_eq!(rt; ack.count(), 281474976710655);
     assert_eq!(rt; ack.msg(), None);
+    assert_eq!(rt;
+        Frame::ack(Version::Two, 7, 2, 3, 0).version(),
+        Version::Two
+    );
 }
 
 #[test]
@@ -186,6 +201,8 @@ fn faults_are_printed_with_their_codes(rt: HostRuntime) -> Result<(), Fail> {
         (FrameFault::Count, "F6 Count"),
         (FrameFault::Tag, "F7 Tag"),
         (FrameFault::Length, "F8 Length"),
+        (FrameFault::ValueForm, "F9 ValueForm"),
+        (FrameFault::TextByte, "F10 TextByte"),
     ] {
         let printed = format!(in rt.alloc(); "{fault}")?;
         assert_eq!(rt; printed.as_str(), text);

@@ -1,6 +1,7 @@
 ghost use Rattle.std.specs.Prelude.{◌<◌};
 ghost use Rattle.frame_codec.specs.Limits.{sequence_space};
 
+use bottle_values::Version;
 use frame_codec::{Frame, Msg};
 use std::alloc::{AllocError, Global};
 use std::process::Abort;
@@ -11,22 +12,22 @@ mod two_ends;
 
 #[test]
 fn the_greatest_number_is_the_last(rt: HostRuntime) {
-    let mut worn = Link::resume(42, 0, 1, 281474976710655, 0);
+    let mut worn = Link::resume(42, 0, 1, 281474976710655, 0, Version::One);
     assert_eq!(rt; worn.queue(Msg::Fork), Err(LinkFault::Worn));
-    let mut last = Link::resume(42, 0, 1, 281474976710654, 0);
+    let mut last = Link::resume(42, 0, 1, 281474976710654, 0, Version::One);
     assert_eq!(rt; last.queue(Msg::Fork), Ok(()));
     let waiting = last.waiting().len();
     assert!(rt; waiting == 1);
     assert_eq!(rt;
         last.frame(1),
-        Frame::data(42, 0, 1, 281474976710655, 0, Msg::Fork)
+        Frame::data(Version::One, 42, 0, 1, 281474976710655, 0, Msg::Fork)
     );
     assert_eq!(rt; last.queue(Msg::Fork), Err(LinkFault::Worn));
 }
 
 #[test]
 fn eighteen_messages_wait(rt: HostRuntime) -> Result<(), Fail> {
-    let mut link = Link::open(42, 0, 1);
+    let mut link = Link::open(42, 0, 1, Version::One);
     for bottle in 0..30 {
         if link.has_room() {
             assert_eq!(rt; link.queue(Msg::AskBottle(bottle)), Ok(()));
@@ -52,7 +53,7 @@ fn listed(alloc: Global, waiting: &Waiting) -> Result<Vec<Msg>, AllocError> {
 // Messages go on round the places: those that are left, and those that came since, are told in order.
 #[test]
 fn messages_wait_in_order_round_the_ring(rt: HostRuntime) -> Result<(), Fail> {
-    let mut link = Link::open(42, 0, 1);
+    let mut link = Link::open(42, 0, 1, Version::One);
     for bottle in 0..18 {
         if link.has_room() {
             assert_eq!(rt; link.queue(Msg::AskBottle(bottle)), Ok(()));
@@ -64,7 +65,7 @@ fn messages_wait_in_order_round_the_ring(rt: HostRuntime) -> Result<(), Fail> {
             asked.push(Msg::AskBottle(bottle))?;
         }
         assert_eq!(rt; listed(rt.alloc(), link.waiting())?, asked);
-        let ack = Frame::ack(42, 1, 0, u64::from(acked) + 1);
+        let ack = Frame::ack(Version::One, 42, 1, 0, u64::from(acked) + 1);
         assert_eq!(rt; link.arrive(&ack), Ok(Arrival::Acked));
         assert!(rt; link.has_room());
         assert_eq!(rt; link.queue(Msg::AskBottle(acked + 18)), Ok(()));
@@ -87,7 +88,7 @@ fn comes(
 }
 
 fn with_two_waiting(rt: &impl Abort) -> Link {
-    let mut link = Link::open(42, 0, 1);
+    let mut link = Link::open(42, 0, 1, Version::One);
     assert_eq!(rt; link.queue(Msg::AskFork), Ok(()));
     assert!(rt; link.has_room());
     assert_eq!(rt; link.queue(Msg::AskBottle(7)), Ok(()));
@@ -98,39 +99,76 @@ fn with_two_waiting(rt: &impl Abort) -> Link {
 fn strangers_come_first(rt: HostRuntime) {
     let mut link = with_two_waiting(&rt);
     for (run, from, to) in [(43, 1, 0), (42, 2, 0), (42, 1, 2), (42, 0, 1)] {
-        let frame = Frame::data(run, from, to, 1, 3, Msg::Fork);
+        let frame = Frame::data(Version::One, run, from, to, 1, 3, Msg::Fork);
         comes(&rt, &mut link, frame, Err(LinkFault::Stranger), (0, 0, 2));
     }
-    let ahead = Frame::ack(42, 1, 0, 3);
+    let ahead = Frame::ack(Version::One, 42, 1, 0, 3);
     comes(&rt, &mut link, ahead, Err(LinkFault::AckAhead), (0, 0, 2));
+}
+
+// A frame of the other version changes nothing, whatever it brings: it is told after a stranger's, and before a count that is
+// ahead.
+#[test]
+fn the_other_version_is_refused(rt: HostRuntime) {
+    for (own, other) in [(Version::One, Version::Two), (Version::Two, Version::One)] {
+        let mut link = Link::open(42, 0, 1, own);
+        assert_eq!(rt; link.queue(Msg::AskFork), Ok(()));
+        for (run, count, fault) in [
+            (42, 0, LinkFault::WrongVersion),
+            (42, 1, LinkFault::WrongVersion),
+            (42, 2, LinkFault::WrongVersion),
+            (43, 2, LinkFault::Stranger),
+        ] {
+            assert!(rt; count <= 2);
+            let frame = Frame::data(other, run, 1, 0, 1, count, Msg::Fork);
+            comes(&rt, &mut link, frame, Err(fault), (0, 0, 1));
+            let frame = Frame::ack(other, run, 1, 0, count);
+            comes(&rt, &mut link, frame, Err(fault), (0, 0, 1));
+        }
+        let frame = Frame::ack(own, 42, 1, 0, 2);
+        comes(&rt, &mut link, frame, Err(LinkFault::AckAhead), (0, 0, 1));
+        let frame = Frame::data(own, 42, 1, 0, 1, 1, Msg::Fork);
+        comes(
+            &rt,
+            &mut link,
+            frame,
+            Ok(Arrival::Fresh(Msg::Fork)),
+            (1, 1, 0),
+        );
+        assert_eq!(rt; link.ack_frame(), Frame::ack(own, 42, 0, 1, 1));
+        assert!(rt; link.has_room());
+        assert_eq!(rt; link.queue(Msg::Fork), Ok(()));
+        assert!(rt; link.waiting().len() == 1);
+        assert_eq!(rt; link.frame(1), Frame::data(own, 42, 0, 1, 2, 1, Msg::Fork));
+    }
 }
 
 #[test]
 fn counts_are_used_in_every_frame(rt: HostRuntime) {
     let mut link = with_two_waiting(&rt);
-    let early = Frame::data(42, 1, 0, 2, 1, Msg::Fork);
+    let early = Frame::data(Version::One, 42, 1, 0, 2, 1, Msg::Fork);
     comes(&rt, &mut link, early, Ok(Arrival::Kept), (0, 1, 1));
-    let next = Frame::data(42, 1, 0, 1, 0, Msg::AskFork);
+    let next = Frame::data(Version::One, 42, 1, 0, 1, 0, Msg::AskFork);
     let fresh = Ok(Arrival::Fresh(Msg::AskFork));
     comes(&rt, &mut link, next, fresh, (1, 1, 1));
-    let again = Frame::data(42, 1, 0, 1, 2, Msg::AskFork);
+    let again = Frame::data(Version::One, 42, 1, 0, 1, 2, Msg::AskFork);
     comes(&rt, &mut link, again, Ok(Arrival::Repeat), (1, 2, 0));
-    let ack = Frame::ack(42, 1, 0, 1);
+    let ack = Frame::ack(Version::One, 42, 1, 0, 1);
     comes(&rt, &mut link, ack, Ok(Arrival::Acked), (1, 2, 0));
-    assert_eq!(rt; link.ack_frame(), Frame::ack(42, 0, 1, 1));
+    assert_eq!(rt; link.ack_frame(), Frame::ack(Version::One, 42, 0, 1, 1));
 }
 
 fn brings(rt: &impl Abort, link: &mut Link, number: u64, msg: Msg, arrival: Arrival, taken: u64)
     requires first { 0 < number }
     requires last { number < sequence_space }
 {
-    let frame = Frame::data(42, 1, 0, number, 0, msg);
+    let frame = Frame::data(Version::One, 42, 1, 0, number, 0, msg);
     comes(rt, link, frame, Ok(arrival), (taken, 0, 0));
 }
 
 #[test]
 fn early_messages_are_kept(rt: HostRuntime) {
-    let mut link = Link::open(42, 0, 1);
+    let mut link = Link::open(42, 0, 1, Version::One);
     brings(&rt, &mut link, 2, Msg::AskBottle(2), Arrival::Kept, 0);
     brings(&rt, &mut link, 2, Msg::Fork, Arrival::Kept, 0);
     brings(&rt, &mut link, 18, Msg::Fork, Arrival::Kept, 0);
@@ -156,7 +194,7 @@ fn early_messages_are_kept(rt: HostRuntime) {
 
 #[test]
 fn what_is_kept_is_thrown_out(rt: HostRuntime) {
-    let mut link = Link::open(42, 0, 1);
+    let mut link = Link::open(42, 0, 1, Version::One);
     for number in [2, 3] {
         brings(&rt, &mut link, number, Msg::Fork, Arrival::Kept, 0);
     }
@@ -195,7 +233,7 @@ fn what_is_kept_is_thrown_out(rt: HostRuntime) {
 #[test]
 fn the_last_numbers_are_kept(rt: HostRuntime) {
     let before = 281_474_976_710_653;
-    let mut link = Link::resume(42, 0, 1, 0, before);
+    let mut link = Link::resume(42, 0, 1, 0, before, Version::One);
     brings(
         &rt,
         &mut link,
@@ -231,6 +269,7 @@ fn the_last_numbers_are_kept(rt: HostRuntime) {
 fn faults_are_printed_with_their_codes(rt: HostRuntime) -> Result<(), Fail> {
     for (fault, text) in [
         (LinkFault::Stranger, "L1 Stranger"),
+        (LinkFault::WrongVersion, "L4 WrongVersion"),
         (LinkFault::AckAhead, "L2 AckAhead"),
         (LinkFault::Worn, "L3 Worn"),
     ] {

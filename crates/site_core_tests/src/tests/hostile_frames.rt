@@ -33,6 +33,10 @@ static GIVES: [Step; 3] = [
 const ANSWER: [u8; 37] =
     *b"\x44\x50\x01\x01\x00\x00\x00\x2a\x01\x00\x00\x00\x00\x00\x00\x00\x00\x01\x00\x00\x00\x00\x00\x00\x00\x01\x04\x00\x01\x00\x00\x00\x00\x00\x00\x00\x00";
 
+/// The same in version 02, where the form of a number stands before the value.
+const SECOND: [u8; 38] =
+    *b"\x44\x50\x02\x01\x00\x00\x00\x2a\x01\x00\x00\x00\x00\x00\x00\x00\x00\x01\x00\x00\x00\x00\x00\x00\x00\x01\x04\x00\x01\x01\x00\x00\x00\x00\x00\x00\x00\x00";
+
 /// Of the bytes from one place up to another all bits are turned, one byte at a time: what is answered, and then to the frame itself.
 static TURNED: [(usize, usize, &str, &str); 11] = [
     (0, 2, "refused F2 Magic; ", "taken; "),
@@ -174,6 +178,49 @@ fn each_length_of_a_frame_but_its_own_is_refused(rt: HostRuntime) -> Result<(), 
     longer[..37].copy_from_slice(&ANSWER);
     let fault = "refused F8 Length; ";
     is_answered(&rt, rt.alloc(), &programs, &longer, fault, "taken; ")
+}
+
+/// A frame that version 02 spells is of another version than the plan, and what isn't spelled so is no frame.
+#[test]
+fn frames_of_the_other_version_are_refused(rt: HostRuntime) -> Result<(), Fail> {
+    let programs = programs(rt.alloc(), PAIR, MOVE)?;
+    let fault = "refused L4 WrongVersion; ";
+    is_answered(&rt, rt.alloc(), &programs, &SECOND, fault, "taken; ")?;
+    is_answered(
+        &rt,
+        rt.alloc(),
+        &programs,
+        &SECOND[..26],
+        "refused F8 Length; ",
+        "taken; ",
+    )?;
+    is_answered(
+        &rt,
+        rt.alloc(),
+        &programs,
+        &SECOND[..37],
+        "refused F8 Length; ",
+        "taken; ",
+    )?;
+    let mut other = SECOND;
+    other[29] = 3;
+    is_answered(
+        &rt,
+        rt.alloc(),
+        &programs,
+        &other,
+        "refused F9 ValueForm; ",
+        "taken; ",
+    )?;
+    other[2] = 3;
+    is_answered(
+        &rt,
+        rt.alloc(),
+        &programs,
+        &other,
+        "refused F3 Version; ",
+        "taken; ",
+    )
 }
 
 /// What the value's last byte is turned into is what the office has then.

@@ -1,7 +1,7 @@
 //! What a long journal tells, entry by entry.
 
 use super::{A, GIVES, MOVE, PAIR, offices, programs, submit, take};
-use bottle_values::Value;
+use bottle_values::{Value, Version};
 use frame_codec::{Frame, MAX_NUMBER, Msg};
 use office_map::OfficeId;
 use session_programs::Program;
@@ -113,7 +113,15 @@ fn tells_frames<R: Abort>(rt: &R, office: &mut Office) {
 fn frame(early: &(u64, u16, i64)) -> Frame {
     let (number, bottle, value) = *early;
     let number = number.max(1).min(MAX_NUMBER);
-    Frame::data(42, 1, 0, number, 0, Msg::Bottle(bottle, Value::from(value)))
+    Frame::data(
+        Version::One,
+        42,
+        1,
+        0,
+        number,
+        0,
+        Msg::Bottle(bottle, Value::from(value)),
+    )
 }
 
 /// The entry at this place tells that this frame came too early.

@@ -1,6 +1,7 @@
 //! What can be asked of an office, and a fork that can't come.
 
 use super::{A, PAIR, act, hand_in, offices, take};
+use bottle_values::Version;
 use frame_codec::{Frame, Msg};
 use office_map::{OfficeId, RecordId};
 use site_core::{Event, Journal, Office, Refusal, Reply, Rule};
@@ -29,18 +30,18 @@ fn tells_where_it_is<R: Abort>(rt: &R, offices: &mut Vec<Office>) -> Result<(), 
 }
 
 fn give_the_fork<R: Abort>(rt: &R, office: &mut Office) {
-    let fork = Frame::data(42, 1, 0, 1, 0, Msg::Fork);
+    let fork = Frame::data(Version::One, 42, 1, 0, 1, 0, Msg::Fork);
     let refused = Err(Refusal::Channel(ChannelFault::Breach));
     assert_eq!(rt; take(office, 5, fork), refused);
     assert_eq!(rt; office.journal().len(), 0);
-    let token = Frame::data(42, 1, 0, 1, 0, Msg::AskFork);
+    let token = Frame::data(Version::One, 42, 1, 0, 1, 0, Msg::AskFork);
     assert_eq!(rt; take(office, 5, token), Ok(Reply::Taken));
     let give = Rule::GiveFork(OfficeId::new(1));
     assert_eq!(rt; act(office, 5, give), Ok(Reply::Done));
 }
 
 fn send_the_fork<R: Abort>(rt: &R, office: &mut Office) {
-    let sent = Frame::data(42, 0, 1, 1, 1, Msg::Fork);
+    let sent = Frame::data(Version::One, 42, 0, 1, 1, 1, Msg::Fork);
     let reply = hand_in(office, 6, Event::Send(OfficeId::new(1), 1));
     assert_eq!(rt; reply, Ok(Reply::Frame(sent)));
 }
@@ -82,7 +83,7 @@ fn tag_of(journal: &Journal, i: usize) -> Option<u8> {
 
 /// The bottle waits behind the fork.
 fn give_a_bottle<R: Abort>(rt: &R, office: &mut Office) {
-    let token = Frame::data(42, 1, 0, 2, 0, Msg::AskBottle(0));
+    let token = Frame::data(Version::One, 42, 1, 0, 2, 0, Msg::AskBottle(0));
     assert_eq!(rt; take(office, 7, token), Ok(Reply::Taken));
     let give = Rule::GiveBottle(RecordId::new(0));
     assert_eq!(rt; act(office, 7, give), Ok(Reply::Done));
@@ -107,8 +108,8 @@ fn throws_out<R: Abort>(rt: &R, offices: &mut Vec<Office>) -> Result<(), Fail> {
     let Some(office) = offices.get_mut(A) else {
         return Err(Fail::from("an office"));
     };
-    let fork = Frame::data(42, 1, 0, 2, 0, Msg::Fork);
-    let token = Frame::data(42, 1, 0, 1, 0, Msg::AskFork);
+    let fork = Frame::data(Version::One, 42, 1, 0, 2, 0, Msg::Fork);
+    let token = Frame::data(Version::One, 42, 1, 0, 1, 0, Msg::AskFork);
     assert_eq!(rt; take(office, 0, fork), Ok(Reply::Kept));
     assert_eq!(rt; take(office, 0, token), Ok(Reply::Taken));
     assert_eq!(rt; office.taken(OfficeId::new(1)), Some(1));

@@ -12,19 +12,25 @@ use std::test::Fail;
 /// How many sessions an office has that aren't finished, and how many entries.
 static OFFICES: [(usize, usize); 3] = [(64, 64), (64, MAX_ENTRIES), (1, MAX_ENTRIES)];
 
-/// A frame by what is wrong with it: its version, which is 1; its run, which is 42; its count, of which nothing was sent yet; and
+/// A frame by what is wrong with it: its version, of which 1 is the plan's; its run, which is 42; its count, of which nothing was sent yet; and
 /// its tag, 1 for the fork's request token, which may come, and 2 for the fork, which is held. Then what is told at each of the
 /// offices.
-static FRAMES: [(u8, u8, u8, u8, [&str; 3]); 13] = [
-    (2, 43, 0, 1, ["refused F3 Version; "; 3]),
-    (2, 42, 9, 1, ["refused F3 Version; "; 3]),
-    (2, 42, 0, 2, ["refused F3 Version; "; 3]),
+static FRAMES: [(u8, u8, u8, u8, [&str; 3]); 19] = [
+    (3, 43, 0, 1, ["refused F3 Version; "; 3]),
+    (3, 42, 9, 1, ["refused F3 Version; "; 3]),
+    (3, 42, 0, 2, ["refused F3 Version; "; 3]),
+    (2, 43, 9, 5, ["refused F7 Tag; "; 3]),
+    (2, 43, 9, 4, ["refused F8 Length; "; 3]),
+    (2, 43, 9, 2, ["refused L1 Stranger; "; 3]),
+    (2, 42, 9, 2, ["refused L4 WrongVersion; "; 3]),
+    (2, 42, 0, 2, ["refused L4 WrongVersion; "; 3]),
+    (2, 42, 0, 1, ["refused L4 WrongVersion; "; 3]),
     (1, 43, 9, 5, ["refused F7 Tag; "; 3]),
     (1, 43, 9, 4, ["refused F8 Length; "; 3]),
     (1, 43, 9, 1, ["refused L1 Stranger; "; 3]),
     (1, 43, 0, 2, ["refused L1 Stranger; "; 3]),
     (1, 42, 9, 2, ["refused L2 AckAhead; "; 3]),
-    (2, 42, 0, 1, ["refused F3 Version; "; 3]),
+    (3, 42, 0, 1, ["refused F3 Version; "; 3]),
     (1, 43, 0, 1, ["refused L1 Stranger; "; 3]),
     (1, 42, 9, 1, ["refused L2 AckAhead; "; 3]),
     (1, 42, 0, 2, ["refused C1 Breach; "; 3]),

@@ -8,7 +8,7 @@ use self::Step::{
 };
 use super::shown::{shown, tell_messages};
 use super::{offices, programs};
-use bottle_values::Value;
+use bottle_values::{Value, Version};
 use frame_codec::{Frame, MAX_NUMBER, Msg};
 use office_map::{OfficeId, RecordId};
 use session_programs::Program;
@@ -665,7 +665,7 @@ fn comes(office: &Office, v: u8, msg: Msg) -> Option<Event> {
     if number > MAX_NUMBER || count > MAX_NUMBER {
         return None;
     }
-    Some(Event::Took(Frame::data(42, v, A, number, count, msg)))
+    Some(Event::Took(Frame::data(Version::One, 42, v, A, number, count, msg)))
 }
 
 pub fn rule_of(step: Step) -> Option<Rule> {

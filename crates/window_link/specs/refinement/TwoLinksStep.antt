@@ -27,7 +27,7 @@ with_link t Right l = record { left = t.left; right = l; frames = t.frames }
 
 abbrev pub with_sending : LinkState → Msg → LinkState
 with_sending l msg =
-    record { run = l.run; me = l.me; peer = l.peer; sending = queued l.sending msg; receiving = l.receiving }
+    record { run = l.run; me = l.me; peer = l.peer; sending = queued l.sending msg; receiving = l.receiving; version = l.version }
 
 abbrev pub queue_step : LinkState → Msg → LinkReply × LinkState
 queue_step l msg =
@@ -47,7 +47,7 @@ abbrev pub with_frames : Ends → LinkReply × List Posted → LinkReply × Ends
 with_frames t m = (m.0, record { left = t.left; right = t.right; frames = t.frames ++ m.1 })
 
 abbrev pub with_receiving : LinkState → Receiving → LinkState
-with_receiving l r = record { run = l.run; me = l.me; peer = l.peer; sending = l.sending; receiving = r }
+with_receiving l r = record { run = l.run; me = l.me; peer = l.peer; sending = l.sending; receiving = r; version = l.version }
 
 -- what is kept is taken up to the first gap, so many at most
 abbrev pub followed : Option Msg → ℕ → Receiving → Receiving

@@ -6,6 +6,7 @@ ghost use Rattle.window_link.specs.Two.{at, LedTo, HasLawfulStreams, Happens, ma
 use crate::laws::event::{End, LinkEvent, LinkReply, Posted};
 use crate::laws::step::step;
 use crate::link::Link;
+use bottle_values::Version;
 use std::alloc::{AllocError, Global};
 use std::marker::Model;
 
@@ -33,13 +34,13 @@ impl Model for Two {
 }
 
 impl Two {
-    /// The run's number, and the numbers of the offices at the two ends.
-    pub fn open(alloc: Global, run: u32, left: u8, right: u8) -> Two
-        ensures { LedTo (record { run = run; left = left; right = right }) [] result }
+    /// The run's number, the numbers of the offices at the two ends, and the version of their frames.
+    pub fn open(alloc: Global, run: u32, left: u8, right: u8, version: Version) -> Two
+        ensures { LedTo (record { run = run; left = left; right = right; version = version }) [] result }
     {
         Two {
-            left: Link::open(run, left, right),
-            right: Link::open(run, right, left),
+            left: Link::open(run, left, right, version),
+            right: Link::open(run, right, left, version),
             frames: Vec::new(alloc),
         }
     }

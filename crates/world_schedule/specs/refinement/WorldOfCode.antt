@@ -1,5 +1,6 @@
 -- The world that the code keeps: of a finished session it keeps the office and the ticket, and of a frame the office and the entry.
 use Rattle.std.specs.Prelude.{◌≡◌, ℕ, ◌<◌, Bool, true, ◌==◌, List, [], ◌∷◌, ◌++◌, length, map, get_or, find, Option, None, is_some, unwrap_or, All}
+use Rattle.bottle_values.specs.declared.version.Version.TheVariants.{One}
 use Rattle.frame_codec.specs.Frame.{Fields, IsFrame}
 use Rattle.office_map.specs.PlanValue.{PlanValue}
 use Rattle.office_map.specs.Consistency.{IsAccepted}
@@ -47,7 +48,7 @@ finished_in plan sites m = unwrap_or (found_in plan sites m) no_session
 
 -- what stands for a frame that no entry tells
 abbrev pub no_frame : Fields
-no_frame = record { run = 0; from = 0; to = 0; number = 0; count = 0; msg = None }
+no_frame = record { version = One; run = 0; from = 0; to = 0; number = 0; count = 0; msg = None }
 
 abbrev pub frame_in : PlanValue → List Site → SentAt → Fields
 frame_in plan sites m = unwrap_or (told_at plan sites m) no_frame

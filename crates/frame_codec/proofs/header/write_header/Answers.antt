@@ -12,12 +12,12 @@ returns-clause-written c =
     let w0 : Written 0 [] out out = record { len = refl; is = refl } in
     let w1 = write_byte 0 0x44 (omega arith) w0 in
     let w2 = write_byte 1 0x50 (omega arith) w1 in
-    let w3 = write_byte 2 c.args.version (omega arith) w2 in
+    let w3 = write_byte 2 c.number.result (omega arith) w2 in
     let w4 = write_byte 3 c.kind_byte.result (omega arith) w3 in
     let w8 = write_field 4 4 (big_bytes 4 c.run.result) _ refl (omega arith) c.write_u32.ensures w4 in
     let w9 = write_byte 8 c.from.result (omega arith) w8 in
     let w10 = write_byte 9 c.to.result (omega arith) w9 in
-    let w18 = write_field 10 8 (big_bytes 8 c.number.result) _ refl (omega arith) c.write_u64.ensures w10 in
+    let w18 = write_field 10 8 (big_bytes 8 c.number-2.result) _ refl (omega arith) c.write_u64.ensures w10 in
     let w26 = write_field 18 8 (big_bytes 8 c.count.result) _ refl (omega arith) c.write_u64-2.ensures w18 in
     let written = w26.is in
     cc
@@ -29,7 +29,7 @@ returns-clause-range c =
       run = search rules;
       from = search rules;
       to = search rules;
-      number = rw (← c.number.ensures.value) c.number.ensures.range;
+      number = rw (← c.number-2.ensures.value) c.number-2.ensures.range;
       count = search rules;
       msg = rw (← c.msg.ensures) m;
     }

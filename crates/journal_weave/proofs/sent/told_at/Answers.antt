@@ -18,4 +18,4 @@ returns c =
     let rs = c.args.replays.now in
     let r = c.index-replays-a.result in
     let lt : c.args.sent.office < length rs = omega (arith, c.if-a-replays.false, c.index-a.ensures) in
-    c.frame_in.ensures ∙ tells rs c.args.sent r (Some (entry_shown c.in-Some.entry)) lt (c.index-replays-a.is ∙ ap (λ n. get_or rs n r) c.index-a.ensures) c.in-Some.ensures
+    c.frame_told.ensures ∙ tells rs c.args.sent r (Some (entry_shown c.in-Some.entry)) lt (c.index-replays-a.is ∙ ap (λ n. get_or rs n r) c.index-a.ensures) c.in-Some.ensures

@@ -1,5 +1,6 @@
 ghost use Rattle.std.specs.Prelude.{◌<◌, IsTrue};
 
+use bottle_values::Version;
 use frame_codec::{Frame, Msg};
 use rand_core::utils::NextWord;
 use rand_pcg::Pcg32;
@@ -23,7 +24,7 @@ fn happens(
 
 // Three messages are asked for in one direction, and their frames are made.
 fn three_made(rt: &impl Abort, alloc: Global) -> Result<Two, AllocError> {
-    let mut two = Two::open(alloc, 42, 0, 1);
+    let mut two = Two::open(alloc, 42, 0, 1, Version::One);
     for bottle in 0..3 {
         let queue = LinkEvent::Queue(End::Left, Msg::AskBottle(bottle));
         happens(rt, &mut two, queue, LinkReply::Queued)?;
@@ -91,9 +92,9 @@ fn a_frame_has_the_count_of_its_making(rt: HostRuntime) -> Result<(), Fail> {
     assert_eq!(rt;
         told,
         [
-            Frame::data(42, 1, 0, 1, 0, Msg::Fork),
-            Frame::data(42, 1, 0, 1, 1, Msg::Fork),
-            Frame::ack(42, 1, 0, 1),
+            Frame::data(Version::One, 42, 1, 0, 1, 0, Msg::Fork),
+            Frame::data(Version::One, 42, 1, 0, 1, 1, Msg::Fork),
+            Frame::ack(Version::One, 42, 1, 0, 1),
         ]
     );
     Ok(())
@@ -101,7 +102,7 @@ fn a_frame_has_the_count_of_its_making(rt: HostRuntime) -> Result<(), Fail> {
 
 #[test]
 fn nothing_to_do(rt: HostRuntime) -> Result<(), Fail> {
-    let mut two = Two::open(rt.alloc(), 42, 0, 1);
+    let mut two = Two::open(rt.alloc(), 42, 0, 1, Version::One);
     for event in [
         LinkEvent::Arrive(0),
         LinkEvent::Arrive(1),
@@ -245,7 +246,7 @@ fn note(
 fn ten_thousand_random_events(rt: HostRuntime) -> Result<(), Fail> {
     for seed in SEEDS {
         let mut draws = Draws::from_seed(seed);
-        let mut two = Two::open(rt.alloc(), 42, 0, 1);
+        let mut two = Two::open(rt.alloc(), 42, 0, 1, Version::One);
         let mut left = Way::new(rt.alloc());
         let mut right = Way::new(rt.alloc());
         for _ in 0..10_000 {
@@ -269,6 +270,6 @@ fn known_is_taken(two: &Two) -> bool
 
 #[test]
 fn a_caller_knows_the_law(rt: HostRuntime) {
-    let two = Two::open(rt.alloc(), 42, 0, 1);
+    let two = Two::open(rt.alloc(), 42, 0, 1, Version::One);
     assert!(rt; known_is_taken(&two));
 }

@@ -1,6 +1,6 @@
 use Rattle.std.proofs.Common.{◌≡◌, ℕ, get_or, subst, sym, ap, ◌∙◌}
 use Rattle.std.proofs.lemmas.List.{get_or_default}
-use Rattle.frame_world.specs.Sent.{frame_told}
+use Rattle.office_journal.specs.Replies.{frame_told}
 use Rattle.journal_weave.specs.refinement.Merging.{told_by}
 use Rattle.journal_weave.proofs.merge.Merge.push.Goals as goal
 

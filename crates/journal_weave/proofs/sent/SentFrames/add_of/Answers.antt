@@ -3,7 +3,7 @@ use Rattle.std.specs.Prelude.{OnOk}
 use Rattle.frame_codec.specs.Frame.{Fields}
 use Rattle.office_journal.specs.declared.reply.Reply.{Reply}
 use Rattle.frame_world.specs.Worlds.{frames_of}
-use Rattle.frame_world.specs.Sent.{frame_told}
+use Rattle.office_journal.specs.Replies.{frame_told}
 use Rattle.journal_weave.specs.contracts.key.FrameKeyOrd.TheImpl.{cmp-value}
 use Rattle.journal_weave.specs.ReplayValue.{ReplayValue}
 use Rattle.journal_weave.specs.refinement.Merging.{Knows, told_by}

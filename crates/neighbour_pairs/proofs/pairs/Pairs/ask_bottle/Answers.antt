@@ -26,11 +26,11 @@ returns c =
     let s = c.self.inside in
     let k = drinker_of s.bar in
     let v : c.other_end-v.result ≡ k.peer c.args.r = c.other_end-v.ensures.peer ∙ sym (c.self.invariant.peers c.args.r) in
-    let sent = ap (λ n. queued_to (links_of s.plan.run s.me s.channels) c.other_end-v.result (msg.AskBottle n)) c.number.ensures ∙ ap (λ w. queued_to (links_of s.plan.run s.me s.channels) w (msg.AskBottle c.args.r)) v in
+    let sent = ap (λ n. queued_to (links_of s.plan.run s.plan.version s.me s.channels) c.other_end-v.result (msg.AskBottle n)) c.number.ensures ∙ ap (λ w. queued_to (links_of s.plan.run s.plan.version s.me s.channels) w (msg.AskBottle c.args.r)) v in
     record {
       office = search rules;
       not_now = search rules;
-      done = pairs_are s.plan s.me s.table c.ask_bottle.new.self c.send.new.self _ _ _ refl c.in_ok-ask_bottle.ensures.done (c.send.ensures.links s.plan.run s.me ∙ sent)
+      done = pairs_are s.plan s.me s.table c.ask_bottle.new.self c.send.new.self _ _ _ refl c.in_ok-ask_bottle.ensures.done (c.send.ensures.links s.plan.run s.me s.plan.version ∙ sent)
           ∙ ap (λ (p : PairsValue). after_bottle_rule (pairs_of p) (bottles.AskBottle c.args.r)) c.self.view_is;
       unchanged = search rules;
     }

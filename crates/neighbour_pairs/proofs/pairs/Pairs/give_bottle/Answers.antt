@@ -26,12 +26,12 @@ returns c =
     let s = c.self.inside in
     let k = drinker_of s.bar in
     let v : c.other_end-v.result ≡ k.peer c.args.r = c.other_end-v.ensures.peer ∙ sym (c.self.invariant.peers c.args.r) in
-    let sent = ap (λ n. queued_to (links_of s.plan.run s.me s.channels) c.other_end-v.result (msg.Bottle n c.in-Some.value)) c.number.ensures ∙ ap (λ w. queued_to (links_of s.plan.run s.me s.channels) w (msg.Bottle c.args.r c.in-Some.value)) v in
-    let with_value = ap (λ o. sent_links (links_of s.plan.run s.me s.channels) (bottle_message (k.peer c.args.r) c.args.r o)) (sym c.in-Some.is ∙ c.value.ensures ∙ ap (λ (b : BarValue). (drinker_of b).bottle c.args.r) c.bar.ensures) in
+    let sent = ap (λ n. queued_to (links_of s.plan.run s.plan.version s.me s.channels) c.other_end-v.result (msg.Bottle n c.in-Some.value)) c.number.ensures ∙ ap (λ w. queued_to (links_of s.plan.run s.plan.version s.me s.channels) w (msg.Bottle c.args.r c.in-Some.value)) v in
+    let with_value = ap (λ o. sent_links (links_of s.plan.run s.plan.version s.me s.channels) (bottle_message (k.peer c.args.r) c.args.r o)) (sym c.in-Some.is ∙ c.value.ensures ∙ ap (λ (b : BarValue). (drinker_of b).bottle c.args.r) c.bar.ensures) in
     record {
       office = search rules;
       not_now = search rules;
-      done = pairs_are s.plan s.me s.table c.give_bottle.new.self c.send.new.self _ _ _ refl c.in_ok-give_bottle.ensures.done (c.send.ensures.links s.plan.run s.me ∙ sent ∙ with_value)
+      done = pairs_are s.plan s.me s.table c.give_bottle.new.self c.send.new.self _ _ _ refl c.in_ok-give_bottle.ensures.done (c.send.ensures.links s.plan.run s.me s.plan.version ∙ sent ∙ with_value)
           ∙ ap (λ (p : PairsValue). after_bottle_rule (pairs_of p) (bottles.GiveBottle c.args.r (diner_of p.table).held)) c.self.view_is;
       unchanged = search rules;
     }

@@ -22,7 +22,7 @@ returns c =
     record {
       office = search rules;
       not_now = search rules;
-      done = pairs_are s.plan s.me c.give_fork.new.self s.bar c.send.new.self _ _ _ c.in_ok-give_fork.ensures.done refl (c.send.ensures.links s.plan.run s.me)
+      done = pairs_are s.plan s.me c.give_fork.new.self s.bar c.send.new.self _ _ _ c.in_ok-give_fork.ensures.done refl (c.send.ensures.links s.plan.run s.me s.plan.version)
           ∙ ap (λ (p : PairsValue). after_fork_rule (pairs_of p) (forks.GiveFork c.args.v)) c.self.view_is;
       unchanged = search rules;
     }

@@ -1,0 +1,112 @@
+//! What follows a header: a message, whose value is spelled as its version says.
+
+ghost use Rattle.std.specs.Prelude.{◌≡◌, ◌≤◌, ◌++◌, length, drop, IfOk, IsTrue};
+ghost use Rattle.std.specs.Result.{result_err};
+ghost use Rattle.bottle_values.specs.Bytes.{bytes_of};
+ghost use Rattle.bottle_values.specs.Operations.{is_value};
+ghost use Rattle.bottle_values.specs.Values.{number_in};
+ghost use Rattle.frame_codec.specs.Frame.{IsMsg};
+ghost use Rattle.frame_codec.specs.Spelling.{message, value_bytes};
+ghost use Rattle.frame_codec.specs.refinement.DecodedParts.{message_fault, number_fault, value_fault};
+
+use crate::fault::FrameFault;
+use crate::message::{ASK_BOTTLE, ASK_FORK, BOTTLE, FORK, Msg};
+use bottle_values::{Value, Version};
+use byteorder::{BigEndian, ByteOrder};
+
+// The form of a value in version 02: its first byte.
+const NUMBER: u8 = 1;
+
+/// The message that these bytes spell in that version, all of them.
+pub fn read_message(version: Version, bytes: &[u8]) -> Result<Msg, FrameFault>
+    ensures fault { result_err result ≡ message_fault version bytes.now }
+    ensures spelled { IfOk result (λ msg. bytes.now ≡ message version msg) }
+    ensures range { IfOk result IsMsg }
+{
+    match bytes {
+        [ASK_FORK] => Ok(Msg::AskFork),
+        [FORK] => Ok(Msg::Fork),
+        [ASK_BOTTLE, high, low] => Ok(Msg::AskBottle(u16::from_be_bytes([*high, *low]))),
+        [BOTTLE, high, low, value @ ..] => match read_value(version, value) {
+            Ok(value) => Ok(Msg::Bottle(u16::from_be_bytes([*high, *low]), value)),
+            Err(fault) => Err(fault),
+        },
+        [] | [ASK_FORK..=BOTTLE, ..] => Err(FrameFault::Length),
+        [_, ..] => Err(FrameFault::Tag),
+    }
+}
+
+// The value that these bytes spell in that version, all of them.
+fn read_value(version: Version, bytes: &[u8]) -> Result<Value, FrameFault>
+    ensures fault { result_err result ≡ value_fault version bytes.now }
+    ensures spelled { IfOk result (λ value. bytes.now ≡ value_bytes version value) }
+    ensures range { IfOk result (λ value. IsTrue (is_value value)) }
+{
+    match version {
+        Version::One => read_number(bytes),
+        Version::Two => match bytes {
+            [NUMBER, number @ ..] => read_number(number),
+            [] => Err(FrameFault::Length),
+            [_, ..] => Err(FrameFault::ValueForm),
+        },
+    }
+}
+
+// The number that has these bytes, all of them.
+fn read_number(bytes: &[u8]) -> Result<Value, FrameFault>
+    ensures fault { result_err result ≡ number_fault bytes.now }
+    ensures spelled { IfOk result (λ value. bytes.now ≡ bytes_of (number_in value)) }
+    ensures range { IfOk result (λ value. IsTrue (is_value value)) }
+{
+    let Ok(number) = <[u8; 8]>::try_from(bytes) else {
+        return Err(FrameFault::Length);
+    };
+    Ok(Value::of_bytes(number))
+}
+
+/// Writes the message to the front of `out`, as that version spells it, and returns how many bytes it has.
+pub fn write_message(version: Version, msg: Msg, out: &mut [u8]) -> usize
+    requires { 69 ≤ length out.old }
+    ensures written { out.new ≡ message version msg ++ drop (length (message version msg)) out.old }
+    ensures length { result ≡ length (message version msg) }
+{
+    match msg {
+        Msg::AskFork => {
+            out[0] = ASK_FORK;
+            1
+        }
+        Msg::Fork => {
+            out[0] = FORK;
+            1
+        }
+        Msg::AskBottle(bottle) => {
+            out[0] = ASK_BOTTLE;
+            BigEndian::write_u16(&mut out[1..], bottle);
+            3
+        }
+        Msg::Bottle(bottle, value) => {
+            out[0] = BOTTLE;
+            BigEndian::write_u16(&mut out[1..], bottle);
+            3 + write_value(version, value, &mut out[3..])
+        }
+    }
+}
+
+// Writes the value to the front of `out`, as that version spells it, and returns how many bytes it has.
+fn write_value(version: Version, value: Value, out: &mut [u8]) -> usize
+    requires { 66 ≤ length out.old }
+    ensures written { out.new ≡ value_bytes version value ++ drop (length (value_bytes version value)) out.old }
+    ensures length { result ≡ length (value_bytes version value) }
+{
+    match version {
+        Version::One => {
+            out[..8].copy_from_slice(&value.to_bytes());
+            8
+        }
+        Version::Two => {
+            out[0] = NUMBER;
+            out[1..9].copy_from_slice(&value.to_bytes());
+            9
+        }
+    }
+}
