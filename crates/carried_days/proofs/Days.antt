@@ -14,7 +14,7 @@ use Rattle.office_map.specs.declared.entries.RecordEntry.{RecordEntry}
 use Rattle.session_meaning.specs.ProgramValue.{ProgramValue}
 use Rattle.session_meaning.specs.declared.ending.Ending.{Ending}
 use Rattle.session_meaning.specs.declared.ending.Outcome.{Outcome}
-use Rattle.session_meaning.specs.Needs.{needs_of}
+use Rattle.session_measures.specs.Needs.{needs_of}
 use Rattle.session_meaning.specs.Meaning.{alone}
 use Rattle.session_programs.specs.Program.{fits}
 use Rattle.serial_replay.specs.Serial.{start_map, ending_on, map_after, outcomes_after, map_of}

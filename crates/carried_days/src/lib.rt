@@ -4,9 +4,9 @@
 //! - [`run_numbers::next_run`] is the number of the next day's run. Of 4,294,967,296 days in turn no two have one number
 //!   (`specs/RunNumbers.antt`), so that no frame of an earlier day is taken for one of today's.
 //!
-//! The program carries no day on yet. Not said: that a plan which carries values on can be written as a text; which
-//! tickets the sessions have; that what a day's offices left is carried, for which the headline says that their
-//! finished sessions and last values are those of a serial run.
+//! Not said: that a plan which carries values on can be written as a text (`plan_texts` says it); which tickets the
+//! sessions have; that what a day's offices left is carried (`day_ends`), for which the headline says that their finished
+//! sessions and last values are those of a serial run.
 #![tactic(auto)]
 
 pub mod laws;

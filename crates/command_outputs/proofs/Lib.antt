@@ -1,2 +1,3 @@
 pub mod JournalFiles
 pub mod Obstacles
+mod DayFiles

@@ -1,3 +1,4 @@
 pub mod Fault
 pub mod Journals
 pub mod Places
+pub mod Days

@@ -138,7 +138,7 @@ fn make_folder<T: Targets>(alloc: Global, targets: &mut T, folder: &str) -> Resu
 }
 
 /// A file of this name gets this text.
-fn write_file<T: Targets>(targets: &mut T, name: String, text: &str) -> Result<(), Fault>
+pub(crate) fn write_file<T: Targets>(targets: &mut T, name: String, text: &str) -> Result<(), Fault>
     ensures written { OnOk result (AddsFiles (T.written targets.old) (T.written targets.new) ((string_bytes name, text.now) ∷ [])) }
     ensures fault { IfErr result IsWriteFault }
 {
@@ -165,7 +165,7 @@ pub(crate) fn file_name(
 }
 
 /// A file's name; or that there was no memory for it.
-fn named(name: Result<String, AllocError>) -> Result<String, Fault>
+pub(crate) fn named(name: Result<String, AllocError>) -> Result<String, Fault>
     ensures name { IfOk result (λ n. name ≡ Ok n) }
     ensures fault { IfErr result IsWriteFault }
 {

@@ -36,23 +36,33 @@ path id = record (new_rule id) { long = Some id; value_names = 1 }
 abbrev pub flag : Text → Rule
 flag id = record (new_rule id) { long = Some id; action = Some SetTrue }
 
--- serial PLAN SESSIONS
+-- serial PLAN SESSIONS [--plan FILE]
 abbrev pub serial_command : App
-serial_command = with_rule (with_rule (new_app (codes "serial")) (required (codes "PLAN"))) (required (codes "SESSIONS"))
+serial_command = with_rule (with_rule (with_rule (new_app (codes "serial")) (required (codes "PLAN"))) (required (codes "SESSIONS"))) (path (codes "plan"))
 
--- sim PLAN SESSIONS SCRIPT [--journals DIR]
+-- a command that writes what a day leaves: [--plan FILE] [--left FILE]
+abbrev pub with_end : App → App
+with_end command = with_rule (with_rule command (path (codes "plan"))) (path (codes "left"))
+
+-- sim PLAN SESSIONS SCRIPT [--journals DIR] [--plan FILE] [--left FILE]
 abbrev pub sim_words : App
 sim_words = with_rule (with_rule (with_rule (new_app (codes "sim")) (required (codes "PLAN"))) (required (codes "SESSIONS"))) (required (codes "SCRIPT"))
 
-abbrev pub sim_command : App
-sim_command = with_rule sim_words (path (codes "journals"))
+abbrev pub sim_without_end : App
+sim_without_end = with_rule sim_words (path (codes "journals"))
 
--- random PLAN SESSIONS --seed N --loss N --steps N
+abbrev pub sim_command : App
+sim_command = with_end sim_without_end
+
+-- random PLAN SESSIONS --seed N --loss N --steps N [--plan FILE] [--left FILE]
 abbrev pub random_words : App
 random_words = with_rule (with_rule (new_app (codes "random")) (required (codes "PLAN"))) (required (codes "SESSIONS"))
 
+abbrev pub random_without_end : App
+random_without_end = with_rule (with_rule (with_rule random_words (numbered (codes "seed") 0 18446744073709551615)) (numbered (codes "loss") 0 100)) (numbered (codes "steps") 1 1000000)
+
 abbrev pub random_command : App
-random_command = with_rule (with_rule (with_rule random_words (numbered (codes "seed") 0 18446744073709551615)) (numbered (codes "loss") 0 100)) (numbered (codes "steps") 1 1000000)
+random_command = with_end random_without_end
 
 -- run PLAN OFFICE SESSIONS [--turns N] [--journal FILE] [--store FILE] [--sync WHEN] [--new]
 abbrev pub run_words : App
@@ -64,13 +74,16 @@ run_without_store = with_rule (with_rule run_words (optional (codes "turns") 1 1
 abbrev pub run_command : App
 run_command = with_rule (with_rule (with_rule run_without_store (path (codes "store"))) (path (codes "sync"))) (flag (codes "new"))
 
--- live PLAN SESSIONS [--journals DIR]
-abbrev pub live_command : App
-live_command = with_rule (with_rule (with_rule (new_app (codes "live")) (required (codes "PLAN"))) (required (codes "SESSIONS"))) (path (codes "journals"))
+-- live PLAN SESSIONS [--journals DIR] [--plan FILE] [--left FILE]
+abbrev pub live_without_end : App
+live_without_end = with_rule (with_rule (with_rule (new_app (codes "live")) (required (codes "PLAN"))) (required (codes "SESSIONS"))) (path (codes "journals"))
 
--- audit PLAN JOURNAL..
+abbrev pub live_command : App
+live_command = with_end live_without_end
+
+-- audit PLAN JOURNAL.. [--plan FILE] [--left FILE]
 abbrev pub audit_command : App
-audit_command = with_rule (with_rule (new_app (codes "audit")) (required (codes "PLAN"))) (several (codes "JOURNAL"))
+audit_command = with_end (with_rule (with_rule (new_app (codes "audit")) (required (codes "PLAN"))) (several (codes "JOURNAL")))
 
 abbrev pub some_command : App
 some_command = let a = new_app (codes "drink") in record a { top = record a.top { subcommand_required = true; has_version = true } }
@@ -131,16 +144,19 @@ IsNumber text n = IsNumeral 10 (without_leading_plus text) → digits_value 10 (
 
 -- a command of this name, with these arguments, asks for this
 abbrev pub Requests : Text → Option (List Row) → Request → Type 0
-Requests name rows (Serial plan sessions) =
+Requests name rows (Serial plan sessions next) =
     (bytes_eq name (codes "sim") ≡ false) × (bytes_eq name (codes "random") ≡ false) × (bytes_eq name (codes "run") ≡ false)
     × (bytes_eq name (codes "live") ≡ false) × (bytes_eq name (codes "audit") ≡ false)
     × (plan.now ≡ word_of (codes "PLAN") rows) × (sessions.now ≡ word_of (codes "SESSIONS") rows)
-Requests name rows (Sim plan sessions script journals) =
+    × (option_map (λ file. file.now) next ≡ given (codes "plan") rows)
+Requests name rows (Sim plan sessions script journals next left) =
     (bytes_eq name (codes "sim") ≡ true) × (plan.now ≡ word_of (codes "PLAN") rows) × (sessions.now ≡ word_of (codes "SESSIONS") rows)
     × (script.now ≡ word_of (codes "SCRIPT") rows) × (option_map (λ folder. folder.now) journals ≡ given (codes "journals") rows)
-Requests name rows (Random plan sessions seed loss steps) =
+    × (option_map (λ file. file.now) next ≡ given (codes "plan") rows) × (option_map (λ file. file.now) left ≡ given (codes "left") rows)
+Requests name rows (Random plan sessions seed loss steps next left) =
     (bytes_eq name (codes "random") ≡ true) × (plan.now ≡ word_of (codes "PLAN") rows) × (sessions.now ≡ word_of (codes "SESSIONS") rows)
     × IsNumber (word_of (codes "seed") rows) seed × IsNumber (word_of (codes "loss") rows) loss × IsNumber (word_of (codes "steps") rows) steps
+    × (option_map (λ file. file.now) next ≡ given (codes "plan") rows) × (option_map (λ file. file.now) left ≡ given (codes "left") rows)
 Requests name rows (Run plan office sessions turns journal) =
     (bytes_eq name (codes "run") ≡ true) × (plan.now ≡ word_of (codes "PLAN") rows) × (office.now ≡ word_of (codes "OFFICE") rows)
     × (sessions.now ≡ word_of (codes "SESSIONS") rows) × IsNumber (word_of (codes "turns") rows) turns
@@ -151,12 +167,14 @@ Requests name rows (RunStored plan office sessions turns store sync new) =
     × (sessions.now ≡ word_of (codes "SESSIONS") rows) × IsNumber (word_of (codes "turns") rows) turns
     × (given (codes "store") rows ≡ Some store.now) × (given (codes "journal") rows ≡ None)
     × (sync_meant (given (codes "sync") rows) ≡ Some sync) × (has_flag (codes "new") rows ≡ new)
-Requests name rows (Live plan sessions journals) =
+Requests name rows (Live plan sessions journals next left) =
     (bytes_eq name (codes "live") ≡ true) × (plan.now ≡ word_of (codes "PLAN") rows) × (sessions.now ≡ word_of (codes "SESSIONS") rows)
     × (option_map (λ folder. folder.now) journals ≡ given (codes "journals") rows)
-Requests name rows (Audit plan journals) =
+    × (option_map (λ file. file.now) next ≡ given (codes "plan") rows) × (option_map (λ file. file.now) left ≡ given (codes "left") rows)
+Requests name rows (Audit plan journals next left) =
     (bytes_eq name (codes "audit") ≡ true) × (plan.now ≡ word_of (codes "PLAN") rows)
     × (map (λ journal. journal.now) journals.items ≡ words_of (codes "JOURNAL") rows)
+    × (option_map (λ file. file.now) next ≡ given (codes "plan") rows) × (option_map (λ file. file.now) left ≡ given (codes "left") rows)
 
 -- the words of a command line ask for this, in the terms of `clap`'s contracts
 abbrev pub Asks : List Text → Request → Type 0

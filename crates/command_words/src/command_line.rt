@@ -5,7 +5,7 @@ ghost use Rattle.std.specs.Str.{bytes_eq};
 ghost use Rattle.std.specs.String.{string_bytes};
 ghost use Rattle.clap.specs.Words.{App, FailsBy, app_of, found_of, kind_of, rows_of, rule_of, with_subcommand};
 ghost use Rattle.clap.specs.declared.builder.command.Command.TheViews.{out-Command as fields_of};
-ghost use Rattle.command_words.specs.CommandLine.{Asks, IsNumber, Requests, audit_command, faults_of, flag, given, has_flag, live_command, numbered, optional, path, program, random_command, required, run_command, run_without_store, serial_command, several, sim_command, store_faults, sync_meant, word_of, words_of};
+ghost use Rattle.command_words.specs.CommandLine.{Asks, IsNumber, Requests, audit_command, faults_of, flag, given, has_flag, live_command, live_without_end, numbered, optional, path, program, random_command, random_without_end, required, run_command, run_without_store, serial_command, several, sim_command, sim_without_end, store_faults, sync_meant, word_of, words_of};
 
 use clap::builder::ValueParser;
 use clap::error::ErrorKind;
@@ -16,25 +16,32 @@ use std::alloc::{AllocError, Global};
 /// What a command line asks for.
 #[derive(Debug, Drop, PartialEq, Eq)]
 pub enum Request<'a> {
-    /// The sessions alone, in the order of the file.
+    /// The sessions alone, in the order of the file. A file, where one is named, is for the plan of the next day.
     Serial {
         plan: &'a str,
         sessions: &'a str,
+        next: Option<&'a str>,
     },
-    /// A script on the world of a plan. A folder, where one is named, is for the journals of its offices.
+    /// A script on the world of a plan. A folder, where one is named, is for the journals of its offices; a file for the plan of
+    /// the next day; and one for the sessions that are left.
     Sim {
         plan: &'a str,
         sessions: &'a str,
         script: &'a str,
         journals: Option<&'a str>,
+        next: Option<&'a str>,
+        left: Option<&'a str>,
     },
-    /// A run on the world of a plan, of so many steps that are drawn from this seed. Of a hundred deliveries so many are lost.
+    /// A run on the world of a plan, of so many steps that are drawn from this seed. Of a hundred deliveries so many are lost. A file,
+    /// where one is named, is for the plan of the next day, and one for the sessions that haven't finished.
     Random {
         plan: &'a str,
         sessions: &'a str,
         seed: u64,
         loss: u64,
         steps: u64,
+        next: Option<&'a str>,
+        left: Option<&'a str>,
     },
     /// One office of a plan, at its address, with its sessions, for so many turns. A file, where one is named, is for its journal.
     Run {
@@ -54,16 +61,22 @@ pub enum Request<'a> {
         sync: Sync,
         new: bool,
     },
-    /// All offices of a plan, on this machine. A folder, where one is named, is for their journals.
+    /// All offices of a plan, on this machine. A folder, where one is named, is for their journals; a file for the plan of the next
+    /// day; and one for the sessions that haven't finished.
     Live {
         plan: &'a str,
         sessions: &'a str,
         journals: Option<&'a str>,
+        next: Option<&'a str>,
+        left: Option<&'a str>,
     },
-    /// Whether the journals that offices left are of one run of a plan, and what its sessions did.
+    /// Whether the journals that offices left are of one run of a plan, and what its sessions did. A file, where one is named, is for
+    /// the plan of the next day, and one for the sessions that are left.
     Audit {
         plan: &'a str,
         journals: Vec<&'a str>,
+        next: Option<&'a str>,
+        left: Option<&'a str>,
     },
 }
 
@@ -81,6 +94,7 @@ pub fn command_line<'a>(alloc: Global, words: &'a [String]) -> Result<Request<'a
         None => Ok(Request::Serial {
             plan: "-",
             sessions: "-",
+            next: None,
         }),
     }
 }
@@ -107,7 +121,14 @@ fn requested<'a>(alloc: Global, name: &str, found: &ArgMatches<'a>) -> Result<Re
     let plan = word(found, "PLAN");
     if name == "audit" {
         let journals = words(alloc, found, "JOURNAL")?;
-        return Ok(Request::Audit { plan, journals });
+        let next = given(found, "plan");
+        let left = given(found, "left");
+        return Ok(Request::Audit {
+            plan,
+            journals,
+            next,
+            left,
+        });
     }
     let sessions = word(found, "SESSIONS");
     if name == "sim" {
@@ -116,6 +137,8 @@ fn requested<'a>(alloc: Global, name: &str, found: &ArgMatches<'a>) -> Result<Re
             sessions,
             script: word(found, "SCRIPT"),
             journals: given(found, "journals"),
+            next: given(found, "plan"),
+            left: given(found, "left"),
         });
     }
     if name == "random" {
@@ -125,6 +148,8 @@ fn requested<'a>(alloc: Global, name: &str, found: &ArgMatches<'a>) -> Result<Re
             seed: number(found, "seed"),
             loss: number(found, "loss"),
             steps: number(found, "steps"),
+            next: given(found, "plan"),
+            left: given(found, "left"),
         });
     }
     if name == "live" {
@@ -133,9 +158,15 @@ fn requested<'a>(alloc: Global, name: &str, found: &ArgMatches<'a>) -> Result<Re
             plan,
             sessions,
             journals,
+            next: given(found, "plan"),
+            left: given(found, "left"),
         });
     }
-    Ok(Request::Serial { plan, sessions })
+    Ok(Request::Serial {
+        plan,
+        sessions,
+        next: given(found, "plan"),
+    })
 }
 
 /// What `run` asks for. A store is a journal already, and what is said of one needs it.
@@ -287,11 +318,22 @@ fn serial<'a>(alloc: Global) -> Result<Command<'a>, AllocError>
         .about("Runs the sessions alone, one after another, and prints what each did")
         .after_help(INPUTS)
         .arg(required(alloc, "PLAN", PLAN))?
-        .arg(required(alloc, "SESSIONS", SESSIONS))
+        .arg(required(alloc, "SESSIONS", SESSIONS))?
+        .arg(path(alloc, "plan", NEXT, "FILE"))
 }
 
 fn sim<'a>(alloc: Global) -> Result<Command<'a>, AllocError>
     ensures command { IfOk result (λ c. app_of c ≡ sim_command) }
+    ensures local { IfOk result (λ c. (fields_of c).has_globals ≡ false) }
+{
+    sim_without_end(alloc)?
+        .arg(path(alloc, "plan", NEXT, "FILE"))?
+        .arg(path(alloc, "left", LEFT, "FILE"))
+}
+
+/// `sim` but for what is said of the next day.
+fn sim_without_end<'a>(alloc: Global) -> Result<Command<'a>, AllocError>
+    ensures command { IfOk result (λ c. app_of c ≡ sim_without_end) }
     ensures local { IfOk result (λ c. (fields_of c).has_globals ≡ false) }
 {
     Command::new(alloc, "sim")
@@ -307,6 +349,16 @@ fn sim<'a>(alloc: Global) -> Result<Command<'a>, AllocError>
 
 fn random<'a>(alloc: Global) -> Result<Command<'a>, AllocError>
     ensures command { IfOk result (λ c. app_of c ≡ random_command) }
+    ensures local { IfOk result (λ c. (fields_of c).has_globals ≡ false) }
+{
+    random_without_end(alloc)?
+        .arg(path(alloc, "plan", NEXT, "FILE"))?
+        .arg(path(alloc, "left", LEFT, "FILE"))
+}
+
+/// `random` but for what is said of the next day.
+fn random_without_end<'a>(alloc: Global) -> Result<Command<'a>, AllocError>
+    ensures command { IfOk result (λ c. app_of c ≡ random_without_end) }
     ensures local { IfOk result (λ c. (fields_of c).has_globals ≡ false) }
 {
     Command::new(alloc, "random")
@@ -350,6 +402,16 @@ fn live<'a>(alloc: Global) -> Result<Command<'a>, AllocError>
     ensures command { IfOk result (λ c. app_of c ≡ live_command) }
     ensures local { IfOk result (λ c. (fields_of c).has_globals ≡ false) }
 {
+    live_without_end(alloc)?
+        .arg(path(alloc, "plan", NEXT, "FILE"))?
+        .arg(path(alloc, "left", LEFT, "FILE"))
+}
+
+/// `live` but for what is said of the next day.
+fn live_without_end<'a>(alloc: Global) -> Result<Command<'a>, AllocError>
+    ensures command { IfOk result (λ c. app_of c ≡ live_without_end) }
+    ensures local { IfOk result (λ c. (fields_of c).has_globals ≡ false) }
+{
     Command::new(alloc, "live")
         .about("Runs all offices of a plan on this machine, and prints what the sessions did")
         .after_help(RUNS)
@@ -366,7 +428,9 @@ fn audit<'a>(alloc: Global) -> Result<Command<'a>, AllocError>
         .about("Says whether journals are of one run of a plan, and prints what its sessions did")
         .after_help(AUDITS)
         .arg(required(alloc, "PLAN", PLAN))?
-        .arg(several(alloc, "JOURNAL", JOURNAL))
+        .arg(several(alloc, "JOURNAL", JOURNAL))?
+        .arg(path(alloc, "plan", NEXT, "FILE"))?
+        .arg(path(alloc, "left", LEFT, "FILE"))
 }
 
 /// A word that has to be there.
@@ -482,6 +546,10 @@ const SYNC: &str = "data: kept once the disk has it (the usual); none: once the 
 const NEW: &str = "Makes the store, which must not be there; without this it must be there";
 
 const JOURNALS: &str = "A folder for the offices' journals, NAME.journal, made if it isn't there";
+
+const NEXT: &str = "A file for the plan of the next day, which starts with the values at the end";
+
+const LEFT: &str = "A file for the sessions that are left, to be submitted on the next day";
 
 const JOURNAL: &str =
     "The journals, one of each office of the plan, in any order; - is the standard input";

@@ -1,8 +1,11 @@
 -- What is so of the texts of journals that are read one after another, those that are known.
-use Rattle.std.proofs.Common.{◌≡◌, ◌⊎◌, ◌+◌, ◌-◌, ◌<◌, ◌≤◌, ℕ, zero, suc, List, [], ◌∷◌, ◌++◌, length, take, Contains, Option, Bool, true, false, if◌then◌else◌, refl, sym, subst, ap, ◌∙◌, append_assoc, arith, inl, inr}
+use Rattle.std.proofs.Common.{◌≡◌, ◌⊎◌, ◌+◌, ◌-◌, ◌<◌, ◌≤◌, ℕ, zero, suc, List, [], ◌∷◌, ◌++◌, length, take, Contains, Option, None, Some, Bool, true, false, if◌then◌else◌, refl, sym, subst, ap, ◌∙◌, append_assoc, arith, inl, inr}
+use Rattle.std.specs.Prelude.{IfNone, IfSome, is_some}
 use Rattle.std.proofs.lemmas.List.{append-nil}
 use Rattle.input_texts.specs.Words.{HaveTexts, Unread, unread}
 use Rattle.office_map.specs.PlanValue.{PlanValue}
+use Rattle.frame_world.specs.Worlds.{World}
+use Rattle.command_outputs.specs.Journals.{File}
 use Rattle.journal_weave.specs.declared.given.GivenJournal.{GivenJournal}
 use Rattle.journal_audit.specs.Gathering.{AreGathered, AreJournals, Lacks}
 use Rattle.journal_audit.specs.Gathered.{Gathered}
@@ -15,7 +18,7 @@ use Rattle.command_outputs.specs.declared.fault.Fault.TheVariants.{Memory, Text,
 use Rattle.drink_commands.specs.Audit.{Tells, IsJudgedAudit, JudgesJournals, RefusesJournal, SaysAfter, IsLacking, journal_inputs}
 use Rattle.command_outputs.specs.Fault.{IsAmong, IsFaultAt, IsNoJournal}
 use Rattle.drink_commands.specs.Texts.{Refuses, nothing}
-use Rattle.drink_commands.specs.refinement.Journals.{GathersFirst, IsNamed, RefusesOne, SaysAudit, SaysFrom, SaysJournals, SaysOne, TakesAll, TakesOne, TellsAudit}
+use Rattle.drink_commands.specs.refinement.Journals.{GathersFirst, IsNamed, RefusesOne, SaysAudit, SaysFrom, SaysJournals, SaysOne, TakesAll, TakesOne, TellsAudit, WritesFound}
 use Rattle.journal_audit.specs.GatheringLaws.{none_gathered}
 use Rattle.drink_commands.proofs.Faults.{RefusesWord, TakesPlan, among, among_more, weaker}
 
@@ -264,14 +267,14 @@ module _ (files : List ℕ → Option (List ℕ)) where
       says texts n (subst (λ s. HaveTexts files s (take n (a ∷ words)) (take n texts)) (sym e) known.1)
 
   -- what the journals tell that are gathered under the plan
-  pub audited : (u v : Unread) (a : List ℕ) (words : List (List ℕ)) (p : PlanValue) (g : Gathered) (woven : Bool) (printed : List ℕ)
+  pub audited : (u v : Unread) (a : List ℕ) (words : List (List ℕ)) (p : PlanValue) (g : Gathered) (found : Option World) (printed : List ℕ)
       → TakesPlan files u a v p → ((texts : List (List ℕ)) → HaveTexts files v words texts → Gathers p texts g)
-      → (woven ≡ true → TellsOf TellsWoven g printed) → (woven ≡ false → TellsOf TellsUnwoven g printed)
-      → TellsAudit files u a words woven printed
-  audited u v a words p g woven printed plan gathers woven_so unwoven_so a_text texts (after, has, more) status old new is written =
+      → IfSome found (λ w. TellsOf (TellsWoven w) g printed) → IfNone found (TellsOf TellsUnwoven g printed)
+      → TellsAudit files u a words found printed
+  audited u v a words p g found printed plan gathers woven unwoven a_text texts (after, has, more) next unfinished status old new kept left is written leaves =
       let it = plan a_text after has in
       let h = gathers texts (subst (λ s. HaveTexts files s words texts) (sym it.1) more) in
-      let t = tells h woven woven_so unwoven_so is in
+      let t = tells h found woven unwoven is leaves in
       record {
         p = p;
         journals = t.0;
@@ -282,10 +285,10 @@ module _ (files : List ℕ → Option (List ℕ)) where
         written = written;
       }
     where
-      tells : Gathers p texts g → (woven : Bool) → (woven ≡ true → TellsOf TellsWoven g printed) → (woven ≡ false → TellsOf TellsUnwoven g printed)
-          → status ≡ (if woven then 0 else 1) → (journals : List GivenJournal) × AreJournals p texts journals × Tells p journals printed status
-      tells h true so not_so is = let t = so refl p texts h in (t.0, t.1, inl (t.2, is))
-      tells h false so not_so is = let t = not_so refl p texts h in (t.0, t.1, inr (t.2, is))
+      tells : Gathers p texts g → (found : Option World) → IfSome found (λ w. TellsOf (TellsWoven w) g printed) → IfNone found (TellsOf TellsUnwoven g printed)
+          → status ≡ (if is_some found then 0 else 1) → WritesFound next unfinished found kept left → (journals : List GivenJournal) × AreJournals p texts journals × Tells next unfinished p journals printed status kept left
+      tells h (Some w) so not_so is leaves = let t = so p texts h in (t.0, t.1, inl (w, t.2, is, leaves))
+      tells h None so not_so is leaves = let t = not_so p texts h in (t.0, t.1, inr (t.2, is, leaves))
 
 pub at_most_one : (woven : Bool) (status : ℕ) → status ≡ (if woven then 0 else 1) → status ≤ 1
 at_most_one true status e = omega (arith, e)

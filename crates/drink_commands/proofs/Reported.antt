@@ -6,7 +6,7 @@ use Rattle.std.specs.Io.KnownBytes.{Appends}
 use Rattle.input_texts.specs.Words.{HasText, HaveTexts, StandFor, Unread, unread}
 use Rattle.office_map.specs.PlanValue.{PlanValue, office_named}
 use Rattle.session_meaning.specs.ProgramValue.{ProgramValue}
-use Rattle.frame_world.specs.Worlds.{opening}
+use Rattle.frame_world.specs.Worlds.{World, opening}
 use Rattle.script_runs.specs.Script.{Act}
 use Rattle.script_runs.specs.Runs.{run_of}
 use Rattle.script_runs.specs.Transcript.{transcript, IsSerialRun}
@@ -14,11 +14,12 @@ use Rattle.random_runs.specs.Runs.{Tells}
 use Rattle.drink_commands.specs.Random.{TellsRun}
 use Rattle.office_runs.specs.Runs.{TellsCourse, TellsJournals}
 use Rattle.office_runs.specs.declared.report.Ran.{Ran}
-use Rattle.command_outputs.specs.Journals.{File, WritesFiles, files_of, files_of_world}
+use Rattle.command_outputs.specs.Days.{WritesEndOf}
+use Rattle.command_outputs.specs.Journals.{File, WritesFiles}
 use Rattle.command_outputs.specs.Places.{IsIn, IsObstacle}
-use Rattle.drink_commands.specs.Run.{IsReached, RefusesFile, RefusesFolder, WritesOffice, WritesOffices}
+use Rattle.drink_commands.specs.Run.{IsReached, RefusesFile, RefusesFolder, WritesOffice, WritesOffices, WritesRan, are_wanted}
 use Rattle.command_outputs.specs.declared.fault.Obstacle.{Obstacle}
-use Rattle.drink_commands.specs.Simulation.{Simulates}
+use Rattle.drink_commands.specs.Simulation.{LeavesFiles, Simulates}
 use Rattle.drink_commands.proofs.Faults.{TakesPlan, TakesScript, TakesSessions}
 
 -- the words are those that were counted
@@ -27,10 +28,10 @@ pub started : (u : Unread) (bytes : Option (List ℕ)) (files : List ℕ → Opt
 started u bytes files words texts e h = subst (λ s. HaveTexts files s words texts) (sym e) h
 
 pub ran : (files : List ℕ → Option (List ℕ)) (u v w : Unread) (a b a_text b_text : List ℕ) (p : PlanValue) (programs seen : List ProgramValue) (loss : ℕ)
-    (old new : Option (List ℕ)) (printed : List ℕ) → TakesPlan files u a v p → TakesSessions files v b w p programs
-    → HaveTexts files u (a ∷ b ∷ []) (a_text ∷ b_text ∷ []) → seen ≡ programs → Tells p seen loss printed → Appends old new printed
-    → TellsRun a_text b_text loss old new
-ran files u v w a b a_text b_text p programs seen loss old new printed plan sessions (after, has, (next, has_next, more)) same told written =
+    (old new : Option (List ℕ)) (printed : List ℕ) (world : World) (next_file unfinished : Option (List ℕ)) (kept left : Option (List File)) → TakesPlan files u a v p → TakesSessions files v b w p programs
+    → HaveTexts files u (a ∷ b ∷ []) (a_text ∷ b_text ∷ []) → seen ≡ programs → Tells p seen loss world printed → Appends old new printed → WritesEndOf seen next_file unfinished world kept left
+    → TellsRun a_text b_text loss next_file unfinished old new kept left
+ran files u v w a b a_text b_text p programs seen loss old new printed world next_file unfinished kept left plan sessions (after, has, (next, has_next, more)) same told written day =
     let it = plan a_text after has in
     record {
       both = record {
@@ -39,18 +40,20 @@ ran files u v w a b a_text b_text p programs seen loss old new printed plan sess
         is_plan = it.0;
         are_sessions = (sessions b_text next (subst (λ s. HasText files s b b_text next) (sym it.1) has_next)).0;
       };
+      world = world;
       printed = printed;
-      told = subst (λ ps. Tells p ps loss printed) same told;
+      told = subst (λ ps. Tells p ps loss world printed) same told;
       written = written;
+      day = subst (λ ps. WritesEndOf ps next_file unfinished world kept left) same day;
     }
 
 pub simulated : (files : List ℕ → Option (List ℕ)) (u v w x : Unread) (a b c a_text b_text c_text : List ℕ) (p : PlanValue)
-    (programs : List ProgramValue) (acts run : List Act) (folder : Option (List ℕ)) (old new : Option (List ℕ)) (kept left : Option (List File))
+    (programs : List ProgramValue) (acts run : List Act) (folder next_file unfinished : Option (List ℕ)) (old new : Option (List ℕ)) (kept left : Option (List File))
     → TakesPlan files u a v p → TakesSessions files v b w p programs → TakesScript files w c x p programs acts
     → HaveTexts files u (a ∷ b ∷ c ∷ []) (a_text ∷ b_text ∷ c_text ∷ [])
     → run ≡ acts → IsSerialRun (run_of (opening p) run) → Appends old new (transcript p run)
-    → WritesFiles folder (λ place. files_of_world place (run_of (opening p) run)) kept left → Simulates a_text b_text c_text folder old new kept left
-simulated files u v w x a b c a_text b_text c_text p programs acts run folder old new kept left plan sessions script (after, has, (next, has_next, (last, has_last, more))) same serial written journals =
+    → LeavesFiles folder next_file unfinished (run_of (opening p) run) kept left → Simulates a_text b_text c_text folder next_file unfinished old new kept left
+simulated files u v w x a b c a_text b_text c_text p programs acts run folder next_file unfinished old new kept left plan sessions script (after, has, (next, has_next, (last, has_last, more))) same serial written leaves =
     let it = plan a_text after has in
     let then_it = sessions b_text next (subst (λ s. HasText files s b b_text next) (sym it.1) has_next) in
     record {
@@ -59,7 +62,7 @@ simulated files u v w x a b c a_text b_text c_text p programs acts run folder ol
       is_script = (script c_text last (subst (λ s. HasText files s c c_text last) (sym then_it.1) has_last)).0;
       written = subst (λ xs. Appends old new (transcript p xs)) same written;
       serial = subst (λ xs. IsSerialRun (run_of (opening p) xs)) same serial;
-      journals = subst (λ xs. WritesFiles folder (λ place. files_of_world place (run_of (opening p) xs)) kept left) same journals;
+      files = subst (λ xs. LeavesFiles folder next_file unfinished (run_of (opening p) xs) kept left) same leaves;
     }
 
 -- ---- offices that run
@@ -90,12 +93,11 @@ ran_office tells Free files u v w a word b a_text b_text p me programs seen turn
     }
 
 pub ran_offices : (Free : PlanValue → ℕ → List ℕ → Type 0) (files : List ℕ → Option (List ℕ)) (u v w : Unread) (a b a_text b_text : List ℕ) (p : PlanValue) (programs seen : List ProgramValue)
-    (folder : Option (List ℕ)) (run : Ran) (old new : Option (List ℕ)) (kept left : Option (List File)) → TakesPlan files u a v p → TakesSessions files v b w p programs
+    (folder next_file unfinished : Option (List ℕ)) (run : Ran) (old new : Option (List ℕ)) (kept left : Option (List File)) → TakesPlan files u a v p → TakesSessions files v b w p programs
     → HaveTexts files u (a ∷ b ∷ []) (a_text ∷ b_text ∷ []) → seen ≡ programs → IfSome folder (Free p (length p.offices))
-    → TellsJournals p (range_with_len 0 (length p.offices)) (length seen) (is_some folder) run → Appends old new (string_bytes run.text)
-    → WritesFiles folder (λ place. files_of place p (λ a. get_or (map string_bytes run.journals.items) a []) (length run.journals.items)) kept left
-    → WritesOffices Free a_text b_text folder run old new kept left
-ran_offices Free files u v w a b a_text b_text p programs seen folder run old new kept left plan sessions (after, has, (next, has_next, more)) same free told written journals =
+    → TellsJournals p (range_with_len 0 (length p.offices)) (length seen) (are_wanted folder next_file unfinished) run → WritesRan p seen folder next_file unfinished run old new kept left
+    → WritesOffices Free a_text b_text folder next_file unfinished run old new kept left
+ran_offices Free files u v w a b a_text b_text p programs seen folder next_file unfinished run old new kept left plan sessions (after, has, (next, has_next, more)) same free told writes =
     let it = plan a_text after has in
     record {
       both = record {
@@ -105,9 +107,8 @@ ran_offices Free files u v w a b a_text b_text p programs seen folder run old ne
         are_sessions = (sessions b_text next (subst (λ s. HasText files s b b_text next) (sym it.1) has_next)).0;
       };
       free = free;
-      told = subst (λ ps. TellsJournals p (range_with_len 0 (length p.offices)) (length ps) (is_some folder) run) same told;
-      written = written;
-      journals = journals;
+      told = subst (λ ps. TellsJournals p (range_with_len 0 (length p.offices)) (length ps) (are_wanted folder next_file unfinished) run) same told;
+      writes = subst (λ ps. WritesRan p ps folder next_file unfinished run old new kept left) same writes;
     }
 
 -- ---- where journals have no place

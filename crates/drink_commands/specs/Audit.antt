@@ -6,6 +6,10 @@ use Rattle.input_texts.specs.Words.{HaveFirstTexts}
 use Rattle.office_map.specs.PlanValue.{PlanValue}
 use Rattle.run_words.specs.Words.{office_name}
 use Rattle.journal_texts.specs.declared.fault.JournalFault.TheVariants as journal
+use Rattle.frame_world.specs.Worlds.{World}
+use Rattle.output_files.specs.Written.{KeepsFiles}
+use Rattle.command_outputs.specs.Days.{WritesEnd}
+use Rattle.command_outputs.specs.Journals.{File}
 use Rattle.journal_weave.specs.declared.given.GivenJournal.{GivenJournal}
 use Rattle.journal_audit.specs.Gathering.{AreGathered, AreJournals, IsRefusedAt, Lacks}
 use Rattle.journal_audit.specs.Findings.{TellsWoven, TellsUnwoven}
@@ -27,20 +31,22 @@ journal_inputs place (suc n) = inputs.Journal place ∷ journal_inputs (suc plac
 
 -- ---- what is written
 
--- the report of the world whose record the journals are, and the exit status is 0; or the line of an entry that no schedule has, and
--- it is 1
-abbrev pub Tells : PlanValue → List GivenJournal → List ℕ → ℕ → Type 0
-Tells p journals printed status = (TellsWoven p journals printed × (status ≡ 0)) ⊎ (TellsUnwoven p journals printed × (status ≡ 1))
+-- The report of the world whose record the journals are, and what that leaves for the next day was written, where words name files for it;
+-- the exit status is 0. Or the line of an entry that no schedule has, and no file; and it is 1.
+abbrev pub Tells : (next unfinished : Option (List ℕ)) → PlanValue → List GivenJournal → List ℕ → ℕ → (kept left : Option (List File)) → Type 0
+Tells next unfinished p journals printed status kept left =
+    ((w : World) × TellsWoven w p journals printed × (status ≡ 0) × WritesEnd next unfinished w kept left)
+    ⊎ (TellsUnwoven p journals printed × (status ≡ 1) × KeepsFiles kept left)
 
 -- The texts mean a plan and a journal of each of its offices, in any order, and what these tell together was written after what the
 -- writer held.
-pub record Audits (plan : List ℕ) (texts : List (List ℕ)) (status : ℕ) (old new : Option (List ℕ)) : Type 0 where
+pub record Audits (plan : List ℕ) (texts : List (List ℕ)) (next unfinished : Option (List ℕ)) (status : ℕ) (old new : Option (List ℕ)) (kept left : Option (List File)) : Type 0 where
   pub p : PlanValue
   pub journals : List GivenJournal
   pub printed : List ℕ
   pub is_plan : IsAcceptedAs plan p
   pub are_journals : AreJournals p texts journals
-  pub told : Tells p journals printed status
+  pub told : Tells next unfinished p journals printed status kept left
   pub written : Appends old new printed
 
 -- ---- what a fault says

@@ -1,5 +1,6 @@
 pub mod Limits
 pub mod Texts
+pub mod Serial
 pub mod Simulation
 pub mod Random
 pub mod Audit

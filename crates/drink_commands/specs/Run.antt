@@ -1,14 +1,16 @@
 -- What the commands `run` and `live` write, and what their faults say.
-use Rattle.std.specs.Prelude.{◌≡◌, ◌⊎◌, ◌<◌, ℕ, Bool, zero, suc, List, [], ◌∷◌, true, false, length, map, take, get_or, Option, Some, None, is_some, IfSome}
+use Rattle.std.specs.Prelude.{◌≡◌, ◌⊎◌, ◌<◌, ◌||◌, ℕ, Bool, zero, suc, List, [], ◌∷◌, true, false, length, map, take, get_or, Option, Some, None, is_some, IfSome}
 use Rattle.std.specs.List.{range_with_len}
 use Rattle.std.specs.String.{string_bytes}
 use Rattle.std.specs.Io.KnownBytes.{Appends}
 use Rattle.input_texts.specs.Words.{HaveFirstTexts, StandFor}
 use Rattle.office_map.specs.PlanValue.{PlanValue, office_named, office_name_of}
+use Rattle.session_meaning.specs.ProgramValue.{ProgramValue}
 use Rattle.office_stations.specs.Addresses.{is_without}
 use Rattle.office_runs.specs.Runs.{TellsCourse, TellsJournals}
 use Rattle.office_runs.specs.declared.report.Ran.{Ran}
 use Rattle.office_stations.specs.declared.fault.RunFault.{RunFault}
+use Rattle.command_outputs.specs.Days.{WritesDay, is_day_named}
 use Rattle.command_outputs.specs.Journals.{File, WritesFiles, files_of}
 use Rattle.command_outputs.specs.Places.{AreFree, IsFree, IsIn, IsObstacle}
 use Rattle.command_inputs.specs.Plans.{IsAcceptedAs, PlanAndSessions}
@@ -60,15 +62,26 @@ pub record WritesOffice (tells : Bool) (Free : PlanValue → ℕ → List ℕ �
   pub written : Appends old new (string_bytes ran.text)
   pub journal : WritesFiles file (λ place. map (λ text. (place, string_bytes text)) ran.journals.items) kept left
 
--- The two texts mean a plan and sessions under it. What is told of a run of all the plan's offices with those sessions was written after
--- what the writer held, and their journals, where a word names a folder for them, to a file each; and that folder was free to take them,
--- as Free says.
-pub record WritesOffices (Free : PlanValue → ℕ → List ℕ → Type 0) (plan sessions : List ℕ) (folder : Option (List ℕ)) (ran : Ran) (old new : Option (List ℕ)) (kept left : Option (List File)) : Type 0 where
+-- What is told of a run of all the plan's offices with these sessions was written after what the writer held; their journals, where a word
+-- names a folder for them, to a file each; and then what the next day begins with, as these journals tell, to the files that words name for
+-- it.
+pub record WritesRan (p : PlanValue) (programs : List ProgramValue) (folder next unfinished : Option (List ℕ)) (ran : Ran) (old new : Option (List ℕ)) (kept left : Option (List File)) : Type 0 where
+  pub written : Appends old new (string_bytes ran.text)
+  pub between : Option (List File)
+  pub journals : WritesFiles folder (λ place. files_of place p (λ a. get_or (map string_bytes ran.journals.items) a []) (length ran.journals.items)) kept between
+  pub day : WritesDay (is_day_named next unfinished) p programs (map string_bytes ran.journals.items) next unfinished between left
+
+-- whether the journals of a run are needed: for files of their own, or for what the next day begins with
+abbrev pub are_wanted : (folder next unfinished : Option (List ℕ)) → Bool
+are_wanted folder next unfinished = is_some folder || is_day_named next unfinished
+
+-- The two texts mean a plan and sessions under it. What is told of a run of all the plan's offices with those sessions was written, and the
+-- folder that a word names for their journals was free to take them, as Free says.
+pub record WritesOffices (Free : PlanValue → ℕ → List ℕ → Type 0) (plan sessions : List ℕ) (folder next unfinished : Option (List ℕ)) (ran : Ran) (old new : Option (List ℕ)) (kept left : Option (List File)) : Type 0 where
   pub both : PlanAndSessions plan sessions
   pub free : IfSome folder (Free both.p (length both.p.offices))
-  pub told : TellsJournals both.p (range_with_len 0 (length both.p.offices)) (length both.programs) (is_some folder) ran
-  pub written : Appends old new (string_bytes ran.text)
-  pub journals : WritesFiles folder (λ place. files_of place both.p (λ a. get_or (map string_bytes ran.journals.items) a []) (length ran.journals.items)) kept left
+  pub told : TellsJournals both.p (range_with_len 0 (length both.p.offices)) (length both.programs) (are_wanted folder next unfinished) ran
+  pub writes : WritesRan both.p both.programs folder next unfinished ran old new kept left
 
 -- so it is with the texts that the words stand for, of a run that ended as P says
 abbrev pub RunsOffice : Bool → (List ℕ → Option (List ℕ)) → Option (List ℕ) → (plan word sessions : List ℕ) → ℕ → Option (List ℕ) → (Ran → Type 0) → Option (List ℕ) → Option (List ℕ) → Option (List File) → Option (List File) → Type 0
@@ -77,10 +90,10 @@ RunsOffice tells files standard plan word sessions turns file P old new kept lef
     → (ran : Ran) × P ran × WritesOffice tells (IsFree files plan sessions) plan_text word sessions_text turns file ran old new kept left
 
 -- so it is of all offices of the plan and all sessions
-abbrev pub RunsOffices : (List ℕ → Option (List ℕ)) → Option (List ℕ) → (plan sessions : List ℕ) → Option (List ℕ) → (Ran → Type 0) → Option (List ℕ) → Option (List ℕ) → Option (List File) → Option (List File) → Type 0
-RunsOffices files standard plan sessions folder P old new kept left = (plan_text sessions_text : List ℕ)
+abbrev pub RunsOffices : (List ℕ → Option (List ℕ)) → Option (List ℕ) → (plan sessions : List ℕ) → (folder next unfinished : Option (List ℕ)) → (Ran → Type 0) → Option (List ℕ) → Option (List ℕ) → Option (List File) → Option (List File) → Type 0
+RunsOffices files standard plan sessions folder next unfinished P old new kept left = (plan_text sessions_text : List ℕ)
     → StandFor files standard (plan ∷ sessions ∷ []) (plan_text ∷ sessions_text ∷ [])
-    → (ran : Ran) × P ran × WritesOffices (AreFree files plan sessions) plan_text sessions_text folder ran old new kept left
+    → (ran : Ran) × P ran × WritesOffices (AreFree files plan sessions) plan_text sessions_text folder next unfinished ran old new kept left
 
 -- ---- what a fault says
 

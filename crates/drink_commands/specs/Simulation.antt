@@ -1,20 +1,28 @@
 -- What the command `sim` writes.
 use Rattle.std.specs.Prelude.{ℕ, List, Option}
 use Rattle.std.specs.Io.KnownBytes.{Appends}
-use Rattle.frame_world.specs.Worlds.{opening}
+use Rattle.frame_world.specs.Worlds.{World, opening}
 use Rattle.script_runs.specs.Script.{Act, IsScript}
 use Rattle.script_runs.specs.Runs.{run_of}
 use Rattle.script_runs.specs.Transcript.{transcript, IsSerialRun}
+use Rattle.command_outputs.specs.Days.{WritesEnd}
 use Rattle.command_outputs.specs.Journals.{File, WritesFiles, files_of_world}
 use Rattle.command_inputs.specs.Plans.{PlanAndSessions}
 
+-- Where a word names a folder for them, the journals of all offices of a world were written to a file each; and then what it leaves for
+-- the next day, where words name files for that.
+pub record LeavesFiles (folder next unfinished : Option (List ℕ)) (w : World) (kept left : Option (List File)) : Type 0 where
+  pub between : Option (List File)
+  pub journals : WritesFiles folder (λ place. files_of_world place w) kept between
+  pub day : WritesEnd next unfinished w between left
+
 -- The three texts mean a plan, sessions under it and a script of them, and the transcript of its run was written after what
--- the writer held. What its report tells is a serial run. Where a word names a folder for them, the journals of all offices at its
--- end were written to a file each.
-pub record Simulates (plan sessions script : List ℕ) (folder : Option (List ℕ)) (old new : Option (List ℕ)) (kept left : Option (List File)) : Type 0 where
+-- the writer held. What its report tells is a serial run. What the world at its end leaves in files was written to those that words
+-- name.
+pub record Simulates (plan sessions script : List ℕ) (folder next unfinished : Option (List ℕ)) (old new : Option (List ℕ)) (kept left : Option (List File)) : Type 0 where
   pub both : PlanAndSessions plan sessions
   pub acts : List Act
   pub is_script : IsScript both.p both.programs script acts
   pub written : Appends old new (transcript both.p acts)
   pub serial : IsSerialRun (run_of (opening both.p) acts)
-  pub journals : WritesFiles folder (λ place. files_of_world place (run_of (opening both.p) acts)) kept left
+  pub files : LeavesFiles folder next unfinished (run_of (opening both.p) acts) kept left

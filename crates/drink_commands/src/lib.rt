@@ -1,7 +1,7 @@
 //! The commands of the program `drink`: sessions over the records that neighbouring offices share.
 //!
-//! - [`commands::serial::run`] is `drink serial`. It writes the report of the serial run of the sessions
-//!   (clause `reports`), and it writes nothing where an input is refused (clause `unwritten`). Its
+//! - [`commands::serial::run`] is `drink serial`. It writes the report of the serial run of the sessions, and the plan of the next day
+//!   to the file that is named for it (clause `reports`), and it writes nothing where an input is refused (clause `unwritten`). Its
 //!   faults say what the texts are (clause `judged`).
 //! - [`commands::sim::run`] is `drink sim`. It writes the transcript of the run of a script (clause `simulates`), and nothing
 //!   where an input is refused; its faults say what the texts are, in the order of the words (clause `judged`).

@@ -3,6 +3,7 @@ use command_outputs::{Fault, fault};
 use drink_commands::commands::serial;
 use input_texts::Sources;
 use office_map as plans;
+use output_files::InMemory;
 use session_language as sessions;
 use std::alloc::{AllocError, Global};
 use std::io;
@@ -163,14 +164,30 @@ impl Read for Reading<'_> {
 fn ran(alloc: Global, plan: &str, sessions: &str) -> (Result<u8, Fault>, Vec<u8>) {
     let mut out = Vec::new(alloc);
     let memory = Memory::new(plan, sessions, "");
-    let result = serial::run(alloc, &memory, "p", "s", &mut out);
+    let result = serial::run(
+        alloc,
+        &memory,
+        "p",
+        "s",
+        None,
+        &mut InMemory::new(alloc),
+        &mut out,
+    );
     (result, out)
 }
 
 /// That `serial` prints this.
 fn prints(rt: &(impl Abort + AllocGlobal), memory: &Memory<'_>, printed: &str) {
     let mut out = Vec::new(rt.alloc());
-    let result = serial::run(rt.alloc(), memory, "p", "s", &mut out);
+    let result = serial::run(
+        rt.alloc(),
+        memory,
+        "p",
+        "s",
+        None,
+        &mut InMemory::new(rt.alloc()),
+        &mut out,
+    );
     assert_eq!(rt; result, Ok(0));
     assert_eq!(rt; out.as_slice(), printed.as_bytes());
 }

@@ -1,5 +1,5 @@
 -- That what was asked for was done.
-use Rattle.std.proofs.Common.{◌≡◌, ℕ, List, Option, None, Some, Result, Ok, Err, IfOk, OnOk, refl, subst, arith}
+use Rattle.std.proofs.Common.{◌≡◌, ℕ, List, Option, None, Some, Result, Ok, Err, IfOk, refl, subst, arith}
 use Rattle.output_files.specs.Written.{KeepsFiles}
 use Rattle.command_outputs.specs.Journals.{File}
 use Rattle.command_outputs.specs.declared.fault.Fault.{Fault}
@@ -8,11 +8,6 @@ use Rattle.drink_program.specs.Status.{status_of}
 pub keeps : (files : Option (List File)) → KeepsFiles files files
 keeps None = tt
 keeps (Some files) = refl
-
--- what was done, and no file was written
-pub with_files : {A E : Type 0} (r : Result A E) (K P : Type 0) → K → OnOk r P → IfOk r (λ x. K × P)
-with_files (Ok x) K P k h = (k, h)
-with_files (Err e) K P k h = tt
 
 pub ok_more : {A : Type 0} (r : Result A Fault) (P Q : A → Type 0) → ((x : A) → P x → Q x) → IfOk r P → IfOk r Q
 ok_more (Ok x) P Q k h = k x h

@@ -3,7 +3,7 @@ use Rattle.std.specs.Prelude.{◌≡◌, ◌≤◌, List, [], ◌∷◌, ℕ, Bo
 use Rattle.std.specs.Option.{option_copied}
 use Rattle.output_files.specs.Written.{KeepsFiles}
 use Rattle.input_texts.specs.Words.{StandFor}
-use Rattle.serial_command.specs.Serial.{Reports}
+use Rattle.drink_commands.specs.Serial.{ReportsDay}
 use Rattle.drink_commands.specs.Simulation.{Simulates}
 use Rattle.drink_commands.specs.Random.{TellsRun}
 use Rattle.drink_commands.specs.Run.{EndsWith, IsJudgedRun, RunsOffice, RunsOffices}
@@ -20,27 +20,27 @@ use Rattle.command_words.specs.declared.command_line.Request.TheVariants.{Serial
 
 -- the words of the request's inputs; the word of one
 abbrev pub words_of : Request → List (List ℕ)
-words_of (Serial plan sessions) = plan.now ∷ sessions.now ∷ []
-words_of (Sim plan sessions script folder) = plan.now ∷ sessions.now ∷ script.now ∷ []
-words_of (Random plan sessions seed loss steps) = plan.now ∷ sessions.now ∷ []
+words_of (Serial plan sessions next) = plan.now ∷ sessions.now ∷ []
+words_of (Sim plan sessions script folder next unfinished) = plan.now ∷ sessions.now ∷ script.now ∷ []
+words_of (Random plan sessions seed loss steps next unfinished) = plan.now ∷ sessions.now ∷ []
 words_of (Run plan office sessions turns file) = plan.now ∷ sessions.now ∷ []
 words_of (RunStored plan office sessions turns store sync is_new) = plan.now ∷ sessions.now ∷ []
-words_of (Live plan sessions folder) = plan.now ∷ sessions.now ∷ []
-words_of (Audit plan journals) = plan.now ∷ map (λ w. w.now) journals.items
+words_of (Live plan sessions folder next unfinished) = plan.now ∷ sessions.now ∷ []
+words_of (Audit plan journals next unfinished) = plan.now ∷ map (λ w. w.now) journals.items
 
 abbrev pub word_of : Request → Input → List ℕ
-word_of (Serial plan sessions) inputs.Plan = plan.now
-word_of (Serial plan sessions) inputs.Sessions = sessions.now
-word_of (Serial plan sessions) inputs.Script = []
-word_of (Serial plan sessions) (inputs.Journal k) = []
-word_of (Sim plan sessions script folder) inputs.Plan = plan.now
-word_of (Sim plan sessions script folder) inputs.Sessions = sessions.now
-word_of (Sim plan sessions script folder) inputs.Script = script.now
-word_of (Sim plan sessions script folder) (inputs.Journal k) = []
-word_of (Random plan sessions seed loss steps) inputs.Plan = plan.now
-word_of (Random plan sessions seed loss steps) inputs.Sessions = sessions.now
-word_of (Random plan sessions seed loss steps) inputs.Script = []
-word_of (Random plan sessions seed loss steps) (inputs.Journal k) = []
+word_of (Serial plan sessions next) inputs.Plan = plan.now
+word_of (Serial plan sessions next) inputs.Sessions = sessions.now
+word_of (Serial plan sessions next) inputs.Script = []
+word_of (Serial plan sessions next) (inputs.Journal k) = []
+word_of (Sim plan sessions script folder next unfinished) inputs.Plan = plan.now
+word_of (Sim plan sessions script folder next unfinished) inputs.Sessions = sessions.now
+word_of (Sim plan sessions script folder next unfinished) inputs.Script = script.now
+word_of (Sim plan sessions script folder next unfinished) (inputs.Journal k) = []
+word_of (Random plan sessions seed loss steps next unfinished) inputs.Plan = plan.now
+word_of (Random plan sessions seed loss steps next unfinished) inputs.Sessions = sessions.now
+word_of (Random plan sessions seed loss steps next unfinished) inputs.Script = []
+word_of (Random plan sessions seed loss steps next unfinished) (inputs.Journal k) = []
 word_of (Run plan office sessions turns file) inputs.Plan = plan.now
 word_of (Run plan office sessions turns file) inputs.Sessions = sessions.now
 word_of (Run plan office sessions turns file) inputs.Script = []
@@ -49,54 +49,54 @@ word_of (RunStored plan office sessions turns store sync is_new) inputs.Plan = p
 word_of (RunStored plan office sessions turns store sync is_new) inputs.Sessions = sessions.now
 word_of (RunStored plan office sessions turns store sync is_new) inputs.Script = []
 word_of (RunStored plan office sessions turns store sync is_new) (inputs.Journal k) = []
-word_of (Live plan sessions folder) inputs.Plan = plan.now
-word_of (Live plan sessions folder) inputs.Sessions = sessions.now
-word_of (Live plan sessions folder) inputs.Script = []
-word_of (Live plan sessions folder) (inputs.Journal k) = []
-word_of (Audit plan journals) inputs.Plan = plan.now
-word_of (Audit plan journals) inputs.Sessions = []
-word_of (Audit plan journals) inputs.Script = []
-word_of (Audit plan journals) (inputs.Journal k) = get_or (map (λ w. w.now) journals.items) k []
+word_of (Live plan sessions folder next unfinished) inputs.Plan = plan.now
+word_of (Live plan sessions folder next unfinished) inputs.Sessions = sessions.now
+word_of (Live plan sessions folder next unfinished) inputs.Script = []
+word_of (Live plan sessions folder next unfinished) (inputs.Journal k) = []
+word_of (Audit plan journals next unfinished) inputs.Plan = plan.now
+word_of (Audit plan journals next unfinished) inputs.Sessions = []
+word_of (Audit plan journals next unfinished) inputs.Script = []
+word_of (Audit plan journals next unfinished) (inputs.Journal k) = get_or (map (λ w. w.now) journals.items) k []
 
 -- the inputs that these words are, in their order
 abbrev pub inputs_of : Request → List Input
-inputs_of (Serial plan sessions) = inputs.Plan ∷ inputs.Sessions ∷ []
-inputs_of (Sim plan sessions script folder) = inputs.Plan ∷ inputs.Sessions ∷ inputs.Script ∷ []
-inputs_of (Random plan sessions seed loss steps) = inputs.Plan ∷ inputs.Sessions ∷ []
+inputs_of (Serial plan sessions next) = inputs.Plan ∷ inputs.Sessions ∷ []
+inputs_of (Sim plan sessions script folder next unfinished) = inputs.Plan ∷ inputs.Sessions ∷ inputs.Script ∷ []
+inputs_of (Random plan sessions seed loss steps next unfinished) = inputs.Plan ∷ inputs.Sessions ∷ []
 inputs_of (Run plan office sessions turns file) = inputs.Plan ∷ inputs.Sessions ∷ []
 inputs_of (RunStored plan office sessions turns store sync is_new) = inputs.Plan ∷ inputs.Sessions ∷ []
-inputs_of (Live plan sessions folder) = inputs.Plan ∷ inputs.Sessions ∷ []
-inputs_of (Audit plan journals) = inputs.Plan ∷ journal_inputs 0 (length journals.items)
+inputs_of (Live plan sessions folder next unfinished) = inputs.Plan ∷ inputs.Sessions ∷ []
+inputs_of (Audit plan journals next unfinished) = inputs.Plan ∷ journal_inputs 0 (length journals.items)
 
 -- The request is carried out, with this exit status: from the texts that its words stand for, what its command prints was
 -- written after what the writer held, and the files that it names, and no others, after those that were written. Sockets tell what they
 -- took and sent, or they don't. What stores have is told by their names, as far as it is known.
 abbrev pub IsDone : Bool → (List ℕ → Option (List ℕ)) → Option (List ℕ) → (List ℕ → Option (List ℕ)) → Request → ℕ → Option (List ℕ) → Option (List ℕ) → Option (List File) → Option (List File) → Type 0
-IsDone tells files standard stores (Serial plan sessions) status old new kept left = KeepsFiles kept left × ((plan_text sessions_text : List ℕ)
-    → StandFor files standard (plan.now ∷ sessions.now ∷ []) (plan_text ∷ sessions_text ∷ []) → Reports plan_text sessions_text old new)
-IsDone tells files standard stores (Sim plan sessions script folder) status old new kept left = (plan_text sessions_text script_text : List ℕ)
+IsDone tells files standard stores (Serial plan sessions next) status old new kept left = (plan_text sessions_text : List ℕ)
+    → StandFor files standard (plan.now ∷ sessions.now ∷ []) (plan_text ∷ sessions_text ∷ []) → ReportsDay plan_text sessions_text (option_copied next) old new kept left
+IsDone tells files standard stores (Sim plan sessions script folder next unfinished) status old new kept left = (plan_text sessions_text script_text : List ℕ)
     → StandFor files standard (plan.now ∷ sessions.now ∷ script.now ∷ []) (plan_text ∷ sessions_text ∷ script_text ∷ [])
-    → Simulates plan_text sessions_text script_text (option_copied folder) old new kept left
-IsDone tells files standard stores (Random plan sessions seed loss steps) status old new kept left = KeepsFiles kept left × ((plan_text sessions_text : List ℕ)
-    → StandFor files standard (plan.now ∷ sessions.now ∷ []) (plan_text ∷ sessions_text ∷ []) → TellsRun plan_text sessions_text loss old new)
+    → Simulates plan_text sessions_text script_text (option_copied folder) (option_copied next) (option_copied unfinished) old new kept left
+IsDone tells files standard stores (Random plan sessions seed loss steps next unfinished) status old new kept left = (plan_text sessions_text : List ℕ)
+    → StandFor files standard (plan.now ∷ sessions.now ∷ []) (plan_text ∷ sessions_text ∷ []) → TellsRun plan_text sessions_text loss (option_copied next) (option_copied unfinished) old new kept left
 IsDone tells files standard stores (Run plan office sessions turns file) status old new kept left = RunsOffice tells files standard plan.now office.now sessions.now turns (option_copied file) (EndsWith status) old new kept left
 IsDone tells files standard stores (RunStored plan office sessions turns store sync is_new) status old new kept left = KeepsFiles kept left × RunsStored tells files standard (stores store.now) is_new plan.now office.now sessions.now store.now turns (EndsStored status) old new
-IsDone tells files standard stores (Live plan sessions folder) status old new kept left = RunsOffices files standard plan.now sessions.now (option_copied folder) (EndsWith status) old new kept left
-IsDone tells files standard stores (Audit plan journals) status old new kept left = KeepsFiles kept left × ((plan_text : List ℕ) (texts : List (List ℕ))
-    → StandFor files standard (plan.now ∷ map (λ w. w.now) journals.items) (plan_text ∷ texts) → Audits plan_text texts status old new)
+IsDone tells files standard stores (Live plan sessions folder next unfinished) status old new kept left = RunsOffices files standard plan.now sessions.now (option_copied folder) (option_copied next) (option_copied unfinished) (EndsWith status) old new kept left
+IsDone tells files standard stores (Audit plan journals next unfinished) status old new kept left = (plan_text : List ℕ) (texts : List (List ℕ))
+    → StandFor files standard (plan.now ∷ map (λ w. w.now) journals.items) (plan_text ∷ texts) → Audits plan_text texts (option_copied next) (option_copied unfinished) status old new kept left
 
 -- the exit statuses of a request that is carried out: of a run of offices, and of an audit, 1 too
 abbrev pub IsStatusOf : Request → ℕ → Type 0
 IsStatusOf (Run plan office sessions turns file) status = status ≤ 1
 IsStatusOf (RunStored plan office sessions turns store sync is_new) status = status ≤ 1
-IsStatusOf (Live plan sessions folder) status = status ≤ 1
-IsStatusOf (Audit plan journals) status = status ≤ 1
+IsStatusOf (Live plan sessions folder next unfinished) status = status ≤ 1
+IsStatusOf (Audit plan journals next unfinished) status = status ≤ 1
 IsStatusOf _ status = status ≡ 0
 
 -- what a fault says of the texts that the words stand for
 abbrev pub IsJudgedFor : (List ℕ → Option (List ℕ)) → Option (List ℕ) → Request → Fault → Type 0
 IsJudgedFor files standard (Run plan office sessions turns file) f = IsJudgedRun files standard plan.now office.now sessions.now f
 IsJudgedFor files standard (RunStored plan office sessions turns store sync is_new) f = IsJudgedStored files standard plan.now office.now sessions.now f
-IsJudgedFor files standard (Live plan sessions folder) f = IsJudgedOr IsOfRun files standard (plan.now ∷ sessions.now ∷ []) (inputs.Plan ∷ inputs.Sessions ∷ []) f
-IsJudgedFor files standard (Audit plan journals) f = IsJudgedAudit files standard plan.now (map (λ w. w.now) journals.items) f
+IsJudgedFor files standard (Live plan sessions folder next unfinished) f = IsJudgedOr IsOfRun files standard (plan.now ∷ sessions.now ∷ []) (inputs.Plan ∷ inputs.Sessions ∷ []) f
+IsJudgedFor files standard (Audit plan journals next unfinished) f = IsJudgedAudit files standard plan.now (map (λ w. w.now) journals.items) f
 IsJudgedFor files standard request f = IsJudged files standard (words_of request) (inputs_of request) f

@@ -113,24 +113,37 @@ where
     }
 }
 
-/// Whether a request names `-` for the file of a journal or a store. That is the standard input elsewhere, and no file.
+/// Whether a request names `-` for a file that is to be written. That is the standard input elsewhere, and no file.
 fn has_dash(request: &Request<'_>) -> bool {
+    dash_of(request).is_some()
+}
+
+/// The option of a request that does.
+fn dash_of(request: &Request<'_>) -> Option<&'static str> {
     match request {
-        Request::Run {
-            journal: Some(file),
-            ..
-        } => *file == "-",
-        Request::RunStored { store, .. } => *store == "-",
-        _ => false,
+        Request::Run { journal, .. } => dash_in("--journal", *journal),
+        Request::RunStored { store, .. } => dash_in("--store", Some(*store)),
+        Request::Serial { next, .. } => dash_in("--plan", *next),
+        Request::Sim { next, left, .. }
+        | Request::Random { next, left, .. }
+        | Request::Live { next, left, .. }
+        | Request::Audit { next, left, .. } => {
+            dash_in("--plan", *next).or(dash_in("--left", *left))
+        }
+    }
+}
+
+/// The option, where its word is `-`.
+fn dash_in(option: &'static str, word: Option<&str>) -> Option<&'static str> {
+    match word {
+        Some(word) if word == "-" => Some(option),
+        _ => None,
     }
 }
 
 /// What is said of such a request.
 fn no_dash(alloc: Global, request: &Request<'_>) -> Result<String, AllocError> {
-    let option = match request {
-        Request::RunStored { .. } => "--store",
-        _ => "--journal",
-    };
+    let option = dash_of(request).unwrap_or("--journal");
     format!(in alloc;
         "drink: {option} takes a file, and - is none: a file whose name is - is written ./- instead\n"
     )
@@ -163,14 +176,20 @@ where
     ensures judged { IfErr result (IsJudgedFor (S.file_text sources.now) (S.standard_text sources.now) request.now) }
 {
     match request {
-        Request::Serial { plan, sessions } => serial::run(alloc, sources, plan, sessions, out),
+        Request::Serial {
+            plan,
+            sessions,
+            next,
+        } => serial::run(alloc, sources, plan, sessions, *next, targets, out),
         Request::Sim {
             plan,
             sessions,
             script,
             journals,
+            next,
+            left,
         } => sim::run(
-            alloc, sources, plan, sessions, script, *journals, targets, out,
+            alloc, sources, plan, sessions, script, *journals, *next, *left, targets, out,
         ),
         Request::Random {
             plan,
@@ -178,13 +197,17 @@ where
             seed,
             loss,
             steps,
+            next,
+            left,
         } => {
             let schedule = Schedule {
                 seed: *seed,
                 loss: *loss,
                 steps: *steps,
             };
-            random::run(alloc, sources, plan, sessions, schedule, out)
+            random::run(
+                alloc, sources, plan, sessions, schedule, *next, *left, targets, out,
+            )
         }
         Request::Run {
             plan,
@@ -211,10 +234,17 @@ where
             plan,
             sessions,
             journals,
+            next,
+            left,
         } => live::run(
-            rt, alloc, sources, plan, sessions, *journals, around, targets, out,
+            rt, alloc, sources, plan, sessions, *journals, *next, *left, around, targets, out,
         ),
-        Request::Audit { plan, journals } => audit::run(alloc, sources, plan, journals, out),
+        Request::Audit {
+            plan,
+            journals,
+            next,
+            left,
+        } => audit::run(alloc, sources, plan, journals, *next, *left, targets, out),
     }
 }
 
@@ -278,7 +308,7 @@ fn word_of<'a>(request: &Request<'a>, input: Input) -> &'a str
             Input::Script => script,
             Input::Journal(_) => "",
         },
-        Request::Serial { plan, sessions }
+        Request::Serial { plan, sessions, .. }
         | Request::Random { plan, sessions, .. }
         | Request::Run { plan, sessions, .. }
         | Request::RunStored { plan, sessions, .. }
@@ -287,7 +317,7 @@ fn word_of<'a>(request: &Request<'a>, input: Input) -> &'a str
             Input::Sessions => sessions,
             Input::Script | Input::Journal(_) => "",
         },
-        Request::Audit { plan, journals } => match input {
+        Request::Audit { plan, journals, .. } => match input {
             Input::Plan => plan,
             Input::Journal(k) if k < journals.len() => journals[k],
             _ => "",

@@ -2,3 +2,4 @@ mod Gathering
 mod Given
 mod Following
 mod Telling
+mod RecordedTexts

@@ -1,9 +1,10 @@
 -- What the offices that follow their journals leave, and what is told of it.
-use Rattle.std.proofs.Common.{◌≡◌, ℕ, List, map, inl, inr, ◌⊎◌, sym, subst}
+use Rattle.std.proofs.Common.{◌≡◌, ℕ, List, map, Option, None, Some, inl, inr, ◌⊎◌, sym, subst}
+use Rattle.std.specs.Prelude.{IfNone, IfSome}
 use Rattle.office_map.specs.PlanValue.{PlanValue}
 use Rattle.frame_world.specs.declared.event.WorldEvent.{WorldEvent}
 use Rattle.frame_world.specs.declared.sent.SentAt.{SentAt}
-use Rattle.frame_world.specs.Worlds.{opening, run_of}
+use Rattle.frame_world.specs.Worlds.{World, opening, run_of}
 use Rattle.site_core.specs.Journals.{Site}
 use Rattle.world_schedule.specs.Records.{IsLeftBy}
 use Rattle.journal_weave.specs.declared.given.GivenJournal.{GivenJournal}
@@ -22,10 +23,19 @@ sites_of rs = map (λ (r : ReplayValue). r.site) rs
 pub left_by : (p : PlanValue) (journals : List GivenJournal) (rs : List ReplayValue) (sent : List SentAt) (order : List ℕ) (h : IsRecord p journals rs sent order) → IsLeftBy p h.events (sites_of rs) sent order
 left_by p journals rs sent order h = record { leaves = h.leaves; sends = h.sends; fit = h.fit; finishes = h.finishes }
 
--- and its report is told
-pub tells_woven : (p : PlanValue) (journals : List GivenJournal) (rs : List ReplayValue) (sent : List SentAt) (order : List ℕ) (text : List ℕ) → IsRecord p journals rs sent order
-    → ((events : List WorldEvent) → IsLeftBy p events (sites_of rs) sent order → IsToldOf (run_of (opening p) events) text) → TellsWoven p journals text
-tells_woven p journals rs sent order text h told = record { events = h.events; woven = h.woven; report = told h.events (left_by p journals rs sent order h) }
+-- and the report of the world to which it leads is told
+pub tells_woven : (p : PlanValue) (journals : List GivenJournal) (rs : List ReplayValue) (sent : List SentAt) (order : List ℕ) (w : World) (text : List ℕ) → IsRecord p journals rs sent order
+    → ((events : List WorldEvent) → IsLeftBy p events (sites_of rs) sent order → w ≡ run_of (opening p) events) → IsToldOf w text → TellsWoven w p journals text
+tells_woven p journals rs sent order w text h leads told = record { events = h.events; woven = h.woven; leads = leads h.events (left_by p journals rs sent order h); report = told }
+
+-- the same of a world that may be there, and where it isn't
+pub some_more : (o : Option World) (P Q : World → Type 0) → ((w : World) → P w → Q w) → IfSome o P → IfSome o Q
+some_more None P Q k h = tt
+some_more (Some w) P Q k h = k w h
+
+pub none_more : (o : Option World) (P Q : Type 0) → (P → Q) → IfNone o P → IfNone o Q
+none_more None P Q k h = k h
+none_more (Some w) P Q k h = tt
 
 -- no schedule does: an entry is named
 pub tells_unwoven : (p : PlanValue) (journals : List GivenJournal) (fault : WeaveFault) (text : List ℕ) → Names p fault text → IsUnwoven p journals fault

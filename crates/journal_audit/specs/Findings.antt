@@ -9,6 +9,7 @@ use Rattle.frame_world.specs.Headline.{HasSerialSessions, HasSerialValues}
 use Rattle.frame_world.specs.Tickets.{HaveTheirTickets, TicketsRise}
 use Rattle.journal_weave.specs.declared.given.GivenJournal.{GivenJournal}
 use Rattle.journal_weave.specs.Given.{IsWovenFrom, IsLeft}
+use Rattle.journal_audit.specs.Gathering.{AreJournals}
 use Rattle.world_schedule.specs.Readers.{unfinished_in}
 use Rattle.run_reports.specs.WorldReport.{world_report}
 
@@ -22,11 +23,20 @@ pub record IsToldOf (w : World) (text : List ℕ) : Type 0 where
   pub tickets : HaveTheirTickets w
   pub rise : TicketsRise w
 
--- the journals are the record of a schedule, and the text is the report of the world to which that leads
-pub record TellsWoven (p : PlanValue) (journals : List GivenJournal) (text : List ℕ) : Type 0 where
+-- the journals are the record of a schedule, which leads to that world, and the text is its report
+pub record TellsWoven (w : World) (p : PlanValue) (journals : List GivenJournal) (text : List ℕ) : Type 0 where
   pub events : List WorldEvent
   pub woven : IsWovenFrom p journals events
-  pub report : IsToldOf (run_of (opening p) events) text
+  pub leads : w ≡ run_of (opening p) events
+  pub report : IsToldOf w text
+
+-- the texts, in some order, are the journals of all offices, which are the record of a schedule, and that leads to the world
+pub record IsRecordedBy (p : PlanValue) (texts : List (List ℕ)) (w : World) : Type 0 where
+  pub journals : List GivenJournal
+  pub are_journals : AreJournals p texts journals
+  pub events : List WorldEvent
+  pub woven : IsWovenFrom p journals events
+  pub leads : w ≡ run_of (opening p) events
 
 -- unwoven OFFICE ENTRY
 abbrev pub unwoven_line : PlanValue → ℕ → ℕ → List ℕ

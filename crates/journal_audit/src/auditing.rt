@@ -1,6 +1,6 @@
 //! What journals tell together.
 
-ghost use Rattle.std.specs.Prelude.{◌≡◌, List, true, false, length, map, All, IsSome, IfOk};
+ghost use Rattle.std.specs.Prelude.{◌≡◌, List, length, map, All, IsSome, IfNone, IfOk, IfSome};
 ghost use Rattle.std.specs.String.{string_bytes};
 ghost use Rattle.frame_world.specs.declared.event.WorldEvent.{WorldEvent};
 ghost use Rattle.frame_world.specs.Worlds.{opening, run_of};
@@ -25,16 +25,16 @@ use world_schedule::World;
 pub struct Finding {
     /// The report of the world whose record they are; or the line that names an entry.
     pub text: String,
-    /// Whether they are the record of one.
-    pub woven: bool,
+    /// That world, where they are the record of one.
+    pub world: Option<World>,
 }
 
 /// What the journals of a plan's offices tell together, one of each: the report of the world to which a schedule of theirs leads; or,
 /// where none is, the line of an entry that no schedule has.
 pub fn audit(alloc: Global, journals: Journals) -> Result<Finding, AllocError>
     requires { All (λ slot. IsSome slot) journals.slots }
-    ensures woven { IfOk result (λ a. a.woven ≡ true → TellsOf TellsWoven journals (string_bytes a.text)) }
-    ensures unwoven { IfOk result (λ a. a.woven ≡ false → TellsOf TellsUnwoven journals (string_bytes a.text)) }
+    ensures woven { IfOk result (λ a. IfSome a.world (λ w. TellsOf (TellsWoven w) journals (string_bytes a.text))) }
+    ensures unwoven { IfOk result (λ a. IfNone a.world (TellsOf TellsUnwoven journals (string_bytes a.text))) }
 {
     let plan = journals.plan().copy(alloc)?;
     let replays = journals.into_replays(alloc)?;
@@ -45,17 +45,21 @@ pub fn audit(alloc: Global, journals: Journals) -> Result<Finding, AllocError>
 fn told(alloc: Global, plan: &Plan, replays: Vec<Replay>) -> Result<Finding, AllocError>
     requires one_each { length replays.items ≡ length plan.now.offices }
     requires follow { FollowSome plan.now replays.items }
-    ensures woven { IfOk result (λ a. a.woven ≡ true → (journals : List GivenJournal) → AreReplays plan.now journals replays.items → TellsWoven plan.now journals (string_bytes a.text)) }
-    ensures unwoven { IfOk result (λ a. a.woven ≡ false → (journals : List GivenJournal) → AreReplays plan.now journals replays.items → TellsUnwoven plan.now journals (string_bytes a.text)) }
+    ensures woven { IfOk result (λ a. IfSome a.world (λ w. (journals : List GivenJournal) → AreReplays plan.now journals replays.items → TellsWoven w plan.now journals (string_bytes a.text))) }
+    ensures unwoven { IfOk result (λ a. IfNone a.world ((journals : List GivenJournal) → AreReplays plan.now journals replays.items → TellsUnwoven plan.now journals (string_bytes a.text))) }
 {
     match woven(alloc, plan, &replays) {
         Ok(left) => {
-            let text = report(alloc, plan, replays, left)?;
-            Ok(Finding { text, woven: true })
+            let world = world_of(alloc, plan, replays, left)?;
+            let text = tell(alloc, &world)?;
+            Ok(Finding {
+                text,
+                world: Some(world),
+            })
         }
         Err(fault) => {
             let text = line(alloc, plan, fault)?;
-            Ok(Finding { text, woven: false })
+            Ok(Finding { text, world: None })
         }
     }
 }
@@ -80,23 +84,22 @@ fn named(alloc: Global, plan: &Plan, office: OfficeId, entry: usize) -> Result<S
     Ok(text)
 }
 
-/// The report of the world to which a schedule leads.
+/// The world to which a schedule leads.
 ///
 /// Its offices are those that followed their journals to the ends: so nothing is done a second time. Which entries tell its frames,
 /// and where sessions finished, are the schedule's.
-fn report(
+fn world_of(
     alloc: Global,
     plan: &Plan,
     replays: Vec<Replay>,
     left: Record,
-) -> Result<String, AllocError>
+) -> Result<World, AllocError>
     requires { (events : List WorldEvent) × IsLeftBy plan.now events (map (λ r. r.site) replays.items) left.sent.items left.finished.items }
-    ensures { IfOk result (λ text. (events : List WorldEvent) → IsLeftBy plan.now events (map (λ r. r.site) replays.items) left.sent.items left.finished.items → IsToldOf (run_of (opening plan.now) events) (string_bytes text)) }
+    ensures { IfOk result (λ w. (events : List WorldEvent) → IsLeftBy plan.now events (map (λ r. r.site) replays.items) left.sent.items left.finished.items → w ≡ run_of (opening plan.now) events) }
 {
     let offices = offices_of(alloc, replays)?;
     let plan = plan.copy(alloc)?;
-    let world = World::of_record(alloc, plan, offices, left.sent, &left.finished)?;
-    tell(alloc, &world)
+    World::of_record(alloc, plan, offices, left.sent, &left.finished)
 }
 
 /// The offices themselves.

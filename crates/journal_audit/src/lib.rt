@@ -4,9 +4,9 @@
 //! - [`Journals`] gathers the journals by office: [`Journals::read`] takes one text after the other, in any order, and refuses one
 //!   that is no journal, or whose office has one already (clause `refused`); [`Journals::missing`] tells the office that has none
 //!   (clause `lacks`). An office takes a step for each line as it is read, and so no list of entries stands beside its own journal.
-//! - [`audit`] weaves what the offices followed into a schedule, and writes the report of the world to which it leads (clause
+//! - [`audit`] weaves what the offices followed into a schedule, and answers the world to which it leads with its report (clause
 //!   `woven`), of which the headline holds; or the line that names the entry (clause `unwoven`). The world's offices are those that
-//!   followed, so no event is done a second time.
+//!   followed, so no event is done a second time. [`recorded`] is the world alone, of texts that are there.
 //!
 //! Which texts are the journals of a plan's offices, and what a refusal says of them, is in `specs/Gathering.antt`; what is written
 //! in `specs/Findings.antt`, over what `journal_weave` calls woven.
@@ -23,7 +23,9 @@ mod auditing;
 mod fault;
 mod follower;
 mod journals;
+mod texts;
 
 pub use crate::auditing::{Finding, audit};
 pub use crate::fault::GatherFault;
 pub use crate::journals::Journals;
+pub use crate::texts::recorded;

@@ -71,8 +71,7 @@ abbrev pub unfinished_of : List ProgramValue → World → ℕ
 unfinished_of programs w = length programs - length w.finished
 
 -- the report of such a run's world, with how many of the file's sessions haven't finished
-pub record Tells (p : PlanValue) (programs : List ProgramValue) (loss : ℕ) (text : List ℕ) : Type 0 where
-  pub world : World
+pub record Tells (p : PlanValue) (programs : List ProgramValue) (loss : ℕ) (world : World) (text : List ℕ) : Type 0 where
   pub run : IsRun p programs loss world
   pub headline : HasHeadline world
   pub told : text ≡ world_report world (unfinished_of programs world)

@@ -16,21 +16,30 @@ use session_programs::Program;
 use std::alloc::{AllocError, Global};
 use world_schedule::World;
 
-/// The report of the world to which a random run leads: the finished sessions in finishing order, how many of these haven't
+/// What is told of a random run.
+#[derive(Drop)]
+pub struct Told {
+    /// The world to which it leads.
+    pub world: World,
+    /// Its report.
+    pub text: String,
+}
+
+/// The world to which a random run leads, and its report: the finished sessions in finishing order, how many of these haven't
 /// finished, and the records' values.
 pub fn report(
     alloc: Global,
     plan: &Plan,
     programs: &[Program],
     schedule: Schedule,
-) -> Result<String, AllocError>
-    ensures { IfOk result (λ text. Tells plan.now programs.now schedule.loss (string_bytes text)) }
+) -> Result<Told, AllocError>
+    ensures { IfOk result (λ told. Tells plan.now programs.now schedule.loss told.world (string_bytes told.text)) }
 {
     let world = run(alloc, plan, programs, schedule)?;
     let unfinished = programs.len().saturating_sub(world.finished().len());
     let mut text = String::new(alloc);
     add_world(&mut text, &world, unfinished)?;
-    Ok(text)
+    Ok(Told { world, text })
 }
 
 /// The world to which a random run leads. Each session is submitted as soon as its office takes it. Where all have finished,

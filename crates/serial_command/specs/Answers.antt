@@ -1,5 +1,5 @@
 -- What is done for the words of a command line.
-use Rattle.std.specs.Prelude.{◌≡◌, ◌⊎◌, ℕ, List, [], ◌∷◌, Option}
+use Rattle.std.specs.Prelude.{◌≡◌, ◌⊎◌, ℕ, List, [], ◌∷◌, Option, None}
 use Rattle.clap.specs.Words.{IsAmong}
 use Rattle.clap.specs.declared.error.kind.ErrorKind.{ErrorKind}
 use Rattle.clap.specs.declared.error.kind.ErrorKind.TheVariants.{DisplayHelp, DisplayVersion}
@@ -14,9 +14,9 @@ abbrev pub IsReported : (List ℕ → Option (List ℕ)) → Option (List ℕ) �
 IsReported files standard plan sessions old new =
     (plan_text sessions_text : List ℕ) → StandFor files standard (plan ∷ sessions ∷ []) (plan_text ∷ sessions_text ∷ []) → Reports plan_text sessions_text old new
 
--- a request for a serial run was carried out; no other is
+-- a request for a serial run was carried out, which names no file for the next day's plan; no other is
 abbrev pub IsDone : (List ℕ → Option (List ℕ)) → Option (List ℕ) → Request → Option (List ℕ) → Option (List ℕ) → Type 0
-IsDone files standard (Serial plan sessions) old new = IsReported files standard plan.now sessions.now old new
+IsDone files standard (Serial plan sessions next) old new = (next ≡ None) × IsReported files standard plan.now sessions.now old new
 IsDone files standard _ old new = ⊥
 
 -- what is printed for words that ask for help or for the version

@@ -1,6 +1,6 @@
 //! What the words of a command line ask for, done where that is `serial`.
 
-ghost use Rattle.std.specs.Prelude.{◌≡◌, ◌≤◌, ◌⊎◌, [], ◌∷◌, map};
+ghost use Rattle.std.specs.Prelude.{◌≡◌, ◌≤◌, ◌⊎◌, [], ◌∷◌, None, map};
 ghost use Rattle.std.specs.Io.KnownBytes.{Appends};
 ghost use Rattle.std.specs.String.{string_bytes};
 ghost use Rattle.clap.specs.Values.{kind_of};
@@ -85,8 +85,30 @@ fn perform<S: Sources, W: Write>(
     ensures unwritten { result.status ≡ 2 → out.new ≡ out.old }
 {
     match request {
-        Request::Serial { plan, sessions } => report(alloc, plan, sessions, sources, out),
+        Request::Serial {
+            plan,
+            sessions,
+            next,
+        } => without_files(alloc, plan, sessions, *next, sources, out),
         _ => Exit::saying(MISUSED, another_command(alloc)),
+    }
+}
+
+/// A serial run, where no file is named for the plan of the next day.
+fn without_files<S: Sources, W: Write>(
+    alloc: Global,
+    plan: &str,
+    sessions: &str,
+    next: Option<&str>,
+    sources: &S,
+    out: &mut W,
+) -> Exit
+    ensures done { result.status ≡ 0 → (next.entry ≡ None) × IsReported (S.file_text sources.now) (S.standard_text sources.now) plan.now sessions.now (W.contents out.old) (W.contents out.new) }
+    ensures unwritten { result.status ≡ 2 → out.new ≡ out.old }
+{
+    match next {
+        None => report(alloc, plan, sessions, sources, out),
+        Some(_) => Exit::saying(MISUSED, another_command(alloc)),
     }
 }
 
@@ -103,7 +125,7 @@ fn report<S: Sources, W: Write>(
     ensures unwritten { (out.new ≡ out.old) ⊎ HaveAcceptedTexts (S.file_text sources.now) (S.standard_text sources.now) (plan.now ∷ sessions.now ∷ []) (Input.Plan ∷ Input.Sessions ∷ []) }
 {
     match serial::run(alloc, sources, plan, sessions) {
-        Ok(text) => write_out(alloc, &text, out),
+        Ok(ended) => write_out(alloc, &ended.text, out),
         Err(fault) => {
             let line = fault_line(alloc, &fault, named(plan, sessions, &fault));
             Exit::saying(FAILED, line)
@@ -112,7 +134,10 @@ fn report<S: Sources, W: Write>(
 }
 
 fn another_command(alloc: Global) -> Result<String, AllocError> {
-    String::from_str(alloc, "drink: this program has the command serial alone\n")
+    String::from_str(
+        alloc,
+        "drink: this program has the command serial alone, without --plan\n",
+    )
 }
 
 /// The word that a fault is about, if it is about one.

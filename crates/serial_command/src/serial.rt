@@ -6,46 +6,65 @@ ghost use Rattle.input_texts.specs.Words.{StandFor};
 ghost use Rattle.session_language.specs.Limits.{most_sessions};
 ghost use Rattle.session_programs.specs.Program.{fits};
 ghost use Rattle.command_inputs.specs.Fault.{IsOneOf};
-ghost use Rattle.serial_command.specs.Serial.{IsReportOf, serial_report};
+ghost use Rattle.serial_replay.specs.Serial.{ListsValues, map_of, start_map};
+ghost use Rattle.serial_command.specs.Serial.{IsEndOf, serial_report};
 ghost use Rattle.serial_command.specs.Texts.{HaveAcceptedTexts, IsJudged};
 
 use crate::inputs::{Inputs, read_inputs};
+use bottle_values::Value;
 use command_inputs::{Input, TextFault};
 use input_texts::Sources;
+use office_map::Plan;
 use serial_replay::replay;
+use serial_replay::replay::Replay;
 use session_reports::report::report;
 use std::alloc::{AllocError, Global};
 
-/// Runs the sessions alone, one after another, and answers the text that tells what each did and the values that they leave. The plan
-/// is read and judged before the sessions are read.
+/// The end of a serial run.
+#[derive(Drop)]
+pub struct Ended {
+    pub plan: Plan,
+    /// What is told of it: what each session did, and the values.
+    pub text: String,
+    /// The value of each record, in order of number.
+    pub values: Vec<Value>,
+}
+
+/// Runs the sessions alone, one after another, and answers the text that tells what each did and the values that they leave, and those.
+/// The plan is read and judged before the sessions are read.
 pub fn run<S: Sources>(
     alloc: Global,
     sources: &S,
     plan: &str,
     sessions: &str,
-) -> Result<String, TextFault>
-    ensures report { IfOk result (λ text. (plan_text sessions_text : List ℕ)
+) -> Result<Ended, TextFault>
+    ensures report { IfOk result (λ it. (plan_text sessions_text : List ℕ)
         → StandFor (S.file_text sources.now) (S.standard_text sources.now) (plan.now ∷ sessions.now ∷ []) (plan_text ∷ sessions_text ∷ [])
-        → IsReportOf plan_text sessions_text (string_bytes text)) }
+        → IsEndOf plan_text sessions_text it.plan it.values.items (string_bytes it.text)) }
+    ensures size { IfOk result (λ it. length it.values.items ≡ length it.plan.records) }
     ensures accepted { IfOk result (λ _. HaveAcceptedTexts (S.file_text sources.now) (S.standard_text sources.now) (plan.now ∷ sessions.now ∷ []) (Input.Plan ∷ Input.Sessions ∷ [])) }
     ensures judged { IfErr result (IsJudged (S.file_text sources.now) (S.standard_text sources.now) (plan.now ∷ sessions.now ∷ []) (Input.Plan ∷ Input.Sessions ∷ [])) }
     ensures input { IfErr result (IsOneOf (Input.Plan ∷ Input.Sessions ∷ [])) }
 {
     let found = read_inputs(alloc, sources, plan, sessions)?;
-    let text = serial_report(alloc, found)?;
-    Ok(text)
+    let ended = end_of(alloc, found)?;
+    Ok(ended)
 }
 
-/// The report of the serial run of sessions that fit a plan.
-fn serial_report(alloc: Global, found: Inputs) -> Result<String, AllocError>
+/// The end of the serial run of sessions that fit a plan.
+fn end_of(alloc: Global, found: Inputs) -> Result<Ended, AllocError>
     requires fit { All (λ p. IsTrue (fits found.plan p)) found.programs.items }
     requires few { length found.programs.items ≤ most_sessions }
-    ensures { IfOk result (λ text. string_bytes text ≡ serial_report found.plan found.programs.items) }
+    ensures plan { IfOk result (λ it. it.plan ≡ found.plan) }
+    ensures report { IfOk result (λ it. string_bytes it.text ≡ serial_report found.plan found.programs.items) }
+    ensures values { IfOk result (λ it. ListsValues it.values.items (length found.plan.records) (map_of (start_map found.plan) found.programs.items)) }
 {
     let Inputs { plan, programs } = found;
     let replay = replay::serial(alloc, &plan, &programs)?;
     // The report may be longer than the programs, whose memory it can take.
     drop(programs);
     let text = report(alloc, &plan, &replay.outcomes, &replay.values)?;
-    Ok(text)
+    let Replay { outcomes, values } = replay;
+    drop(outcomes);
+    Ok(Ended { plan, text, values })
 }

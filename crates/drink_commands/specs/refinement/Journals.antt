@@ -1,10 +1,14 @@
 -- Journals whose texts are read and gathered one after another.
-use Rattle.std.specs.Prelude.{◌≡◌, ◌+◌, ℕ, List, [], ◌∷◌, ◌++◌, length, take, Option, Bool, if◌then◌else◌}
+use Rattle.std.specs.Prelude.{◌≡◌, ◌+◌, ℕ, List, [], ◌∷◌, ◌++◌, length, take, Option, None, Some, is_some, if◌then◌else◌}
 use Rattle.std.specs.String.{string_bytes}
 use Rattle.std.specs.Io.KnownBytes.{Appends}
 use Rattle.input_texts.specs.Words.{HasText, HaveTexts, Unread}
 use Rattle.office_map.specs.PlanValue.{PlanValue}
 use Rattle.run_words.specs.Words.{office_name}
+use Rattle.frame_world.specs.Worlds.{World}
+use Rattle.output_files.specs.Written.{KeepsFiles}
+use Rattle.command_outputs.specs.Days.{WritesEnd}
+use Rattle.command_outputs.specs.Journals.{File}
 use Rattle.journal_audit.specs.Gathered.{Gathered}
 use Rattle.journal_audit.specs.Following.{Gathers}
 use Rattle.drink_commands.specs.Audit.{Audits, JudgesAudit, JudgesJournals, RefusesJournal}
@@ -52,12 +56,19 @@ module _ (files : List ℕ → Option (List ℕ)) (p : PlanValue) where
   abbrev pub GathersFirst : Unread → List (List ℕ) → Type 0
   GathersFirst u words = (texts : List (List ℕ)) (n : ℕ) → HaveTexts files u (take n words) (take n texts) → (slots : Gathered) × Gathers p (take n texts) slots
 
+-- what a world leaves for the next day was written, where there is one; and otherwise nothing
+abbrev pub WritesFound : (next unfinished : Option (List ℕ)) → Option World → (kept left : Option (List File)) → Type 0
+WritesFound next unfinished None kept left = KeepsFiles kept left
+WritesFound next unfinished (Some w) kept left = WritesEnd next unfinished w kept left
+
 module _ (files : List ℕ → Option (List ℕ)) where
   -- a fault says what is so of the texts of these words, a plan's and journals', whichever are known
   abbrev pub SaysAudit : Unread → List ℕ → List (List ℕ) → Fault → Type 0
   SaysAudit u plan words f = (texts : List (List ℕ)) (n : ℕ) → HaveTexts files u (take n (plan ∷ words)) (take n texts) → JudgesAudit (length words) (take n texts) f
 
-  -- who writes these bytes, with the status of journals that are woven or not, writes what the texts of these words tell
-  abbrev pub TellsAudit : Unread → List ℕ → List (List ℕ) → Bool → List ℕ → Type 0
-  TellsAudit u plan words woven printed = (text : List ℕ) (texts : List (List ℕ)) → HaveTexts files u (plan ∷ words) (text ∷ texts)
-      → (status : ℕ) (old new : Option (List ℕ)) → status ≡ (if woven then 0 else 1) → Appends old new printed → Audits text texts status old new
+  -- who writes these bytes, with the status of journals that are woven or not, and then what their world leaves, if there is one, writes
+  -- what the texts of these words tell
+  abbrev pub TellsAudit : Unread → List ℕ → List (List ℕ) → Option World → List ℕ → Type 0
+  TellsAudit u plan words found printed = (text : List ℕ) (texts : List (List ℕ)) → HaveTexts files u (plan ∷ words) (text ∷ texts)
+      → (next unfinished : Option (List ℕ)) (status : ℕ) (old new : Option (List ℕ)) (kept left : Option (List File))
+      → status ≡ (if is_some found then 0 else 1) → Appends old new printed → WritesFound next unfinished found kept left → Audits text texts next unfinished status old new kept left

@@ -1,17 +1,17 @@
 //! The command `live`.
 
-ghost use Rattle.std.specs.Prelude.{◌≡◌, ◌≤◌, [], ◌∷◌, IfErr, IfOk, get_or, length, map};
+ghost use Rattle.std.specs.Prelude.{◌≡◌, ◌≤◌, [], ◌∷◌, All, IfErr, IfOk, IsTrue, length};
 ghost use Rattle.std.specs.Option.{option_copied};
-ghost use Rattle.std.specs.String.{string_bytes};
-ghost use Rattle.std.specs.Io.KnownBytes.{Appends};
 ghost use Rattle.command_outputs.specs.Fault.{IsOfRun};
-ghost use Rattle.command_outputs.specs.Journals.{WritesFiles, files_of};
-ghost use Rattle.drink_commands.specs.Run.{EndsWith, IsCutBy, Leaves, NoObstacle, RefusesFolder, RunsOffices};
+ghost use Rattle.session_language.specs.Limits.{most_sessions};
+ghost use Rattle.session_programs.specs.Program.{fits};
+ghost use Rattle.drink_commands.specs.Run.{EndsWith, IsCutBy, Leaves, NoObstacle, RefusesFolder, RunsOffices, WritesRan, are_wanted};
 ghost use Rattle.drink_commands.specs.Texts.{IsJudgedOr};
 
 use crate::commands::ended;
 use command_inputs::{Input, read_coded_programs, read_plan};
 use command_outputs::Fault;
+use command_outputs::day_files::write_day;
 use command_outputs::journal_files::write_texts;
 use command_outputs::output::write_whole;
 use command_outputs::places::look_at_folder;
@@ -21,6 +21,7 @@ use office_map::Plan;
 use office_runs::Ran;
 use office_stations::{Around, Binds, Gate, Watch};
 use output_files::Targets;
+use session_programs::Program;
 use std::alloc::Global;
 use std::io::Write;
 use std::rt::Clock;
@@ -31,8 +32,9 @@ use std::thread::Threads;
 /// finished did, by office and ticket, and how many haven't. Each input is read and judged before the next one is read, and
 /// nothing is run or written before both are judged. Where a folder is named for the offices' journals, it has to be there or such that
 /// it can be made, and their files in it such that they can be written, none of them an input or with a journal of its office and this
-/// run. The journals are written to them after the run, and the watch is told what was left. Where the run is cut short, what stands is
-/// written. The answer is the exit status: 1 where sessions are left.
+/// run. The journals are written to them after the run; then the plan of the next day and the sessions that haven't finished, where files
+/// are named for those; and the watch is told what was left. Where the run is cut short, what stands is written. The answer is the exit
+/// status: 1 where sessions are left.
 pub fn run<R, S, B, G, V, T, W>(
     rt: &R,
     alloc: Global,
@@ -40,6 +42,8 @@ pub fn run<R, S, B, G, V, T, W>(
     plan: &str,
     sessions: &str,
     journals: Option<&str>,
+    next: Option<&str>,
+    left: Option<&str>,
     around: &Around<'_, B, G, V>,
     targets: &mut T,
     out: &mut W,
@@ -54,12 +58,12 @@ where
     V: Watch + Sync,
     T: Targets,
     W: Write,
-    ensures runs { IfOk result (λ status. RunsOffices (S.file_text sources.now) (S.standard_text sources.now) plan.now sessions.now (option_copied journals.entry)
+    ensures runs { IfOk result (λ status. RunsOffices (S.file_text sources.now) (S.standard_text sources.now) plan.now sessions.now (option_copied journals.entry) (option_copied next.entry) (option_copied left.entry)
         (EndsWith status) (W.contents out.old) (W.contents out.new) (T.written targets.old) (T.written targets.new)) }
     ensures status { IfOk result (λ status. status ≤ 1) }
 
     ensures judged { IfErr result (IsJudgedOr IsOfRun (S.file_text sources.now) (S.standard_text sources.now) (plan.now ∷ sessions.now ∷ []) (Input.Plan ∷ Input.Sessions ∷ [])) }
-    ensures leaves { IfErr result (Leaves ((out.new ≡ out.old) × (targets.new ≡ targets.old)) (RefusesFolder (S.file_text sources.now) (S.standard_text sources.now) plan.now sessions.now (option_copied journals.entry)) (λ cause. RunsOffices (S.file_text sources.now) (S.standard_text sources.now) plan.now sessions.now (option_copied journals.entry)
+    ensures leaves { IfErr result (Leaves ((out.new ≡ out.old) × (targets.new ≡ targets.old)) (RefusesFolder (S.file_text sources.now) (S.standard_text sources.now) plan.now sessions.now (option_copied journals.entry)) (λ cause. RunsOffices (S.file_text sources.now) (S.standard_text sources.now) plan.now sessions.now (option_copied journals.entry) (option_copied next.entry) (option_copied left.entry)
         (IsCutBy cause) (W.contents out.old) (W.contents out.new) (T.written targets.old) (T.written targets.new))) }
 {
     let plan_word = plan;
@@ -70,29 +74,60 @@ where
     look_at_folder(
         alloc, sources, targets, plan_word, sessions, &plan, journals,
     )?;
-    let ran = live(rt, alloc, &plan, &programs, journals.is_some(), around)?;
-    write_ran(alloc, out, targets, journals, around.watch, &plan, &ran)
+    let wanted = are_wanted(journals, next, left);
+    let ran = live(rt, alloc, &plan, &programs, wanted, around)?;
+    write_ran(
+        alloc,
+        out,
+        targets,
+        journals,
+        next,
+        left,
+        around.watch,
+        &plan,
+        &programs,
+        &ran,
+    )
 }
 
-/// What came of a run is written, and the journals that it leaves, and the watch is told what was left; then, where it was cut short,
-/// why is the answer. Otherwise it is the exit status.
+/// Whether the journals of a run are needed: for files of their own, or for what the next day begins with.
+fn are_wanted(journals: Option<&str>, next: Option<&str>, left: Option<&str>) -> bool
+    ensures { result ≡ are_wanted (option_copied journals.entry) (option_copied next.entry) (option_copied left.entry) }
+{
+    match journals {
+        Some(_) => true,
+        None => match next {
+            Some(_) => true,
+            None => left.is_some(),
+        },
+    }
+}
+
+/// What came of a run is written, and the journals that it leaves, and what the next day begins with, and the watch is told what was left;
+/// then, where it was cut short, why is the answer. Otherwise it is the exit status.
 fn write_ran<T: Targets, W: Write, V: Watch>(
     alloc: Global,
     out: &mut W,
     targets: &mut T,
     journals: Option<&str>,
+    next: Option<&str>,
+    left: Option<&str>,
     watch: &V,
     plan: &Plan,
+    programs: &[Program],
     ran: &Ran,
 ) -> Result<u8, Fault>
-    requires { length ran.now.journals.items ≤ length plan.now.offices }
-    ensures done { IfOk result (λ status. EndsWith status ran.now × Appends (W.contents out.old) (W.contents out.new) (string_bytes ran.now.text)
-        × WritesFiles (option_copied journals.entry) (λ place. files_of place plan.now (λ a. get_or (map string_bytes ran.now.journals.items) a []) (length ran.now.journals.items)) (T.written targets.old) (T.written targets.new)) }
-    ensures leaves { IfErr result (Leaves ⊥ NoObstacle (λ cause. IsCutBy cause ran.now × Appends (W.contents out.old) (W.contents out.new) (string_bytes ran.now.text)
-        × WritesFiles (option_copied journals.entry) (λ place. files_of place plan.now (λ a. get_or (map string_bytes ran.now.journals.items) a []) (length ran.now.journals.items)) (T.written targets.old) (T.written targets.new))) }
+    requires journals { length ran.now.journals.items ≤ length plan.now.offices }
+    requires fit { All (λ p. IsTrue (fits plan.now p)) programs.now }
+    requires few { length programs.now ≤ most_sessions }
+    ensures done { IfOk result (λ status. EndsWith status ran.now
+        × WritesRan plan.now programs.now (option_copied journals.entry) (option_copied next.entry) (option_copied left.entry) ran.now (W.contents out.old) (W.contents out.new) (T.written targets.old) (T.written targets.new)) }
+    ensures leaves { IfErr result (Leaves ⊥ NoObstacle (λ cause. IsCutBy cause ran.now
+        × WritesRan plan.now programs.now (option_copied journals.entry) (option_copied next.entry) (option_copied left.entry) ran.now (W.contents out.old) (W.contents out.new) (T.written targets.old) (T.written targets.new))) }
 {
     write_whole(out, &ran.text)?;
     write_texts(alloc, targets, journals, plan, &ran.journals)?;
+    write_day(alloc, targets, plan, programs, &ran.journals, next, left)?;
     watch.end(&ran.remarks);
     ended(ran)
 }

@@ -7,6 +7,7 @@ use command_outputs::fault::Why;
 use drink_commands::commands::audit;
 use input_texts::Texts;
 use journal_texts::{JournalRefusal, JournalRule};
+use output_files::InMemory;
 use std::alloc::Global;
 use std::io::ErrorKind;
 use std::process::Abort;
@@ -52,7 +53,16 @@ fn audited(
         standard: standard.as_bytes(),
     };
     let mut out = Vec::new(alloc);
-    let result = audit::run(alloc, &texts, plan, journals, &mut out);
+    let result = audit::run(
+        alloc,
+        &texts,
+        plan,
+        journals,
+        None,
+        None,
+        &mut InMemory::new(alloc),
+        &mut out,
+    );
     (result, out)
 }
 
@@ -173,6 +183,15 @@ fn an_output_that_fails_is_told(rt: HostRuntime) {
         taken: Vec::new(rt.alloc()),
         writes: 3,
     };
-    let result = audit::run(rt.alloc(), &texts, "p", &["a", "b"], &mut out);
+    let result = audit::run(
+        rt.alloc(),
+        &texts,
+        "p",
+        &["a", "b"],
+        None,
+        None,
+        &mut InMemory::new(rt.alloc()),
+        &mut out,
+    );
     assert_eq!(rt; result, Err(Fault::WriteFailed(ErrorKind::StorageFull)));
 }

@@ -2,6 +2,7 @@ use crate::tests::{MOVE, MOVED, Memory, PLAN, Why, prints, reason};
 use command_inputs::{Input, TextFault};
 use command_outputs::Fault;
 use drink_commands::commands::serial;
+use output_files::InMemory;
 use std::io;
 use std::io::{ErrorKind, Write};
 use std::process::Abort;
@@ -43,7 +44,15 @@ fn waits_for_slow_readers(rt: HostRuntime) {
 /// That `serial` fails so, and nothing is written.
 fn fails(rt: &(impl Abort + AllocGlobal), memory: &Memory<'_>, sessions: &str, fault: Fault) {
     let mut out = Vec::new(rt.alloc());
-    let result = serial::run(rt.alloc(), memory, "p", sessions, &mut out);
+    let result = serial::run(
+        rt.alloc(),
+        memory,
+        "p",
+        sessions,
+        None,
+        &mut InMemory::new(rt.alloc()),
+        &mut out,
+    );
     assert_eq!(rt; result, Err(fault));
     assert_eq!(rt; out.len(), 0);
 }
@@ -68,7 +77,15 @@ fn writes(rt: &(impl Abort + AllocGlobal), memory: &Memory<'_>, writes: usize) {
         taken: Vec::new(rt.alloc()),
         writes,
     };
-    let result = serial::run(rt.alloc(), memory, "p", "s", &mut out);
+    let result = serial::run(
+        rt.alloc(),
+        memory,
+        "p",
+        "s",
+        None,
+        &mut InMemory::new(rt.alloc()),
+        &mut out,
+    );
     if writes > MOVED.len() {
         assert_eq!(rt; result, Ok(0));
         assert_eq!(rt; out.taken.as_slice(), MOVED.as_bytes());
@@ -89,7 +106,15 @@ fn a_failing_write_is_told(rt: HostRuntime) {
 fn a_refused_plan_leaves_the_sessions_unread(rt: HostRuntime) {
     let memory = Memory::new("plan 2", MOVE, "");
     let mut out = Vec::new(rt.alloc());
-    let result = serial::run(rt.alloc(), &memory, "p", "missing", &mut out);
+    let result = serial::run(
+        rt.alloc(),
+        &memory,
+        "p",
+        "missing",
+        None,
+        &mut InMemory::new(rt.alloc()),
+        &mut out,
+    );
     assert!(rt; matches!(reason(result), Some(Why::Plan(_))));
 }
 
@@ -97,9 +122,25 @@ fn a_refused_plan_leaves_the_sessions_unread(rt: HostRuntime) {
 fn an_endless_reader_is_left(rt: HostRuntime) {
     let memory = Memory::new(PLAN, MOVE, "");
     let mut out = Vec::new(rt.alloc());
-    let result = serial::run(rt.alloc(), &memory, "endless", "s", &mut out);
+    let result = serial::run(
+        rt.alloc(),
+        &memory,
+        "endless",
+        "s",
+        None,
+        &mut InMemory::new(rt.alloc()),
+        &mut out,
+    );
     assert!(rt; matches!(reason(result), Some(Why::Plan(_))));
-    let result = serial::run(rt.alloc(), &memory, "p", "endless", &mut out);
+    let result = serial::run(
+        rt.alloc(),
+        &memory,
+        "p",
+        "endless",
+        None,
+        &mut InMemory::new(rt.alloc()),
+        &mut out,
+    );
     assert!(rt; matches!(reason(result), Some(Why::Sessions(_))));
     assert_eq!(rt; out.len(), 0);
 }

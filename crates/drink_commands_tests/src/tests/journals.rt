@@ -33,6 +33,8 @@ fn simulated(
         "s",
         "c",
         folder,
+        None,
+        None,
         &mut files,
         &mut out,
     );

@@ -2,6 +2,7 @@ use crate::tests::{MOVE, Memory, PLAN, Why, reason};
 use command_inputs::{Input, TextFault};
 use command_outputs::Fault;
 use drink_commands::commands::random;
+use output_files::InMemory;
 use random_runs::Schedule;
 use std::alloc::Global;
 use std::io::ErrorKind;
@@ -17,7 +18,17 @@ fn ran(
 ) -> (Result<u8, Fault>, Vec<u8>) {
     let mut out = Vec::new(alloc);
     let memory = Memory::new(plan, sessions, "");
-    let result = random::run(alloc, &memory, "p", "s", schedule, &mut out);
+    let result = random::run(
+        alloc,
+        &memory,
+        "p",
+        "s",
+        schedule,
+        None,
+        None,
+        &mut InMemory::new(alloc),
+        &mut out,
+    );
     (result, out)
 }
 
@@ -90,7 +101,17 @@ fn refused_texts_are_told(rt: HostRuntime) -> Result<(), Fail> {
     assert_eq!(rt; out.len(), 0);
     let mut out = Vec::new(rt.alloc());
     let memory = Memory::new(PLAN, MOVE, "");
-    let result = random::run(rt.alloc(), &memory, "p", "nowhere", schedule, &mut out);
+    let result = random::run(
+        rt.alloc(),
+        &memory,
+        "p",
+        "nowhere",
+        schedule,
+        None,
+        None,
+        &mut InMemory::new(rt.alloc()),
+        &mut out,
+    );
     assert_eq!(rt;
         result,
         Err(Fault::Text(TextFault::ReadFailed(Input::Sessions, ErrorKind::NotFound)))

@@ -22,6 +22,8 @@ fn a_script_has_a_longest_text(rt: HostRuntime) {
         "s",
         "endless",
         None,
+        None,
+        None,
         &mut InMemory::new(alloc),
         &mut out,
     );
@@ -54,7 +56,18 @@ fn without_script(
     out: &mut Vec<u8>,
 ) -> Result<u8, Fault> {
     let memory = Memory::new(PLAN, sessions, "submit 1\n");
-    sim::run(alloc, &memory, "p", "s", "missing", Some("d"), files, out)
+    sim::run(
+        alloc,
+        &memory,
+        "p",
+        "s",
+        "missing",
+        Some("d"),
+        Some("n"),
+        Some("l"),
+        files,
+        out,
+    )
 }
 
 /// Takes whole what it is given, and keeps how long each was. It fails from the write of that number on, from 0.
@@ -114,6 +127,8 @@ fn told(
         "s",
         "c",
         Some("d"),
+        None,
+        None,
         &mut files,
         &mut out,
     );

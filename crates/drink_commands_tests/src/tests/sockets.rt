@@ -67,7 +67,7 @@ impl Wire for DeafSocket {
 
     ghost tells = { true };
 
-    fn receive(&mut self, buffer: &mut [u8; 64]) -> Result<Option<usize>, WireFailed> {
+    fn receive(&mut self, buffer: &mut [u8; 128]) -> Result<Option<usize>, WireFailed> {
         self.wire.receive(buffer)
     }
 

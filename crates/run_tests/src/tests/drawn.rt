@@ -38,7 +38,7 @@ static SEEDS: [u64; 8] = [0, 1, 2, 7, 42, 1984, 65_537, u64::MAX];
 fn told(alloc: Global, plan: &str, sessions: &str, schedule: Schedule) -> Result<String, Fail> {
     let plan = Plan::read(alloc, plan.as_bytes())?;
     let programs = read_sessions(alloc, sessions.as_bytes(), &plan)?;
-    let text = report(alloc, &plan, &programs, schedule)?;
+    let text = report(alloc, &plan, &programs, schedule)?.text;
     Ok(text)
 }
 

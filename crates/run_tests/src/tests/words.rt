@@ -15,16 +15,27 @@ pub fn strings(alloc: Global, words: &[&str]) -> Result<Vec<String>, AllocError>
 
 #[test]
 fn reads_the_words_of_serial(rt: HostRuntime) -> Result<(), Fail> {
-    let rows: [(&[&str], &str, &str); 4] = [
-        (&["drink", "serial", "p", "s"], "p", "s"),
-        (&["drink", "serial", "-", "s"], "-", "s"),
-        (&["drink", "serial", "-", "-"], "-", "-"),
-        (&["drink", "serial", "--", "-p", "-s"], "-p", "-s"),
+    let rows: [(&[&str], &str, &str, Option<&str>); 5] = [
+        (&["drink", "serial", "p", "s"], "p", "s", None),
+        (&["drink", "serial", "-", "s"], "-", "s", None),
+        (&["drink", "serial", "-", "-"], "-", "-", None),
+        (&["drink", "serial", "--", "-p", "-s"], "-p", "-s", None),
+        (
+            &["drink", "serial", "p", "--plan", "n", "s"],
+            "p",
+            "s",
+            Some("n"),
+        ),
     ];
-    for (words, plan, sessions) in rows {
+    for (words, plan, sessions, next) in rows {
         let words = strings(rt.alloc(), words)?;
         let request = command_line(rt.alloc(), words.as_slice())?;
-        assert_eq!(rt; request, Request::Serial { plan, sessions });
+        let expected = Request::Serial {
+            plan,
+            sessions,
+            next,
+        };
+        assert_eq!(rt; request, expected);
     }
     Ok(())
 }
@@ -60,9 +71,41 @@ fn reads_the_words_of_sim(rt: HostRuntime) -> Result<(), Fail> {
             sessions: *sessions,
             script: *script,
             journals: *journals,
+            next: None,
+            left: None,
         };
         assert_eq!(rt; request, expected);
     }
+    Ok(())
+}
+
+/// What `sim` and `audit` leave for the next day goes to files of their own.
+#[test]
+fn reads_the_files_of_a_day(rt: HostRuntime) -> Result<(), Fail> {
+    let words = strings(
+        rt.alloc(),
+        &["drink", "sim", "p", "s", "c", "--left", "l", "--plan=n"],
+    )?;
+    let request = command_line(rt.alloc(), words.as_slice())?;
+    let expected = Request::Sim {
+        plan: "p",
+        sessions: "s",
+        script: "c",
+        journals: None,
+        next: Some("n"),
+        left: Some("l"),
+    };
+    assert_eq!(rt; request, expected);
+    let words = strings(
+        rt.alloc(),
+        &["drink", "audit", "p", "a", "b", "--plan", "n"],
+    )?;
+    let request = command_line(rt.alloc(), words.as_slice())?;
+    let named = match &request {
+        Request::Audit { next, left, .. } => *next == Some("n") && left.is_none(),
+        _ => false,
+    };
+    assert!(rt; named && is_audit(&request, "p", &["a", "b"]));
     Ok(())
 }
 
@@ -127,6 +170,8 @@ fn reads_the_words_of_random(rt: HostRuntime) -> Result<(), Fail> {
             seed,
             loss,
             steps,
+            next: None,
+            left: None,
         };
         assert_eq!(rt; request, expected);
     }
@@ -432,6 +477,8 @@ fn reads_the_words_of_live(rt: HostRuntime) -> Result<(), Fail> {
             plan: "-",
             sessions: "s",
             journals: *journals,
+            next: None,
+            left: None,
         };
         assert_eq!(rt; request, expected);
     }
@@ -550,6 +597,7 @@ fn is_audit(request: &Request<'_>, plan: &str, journals: &[&str]) -> bool {
         Request::Audit {
             plan: found,
             journals: named,
+            ..
         } => *found == plan && are_same(named.as_slice(), journals),
         _ => false,
     }
@@ -613,7 +661,7 @@ fn helps_with_audit(rt: HostRuntime) -> Result<(), Fail> {
 }
 
 static AUDIT_HELP: [&str; 5] = [
-    "Usage: drink audit <PLAN> <JOURNAL>...\n",
+    "Usage: drink audit [OPTIONS] <PLAN> <JOURNAL>...\n",
     "  <JOURNAL>...  The journals, one of each office of the plan, in any order",
     "\nExit status: 0 where the journals are of one run",
     "unwoven OFFICE ENTRY",

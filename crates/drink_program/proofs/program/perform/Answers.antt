@@ -1,12 +1,13 @@
 use Rattle.std.proofs.Common.{ℕ, List, ◌∷◌, map, subst, IfErr}
+use Rattle.std.specs.Option.{option_copied}
 use Rattle.input_texts.specs.Words.{StandFor}
 use Rattle.drink_commands.specs.Audit.{Audits, IsJudgedAudit}
-use Rattle.drink_program.proofs.Done.{keeps, ok_more, with_files}
+use Rattle.drink_program.proofs.Done.{keeps, ok_more}
 use Rattle.drink_program.proofs.program.perform.Goals as goal
 
 pub returns-in-Serial : goal.returns-in-Serial
 returns-in-Serial g c = record {
-  done = rw c.in-Serial.is (with_files c.run.result _ _ (keeps _) c.run.ensures.reports);
+  done = rw c.in-Serial.is c.run.ensures.reports;
   status = rw c.in-Serial.is c.run.ensures.status;
   judged = rw c.in-Serial.is c.run.ensures.judged;
 }
@@ -20,7 +21,7 @@ returns-in-Sim g c = record {
 
 pub returns-in-Random : goal.returns-in-Random
 returns-in-Random g c = record {
-  done = rw c.in-Random.is (with_files c.run-in-Random.result _ _ (keeps _) c.run-in-Random.ensures.tells);
+  done = rw c.in-Random.is c.run-in-Random.ensures.tells;
   status = rw c.in-Random.is c.run-in-Random.ensures.status;
   judged = rw c.in-Random.is c.run-in-Random.ensures.judged;
 }
@@ -52,11 +53,10 @@ returns-in-Audit g c =
     let standard = g.S.Sources.standard_text c.args.sources.now in
     let plan = c.in-Audit.plan.now in
     record {
-      done = rw c.in-Audit.is (ok_more c.run-in-Audit.result _ _ (λ status h. (
-        keeps _,
-        subst (λ js. (plan_text : List ℕ) (texts : List (List ℕ)) → StandFor files standard (plan ∷ map (λ w. w.now) js) (plan_text ∷ texts)
-            → Audits plan_text texts status (g.W.Write.contents c.args.out.now) (g.W.Write.contents c.run-in-Audit.new.out)) c.deref.ensures.value h,
-      )) c.run-in-Audit.ensures.audits);
+      done = rw c.in-Audit.is (ok_more c.run-in-Audit.result _ _ (λ status h.
+          subst (λ js. (plan_text : List ℕ) (texts : List (List ℕ)) → StandFor files standard (plan ∷ map (λ w. w.now) js) (plan_text ∷ texts)
+          → Audits plan_text texts (option_copied c.in-Audit.next) (option_copied c.in-Audit.left) status (g.W.Write.contents c.args.out.now) (g.W.Write.contents c.run-in-Audit.new.out)
+          (g.T.Targets.written c.args.targets.now) (g.T.Targets.written c.run-in-Audit.new.targets)) c.deref.ensures.value h) c.run-in-Audit.ensures.audits);
       status = rw c.in-Audit.is c.run-in-Audit.ensures.status;
       judged = rw c.in-Audit.is (subst (λ js. IfErr c.run-in-Audit.result (IsJudgedAudit files standard plan (map (λ w. w.now) js))) c.deref.ensures.value c.run-in-Audit.ensures.judged);
     }

@@ -5,6 +5,7 @@ use Rattle.office_map.specs.PlanValue.{PlanValue}
 use Rattle.journal_audit.specs.Following.{FollowSome}
 use Rattle.journal_audit.specs.Findings.{TellsWoven, TellsUnwoven}
 use Rattle.journal_audit.proofs.Following.{tells_of}
+use Rattle.journal_audit.proofs.Telling.{none_more, some_more}
 use Rattle.journal_audit.proofs.auditing.audit.Goals as goal
 
 pub told-requires-clause-one_each : goal.told-requires-clause-one_each
@@ -16,9 +17,11 @@ told-requires-clause-follow c = subst (λ (p : PlanValue). FollowSome p c.in_ok-
 pub returns-clause-woven : goal.returns-clause-woven
 returns-clause-woven c =
     IfOk-weaker c.told.result _ _
-    (λ a h woven. tells_of TellsWoven c.args.journals c.in_ok-replays.replays.items c.in_ok-plan.plan (string_bytes a.text) (c.in_ok-plan.ensures ∙ c.plan.ensures) c.in_ok-replays.ensures.journals (h woven)) c.told.ensures.woven
+    (λ a h. some_more a.world _ _
+    (λ w told. tells_of (TellsWoven w) c.args.journals c.in_ok-replays.replays.items c.in_ok-plan.plan (string_bytes a.text) (c.in_ok-plan.ensures ∙ c.plan.ensures) c.in_ok-replays.ensures.journals told) h) c.told.ensures.woven
 
 pub returns-clause-unwoven : goal.returns-clause-unwoven
 returns-clause-unwoven c =
     IfOk-weaker c.told.result _ _
-    (λ a h unwoven. tells_of TellsUnwoven c.args.journals c.in_ok-replays.replays.items c.in_ok-plan.plan (string_bytes a.text) (c.in_ok-plan.ensures ∙ c.plan.ensures) c.in_ok-replays.ensures.journals (h unwoven)) c.told.ensures.unwoven
+    (λ a h. none_more a.world _ _
+    (λ told. tells_of TellsUnwoven c.args.journals c.in_ok-replays.replays.items c.in_ok-plan.plan (string_bytes a.text) (c.in_ok-plan.ensures ∙ c.plan.ensures) c.in_ok-replays.ensures.journals told) h) c.told.ensures.unwoven

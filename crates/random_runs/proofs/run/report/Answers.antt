@@ -11,7 +11,6 @@ returns c =
     let count : c.saturating_sub-unfinished.result ≡ unfinished_of c.args.programs.now w =
     c.saturating_sub-unfinished.ensures ∙ ap (λ n. length c.args.programs.now - n) size in
     record {
-      world = w;
       run = c.in_ok-world.ensures.run;
       headline = c.in_ok-world.ensures.headline;
       told = search rules;

@@ -1,4 +1,4 @@
 use Rattle.serial_command.proofs.answer.perform.Goals as goal
 
 pub returns-in-Serial-clause-done : goal.returns-in-Serial-clause-done
-returns-in-Serial-clause-done g c = rw c.in-Serial.is c.report.ensures.done
+returns-in-Serial-clause-done g c = rw c.in-Serial.is c.without_files.ensures.done

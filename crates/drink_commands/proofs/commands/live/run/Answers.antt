@@ -1,23 +1,32 @@
 use Rattle.std.specs.List.{range_with_len}
 use Rattle.std.specs.Option.{option_copied}
 use Rattle.office_runs.specs.Runs.{TellsJournals}
-use Rattle.std.proofs.Common.{◌∙◌, [], ◌∷◌, IfSome, Some, inl, inr, length, refl, subst, sym, ◌≤◌, rules}
+use Rattle.std.proofs.Common.{◌∙◌, List, [], ◌∷◌, IfSome, Some, inl, inr, length, refl, subst, sym, ◌≤◌, rules}
+use Rattle.std.specs.Prelude.{All, IsTrue}
 use Rattle.std.proofs.lemmas.Result.{err_from_is_err_and}
+use Rattle.session_meaning.specs.ProgramValue.{ProgramValue}
+use Rattle.session_programs.specs.Program.{fits}
 use Rattle.command_outputs.specs.Fault.{IsOfRun}
 use Rattle.command_outputs.specs.Places.{AreFree, IsIn}
-use Rattle.drink_commands.specs.Run.{RefusesFolder}
+use Rattle.drink_commands.specs.Run.{RefusesFolder, WritesRan}
 use Rattle.drink_commands.specs.Texts.{nothing}
 use Rattle.command_inputs.specs.declared.input.Input.TheVariants as inputs
 use Rattle.command_outputs.specs.declared.fault.Fault.TheVariants.{NoRun, Text}
 use Rattle.drink_commands.proofs.Faults as texts
 use Rattle.drink_commands.proofs.Faults.{at_first, at_next, judged, plan_taken, sessions_taken}
 use Rattle.drink_commands.proofs.Reported.{folder_refused, ran_offices, started}
-use Rattle.drink_commands.proofs.Running.{at_end, at_place, err_more, is_end, is_place, is_some_copied, ok_more, one_at_most}
+use Rattle.drink_commands.proofs.Running.{at_end, at_place, err_more, is_end, is_place, ok_more, one_at_most}
 use Rattle.drink_commands.proofs.FewJournals.{few_journals}
 use Rattle.drink_commands.proofs.commands.live.run.Goals as goal
 
-pub write_ran-requires : goal.write_ran-requires
-write_ran-requires g c = few_journals c.in_ok-plan.plan _ _ c.in_ok-ran.ran c.in_ok-ran.ensures.tells
+pub write_ran-requires-clause-journals : goal.write_ran-requires-clause-journals
+write_ran-requires-clause-journals g c = few_journals c.in_ok-plan.plan _ _ c.in_ok-ran.ran c.in_ok-ran.ensures.tells
+
+pub write_ran-requires-clause-fit : goal.write_ran-requires-clause-fit
+write_ran-requires-clause-fit g c = subst (All (λ (x : ProgramValue). IsTrue (fits c.in_ok-plan.plan x))) (sym c.deref-2.ensures.value) c.in_ok-programs.ensures.fit
+
+pub write_ran-requires-clause-few : goal.write_ran-requires-clause-few
+write_ran-requires-clause-few g c = subst (λ (l : List ProgramValue). length l ≤ 1024) (sym c.deref-2.ensures.value) c.in_ok-programs.ensures.few
 
 pub returns-in_err-plan-clause-judged : goal.returns-in_err-plan-clause-judged
 returns-in_err-plan-clause-judged g c =
@@ -78,9 +87,11 @@ returns-clause-runs g c =
     ok_more c.write_ran.result _ _ (λ status h. λ plan_text sessions_text known. (
       c.in_ok-ran.ran,
       h.0,
-      (ran_offices (AreFree files c.args.plan.now c.args.sessions.now) files c.new-standard.result c.read_plan.new.standard c.read_coded_programs.new.standard c.args.plan.now c.args.sessions.now plan_text sessions_text c.in_ok-plan.plan c.in_ok-programs.programs.items c.deref.result.now (option_copied c.args.journals) c.in_ok-ran.ran (g.W.Write.contents c.args.out.now) (g.W.Write.contents c.write_ran.new.out) (g.T.Targets.written c.args.targets.now) (g.T.Targets.written c.write_ran.new.targets)
+      (ran_offices (AreFree files c.args.plan.now c.args.sessions.now) files c.new-standard.result c.read_plan.new.standard c.read_coded_programs.new.standard c.args.plan.now c.args.sessions.now plan_text sessions_text c.in_ok-plan.plan c.in_ok-programs.programs.items c.deref.result.now (option_copied c.args.journals) (option_copied c.args.next) (option_copied c.args.left) c.in_ok-ran.ran (g.W.Write.contents c.args.out.now) (g.W.Write.contents c.write_ran.new.out) (g.T.Targets.written c.args.targets.now) (g.T.Targets.written c.write_ran.new.targets)
           c.in_ok-plan.ensures.meaning c.in_ok-programs.ensures.meaning
-          (started c.new-standard.result (g.S.Sources.standard_text c.args.sources.now) files (c.args.plan.now ∷ c.args.sessions.now ∷ []) (plan_text ∷ sessions_text ∷ []) (search rules) known) c.deref.ensures.value c.in_ok-look_at_folder.ensures.free (subst (λ wanted. TellsJournals c.in_ok-plan.plan (range_with_len 0 (length c.in_ok-plan.plan.offices)) (length c.deref.result.now) wanted c.in_ok-ran.ran) (c.is_some.ensures ∙ is_some_copied c.args.journals) c.in_ok-ran.ensures.tells) h.1 h.2),
+          (started c.new-standard.result (g.S.Sources.standard_text c.args.sources.now) files (c.args.plan.now ∷ c.args.sessions.now ∷ []) (plan_text ∷ sessions_text ∷ []) (search rules) known) c.deref.ensures.value c.in_ok-look_at_folder.ensures.free (subst (λ wanted. TellsJournals c.in_ok-plan.plan (range_with_len 0 (length c.in_ok-plan.plan.offices)) (length c.deref.result.now) wanted c.in_ok-ran.ran) c.are_wanted-wanted.ensures c.in_ok-ran.ensures.tells)
+          (subst (λ ps. WritesRan c.in_ok-plan.plan ps (option_copied c.args.journals) (option_copied c.args.next) (option_copied c.args.left) c.in_ok-ran.ran (g.W.Write.contents c.args.out.now) (g.W.Write.contents c.write_ran.new.out) (g.T.Targets.written c.args.targets.now) (g.T.Targets.written c.write_ran.new.targets))
+          (c.deref-2.ensures.value ∙ sym c.deref.ensures.value) h.1)),
     )) c.write_ran.ensures.done
 
 pub returns-clause-status : goal.returns-clause-status
@@ -113,7 +124,9 @@ returns-clause-leaves g c =
     err_more c.write_ran.result _ _ (λ f h. at_end _ (RefusesFolder (g.S.Sources.file_text c.args.sources.now) (g.S.Sources.standard_text c.args.sources.now) c.args.plan.now c.args.sessions.now (option_copied c.args.journals)) _ _ f h (λ cause h. λ plan_text sessions_text known. (
       c.in_ok-ran.ran,
       h.0,
-      (ran_offices (AreFree files c.args.plan.now c.args.sessions.now) files c.new-standard.result c.read_plan.new.standard c.read_coded_programs.new.standard c.args.plan.now c.args.sessions.now plan_text sessions_text c.in_ok-plan.plan c.in_ok-programs.programs.items c.deref.result.now (option_copied c.args.journals) c.in_ok-ran.ran (g.W.Write.contents c.args.out.now) (g.W.Write.contents c.write_ran.new.out) (g.T.Targets.written c.args.targets.now) (g.T.Targets.written c.write_ran.new.targets)
+      (ran_offices (AreFree files c.args.plan.now c.args.sessions.now) files c.new-standard.result c.read_plan.new.standard c.read_coded_programs.new.standard c.args.plan.now c.args.sessions.now plan_text sessions_text c.in_ok-plan.plan c.in_ok-programs.programs.items c.deref.result.now (option_copied c.args.journals) (option_copied c.args.next) (option_copied c.args.left) c.in_ok-ran.ran (g.W.Write.contents c.args.out.now) (g.W.Write.contents c.write_ran.new.out) (g.T.Targets.written c.args.targets.now) (g.T.Targets.written c.write_ran.new.targets)
           c.in_ok-plan.ensures.meaning c.in_ok-programs.ensures.meaning
-          (started c.new-standard.result (g.S.Sources.standard_text c.args.sources.now) files (c.args.plan.now ∷ c.args.sessions.now ∷ []) (plan_text ∷ sessions_text ∷ []) (search rules) known) c.deref.ensures.value c.in_ok-look_at_folder.ensures.free (subst (λ wanted. TellsJournals c.in_ok-plan.plan (range_with_len 0 (length c.in_ok-plan.plan.offices)) (length c.deref.result.now) wanted c.in_ok-ran.ran) (c.is_some.ensures ∙ is_some_copied c.args.journals) c.in_ok-ran.ensures.tells) h.1 h.2),
+          (started c.new-standard.result (g.S.Sources.standard_text c.args.sources.now) files (c.args.plan.now ∷ c.args.sessions.now ∷ []) (plan_text ∷ sessions_text ∷ []) (search rules) known) c.deref.ensures.value c.in_ok-look_at_folder.ensures.free (subst (λ wanted. TellsJournals c.in_ok-plan.plan (range_with_len 0 (length c.in_ok-plan.plan.offices)) (length c.deref.result.now) wanted c.in_ok-ran.ran) c.are_wanted-wanted.ensures c.in_ok-ran.ensures.tells)
+          (subst (λ ps. WritesRan c.in_ok-plan.plan ps (option_copied c.args.journals) (option_copied c.args.next) (option_copied c.args.left) c.in_ok-ran.ran (g.W.Write.contents c.args.out.now) (g.W.Write.contents c.write_ran.new.out) (g.T.Targets.written c.args.targets.now) (g.T.Targets.written c.write_ran.new.targets))
+          (c.deref-2.ensures.value ∙ sym c.deref.ensures.value) h.1)),
     ))) c.write_ran.ensures.leaves

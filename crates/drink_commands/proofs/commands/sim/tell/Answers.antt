@@ -6,31 +6,31 @@ use Rattle.script_runs.specs.Script.{acts_with}
 use Rattle.script_runs.specs.Runs.{run_of}
 use Rattle.script_runs.specs.Transcript.{transcript, IsSerialRun}
 use Rattle.run_reports.proofs.Outgoings.{on_ok_so}
-use Rattle.command_outputs.specs.Journals.{WritesFiles, files_of_world}
+use Rattle.drink_commands.specs.Simulation.{LeavesFiles}
 use Rattle.drink_commands.proofs.Faults.{no_input}
 use Rattle.drink_commands.proofs.Running.{err_more}
 use Rattle.drink_commands.proofs.commands.sim.tell.Goals as goal
 
 pub returns-in-Ok-clause-written : goal.returns-in-Ok-clause-written
 returns-in-Ok-clause-written g c =
-    on_ok_so c.write_journals.result (Appends (g.W.Write.contents c.args.out.now) (g.W.Write.contents c.simulate.new.out) (transcript c.args.plan.now (acts_with c.args.programs.now c.args.events.now))) c.in-Ok.ensures.written
+    on_ok_so c.write_files.result (Appends (g.W.Write.contents c.args.out.now) (g.W.Write.contents c.simulate.new.out) (transcript c.args.plan.now (acts_with c.args.programs.now c.args.events.now))) c.in-Ok.ensures.written
 
 pub returns-in-Ok-clause-serial : goal.returns-in-Ok-clause-serial
-returns-in-Ok-clause-serial g c = on_ok_so c.write_journals.result (IsSerialRun (run_of (opening c.args.plan.now) (acts_with c.args.programs.now c.args.events.now))) c.in-Ok.ensures.serial
+returns-in-Ok-clause-serial g c = on_ok_so c.write_files.result (IsSerialRun (run_of (opening c.args.plan.now) (acts_with c.args.programs.now c.args.events.now))) c.in-Ok.ensures.serial
 
-pub returns-in-Ok-clause-journals : goal.returns-in-Ok-clause-journals
-returns-in-Ok-clause-journals g c =
-    subst (λ w. OnOk c.write_journals.result (WritesFiles (option_copied c.args.journals) (λ place. files_of_world place w) (g.T.Targets.written c.args.targets.now) (g.T.Targets.written c.write_journals.new.targets)))
-    c.in-Ok.ensures.world c.write_journals.ensures.journals
+pub returns-in-Ok-clause-files : goal.returns-in-Ok-clause-files
+returns-in-Ok-clause-files g c =
+    subst (λ w. OnOk c.write_files.result (LeavesFiles (option_copied c.args.journals) (option_copied c.args.next) (option_copied c.args.left) w (g.T.Targets.written c.args.targets.now) (g.T.Targets.written c.write_files.new.targets)))
+    c.in-Ok.ensures.world c.write_files.ensures.files
 
 pub returns-in-Ok-clause-status : goal.returns-in-Ok-clause-status
-returns-in-Ok-clause-status g c = c.write_journals.ensures.status
+returns-in-Ok-clause-status g c = c.write_files.ensures.status
 
 pub returns-in-Ok-clause-fault : goal.returns-in-Ok-clause-fault
-returns-in-Ok-clause-fault g c = err_more c.write_journals.result _ _ no_input c.write_journals.ensures.fault
+returns-in-Ok-clause-fault g c = err_more c.write_files.result _ _ no_input c.write_files.ensures.fault
 
 pub returns-in-Ok-clause-unwritten : goal.returns-in-Ok-clause-unwritten
-returns-in-Ok-clause-unwritten g c = err_more c.write_journals.result _ _ (λ f h. inl h) c.write_journals.ensures.fault
+returns-in-Ok-clause-unwritten g c = err_more c.write_files.result _ _ (λ f h. inl h) c.write_files.ensures.fault
 
 pub returns-in-Err-Memory-clause-unwritten : goal.returns-in-Err-Memory-clause-unwritten
 returns-in-Err-Memory-clause-unwritten g c = let same = rw c.in-Err-Memory.field-0-is at c.in-Err-Memory.ensures.unwritten in inr (same, refl)

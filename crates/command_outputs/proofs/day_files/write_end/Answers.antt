@@ -1,0 +1,6 @@
+use Rattle.command_outputs.proofs.DayFiles.{on_ok_more}
+use Rattle.command_outputs.proofs.day_files.write_end.Goals as goal
+
+pub returns-clause-written : goal.returns-clause-written
+returns-clause-written g c =
+    on_ok_more c.write_left.result _ _ (λ h. record { between = g.T.Targets.written c.write_plan.new.targets; plan = c.in_ok-write_plan.ensures.written; sessions = h }) c.write_left.ensures.written

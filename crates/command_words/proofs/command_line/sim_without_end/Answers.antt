@@ -1,0 +1,20 @@
+use Rattle.std.proofs.Common.{rules, codes}
+use Rattle.std.specs.Prelude.{IfOk}
+use Rattle.clap.specs.Words.{new_app}
+use Rattle.command_words.specs.CommandLine.{sim_without_end, path, required}
+use Rattle.command_words.proofs.Arguments.{IsCommand, with_one, with_last, shape_of, local_of}
+use Rattle.command_words.proofs.command_line.sim_without_end.Goals as goal
+
+made : (c : goal.After-arg-4) → IfOk c.arg-4.result (IsCommand sim_without_end)
+made c =
+    let none : IsCommand (new_app (codes "sim")) c.after_help.result = (search rules, search rules) in
+    let one = with_one c.after_help.result c.in_ok-arg.field-0 c.required.result _ (required (codes "PLAN")) none c.in_ok-arg.ensures c.required.ensures.rule c.required.ensures.no_global in
+    let two = with_one c.in_ok-arg.field-0 c.in_ok-arg-2.field-0 c.required-2.result _ (required (codes "SESSIONS")) one c.in_ok-arg-2.ensures c.required-2.ensures.rule c.required-2.ensures.no_global in
+    let three = with_one c.in_ok-arg-2.field-0 c.in_ok-arg-3.field-0 c.required-3.result _ (required (codes "SCRIPT")) two c.in_ok-arg-3.ensures c.required-3.ensures.rule c.required-3.ensures.no_global in
+    with_last c.in_ok-arg-3.field-0 c.path.result _ (path (codes "journals")) c.arg-4.result three c.arg-4.ensures c.path.ensures.rule c.path.ensures.no_global
+
+pub returns-clause-command : goal.returns-clause-command
+returns-clause-command c = shape_of sim_without_end c.arg-4.result (made c)
+
+pub returns-clause-local : goal.returns-clause-local
+returns-clause-local c = local_of sim_without_end c.arg-4.result (made c)

@@ -1,0 +1,3 @@
+mod NextPlans
+mod Offices
+mod FileSessions

@@ -1,0 +1,6 @@
+mod IdleOffices
+mod Walked
+mod Fitting
+mod EachOnce
+mod TextsRead
+mod Programs
