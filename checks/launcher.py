@@ -52,6 +52,7 @@ FAULTY = (
     "run a b c --turns", "run a b c --turns 0", "run a b c --turns 100001", "run a b c --turns 1 --turns 2", "run a b c --loss 1", "run a b c --new", "run a b c --sync none", "run a b c --sync all",
     "run a b c --store s --sync all", "run a b c --store s --journal j", "run a b c --store", "run a b c --store s --new x", "run a b c --store s --new=x", "run a b c --store s --new --new",
     "run a b c --journal -", "run a b c --store=-", "run a b c --journal -x", "run a b c --turns --journal j", "run a b c --journal --", "sim", "random", "random --seed 1", "run", "run a", "live", "live a b --store s", "live a", "live a b --turns 1", "live a b --journal j", "live a b --journals", "audit", "audit a", "audit a b --turns 1",
+    "serial a b --plan", "serial a b --plan -", "serial a b --left l", "sim a b c --plan n --left=-", "audit a b --left l --left l", "live a b --plan n --plan n", "live a b --left -", "random a b --seed 1 --loss 0 --steps 1 --plan -",
 )
 
 # Words that name a file that can't be read. They build nothing either.
@@ -67,6 +68,8 @@ HANDED = [
     (["serial", "plan.txt", "-"], ["serial", "HERE/plan.txt", "-"]),
     (["serial", "a plan.txt", "the sessions"], ["serial", "HERE/a plan.txt", "HERE/the sessions"]),
     (["sim", "p", "s", "t", "--journals", "a folder"], ["sim", "HERE/p", "HERE/s", "HERE/t", "--journals", "HERE/a folder"]),
+    (["serial", "--plan=n", "p", "s"], ["serial", "--plan=HERE/n", "HERE/p", "HERE/s"]),
+    (["audit", "p", "s", "--plan", "n", "--left", "l"], ["audit", "HERE/p", "HERE/s", "--plan", "HERE/n", "--left", "HERE/l"]),
     (["random", "plan.txt", "-", "--seed", "1", "--loss", "2", "--steps=3"], ["random", "HERE/plan.txt", "-", "--seed", "1", "--loss", "2", "--steps=3"]),
     (["run", "plan.txt", "a", "-", "--turns", "5"], ["run", "HERE/plan.txt", "a", "-", "--turns", "5"]),
     (["run", "--turns=5", "plan.txt", "a", "s"], ["run", "--turns=5", "HERE/plan.txt", "a", "HERE/s"]),
@@ -195,7 +198,7 @@ def handed(check, few):
         there = [it.replace("HERE", check.work) for it in there]
         call = " ".join(["drink", *(f"[{it}]" for it in ("try", "--", *there))])
         few.wants(f"launcher: --unproved {words}", few.run(["--unproved", *words]), 7, b"", UNPROVED, [call])
-    few.wants("launcher: --unproved serial plan.txt", few.run("--unproved serial plan.txt"), 2, b"", r"<SESSIONS>\ndrink: --unproved takes(.|\n)*\n    audit PLAN JOURNAL\.\.\n(.|\n)*60 seconds")
+    few.wants("launcher: --unproved serial plan.txt", few.run("--unproved serial plan.txt"), 2, b"", r"<SESSIONS>\ndrink: --unproved takes(.|\n)*\n    audit PLAN JOURNAL\.\. \[--plan FILE\] \[--left FILE\]\n(.|\n)*60 seconds")
     few.wants("launcher: --unproved serial plan.txt nowhere.txt", few.run("--unproved serial plan.txt nowhere.txt"), 1, b"", check.run("serial plan.txt nowhere.txt").err)
 
 

@@ -40,13 +40,14 @@ def texts(ports):
 # ---- a plain decoder, and a plain channel
 
 def decoded(it):
-    """The fields of the frame that bytes are, or the code of their first fault. An office reads 64 bytes at most."""
-    it = it[:64]
+    """The fields of the frame that bytes are, or the code of their first fault. An office reads 128 bytes at most."""
+    it = it[:128]
     if len(it) < 26:
         return "F1"
     if it[:2] != b"DP":
         return "F2"
-    if it[2] != 1:
+    version = it[2]
+    if version not in (1, 2):
         return "F3"
     kind, number, count = it[3], int.from_bytes(it[10:18], "big"), int.from_bytes(it[18:26], "big")
     if kind not in (DATA, COUNT):
@@ -57,13 +58,16 @@ def decoded(it):
         return "F6"
     run, of, to = int.from_bytes(it[4:8], "big"), it[8], it[9]
     if kind == COUNT:
-        return (run, of, to, number, count, None) if len(it) == 26 else "F8"
+        return (version, run, of, to, number, count, None) if len(it) == 26 else "F8"
     if len(it) > 26 and it[26] not in LENGTHS:
         return "F7"
-    if len(it) == 26 or len(it) != LENGTHS[it[26]]:
+    has_form = version == 2 and len(it) > 26 and it[26] == BOTTLE
+    if has_form and len(it) > 29 and it[29] != 1:
+        return "F9"
+    if len(it) == 26 or len(it) != LENGTHS[it[26]] + has_form:
         return "F8"
     record = int.from_bytes(it[27:29], "big") if it[26] in (ASK_BOTTLE, BOTTLE) else None
-    return run, of, to, number, count, (it[26], record)
+    return version, run, of, to, number, count, (it[26], record)
 
 
 class Channel:
@@ -128,9 +132,11 @@ class FirstOffice:
         it = decoded(datagram)
         if isinstance(it, str):
             return it
-        run, of, to, number, count, thing = it
+        version, run, of, to, number, count, thing = it
         if run != RUN or to != ME or of not in self.channels:
             return "L1"
+        if version != 1:
+            return "L4"
         channel = self.channels[of]
         return channel.takes(number, count, thing) if takes else channel.answer(number, count, thing)
 
@@ -187,7 +193,7 @@ class Draws:
         return frame(peer, self.draw.choice((ME, other)), channel.taken + 1, channel.acked, BOTTLE, 2 * (other - 1), 7)
 
     def of_another_version(self, peer):
-        return self.honest(peer)[:2] + bytes([self.draw.choice((0, 2, 3, 255))]) + self.honest(peer)[3:]
+        return self.honest(peer)[:2] + bytes([self.draw.choice((0, 2, 2, 3, 255))]) + self.honest(peer)[3:]
 
     def next_message(self, peer):
         return self.honest(peer)
@@ -219,7 +225,7 @@ class Draws:
         while True:
             kind = self.draw.choice(kinds)
             it = getattr(self, kind)(self.draw.choice(PEERS))
-            if isinstance(fields := decoded(it), str) or fields[0] != RUN or fields[1] != FRIEND or fields[2] != ME:
+            if isinstance(fields := decoded(it), str) or fields[:4] != (1, RUN, FRIEND, ME):
                 if some_are_taken or self.office.of(it) in FAULTS:
                     return kind, it
 
@@ -240,7 +246,7 @@ LAST = frame(OFFICES - 1, ME, 0, 0)
 KINDS = ("random_bytes", "altered_frame", "altered_frame", "cut_or_longer", "of_another_run", "of_another_pair", "of_another_version", "count_ahead", "count_ahead", "what_is_there", "what_is_there",
          "next_message", "again", "out_of_order", "forged_count")
 REFUSED = ("random_bytes", "cut_or_longer", "of_another_run", "of_another_version", "count_ahead")
-FAULTS = {"F1", "F2", "F3", "F4", "F5", "F6", "F7", "F8", "L1", "L2", "C1"}
+FAULTS = {"F1", "F2", "F3", "F4", "F5", "F6", "F7", "F8", "F9", "L1", "L4", "L2", "C1"}
 
 
 # ---- the run

@@ -14,7 +14,8 @@ PLAN = "plan 1 run {run}\noffice a {host}:{own}\noffice b {host}:{other}\npair a
 TURNS, BURSTS, BURST = 3000, 25, 128
 KINDS = {
     "F1 Short": b"D",
-    "F3 Version": frame(1, 0, 1, 0, ASK_FORK, version=2),
+    "F3 Version": frame(1, 0, 1, 0, ASK_FORK, version=3),
+    "L4 WrongVersion": frame(1, 0, 1, 0, ASK_FORK, version=2),
     "F8 Length": frame(1, 0, 1, 0, BOTTLE) + b"x",
     "L1 Stranger": frame(1, 0, 1, 0, ASK_FORK, run=RUN + 1),
     "L2 AckAhead": frame(1, 0, 1, 1, ASK_FORK),
