@@ -1,12 +1,18 @@
 use Rattle.std.proofs.Common.{map}
 use Rattle.std.specs.String.{string_bytes}
+use Rattle.report_forms.specs.declared.forms.Form.TheVariants.{Plain}
 use Rattle.journal_audit.specs.Following.{Gathers}
-use Rattle.journal_audit.proofs.RecordedTexts.{if_some, recorded_so}
+use Rattle.journal_audit.proofs.RecordedTexts.{if_some, recorded_so, unrecorded_so}
 use Rattle.journal_audit.proofs.texts.recorded.Goals as goal
 
 pub returns-in_ok-found-in-Some : goal.returns-in_ok-found-in-Some
 returns-in_ok-found-in-Some c =
     let p = c.args.plan.now in
     let texts = map string_bytes c.args.texts.now in
-    recorded_so p texts c.in-Some.journals (string_bytes c.in_ok-found-in-Some.found.text) c.in_ok-found-in-Some.found.world
-    (if_some _ (Gathers p texts) c.in-Some.journals c.in-Some.is c.in_ok-journals.ensures.gathers) c.in_ok-found-in-Some.ensures.woven
+    let journals = c.in-Some.journals in
+    let it = c.in_ok-found-in-Some in
+    let gathers = if_some _ (Gathers p texts) journals c.in-Some.is c.in_ok-journals.ensures.gathers in
+    record {
+      found = recorded_so Plain p texts journals (string_bytes it.found.text) it.found.world gathers it.ensures.woven;
+      none = unrecorded_so Plain p texts journals (string_bytes it.found.text) it.found.world gathers it.ensures.unwoven;
+    }
