@@ -66,6 +66,11 @@ impl<R: Files + Input> Sources for Devices<'_, R> {
         word == name || is_one_file(self.rt, word, name)
     }
 
+    fn is_open_to_others(&self, name: &str) -> io::Result<bool> {
+        let found = fs::metadata(self.rt, name)?;
+        Ok(found.mode() & OTHERS != 0)
+    }
+
     fn standard(&self) -> Device<R::Reader> {
         Device {
             reader: self.rt.reader(),
@@ -73,6 +78,9 @@ impl<R: Files + Input> Sources for Devices<'_, R> {
         }
     }
 }
+
+/// The bits of a file's mode that say what others than its owner may do with it.
+const OTHERS: u32 = 0o077;
 
 /// The name of what is the standard input.
 const STANDARD_INPUT: &str = "/dev/stdin";

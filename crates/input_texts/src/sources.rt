@@ -35,6 +35,9 @@ pub trait Sources {
         ensures same { is_dash word.now ≡ false → word.now ≡ name.now → result ≡ true }
         ensures text { result ≡ true → is_dash word.now ≡ false → file_text self.now word.now ≡ file_text self.now name.now };
 
+    /// Whether others than its owner may read or write the file of that name.
+    fn is_open_to_others(&self, name: &str) -> io::Result<bool>;
+
     /// The standard input. It is asked for once.
     fn standard(&self) -> Self::Standard
         ensures { Self.Standard.remaining result ≡ standard_text self.now };

@@ -73,6 +73,10 @@ impl<'a> Sources for Memory<'a> {
         word == name
     }
 
+    fn is_open_to_others(&self, _name: &str) -> io::Result<bool> {
+        Ok(false)
+    }
+
     fn standard(&self) -> Slow<'a> {
         self.slow(self.standard)
     }
@@ -291,6 +295,24 @@ fn a_file_may_have_several_names(rt: HostRuntime) {
     let devices = Devices::new(&rt);
     for (word, name, expected) in &ONE {
         assert_eq!(rt; devices.is_read_from(word, name), *expected);
+    }
+}
+
+/// Files, and whether others than their owners may read or write them.
+static OPEN: [(&str, Result<bool, ErrorKind>); 5] = [
+    ("/dev/null", Ok(true)),
+    ("/proc/self/status", Ok(true)),
+    ("/proc/self/environ", Ok(false)),
+    ("/proc/self/mem", Ok(false)),
+    ("no_such_file", Err(ErrorKind::NotFound)),
+];
+
+#[test]
+fn a_file_may_be_open_to_others(rt: HostRuntime) {
+    let devices = Devices::new(&rt);
+    for (name, expected) in &OPEN {
+        let found = devices.is_open_to_others(name);
+        assert_eq!(rt; found.map_err(|error| error.kind()), *expected);
     }
 }
 

@@ -56,6 +56,10 @@ impl<'a> Sources for Texts<'a> {
         word == name
     }
 
+    fn is_open_to_others(&self, _name: &str) -> io::Result<bool> {
+        Ok(false)
+    }
+
     fn standard(&self) -> &'a [u8] {
         self.standard
     }

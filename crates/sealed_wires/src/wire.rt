@@ -14,20 +14,20 @@ const SENDER: usize = 8;
 
 /// A wire whose datagrams are frames under seals: of the secrets the one at an office's number is shared with that office.
 #[derive(Drop)]
-pub struct SealedWire<W> {
+pub struct SealedWire<'a, W> {
     /// Where the datagrams come from and go to.
     pub wire: W,
     /// What is shared with each office.
-    pub secrets: Vec<Option<Secret>>,
+    pub secrets: &'a [Option<Secret>],
     /// How many calls failed.
     pub failures: u64,
 }
 
-impl<W> SealedWire<W> {
+impl<'a, W> SealedWire<'a, W> {
     /// The wire under these secrets. No call of it failed yet.
-    pub fn new(wire: W, secrets: Vec<Option<Secret>>) -> SealedWire<W>
+    pub fn new(wire: W, secrets: &'a [Option<Secret>]) -> SealedWire<'a, W>
         ensures wire { result.wire ≡ wire }
-        ensures secrets { result.secrets ≡ secrets }
+        ensures secrets { result.secrets.now ≡ secrets.now }
         ensures failures { result.failures ≡ 0 }
     {
         SealedWire {
@@ -38,18 +38,18 @@ impl<W> SealedWire<W> {
     }
 }
 
-impl<W: Wire> Wire for SealedWire<W> {
-    ghost account = { λ s. told_of s.secrets.items s.failures (W.account s.wire) };
+impl<W: Wire> Wire for SealedWire<'_, W> {
+    ghost account = { λ s. told_of s.secrets.now s.failures (W.account s.wire) };
 
     ghost tells = { W.tells };
 
     fn receive(&mut self, buffer: &mut [u8; 128]) -> Result<Option<usize>, WireFailed>
         ensures within { IfOk result (λ o. IfSome o (λ n. n ≤ 128)) }
-        ensures account { Hands W.tells (told_of self.old.secrets.items self.old.failures (W.account self.old.wire)) result buffer.new (told_of self.new.secrets.items self.new.failures (W.account self.new.wire)) }
-        ensures secrets { self.new.secrets ≡ self.old.secrets }
+        ensures account { Hands W.tells (told_of self.old.secrets.now self.old.failures (W.account self.old.wire)) result buffer.new (told_of self.new.secrets.now self.new.failures (W.account self.new.wire)) }
+        ensures secrets { self.new.secrets.now ≡ self.old.secrets.now }
     {
         match self.wire.receive(buffer) {
-            Ok(Some(count)) => Ok(Some(handed_on(&self.secrets, &buffer[..count]))),
+            Ok(Some(count)) => Ok(Some(handed_on(self.secrets, &buffer[..count]))),
             Ok(None) => Ok(None),
             Err(WireFailed) => {
                 self.failures = risen(self.failures);
@@ -59,12 +59,12 @@ impl<W: Wire> Wire for SealedWire<W> {
     }
 
     fn send(&mut self, to: OfficeId, bytes: &[u8]) -> Result<(), WireFailed>
-        ensures account { Accepts W.tells (told_of self.old.secrets.items self.old.failures (W.account self.old.wire)) to bytes.now result (told_of self.new.secrets.items self.new.failures (W.account self.new.wire)) }
-        ensures secrets { self.new.secrets ≡ self.old.secrets }
-        ensures sealed { IfOk result (λ _. IsPosted W.tells self.old.secrets.items (W.account self.old.wire) to bytes.now (W.account self.new.wire)) }
+        ensures account { Accepts W.tells (told_of self.old.secrets.now self.old.failures (W.account self.old.wire)) to bytes.now result (told_of self.new.secrets.now self.new.failures (W.account self.new.wire)) }
+        ensures secrets { self.new.secrets.now ≡ self.old.secrets.now }
+        ensures sealed { IfOk result (λ _. IsPosted W.tells self.old.secrets.now (W.account self.old.wire) to bytes.now (W.account self.new.wire)) }
     {
         let mut datagram = [0; MAX_SEALED_BYTES];
-        let Some(length) = sealed_with(&self.secrets, to.index(), bytes, &mut datagram) else {
+        let Some(length) = sealed_with(self.secrets, to.index(), bytes, &mut datagram) else {
             self.failures = risen(self.failures);
             return Err(WireFailed);
         };
