@@ -13,6 +13,7 @@ use Rattle.journal_weave.specs.declared.fault.WeaveFault.TheVariants as faults
 use Rattle.journal_weave.specs.Given.{IsWovenFrom, IsUnwoven}
 use Rattle.journal_weave.specs.ReplayValue.{ReplayValue}
 use Rattle.journal_weave.specs.Replays.{IsRecord}
+use Rattle.report_forms.specs.declared.forms.Form.{Form}
 use Rattle.journal_audit.specs.Findings.{IsToldOf, TellsWoven, TellsUnwoven}
 use Rattle.journal_audit.specs.refinement.Naming.{Names}
 
@@ -24,9 +25,9 @@ pub left_by : (p : PlanValue) (journals : List GivenJournal) (rs : List ReplayVa
 left_by p journals rs sent order h = record { leaves = h.leaves; sends = h.sends; fit = h.fit; finishes = h.finishes }
 
 -- and the report of the world to which it leads is told
-pub tells_woven : (p : PlanValue) (journals : List GivenJournal) (rs : List ReplayValue) (sent : List SentAt) (order : List ℕ) (w : World) (text : List ℕ) → IsRecord p journals rs sent order
-    → ((events : List WorldEvent) → IsLeftBy p events (sites_of rs) sent order → w ≡ run_of (opening p) events) → IsToldOf w text → TellsWoven w p journals text
-tells_woven p journals rs sent order w text h leads told = record { events = h.events; woven = h.woven; leads = leads h.events (left_by p journals rs sent order h); report = told }
+pub tells_woven : (f : Form) (p : PlanValue) (journals : List GivenJournal) (rs : List ReplayValue) (sent : List SentAt) (order : List ℕ) (w : World) (text : List ℕ) → IsRecord p journals rs sent order
+    → ((events : List WorldEvent) → IsLeftBy p events (sites_of rs) sent order → w ≡ run_of (opening p) events) → IsToldOf f w text → TellsWoven f w p journals text
+tells_woven f p journals rs sent order w text h leads told = record { events = h.events; woven = h.woven; leads = leads h.events (left_by p journals rs sent order h); report = told }
 
 -- the same of a world that may be there, and where it isn't
 pub some_more : (o : Option World) (P Q : World → Type 0) → ((w : World) → P w → Q w) → IfSome o P → IfSome o Q
@@ -38,11 +39,11 @@ none_more None P Q k h = k h
 none_more (Some w) P Q k h = tt
 
 -- no schedule does: an entry is named
-pub tells_unwoven : (p : PlanValue) (journals : List GivenJournal) (fault : WeaveFault) (text : List ℕ) → Names p fault text → IsUnwoven p journals fault
-    → (fault ≡ faults.Memory) ⊎ ((events : List WorldEvent) → IsWovenFrom p journals events → ⊥) → TellsUnwoven p journals text
-tells_unwoven p journals faults.Memory text names left never = absurd names
-tells_unwoven p journals (faults.Unwoven office entry) text names left (inl memory) = absurd (cc)
-tells_unwoven p journals (faults.Unwoven office entry) text names left (inr never) = record { office = office; entry = entry; left = left; never = never; line = names }
+pub tells_unwoven : (f : Form) (p : PlanValue) (journals : List GivenJournal) (fault : WeaveFault) (text : List ℕ) → Names f p fault text → IsUnwoven p journals fault
+    → (fault ≡ faults.Memory) ⊎ ((events : List WorldEvent) → IsWovenFrom p journals events → ⊥) → TellsUnwoven f p journals text
+tells_unwoven f p journals faults.Memory text names left never = absurd names
+tells_unwoven f p journals (faults.Unwoven office entry) text names left (inl memory) = absurd (cc)
+tells_unwoven f p journals (faults.Unwoven office entry) text names left (inr never) = record { office = office; entry = entry; left = left; never = never; line = names }
 
 -- the same of copies of these
 pub left_of_copies : (p q : PlanValue) (events : List WorldEvent) (sites sites' : List Site) (sent : List SentAt) (order order' : List ℕ) → q ≡ p → sites' ≡ sites → order' ≡ order → IsLeftBy p events sites sent order → IsLeftBy q events sites' sent order'

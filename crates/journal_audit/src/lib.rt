@@ -4,7 +4,7 @@
 //! - [`Journals`] gathers the journals by office: [`Journals::read`] takes one text after the other, in any order, and refuses one
 //!   that is no journal, or whose office has one already (clause `refused`); [`Journals::missing`] tells the office that has none
 //!   (clause `lacks`). An office takes a step for each line as it is read, and so no list of entries stands beside its own journal.
-//! - [`audit`] weaves what the offices followed into a schedule, and answers the world to which it leads with its report (clause
+//! - [`audit`] weaves what the offices followed into a schedule, and answers the world to which it leads with its report in a form (clause
 //!   `woven`), of which the headline holds; or the line that names the entry (clause `unwoven`). The world's offices are those that
 //!   followed, so no event is done a second time. [`recorded`] is the world alone, of texts that are there.
 //!

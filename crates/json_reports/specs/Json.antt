@@ -62,6 +62,10 @@ json_value_line p r v = 123 ∷ (key (codes "value") ++ (quoted (record_name p r
 abbrev pub json_value_lines : PlanValue → (ℕ → Value) → List ℕ
 json_value_lines p m = flat_map (λ r. json_value_line p r (m r)) (range_with_len 0 (length p.records))
 
+-- {"unwoven":"NAME","entry":N}
+abbrev pub json_unwoven : PlanValue → ℕ → ℕ → List ℕ
+json_unwoven p office entry = 123 ∷ (key (codes "unwoven") ++ (quoted (office_name p office) ++ (field (codes "entry") (decimal entry) ++ 125 ∷ 10 ∷ [])))
+
 -- {"unfinished":N}
 abbrev pub json_unfinished : ℕ → List ℕ
 json_unfinished n = 123 ∷ (key (codes "unfinished") ++ (decimal n ++ 125 ∷ 10 ∷ []))

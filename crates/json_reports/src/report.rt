@@ -5,11 +5,11 @@ ghost use Rattle.std.specs.List.{flat_map};
 ghost use Rattle.std.specs.Fmt.{decimal};
 ghost use Rattle.std.specs.String.{string_bytes};
 ghost use Rattle.session_reports.specs.Report.{value_at};
-ghost use Rattle.json_reports.specs.Json.{field, json_array, json_end, json_member, json_object, json_outcome, json_report_of, json_title, json_unfinished, json_value, json_value_line, json_value_lines, key, quoted};
+ghost use Rattle.json_reports.specs.Json.{field, json_array, json_end, json_member, json_object, json_outcome, json_report_of, json_title, json_unfinished, json_unwoven, json_value, json_value_line, json_value_lines, key, quoted};
 
 use bottle_values::Value;
 use itoa::Buffer;
-use office_map::{Plan, RecordId};
+use office_map::{OfficeId, Plan, RecordId};
 use session_meaning::{End, Outcome};
 use session_reports::laws::rows_are_added;
 use session_reports::names::{office_name, record_name};
@@ -251,4 +251,27 @@ pub fn add_unfinished(text: &mut String, count: usize) -> Result<(), AllocError>
     add_key(text, "unfinished")?;
     add_number(text, count as u64)?;
     text.push_str("}\n")
+}
+
+/// The line that names an entry of an office's journal, from 1, which no schedule has, is added. Where memory runs out, a part of it may be.
+pub fn add_unwoven(
+    text: &mut String,
+    plan: &Plan,
+    office: OfficeId,
+    entry: usize,
+) -> Result<(), AllocError>
+    ensures { OnOk result (string_bytes text.new ≡ string_bytes text.old ++ json_unwoven plan.now office entry) }
+{
+    text.push_str("{")?;
+    add_key(text, "unwoven")?;
+    add_quoted(text, office_name(plan, office))?;
+    add_entry(text, entry)?;
+    text.push_str("}\n")
+}
+
+fn add_entry(text: &mut String, entry: usize) -> Result<(), AllocError>
+    ensures { OnOk result (string_bytes text.new ≡ string_bytes text.old ++ field (codes "entry") (decimal entry)) }
+{
+    add_field_key(text, "entry")?;
+    add_number(text, entry as u64)
 }

@@ -8,6 +8,7 @@ use Rattle.frame_world.specs.declared.event.WorldEvent.{WorldEvent}
 use Rattle.frame_world.specs.declared.event.WorldEvent.TheVariants as happening
 use Rattle.frame_world.specs.Worlds.{World, opening, office_at, happens, run_of}
 use Rattle.world_schedule.specs.Headline.{HasHeadline}
+use Rattle.report_forms.specs.declared.forms.Form.{Form}
 use Rattle.run_reports.specs.WorldReport.{world_report}
 
 -- the program that an event submits
@@ -70,8 +71,8 @@ pub record IsRun (p : PlanValue) (programs : List ProgramValue) (loss : ℕ) (w 
 abbrev pub unfinished_of : List ProgramValue → World → ℕ
 unfinished_of programs w = length programs - length w.finished
 
--- the report of such a run's world, with how many of the file's sessions haven't finished
-pub record Tells (p : PlanValue) (programs : List ProgramValue) (loss : ℕ) (world : World) (text : List ℕ) : Type 0 where
+-- the report of such a run's world, in that form, with how many of the file's sessions haven't finished
+pub record Tells (form : Form) (p : PlanValue) (programs : List ProgramValue) (loss : ℕ) (world : World) (text : List ℕ) : Type 0 where
   pub run : IsRun p programs loss world
   pub headline : HasHeadline world
-  pub told : text ≡ world_report world (unfinished_of programs world)
+  pub told : text ≡ world_report form world (unfinished_of programs world)

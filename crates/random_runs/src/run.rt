@@ -11,6 +11,7 @@ use crate::schedule::Schedule;
 use crate::steps::step;
 use crate::submission::{all_of, submit_waiting};
 use office_map::Plan;
+use report_forms::Form;
 use run_reports::world::add_world;
 use session_programs::Program;
 use std::alloc::{AllocError, Global};
@@ -25,20 +26,21 @@ pub struct Told {
     pub text: String,
 }
 
-/// The world to which a random run leads, and its report: the finished sessions in finishing order, how many of these haven't
+/// The world to which a random run leads, and its report in that form: the finished sessions in finishing order, how many of these haven't
 /// finished, and the records' values.
 pub fn report(
     alloc: Global,
+    form: Form,
     plan: &Plan,
     programs: &[Program],
     schedule: Schedule,
 ) -> Result<Told, AllocError>
-    ensures { IfOk result (λ told. Tells plan.now programs.now schedule.loss told.world (string_bytes told.text)) }
+    ensures { IfOk result (λ told. Tells form plan.now programs.now schedule.loss told.world (string_bytes told.text)) }
 {
     let world = run(alloc, plan, programs, schedule)?;
     let unfinished = programs.len().saturating_sub(world.finished().len());
     let mut text = String::new(alloc);
-    add_world(&mut text, &world, unfinished)?;
+    add_world(&mut text, form, &world, unfinished)?;
     Ok(Told { world, text })
 }
 

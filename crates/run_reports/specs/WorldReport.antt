@@ -6,13 +6,13 @@ use Rattle.bottle_values.specs.Operations.{nought}
 use Rattle.frame_world.specs.Worlds.{World}
 use Rattle.frame_world.specs.Ways.{bottles_of}
 use Rattle.frame_world.specs.Headline.{outcomes}
-use Rattle.session_reports.specs.Report.{outcome_line, value_lines}
-pub use Rattle.session_reports.specs.Report.{unfinished_line}
+use Rattle.report_forms.specs.declared.forms.Form.{Form}
+use Rattle.report_forms.specs.Forms.{outcome_as, unfinished_as, values_as}
 
 -- the value of a record: that of its bottle
 abbrev pub bottle_value : World → ℕ → Value
 bottle_value w r = get_or (bottles_of w r) 0 nought
 
--- the finished sessions in finishing order, how many haven't finished, and the values of the bottles
-abbrev pub world_report : World → ℕ → List ℕ
-world_report w n = flat_map (outcome_line w.plan) (outcomes w) ++ (unfinished_line n ++ value_lines w.plan (bottle_value w))
+-- the finished sessions in finishing order, how many haven't finished, and the values of the bottles, in that form
+abbrev pub world_report : Form → World → ℕ → List ℕ
+world_report f w n = flat_map (outcome_as f w.plan) (outcomes w) ++ (unfinished_as f n ++ values_as f w.plan (bottle_value w))

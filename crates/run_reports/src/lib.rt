@@ -1,7 +1,7 @@
 //! What is printed of all offices: the finished sessions, how many haven't finished, and the values.
 //!
-//! [`world::add_world`] adds that report of a world to a text: `world_report` of `specs/WorldReport.antt`. Its lines are those of
-//! `session_reports`, whose [`report`] is passed on. [`telling::tell_world`] writes it as it comes (clause `written`), and where memory
+//! [`world::add_world`] adds that report of a world to a text, in a form: `world_report` of `specs/WorldReport.antt`. Its lines are those
+//! of `report_forms`. [`telling::tell_world`] writes it as it comes (clause `written`), and where memory
 //! runs out before a part went out, nothing was written (clause `unwritten`).
 //!
 //! Not said: what is in a text where memory ran out, and how much went out where writing failed.
@@ -12,4 +12,3 @@ pub mod telling;
 pub mod world;
 
 pub use crate::fault::TellingFault;
-pub use session_reports::report;

@@ -6,7 +6,7 @@ ghost use Rattle.std.specs.String.{string_bytes, string_len};
 ghost use Rattle.std.specs.Io.KnownBytes.{Appends, Keeps, append_known};
 ghost use Rattle.session_meaning.specs.declared.ending.Outcome.{Outcome};
 ghost use Rattle.frame_world.specs.Headline.{outcomes};
-ghost use Rattle.session_reports.specs.Report.{outcome_line};
+ghost use Rattle.report_forms.specs.Forms.{outcome_as};
 ghost use Rattle.run_reports.specs.Telling.{Unwritten};
 ghost use Rattle.run_reports.specs.WorldReport.{world_report};
 
@@ -14,22 +14,24 @@ use crate::fault::TellingFault;
 use crate::world::{add_nth, add_rest};
 use input_texts::failure_kind;
 use output_files::{Outgoing, PART};
+use report_forms::Form;
 use std::io::{ErrorKind, Write};
 use world_schedule::World;
 
-/// The report of a world goes out, after what is on its way: what [`add_world`](crate::world::add_world) adds to a text.
+/// The report of a world in that form goes out, after what is on its way: what [`add_world`](crate::world::add_world) adds to a text.
 pub fn tell_world<W: Write>(
+    form: Form,
     world: &World,
     unfinished: usize,
     told: Outgoing,
     out: &mut W,
 ) -> Result<(), TellingFault>
-    ensures written { OnOk result (Appends (append_known (W.contents out.old) (string_bytes told.text)) (W.contents out.new) (world_report world.now unfinished)) }
+    ensures written { OnOk result (Appends (append_known (W.contents out.old) (string_bytes told.text)) (W.contents out.new) (world_report form world.now unfinished)) }
     ensures unwritten { IfErr result (Unwritten ((told.went ≡ false) × (out.new ≡ out.old))) }
 {
     let mut told = told;
-    tell_finished(world, &mut told, out)?;
-    match add_rest(&mut told.text, world, unfinished) {
+    tell_finished(form, world, &mut told, out)?;
+    match add_rest(&mut told.text, form, world, unfinished) {
         Ok(()) => write_out(told, out),
         Err(_) => Err(out_of_memory(told.went)),
     }
@@ -37,35 +39,37 @@ pub fn tell_world<W: Write>(
 
 /// The lines of the finished sessions, in finishing order.
 fn tell_finished<W: Write>(
+    form: Form,
     world: &World,
     told: &mut Outgoing,
     out: &mut W,
 ) -> Result<(), TellingFault>
-    ensures lines { OnOk result (Appends (append_known (W.contents out.old) (string_bytes told.old.text)) (append_known (W.contents out.new) (string_bytes told.new.text)) (flat_map (outcome_line world.now.plan) (outcomes world.now))) }
+    ensures lines { OnOk result (Appends (append_known (W.contents out.old) (string_bytes told.old.text)) (append_known (W.contents out.new) (string_bytes told.new.text)) (flat_map (outcome_as form world.now.plan) (outcomes world.now))) }
     ensures before { told.new.went ≡ false → told.old.went ≡ false }
     ensures still { told.new.went ≡ false → out.new ≡ out.old }
     ensures fault { IfErr result (Unwritten (told.new.went ≡ false)) }
 {
     for i in 0..world.finished().len() {
-        tell_nth(world, i, told, out)?;
+        tell_nth(form, world, i, told, out)?;
     }
     Ok(())
 }
 
 /// The line of the session that finished as the `i`-th, from 0.
 fn tell_nth<W: Write>(
+    form: Form,
     world: &World,
     i: usize,
     told: &mut Outgoing,
     out: &mut W,
 ) -> Result<(), TellingFault>
     ensures line { OnOk result ((o : Outcome) → slice_get (outcomes world.now) i ≡ Some o
-        → Appends (append_known (W.contents out.old) (string_bytes told.old.text)) (append_known (W.contents out.new) (string_bytes told.new.text)) (outcome_line world.now.plan o)) }
+        → Appends (append_known (W.contents out.old) (string_bytes told.old.text)) (append_known (W.contents out.new) (string_bytes told.new.text)) (outcome_as form world.now.plan o)) }
     ensures before { told.new.went ≡ false → told.old.went ≡ false }
     ensures still { told.new.went ≡ false → out.new ≡ out.old }
     ensures fault { IfErr result (Unwritten (told.new.went ≡ false)) }
 {
-    match add_nth(&mut told.text, world, i) {
+    match add_nth(&mut told.text, form, world, i) {
         Ok(()) => write_on(told, out),
         Err(_) => Err(out_of_memory(told.went)),
     }

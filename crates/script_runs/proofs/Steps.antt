@@ -32,12 +32,13 @@ use Rattle.script_runs.specs.declared.said.Said.TheVariants.{Rules}
 use Rattle.script_runs.specs.Script.{Act, Happens, Advances, Settles, act_with, acts_with}
 use Rattle.script_runs.specs.Runs.{Told, does, run_of, all_told, advanced, by_rule, further, stepped, by_step, settled}
 use Rattle.script_runs.specs.Runs as runs
+use Rattle.report_forms.specs.declared.forms.Form.{Form}
 use Rattle.script_runs.specs.Transcript.{told_line}
 use Rattle.script_runs.specs.refinement.Steps.{Says, Answered, AnswersStep}
 
 -- the lines of what is told of a run
-abbrev pub lines_of : World → List Act → List ℕ
-lines_of w xs = flat_map told_line (all_told w xs)
+abbrev pub lines_of : Form → World → List Act → List ℕ
+lines_of f w xs = flat_map (told_line f) (all_told w xs)
 
 run_append : (w : World) (xs ys : List Act) → run_of w (xs ++ ys) ≡ run_of (run_of w xs) ys
 run_append w [] ys = refl
@@ -60,12 +61,12 @@ module _ (programs : List ProgramValue) (w : World) (es : List ScriptEvent) (i :
   pub run_longer : (v v' : World) → v ≡ run_of w before → v' ≡ run_of v here → v' ≡ run_of w (acts_with programs (take (i + 1) es))
   run_longer v v' so_far next = next ∙ ap (λ u. run_of u here) so_far ∙ sym (run_append w before here) ∙ sym (ap (run_of w) one_more)
 
-  pub lines_longer : (v : World) (old new : List ℕ) → v ≡ run_of w before → old ≡ lines_of w before → new ≡ old ++ lines_of v here → new ≡ lines_of w (acts_with programs (take (i + 1) es))
-  lines_longer v old new so_far told next =
-      next ∙ ap₂ (λ l u. l ++ lines_of u here) told so_far
-      ∙ sym (flat_map-append told_line (all_told w before) (all_told (run_of w before) here))
-      ∙ sym (ap (flat_map told_line) (told_append w before here))
-      ∙ sym (ap (lines_of w) one_more)
+  pub lines_longer : (f : Form) (v : World) (old new : List ℕ) → v ≡ run_of w before → old ≡ lines_of f w before → new ≡ old ++ lines_of f v here → new ≡ lines_of f w (acts_with programs (take (i + 1) es))
+  lines_longer f v old new so_far told next =
+      next ∙ ap₂ (λ l u. l ++ lines_of f u here) told so_far
+      ∙ sym (flat_map-append (told_line f) (all_told w before) (all_told (run_of w before) here))
+      ∙ sym (ap (flat_map (told_line f)) (told_append w before here))
+      ∙ sym (ap (lines_of f w) one_more)
 
 -- no event changes the plan
 told_plan : (w : World) (a : ℕ) (e : office.Event) (x : Result Reply offices.Refusal × Site) → (told w a e x).1.plan ≡ w.plan

@@ -11,6 +11,7 @@ use Rattle.script_runs.specs.declared.said.Said.{Said}
 use Rattle.script_runs.specs.declared.said.Said.TheVariants.{Replied}
 use Rattle.script_runs.specs.Script.{Act, Happens}
 use Rattle.script_runs.specs.Runs.{as_said, does, run_of}
+use Rattle.report_forms.specs.declared.forms.Form.{Form}
 use Rattle.script_runs.specs.Transcript.{said_line, told_line}
 use Rattle.script_runs.specs.refinement.Steps.{Says}
 use Rattle.script_runs.proofs.Steps.{lines_of}
@@ -23,21 +24,21 @@ on_both (Err e) P Q S k h j = tt
 abbrev pub Lasts : Result Said WorldRefusal → Type 0
 Lasts said = said ≢ Err (refusal.Office refused.Memory)
 
-act_line : (w w' : World) (x : Act) (said : Result Said WorldRefusal) (k : ℕ) (old new : List ℕ) → Says (does w x) said w' → k ≡ length w'.frames → new ≡ old ++ said_line k said → Lasts said
-    → new ≡ old ++ lines_of w (x ∷ [])
-act_line w w' x said k old new h frames line lasts = ⊎_elim
+act_line : (f : Form) (w w' : World) (x : Act) (said : Result Said WorldRefusal) (k : ℕ) (old new : List ℕ) → Says (does w x) said w' → k ≡ length w'.frames → new ≡ old ++ said_line f k said → Lasts said
+    → new ≡ old ++ lines_of f w (x ∷ [])
+act_line f w w' x said k old new h frames line lasts = ⊎_elim
     (λ m. absurd (lasts m))
     (λ t.
-    let told : said_line k said ≡ told_line (does w x) = ap₂ said_line (frames ∙ ap (λ (v : World). length v.frames) t.1) t.0 in
-    line ∙ ap (λ l. old ++ l) (told ∙ sym (append-nil (told_line (does w x)))))
+    let told : said_line f k said ≡ told_line f (does w x) = ap₂ (said_line f) (frames ∙ ap (λ (v : World). length v.frames) t.1) t.0 in
+    line ∙ ap (λ l. old ++ l) (told ∙ sym (append-nil (told_line f (does w x)))))
     h
 
 act_world : (w w' : World) (x : Act) (said : Result Said WorldRefusal) → Says (does w x) said w' → Lasts said → w' ≡ run_of w (x ∷ [])
 act_world w w' x said h lasts = ⊎_elim (λ m. absurd (lasts m)) (λ t. t.1) h
 
-pub said_line_added : {A E : Type 0} (res : Result A E) (w w' : World) (x : Act) (said : Result Said WorldRefusal) (k : ℕ) (old new : List ℕ) → Says (does w x) said w' → k ≡ length w'.frames
-    → OnOk res (new ≡ old ++ said_line k said) → OnOk res (Lasts said) → OnOk res (new ≡ old ++ lines_of w (x ∷ []))
-said_line_added res w w' x said k old new h frames line lasts = on_both res _ _ _ (act_line w w' x said k old new h frames) line lasts
+pub said_line_added : {A E : Type 0} (f : Form) (res : Result A E) (w w' : World) (x : Act) (said : Result Said WorldRefusal) (k : ℕ) (old new : List ℕ) → Says (does w x) said w' → k ≡ length w'.frames
+    → OnOk res (new ≡ old ++ said_line f k said) → OnOk res (Lasts said) → OnOk res (new ≡ old ++ lines_of f w (x ∷ []))
+said_line_added f res w w' x said k old new h frames line lasts = on_both res _ _ _ (act_line f w w' x said k old new h frames) line lasts
 
 pub said_world : {A E : Type 0} (res : Result A E) (w w' : World) (x : Act) (said : Result Said WorldRefusal) → Says (does w x) said w' → OnOk res (Lasts said) → OnOk res (w' ≡ run_of w (x ∷ []))
 said_world (Ok y) w w' x said h lasts = act_world w w' x said h lasts
@@ -56,10 +57,10 @@ lasting : {A E : Type 0} (res : Result A E) (r : Result Reply WorldRefusal) → 
 lasting (Ok y) r h = said_so r h
 lasting (Err e) r h = tt
 
-pub answer_line_added : {A E : Type 0} (res : Result A E) (w w' : World) (e : WorldEvent) (r : Result Reply WorldRefusal) (k : ℕ) (old new : List ℕ) → Applies w e r w' → k ≡ length w'.frames
-    → OnOk res (new ≡ old ++ said_line k (as_said r)) → OnOk res (r ≢ Err (refusal.Office refused.Memory)) → OnOk res (new ≡ old ++ lines_of w (Happens e ∷ []))
-answer_line_added res w w' e r k old new h frames line lasts =
-    said_line_added res w w' (Happens e) (as_said r) k old new (says_answer w w' e r h) frames line (lasting res r lasts)
+pub answer_line_added : {A E : Type 0} (f : Form) (res : Result A E) (w w' : World) (e : WorldEvent) (r : Result Reply WorldRefusal) (k : ℕ) (old new : List ℕ) → Applies w e r w' → k ≡ length w'.frames
+    → OnOk res (new ≡ old ++ said_line f k (as_said r)) → OnOk res (r ≢ Err (refusal.Office refused.Memory)) → OnOk res (new ≡ old ++ lines_of f w (Happens e ∷ []))
+answer_line_added f res w w' e r k old new h frames line lasts =
+    said_line_added f res w w' (Happens e) (as_said r) k old new (says_answer w w' e r h) frames line (lasting res r lasts)
 
 pub answer_world : {A E : Type 0} (res : Result A E) (w w' : World) (e : WorldEvent) (r : Result Reply WorldRefusal) → Applies w e r w' → OnOk res (r ≢ Err (refusal.Office refused.Memory))
     → OnOk res (w' ≡ run_of w (Happens e ∷ []))

@@ -1,5 +1,5 @@
 -- What a simulation prints.
-use Rattle.std.specs.Prelude.{◌≡◌, ◌<◌, ℕ, List, [], ◌∷◌, ◌++◌, length, codes, Some, Result, Ok, Err}
+use Rattle.std.specs.Prelude.{◌≡◌, ◌<◌, ℕ, List, ◌++◌, length, codes, Some, Result, Ok, Err}
 use Rattle.std.specs.List.{flat_map}
 use Rattle.std.specs.Fmt.{decimal}
 use Rattle.office_map.specs.PlanValue.{PlanValue}
@@ -14,6 +14,8 @@ use Rattle.run_words.specs.Words.{line_of_words}
 use Rattle.run_words.specs.Replies.{reply_words}
 use Rattle.script_runs.specs.declared.said.Said.{Said}
 use Rattle.script_runs.specs.declared.said.Said.TheVariants.{Replied, Rules, Settled, Open}
+use Rattle.report_forms.specs.declared.forms.Form.{Form}
+use Rattle.report_forms.specs.Forms.{opening_as, closing_as}
 use Rattle.run_reports.specs.WorldReport.{bottle_value, world_report}
 use Rattle.script_runs.specs.Script.{Act}
 use Rattle.script_runs.specs.Runs.{Told, run_of, all_told}
@@ -28,23 +30,23 @@ said_text k (Ok (Settled n)) = codes "settled " ++ (decimal n ++ codes " finishe
 said_text k (Ok (Open n)) = codes "settled " ++ (decimal n ++ codes " open")
 said_text k (Err r) = codes "refused " ++ refusal_text r
 
-abbrev pub said_line : ℕ → Result Said WorldRefusal → List ℕ
-said_line k said = said_text k said ++ 10 ∷ []
+abbrev pub said_line : Form → ℕ → Result Said WorldRefusal → List ℕ
+said_line f k said = opening_as f ++ (said_text k said ++ closing_as f)
 
--- the line of what is told of an act
-abbrev pub told_line : Told → List ℕ
-told_line t = said_line (length t.1.frames) t.0
+-- the line of what is told of an act, in that form
+abbrev pub told_line : Form → Told → List ℕ
+told_line f t = said_line f (length t.1.frames) t.0
 
 -- ---- the whole
 
 -- the report of a world, with how many submitted sessions haven't finished
-abbrev pub told_report : World → List ℕ
-told_report w = world_report w (unfinished_in w)
+abbrev pub told_report : Form → World → List ℕ
+told_report f w = world_report f w (unfinished_in w)
 
 -- A line for each act of the run from the plan's opening, and then the report of the world that it leads to, with how
--- many submitted sessions haven't finished.
-abbrev pub transcript : PlanValue → List Act → List ℕ
-transcript p acts = flat_map told_line (all_told (opening p) acts) ++ told_report (run_of (opening p) acts)
+-- many submitted sessions haven't finished. All in that form.
+abbrev pub transcript : Form → PlanValue → List Act → List ℕ
+transcript f p acts = flat_map (told_line f) (all_told (opening p) acts) ++ told_report f (run_of (opening p) acts)
 
 -- what the report tells of the finished sessions and of the values is what these sessions do when they run alone, one
 -- after another, in the order in which it tells them; and their tickets are those that were answered when they were

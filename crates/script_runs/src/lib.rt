@@ -2,7 +2,7 @@
 //!
 //! - [`script::events`] reads a script: the events that its lines say, or its first faulty line (clauses `meaning`,
 //!   `fault`). An event names its session by its number in the file.
-//! - [`transcript::simulate`] runs one from the plan's opening, writes what is printed as it comes, a line for each event, and
+//! - [`transcript::simulate`] runs one from the plan's opening, writes what is printed in a form as it comes, a line for each event, and
 //!   then the report of the world that it leads to (clause `written`), and answers that world (clauses `world`, `plan`). What the
 //!   report tells of sessions and values is what these sessions do alone, one after another in the order of the report (clause
 //!   `serial`). Where memory runs out before a part of it went out, nothing was written (clause `unwritten`).

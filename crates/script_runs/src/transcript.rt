@@ -24,6 +24,8 @@ use crate::script::nth;
 use frame_world::{NextStep, WorldRefusal};
 use office_map::{OfficeId, Plan};
 use output_files::Outgoing;
+use report_forms::Form;
+use report_forms::words::{add_closing, add_opening};
 use run_reports::TellingFault;
 use run_reports::telling::{out_of_memory, tell_world, write_on};
 use run_words::replies::add_reply;
@@ -34,25 +36,26 @@ use std::alloc::{AllocError, Global};
 use std::io::Write;
 use world_schedule::{Resting, World};
 
-/// Runs events, one after the other, from the plan's opening, and writes what is printed of it as it comes: a line for each event,
+/// Runs events, one after the other, from the plan's opening, and writes what is printed of it in that form, as it comes: a line for each event,
 /// and then the report of the world, which has the finished sessions in finishing order, how many submitted ones haven't finished,
 /// and the records' values. The sessions that they submit are those of these programs. One that isn't there is no event. The answer
 /// is the world to which they led.
 pub fn simulate<W: Write>(
     alloc: Global,
+    form: Form,
     plan: &Plan,
     programs: &[Program],
     events: &[ScriptEvent],
     out: &mut W,
 ) -> Result<World, TellingFault>
-    ensures written { OnOk result (Appends (W.contents out.old) (W.contents out.new) (transcript plan.now (acts_with programs.now events.now))) }
+    ensures written { OnOk result (Appends (W.contents out.old) (W.contents out.new) (transcript form plan.now (acts_with programs.now events.now))) }
     ensures world { IfOk result (λ world. world ≡ run_of (opening plan.now) (acts_with programs.now events.now)) }
     ensures plan { IfOk result (λ world. world.plan ≡ plan.now) }
     ensures serial { IfOk result (λ _. IsSerialRun (run_of (opening plan.now) (acts_with programs.now events.now))) }
     ensures unwritten { IfErr result (Unwritten (out.new ≡ out.old)) }
 {
     let mut world = opened(alloc, plan)?;
-    tell_run(alloc, &mut world, programs, events, out)?;
+    tell_run(alloc, form, &mut world, programs, events, out)?;
     is_serial(&world);
     Ok(world)
 }
@@ -74,45 +77,52 @@ fn is_serial(world: &World)
 /// Events happen in the world, one after the other, and their lines go out, and then its report.
 fn tell_run<W: Write>(
     alloc: Global,
+    form: Form,
     world: &mut World,
     programs: &[Program],
     events: &[ScriptEvent],
     out: &mut W,
 ) -> Result<(), TellingFault>
-    ensures written { OnOk result (Appends (W.contents out.old) (W.contents out.new) (flat_map told_line (all_told world.old (acts_with programs.now events.now)) ++ told_report (run_of world.old (acts_with programs.now events.now)))) }
+    ensures written { OnOk result (Appends (W.contents out.old) (W.contents out.new) (flat_map (told_line form) (all_told world.old (acts_with programs.now events.now)) ++ told_report form (run_of world.old (acts_with programs.now events.now)))) }
     ensures world { OnOk result (world.new ≡ run_of world.old (acts_with programs.now events.now)) }
     ensures unwritten { IfErr result (Unwritten (out.new ≡ out.old)) }
 {
     let mut told = Outgoing::new(alloc);
     for event in events {
-        tell_event(&mut told, world, programs, *event, out)?;
+        tell_event(&mut told, form, world, programs, *event, out)?;
     }
-    tell_report(world, told, out)
+    tell_report(form, world, told, out)
 }
 
 /// The report of the world, with how many submitted sessions haven't finished.
-fn tell_report<W: Write>(world: &World, told: Outgoing, out: &mut W) -> Result<(), TellingFault>
-    ensures written { OnOk result (Appends (append_known (W.contents out.old) (string_bytes told.text)) (W.contents out.new) (told_report world.now)) }
+fn tell_report<W: Write>(
+    form: Form,
+    world: &World,
+    told: Outgoing,
+    out: &mut W,
+) -> Result<(), TellingFault>
+    ensures written { OnOk result (Appends (append_known (W.contents out.old) (string_bytes told.text)) (W.contents out.new) (told_report form world.now)) }
     ensures unwritten { IfErr result (Unwritten ((told.went ≡ false) × (out.new ≡ out.old))) }
 {
-    tell_world(world, world.unfinished(), told, out)
+    tell_world(form, world, world.unfinished(), told, out)
 }
 
 /// An event happens in the world, and its line is on its way.
 fn tell_event<W: Write>(
     told: &mut Outgoing,
+    form: Form,
     world: &mut World,
     programs: &[Program],
     event: ScriptEvent,
     out: &mut W,
 ) -> Result<(), TellingFault>
-    ensures line { OnOk result (Appends (append_known (W.contents out.old) (string_bytes told.old.text)) (append_known (W.contents out.new) (string_bytes told.new.text)) (flat_map told_line (all_told world.old (acts_with programs.now (event ∷ []))))) }
+    ensures line { OnOk result (Appends (append_known (W.contents out.old) (string_bytes told.old.text)) (append_known (W.contents out.new) (string_bytes told.new.text)) (flat_map (told_line form) (all_told world.old (acts_with programs.now (event ∷ []))))) }
     ensures world { OnOk result (world.new ≡ run_of world.old (acts_with programs.now (event ∷ []))) }
     ensures before { told.new.went ≡ false → told.old.went ≡ false }
     ensures still { told.new.went ≡ false → out.new ≡ out.old }
     ensures fault { IfErr result (Unwritten (told.new.went ≡ false)) }
 {
-    match add_event(&mut told.text, world, programs, event) {
+    match add_event(&mut told.text, form, world, programs, event) {
         Ok(()) => write_on(told, out),
         Err(_) => Err(out_of_memory(told.went)),
     }
@@ -122,11 +132,12 @@ fn tell_event<W: Write>(
 /// written where it is given.
 fn add_event(
     text: &mut String,
+    form: Form,
     world: &mut World,
     programs: &[Program],
     event: ScriptEvent,
 ) -> Result<(), AllocError>
-    ensures line { OnOk result (string_bytes text.new ≡ string_bytes text.old ++ flat_map told_line (all_told world.old (acts_with programs.now (event ∷ [])))) }
+    ensures line { OnOk result (string_bytes text.new ≡ string_bytes text.old ++ flat_map (told_line form) (all_told world.old (acts_with programs.now (event ∷ [])))) }
     ensures world { OnOk result (world.new ≡ run_of world.old (acts_with programs.now (event ∷ []))) }
 {
     match event {
@@ -135,31 +146,31 @@ fn add_event(
                 return Ok(());
             };
             let answer = world.submit(program.office(), program);
-            add_answer(text, world.frames(), &answer)
+            add_answer(text, form, world.frames(), &answer)
         }
         ScriptEvent::Withdraw(office, ticket) => {
             let answer = world.withdraw(office, ticket);
-            add_answer(text, world.frames(), &answer)
+            add_answer(text, form, world.frames(), &answer)
         }
         ScriptEvent::Do(office, rule) => {
             let answer = world.act(office, &rule);
-            add_answer(text, world.frames(), &answer)
+            add_answer(text, form, world.frames(), &answer)
         }
         ScriptEvent::Send(office, neighbour, i) => {
             let answer = world.send(office, neighbour, i);
-            add_answer(text, world.frames(), &answer)
+            add_answer(text, form, world.frames(), &answer)
         }
         ScriptEvent::Deliver(k) => {
             let answer = world.deliver(k);
-            add_answer(text, world.frames(), &answer)
+            add_answer(text, form, world.frames(), &answer)
         }
         ScriptEvent::Advance(office, n) => {
             let said = advance(world, office, n);
-            add_said(text, world.frames(), &said)
+            add_said(text, form, world.frames(), &said)
         }
         ScriptEvent::Settle(n) => {
             let said = settle(world, n);
-            add_said(text, world.frames(), &said)
+            add_said(text, form, world.frames(), &said)
         }
     }
 }
@@ -248,28 +259,32 @@ fn send_and_deliver(
 /// that ran out has none.
 fn add_answer(
     text: &mut String,
+    form: Form,
     frames: usize,
     answer: &Result<Reply, WorldRefusal>,
 ) -> Result<(), AllocError>
-    ensures line { OnOk result (string_bytes text.new ≡ string_bytes text.old ++ said_line frames (as_said answer.now)) }
+    ensures line { OnOk result (string_bytes text.new ≡ string_bytes text.old ++ said_line form frames (as_said answer.now)) }
     ensures memory { OnOk result (answer.now ≢ Err (refusals.Office refused.Memory)) }
 {
+    add_opening(text, form)?;
     match answer {
         Ok(reply) => add_reply(text, Some(frames), reply)?,
         Err(refusal) => add_refusal(text, *refusal)?,
     }
-    text.push_str("\n")
+    add_closing(text, form)
 }
 
 /// The line of what is said, likewise.
 fn add_said(
     text: &mut String,
+    form: Form,
     frames: usize,
     said: &Result<Said, WorldRefusal>,
 ) -> Result<(), AllocError>
-    ensures line { OnOk result (string_bytes text.new ≡ string_bytes text.old ++ said_line frames said.now) }
+    ensures line { OnOk result (string_bytes text.new ≡ string_bytes text.old ++ said_line form frames said.now) }
     ensures memory { OnOk result (said.now ≢ Err (refusals.Office refused.Memory)) }
 {
+    add_opening(text, form)?;
     match said {
         Ok(Said::Replied(reply)) => add_reply(text, Some(frames), reply)?,
         Ok(Said::Rules(n)) => add_rules(text, *n)?,
@@ -277,7 +292,7 @@ fn add_said(
         Ok(Said::Open(n)) => add_settled(text, *n, " open")?,
         Err(why) => add_refusal(text, *why)?,
     }
-    text.push_str("\n")
+    add_closing(text, form)
 }
 
 /// Why an event is refused. That memory ran out isn't told so, but ends the run.

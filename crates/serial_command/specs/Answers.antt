@@ -7,16 +7,18 @@ use Rattle.command_words.specs.CommandLine.{Asks, faults_of}
 use Rattle.command_words.specs.declared.command_line.Request.{Request}
 use Rattle.command_words.specs.declared.command_line.Request.TheVariants.{Serial}
 use Rattle.input_texts.specs.Words.{StandFor}
+use Rattle.report_forms.specs.declared.forms.Form.{Form}
+use Rattle.report_forms.specs.Forms.{form_of}
 use Rattle.serial_command.specs.Serial.{Reports}
 
--- the report was written of the plan and the sessions that these words stand for
-abbrev pub IsReported : (List ℕ → Option (List ℕ)) → Option (List ℕ) → List ℕ → List ℕ → Option (List ℕ) → Option (List ℕ) → Type 0
-IsReported files standard plan sessions old new =
-    (plan_text sessions_text : List ℕ) → StandFor files standard (plan ∷ sessions ∷ []) (plan_text ∷ sessions_text ∷ []) → Reports plan_text sessions_text old new
+-- the report was written, in that form, of the plan and the sessions that these words stand for
+abbrev pub IsReported : (List ℕ → Option (List ℕ)) → Option (List ℕ) → Form → List ℕ → List ℕ → Option (List ℕ) → Option (List ℕ) → Type 0
+IsReported files standard form plan sessions old new =
+    (plan_text sessions_text : List ℕ) → StandFor files standard (plan ∷ sessions ∷ []) (plan_text ∷ sessions_text ∷ []) → Reports form plan_text sessions_text old new
 
 -- a request for a serial run was carried out, which names no file for the next day's plan; no other is
 abbrev pub IsDone : (List ℕ → Option (List ℕ)) → Option (List ℕ) → Request → Option (List ℕ) → Option (List ℕ) → Type 0
-IsDone files standard (Serial plan sessions next) old new = (next ≡ None) × IsReported files standard plan.now sessions.now old new
+IsDone files standard (Serial plan sessions next json) old new = (next ≡ None) × IsReported files standard (form_of json) plan.now sessions.now old new
 IsDone files standard _ old new = ⊥
 
 -- what is printed for words that ask for help or for the version

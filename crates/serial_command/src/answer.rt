@@ -4,6 +4,7 @@ ghost use Rattle.std.specs.Prelude.{◌≡◌, ◌≤◌, ◌⊎◌, [], ◌∷�
 ghost use Rattle.std.specs.Io.KnownBytes.{Appends};
 ghost use Rattle.std.specs.String.{string_bytes};
 ghost use Rattle.clap.specs.Values.{kind_of};
+ghost use Rattle.report_forms.specs.Forms.{form_of};
 ghost use Rattle.serial_command.specs.Answers.{IsAnswered, IsDone, IsReported, IsShown};
 ghost use Rattle.serial_command.specs.Texts.{HaveAcceptedTexts};
 
@@ -15,6 +16,7 @@ use command_inputs::{Input, TextFault};
 use command_words::command_line::{Request, command_line, help};
 use input_texts::{Devices, Sources, failure_kind};
 use output_files::write_whole;
+use report_forms::Form;
 use std::alloc::{AllocError, Global};
 use std::fmt::Display;
 use std::io;
@@ -89,7 +91,8 @@ fn perform<S: Sources, W: Write>(
             plan,
             sessions,
             next,
-        } => without_files(alloc, plan, sessions, *next, sources, out),
+            json,
+        } => without_files(alloc, Form::of(*json), plan, sessions, *next, sources, out),
         _ => Exit::saying(MISUSED, another_command(alloc)),
     }
 }
@@ -97,17 +100,18 @@ fn perform<S: Sources, W: Write>(
 /// A serial run, where no file is named for the plan of the next day.
 fn without_files<S: Sources, W: Write>(
     alloc: Global,
+    form: Form,
     plan: &str,
     sessions: &str,
     next: Option<&str>,
     sources: &S,
     out: &mut W,
 ) -> Exit
-    ensures done { result.status ≡ 0 → (next.entry ≡ None) × IsReported (S.file_text sources.now) (S.standard_text sources.now) plan.now sessions.now (W.contents out.old) (W.contents out.new) }
+    ensures done { result.status ≡ 0 → (next.entry ≡ None) × IsReported (S.file_text sources.now) (S.standard_text sources.now) form plan.now sessions.now (W.contents out.old) (W.contents out.new) }
     ensures unwritten { result.status ≡ 2 → out.new ≡ out.old }
 {
     match next {
-        None => report(alloc, plan, sessions, sources, out),
+        None => report(alloc, form, plan, sessions, sources, out),
         Some(_) => Exit::saying(MISUSED, another_command(alloc)),
     }
 }
@@ -115,16 +119,17 @@ fn without_files<S: Sources, W: Write>(
 /// The serial run of the plan and the sessions that these words stand for. Nothing is written before both are judged.
 fn report<S: Sources, W: Write>(
     alloc: Global,
+    form: Form,
     plan: &str,
     sessions: &str,
     sources: &S,
     out: &mut W,
 ) -> Exit
-    ensures done { result.status ≡ 0 → IsReported (S.file_text sources.now) (S.standard_text sources.now) plan.now sessions.now (W.contents out.old) (W.contents out.new) }
+    ensures done { result.status ≡ 0 → IsReported (S.file_text sources.now) (S.standard_text sources.now) form plan.now sessions.now (W.contents out.old) (W.contents out.new) }
     ensures status { result.status ≤ 1 }
     ensures unwritten { (out.new ≡ out.old) ⊎ HaveAcceptedTexts (S.file_text sources.now) (S.standard_text sources.now) (plan.now ∷ sessions.now ∷ []) (Input.Plan ∷ Input.Sessions ∷ []) }
 {
-    match serial::run(alloc, sources, plan, sessions) {
+    match serial::run(alloc, form, sources, plan, sessions) {
         Ok(ended) => write_out(alloc, &ended.text, out),
         Err(fault) => {
             let line = fault_line(alloc, &fault, named(plan, sessions, &fault));

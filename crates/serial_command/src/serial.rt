@@ -15,9 +15,10 @@ use bottle_values::Value;
 use command_inputs::{Input, TextFault};
 use input_texts::Sources;
 use office_map::Plan;
+use report_forms::Form;
+use report_forms::report::report;
 use serial_replay::replay;
 use serial_replay::replay::Replay;
-use session_reports::report::report;
 use std::alloc::{AllocError, Global};
 
 /// The end of a serial run.
@@ -30,40 +31,42 @@ pub struct Ended {
     pub values: Vec<Value>,
 }
 
-/// Runs the sessions alone, one after another, and answers the text that tells what each did and the values that they leave, and those.
+/// Runs the sessions alone, one after another, and answers the text that tells in that form what each did and the values that they leave,
+/// and those.
 /// The plan is read and judged before the sessions are read.
 pub fn run<S: Sources>(
     alloc: Global,
+    form: Form,
     sources: &S,
     plan: &str,
     sessions: &str,
 ) -> Result<Ended, TextFault>
     ensures report { IfOk result (λ it. (plan_text sessions_text : List ℕ)
         → StandFor (S.file_text sources.now) (S.standard_text sources.now) (plan.now ∷ sessions.now ∷ []) (plan_text ∷ sessions_text ∷ [])
-        → IsEndOf plan_text sessions_text it.plan it.values.items (string_bytes it.text)) }
+        → IsEndOf form plan_text sessions_text it.plan it.values.items (string_bytes it.text)) }
     ensures size { IfOk result (λ it. length it.values.items ≡ length it.plan.records) }
     ensures accepted { IfOk result (λ _. HaveAcceptedTexts (S.file_text sources.now) (S.standard_text sources.now) (plan.now ∷ sessions.now ∷ []) (Input.Plan ∷ Input.Sessions ∷ [])) }
     ensures judged { IfErr result (IsJudged (S.file_text sources.now) (S.standard_text sources.now) (plan.now ∷ sessions.now ∷ []) (Input.Plan ∷ Input.Sessions ∷ [])) }
     ensures input { IfErr result (IsOneOf (Input.Plan ∷ Input.Sessions ∷ [])) }
 {
     let found = read_inputs(alloc, sources, plan, sessions)?;
-    let ended = end_of(alloc, found)?;
+    let ended = end_of(alloc, form, found)?;
     Ok(ended)
 }
 
 /// The end of the serial run of sessions that fit a plan.
-fn end_of(alloc: Global, found: Inputs) -> Result<Ended, AllocError>
+fn end_of(alloc: Global, form: Form, found: Inputs) -> Result<Ended, AllocError>
     requires fit { All (λ p. IsTrue (fits found.plan p)) found.programs.items }
     requires few { length found.programs.items ≤ most_sessions }
     ensures plan { IfOk result (λ it. it.plan ≡ found.plan) }
-    ensures report { IfOk result (λ it. string_bytes it.text ≡ serial_report found.plan found.programs.items) }
+    ensures report { IfOk result (λ it. string_bytes it.text ≡ serial_report form found.plan found.programs.items) }
     ensures values { IfOk result (λ it. ListsValues it.values.items (length found.plan.records) (map_of (start_map found.plan) found.programs.items)) }
 {
     let Inputs { plan, programs } = found;
     let replay = replay::serial(alloc, &plan, &programs)?;
     // The report may be longer than the programs, whose memory it can take.
     drop(programs);
-    let text = report(alloc, &plan, &replay.outcomes, &replay.values)?;
+    let text = report(alloc, form, &plan, &replay.outcomes, &replay.values)?;
     let Replay { outcomes, values } = replay;
     drop(outcomes);
     Ok(Ended { plan, text, values })

@@ -3,9 +3,10 @@ use Rattle.std.specs.Prelude.{◌≡◌, ℕ, List}
 use Rattle.office_map.specs.PlanValue.{PlanValue}
 use Rattle.journal_weave.specs.declared.fault.WeaveFault.{WeaveFault}
 use Rattle.journal_weave.specs.declared.fault.WeaveFault.TheVariants as fault
-use Rattle.journal_audit.specs.Findings.{unwoven_line}
+use Rattle.report_forms.specs.declared.forms.Form.{Form}
+use Rattle.journal_audit.specs.Findings.{unwoven_as}
 
 -- the line names the entry that is left; there is none for want of memory
-abbrev pub Names : PlanValue → WeaveFault → List ℕ → Type 0
-Names p (fault.Unwoven office entry) text = text ≡ unwoven_line p office entry
-Names p fault.Memory text = ⊥
+abbrev pub Names : Form → PlanValue → WeaveFault → List ℕ → Type 0
+Names f p (fault.Unwoven office entry) text = text ≡ unwoven_as f p office entry
+Names f p fault.Memory text = ⊥

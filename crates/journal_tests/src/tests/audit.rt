@@ -4,6 +4,7 @@ ghost use Rattle.std.specs.Prelude.{All, IsSome};
 
 use journal_audit::{GatherFault, Journals, audit};
 use office_map::{OfficeId, Plan};
+use report_forms::Form;
 use std::alloc::{AllocError, Global};
 use std::process::Abort;
 use std::test::Fail;
@@ -431,6 +432,6 @@ fn lacking(alloc: Global, office: OfficeId) -> Result<String, AllocError> {
 fn told_by_all(alloc: Global, journals: Journals) -> Result<String, AllocError>
     requires { All (λ slot. IsSome slot) journals.slots }
 {
-    let found = audit(alloc, journals)?;
+    let found = audit(alloc, Form::Plain, journals)?;
     Ok(found.text)
 }

@@ -18,10 +18,10 @@ pub returns-clause-woven : goal.returns-clause-woven
 returns-clause-woven c =
     IfOk-weaker c.told.result _ _
     (λ a h. some_more a.world _ _
-    (λ w told. tells_of (TellsWoven w) c.args.journals c.in_ok-replays.replays.items c.in_ok-plan.plan (string_bytes a.text) (c.in_ok-plan.ensures ∙ c.plan.ensures) c.in_ok-replays.ensures.journals told) h) c.told.ensures.woven
+    (λ w told. tells_of (TellsWoven c.args.form w) c.args.journals c.in_ok-replays.replays.items c.in_ok-plan.plan (string_bytes a.text) (c.in_ok-plan.ensures ∙ c.plan.ensures) c.in_ok-replays.ensures.journals told) h) c.told.ensures.woven
 
 pub returns-clause-unwoven : goal.returns-clause-unwoven
 returns-clause-unwoven c =
     IfOk-weaker c.told.result _ _
     (λ a h. none_more a.world _ _
-    (λ told. tells_of TellsUnwoven c.args.journals c.in_ok-replays.replays.items c.in_ok-plan.plan (string_bytes a.text) (c.in_ok-plan.ensures ∙ c.plan.ensures) c.in_ok-replays.ensures.journals told) h) c.told.ensures.unwoven
+    (λ told. tells_of (TellsUnwoven c.args.form) c.args.journals c.in_ok-replays.replays.items c.in_ok-plan.plan (string_bytes a.text) (c.in_ok-plan.ensures ∙ c.plan.ensures) c.in_ok-replays.ensures.journals told) h) c.told.ensures.unwoven

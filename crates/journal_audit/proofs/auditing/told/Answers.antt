@@ -22,10 +22,10 @@ returns-in_ok-text-in-Ok-clause-woven c js follow =
     let rs = c.args.replays.items in
     let are = subst (λ (l : List ReplayValue). AreReplays p js l) (sym c.deref.ensures.value) follow in
     let h = subst (λ (l : List ReplayValue). IsRecord p js l c.in-Ok.left.sent.items c.in-Ok.left.finished.items) c.deref.ensures.value (c.in-Ok.ensures.woven js are) in
-    tells_woven p js rs c.in-Ok.left.sent.items c.in-Ok.left.finished.items _ _ h c.in_ok-world-in-Ok.ensures c.in_ok-text-in-Ok.ensures
+    tells_woven c.args.form p js rs c.in-Ok.left.sent.items c.in-Ok.left.finished.items _ _ h c.in_ok-world-in-Ok.ensures c.in_ok-text-in-Ok.ensures
 
 pub returns-in_ok-text-in-Err-clause-unwoven : goal.returns-in_ok-text-in-Err-clause-unwoven
 returns-in_ok-text-in-Err-clause-unwoven c js follow =
     let p = c.args.plan.now in
     let are = subst (λ (l : List ReplayValue). AreReplays p js l) (sym c.deref.ensures.value) follow in
-    tells_unwoven p js c.in-Err.fault _ c.in_ok-text-in-Err.ensures (c.in-Err.ensures.unwoven js are) (⊎_elim (λ memory. inl memory) (λ never. inr (never js are)) c.in-Err.ensures.never)
+    tells_unwoven c.args.form p js c.in-Err.fault _ c.in_ok-text-in-Err.ensures (c.in-Err.ensures.unwoven js are) (⊎_elim (λ memory. inl memory) (λ never. inr (never js are)) c.in-Err.ensures.never)

@@ -9,7 +9,7 @@ use Rattle.std.proofs.lemmas.Result.{err_from_is_err_and}
 use Rattle.frame_world.specs.Worlds.{Finished}
 use Rattle.frame_world.specs.Headline.{outcomes}
 use Rattle.world_schedule.specs.Readers.{listed_as}
-use Rattle.session_reports.specs.Report.{outcome_line}
+use Rattle.report_forms.specs.Forms.{outcome_as}
 use Rattle.run_reports.proofs.Rows.{line_more, no_outcome}
 use Rattle.run_reports.proofs.telling.tell_finished.Goals as goal
 
@@ -23,7 +23,7 @@ loop-i-init g c = record {
 pub loop-i-preserved : goal.loop-i-preserved
 loop-i-preserved g c =
     let w = c.args.world.now in
-    let f = outcome_line w.plan in
+    let f = outcome_as c.args.form w.plan in
     let xs = outcomes w in
     let i = c.loop-i.i in
     let size = ap length c.finished-i-end.ensures.listed ∙ length-map w.finished listed_as ∙ sym (length-map w.finished (λ (f : Finished). f.outcome)) in
@@ -59,7 +59,7 @@ returns-clause-lines g c =
     let test = c.loop-i-test.false in
     let start = append_known (g.W.Write.contents c.args.out.now) (string_bytes c.args.told.now.text) in
     let now = append_known (g.W.Write.contents c.loop-i.out) (string_bytes c.loop-i.told.text) in
-    subst (λ l. Appends start now (flat_map (outcome_line w.plan) l)) (take_all c.loop-i.i (outcomes w) (omega (arith, size, test))) c.loop-i.invariant.lines
+    subst (λ l. Appends start now (flat_map (outcome_as c.args.form w.plan) l)) (take_all c.loop-i.i (outcomes w) (omega (arith, size, test))) c.loop-i.invariant.lines
 
 pub returns-clause-before : goal.returns-clause-before
 returns-clause-before g c = c.loop-i.invariant.before

@@ -5,7 +5,7 @@ use Rattle.std.specs.Io.KnownBytes.{Appends, Keeps, append_known}
 use Rattle.std.proofs.lemmas.Result.{on_ok_weaker}
 use Rattle.session_meaning.specs.declared.ending.Outcome.{Outcome}
 use Rattle.frame_world.specs.Headline.{outcomes}
-use Rattle.session_reports.specs.Report.{outcome_line}
+use Rattle.report_forms.specs.Forms.{outcome_as}
 use Rattle.run_reports.proofs.Outgoings.{told_more, unwritten_of}
 use Rattle.run_reports.proofs.telling.tell_nth.Goals as goal
 
@@ -17,8 +17,8 @@ returns-in-Ok-clause-line g c =
     let old = string_bytes c.args.told.now.text in
     let mid = string_bytes c.add_nth.new.text in
     let new = string_bytes c.write_on.new.told.text in
-    let more : Keeps (append_known held mid) (append_known now new) → (o : Outcome) → slice_get (outcomes w) c.args.i ≡ Some o → Appends (append_known held old) (append_known now new) (outcome_line w.plan o) =
-    λ kept o here. told_more held now old mid new (outcome_line w.plan o) (c.in-Ok.ensures o here) kept in
+    let more : Keeps (append_known held mid) (append_known now new) → (o : Outcome) → slice_get (outcomes w) c.args.i ≡ Some o → Appends (append_known held old) (append_known now new) (outcome_as c.args.form w.plan o) =
+    λ kept o here. told_more held now old mid new (outcome_as c.args.form w.plan o) (c.in-Ok.ensures o here) kept in
     on_ok_weaker c.write_on.result more c.write_on.ensures.bytes
 
 pub returns-in-Ok-clause-before : goal.returns-in-Ok-clause-before

@@ -4,8 +4,8 @@ use Rattle.std.specs.String.{string_bytes}
 use Rattle.std.specs.Io.KnownBytes.{Appends, Keeps, append_known}
 use Rattle.std.proofs.lemmas.Result.{err_from_is_err_and, on_ok_weaker}
 use Rattle.frame_world.specs.Headline.{outcomes}
-use Rattle.session_reports.specs.Report.{outcome_line, value_lines}
-use Rattle.run_reports.specs.WorldReport.{unfinished_line, bottle_value, world_report}
+use Rattle.report_forms.specs.Forms.{outcome_as, unfinished_as, values_as}
+use Rattle.run_reports.specs.WorldReport.{bottle_value, world_report}
 use Rattle.run_reports.proofs.Outgoings.{told_last, unwritten_more, unwritten_of}
 use Rattle.run_reports.proofs.telling.tell_world.Goals as goal
 
@@ -22,11 +22,11 @@ returns-in-Ok-clause-written g c =
     let start = append_known (g.W.Write.contents c.args.out.now) (string_bytes c.args.told.text) in
     let held = g.W.Write.contents c.tell_finished.new.out in
     let now = g.W.Write.contents c.write_out.new.out in
-    let finished = flat_map (outcome_line w.plan) (outcomes w) in
-    let rest = unfinished_line c.args.unfinished ++ value_lines w.plan (bottle_value w) in
+    let finished = flat_map (outcome_as c.args.form w.plan) (outcomes w) in
+    let rest = unfinished_as c.args.form c.args.unfinished ++ values_as c.args.form w.plan (bottle_value w) in
     let mid = string_bytes c.tell_finished.new.told.text in
     let new = string_bytes c.add_rest.new.text in
-    let more : Keeps (append_known held new) now → Appends start now (world_report w c.args.unfinished) = told_last start held now finished rest mid new c.in_ok-tell_finished.ensures.lines c.in-Ok.ensures in
+    let more : Keeps (append_known held new) now → Appends start now (world_report c.args.form w c.args.unfinished) = told_last start held now finished rest mid new c.in_ok-tell_finished.ensures.lines c.in-Ok.ensures in
     on_ok_weaker c.write_out.result more c.write_out.ensures.bytes
 
 pub returns-in-Ok-clause-unwritten : goal.returns-in-Ok-clause-unwritten

@@ -23,7 +23,7 @@ returns-clause-written g c =
     let acts = acts_with c.args.programs.now c.args.events.now in
     let old = g.W.Write.contents c.args.out.now in
     let new = g.W.Write.contents c.tell_run.new.out in
-    subst (λ w. Appends old new (lines_of w acts ++ told_report (run_of w acts))) c.in_ok-world.ensures c.in_ok-tell_run.ensures.written
+    subst (λ w. Appends old new (lines_of c.args.form w acts ++ told_report c.args.form (run_of w acts))) c.in_ok-world.ensures c.in_ok-tell_run.ensures.written
 
 pub returns-clause-world : goal.returns-clause-world
 returns-clause-world g c =

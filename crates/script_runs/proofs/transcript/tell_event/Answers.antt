@@ -15,7 +15,7 @@ returns-in-Ok-clause-line g c =
     let old = string_bytes c.args.told.now.text in
     let mid = string_bytes c.add_event.new.text in
     let new = string_bytes c.write_on.new.told.text in
-    let line = lines_of c.args.world.now (acts_with c.args.programs.now (c.args.event ∷ [])) in
+    let line = lines_of c.args.form c.args.world.now (acts_with c.args.programs.now (c.args.event ∷ [])) in
     let more : Keeps (append_known held mid) (append_known now new) → Appends (append_known held old) (append_known now new) line = told_more held now old mid new line c.in-Ok.ensures.line in
     on_ok_weaker c.write_on.result more c.write_on.ensures.bytes
 

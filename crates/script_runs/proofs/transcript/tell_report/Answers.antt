@@ -11,7 +11,7 @@ returns-clause-written g c =
     let w = c.args.world.now in
     let held = append_known (g.W.Write.contents c.args.out.now) (string_bytes c.args.told.text) in
     let now = g.W.Write.contents c.tell_world.new.out in
-    let more : Appends held now (world_report w c.unfinished.result) → Appends held now (told_report w) = subst (λ n. Appends held now (world_report w n)) c.unfinished.ensures in
+    let more : Appends held now (world_report c.args.form w c.unfinished.result) → Appends held now (told_report c.args.form w) = subst (λ n. Appends held now (world_report c.args.form w n)) c.unfinished.ensures in
     on_ok_weaker c.tell_world.result more c.tell_world.ensures.written
 
 pub returns-clause-unwritten : goal.returns-clause-unwritten

@@ -35,11 +35,11 @@ loop-event-preserved g c =
     let start = g.W.Write.contents c.args.out.now in
     let held = append_known (g.W.Write.contents c.loop-event.out) (string_bytes c.loop-event.told.text) in
     let now = append_known (g.W.Write.contents c.tell_event.new.out) (string_bytes c.tell_event.new.told.text) in
-    let so_far = lines_of w (acts_with ps (take i es)) in
-    let here = lines_of v (acts_with ps (get_or es i e ∷ [])) in
+    let so_far = lines_of c.args.form w (acts_with ps (take i es)) in
+    let here = lines_of c.args.form v (acts_with ps (get_or es i e ∷ [])) in
     let next : v' ≡ run_of v (acts_with ps (get_or es i e ∷ [])) = c.in_ok-tell_event.ensures.world ∙ ap (λ x. run_of v (acts_with ps (x ∷ []))) c.event-item.is in
-    let line : Appends held now here = subst (λ x. Appends held now (lines_of v (acts_with ps (x ∷ [])))) c.event-item.is c.in_ok-tell_event.ensures.line in
-    let both : so_far ++ here ≡ lines_of w (acts_with ps (take (i + 1) es)) = lines_longer ps w es i e c.loop-event-test.true v so_far (so_far ++ here) k.world refl refl in
+    let line : Appends held now here = subst (λ x. Appends held now (lines_of c.args.form v (acts_with ps (x ∷ [])))) c.event-item.is c.in_ok-tell_event.ensures.line in
+    let both : so_far ++ here ≡ lines_of c.args.form w (acts_with ps (take (i + 1) es)) = lines_longer ps w es i e c.loop-event-test.true c.args.form v so_far (so_far ++ here) k.world refl refl in
     record {
       lines = subst (Appends start now) both (Appends-trans start held now so_far here k.lines line);
       world = run_longer ps w es i e c.loop-event-test.true v v' k.world next;
@@ -65,10 +65,10 @@ returns-clause-written g c =
     let start = g.W.Write.contents c.args.out.now in
     let held = append_known (g.W.Write.contents c.loop-event.out) (string_bytes c.loop-event.told.text) in
     let now = g.W.Write.contents c.tell_report.new.out in
-    let lines : Appends start held (lines_of w acts) = subst (λ xs. Appends start held (lines_of w (acts_with ps xs))) all k.lines in
+    let lines : Appends start held (lines_of c.args.form w acts) = subst (λ xs. Appends start held (lines_of c.args.form w (acts_with ps xs))) all k.lines in
     let world : v ≡ run_of w acts = k.world ∙ ap (λ xs. run_of w (acts_with ps xs)) all in
-    let more : Appends held now (told_report v) → Appends start now (lines_of w acts ++ told_report (run_of w acts)) =
-    λ report. Appends-trans start held now (lines_of w acts) (told_report (run_of w acts)) lines (subst (λ u. Appends held now (told_report u)) world report) in
+    let more : Appends held now (told_report c.args.form v) → Appends start now (lines_of c.args.form w acts ++ told_report c.args.form (run_of w acts)) =
+    λ report. Appends-trans start held now (lines_of c.args.form w acts) (told_report c.args.form (run_of w acts)) lines (subst (λ u. Appends held now (told_report c.args.form u)) world report) in
     on_ok_weaker c.tell_report.result more c.tell_report.ensures.written
 
 pub returns-clause-world : goal.returns-clause-world

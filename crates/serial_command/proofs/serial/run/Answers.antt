@@ -26,7 +26,7 @@ pub returns-clause-report : goal.returns-clause-report
 returns-clause-report g c = λ plan_text sessions_text known.
     let it = c.in_ok-found.ensures.meaning plan_text sessions_text known in
     let done = c.in_ok-ended.ended in
-    subst (λ p. IsEndOf plan_text sessions_text p done.values.items (string_bytes done.text)) (sym c.in_ok-ended.ensures.plan)
+    subst (λ p. IsEndOf c.args.form plan_text sessions_text p done.values.items (string_bytes done.text)) (sym c.in_ok-ended.ensures.plan)
     (record {
       programs = c.in_ok-found.found.programs.items;
       is_plan = it.0;

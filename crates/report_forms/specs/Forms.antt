@@ -1,0 +1,48 @@
+-- What is printed of sessions and of records, in either form.
+use Rattle.std.specs.Prelude.{ℕ, Bool, true, false, List, [], ◌∷◌, ◌++◌, length, codes}
+use Rattle.std.specs.List.{flat_map, range_with_len}
+use Rattle.bottle_values.specs.Values.{Value}
+use Rattle.office_map.specs.PlanValue.{PlanValue}
+use Rattle.session_meaning.specs.declared.ending.Outcome.{Outcome}
+use Rattle.session_reports.specs.Report.{outcome_line, unfinished_line, value_line}
+use Rattle.json_reports.specs.Json.{json_outcome, json_unfinished, json_value_line, key}
+use Rattle.report_forms.specs.declared.forms.Form.{Form}
+use Rattle.report_forms.specs.declared.forms.Form.TheVariants.{Plain, Json}
+
+-- objects, where they are asked for
+abbrev pub form_of : Bool → Form
+form_of true = Json
+form_of false = Plain
+
+-- the line of a session
+abbrev pub outcome_as : Form → PlanValue → Outcome → List ℕ
+outcome_as Plain p o = outcome_line p o
+outcome_as Json p o = json_outcome p o
+
+-- the line of a record with its value
+abbrev pub value_as : Form → PlanValue → ℕ → Value → List ℕ
+value_as Plain p r v = value_line p r v
+value_as Json p r v = json_value_line p r v
+
+-- the records in order, with the values that the map has
+abbrev pub values_as : Form → PlanValue → (ℕ → Value) → List ℕ
+values_as f p m = flat_map (λ r. value_as f p r (m r)) (range_with_len 0 (length p.records))
+
+-- the line that says how many haven't finished
+abbrev pub unfinished_as : Form → ℕ → List ℕ
+unfinished_as Plain n = unfinished_line n
+unfinished_as Json n = json_unfinished n
+
+-- the sessions in this order, and then the records
+abbrev pub report_as : Form → PlanValue → List Outcome → (ℕ → Value) → List ℕ
+report_as f p outcomes m = flat_map (outcome_as f p) outcomes ++ values_as f p m
+
+-- what comes before words that are told: WORDS as a line, or {"reply":"WORDS"}
+abbrev pub opening_as : Form → List ℕ
+opening_as Plain = []
+opening_as Json = 123 ∷ (key (codes "reply") ++ 34 ∷ [])
+
+-- and what comes after them
+abbrev pub closing_as : Form → List ℕ
+closing_as Plain = 10 ∷ []
+closing_as Json = 34 ∷ 125 ∷ 10 ∷ []
