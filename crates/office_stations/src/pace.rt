@@ -1,6 +1,6 @@
 //! How long an office waits before a turn, and the time of its turns.
 
-ghost use Rattle.std.specs.Prelude.{◌≡◌, ◌≤◌, [], ◌∷◌};
+ghost use Rattle.std.specs.Prelude.{◌≡◌, ◌≤◌, [], ◌∷◌, true};
 ghost use Rattle.socket_pump.specs.Wires.{risen};
 ghost use Rattle.office_stations.specs.Paces.{first_pace, is_full, noted};
 ghost use Rattle.office_stations.specs.Rounds.{counted, counts, is_void};
@@ -139,6 +139,13 @@ impl Pace {
         if turn.sent > 0 && self.due <= self.time {
             self.due = self.time.saturating_add(SHORTEST_RESEND);
         }
+    }
+
+    /// There is more to do at once.
+    pub(crate) fn hurry(&mut self)
+        ensures { self.new ≡ record self.old { busy = true } }
+    {
+        self.busy = true;
     }
 
     /// Whether a second has gone since this was last so.

@@ -1,6 +1,6 @@
 //! What turns an office: its pump, its socket, the time of its turns, and when its neighbours were last heard.
 
-ghost use Rattle.std.specs.Prelude.{◌≡◌, ◌<◌, ℕ, None, false, length, IfOk, IfErr, OnOk, OnErr};
+ghost use Rattle.std.specs.Prelude.{◌≡◌, ◌<◌, ℕ, None, false, true, length, IfOk, IfErr, OnOk, OnErr};
 ghost use Rattle.own_lock.specs.Passes.{IsOf};
 ghost use Rattle.locked_office.specs.Calls.{Stays};
 ghost use Rattle.socket_pump.specs.Last.{last_of};
@@ -94,6 +94,15 @@ impl<S: Socket> Station<S> {
             Ok(()) => Ok(self.pace.tick(rt)),
             Err(WireFailed) => Err(RunFault::WireFailed),
         }
+    }
+
+    /// There is something to do at once: before the next turn it isn't waited.
+    pub fn hurry(&mut self)
+        ensures pump { self.new.pump ≡ self.old.pump }
+        ensures socket { self.new.socket ≡ self.old.socket }
+        ensures pace { self.new.pace ≡ record self.old.pace { busy = true } }
+    {
+        self.pace.hurry();
     }
 
     /// The turn of this time did this.

@@ -19,7 +19,7 @@ use Rattle.stored_runs.specs.Runs.{finished_by, told_text, Goes, GoesOn, HasStan
 use Rattle.stored_runs.specs.refinement.Running.{EndsTelling, TellsAfter}
 use Rattle.stored_runs.proofs.Outcomes.{both}
 use Rattle.stored_runs.proofs.Growing.{looks_begin, within_on, lets_out_on}
-use Rattle.stored_runs.proofs.Beginning.{standing_on}
+use Rattle.stored_runs.proofs.Begun.{standing_on}
 use Rattle.stored_runs.proofs.Told.{told_at_end}
 use Rattle.stored_runs.proofs.Ending.{goes_still, none_still, unless_end}
 

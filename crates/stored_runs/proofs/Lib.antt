@@ -1,9 +1,9 @@
 mod Reading
 mod Submitting
-mod Outcomes
-mod Growing
+pub mod Outcomes
+pub mod Growing
 mod Told
-mod Running
-mod Beginning
+pub mod Running
+pub mod Begun
 mod Ending
 mod Goes

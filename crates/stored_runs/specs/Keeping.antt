@@ -64,6 +64,12 @@ pub record IsFirstOther (xs ys : List ProgramValue) (t : ℕ) : Type 0 where
   pub before : take (t - 1) xs ≡ take (t - 1) ys
   pub other : slice_get xs (t - 1) ≢ slice_get ys (t - 1)
 
+-- Why no office is found: the whole lines of what was found are the text of none of its journals.
+abbrev pub IsNotFound : PlanValue → ℕ → List ℕ → KeptFault → Type 0
+IsNotFound p me found Memory = Unit {0}
+IsNotFound p me found (Faulty line why) = (whole rest : List ℕ) × IsCutAfterLines found whole rest × IsNoText p me whole
+IsNotFound p me found (OtherSessions ticket) = ⊥
+
 -- Why an office isn't gone on with from what was found: its whole lines are the text of none of its journals; or they are, and the sessions that it submitted are others than those of the list.
 abbrev pub IsNotKept : PlanValue → ℕ → List ProgramValue → List ℕ → KeptFault → Type 0
 IsNotKept p me programs found Memory = Unit {0}

@@ -1,8 +1,10 @@
 //! How far a run is.
 
-/// How many of the office's entries stand in its store, and how many of its sessions are told as finished.
+/// How many of the office's entries stand in its store, how many of its sessions are told as finished, and how many that it submitted
+/// haven't finished.
 #[derive(Clone, Copy)]
-pub(crate) struct Books {
-    pub(crate) stood: usize,
-    pub(crate) told: usize,
+pub struct Books {
+    pub stood: usize,
+    pub told: usize,
+    pub left: usize,
 }

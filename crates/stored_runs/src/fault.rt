@@ -62,7 +62,8 @@ pub enum StoredFault {
 }
 
 impl StoredFault {
-    pub(crate) fn of_turn(fault: TurnFault) -> StoredFault
+    /// As what a turn's fault is told.
+    pub fn of_turn(fault: TurnFault) -> StoredFault
         ensures { result ≡ fault_of fault }
     {
         match fault {

@@ -1,11 +1,11 @@
 //! An office as its store has it.
 
-ghost use Rattle.std.specs.Prelude.{◌≡◌, ◌<◌, ◌≤◌, All, length, IfOk, IfErr, IsTrue};
+ghost use Rattle.std.specs.Prelude.{◌≡◌, ◌<◌, ◌≤◌, [], All, length, IfOk, IfErr, IsTrue};
 ghost use Rattle.session_programs.specs.Program.{fits};
 ghost use Rattle.site_core.specs.Journals.{IsLegal};
 ghost use Rattle.office_restarts.specs.Reopening.{site_with};
 ghost use Rattle.journal_texts.specs.Written.{journal_text};
-ghost use Rattle.stored_runs.specs.Keeping.{IsFound, LeavesFrom, IsNotKept};
+ghost use Rattle.stored_runs.specs.Keeping.{IsFound, LeavesFrom, IsNotFound, IsNotKept};
 ghost use Rattle.stored_runs.specs.refinement.Reading.{IsOffice, IsNoOffice, IsOtherText};
 
 use crate::fault::{KeptFault, LineFault};
@@ -52,6 +52,19 @@ impl Kept {
     {
         self.bytes
     }
+
+    /// The office.
+    pub fn into_office(self) -> Office
+        ensures site { result ≡ self.site }
+        ensures none { self.bytes ≡ 0 → result.entries ≡ [] }
+    {
+        let Kept {
+            office,
+            bytes: _,
+            next: _,
+        } = self;
+        office
+    }
 }
 
 /// The office of that number as what was found in its store has it, with the sessions of the list of which its own are left. Of a
@@ -87,6 +100,28 @@ pub fn resumed(
         office,
         bytes: whole.len(),
         next,
+    })
+}
+
+/// The office of that number as what was found in its store has it, for a run that has no list of sessions.
+///
+/// # Errors
+/// `Faulty` where the lines aren't as this office writes its journal under this plan, with the first that isn't; `Memory`.
+pub fn found_in(alloc: Global, plan: &Plan, me: OfficeId, found: &[u8]) -> Result<Kept, KeptFault>
+    requires office { me < length plan.now.offices }
+    ensures found { IfOk result (IsFound plan.now me found.now) }
+    ensures fault { IfErr result (IsNotFound plan.now me found.now) }
+{
+    let (whole, _) = whole_lines(found);
+    let office = match office_in(alloc, plan, me, whole) {
+        Ok(office) => office,
+        Err(fault) => return Err(fault),
+    };
+    let bytes = whole.len();
+    Ok(Kept {
+        office,
+        bytes,
+        next: 0,
     })
 }
 

@@ -5,6 +5,8 @@
 //! - [`run_stored`] turns it at a station (clause `goes_on`, definitions in `specs/Runs.antt`): whatever ends the run, the store has
 //!   the text of the journal's first entries, each datagram that left is of one of them, and what is told as finished finished by
 //!   them. It is told as soon as it stands.
+//! - What `run_stored` is made of is public, for other runs with a store: [`found_in`], [`beginning`], [`turning`], [`telling`] and its
+//!   [`books`].
 //!
 //! What the offices of a network that are lost and go on so have done is one world (`office_restarts`).
 //!
@@ -13,17 +15,18 @@
 //! faulty store is told, and what is said for people (tests show both).
 #![tactic(auto)]
 
-mod books;
+pub mod beginning;
+pub mod books;
 mod ended;
 mod fault;
 mod keeping;
 mod lines;
 mod run;
 mod submits;
-mod telling;
-mod turning;
+pub mod telling;
+pub mod turning;
 
 pub use crate::ended::Ended;
 pub use crate::fault::{KeptFault, LineFault, StoredFault};
-pub use crate::keeping::{Kept, resumed};
+pub use crate::keeping::{Kept, found_in, resumed};
 pub use crate::run::run_stored;

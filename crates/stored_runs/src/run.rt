@@ -1,22 +1,21 @@
 //! A run of an office that keeps its journal in a store.
 
-ghost use Rattle.std.specs.Prelude.{◌≡◌, ◌<◌, ◌≤◌, ℕ, [], None, Some, false, length, drop, IfOk, IfErr, IfSome, OnOk, OnErr};
+ghost use Rattle.std.specs.Prelude.{◌≡◌, ◌<◌, ◌≤◌, ℕ, [], None, Some, false, length, drop, IfOk, IfSome, OnOk, OnErr};
 ghost use Rattle.std.specs.Result.{result_err};
 ghost use Rattle.std.specs.String.{string_bytes};
 ghost use mathlib.Core.List.{IsPrefix};
-ghost use Rattle.own_lock.specs.Passes.{IsOf, fresh_pass};
-ghost use Rattle.locked_office.specs.Calls.{Stays, Looks, office_with, tag_of};
-ghost use Rattle.journal_stores.specs.Stores.{Stands};
-ghost use Rattle.journal_texts.specs.Written.{header_line};
+ghost use Rattle.own_lock.specs.Passes.{IsOf};
+ghost use Rattle.locked_office.specs.Calls.{Stays, Looks, office_with};
 ghost use Rattle.socket_pump.specs.Last.{last_of};
 ghost use Rattle.durable_turns.specs.Letting.{StoreHas, LetsOut};
 ghost use Rattle.office_stations.specs.Rounds.{of_office};
 ghost use Rattle.office_stations.specs.Sessions.{finished_of};
 ghost use Rattle.office_stations.specs.refinement.Standings.{standing};
 ghost use Rattle.stored_runs.specs.Keeping.{HasText};
-ghost use Rattle.stored_runs.specs.Runs.{finished_by, Goes, GoesOn, HasStanding, IsFaultOf, IsOfStanding, IsQuiet, Unless};
+ghost use Rattle.stored_runs.specs.Runs.{finished_by, Goes, GoesOn, HasStanding, IsFaultOf, IsQuiet, Unless};
 ghost use Rattle.stored_runs.specs.refinement.Running.{EndsTelling, TellsAfter, Told};
 
+use crate::beginning::{begin, open_alone};
 use crate::books::Books;
 use crate::ended::Ended;
 use crate::fault::StoredFault;
@@ -24,13 +23,10 @@ use crate::keeping::Kept;
 use crate::telling::{before_text, stand_and_tell, tell_left, write_whole};
 use crate::turning::turn_once;
 use durable_turns::Mail;
-use journal_stores::{Store, StoreFailed};
-use journal_texts::add_header;
+use journal_stores::Store;
 use locked_office::Desk;
 use office_map::{OfficeId, Plan};
-use office_stations::{
-    Gate, OpeningFault, RunFault, Shared, Socket, Station, Watch, count_of, submit_some,
-};
+use office_stations::{Gate, OpeningFault, Shared, Socket, Station, Watch, count_of, submit_some};
 use own_lock::Pass;
 use run_remarks::{Remarks, Way};
 use session_programs::Program;
@@ -80,6 +76,7 @@ pub fn run_stored<R: Wait + Clock, S: Socket, G: Gate, W: Watch, T: Store, O: Wr
     let mut books = Books {
         stood: office.journal().len(),
         told: office.outcomes().len(),
+        left: office.unfinished(),
     };
     let before = before_text(alloc, plan, office.outcomes())?;
     let (desk, mut pass) = open_alone(alloc, office)?;
@@ -108,18 +105,6 @@ pub fn run_stored<R: Wait + Clock, S: Socket, G: Gate, W: Watch, T: Store, O: Wr
         fault,
         remarks,
     })
-}
-
-/// The office at a desk of its own, and the only pass.
-fn open_alone(alloc: Global, office: Office) -> Result<(Desk, Pass<Office>), AllocError>
-    ensures key { IfOk result (λ r. r.0.key ≡ (office.plan, office.me)) }
-    ensures pass { IfOk result (λ r. r.1 ≡ fresh_pass r.0 tag_of office.entries 0) }
-{
-    let (desk, mut passes) = Desk::open(alloc, office, 1)?;
-    match passes.pop() {
-        Some(pass) => Ok((desk, pass)),
-        None => Err(AllocError),
-    }
 }
 
 /// It is told what had finished before, and then the office goes on.
@@ -227,33 +212,6 @@ fn go_on<R: Wait + Clock, S: Socket, G: Gate, W: Watch, T: Store, O: Write>(
         rt, alloc, station, desk, pass, store, books, plan, me, programs, from, turns, gate, watch,
         shared, out,
     )
-}
-
-/// The first line of the journal stands from now on.
-///
-/// The run appends it, and not what makes the store. So a store that was lost before its first line stood is one that
-/// has done nothing, and no case of its own.
-fn begin<T: Store>(
-    alloc: Global,
-    plan: &Plan,
-    me: OfficeId,
-    store: &mut T,
-) -> Result<(), StoredFault>
-    requires usable { T.failed store.old ≡ false }
-    ensures stands { OnOk result (Stands (T.stood store.old) (header_line plan.now me) (T.stood store.new)) }
-    ensures keeps { OnErr result (T.stood store.new ≡ T.stood store.old) }
-    ensures usable { OnOk result (T.failed store.new ≡ false) }
-    ensures fault { IfErr result (λ fault. IsFaultOf (T.failed store.new) (Some fault)) }
-    ensures cause { IfErr result IsOfStanding }
-{
-    let mut text = String::new(alloc);
-    let Ok(()) = add_header(&mut text, plan, me) else {
-        return Err(StoredFault::Run(RunFault::Memory));
-    };
-    match store.append(text.as_bytes()) {
-        Ok(()) => Ok(()),
-        Err(StoreFailed) => Err(StoredFault::StoreFailed),
-    }
 }
 
 /// The turns, each after those sessions are submitted that the office takes; and what finished by one is told once it stands.

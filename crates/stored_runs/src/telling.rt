@@ -5,6 +5,8 @@ ghost use Rattle.std.specs.List.{flat_map};
 ghost use Rattle.std.specs.String.{string_bytes};
 ghost use Rattle.std.specs.Io.KnownBytes.{Appends};
 ghost use Rattle.own_lock.specs.Passes.{IsOf};
+ghost use Rattle.session_agenda.specs.Agenda.{unfinished};
+ghost use Rattle.site_core.specs.Journals.{office_of};
 ghost use Rattle.locked_office.specs.Calls.{Stays, Looks, office_with};
 ghost use Rattle.session_reports.specs.Report.{outcome_line, unfinished_line};
 ghost use Rattle.durable_turns.specs.Letting.{StoreHas, key_of};
@@ -29,7 +31,7 @@ use std::io::Write;
 use std::sync::Wait;
 
 /// The text goes out, and is flushed.
-pub(crate) fn write_whole<W: Write>(out: &mut W, text: &str) -> Result<(), StoredFault>
+pub fn write_whole<W: Write>(out: &mut W, text: &str) -> Result<(), StoredFault>
     ensures written { OnOk result (Appends (W.contents out.old) (W.contents out.new) text.now) }
     ensures fault { IfErr result IsUntold }
 {
@@ -43,7 +45,7 @@ pub(crate) fn write_whole<W: Write>(out: &mut W, text: &str) -> Result<(), Store
 }
 
 /// The text goes out, if there is any.
-fn write_some<W: Write>(out: &mut W, text: &str) -> Result<(), StoredFault>
+pub fn write_some<W: Write>(out: &mut W, text: &str) -> Result<(), StoredFault>
     ensures written { OnOk result (Appends (W.contents out.old) (W.contents out.new) text.now) }
     ensures fault { IfErr result IsUntold }
 {
@@ -71,12 +73,12 @@ pub(crate) fn before_text(
     Ok(text)
 }
 
-/// What the office has stands from now on, all of it; and its sessions that finished since so many were told are told. The text is
-/// written anew for both, in the room that it has; what it had is forgotten.
+/// What the office has stands from now on, all of it; its sessions that finished since so many were told are told, and how many
+/// haven't finished is noted. The text is written anew for both, in the room that it has; what it had is forgotten.
 ///
 /// The entries are appended and the finished sessions read off in one holding of the office. So nothing hangs on who
 /// else might have written between.
-pub(crate) fn stand_and_tell<R: Wait, S: Store, W: Write>(
+pub fn stand_and_tell<R: Wait, S: Store, W: Write>(
     rt: &R,
     alloc: Global,
     desk: &Desk,
@@ -98,6 +100,7 @@ pub(crate) fn stand_and_tell<R: Wait, S: Store, W: Write>(
     ensures steps { (books.new.stood ≡ books.old.stood) ⊎ (books.new.stood ≡ length pass.new.seen) }
     ensures all { OnOk result (books.new.stood ≡ length pass.new.seen) }
     ensures told { OnOk result (books.new.told ≡ length (finished_of (office_with desk.now.key pass.new.seen))) }
+    ensures left { OnOk result (books.new.left ≡ unfinished (office_of (office_with desk.now.key pass.new.seen)).agenda) }
     ensures lines { OnOk result (Appends (W.contents out.old) (W.contents out.new) (flat_map (outcome_line plan.now) (drop books.old.told (finished_of (office_with desk.now.key pass.new.seen))))) }
     ensures same { OnErr result (books.new.told ≡ books.old.told) }
     ensures untold { IfErr result (λ fault. Unless (Some fault) (W.contents out.new ≡ W.contents out.old)) }
@@ -138,6 +141,7 @@ fn stand_and_add<S: Store>(
     ensures count { IfOk result (λ n. n ≡ length (finished_of office.now)) }
     ensures lines { OnOk result (string_bytes text.new ≡ flat_map (outcome_line plan.now) (drop books.old.told (finished_of office.now))) }
     ensures told { books.new.told ≡ books.old.told }
+    ensures left { OnOk result (books.new.left ≡ unfinished (office_of office.now).agenda) }
     ensures usable { OnOk result (S.failed store.new ≡ false) }
     ensures fault { IfErr result (λ fault. IsFaultOf (S.failed store.new) (Some fault)) }
     ensures cause { IfErr result IsOfStanding }
@@ -146,6 +150,7 @@ fn stand_and_add<S: Store>(
         Ok(()) => {}
         Err(fault) => return Err(StoredFault::of_turn(fault)),
     }
+    books.left = office.unfinished();
     text.clear();
     match add_since(text, plan, office.outcomes(), books.told) {
         Ok(count) => Ok(count),
@@ -170,11 +175,7 @@ fn add_since(
 }
 
 /// How many sessions are left is told at the end.
-pub(crate) fn tell_left<W: Write>(
-    alloc: Global,
-    left: usize,
-    out: &mut W,
-) -> Result<(), StoredFault>
+pub fn tell_left<W: Write>(alloc: Global, left: usize, out: &mut W) -> Result<(), StoredFault>
     ensures told { OnOk result (Appends (W.contents out.old) (W.contents out.new) (unfinished_line left)) }
     ensures untold { IfErr result (λ fault. Unless (Some fault) (W.contents out.new ≡ W.contents out.old)) }
     ensures fault { IfErr result IsOfTelling }

@@ -22,7 +22,7 @@ use std::rt::Clock;
 use std::sync::Wait;
 
 /// One turn, after a wait for what comes, and when it was. Its entries stand before its frames leave.
-pub(crate) fn turn_once<R: Wait + Clock, S: Socket, T: Store>(
+pub fn turn_once<R: Wait + Clock, S: Socket, T: Store>(
     rt: &R,
     alloc: Global,
     station: &mut Station<S>,

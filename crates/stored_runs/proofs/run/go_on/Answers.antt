@@ -7,7 +7,7 @@ use Rattle.office_stations.specs.refinement.RoundLaws.{none_made}
 use Rattle.stored_runs.specs.Runs.{BeforeAll}
 use Rattle.stored_runs.proofs.Outcomes.{itself}
 use Rattle.stored_runs.proofs.Running.{cut_short}
-use Rattle.stored_runs.proofs.Beginning.{begun, went_on}
+use Rattle.stored_runs.proofs.Begun.{begun, went_on}
 use Rattle.stored_runs.proofs.run.go_on.Goals as goal
 use Rattle.stored_runs.proofs.run.go_on.Goals.{then-has_bytes-eq0+in-Ok, else-has_bytes-eq0}
 

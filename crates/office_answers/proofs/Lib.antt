@@ -1,0 +1,4 @@
+mod Numbered
+mod Looked
+mod Promises
+mod Answered

@@ -1,0 +1,6 @@
+mod Answering
+mod Hearing
+mod Rounding
+mod Untold
+mod Whole
+mod AllRounds

@@ -1,0 +1,4 @@
+pub mod Rounds
+pub mod Serving
+pub mod ServingLaws
+pub mod refinement

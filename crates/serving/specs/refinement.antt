@@ -1,0 +1,4 @@
+pub mod Hearing
+pub mod Asking
+pub mod Telling
+pub mod Rounding
