@@ -8,7 +8,7 @@ use Rattle.command_outputs.specs.declared.fault.Why.{Why}
 use Rattle.command_outputs.specs.declared.fault.Why.TheVariants.{Script, Journal, Twice}
 use Rattle.command_outputs.specs.declared.fault.Obstacle.{Obstacle}
 use Rattle.command_outputs.specs.declared.fault.Fault.{Fault}
-use Rattle.command_outputs.specs.declared.fault.Fault.TheVariants.{Memory, Text, Refused, NoSuchOffice, NoAddress, NoJournal, NoPlace, NoRun, CutShort, WriteFailed, FileFailed, NoStore, StoreFailed, OtherSessions}
+use Rattle.command_outputs.specs.declared.fault.Fault.TheVariants.{Memory, Text, Refused, NoSuchOffice, NoAddress, NoJournal, NoPlace, NoRun, CutShort, WriteFailed, FileFailed, NoStore, StoreFailed, OtherSessions, NoSecrets}
 
 -- the input whose text is refused so
 abbrev pub refused_input : Why → Input
@@ -32,6 +32,7 @@ input_of (FileFailed name cause) = None
 input_of (NoStore why) = None
 input_of StoreFailed = None
 input_of (OtherSessions ticket) = Some inputs.Sessions
+input_of (NoSecrets why) = None
 
 -- an input wasn't read, or its text is refused and P holds of the fault; or memory ran out
 abbrev pub IsFaultAt : Input → (Fault → Type 0) → Fault → Type 0
@@ -76,10 +77,11 @@ IsPlaceFault P Memory = Unit {0}
 IsPlaceFault P (NoPlace name why) = P (string_bytes name) why
 IsPlaceFault P _ = ⊥
 
--- what a run leaves has no place
-abbrev pub IsNoPlace : Fault → Type 0
-IsNoPlace (NoPlace name why) = Unit {0}
-IsNoPlace _ = ⊥
+-- what a run leaves has no place, or the office has no secrets
+abbrev pub IsUnready : Fault → Type 0
+IsUnready (NoPlace name why) = Unit {0}
+IsUnready (NoSecrets why) = Unit {0}
+IsUnready _ = ⊥
 
 -- the store of an office can't be had, or isn't gone on from, or an append to it failed
 abbrev pub IsOfStore : Fault → Type 0
@@ -88,9 +90,9 @@ IsOfStore StoreFailed = Unit {0}
 IsOfStore (OtherSessions ticket) = Unit {0}
 IsOfStore _ = ⊥
 
--- nothing is told of a run, or it was cut short; or what it leaves has no place
+-- nothing is told of a run, or it was cut short; or what it leaves has no place, or the office no secrets
 abbrev pub IsOfRun : Fault → Type 0
-IsOfRun f = IsNoRun f ⊎ (IsCutShort f ⊎ IsNoPlace f)
+IsOfRun f = IsNoRun f ⊎ (IsCutShort f ⊎ IsUnready f)
 
 -- the same of a run with a store
 abbrev pub IsOfStoredRun : Fault → Type 0

@@ -1,7 +1,7 @@
 //! Why a command fails.
 
 ghost use Rattle.std.specs.Prelude.{◌≡◌};
-ghost use Rattle.command_outputs.specs.declared.fault.Fault.TheVariants.{Memory, NoRun, Text};
+ghost use Rattle.command_outputs.specs.declared.fault.Fault.TheVariants.{Memory, NoRun, NoSecrets, Text};
 ghost use Rattle.command_outputs.specs.Fault.{input_of, refused_input};
 
 use command_inputs::causes::{WRITE_FAILED, path_cause, read_cause, write_cause};
@@ -9,6 +9,7 @@ use command_inputs::{Input, TextFault};
 use journal_texts::{JournalRefusal, JournalRule};
 use office_stations::{OpeningFault, RunFault};
 use script_runs::ScriptRefusal;
+use secret_files::SecretsFault;
 use site_core::Refusal;
 use socket_pump::WireFailed;
 use std::alloc::{AllocError, AllocFailed};
@@ -104,6 +105,8 @@ pub enum Fault {
     /// The sessions that the office's store has don't begin the office's here: that with this ticket is the first that differs. The run
     /// hasn't begun, and nothing was written.
     OtherSessions(usize),
+    /// The office doesn't get its secrets. The run hasn't begun, and nothing was written.
+    NoSecrets(SecretsFault),
 }
 
 impl Fault {
@@ -121,7 +124,8 @@ impl Fault {
             | Fault::WriteFailed(_)
             | Fault::FileFailed(_, _)
             | Fault::NoStore(_)
-            | Fault::StoreFailed => None,
+            | Fault::StoreFailed
+            | Fault::NoSecrets(_) => None,
             Fault::Text(fault) => fault.input(),
             Fault::Refused(why, _) => Some(why.input()),
             Fault::NoAddress(_) => Some(Input::Plan),
@@ -180,6 +184,7 @@ impl fmt::Display for Fault {
                     "U4 StoreFailed: what the office did can't be kept in it; the run ended with it, and what was kept before is printed, from which a new start goes on"
                 )
             }
+            Fault::NoSecrets(why) => write!(f, "{why}"),
             Fault::OtherSessions(ticket) => {
                 write!(
                     f,
@@ -279,7 +284,10 @@ fn write_run_fault<W: fmt::Write>(f: &mut fmt::Formatter<W>, fault: RunFault) ->
         }
         RunFault::JournalFull => {
             let rule = Refusal::JournalFull;
-            write!(f, "{rule}: the journal of an office has no room left")
+            write!(
+                f,
+                "{rule}: the journal of an office has no room left; stop all offices, and start them with the plan of the next day, which `audit PLAN JOURNAL .. --plan FILE` writes"
+            )
         }
         RunFault::NoThread => write!(f, "U3 NoThread: no further thread can be started"),
     }
@@ -318,6 +326,14 @@ impl From<OpeningFault> for Fault {
 
     fn from(fault: OpeningFault) -> Fault {
         Fault::NoRun(fault)
+    }
+}
+
+impl From<SecretsFault> for Fault {
+    ghost from_gives = { λ f e. e ≡ NoSecrets f };
+
+    fn from(fault: SecretsFault) -> Fault {
+        Fault::NoSecrets(fault)
     }
 }
 

@@ -6,11 +6,13 @@
 //!   `specs/Days.antt`).
 //! - [`places`] looks at the files that are to take the journals of a run before it begins: each may take its own (clauses `free`), or
 //!   the fault says why it may not (clauses `fault`, `specs/Places.antt`). A file that is an input may take none.
-//! - [`stores::Stores`] is what opens the store in which an office keeps its journal while it runs.
+//! - [`stores::Stores`] is what opens the store in which an office keeps its journal while it runs, and [`clients::Clients`] has what is
+//!   asked of one that serves.
 //! - [`Fault`] is why a command fails, and its text what people are told. [`Fault::input`] says which input is at fault, if one is;
 //!   what is said of an input's text comes from `command_inputs`.
 #![tactic(auto)]
 
+pub mod clients;
 pub mod day_files;
 pub mod fault;
 pub mod journal_files;

@@ -10,7 +10,7 @@ use Rattle.clap.specs.declared.error.kind.ErrorKind.TheVariants as kinds
 use Rattle.journal_stores.specs.declared.file.Sync.{Sync}
 use Rattle.journal_stores.specs.declared.file.Sync.TheVariants as syncs
 use Rattle.command_words.specs.declared.command_line.Request.{Request}
-use Rattle.command_words.specs.declared.command_line.Request.TheVariants.{Serial, Sim, Random, Run, RunStored, Live, Audit}
+use Rattle.command_words.specs.declared.command_line.Request.TheVariants.{Serial, Sim, Random, Run, RunStored, Serve, Live, Audit}
 
 -- a word that must be there
 abbrev pub required : Text → Rule
@@ -32,19 +32,27 @@ optional id least most usual = record (new_rule id) { long = Some id; value_name
 abbrev pub path : Text → Rule
 path id = record (new_rule id) { long = Some id; value_names = 1 }
 
+-- --ID WORD, which must be there
+abbrev pub named : Text → Rule
+named id = record (required id) { long = Some id; value_names = 1 }
+
 -- --ID, which need not be there
 abbrev pub flag : Text → Rule
 flag id = record (new_rule id) { long = Some id; action = Some SetTrue }
 
--- serial PLAN SESSIONS [--plan FILE]
+-- a command whose report may be objects: [--json]
+abbrev pub with_form : App → App
+with_form command = with_rule command (flag (codes "json"))
+
+-- serial PLAN SESSIONS [--plan FILE] [--json]
 abbrev pub serial_command : App
-serial_command = with_rule (with_rule (with_rule (new_app (codes "serial")) (required (codes "PLAN"))) (required (codes "SESSIONS"))) (path (codes "plan"))
+serial_command = with_form (with_rule (with_rule (with_rule (new_app (codes "serial")) (required (codes "PLAN"))) (required (codes "SESSIONS"))) (path (codes "plan")))
 
 -- a command that writes what a day leaves: [--plan FILE] [--left FILE]
 abbrev pub with_end : App → App
 with_end command = with_rule (with_rule command (path (codes "plan"))) (path (codes "left"))
 
--- sim PLAN SESSIONS SCRIPT [--journals DIR] [--plan FILE] [--left FILE]
+-- sim PLAN SESSIONS SCRIPT [--journals DIR] [--plan FILE] [--left FILE] [--json]
 abbrev pub sim_words : App
 sim_words = with_rule (with_rule (with_rule (new_app (codes "sim")) (required (codes "PLAN"))) (required (codes "SESSIONS"))) (required (codes "SCRIPT"))
 
@@ -52,9 +60,9 @@ abbrev pub sim_without_end : App
 sim_without_end = with_rule sim_words (path (codes "journals"))
 
 abbrev pub sim_command : App
-sim_command = with_end sim_without_end
+sim_command = with_form (with_end sim_without_end)
 
--- random PLAN SESSIONS --seed N --loss N --steps N [--plan FILE] [--left FILE]
+-- random PLAN SESSIONS --seed N --loss N --steps N [--plan FILE] [--left FILE] [--json]
 abbrev pub random_words : App
 random_words = with_rule (with_rule (new_app (codes "random")) (required (codes "PLAN"))) (required (codes "SESSIONS"))
 
@@ -62,17 +70,27 @@ abbrev pub random_without_end : App
 random_without_end = with_rule (with_rule (with_rule random_words (numbered (codes "seed") 0 18446744073709551615)) (numbered (codes "loss") 0 100)) (numbered (codes "steps") 1 1000000)
 
 abbrev pub random_command : App
-random_command = with_end random_without_end
+random_command = with_form (with_end random_without_end)
 
--- run PLAN OFFICE SESSIONS [--turns N] [--journal FILE] [--store FILE] [--sync WHEN] [--new]
+-- run PLAN OFFICE SESSIONS [--turns N] [--secrets FILE] [--journal FILE] [--store FILE] [--sync WHEN] [--new]
 abbrev pub run_words : App
 run_words = with_rule (with_rule (with_rule (new_app (codes "run")) (required (codes "PLAN"))) (required (codes "OFFICE"))) (required (codes "SESSIONS"))
 
 abbrev pub run_without_store : App
-run_without_store = with_rule (with_rule run_words (optional (codes "turns") 1 100000 (codes "2000"))) (path (codes "journal"))
+run_without_store = with_rule (with_rule (with_rule run_words (optional (codes "turns") 1 100000 (codes "2000"))) (path (codes "secrets"))) (path (codes "journal"))
 
 abbrev pub run_command : App
 run_command = with_rule (with_rule (with_rule run_without_store (path (codes "store"))) (path (codes "sync"))) (flag (codes "new"))
+
+-- serve PLAN OFFICE --store FILE [--sync WHEN] [--new] [--secrets FILE] [--linger N] [--status N]
+abbrev pub serve_words : App
+serve_words = with_rule (with_rule (new_app (codes "serve")) (required (codes "PLAN"))) (required (codes "OFFICE"))
+
+abbrev pub serve_with_store : App
+serve_with_store = with_rule (with_rule serve_words (named (codes "store"))) (path (codes "sync"))
+
+abbrev pub serve_command : App
+serve_command = with_rule (with_rule (with_rule (with_rule serve_with_store (flag (codes "new"))) (path (codes "secrets"))) (optional (codes "linger") 0 86400 (codes "0"))) (optional (codes "status") 0 86400 (codes "0"))
 
 -- live PLAN SESSIONS [--journals DIR] [--plan FILE] [--left FILE]
 abbrev pub live_without_end : App
@@ -81,9 +99,9 @@ live_without_end = with_rule (with_rule (with_rule (new_app (codes "live")) (req
 abbrev pub live_command : App
 live_command = with_end live_without_end
 
--- audit PLAN JOURNAL.. [--plan FILE] [--left FILE]
+-- audit PLAN JOURNAL.. [--plan FILE] [--left FILE] [--json]
 abbrev pub audit_command : App
-audit_command = with_end (with_rule (with_rule (new_app (codes "audit")) (required (codes "PLAN"))) (several (codes "JOURNAL")))
+audit_command = with_form (with_end (with_rule (with_rule (new_app (codes "audit")) (required (codes "PLAN"))) (several (codes "JOURNAL"))))
 
 abbrev pub some_command : App
 some_command = let a = new_app (codes "drink") in record a { top = record a.top { subcommand_required = true; has_version = true } }
@@ -94,7 +112,7 @@ world_commands = with_subcommand (with_subcommand (with_subcommand some_command 
 
 -- the program with all its commands, one of which must be there
 abbrev pub program : App
-program = with_subcommand (with_subcommand (with_subcommand world_commands run_command.top) live_command.top) audit_command.top
+program = with_subcommand (with_subcommand (with_subcommand (with_subcommand world_commands run_command.top) serve_command.top) live_command.top) audit_command.top
 
 -- the first word for an argument of the command, where there is one
 abbrev pub given : Text → Option (List Row) → Option Text
@@ -126,9 +144,13 @@ run_faults rows =
     else (if is_some (given (codes "sync") rows) || has_flag (codes "new") rows then kinds.MissingRequiredArgument ∷ [] else []))
     else kinds.InvalidValue ∷ []
 
+-- the same of `serve`: another word after --sync
+abbrev pub serve_faults : Option (List Row) → Kinds
+serve_faults rows = if is_some (sync_meant (given (codes "sync") rows)) then [] else kinds.InvalidValue ∷ []
+
 -- the same of a command of this name
 abbrev pub store_faults : Text → Option (List Row) → Kinds
-store_faults name rows = if bytes_eq name (codes "run") then run_faults rows else []
+store_faults name rows = if bytes_eq name (codes "run") then run_faults rows else if bytes_eq name (codes "serve") then serve_faults rows else []
 
 -- the arguments of the command that the words name
 abbrev pub arguments_of : List Text → Option (List Row)
@@ -144,37 +166,47 @@ IsNumber text n = IsNumeral 10 (without_leading_plus text) → digits_value 10 (
 
 -- a command of this name, with these arguments, asks for this
 abbrev pub Requests : Text → Option (List Row) → Request → Type 0
-Requests name rows (Serial plan sessions next) =
+Requests name rows (Serial plan sessions next json) =
     (bytes_eq name (codes "sim") ≡ false) × (bytes_eq name (codes "random") ≡ false) × (bytes_eq name (codes "run") ≡ false)
-    × (bytes_eq name (codes "live") ≡ false) × (bytes_eq name (codes "audit") ≡ false)
+    × (bytes_eq name (codes "serve") ≡ false) × (bytes_eq name (codes "live") ≡ false) × (bytes_eq name (codes "audit") ≡ false)
     × (plan.now ≡ word_of (codes "PLAN") rows) × (sessions.now ≡ word_of (codes "SESSIONS") rows)
-    × (option_map (λ file. file.now) next ≡ given (codes "plan") rows)
-Requests name rows (Sim plan sessions script journals next left) =
+    × (option_map (λ file. file.now) next ≡ given (codes "plan") rows) × (has_flag (codes "json") rows ≡ json)
+Requests name rows (Sim plan sessions script journals next left json) =
     (bytes_eq name (codes "sim") ≡ true) × (plan.now ≡ word_of (codes "PLAN") rows) × (sessions.now ≡ word_of (codes "SESSIONS") rows)
     × (script.now ≡ word_of (codes "SCRIPT") rows) × (option_map (λ folder. folder.now) journals ≡ given (codes "journals") rows)
     × (option_map (λ file. file.now) next ≡ given (codes "plan") rows) × (option_map (λ file. file.now) left ≡ given (codes "left") rows)
-Requests name rows (Random plan sessions seed loss steps next left) =
+    × (has_flag (codes "json") rows ≡ json)
+Requests name rows (Random plan sessions seed loss steps next left json) =
     (bytes_eq name (codes "random") ≡ true) × (plan.now ≡ word_of (codes "PLAN") rows) × (sessions.now ≡ word_of (codes "SESSIONS") rows)
     × IsNumber (word_of (codes "seed") rows) seed × IsNumber (word_of (codes "loss") rows) loss × IsNumber (word_of (codes "steps") rows) steps
     × (option_map (λ file. file.now) next ≡ given (codes "plan") rows) × (option_map (λ file. file.now) left ≡ given (codes "left") rows)
-Requests name rows (Run plan office sessions turns journal) =
+    × (has_flag (codes "json") rows ≡ json)
+Requests name rows (Run plan office sessions turns journal secrets) =
     (bytes_eq name (codes "run") ≡ true) × (plan.now ≡ word_of (codes "PLAN") rows) × (office.now ≡ word_of (codes "OFFICE") rows)
     × (sessions.now ≡ word_of (codes "SESSIONS") rows) × IsNumber (word_of (codes "turns") rows) turns
     × (option_map (λ file. file.now) journal ≡ given (codes "journal") rows)
     × (given (codes "store") rows ≡ None) × (given (codes "sync") rows ≡ None) × (has_flag (codes "new") rows ≡ false)
-Requests name rows (RunStored plan office sessions turns store sync new) =
+    × (option_map (λ file. file.now) secrets ≡ given (codes "secrets") rows)
+Requests name rows (RunStored plan office sessions turns store sync new secrets) =
     (bytes_eq name (codes "run") ≡ true) × (plan.now ≡ word_of (codes "PLAN") rows) × (office.now ≡ word_of (codes "OFFICE") rows)
     × (sessions.now ≡ word_of (codes "SESSIONS") rows) × IsNumber (word_of (codes "turns") rows) turns
     × (given (codes "store") rows ≡ Some store.now) × (given (codes "journal") rows ≡ None)
     × (sync_meant (given (codes "sync") rows) ≡ Some sync) × (has_flag (codes "new") rows ≡ new)
+    × (option_map (λ file. file.now) secrets ≡ given (codes "secrets") rows)
+Requests name rows (Serve plan office store sync new secrets linger status) =
+    (bytes_eq name (codes "serve") ≡ true) × (plan.now ≡ word_of (codes "PLAN") rows) × (office.now ≡ word_of (codes "OFFICE") rows)
+    × (store.now ≡ word_of (codes "store") rows) × (sync_meant (given (codes "sync") rows) ≡ Some sync) × (has_flag (codes "new") rows ≡ new)
+    × (option_map (λ file. file.now) secrets ≡ given (codes "secrets") rows)
+    × IsNumber (word_of (codes "linger") rows) linger × IsNumber (word_of (codes "status") rows) status
 Requests name rows (Live plan sessions journals next left) =
     (bytes_eq name (codes "live") ≡ true) × (plan.now ≡ word_of (codes "PLAN") rows) × (sessions.now ≡ word_of (codes "SESSIONS") rows)
     × (option_map (λ folder. folder.now) journals ≡ given (codes "journals") rows)
     × (option_map (λ file. file.now) next ≡ given (codes "plan") rows) × (option_map (λ file. file.now) left ≡ given (codes "left") rows)
-Requests name rows (Audit plan journals next left) =
+Requests name rows (Audit plan journals next left json) =
     (bytes_eq name (codes "audit") ≡ true) × (plan.now ≡ word_of (codes "PLAN") rows)
     × (map (λ journal. journal.now) journals.items ≡ words_of (codes "JOURNAL") rows)
     × (option_map (λ file. file.now) next ≡ given (codes "plan") rows) × (option_map (λ file. file.now) left ≡ given (codes "left") rows)
+    × (has_flag (codes "json") rows ≡ json)
 
 -- the words of a command line ask for this, in the terms of `clap`'s contracts
 abbrev pub Asks : List Text → Request → Type 0

@@ -5,7 +5,7 @@ ghost use Rattle.std.specs.Str.{bytes_eq};
 ghost use Rattle.std.specs.String.{string_bytes};
 ghost use Rattle.clap.specs.Words.{App, FailsBy, app_of, found_of, kind_of, rows_of, rule_of, with_subcommand};
 ghost use Rattle.clap.specs.declared.builder.command.Command.TheViews.{out-Command as fields_of};
-ghost use Rattle.command_words.specs.CommandLine.{Asks, IsNumber, Requests, audit_command, faults_of, flag, given, has_flag, live_command, live_without_end, numbered, optional, path, program, random_command, random_without_end, required, run_command, run_without_store, serial_command, several, sim_command, sim_without_end, store_faults, sync_meant, word_of, words_of};
+ghost use Rattle.command_words.specs.CommandLine.{Asks, IsNumber, Requests, audit_command, faults_of, flag, given, has_flag, live_command, live_without_end, named, numbered, optional, path, program, random_command, random_without_end, required, run_command, run_without_store, serial_command, serve_command, serve_with_store, several, sim_command, sim_without_end, store_faults, sync_meant, word_of, words_of, run_words};
 
 use clap::builder::ValueParser;
 use clap::error::ErrorKind;
@@ -16,11 +16,13 @@ use std::alloc::{AllocError, Global};
 /// What a command line asks for.
 #[derive(Debug, Drop, PartialEq, Eq)]
 pub enum Request<'a> {
-    /// The sessions alone, in the order of the file. A file, where one is named, is for the plan of the next day.
+    /// The sessions alone, in the order of the file. A file, where one is named, is for the plan of the next day. Here and below a report
+    /// may be asked for as JSON.
     Serial {
         plan: &'a str,
         sessions: &'a str,
         next: Option<&'a str>,
+        json: bool,
     },
     /// A script on the world of a plan. A folder, where one is named, is for the journals of its offices; a file for the plan of
     /// the next day; and one for the sessions that are left.
@@ -31,6 +33,7 @@ pub enum Request<'a> {
         journals: Option<&'a str>,
         next: Option<&'a str>,
         left: Option<&'a str>,
+        json: bool,
     },
     /// A run on the world of a plan, of so many steps that are drawn from this seed. Of a hundred deliveries so many are lost. A file,
     /// where one is named, is for the plan of the next day, and one for the sessions that haven't finished.
@@ -42,14 +45,17 @@ pub enum Request<'a> {
         steps: u64,
         next: Option<&'a str>,
         left: Option<&'a str>,
+        json: bool,
     },
-    /// One office of a plan, at its address, with its sessions, for so many turns. A file, where one is named, is for its journal.
+    /// One office of a plan, at its address, with its sessions, for so many turns. A file, where one is named, is for its journal, and
+    /// one has its secrets.
     Run {
         plan: &'a str,
         office: &'a str,
         sessions: &'a str,
         turns: u64,
         journal: Option<&'a str>,
+        secrets: Option<&'a str>,
     },
     /// The same, where the office keeps its journal in a store and goes on from what it has. The store is made, or has to be there.
     RunStored {
@@ -60,6 +66,20 @@ pub enum Request<'a> {
         store: &'a str,
         sync: Sync,
         new: bool,
+        secrets: Option<&'a str>,
+    },
+    /// One office of a plan, at its address, that takes its sessions as they come, from such a store. It ends where none comes any more
+    /// and no datagram came for so many seconds, and with 0 it doesn't; each so many seconds it is said how it stands, and with 0 it isn't.
+    /// A file, where one is named, has its secrets.
+    Serve {
+        plan: &'a str,
+        office: &'a str,
+        store: &'a str,
+        sync: Sync,
+        new: bool,
+        secrets: Option<&'a str>,
+        linger: u64,
+        status: u64,
     },
     /// All offices of a plan, on this machine. A folder, where one is named, is for their journals; a file for the plan of the next
     /// day; and one for the sessions that haven't finished.
@@ -77,6 +97,7 @@ pub enum Request<'a> {
         journals: Vec<&'a str>,
         next: Option<&'a str>,
         left: Option<&'a str>,
+        json: bool,
     },
 }
 
@@ -95,6 +116,7 @@ pub fn command_line<'a>(alloc: Global, words: &'a [String]) -> Result<Request<'a
             plan: "-",
             sessions: "-",
             next: None,
+            json: false,
         }),
     }
 }
@@ -118,16 +140,21 @@ fn requested<'a>(alloc: Global, name: &str, found: &ArgMatches<'a>) -> Result<Re
     if name == "run" {
         return run_requested(alloc, found);
     }
+    if name == "serve" {
+        return serve_requested(alloc, found);
+    }
     let plan = word(found, "PLAN");
     if name == "audit" {
         let journals = words(alloc, found, "JOURNAL")?;
         let next = given(found, "plan");
         let left = given(found, "left");
+        let json = has_flag(found, "json");
         return Ok(Request::Audit {
             plan,
             journals,
             next,
             left,
+            json,
         });
     }
     let sessions = word(found, "SESSIONS");
@@ -139,6 +166,7 @@ fn requested<'a>(alloc: Global, name: &str, found: &ArgMatches<'a>) -> Result<Re
             journals: given(found, "journals"),
             next: given(found, "plan"),
             left: given(found, "left"),
+            json: has_flag(found, "json"),
         });
     }
     if name == "random" {
@@ -150,6 +178,7 @@ fn requested<'a>(alloc: Global, name: &str, found: &ArgMatches<'a>) -> Result<Re
             steps: number(found, "steps"),
             next: given(found, "plan"),
             left: given(found, "left"),
+            json: has_flag(found, "json"),
         });
     }
     if name == "live" {
@@ -166,6 +195,7 @@ fn requested<'a>(alloc: Global, name: &str, found: &ArgMatches<'a>) -> Result<Re
         plan,
         sessions,
         next: given(found, "plan"),
+        json: has_flag(found, "json"),
     })
 }
 
@@ -185,6 +215,7 @@ fn run_requested<'a>(alloc: Global, found: &ArgMatches<'a>) -> Result<Request<'a
     let turns = number(found, "turns");
     let journal = given(found, "journal");
     let new = has_flag(found, "new");
+    let secrets = given(found, "secrets");
     let Some(sync) = sync_meant(given(found, "sync")) else {
         return Err(refused(alloc, ErrorKind::InvalidValue, OTHER_SYNC));
     };
@@ -198,6 +229,7 @@ fn run_requested<'a>(alloc: Global, found: &ArgMatches<'a>) -> Result<Request<'a
             sessions,
             turns,
             journal,
+            secrets,
         });
     };
     if journal.is_some() {
@@ -211,6 +243,32 @@ fn run_requested<'a>(alloc: Global, found: &ArgMatches<'a>) -> Result<Request<'a
         store,
         sync,
         new,
+        secrets,
+    })
+}
+
+/// What `serve` asks for. The word after `--sync` is judged as that of `run` is.
+fn serve_requested<'a>(alloc: Global, found: &ArgMatches<'a>) -> Result<Request<'a>, Error>
+    ensures request { IfOk result (Requests (codes "serve") (Some (rows_of (found_of found.now)))) }
+    ensures faults { FailsBy (store_faults (codes "serve") (Some (rows_of (found_of found.now)))) result }
+{
+    let Some(sync) = sync_meant(given(found, "sync")) else {
+        return Err(refused_by(
+            serve(alloc),
+            "drink serve",
+            ErrorKind::InvalidValue,
+            OTHER_SYNC,
+        ));
+    };
+    Ok(Request::Serve {
+        plan: word(found, "PLAN"),
+        office: word(found, "OFFICE"),
+        store: word(found, "store"),
+        sync,
+        new: has_flag(found, "new"),
+        secrets: given(found, "secrets"),
+        linger: number(found, "linger"),
+        status: number(found, "status"),
     })
 }
 
@@ -230,16 +288,33 @@ fn sync_meant(word: Option<&str>) -> Option<Sync>
 fn refused(alloc: Global, kind: ErrorKind, message: &str) -> Error
     ensures { (kind_of result ≡ kind) ⊎ (kind_of result ≡ ErrorKind.OutOfMemory) }
 {
-    match run_error(alloc, kind, message) {
+    refused_by(run(alloc), "drink run", kind, message)
+}
+
+/// The error of a command, which stands under this name, for words that its rules let through.
+fn refused_by(
+    command: Result<Command<'_>, AllocError>,
+    name: &str,
+    kind: ErrorKind,
+    message: &str,
+) -> Error
+    ensures { (kind_of result ≡ kind) ⊎ (kind_of result ≡ ErrorKind.OutOfMemory) }
+{
+    match error_by(command, name, kind, message) {
         Ok(error) => error,
         Err(AllocError) => Error::from(AllocError),
     }
 }
 
-fn run_error(alloc: Global, kind: ErrorKind, message: &str) -> Result<Error, AllocError>
+fn error_by(
+    command: Result<Command<'_>, AllocError>,
+    name: &str,
+    kind: ErrorKind,
+    message: &str,
+) -> Result<Error, AllocError>
     ensures { IfOk result (λ error. kind_of error ≡ kind) }
 {
-    let mut command = run(alloc)?.bin_name("drink run")?;
+    let mut command = command?.bin_name(name)?;
     command.error(kind, message)
 }
 
@@ -296,6 +371,7 @@ fn program<'a>(alloc: Global) -> Result<Command<'a>, AllocError>
     let program = with_command(program, sim(alloc))?;
     let program = with_command(program, random(alloc))?;
     let program = with_command(program, run(alloc))?;
+    let program = with_command(program, serve(alloc))?;
     let program = with_command(program, live(alloc))?;
     with_command(program, audit(alloc))
 }
@@ -319,7 +395,8 @@ fn serial<'a>(alloc: Global) -> Result<Command<'a>, AllocError>
         .after_help(INPUTS)
         .arg(required(alloc, "PLAN", PLAN))?
         .arg(required(alloc, "SESSIONS", SESSIONS))?
-        .arg(path(alloc, "plan", NEXT, "FILE"))
+        .arg(path(alloc, "plan", NEXT, "FILE"))?
+        .arg(flag(alloc, "json", OBJECTS))
 }
 
 fn sim<'a>(alloc: Global) -> Result<Command<'a>, AllocError>
@@ -328,7 +405,8 @@ fn sim<'a>(alloc: Global) -> Result<Command<'a>, AllocError>
 {
     sim_without_end(alloc)?
         .arg(path(alloc, "plan", NEXT, "FILE"))?
-        .arg(path(alloc, "left", LEFT, "FILE"))
+        .arg(path(alloc, "left", LEFT, "FILE"))?
+        .arg(flag(alloc, "json", OBJECTS))
 }
 
 /// `sim` but for what is said of the next day.
@@ -353,7 +431,8 @@ fn random<'a>(alloc: Global) -> Result<Command<'a>, AllocError>
 {
     random_without_end(alloc)?
         .arg(path(alloc, "plan", NEXT, "FILE"))?
-        .arg(path(alloc, "left", LEFT, "FILE"))
+        .arg(path(alloc, "left", LEFT, "FILE"))?
+        .arg(flag(alloc, "json", OBJECTS))
 }
 
 /// `random` but for what is said of the next day.
@@ -388,14 +467,47 @@ fn run_without_store<'a>(alloc: Global) -> Result<Command<'a>, AllocError>
     ensures command { IfOk result (λ c. app_of c ≡ run_without_store) }
     ensures local { IfOk result (λ c. (fields_of c).has_globals ≡ false) }
 {
+    run_words(alloc)?
+        .arg(optional(alloc, "turns", TURNS, 1, MOST_TURNS, USUAL_TURNS))?
+        .arg(path(alloc, "secrets", SECRETS, "FILE"))?
+        .arg(path(alloc, "journal", OWN_JOURNAL, "FILE"))
+}
+
+fn run_words<'a>(alloc: Global) -> Result<Command<'a>, AllocError>
+    ensures command { IfOk result (λ c. app_of c ≡ run_words) }
+    ensures local { IfOk result (λ c. (fields_of c).has_globals ≡ false) }
+{
     Command::new(alloc, "run")
         .about("Runs one office of a plan at its address, and prints what its sessions did")
         .after_help(OWN_RUNS)
         .arg(required(alloc, "PLAN", PLAN))?
         .arg(required(alloc, "OFFICE", OFFICE))?
-        .arg(required(alloc, "SESSIONS", OWN_SESSIONS))?
-        .arg(optional(alloc, "turns", TURNS, 1, MOST_TURNS, USUAL_TURNS))?
-        .arg(path(alloc, "journal", OWN_JOURNAL, "FILE"))
+        .arg(required(alloc, "SESSIONS", OWN_SESSIONS))
+}
+
+fn serve<'a>(alloc: Global) -> Result<Command<'a>, AllocError>
+    ensures command { IfOk result (λ c. app_of c ≡ serve_command) }
+    ensures local { IfOk result (λ c. (fields_of c).has_globals ≡ false) }
+{
+    serve_with_store(alloc)?
+        .arg(flag(alloc, "new", NEW))?
+        .arg(path(alloc, "secrets", SECRETS, "FILE"))?
+        .arg(optional(alloc, "linger", LINGER, 0, MOST_SECONDS, NEVER))?
+        .arg(optional(alloc, "status", STATUS, 0, MOST_SECONDS, NEVER))
+}
+
+/// `serve` but for how it begins and how long it goes on.
+fn serve_with_store<'a>(alloc: Global) -> Result<Command<'a>, AllocError>
+    ensures command { IfOk result (λ c. app_of c ≡ serve_with_store) }
+    ensures local { IfOk result (λ c. (fields_of c).has_globals ≡ false) }
+{
+    Command::new(alloc, "serve")
+        .about("Runs one office of a plan at its address, and takes its sessions as they come")
+        .after_help(SERVICES)
+        .arg(required(alloc, "PLAN", PLAN_FILE))?
+        .arg(required(alloc, "OFFICE", OFFICE))?
+        .arg(named(alloc, "store", STORE, "FILE"))?
+        .arg(path(alloc, "sync", SYNC, "WHEN"))
 }
 
 fn live<'a>(alloc: Global) -> Result<Command<'a>, AllocError>
@@ -430,7 +542,8 @@ fn audit<'a>(alloc: Global) -> Result<Command<'a>, AllocError>
         .arg(required(alloc, "PLAN", PLAN))?
         .arg(several(alloc, "JOURNAL", JOURNAL))?
         .arg(path(alloc, "plan", NEXT, "FILE"))?
-        .arg(path(alloc, "left", LEFT, "FILE"))
+        .arg(path(alloc, "left", LEFT, "FILE"))?
+        .arg(flag(alloc, "json", OBJECTS))
 }
 
 /// A word that has to be there.
@@ -492,6 +605,18 @@ fn path<'a>(alloc: Global, id: &'a str, help: &'a str, shown: &'a str) -> Arg<'a
     Arg::new(alloc, id).help(help).long(id).value_name(shown)
 }
 
+/// A file, after the option's name, that has to be there. Help shows it as this word.
+fn named<'a>(alloc: Global, id: &'a str, help: &'a str, shown: &'a str) -> Arg<'a>
+    ensures rule { rule_of result ≡ named id.now }
+    ensures no_global { result.global ≡ false }
+{
+    Arg::new(alloc, id)
+        .help(help)
+        .required(true)
+        .long(id)
+        .value_name(shown)
+}
+
 /// An option without a word, that need not be there.
 fn flag<'a>(alloc: Global, id: &'a str, help: &'a str) -> Arg<'a>
     ensures rule { rule_of result ≡ flag id.now }
@@ -517,7 +642,15 @@ const MOST_TURNS: u64 = 100_000;
 /// How many it has where no number is given.
 const USUAL_TURNS: &str = "2000";
 
+/// The most seconds of `serve`: a day.
+const MOST_SECONDS: u64 = 86_400;
+
+/// How many they are where no number is given: none, which means never.
+const NEVER: &str = "0";
+
 const PLAN: &str = "The file of the plan, or - for the standard input";
+
+const PLAN_FILE: &str = "The file of the plan; - is refused, since the standard input asks";
 
 const SESSIONS: &str = "The file of the sessions, or - for the standard input";
 
@@ -537,6 +670,8 @@ const OWN_SESSIONS: &str =
 
 const TURNS: &str = "How many turns the office has: 1 to 100000";
 
+const SECRETS: &str = "The file of the office's secrets, which is for its owner alone";
+
 const OWN_JOURNAL: &str = "A file for the office's journal; - is refused";
 
 const STORE: &str = "A file for the office's journal, from which it goes on; - is refused";
@@ -545,11 +680,17 @@ const SYNC: &str = "data: kept once the disk has it (the usual); none: once the 
 
 const NEW: &str = "Makes the store, which must not be there; without this it must be there";
 
+const LINGER: &str = "Ends N quiet seconds after its input, 0 to 86400; 0: never";
+
+const STATUS: &str = "Tells each N seconds how it stands, 0 to 86400; 0: never";
+
 const JOURNALS: &str = "A folder for the offices' journals, NAME.journal, made if it isn't there";
 
 const NEXT: &str = "A file for the plan of the next day, which starts with the values at the end";
 
 const LEFT: &str = "A file for the sessions that are left, to be submitted on the next day";
+
+const OBJECTS: &str = "Prints an object of JSON on each line";
 
 const JOURNAL: &str =
     "The journals, one of each office of the plan, in any order; - is the standard input";
@@ -582,6 +723,10 @@ const OWN_RUNS: &str =
 up to it stands the text of the plan. Each text counts its lines from 1. A file whose name is - is
 written ./- instead.
 
+With secrets all datagrams are frames under seals: each line `secret A B HEX` has what two
+neighbours share, and there is one for each neighbour of the office. Their file is refused where
+others than its owner may read or write it.
+
 A file for a journal is looked at before anything is run: it has to be one that can be written, no
 input, and without a journal of the same office and run.
 
@@ -593,6 +738,26 @@ store alone.
 Exit status: 0 where all sessions finished; 1 where some are left, where an input or a store is
 refused or can't be read, where a socket, a thread or the clock can't be had, where something can't
 be written, or where memory runs out; 2 where the command line is at fault.";
+
+/// What stands below the help of `serve`.
+const SERVICES: &str =
+    "On the standard input stand sessions, one after another, without end. Each line of an answer goes
+out once it is kept, and then at once. First it is said how many tickets were given: `ready T`.
+With secrets all datagrams are frames under seals, as those of run.
+
+A session is answered by `ticket T`, and by what it did once it has finished. A line `ticket T`
+before a session makes it safe to ask again: where T is the next ticket the session has it; where T
+was given to this session it isn't done twice, and the answer is what it did, or `pending T`.
+A line `value NAME` is answered by `value NAME VALUE`, or by `away NAME NEIGHBOUR` where its bottle
+isn't here. Anything else is answered by `refused CODE NAME line N`, and lines are passed over up to
+the next that begins with `session`, `ticket` or `value`.
+
+An office that was killed goes on from its store. Where its journal is full (O4), audit --plan FILE
+writes the plan of the next day.
+
+Exit status: 0 where it ended by --linger; 1 where an input or a store is refused or can't be read,
+where a socket or the clock can't be had, where something can't be written, where the journal is
+full, or where memory runs out; 2 where the command line is at fault.";
 
 /// What stands below the help of `audit`.
 const AUDITS: &str =

@@ -11,7 +11,7 @@ use Rattle.command_inputs.specs.declared.fault.TextFault.{TextFault}
 use Rattle.command_inputs.specs.declared.fault.TextFault.TheVariants as unfit
 use Rattle.command_inputs.specs.Fault.{IsAtInput, IsOneOf}
 use Rattle.command_outputs.specs.declared.fault.Fault.{Fault}
-use Rattle.command_outputs.specs.declared.fault.Fault.TheVariants.{Memory, Text, Refused, NoSuchOffice, NoAddress, NoJournal, NoPlace, NoRun, CutShort, WriteFailed, FileFailed, NoStore, StoreFailed, OtherSessions}
+use Rattle.command_outputs.specs.declared.fault.Fault.TheVariants.{Memory, Text, Refused, NoSuchOffice, NoAddress, NoJournal, NoPlace, NoRun, CutShort, WriteFailed, FileFailed, NoStore, StoreFailed, OtherSessions, NoSecrets}
 use Rattle.command_outputs.specs.Fault.{IsAmong, IsFaultAt, IsWriteFault, refused_input}
 use Rattle.command_inputs.specs.Plans.{IsAcceptedAs}
 use Rattle.drink_commands.specs.Texts.{Accepts, IsJudgedOr, Judges, Known, Refuses, nothing}
@@ -46,6 +46,7 @@ weaker input P Q (FileFailed name cause) k h = h
 weaker input P Q (NoStore why) k h = h
 weaker input P Q StoreFailed k h = h
 weaker input P Q (OtherSessions ticket) k h = h
+weaker input P Q (NoSecrets why) k h = h
 
 -- the same of one of a plan's text or of sessions'
 pub among_text : (asked : List Input) (input : Input) (P : TextFault → Type 0) (f : TextFault) → Contains asked input → IsAtInput input P f → IsOneOf asked f
@@ -71,6 +72,7 @@ among asked input P (FileFailed name cause) at h = tt
 among asked input P (NoStore why) at h = h
 among asked input P StoreFailed at h = h
 among asked input P (OtherSessions ticket) at h = h
+among asked input P (NoSecrets why) at h = h
 
 contains_more : (input : Input) (asked : List Input) (x : Input) → Contains asked x → Contains (input ∷ asked) x
 contains_more input asked x (k, lt, e) = (suc k, omega (arith, lt), e)
@@ -97,6 +99,7 @@ among_more input asked (FileFailed name cause) h = tt
 among_more input asked (NoStore why) h = h
 among_more input asked StoreFailed h = h
 among_more input asked (OtherSessions ticket) h = h
+among_more input asked (NoSecrets why) h = h
 
 -- the writing failed, and no input is at fault
 pub no_input : (f : Fault) → IsWriteFault f → IsAmong [] f
@@ -114,6 +117,7 @@ no_input (FileFailed name cause) h = tt
 no_input (NoStore why) h = h
 no_input StoreFailed h = h
 no_input (OtherSessions ticket) h = h
+no_input (NoSecrets why) h = h
 
 at_input : (P : Fault → Type 0) (known : Known) (asked : List Input) (f : Fault) → Judges P known asked [] f → IsAmong asked f ⊎ P f
 at_input P known [] f h = h

@@ -10,11 +10,12 @@ use Rattle.journal_weave.specs.declared.given.GivenJournal.{GivenJournal}
 use Rattle.journal_audit.specs.Gathering.{AreGathered, AreJournals, Lacks}
 use Rattle.journal_audit.specs.Gathered.{Gathered}
 use Rattle.journal_audit.specs.Following.{Gathers, TellsOf}
+use Rattle.report_forms.specs.declared.forms.Form.{Form}
 use Rattle.journal_audit.specs.Findings.{TellsWoven, TellsUnwoven}
 use Rattle.command_inputs.specs.declared.input.Input.{Input}
 use Rattle.command_inputs.specs.declared.input.Input.TheVariants as inputs
 use Rattle.command_outputs.specs.declared.fault.Fault.{Fault}
-use Rattle.command_outputs.specs.declared.fault.Fault.TheVariants.{Memory, Text, Refused, NoSuchOffice, NoAddress, NoJournal, NoPlace, NoRun, CutShort, WriteFailed, FileFailed, NoStore, StoreFailed, OtherSessions}
+use Rattle.command_outputs.specs.declared.fault.Fault.TheVariants.{Memory, Text, Refused, NoSuchOffice, NoAddress, NoJournal, NoPlace, NoRun, CutShort, WriteFailed, FileFailed, NoStore, StoreFailed, OtherSessions, NoSecrets}
 use Rattle.drink_commands.specs.Audit.{Tells, IsJudgedAudit, JudgesJournals, RefusesJournal, SaysAfter, IsLacking, journal_inputs}
 use Rattle.command_outputs.specs.Fault.{IsAmong, IsFaultAt, IsNoJournal}
 use Rattle.drink_commands.specs.Texts.{Refuses, nothing}
@@ -168,6 +169,7 @@ module _ (files : List ℕ → Option (List ℕ)) (p : PlanValue) where
   named_after a texts [] (NoStore why) h lacks = absurd h
   named_after a texts [] StoreFailed h lacks = absurd h
   named_after a texts [] (OtherSessions ticket) h lacks = absurd h
+  named_after a texts [] (NoSecrets why) h lacks = absurd h
   named_after a texts (x ∷ xs) Memory h lacks = inl tt
   named_after a texts (x ∷ xs) (NoJournal name) h lacks = inr tt
   named_after a texts (x ∷ xs) (Text fault) h lacks = absurd h
@@ -182,6 +184,7 @@ module _ (files : List ℕ → Option (List ℕ)) (p : PlanValue) where
   named_after a texts (x ∷ xs) (NoStore why) h lacks = absurd h
   named_after a texts (x ∷ xs) StoreFailed h lacks = absurd h
   named_after a texts (x ∷ xs) (OtherSessions ticket) h lacks = absurd h
+  named_after a texts (x ∷ xs) (NoSecrets why) h lacks = absurd h
 
   is_nought : (place count : ℕ) → journal_inputs place count ≡ [] → count ≡ 0
   is_nought place zero e = refl
@@ -241,6 +244,7 @@ module _ (files : List ℕ → Option (List ℕ)) where
   is_no_journal p texts (NoStore why) h = h
   is_no_journal p texts StoreFailed h = h
   is_no_journal p texts (OtherSessions ticket) h = h
+  is_no_journal p texts (NoSecrets why) h = h
 
   after_plan : (p : PlanValue) (asked : List Input) (f : Fault) → SaysAfter p [] asked f → IsAmong (inputs.Plan ∷ asked) f ⊎ IsNoJournal f
   after_plan p [] f (inl h) = inl (among_more inputs.Plan [] f h)
@@ -267,11 +271,11 @@ module _ (files : List ℕ → Option (List ℕ)) where
       says texts n (subst (λ s. HaveTexts files s (take n (a ∷ words)) (take n texts)) (sym e) known.1)
 
   -- what the journals tell that are gathered under the plan
-  pub audited : (u v : Unread) (a : List ℕ) (words : List (List ℕ)) (p : PlanValue) (g : Gathered) (found : Option World) (printed : List ℕ)
+  pub audited : (form : Form) (u v : Unread) (a : List ℕ) (words : List (List ℕ)) (p : PlanValue) (g : Gathered) (found : Option World) (printed : List ℕ)
       → TakesPlan files u a v p → ((texts : List (List ℕ)) → HaveTexts files v words texts → Gathers p texts g)
-      → IfSome found (λ w. TellsOf (TellsWoven w) g printed) → IfNone found (TellsOf TellsUnwoven g printed)
-      → TellsAudit files u a words found printed
-  audited u v a words p g found printed plan gathers woven unwoven a_text texts (after, has, more) next unfinished status old new kept left is written leaves =
+      → IfSome found (λ w. TellsOf (TellsWoven form w) g printed) → IfNone found (TellsOf (TellsUnwoven form) g printed)
+      → TellsAudit files form u a words found printed
+  audited form u v a words p g found printed plan gathers woven unwoven a_text texts (after, has, more) next unfinished status old new kept left is written leaves =
       let it = plan a_text after has in
       let h = gathers texts (subst (λ s. HaveTexts files s words texts) (sym it.1) more) in
       let t = tells h found woven unwoven is leaves in
@@ -285,8 +289,8 @@ module _ (files : List ℕ → Option (List ℕ)) where
         written = written;
       }
     where
-      tells : Gathers p texts g → (found : Option World) → IfSome found (λ w. TellsOf (TellsWoven w) g printed) → IfNone found (TellsOf TellsUnwoven g printed)
-          → status ≡ (if is_some found then 0 else 1) → WritesFound next unfinished found kept left → (journals : List GivenJournal) × AreJournals p texts journals × Tells next unfinished p journals printed status kept left
+      tells : Gathers p texts g → (found : Option World) → IfSome found (λ w. TellsOf (TellsWoven form w) g printed) → IfNone found (TellsOf (TellsUnwoven form) g printed)
+          → status ≡ (if is_some found then 0 else 1) → WritesFound next unfinished found kept left → (journals : List GivenJournal) × AreJournals p texts journals × Tells form next unfinished p journals printed status kept left
       tells h (Some w) so not_so is leaves = let t = so p texts h in (t.0, t.1, inl (w, t.2, is, leaves))
       tells h None so not_so is leaves = let t = not_so p texts h in (t.0, t.1, inr (t.2, is, leaves))
 

@@ -3,6 +3,7 @@ pub mod Faults
 pub mod Reported
 pub mod Running
 pub mod Storing
+pub mod OfServing
 pub mod JournalTexts
 pub mod FewJournals
 pub mod SerialTold

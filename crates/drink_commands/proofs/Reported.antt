@@ -6,6 +6,7 @@ use Rattle.std.specs.Io.KnownBytes.{Appends}
 use Rattle.input_texts.specs.Words.{HasText, HaveTexts, StandFor, Unread, unread}
 use Rattle.office_map.specs.PlanValue.{PlanValue, office_named}
 use Rattle.session_meaning.specs.ProgramValue.{ProgramValue}
+use Rattle.report_forms.specs.declared.forms.Form.{Form}
 use Rattle.frame_world.specs.Worlds.{World, opening}
 use Rattle.script_runs.specs.Script.{Act}
 use Rattle.script_runs.specs.Runs.{run_of}
@@ -19,6 +20,7 @@ use Rattle.command_outputs.specs.Journals.{File, WritesFiles}
 use Rattle.command_outputs.specs.Places.{IsIn, IsObstacle}
 use Rattle.drink_commands.specs.Run.{IsReached, RefusesFile, RefusesFolder, WritesOffice, WritesOffices, WritesRan, are_wanted}
 use Rattle.command_outputs.specs.declared.fault.Obstacle.{Obstacle}
+use Rattle.drink_commands.specs.Sealed.{HasSecrets, IsSealed}
 use Rattle.drink_commands.specs.Simulation.{LeavesFiles, Simulates}
 use Rattle.drink_commands.proofs.Faults.{TakesPlan, TakesScript, TakesSessions}
 
@@ -27,11 +29,11 @@ pub started : (u : Unread) (bytes : Option (List ℕ)) (files : List ℕ → Opt
     → StandFor files bytes words texts → HaveTexts files u words texts
 started u bytes files words texts e h = subst (λ s. HaveTexts files s words texts) (sym e) h
 
-pub ran : (files : List ℕ → Option (List ℕ)) (u v w : Unread) (a b a_text b_text : List ℕ) (p : PlanValue) (programs seen : List ProgramValue) (loss : ℕ)
+pub ran : (form : Form) (files : List ℕ → Option (List ℕ)) (u v w : Unread) (a b a_text b_text : List ℕ) (p : PlanValue) (programs seen : List ProgramValue) (loss : ℕ)
     (old new : Option (List ℕ)) (printed : List ℕ) (world : World) (next_file unfinished : Option (List ℕ)) (kept left : Option (List File)) → TakesPlan files u a v p → TakesSessions files v b w p programs
-    → HaveTexts files u (a ∷ b ∷ []) (a_text ∷ b_text ∷ []) → seen ≡ programs → Tells p seen loss world printed → Appends old new printed → WritesEndOf seen next_file unfinished world kept left
-    → TellsRun a_text b_text loss next_file unfinished old new kept left
-ran files u v w a b a_text b_text p programs seen loss old new printed world next_file unfinished kept left plan sessions (after, has, (next, has_next, more)) same told written day =
+    → HaveTexts files u (a ∷ b ∷ []) (a_text ∷ b_text ∷ []) → seen ≡ programs → Tells form p seen loss world printed → Appends old new printed → WritesEndOf seen next_file unfinished world kept left
+    → TellsRun form a_text b_text loss next_file unfinished old new kept left
+ran form files u v w a b a_text b_text p programs seen loss old new printed world next_file unfinished kept left plan sessions (after, has, (next, has_next, more)) same told written day =
     let it = plan a_text after has in
     record {
       both = record {
@@ -42,30 +44,37 @@ ran files u v w a b a_text b_text p programs seen loss old new printed world nex
       };
       world = world;
       printed = printed;
-      told = subst (λ ps. Tells p ps loss world printed) same told;
+      told = subst (λ ps. Tells form p ps loss world printed) same told;
       written = written;
       day = subst (λ ps. WritesEndOf ps next_file unfinished world kept left) same day;
     }
 
-pub simulated : (files : List ℕ → Option (List ℕ)) (u v w x : Unread) (a b c a_text b_text c_text : List ℕ) (p : PlanValue)
+pub simulated : (form : Form) (files : List ℕ → Option (List ℕ)) (u v w x : Unread) (a b c a_text b_text c_text : List ℕ) (p : PlanValue)
     (programs : List ProgramValue) (acts run : List Act) (folder next_file unfinished : Option (List ℕ)) (old new : Option (List ℕ)) (kept left : Option (List File))
     → TakesPlan files u a v p → TakesSessions files v b w p programs → TakesScript files w c x p programs acts
     → HaveTexts files u (a ∷ b ∷ c ∷ []) (a_text ∷ b_text ∷ c_text ∷ [])
-    → run ≡ acts → IsSerialRun (run_of (opening p) run) → Appends old new (transcript p run)
-    → LeavesFiles folder next_file unfinished (run_of (opening p) run) kept left → Simulates a_text b_text c_text folder next_file unfinished old new kept left
-simulated files u v w x a b c a_text b_text c_text p programs acts run folder next_file unfinished old new kept left plan sessions script (after, has, (next, has_next, (last, has_last, more))) same serial written leaves =
+    → run ≡ acts → IsSerialRun (run_of (opening p) run) → Appends old new (transcript form p run)
+    → LeavesFiles folder next_file unfinished (run_of (opening p) run) kept left → Simulates form a_text b_text c_text folder next_file unfinished old new kept left
+simulated form files u v w x a b c a_text b_text c_text p programs acts run folder next_file unfinished old new kept left plan sessions script (after, has, (next, has_next, (last, has_last, more))) same serial written leaves =
     let it = plan a_text after has in
     let then_it = sessions b_text next (subst (λ s. HasText files s b b_text next) (sym it.1) has_next) in
     record {
       both = record { p = p; programs = programs; is_plan = it.0; are_sessions = then_it.0 };
       acts = acts;
       is_script = (script c_text last (subst (λ s. HasText files s c c_text last) (sym then_it.1) has_last)).0;
-      written = subst (λ xs. Appends old new (transcript p xs)) same written;
+      written = subst (λ xs. Appends old new (transcript form p xs)) same written;
       serial = subst (λ xs. IsSerialRun (run_of (opening p) xs)) same serial;
       files = subst (λ xs. LeavesFiles folder next_file unfinished (run_of (opening p) xs) kept left) same leaves;
     }
 
 -- ---- offices that run
+
+pub under_seals : (files : List ℕ → Option (List ℕ)) (standard : Option (List ℕ)) (u v : Unread) (a word b : List ℕ) (p : PlanValue) (me : ℕ) (file : Option (List ℕ)) → u ≡ unread standard (a ∷ b ∷ []) → TakesPlan files u a v p → office_named p word ≡ Some me
+    → IfSome file (HasSecrets files p me) → IsSealed files standard a word b file
+under_seals files standard u v a word b p me file e plan named had name a_text b_text is known =
+    let (after, has, more) = started u standard files (a ∷ b ∷ []) (a_text ∷ b_text ∷ []) e known in
+    let P : List ℕ → Type 0 = HasSecrets files p me in
+    (p, me, (plan a_text after has).0, named, subst (λ o. IfSome o P) is had)
 
 pub ran_office : (tells : Bool) (Free : PlanValue → ℕ → List ℕ → Type 0) (files : List ℕ → Option (List ℕ)) (u v w : Unread) (a word b a_text b_text : List ℕ) (p : PlanValue) (me : ℕ) (programs seen : List ProgramValue)
     (turns : ℕ) (file : Option (List ℕ)) (run : Ran) (old new : Option (List ℕ)) (kept left : Option (List File)) → TakesPlan files u a v p → office_named p word ≡ Some me → IsReached p me → TakesSessions files v b w p programs

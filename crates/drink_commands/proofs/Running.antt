@@ -8,9 +8,11 @@ use Rattle.office_stations.specs.declared.fault.RunFault.{RunFault}
 use Rattle.command_inputs.specs.declared.input.Input.{Input}
 use Rattle.command_inputs.specs.declared.input.Input.TheVariants as inputs
 use Rattle.command_outputs.specs.declared.fault.Obstacle.{Obstacle}
+use Rattle.secret_files.specs.declared.fault.SecretsFault.{SecretsFault}
 use Rattle.command_outputs.specs.declared.fault.Fault.{Fault}
-use Rattle.command_outputs.specs.declared.fault.Fault.TheVariants.{Memory, Text, Refused, NoSuchOffice, NoAddress, NoJournal, NoPlace, NoRun, CutShort, WriteFailed, FileFailed, NoStore, StoreFailed, OtherSessions}
+use Rattle.command_outputs.specs.declared.fault.Fault.TheVariants.{Memory, Text, Refused, NoSuchOffice, NoAddress, NoJournal, NoPlace, NoRun, CutShort, WriteFailed, FileFailed, NoStore, StoreFailed, OtherSessions, NoSecrets}
 use Rattle.command_outputs.specs.Fault.{IsAmong, IsFaultAt, IsOfRun, IsPlaceFault}
+use Rattle.drink_commands.specs.Sealed.{IsSecretsFault}
 use Rattle.drink_commands.specs.Texts.{Judges, NoOther, Refuses, nothing}
 use Rattle.drink_commands.specs.Run.{IsJudgedOffice, IsNoOffice, IsOfOffice, IsReached, IsUnreached, JudgesOffice, Leaves, NoObstacle, SaysOf, status_with}
 use Rattle.drink_commands.proofs.Faults.{RefusesWord, SaysTexts, TakesPlan, among, among_more, weaker}
@@ -32,6 +34,7 @@ no_office U F S (FileFailed name cause) h u = tt
 no_office U F S (NoStore why) h u = u
 no_office U F S StoreFailed h u = u
 no_office U F S (OtherSessions ticket) h u = u
+no_office U F S (NoSecrets why) h u = u
 
 unreached : (U : Type 0) (F : List ℕ → Obstacle → Type 0) (S : RunFault → Type 0) (p : PlanValue) (v : ℕ) (f : Fault) → IsUnreached p v f → U → Leaves U F S f
 unreached U F S p v Memory h u = u
@@ -48,6 +51,7 @@ unreached U F S p v (FileFailed name cause) h u = tt
 unreached U F S p v (NoStore why) h u = u
 unreached U F S p v StoreFailed h u = u
 unreached U F S p v (OtherSessions ticket) h u = u
+unreached U F S p v (NoSecrets why) h u = u
 
 -- a fault at the office that is asked for
 pub at_office : (U : Type 0) (F : List ℕ → Obstacle → Type 0) (S : RunFault → Type 0) (p : PlanValue) (o : Option ℕ) (f : Fault) → SaysOf p NoOther o f → U → Leaves U F S f
@@ -71,6 +75,7 @@ at_end U F S T (FileFailed name cause) h k = tt
 at_end U F S T (NoStore why) h k = absurd h
 at_end U F S T StoreFailed h k = absurd h
 at_end U F S T (OtherSessions ticket) h k = absurd h
+at_end U F S T (NoSecrets why) h k = absurd h
 
 pub is_end : (S : RunFault → Type 0) (f : Fault) → Leaves ⊥ NoObstacle S f → IsAmong [] f ⊎ IsOfRun f
 is_end S Memory h = absurd h
@@ -87,6 +92,7 @@ is_end S (FileFailed name cause) h = inl tt
 is_end S (NoStore why) h = absurd h
 is_end S StoreFailed h = absurd h
 is_end S (OtherSessions ticket) h = absurd h
+is_end S (NoSecrets why) h = absurd h
 
 -- the journals have no place
 pub at_place : (U : Type 0) (E F : List ℕ → Obstacle → Type 0) (S : RunFault → Type 0) (f : Fault) → IsPlaceFault E f → U → ((name : List ℕ) (why : Obstacle) → E name why → F name why)
@@ -105,6 +111,7 @@ at_place U E F S (FileFailed name cause) h u k = absurd h
 at_place U E F S (NoStore why) h u k = absurd h
 at_place U E F S StoreFailed h u k = absurd h
 at_place U E F S (OtherSessions ticket) h u k = absurd h
+at_place U E F S (NoSecrets why) h u k = absurd h
 
 pub is_place : (E : List ℕ → Obstacle → Type 0) (f : Fault) → IsPlaceFault E f → IsAmong [] f ⊎ IsOfRun f
 is_place E Memory h = inl tt
@@ -121,6 +128,42 @@ is_place E (FileFailed name cause) h = absurd h
 is_place E (NoStore why) h = absurd h
 is_place E StoreFailed h = absurd h
 is_place E (OtherSessions ticket) h = absurd h
+is_place E (NoSecrets why) h = absurd h
+
+-- the office doesn't get its secrets
+pub at_secrets : (U : Type 0) (E : SecretsFault → Type 0) (F : List ℕ → Obstacle → Type 0) (S : RunFault → Type 0) (f : Fault) → IsSecretsFault E f → U → Leaves U F S f
+at_secrets U E F S Memory h u = absurd h
+at_secrets U E F S (Text fault) h u = absurd h
+at_secrets U E F S (Refused why said) h u = absurd h
+at_secrets U E F S (NoSuchOffice offices) h u = absurd h
+at_secrets U E F S (NoAddress office) h u = absurd h
+at_secrets U E F S (NoJournal office) h u = absurd h
+at_secrets U E F S (NoPlace name why) h u = absurd h
+at_secrets U E F S (NoRun cause) h u = absurd h
+at_secrets U E F S (CutShort cause) h u = absurd h
+at_secrets U E F S (WriteFailed cause) h u = absurd h
+at_secrets U E F S (FileFailed name cause) h u = absurd h
+at_secrets U E F S (NoStore why) h u = absurd h
+at_secrets U E F S StoreFailed h u = absurd h
+at_secrets U E F S (OtherSessions ticket) h u = absurd h
+at_secrets U E F S (NoSecrets why) h u = u
+
+pub is_secrets : (E : SecretsFault → Type 0) (f : Fault) → IsSecretsFault E f → IsAmong [] f ⊎ IsOfRun f
+is_secrets E Memory h = absurd h
+is_secrets E (Text fault) h = absurd h
+is_secrets E (Refused why said) h = absurd h
+is_secrets E (NoSuchOffice offices) h = absurd h
+is_secrets E (NoAddress office) h = absurd h
+is_secrets E (NoJournal office) h = absurd h
+is_secrets E (NoPlace name why) h = absurd h
+is_secrets E (NoRun cause) h = absurd h
+is_secrets E (CutShort cause) h = absurd h
+is_secrets E (WriteFailed cause) h = absurd h
+is_secrets E (FileFailed name cause) h = absurd h
+is_secrets E (NoStore why) h = absurd h
+is_secrets E StoreFailed h = absurd h
+is_secrets E (OtherSessions ticket) h = absurd h
+is_secrets E (NoSecrets why) h = inr (inr (inr tt))
 
 -- ---- what a fault says
 
@@ -140,6 +183,7 @@ module _ (P : Fault → Type 0) (asked : List Input) where
   named (NoStore why) h = absurd h
   named StoreFailed h = absurd h
   named (OtherSessions ticket) h = absurd h
+  named (NoSecrets why) h = absurd h
 
   met : (p : PlanValue) (v : ℕ) (f : Fault) → IsUnreached p v f → IsAmong asked f ⊎ (IsOfOffice f ⊎ P f)
   met p v Memory h = inl tt
@@ -156,13 +200,14 @@ module _ (P : Fault → Type 0) (asked : List Input) where
   met p v (NoStore why) h = absurd h
   met p v StoreFailed h = absurd h
   met p v (OtherSessions ticket) h = absurd h
+  met p v (NoSecrets why) h = absurd h
 
-  asked_for : (p : PlanValue) (o : Option ℕ) (f : Fault) → SaysOf p NoOther o f → IsAmong asked f ⊎ (IsOfOffice f ⊎ P f)
+  pub asked_for : (p : PlanValue) (o : Option ℕ) (f : Fault) → SaysOf p NoOther o f → IsAmong asked f ⊎ (IsOfOffice f ⊎ P f)
   asked_for p None f h = named f h
   asked_for p (Some me) f (inl (v, e, h)) = met p v f h
   asked_for p (Some me) f (inr (reached, h)) = absurd h
 
-says_more : (p : PlanValue) (P : Fault → Type 0) (o : Option ℕ) (f : Fault) → SaysOf p NoOther o f → SaysOf p P o f
+pub says_more : (p : PlanValue) (P : Fault → Type 0) (o : Option ℕ) (f : Fault) → SaysOf p NoOther o f → SaysOf p P o f
 says_more p P None f h = h
 says_more p P (Some me) f (inl h) = inl h
 says_more p P (Some me) f (inr (reached, h)) = absurd h

@@ -13,10 +13,12 @@ use Rattle.stored_runs.specs.declared.fault.StoredFault.{StoredFault}
 use Rattle.stored_runs.specs.declared.fault.StoredFault.TheVariants as ended
 use Rattle.command_inputs.specs.declared.input.Input.TheVariants as inputs
 use Rattle.command_outputs.specs.declared.fault.Obstacle.{Obstacle}
+use Rattle.secret_files.specs.declared.fault.SecretsFault.{SecretsFault}
+use Rattle.drink_commands.specs.Sealed.{IsSecretsFault}
 use Rattle.command_outputs.specs.declared.fault.StoreRefusal.{StoreRefusal}
 use Rattle.command_outputs.specs.declared.fault.StoreRefusal.TheVariants as refusal
 use Rattle.command_outputs.specs.declared.fault.Fault.{Fault}
-use Rattle.command_outputs.specs.declared.fault.Fault.TheVariants.{Memory, Text, Refused, NoSuchOffice, NoAddress, NoJournal, NoPlace, NoRun, CutShort, WriteFailed, FileFailed, NoStore, StoreFailed, OtherSessions}
+use Rattle.command_outputs.specs.declared.fault.Fault.TheVariants.{Memory, Text, Refused, NoSuchOffice, NoAddress, NoJournal, NoPlace, NoRun, CutShort, WriteFailed, FileFailed, NoStore, StoreFailed, OtherSessions, NoSecrets}
 use Rattle.command_outputs.specs.Fault.{IsAmong, IsOfStoredRun, IsPlaceFault}
 use Rattle.command_inputs.specs.Plans.{IsAcceptedAs}
 use Rattle.drink_commands.specs.Run.{IsNoOffice, IsReached, IsUnreached, SaysOf}
@@ -48,6 +50,7 @@ module _ (U S : Type 0) (F : List ℕ → Obstacle → Type 0) (is_new : Bool) (
   no_office (NoStore why) h u = absurd h
   no_office StoreFailed h u = absurd h
   no_office (OtherSessions ticket) h u = absurd h
+  no_office (NoSecrets why) h u = absurd h
 
   unreached : (p : PlanValue) (v : ℕ) (f : Fault) → IsUnreached p v f → U → L f
   unreached p v Memory h u = u
@@ -64,6 +67,7 @@ module _ (U S : Type 0) (F : List ℕ → Obstacle → Type 0) (is_new : Bool) (
   unreached p v (NoStore why) h u = absurd h
   unreached p v StoreFailed h u = absurd h
   unreached p v (OtherSessions ticket) h u = absurd h
+  unreached p v (NoSecrets why) h u = absurd h
 
   -- a fault at the office that is asked for
   pub at_office : (p : PlanValue) (o : Option ℕ) (f : Fault) → SaysOf p NoOther o f → U → L f
@@ -87,6 +91,7 @@ module _ (U S : Type 0) (F : List ℕ → Obstacle → Type 0) (is_new : Bool) (
   at_place (NoStore why) h u s = absurd h
   at_place StoreFailed h u s = absurd h
   at_place (OtherSessions ticket) h u s = absurd h
+  at_place (NoSecrets why) h u s = absurd h
 
   refused : (M : KeptFault → Type 0) → ((fault : KeptFault) → M fault → N fault) → (why : StoreRefusal) → IsRefusal S is_new M why → IsRefusal S is_new N why
   refused M k (refusal.Failed cause) h = tt
@@ -94,6 +99,24 @@ module _ (U S : Type 0) (F : List ℕ → Obstacle → Type 0) (is_new : Bool) (
   refused M k refusal.Missing h = h
   refused M k refusal.There h = h
   refused M k (refusal.Faulty line why text) h = (h.0, k _ h.1)
+
+  -- the office doesn't get its secrets
+  pub at_secrets : (E : SecretsFault → Type 0) (f : Fault) → IsSecretsFault E f → U → L f
+  at_secrets E Memory h u = absurd h
+  at_secrets E (Text fault) h u = absurd h
+  at_secrets E (Refused why said) h u = absurd h
+  at_secrets E (NoSuchOffice offices) h u = absurd h
+  at_secrets E (NoAddress office) h u = absurd h
+  at_secrets E (NoJournal office) h u = absurd h
+  at_secrets E (NoPlace name why) h u = absurd h
+  at_secrets E (NoRun cause) h u = absurd h
+  at_secrets E (CutShort cause) h u = absurd h
+  at_secrets E (WriteFailed cause) h u = absurd h
+  at_secrets E (FileFailed name cause) h u = absurd h
+  at_secrets E (NoStore why) h u = absurd h
+  at_secrets E StoreFailed h u = absurd h
+  at_secrets E (OtherSessions ticket) h u = absurd h
+  at_secrets E (NoSecrets why) h u = u
 
   -- the office doesn't get its store, or doesn't go on from it
   pub at_store : (M : KeptFault → Type 0) → ((fault : KeptFault) → M fault → N fault) → (f : Fault) → IsStoreFault S is_new M f → U → L f
@@ -111,6 +134,7 @@ module _ (U S : Type 0) (F : List ℕ → Obstacle → Type 0) (is_new : Bool) (
   at_store M k (NoStore why) h u = (u, refused M k why h)
   at_store M k StoreFailed h u = absurd h
   at_store M k (OtherSessions ticket) h u = (u, h.0, k _ h.1)
+  at_store M k (NoSecrets why) h u = absurd h
 
   -- the run had begun
   pub at_end : (e : Ended) (f : Fault) → IsEnd e f → ((cause : StoredFault) → IsEndedBy cause e → R cause) → L f
@@ -128,6 +152,7 @@ module _ (U S : Type 0) (F : List ℕ → Obstacle → Type 0) (is_new : Bool) (
   at_end e (NoStore why) h k = absurd h
   at_end e StoreFailed h k = k ended.StoreFailed h
   at_end e (OtherSessions ticket) h k = absurd h
+  at_end e (NoSecrets why) h k = absurd h
 
 -- ---- faults of such a run
 
@@ -146,6 +171,7 @@ is_end e (FileFailed name cause) h = absurd h
 is_end e (NoStore why) h = absurd h
 is_end e StoreFailed h = inr (inr tt)
 is_end e (OtherSessions ticket) h = absurd h
+is_end e (NoSecrets why) h = absurd h
 
 pub is_place : (F : List ℕ → Obstacle → Type 0) (f : Fault) → IsPlaceFault F f → IsAmong [] f ⊎ IsOfStoredRun f
 is_place F Memory h = inl tt
@@ -162,6 +188,24 @@ is_place F (FileFailed name cause) h = absurd h
 is_place F (NoStore why) h = absurd h
 is_place F StoreFailed h = absurd h
 is_place F (OtherSessions ticket) h = absurd h
+is_place F (NoSecrets why) h = absurd h
+
+pub is_secrets : (E : SecretsFault → Type 0) (f : Fault) → IsSecretsFault E f → IsAmong [] f ⊎ IsOfStoredRun f
+is_secrets E Memory h = absurd h
+is_secrets E (Text fault) h = absurd h
+is_secrets E (Refused why said) h = absurd h
+is_secrets E (NoSuchOffice offices) h = absurd h
+is_secrets E (NoAddress office) h = absurd h
+is_secrets E (NoJournal office) h = absurd h
+is_secrets E (NoPlace name why) h = absurd h
+is_secrets E (NoRun cause) h = absurd h
+is_secrets E (CutShort cause) h = absurd h
+is_secrets E (WriteFailed cause) h = absurd h
+is_secrets E (FileFailed name cause) h = absurd h
+is_secrets E (NoStore why) h = absurd h
+is_secrets E StoreFailed h = absurd h
+is_secrets E (OtherSessions ticket) h = absurd h
+is_secrets E (NoSecrets why) h = inr (inl (inr (inr tt)))
 
 pub is_store : (S : Type 0) (is_new : Bool) (N : KeptFault → Type 0) (f : Fault) → IsStoreFault S is_new N f → IsAmong [] f ⊎ IsOfStoredRun f
 is_store S is_new N Memory h = inl tt
@@ -178,6 +222,7 @@ is_store S is_new N (FileFailed name cause) h = absurd h
 is_store S is_new N (NoStore why) h = inr (inr tt)
 is_store S is_new N StoreFailed h = absurd h
 is_store S is_new N (OtherSessions ticket) h = inr (inr tt)
+is_store S is_new N (NoSecrets why) h = absurd h
 
 -- ---- what a fault says
 

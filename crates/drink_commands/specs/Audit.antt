@@ -5,6 +5,7 @@ use Rattle.std.specs.Io.KnownBytes.{Appends}
 use Rattle.input_texts.specs.Words.{HaveFirstTexts}
 use Rattle.office_map.specs.PlanValue.{PlanValue}
 use Rattle.run_words.specs.Words.{office_name}
+use Rattle.report_forms.specs.declared.forms.Form.{Form}
 use Rattle.journal_texts.specs.declared.fault.JournalFault.TheVariants as journal
 use Rattle.frame_world.specs.Worlds.{World}
 use Rattle.output_files.specs.Written.{KeepsFiles}
@@ -33,20 +34,20 @@ journal_inputs place (suc n) = inputs.Journal place ∷ journal_inputs (suc plac
 
 -- The report of the world whose record the journals are, and what that leaves for the next day was written, where words name files for it;
 -- the exit status is 0. Or the line of an entry that no schedule has, and no file; and it is 1.
-abbrev pub Tells : (next unfinished : Option (List ℕ)) → PlanValue → List GivenJournal → List ℕ → ℕ → (kept left : Option (List File)) → Type 0
-Tells next unfinished p journals printed status kept left =
-    ((w : World) × TellsWoven w p journals printed × (status ≡ 0) × WritesEnd next unfinished w kept left)
-    ⊎ (TellsUnwoven p journals printed × (status ≡ 1) × KeepsFiles kept left)
+abbrev pub Tells : Form → (next unfinished : Option (List ℕ)) → PlanValue → List GivenJournal → List ℕ → ℕ → (kept left : Option (List File)) → Type 0
+Tells form next unfinished p journals printed status kept left =
+    ((w : World) × TellsWoven form w p journals printed × (status ≡ 0) × WritesEnd next unfinished w kept left)
+    ⊎ (TellsUnwoven form p journals printed × (status ≡ 1) × KeepsFiles kept left)
 
--- The texts mean a plan and a journal of each of its offices, in any order, and what these tell together was written after what the
--- writer held.
-pub record Audits (plan : List ℕ) (texts : List (List ℕ)) (next unfinished : Option (List ℕ)) (status : ℕ) (old new : Option (List ℕ)) (kept left : Option (List File)) : Type 0 where
+-- The texts mean a plan and a journal of each of its offices, in any order, and what these tell together was written, in that form,
+-- after what the writer held.
+pub record Audits (form : Form) (plan : List ℕ) (texts : List (List ℕ)) (next unfinished : Option (List ℕ)) (status : ℕ) (old new : Option (List ℕ)) (kept left : Option (List File)) : Type 0 where
   pub p : PlanValue
   pub journals : List GivenJournal
   pub printed : List ℕ
   pub is_plan : IsAcceptedAs plan p
   pub are_journals : AreJournals p texts journals
-  pub told : Tells next unfinished p journals printed status kept left
+  pub told : Tells form next unfinished p journals printed status kept left
   pub written : Appends old new printed
 
 -- ---- what a fault says

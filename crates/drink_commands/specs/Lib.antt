@@ -5,5 +5,7 @@ pub mod Simulation
 pub mod Random
 pub mod Audit
 pub mod Run
+pub mod Sealed
 pub mod Stored
 pub mod refinement
+pub mod Served

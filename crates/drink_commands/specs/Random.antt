@@ -1,18 +1,19 @@
 -- What the command `random` writes.
 use Rattle.std.specs.Prelude.{ℕ, List, Option}
 use Rattle.std.specs.Io.KnownBytes.{Appends}
+use Rattle.report_forms.specs.declared.forms.Form.{Form}
 use Rattle.frame_world.specs.Worlds.{World}
 use Rattle.random_runs.specs.Runs.{Tells}
 use Rattle.command_outputs.specs.Days.{WritesEndOf}
 use Rattle.command_outputs.specs.Journals.{File}
 use Rattle.command_inputs.specs.Plans.{PlanAndSessions}
 
--- The two texts mean a plan and sessions under it, and the report of a run of these with this loss, whichever was drawn, was
+-- The two texts mean a plan and sessions under it, and the report, in that form, of a run of these with this loss, whichever was drawn, was
 -- written after what the writer held; and then what its world leaves for the next day, where words name files for it.
-pub record TellsRun (plan sessions : List ℕ) (loss : ℕ) (next unfinished : Option (List ℕ)) (old new : Option (List ℕ)) (kept left : Option (List File)) : Type 0 where
+pub record TellsRun (form : Form) (plan sessions : List ℕ) (loss : ℕ) (next unfinished : Option (List ℕ)) (old new : Option (List ℕ)) (kept left : Option (List File)) : Type 0 where
   pub both : PlanAndSessions plan sessions
   pub world : World
   pub printed : List ℕ
-  pub told : Tells both.p both.programs loss world printed
+  pub told : Tells form both.p both.programs loss world printed
   pub written : Appends old new printed
   pub day : WritesEndOf both.programs next unfinished world kept left

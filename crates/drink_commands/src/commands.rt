@@ -10,7 +10,9 @@ pub mod audit;
 pub mod live;
 pub mod random;
 pub mod run;
+mod secrets;
 pub mod serial;
+pub mod serve;
 pub mod sim;
 pub mod stored;
 

@@ -4,6 +4,7 @@ use drink_commands::commands::serial;
 use input_texts::Sources;
 use office_map as plans;
 use output_files::InMemory;
+use report_forms::Form;
 use session_language as sessions;
 use std::alloc::{AllocError, Global};
 use std::io;
@@ -12,6 +13,8 @@ use std::process::Abort;
 use std::test::Fail;
 
 mod audits;
+mod clients;
+mod days;
 mod devices;
 mod ear;
 mod exits;
@@ -20,6 +23,8 @@ mod places;
 mod random;
 mod running;
 mod scripts;
+mod sealed;
+mod served;
 mod shell;
 mod shelves;
 mod sockets;
@@ -122,6 +127,10 @@ impl<'a> Sources for Memory<'a> {
         word == name
     }
 
+    fn is_open_to_others(&self, name: &str) -> io::Result<bool> {
+        Ok(name == "p")
+    }
+
     fn standard(&self) -> Reading<'a> {
         self.reading(self.standard)
     }
@@ -166,6 +175,7 @@ fn ran(alloc: Global, plan: &str, sessions: &str) -> (Result<u8, Fault>, Vec<u8>
     let memory = Memory::new(plan, sessions, "");
     let result = serial::run(
         alloc,
+        Form::Plain,
         &memory,
         "p",
         "s",
@@ -181,6 +191,7 @@ fn prints(rt: &(impl Abort + AllocGlobal), memory: &Memory<'_>, printed: &str) {
     let mut out = Vec::new(rt.alloc());
     let result = serial::run(
         rt.alloc(),
+        Form::Plain,
         memory,
         "p",
         "s",

@@ -11,6 +11,7 @@
 //! the standard input or a terminal gives or takes is outside what is proved.
 #![tactic(auto)]
 
+mod client;
 pub mod program;
 pub mod telling;
 

@@ -5,20 +5,24 @@ ghost use Rattle.std.specs.String.{string_bytes};
 ghost use Rattle.drink_program.specs.Requests.{IsDone, IsJudgedFor, IsStatusOf, word_of};
 ghost use Rattle.drink_program.specs.Status.{IsAnswered, status_of};
 
+use crate::client::Client;
 use crate::telling::{Telling, opened};
 use command_inputs::Input;
 use command_outputs::Fault;
+use command_outputs::clients::Clients;
 use command_outputs::stores::{StoreFiles, Stores};
 use command_words::command_line::{Request, command_line, help};
-use drink_commands::commands::{audit, live, random, run, serial, sim, stored};
+use drink_commands::commands::{audit, live, random, run, serial, serve, sim, stored};
 use input_texts::{Devices, Sources};
 use journal_stores::StoreFile;
-use office_stations::{Around, Binds, Gate, Open, UdpSockets, Watch};
+use office_stations::{Around, Binds, Gate, Open, UdpSockets};
 use output_files::{Disk, Targets};
 use random_runs::Schedule;
+use report_forms::Form;
 pub use serial_command::answer::words;
 use serial_command::answer::{fault_line, misused};
 use serial_command::exit::{Exit, FAILED, MISUSED};
+use serving::{Monitor, Times};
 use std::alloc::{AllocError, Global};
 use std::io;
 use std::io::{IsTerminal, Write};
@@ -62,6 +66,7 @@ where
             &around,
             &mut disk,
             &mut stores,
+            &Client::new(&devices),
             &mut io::writer(rt),
         ),
         Err(exit) => exit,
@@ -69,9 +74,9 @@ where
     exit.end(rt)
 }
 
-/// Does what these words ask for. The first of them is the program's name. The status is 0 only where what they ask for was
+/// Does what these words ask for, of a client too that asks on the standard input. The first of them is the program's name. The status is 0 only where what they ask for was
 /// done, without sessions that a run of offices leaves, or help or the version went out; and nothing is written where it is 2.
-pub fn answer<R, S, B, G, V, T, K, W>(
+pub fn answer<R, S, B, G, V, T, K, C, W>(
     rt: &R,
     alloc: Global,
     words: &[String],
@@ -79,6 +84,7 @@ pub fn answer<R, S, B, G, V, T, K, W>(
     around: &Around<'_, B, G, V>,
     targets: &mut T,
     stores: &mut K,
+    clients: &C,
     out: &mut W,
 ) -> Exit
 where
@@ -88,10 +94,12 @@ where
     B::Socket: Send,
     B::Alarm: Send,
     G: Gate + Sync,
-    V: Watch + Sync,
+    V: Monitor + Sync,
     T: Targets,
     K: Stores,
+    C: Clients,
     W: Write,
+    requires { C.asks clients.now ≡ S.standard_text sources.now }
     ensures done { result.status ≡ 0 → IsAnswered B.Socket.tells (S.file_text sources.now) (S.standard_text sources.now) (K.has stores.old) (map string_bytes words.now) (W.contents out.old) (W.contents out.new) (T.written targets.old) (T.written targets.new) }
     ensures unwritten { result.status ≡ 2 → (out.new ≡ out.old) × (targets.new ≡ targets.old) × (stores.new ≡ stores.old) }
 {
@@ -103,7 +111,9 @@ where
             if has_dash(&request) {
                 return Exit::saying(MISUSED, no_dash(alloc, &request));
             }
-            let result = perform(rt, alloc, &request, sources, around, targets, stores, out);
+            let result = perform(
+                rt, alloc, &request, sources, around, targets, stores, clients, out,
+            );
             Exit {
                 status: status(&result),
                 said: said(alloc, &request, &result),
@@ -113,16 +123,31 @@ where
     }
 }
 
-/// Whether a request names `-` for a file that is to be written. That is the standard input elsewhere, and no file.
+/// Whether a request names `-` where a file has to stand: one that is to be written or has secrets, or the plan of an office that serves,
+/// since what is asked of it comes from the standard input. That is what `-` is elsewhere, and no file.
 fn has_dash(request: &Request<'_>) -> bool {
     dash_of(request).is_some()
 }
 
-/// The option of a request that does.
+/// The word or option of a request that does.
 fn dash_of(request: &Request<'_>) -> Option<&'static str> {
     match request {
-        Request::Run { journal, .. } => dash_in("--journal", *journal),
-        Request::RunStored { store, .. } => dash_in("--store", Some(*store)),
+        Request::Run {
+            journal,
+            secrets,
+            ..
+        } => dash_in("--journal", *journal).or(dash_in("--secrets", *secrets)),
+        Request::RunStored { store, secrets, .. } => {
+            dash_in("--store", Some(*store)).or(dash_in("--secrets", *secrets))
+        }
+        Request::Serve {
+            plan,
+            store,
+            secrets,
+            ..
+        } => dash_in("PLAN", Some(*plan))
+            .or(dash_in("--store", Some(*store)))
+            .or(dash_in("--secrets", *secrets)),
         Request::Serial { next, .. } => dash_in("--plan", *next),
         Request::Sim { next, left, .. }
         | Request::Random { next, left, .. }
@@ -150,7 +175,7 @@ fn no_dash(alloc: Global, request: &Request<'_>) -> Result<String, AllocError> {
 }
 
 /// Carries a request out. The answer is the exit status.
-pub fn perform<R, S, B, G, V, T, K, W>(
+pub fn perform<R, S, B, G, V, T, K, C, W>(
     rt: &R,
     alloc: Global,
     request: &Request,
@@ -158,6 +183,7 @@ pub fn perform<R, S, B, G, V, T, K, W>(
     around: &Around<'_, B, G, V>,
     targets: &mut T,
     stores: &mut K,
+    clients: &C,
     out: &mut W,
 ) -> Result<u8, Fault>
 where
@@ -167,10 +193,12 @@ where
     B::Socket: Send,
     B::Alarm: Send,
     G: Gate + Sync,
-    V: Watch + Sync,
+    V: Monitor + Sync,
     T: Targets,
     K: Stores,
+    C: Clients,
     W: Write,
+    requires { C.asks clients.now ≡ S.standard_text sources.now }
     ensures done { IfOk result (λ status. IsDone B.Socket.tells (S.file_text sources.now) (S.standard_text sources.now) (K.has stores.old) request.now status (W.contents out.old) (W.contents out.new) (T.written targets.old) (T.written targets.new)) }
     ensures status { IfOk result (IsStatusOf request.now) }
     ensures judged { IfErr result (IsJudgedFor (S.file_text sources.now) (S.standard_text sources.now) request.now) }
@@ -180,7 +208,11 @@ where
             plan,
             sessions,
             next,
-        } => serial::run(alloc, sources, plan, sessions, *next, targets, out),
+            json,
+        } => {
+            let form = Form::of(*json);
+            serial::run(alloc, form, sources, plan, sessions, *next, targets, out)
+        }
         Request::Sim {
             plan,
             sessions,
@@ -188,9 +220,13 @@ where
             journals,
             next,
             left,
-        } => sim::run(
-            alloc, sources, plan, sessions, script, *journals, *next, *left, targets, out,
-        ),
+            json,
+        } => {
+            let form = Form::of(*json);
+            sim::run(
+                alloc, form, sources, plan, sessions, script, *journals, *next, *left, targets, out,
+            )
+        }
         Request::Random {
             plan,
             sessions,
@@ -199,14 +235,16 @@ where
             steps,
             next,
             left,
+            json,
         } => {
+            let form = Form::of(*json);
             let schedule = Schedule {
                 seed: *seed,
                 loss: *loss,
                 steps: *steps,
             };
             random::run(
-                alloc, sources, plan, sessions, schedule, *next, *left, targets, out,
+                alloc, form, sources, plan, sessions, schedule, *next, *left, targets, out,
             )
         }
         Request::Run {
@@ -215,8 +253,10 @@ where
             sessions,
             turns,
             journal,
+            secrets,
         } => run::run(
-            rt, alloc, sources, plan, office, sessions, *turns, *journal, around, targets, out,
+            rt, alloc, sources, plan, office, sessions, *turns, *journal, *secrets, around,
+            targets, out,
         ),
         Request::RunStored {
             plan,
@@ -226,10 +266,30 @@ where
             store,
             sync,
             new,
+            secrets,
         } => stored::run(
-            rt, alloc, sources, plan, office, sessions, *turns, store, *sync, *new, around, stores,
-            out,
+            rt, alloc, sources, plan, office, sessions, *turns, store, *sync, *new, *secrets,
+            around, stores, out,
         ),
+        Request::Serve {
+            plan,
+            office,
+            store,
+            sync,
+            new,
+            secrets,
+            linger,
+            status,
+        } => {
+            let times = Times {
+                linger: *linger,
+                status: *status,
+            };
+            serve::run(
+                rt, alloc, sources, plan, office, store, *sync, *new, *secrets, times, around,
+                stores, clients, out,
+            )
+        }
         Request::Live {
             plan,
             sessions,
@@ -244,7 +304,13 @@ where
             journals,
             next,
             left,
-        } => audit::run(alloc, sources, plan, journals, *next, *left, targets, out),
+            json,
+        } => {
+            let form = Form::of(*json);
+            audit::run(
+                alloc, form, sources, plan, journals, *next, *left, targets, out,
+            )
+        }
     }
 }
 
@@ -273,9 +339,22 @@ fn said(
 /// The word of a request that a fault is about, or the file, if it is about one.
 fn named<'a>(request: &'a Request<'_>, fault: &'a Fault) -> Option<&'a str> {
     match (request, fault) {
-        (Request::Run { office, .. } | Request::RunStored { office, .. }, Fault::NoSuchOffice(_)) =>
-            Some(*office),
-        (Request::RunStored { store, .. }, Fault::NoStore(_) | Fault::StoreFailed) => Some(*store),
+        (
+            Request::Run { office, .. }
+            | Request::RunStored { office, .. }
+            | Request::Serve { office, .. },
+            Fault::NoSuchOffice(_),
+        ) => Some(*office),
+        (
+            Request::RunStored { store, .. } | Request::Serve { store, .. },
+            Fault::NoStore(_) | Fault::StoreFailed,
+        ) => Some(*store),
+        (
+            Request::Run { secrets, .. }
+            | Request::RunStored { secrets, .. }
+            | Request::Serve { secrets, .. },
+            Fault::NoSecrets(_),
+        ) => *secrets,
         (_, Fault::FileFailed(name, _) | Fault::NoPlace(name, _)) => Some(name.as_str()),
         _ => match fault.input() {
             Some(input) => Some(word_of(request, input)),
@@ -315,6 +394,11 @@ fn word_of<'a>(request: &Request<'a>, input: Input) -> &'a str
         | Request::Live { plan, sessions, .. } => match input {
             Input::Plan => plan,
             Input::Sessions => sessions,
+            Input::Script | Input::Journal(_) => "",
+        },
+        Request::Serve { plan, .. } => match input {
+            Input::Plan => plan,
+            Input::Sessions => "-",
             Input::Script | Input::Journal(_) => "",
         },
         Request::Audit { plan, journals, .. } => match input {

@@ -2,6 +2,7 @@
 
 use office_stations::{Progress, Watch};
 use run_remarks::Unmet;
+use serving::{Monitor, Status};
 use std::alloc::{AllocError, Global};
 use std::fs::OpenOptions;
 use std::io;
@@ -42,6 +43,26 @@ impl<'a, R: Eprint> Watch for Telling<'a, R> {
         if !remarks.is_empty() {
             let _ = eprint!(self.rt; "{remarks}");
         }
+    }
+}
+
+impl<'a, R: Eprint> Monitor for Telling<'a, R> {
+    fn tell_status(&self, status: &Status) {
+        let Status {
+            finished,
+            unfinished,
+            came,
+            refused,
+            left,
+            append,
+        } = *status;
+        let _ = eprintln!(self.rt;
+            "drink: {finished} sessions finished, {unfinished} did not; {came} datagrams came, {refused} were refused; {left} entries are left; the last append took {append} ms"
+        );
+    }
+
+    fn tell_silent(&self, unmet: &Unmet<'_>) {
+        let _ = eprintln!(self.rt; "drink: {unmet}");
     }
 }
 

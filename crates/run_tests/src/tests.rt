@@ -1,3 +1,4 @@
 mod drawn;
 mod remarks;
+mod serve_words;
 mod words;

@@ -5,6 +5,7 @@ use Rattle.std.specs.Io.KnownBytes.{Appends}
 use Rattle.input_texts.specs.Words.{HasText, HaveTexts, Unread}
 use Rattle.office_map.specs.PlanValue.{PlanValue}
 use Rattle.run_words.specs.Words.{office_name}
+use Rattle.report_forms.specs.declared.forms.Form.{Form}
 use Rattle.frame_world.specs.Worlds.{World}
 use Rattle.output_files.specs.Written.{KeepsFiles}
 use Rattle.command_outputs.specs.Days.{WritesEnd}
@@ -68,7 +69,7 @@ module _ (files : List ℕ → Option (List ℕ)) where
 
   -- who writes these bytes, with the status of journals that are woven or not, and then what their world leaves, if there is one, writes
   -- what the texts of these words tell
-  abbrev pub TellsAudit : Unread → List ℕ → List (List ℕ) → Option World → List ℕ → Type 0
-  TellsAudit u plan words found printed = (text : List ℕ) (texts : List (List ℕ)) → HaveTexts files u (plan ∷ words) (text ∷ texts)
+  abbrev pub TellsAudit : Form → Unread → List ℕ → List (List ℕ) → Option World → List ℕ → Type 0
+  TellsAudit form u plan words found printed = (text : List ℕ) (texts : List (List ℕ)) → HaveTexts files u (plan ∷ words) (text ∷ texts)
       → (next unfinished : Option (List ℕ)) (status : ℕ) (old new : Option (List ℕ)) (kept left : Option (List File))
-      → status ≡ (if is_some found then 0 else 1) → Appends old new printed → WritesFound next unfinished found kept left → Audits text texts next unfinished status old new kept left
+      → status ≡ (if is_some found then 0 else 1) → Appends old new printed → WritesFound next unfinished found kept left → Audits form text texts next unfinished status old new kept left

@@ -17,6 +17,7 @@ use command_outputs::output::write_whole;
 use input_texts::{Sources, StandardInput};
 use journal_audit::{Finding, audit};
 use output_files::Targets;
+use report_forms::Form;
 use std::alloc::{AllocError, Global};
 use std::io::Write;
 use world_schedule::World;
@@ -24,12 +25,13 @@ use world_schedule::World;
 /// The exit status of an audit of journals that are the record of no schedule.
 const UNWOVEN: u8 = 1;
 
-/// Weaves the journals that the offices of a plan left, one of each in any order, and writes what the sessions did of which
+/// Weaves the journals that the offices of a plan left, one of each in any order, and writes in that form what the sessions did of which
 /// they tell, how many of these haven't finished, and the values; or which entry no schedule has. Each input is read and judged
 /// before the next one is read, and nothing is written before all are. Where a schedule is woven, the plan of the next day and the
 /// sessions that are left are written then, where files are named for those. The answer is the exit status: 1 where none is woven.
 pub fn run<S: Sources, T: Targets, W: Write>(
     alloc: Global,
+    form: Form,
     sources: &S,
     plan: &str,
     journals: &[&str],
@@ -40,7 +42,7 @@ pub fn run<S: Sources, T: Targets, W: Write>(
 ) -> Result<u8, Fault>
     ensures audits { IfOk result (λ status. (plan_text : List ℕ) (texts : List (List ℕ))
         → StandFor (S.file_text sources.now) (S.standard_text sources.now) (plan.now ∷ map (λ w. w.now) journals.now) (plan_text ∷ texts)
-        → Audits plan_text texts (option_copied next.entry) (option_copied left.entry) status (W.contents out.old) (W.contents out.new) (T.written targets.old) (T.written targets.new)) }
+        → Audits form plan_text texts (option_copied next.entry) (option_copied left.entry) status (W.contents out.old) (W.contents out.new) (T.written targets.old) (T.written targets.new)) }
     ensures status { IfOk result (λ status. status ≤ 1) }
 
     ensures judged { IfErr result (IsJudgedAudit (S.file_text sources.now) (S.standard_text sources.now) plan.now (map (λ w. w.now) journals.now)) }
@@ -48,7 +50,7 @@ pub fn run<S: Sources, T: Targets, W: Write>(
 {
     let words = all_words(alloc, plan, journals)?;
     let mut standard = StandardInput::new(alloc, sources.standard(), &words);
-    let found = found(alloc, sources, &mut standard, plan, journals)?;
+    let found = found(alloc, form, sources, &mut standard, plan, journals)?;
     write_whole(out, &found.text)?;
     write_found(alloc, targets, &found.world, next, left)?;
     Ok(status(found.world.is_some()))
@@ -74,18 +76,19 @@ fn write_found<T: Targets>(
 /// What the journals tell together that these words stand for, under the plan of the first word.
 fn found<S: Sources>(
     alloc: Global,
+    form: Form,
     sources: &S,
     standard: &mut StandardInput<S::Standard>,
     plan: &str,
     journals: &[&str],
 ) -> Result<Finding, Fault>
-    ensures told { IfOk result (λ a. TellsAudit (S.file_text sources.now) standard.old plan.now (map (λ w. w.now) journals.now) a.world (string_bytes a.text)) }
+    ensures told { IfOk result (λ a. TellsAudit (S.file_text sources.now) form standard.old plan.now (map (λ w. w.now) journals.now) a.world (string_bytes a.text)) }
     ensures later { IfOk result (λ _. (f : Fault) → IsAmong [] f → SaysAudit (S.file_text sources.now) standard.old plan.now (map (λ w. w.now) journals.now) f) }
     ensures fault { IfErr result (SaysAudit (S.file_text sources.now) standard.old plan.now (map (λ w. w.now) journals.now)) }
 {
     let plan = read_plan(alloc, sources, standard, plan)?;
     let journals = read_journals(alloc, sources, standard, journals, &plan)?;
-    Ok(audit(alloc, journals)?)
+    Ok(audit(alloc, form, journals)?)
 }
 
 /// The words of the command's inputs, in their order.

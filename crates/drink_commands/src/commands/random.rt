@@ -16,15 +16,17 @@ use input_texts::{Sources, StandardInput};
 use output_files::Targets;
 use random_runs::Schedule;
 use random_runs::run::report;
+use report_forms::Form;
 use std::alloc::Global;
 use std::io::Write;
 
-/// Runs the sessions on the world of a plan, as it is drawn, and writes what the finished sessions did, how many of the file's
+/// Runs the sessions on the world of a plan, as it is drawn, and writes in that form what the finished sessions did, how many of the file's
 /// haven't finished, and the values. Each input is read and judged before the next one is read, and nothing is run or written
 /// before both are judged. The plan of the next day and the sessions that haven't finished are written then, where files are named for
 /// them. The answer is the exit status.
 pub fn run<S: Sources, T: Targets, W: Write>(
     alloc: Global,
+    form: Form,
     sources: &S,
     plan: &str,
     sessions: &str,
@@ -36,7 +38,7 @@ pub fn run<S: Sources, T: Targets, W: Write>(
 ) -> Result<u8, Fault>
     ensures tells { OnOk result ((plan_text sessions_text : List ℕ)
         → StandFor (S.file_text sources.now) (S.standard_text sources.now) (plan.now ∷ sessions.now ∷ []) (plan_text ∷ sessions_text ∷ [])
-        → TellsRun plan_text sessions_text schedule.loss (option_copied next.entry) (option_copied left.entry) (W.contents out.old) (W.contents out.new) (T.written targets.old) (T.written targets.new)) }
+        → TellsRun form plan_text sessions_text schedule.loss (option_copied next.entry) (option_copied left.entry) (W.contents out.old) (W.contents out.new) (T.written targets.old) (T.written targets.new)) }
     ensures status { IfOk result (λ status. status ≡ 0) }
 
     ensures judged { IfErr result (IsJudged (S.file_text sources.now) (S.standard_text sources.now) (plan.now ∷ sessions.now ∷ []) (Input.Plan ∷ Input.Sessions ∷ [])) }
@@ -46,7 +48,7 @@ pub fn run<S: Sources, T: Targets, W: Write>(
     let mut standard = StandardInput::new(alloc, sources.standard(), &words);
     let plan = read_plan(alloc, sources, &mut standard, plan)?;
     let programs = read_coded_programs(alloc, sources, &mut standard, sessions, &plan)?;
-    let told = report(alloc, &plan, &programs, schedule)?;
+    let told = report(alloc, form, &plan, &programs, schedule)?;
     write_whole(out, &told.text)?;
     write_end_of(alloc, targets, &told.world, &programs, next, left)?;
     Ok(DONE)

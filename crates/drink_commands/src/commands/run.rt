@@ -1,15 +1,19 @@
 //! The command `run`.
 
-ghost use Rattle.std.specs.Prelude.{◌≡◌, ◌≤◌, IfErr, IfOk, Some, map};
+ghost use Rattle.std.specs.Prelude.{◌≡◌, ◌<◌, ◌≤◌, ◌∷◌, [], IfErr, IfOk, Some, length, map};
 ghost use Rattle.std.specs.Option.{option_copied};
 ghost use Rattle.std.specs.String.{string_bytes};
 ghost use Rattle.std.specs.Io.KnownBytes.{Appends};
 ghost use Rattle.office_map.specs.PlanValue.{office_named};
+ghost use Rattle.office_stations.specs.Sessions.{count_of};
+ghost use Rattle.office_runs.specs.Runs.{IsQuiet, TellsCourse, TellsJournals};
 ghost use Rattle.command_outputs.specs.Journals.{WritesFiles};
 ghost use Rattle.drink_commands.specs.Run.{EndsWith, IsCutBy, IsJudgedRun, IsReached, Leaves, NoObstacle, RefusesFile, RunsOffice, SaysOf};
+ghost use Rattle.drink_commands.specs.Sealed.{IsSealed};
 ghost use Rattle.drink_commands.specs.Texts.{NoOther};
 
 use crate::commands::ended;
+use crate::commands::secrets::secrets_in;
 use command_inputs::{read_coded_programs, read_plan};
 use command_outputs::Fault;
 use command_outputs::journal_files::write_each;
@@ -19,8 +23,10 @@ use input_texts::{Sources, StandardInput};
 use office_map::{OfficeId, Plan};
 use office_runs::Ran;
 use office_runs::run::run_office;
-use office_stations::{Around, Binds, Gate, Watch, without_address};
+use office_stations::{Around, Binds, Gate, OpeningFault, Watch, without_address};
 use output_files::Targets;
+use sealed_sockets::SealedSockets;
+use session_programs::Program;
 use std::alloc::{AllocError, Global};
 use std::io::Write;
 use std::rt::Clock;
@@ -28,10 +34,10 @@ use std::sync::Wait;
 
 /// Runs an office of a plan at its address for so many turns, with those of the sessions that are its own, and writes what those
 /// that finished did, and how many haven't. The plan is read and judged first; then an office of it has to have that name, and
-/// it and its neighbours an address; then the sessions are read and judged. Where a file is named for the office's journal, it has to be
-/// one that can be written, no input, and without a journal of this office and run. Nothing is run or written before. Then that journal
-/// is written to it, and the watch is told what was left. Where the run is cut short, what stands is written. The answer is the exit
-/// status: 1 where sessions are left.
+/// it and its neighbours an address; then the sessions are read and judged. Where a file is named for the office's secrets, it has to have
+/// them, and the office is under seals. Where one is named for its journal, it has to be one that can be written, no input, and without a
+/// journal of this office and run. Nothing is run or written before. Then that journal is written to it, and the watch is told what was
+/// left. Where the run is cut short, what stands is written. The answer is the exit status: 1 where sessions are left.
 pub fn run<R, S, B, G, V, T, W>(
     rt: &R,
     alloc: Global,
@@ -41,6 +47,7 @@ pub fn run<R, S, B, G, V, T, W>(
     sessions: &str,
     turns: u64,
     journal: Option<&str>,
+    secrets: Option<&str>,
     around: &Around<'_, B, G, V>,
     targets: &mut T,
     out: &mut W,
@@ -55,6 +62,7 @@ where
     W: Write,
     ensures runs { IfOk result (λ status. RunsOffice B.Socket.tells (S.file_text sources.now) (S.standard_text sources.now) plan.now office.now sessions.now turns (option_copied journal.entry)
         (EndsWith status) (W.contents out.old) (W.contents out.new) (T.written targets.old) (T.written targets.new)) }
+    ensures sealed { IfOk result (λ _. IsSealed (S.file_text sources.now) (S.standard_text sources.now) plan.now office.now sessions.now (option_copied secrets.entry)) }
     ensures status { IfOk result (λ status. status ≤ 1) }
 
     ensures judged { IfErr result (IsJudgedRun (S.file_text sources.now) (S.standard_text sources.now) plan.now office.now sessions.now) }
@@ -67,10 +75,15 @@ where
     let plan = read_plan(alloc, sources, &mut standard, plan)?;
     let me = office_to_run(alloc, &plan, office)?;
     let programs = read_coded_programs(alloc, sources, &mut standard, sessions, &plan)?;
+    let secrets = secrets_in(alloc, sources, secrets, &plan, me)?;
     look_at_file(
         alloc, sources, targets, plan_word, sessions, &plan, me, journal,
     )?;
-    let ran = run_office(
+    let binds = SealedSockets {
+        binds: around.binds,
+        secrets: secrets.as_deref(),
+    };
+    let ran = run_at(
         rt,
         alloc,
         &plan,
@@ -78,9 +91,38 @@ where
         &programs,
         turns,
         journal.is_some(),
-        around,
+        &binds,
+        around.gate,
+        around.watch,
     )?;
     write_ran(alloc, out, targets, journal, around.watch, &ran)
+}
+
+/// A run of an office at a socket that is bound so.
+fn run_at<'a, R, B, G, V>(
+    rt: &R,
+    alloc: Global,
+    plan: &Plan,
+    me: OfficeId,
+    programs: &[Program],
+    turns: u64,
+    journals: bool,
+    binds: &'a B,
+    gate: &'a G,
+    watch: &'a V,
+) -> Result<Ran, OpeningFault>
+where
+    R: Wait + Clock,
+    B: Binds,
+    G: Gate,
+    V: Watch,
+    requires { me < length plan.now.offices }
+    ensures tells { IfOk result (TellsJournals plan.now (me ∷ []) (count_of programs.now me) journals) }
+    ensures ran { IfOk result (TellsCourse B.Socket.tells plan.now me programs.now turns journals) }
+    ensures quiet { IfOk result IsQuiet }
+{
+    let around = Around { binds, gate, watch };
+    run_office(rt, alloc, plan, me, programs, turns, journals, &around)
 }
 
 /// What came of a run is written, and the journal that it leaves, and the watch is told what was left; then, where it was cut short,

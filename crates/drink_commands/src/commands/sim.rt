@@ -21,6 +21,7 @@ use command_outputs::journal_files::write_world;
 use input_texts::{Sources, StandardInput};
 use office_map::Plan;
 use output_files::Targets;
+use report_forms::Form;
 use run_reports::TellingFault;
 use script_runs::ScriptEvent;
 use script_runs::transcript::simulate;
@@ -29,7 +30,7 @@ use std::alloc::Global;
 use std::io::Write;
 use world_schedule::World;
 
-/// Runs a script on the world of a plan, and writes a line for each event and then what the finished sessions did, how many
+/// Runs a script on the world of a plan, and writes in that form a line for each event and then what the finished sessions did, how many
 /// submitted ones haven't finished, and the values. Each input is read and judged before the next one is read, and nothing is
 /// run or written before all are judged. A refused event is told in its line, and is no fault. The lines go out while it runs, in
 /// parts; memory that runs out after one did is a fault of the writing. Where a folder is named for them, the
@@ -37,6 +38,7 @@ use world_schedule::World;
 /// are named for those. The answer is the exit status.
 pub fn run<S: Sources, T: Targets, W: Write>(
     alloc: Global,
+    form: Form,
     sources: &S,
     plan: &str,
     sessions: &str,
@@ -50,7 +52,7 @@ pub fn run<S: Sources, T: Targets, W: Write>(
     ensures simulates { OnOk result ((plan_text sessions_text script_text : List ℕ)
         → StandFor (S.file_text sources.now) (S.standard_text sources.now) (plan.now ∷ sessions.now ∷ script.now ∷ [])
         (plan_text ∷ sessions_text ∷ script_text ∷ [])
-        → Simulates plan_text sessions_text script_text (option_copied journals.entry) (option_copied next.entry) (option_copied left.entry) (W.contents out.old) (W.contents out.new) (T.written targets.old) (T.written targets.new)) }
+        → Simulates form plan_text sessions_text script_text (option_copied journals.entry) (option_copied next.entry) (option_copied left.entry) (W.contents out.old) (W.contents out.new) (T.written targets.old) (T.written targets.new)) }
     ensures status { IfOk result (λ status. status ≡ 0) }
 
     ensures judged { IfErr result (IsJudged (S.file_text sources.now) (S.standard_text sources.now) (plan.now ∷ sessions.now ∷ script.now ∷ []) (Input.Plan ∷ Input.Sessions ∷ Input.Script ∷ [])) }
@@ -62,7 +64,7 @@ pub fn run<S: Sources, T: Targets, W: Write>(
     let programs = read_coded_programs(alloc, sources, &mut standard, sessions, &plan)?;
     let events = read_events(alloc, sources, &mut standard, script, &plan, &programs)?;
     tell(
-        alloc, &plan, &programs, &events, journals, next, left, targets, out,
+        alloc, form, &plan, &programs, &events, journals, next, left, targets, out,
     )
 }
 
@@ -70,6 +72,7 @@ pub fn run<S: Sources, T: Targets, W: Write>(
 /// exit status.
 fn tell<T: Targets, W: Write>(
     alloc: Global,
+    form: Form,
     plan: &Plan,
     programs: &[Program],
     events: &[ScriptEvent],
@@ -79,14 +82,14 @@ fn tell<T: Targets, W: Write>(
     targets: &mut T,
     out: &mut W,
 ) -> Result<u8, Fault>
-    ensures written { OnOk result (Appends (W.contents out.old) (W.contents out.new) (transcript plan.now (acts_with programs.now events.now))) }
+    ensures written { OnOk result (Appends (W.contents out.old) (W.contents out.new) (transcript form plan.now (acts_with programs.now events.now))) }
     ensures serial { OnOk result (IsSerialRun (run_of (opening plan.now) (acts_with programs.now events.now))) }
     ensures files { OnOk result (LeavesFiles (option_copied journals.entry) (option_copied next.entry) (option_copied left.entry) (run_of (opening plan.now) (acts_with programs.now events.now)) (T.written targets.old) (T.written targets.new)) }
     ensures status { IfOk result (λ status. status ≡ 0) }
     ensures fault { IfErr result (IsAmong []) }
     ensures unwritten { IfErr result (λ f. IsWriteFault f ⊎ ((out.new ≡ out.old) × (targets.new ≡ targets.old))) }
 {
-    match simulate(alloc, plan, programs, events, out) {
+    match simulate(alloc, form, plan, programs, events, out) {
         Ok(world) => write_files(alloc, targets, journals, next, left, &world),
         Err(TellingFault::Memory) => Err(Fault::Memory),
         Err(TellingFault::WriteFailed(kind)) => Err(Fault::WriteFailed(kind)),

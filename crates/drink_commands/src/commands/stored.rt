@@ -5,9 +5,12 @@ ghost use Rattle.session_programs.specs.Program.{fits};
 ghost use Rattle.stored_runs.specs.Keeping.{HasText};
 ghost use Rattle.command_outputs.specs.Places.{IsAnInput};
 ghost use Rattle.drink_commands.specs.Stored.{EndsStored, IsEnd, IsEndedBy, IsJudgedStored, IsKept, IsNotHeld, IsRefusal, IsStoreFault, LeavesStored, RefusesStore, RunsStored};
+ghost use Rattle.std.specs.Option.{option_copied};
+ghost use Rattle.drink_commands.specs.Sealed.{IsSealed};
 ghost use Rattle.drink_commands.specs.refinement.Stores.{IsToldOf};
 
 use crate::commands::run::office_to_run;
+use crate::commands::secrets::secrets_in;
 use crate::commands::status_with;
 use command_inputs::{read_coded_programs, read_plan};
 use command_outputs::Fault;
@@ -21,6 +24,7 @@ use journal_texts::JournalRefusal;
 use office_map::{OfficeId, Plan};
 use office_stations::{Around, Binds, Gate, Watch, at_address};
 use run_words::words::office_name;
+use sealed_sockets::SealedSockets;
 use session_programs::Program;
 use std::alloc::{AllocError, Global};
 use std::io::{ErrorKind, Write};
@@ -43,6 +47,7 @@ pub fn run<R, S, B, G, V, K, W>(
     store: &str,
     sync: Sync,
     is_new: bool,
+    secrets: Option<&str>,
     around: &Around<'_, B, G, V>,
     stores: &mut K,
     out: &mut W,
@@ -56,6 +61,7 @@ where
     K: Stores,
     W: Write,
     ensures runs { IfOk result (λ status. RunsStored B.Socket.tells (S.file_text sources.now) (S.standard_text sources.now) (K.has stores.old store.now) is_new plan.now office.now sessions.now store.now turns (EndsStored status) (W.contents out.old) (W.contents out.new)) }
+    ensures sealed { IfOk result (λ _. IsSealed (S.file_text sources.now) (S.standard_text sources.now) plan.now office.now sessions.now (option_copied secrets.entry)) }
     ensures status { IfOk result (λ status. status ≤ 1) }
 
     ensures judged { IfErr result (IsJudgedStored (S.file_text sources.now) (S.standard_text sources.now) plan.now office.now sessions.now) }
@@ -69,8 +75,13 @@ where
     let plan = read_plan(alloc, sources, &mut standard, plan)?;
     let me = office_to_run(alloc, &plan, office)?;
     let programs = read_coded_programs(alloc, sources, &mut standard, sessions, &plan)?;
+    let secrets = secrets_in(alloc, sources, secrets, &plan, me)?;
     refuse_input(alloc, sources, plan_word, sessions, store)?;
-    let mut station = at_address(rt, alloc, &plan, me, around.binds)?;
+    let binds = SealedSockets {
+        binds: around.binds,
+        secrets: secrets.as_deref(),
+    };
+    let mut station = at_address(rt, alloc, &plan, me, &binds)?;
     let (kept, mut held) = hold(alloc, stores, store, sync, is_new, &plan, me, &programs)?;
     let ended = run_stored(
         rt,
@@ -174,7 +185,7 @@ fn find<K: Stores>(
 }
 
 /// Why a store isn't made.
-fn not_made(fault: &OpenFault) -> StoreRefusal
+pub(crate) fn not_made(fault: &OpenFault) -> StoreRefusal
     ensures { IsRefusal ⊥ true (λ _. ⊥) result }
 {
     match fault {
@@ -187,7 +198,7 @@ fn not_made(fault: &OpenFault) -> StoreRefusal
 }
 
 /// Why one that is to be there isn't had.
-fn not_found(fault: &OpenFault) -> StoreRefusal
+pub(crate) fn not_found(fault: &OpenFault) -> StoreRefusal
     ensures { IsRefusal (Unit {0}) false (λ _. ⊥) result }
 {
     match fault {
@@ -200,7 +211,13 @@ fn not_found(fault: &OpenFault) -> StoreRefusal
 }
 
 /// Why an office doesn't go on from these bytes of its store.
-fn not_kept(alloc: Global, plan: &Plan, me: OfficeId, bytes: &[u8], fault: KeptFault) -> Fault
+pub(crate) fn not_kept(
+    alloc: Global,
+    plan: &Plan,
+    me: OfficeId,
+    bytes: &[u8],
+    fault: KeptFault,
+) -> Fault
     requires { me < length plan.now.offices }
     ensures { IsToldOf fault result }
 {

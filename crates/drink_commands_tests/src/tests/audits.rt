@@ -8,6 +8,7 @@ use drink_commands::commands::audit;
 use input_texts::Texts;
 use journal_texts::{JournalRefusal, JournalRule};
 use output_files::InMemory;
+use report_forms::Form;
 use std::alloc::Global;
 use std::io::ErrorKind;
 use std::process::Abort;
@@ -55,6 +56,7 @@ fn audited(
     let mut out = Vec::new(alloc);
     let result = audit::run(
         alloc,
+        Form::Plain,
         &texts,
         plan,
         journals,
@@ -185,6 +187,7 @@ fn an_output_that_fails_is_told(rt: HostRuntime) {
     };
     let result = audit::run(
         rt.alloc(),
+        Form::Plain,
         &texts,
         "p",
         &["a", "b"],

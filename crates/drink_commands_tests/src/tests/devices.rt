@@ -3,6 +3,7 @@ use command_inputs::{Input, TextFault};
 use command_outputs::Fault;
 use drink_commands::commands::serial;
 use output_files::InMemory;
+use report_forms::Form;
 use std::io;
 use std::io::{ErrorKind, Write};
 use std::process::Abort;
@@ -46,6 +47,7 @@ fn fails(rt: &(impl Abort + AllocGlobal), memory: &Memory<'_>, sessions: &str, f
     let mut out = Vec::new(rt.alloc());
     let result = serial::run(
         rt.alloc(),
+        Form::Plain,
         memory,
         "p",
         sessions,
@@ -79,6 +81,7 @@ fn writes(rt: &(impl Abort + AllocGlobal), memory: &Memory<'_>, writes: usize) {
     };
     let result = serial::run(
         rt.alloc(),
+        Form::Plain,
         memory,
         "p",
         "s",
@@ -108,6 +111,7 @@ fn a_refused_plan_leaves_the_sessions_unread(rt: HostRuntime) {
     let mut out = Vec::new(rt.alloc());
     let result = serial::run(
         rt.alloc(),
+        Form::Plain,
         &memory,
         "p",
         "missing",
@@ -124,6 +128,7 @@ fn an_endless_reader_is_left(rt: HostRuntime) {
     let mut out = Vec::new(rt.alloc());
     let result = serial::run(
         rt.alloc(),
+        Form::Plain,
         &memory,
         "endless",
         "s",
@@ -134,6 +139,7 @@ fn an_endless_reader_is_left(rt: HostRuntime) {
     assert!(rt; matches!(reason(result), Some(Why::Plan(_))));
     let result = serial::run(
         rt.alloc(),
+        Form::Plain,
         &memory,
         "p",
         "endless",

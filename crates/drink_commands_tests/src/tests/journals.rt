@@ -1,4 +1,5 @@
 use crate::tests::audits::{OF_A, OF_B};
+use crate::tests::clients::SILENT;
 use crate::tests::shelves::NoStores;
 use crate::tests::sockets::Deaf;
 use crate::tests::{MOVE, Memory, PLAN, strings};
@@ -7,6 +8,7 @@ use drink_commands::commands::sim;
 use drink_program::program::answer;
 use office_stations::{Around, Open, Quiet};
 use output_files::InMemory;
+use report_forms::Form;
 use std::io::ErrorKind;
 use std::process::Abort;
 use std::test::Fail;
@@ -28,6 +30,7 @@ fn simulated(
     let mut out = Vec::new(rt.alloc());
     let result = sim::run(
         rt.alloc(),
+        Form::Plain,
         &memory,
         "p",
         "s",
@@ -142,6 +145,7 @@ fn an_office_leaves_its_journal(rt: HostRuntime) -> Result<(), Fail> {
             &around,
             &mut files,
             &mut NoStores,
+            &SILENT,
             &mut out,
         );
         assert_eq!(rt; exit.text(), *said);

@@ -1,3 +1,4 @@
+use crate::tests::clients::SILENT;
 use crate::tests::shelves::NoStores;
 use crate::tests::sockets::Deaf;
 use crate::tests::strings;
@@ -132,6 +133,7 @@ fn answered(
         &around,
         &mut files,
         &mut NoStores,
+        &SILENT,
         &mut out,
     );
     let written = out.len().saturating_add(files.files().len());

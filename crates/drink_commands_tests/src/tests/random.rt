@@ -4,6 +4,7 @@ use command_outputs::Fault;
 use drink_commands::commands::random;
 use output_files::InMemory;
 use random_runs::Schedule;
+use report_forms::Form;
 use std::alloc::Global;
 use std::io::ErrorKind;
 use std::process::Abort;
@@ -20,6 +21,7 @@ fn ran(
     let memory = Memory::new(plan, sessions, "");
     let result = random::run(
         alloc,
+        Form::Plain,
         &memory,
         "p",
         "s",
@@ -103,6 +105,7 @@ fn refused_texts_are_told(rt: HostRuntime) -> Result<(), Fail> {
     let memory = Memory::new(PLAN, MOVE, "");
     let result = random::run(
         rt.alloc(),
+        Form::Plain,
         &memory,
         "p",
         "nowhere",

@@ -1,3 +1,4 @@
+use crate::tests::clients::SILENT;
 use crate::tests::ear::{Board, Ear};
 use crate::tests::shelves::NoStores;
 use crate::tests::sockets::{Deaf, Shut};
@@ -15,12 +16,12 @@ use std::sync::Wait;
 use std::test::Fail;
 use std::thread::Threads;
 
-const TWO: &str =
+pub const TWO: &str =
     "plan 1 run 3\noffice a 127.0.0.1:47001\noffice b 127.0.0.1:47002\npair a b fork a\n";
 
-const GIVES: &str = "session a\ngive 1\nend\n";
+pub const GIVES: &str = "session a\ngive 1\nend\n";
 
-const GAVE: &str = "a.1 done reads - writes - gives 1\nunfinished 0\n";
+pub const GAVE: &str = "a.1 done reads - writes - gives 1\nunfinished 0\n";
 
 /// The second office has no address; the third has none, and is no neighbour of the first.
 const HALF: &str = "plan 1 run 3\noffice a 127.0.0.1:47001\noffice b -\npair a b fork a\n";
@@ -35,7 +36,7 @@ const THREE_SESSIONS: &str =
     "session a\nrepeat 3\nset r = read r * 2\nend\ngive read r\nend\nsession c\nset s = read s + 5\ngive read s\nend\nsession b\nset r = read r + read s\nset s = 0\ngive read r\nend\n";
 
 /// That these words are answered so: the exit status, what is printed, and what is said on the standard error.
-fn says<B, G>(
+pub fn says<B, G>(
     rt: &(impl Abort + AllocGlobal + Threads + Wait + Clock + Sync),
     memory: &Memory<'_>,
     words: &[&str],
@@ -58,6 +59,7 @@ where
         around,
         &mut InMemory::new(rt.alloc()),
         &mut NoStores,
+        &SILENT,
         &mut out,
     );
     let (status, printed, said) = expected;
@@ -315,6 +317,7 @@ fn live_finishes_three_sessions(rt: HostRuntime) -> Result<(), Fail> {
         &around,
         &mut InMemory::new(rt.alloc()),
         &mut NoStores,
+        &SILENT,
         &mut out,
     );
     assert_eq!(rt; exit.text(), "");

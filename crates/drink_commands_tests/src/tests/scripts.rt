@@ -3,6 +3,7 @@ use command_inputs::{Input, TextFault};
 use command_outputs::{Fault, fault};
 use drink_commands::commands::sim;
 use output_files::InMemory;
+use report_forms::Form;
 use script_runs::ScriptRefusal;
 use std::alloc::{AllocError, Global};
 use std::io;
@@ -17,6 +18,7 @@ fn a_script_has_a_longest_text(rt: HostRuntime) {
     let memory = Memory::new(PLAN, MOVE, "");
     let result = sim::run(
         alloc,
+        Form::Plain,
         &memory,
         "p",
         "s",
@@ -58,6 +60,7 @@ fn without_script(
     let memory = Memory::new(PLAN, sessions, "submit 1\n");
     sim::run(
         alloc,
+        Form::Plain,
         &memory,
         "p",
         "s",
@@ -122,6 +125,7 @@ fn told(
     };
     let result = sim::run(
         alloc,
+        Form::Plain,
         &memory,
         "p",
         "s",

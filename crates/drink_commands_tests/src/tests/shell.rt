@@ -236,11 +236,12 @@ fn fails_on(
 }
 
 /// Words, the exit status, and whether a text goes to the standard output.
-static ANSWERED: [(&[&str], u8, bool); 10] = [
+static ANSWERED: [(&[&str], u8, bool); 11] = [
     (&["drink", "--help"], 0, true),
     (&["drink", "serial", "--help"], 0, true),
     (&["drink", "random", "--help"], 0, true),
     (&["drink", "run", "--help"], 0, true),
+    (&["drink", "serve", "--help"], 0, true),
     (&["drink", "live", "--help"], 0, true),
     (&["drink", "--version"], 0, true),
     (&["drink"], 2, false),

@@ -1,6 +1,7 @@
 //! What a run of offices has around it, in memory.
 
 use crate::tests::Memory;
+use crate::tests::clients::SILENT;
 use crate::tests::shelves::NoStores;
 use drink_program::exit::Exit;
 use drink_program::program::answer;
@@ -135,6 +136,7 @@ pub fn answered<W: Write>(
         &around,
         &mut InMemory::new(rt.alloc()),
         &mut NoStores,
+        &SILENT,
         out,
     )
 }

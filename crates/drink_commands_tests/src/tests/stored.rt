@@ -1,3 +1,4 @@
+use crate::tests::clients::SILENT;
 use crate::tests::shelves::{Bottom, Refusal, Shelf};
 use crate::tests::sockets::Deaf;
 use crate::tests::{Memory, strings};
@@ -56,6 +57,7 @@ fn asked(
         &around,
         &mut InMemory::new(alloc),
         shelf,
+        &SILENT,
         &mut out,
     );
     let said = String::from_str(alloc, exit.text())?;

@@ -3,6 +3,7 @@
 use office_map::Plan;
 use random_runs::Schedule;
 use random_runs::run::{report, run};
+use report_forms::Form;
 use session_language::read_sessions;
 use std::alloc::{AllocError, Global};
 use std::process::Abort;
@@ -38,7 +39,7 @@ static SEEDS: [u64; 8] = [0, 1, 2, 7, 42, 1984, 65_537, u64::MAX];
 fn told(alloc: Global, plan: &str, sessions: &str, schedule: Schedule) -> Result<String, Fail> {
     let plan = Plan::read(alloc, plan.as_bytes())?;
     let programs = read_sessions(alloc, sessions.as_bytes(), &plan)?;
-    let text = report(alloc, &plan, &programs, schedule)?.text;
+    let text = report(alloc, Form::Plain, &plan, &programs, schedule)?.text;
     Ok(text)
 }
 

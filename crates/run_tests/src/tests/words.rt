@@ -34,6 +34,7 @@ fn reads_the_words_of_serial(rt: HostRuntime) -> Result<(), Fail> {
             plan,
             sessions,
             next,
+            json: false,
         };
         assert_eq!(rt; request, expected);
     }
@@ -73,18 +74,21 @@ fn reads_the_words_of_sim(rt: HostRuntime) -> Result<(), Fail> {
             journals: *journals,
             next: None,
             left: None,
+            json: false,
         };
         assert_eq!(rt; request, expected);
     }
     Ok(())
 }
 
-/// What `sim` and `audit` leave for the next day goes to files of their own.
+/// What `sim` and `audit` leave for the next day goes to files of their own, and a report may be asked for as JSON.
 #[test]
 fn reads_the_files_of_a_day(rt: HostRuntime) -> Result<(), Fail> {
     let words = strings(
         rt.alloc(),
-        &["drink", "sim", "p", "s", "c", "--left", "l", "--plan=n"],
+        &[
+            "drink", "sim", "p", "s", "c", "--left", "l", "--plan=n", "--json",
+        ],
     )?;
     let request = command_line(rt.alloc(), words.as_slice())?;
     let expected = Request::Sim {
@@ -94,15 +98,21 @@ fn reads_the_files_of_a_day(rt: HostRuntime) -> Result<(), Fail> {
         journals: None,
         next: Some("n"),
         left: Some("l"),
+        json: true,
     };
     assert_eq!(rt; request, expected);
     let words = strings(
         rt.alloc(),
-        &["drink", "audit", "p", "a", "b", "--plan", "n"],
+        &["drink", "audit", "p", "--json", "a", "b", "--plan", "n"],
     )?;
     let request = command_line(rt.alloc(), words.as_slice())?;
     let named = match &request {
-        Request::Audit { next, left, .. } => *next == Some("n") && left.is_none(),
+        Request::Audit {
+            next,
+            left,
+            json,
+            ..
+        } => *next == Some("n") && left.is_none() && *json,
         _ => false,
     };
     assert!(rt; named && is_audit(&request, "p", &["a", "b"]));
@@ -172,6 +182,7 @@ fn reads_the_words_of_random(rt: HostRuntime) -> Result<(), Fail> {
             steps,
             next: None,
             left: None,
+            json: false,
         };
         assert_eq!(rt; request, expected);
     }
@@ -274,9 +285,51 @@ fn reads_the_words_of_run(rt: HostRuntime) -> Result<(), Fail> {
             sessions: "s",
             turns: *turns,
             journal: *journal,
+            secrets: None,
         };
         assert_eq!(rt; request, expected);
     }
+    Ok(())
+}
+
+#[test]
+fn reads_the_words_of_run_with_secrets(rt: HostRuntime) -> Result<(), Fail> {
+    let words = [
+        "drink",
+        "run",
+        "p",
+        "a",
+        "s",
+        "--secrets",
+        "k",
+        "--turns",
+        "3",
+    ];
+    let words = strings(rt.alloc(), &words)?;
+    let request = command_line(rt.alloc(), words.as_slice())?;
+    let expected = Request::Run {
+        plan: "p",
+        office: "a",
+        sessions: "s",
+        turns: 3,
+        journal: None,
+        secrets: Some("k"),
+    };
+    assert_eq!(rt; request, expected);
+    let words = ["drink", "run", "--secrets=k", "p", "a", "s", "--store", "f"];
+    let words = strings(rt.alloc(), &words)?;
+    let request = command_line(rt.alloc(), words.as_slice())?;
+    let expected = Request::RunStored {
+        plan: "p",
+        office: "a",
+        sessions: "s",
+        turns: 2_000,
+        store: "f",
+        sync: Sync::Data,
+        new: false,
+        secrets: Some("k"),
+    };
+    assert_eq!(rt; request, expected);
     Ok(())
 }
 
@@ -358,6 +411,7 @@ fn reads_the_words_of_run_with_a_store(rt: HostRuntime) -> Result<(), Fail> {
             store: *store,
             sync: *sync,
             new: *new,
+            secrets: None,
         };
         assert_eq!(rt; request, expected);
     }

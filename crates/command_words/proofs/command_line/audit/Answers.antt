@@ -1,20 +1,21 @@
 use Rattle.std.proofs.Common.{rules, codes}
 use Rattle.std.specs.Prelude.{IfOk}
 use Rattle.clap.specs.Words.{new_app}
-use Rattle.command_words.specs.CommandLine.{audit_command, path, required, several}
+use Rattle.command_words.specs.CommandLine.{audit_command, flag, path, required, several}
 use Rattle.command_words.proofs.Arguments.{IsCommand, with_one, with_last, shape_of, local_of}
 use Rattle.command_words.proofs.command_line.audit.Goals as goal
 
-made : (c : goal.After-arg-4) → IfOk c.arg-4.result (IsCommand audit_command)
+made : (c : goal.After-arg-5) → IfOk c.arg-5.result (IsCommand audit_command)
 made c =
     let none : IsCommand (new_app (codes "audit")) c.after_help.result = (search rules, search rules) in
     let one = with_one c.after_help.result c.in_ok-arg.field-0 c.required.result _ (required (codes "PLAN")) none c.in_ok-arg.ensures c.required.ensures.rule c.required.ensures.no_global in
     let two = with_one c.in_ok-arg.field-0 c.in_ok-arg-2.field-0 c.several.result _ (several (codes "JOURNAL")) one c.in_ok-arg-2.ensures c.several.ensures.rule c.several.ensures.no_global in
     let three = with_one c.in_ok-arg-2.field-0 c.in_ok-arg-3.field-0 c.path.result _ (path (codes "plan")) two c.in_ok-arg-3.ensures c.path.ensures.rule c.path.ensures.no_global in
-    with_last c.in_ok-arg-3.field-0 c.path-2.result _ (path (codes "left")) c.arg-4.result three c.arg-4.ensures c.path-2.ensures.rule c.path-2.ensures.no_global
+    let four = with_one c.in_ok-arg-3.field-0 c.in_ok-arg-4.field-0 c.path-2.result _ (path (codes "left")) three c.in_ok-arg-4.ensures c.path-2.ensures.rule c.path-2.ensures.no_global in
+    with_last c.in_ok-arg-4.field-0 c.flag.result _ (flag (codes "json")) c.arg-5.result four c.arg-5.ensures c.flag.ensures.rule c.flag.ensures.no_global
 
 pub returns-clause-command : goal.returns-clause-command
-returns-clause-command c = shape_of audit_command c.arg-4.result (made c)
+returns-clause-command c = shape_of audit_command c.arg-5.result (made c)
 
 pub returns-clause-local : goal.returns-clause-local
-returns-clause-local c = local_of audit_command c.arg-4.result (made c)
+returns-clause-local c = local_of audit_command c.arg-5.result (made c)

@@ -9,7 +9,7 @@ use Rattle.clap.specs.Words.{App, FailsBy, HasKind, Kinds, Row, Text, app_of, fa
 use Rattle.clap.specs.declared.error.Error.{Error}
 use Rattle.clap.proofs.OnLiterals.{clap_on_literals}
 use Rattle.command_words.specs.declared.command_line.Request.{Request}
-use Rattle.command_words.specs.CommandLine.{Asks, Requests, arguments_of, command_of, given, program, store_faults, word_of}
+use Rattle.command_words.specs.CommandLine.{Asks, Requests, arguments_of, command_of, given, has_flag, program, store_faults, word_of}
 use Rattle.command_words.proofs.command_line.command_line.Goals as goal
 
 is_free : is_simple_and_free program ≡ true
@@ -66,20 +66,22 @@ no_subcommand (Some q) p h e = absurd (none-some q.1 h)
 -- without a command it would be serial - -
 unasked : (words : List Text) → subcommand_of program words ≡ None
     → (bytes_eq (command_of words) (codes "sim") ≡ false) × (bytes_eq (command_of words) (codes "random") ≡ false) × (bytes_eq (command_of words) (codes "run") ≡ false)
-    × (bytes_eq (command_of words) (codes "live") ≡ false) × (bytes_eq (command_of words) (codes "audit") ≡ false)
+    × (bytes_eq (command_of words) (codes "serve") ≡ false) × (bytes_eq (command_of words) (codes "live") ≡ false) × (bytes_eq (command_of words) (codes "audit") ≡ false)
     × (codes "-" ≡ word_of (codes "PLAN") (arguments_of words)) × (codes "-" ≡ word_of (codes "SESSIONS") (arguments_of words))
-    × (None ≡ given (codes "plan") (arguments_of words))
+    × (None ≡ given (codes "plan") (arguments_of words)) × (has_flag (codes "json") (arguments_of words) ≡ false)
 unasked words none =
     let serial : codes "serial" ≡ command_of words = ap (λ o. unwrap_or (option_map (λ (q : Text × List Row). q.0) o) (codes "serial")) (sym none) in
     let nothing : None ≡ arguments_of words = ap (option_map (λ (q : Text × List Row). q.1)) (sym none) in (
       subst (λ n. bytes_eq n (codes "sim") ≡ false) serial refl,
       subst (λ n. bytes_eq n (codes "random") ≡ false) serial refl,
       subst (λ n. bytes_eq n (codes "run") ≡ false) serial refl,
+      subst (λ n. bytes_eq n (codes "serve") ≡ false) serial refl,
       subst (λ n. bytes_eq n (codes "live") ≡ false) serial refl,
       subst (λ n. bytes_eq n (codes "audit") ≡ false) serial refl,
       ap (word_of (codes "PLAN")) nothing,
       ap (word_of (codes "SESSIONS")) nothing,
       ap (given (codes "plan")) nothing,
+      subst (λ rows. has_flag (codes "json") rows ≡ false) nothing refl,
     )
 
 pub returns-in-Some-clause-request : goal.returns-in-Some-clause-request

@@ -1,21 +1,18 @@
-use Rattle.std.proofs.Common.{rules, codes}
+use Rattle.std.proofs.Common.{codes}
 use Rattle.std.specs.Prelude.{IfOk}
-use Rattle.clap.specs.Words.{new_app}
-use Rattle.command_words.specs.CommandLine.{run_without_store, optional, path, required}
+use Rattle.command_words.specs.CommandLine.{run_without_store, run_words, optional, path}
 use Rattle.command_words.proofs.Arguments.{IsCommand, with_one, with_last, shape_of, local_of}
 use Rattle.command_words.proofs.command_line.run_without_store.Goals as goal
 
-made : (c : goal.After-arg-5) → IfOk c.arg-5.result (IsCommand run_without_store)
+made : (c : goal.After-arg-3) → IfOk c.arg-3.result (IsCommand run_without_store)
 made c =
-    let none : IsCommand (new_app (codes "run")) c.after_help.result = (search rules, search rules) in
-    let one = with_one c.after_help.result c.in_ok-arg.field-0 c.required.result _ (required (codes "PLAN")) none c.in_ok-arg.ensures c.required.ensures.rule c.required.ensures.no_global in
-    let two = with_one c.in_ok-arg.field-0 c.in_ok-arg-2.field-0 c.required-2.result _ (required (codes "OFFICE")) one c.in_ok-arg-2.ensures c.required-2.ensures.rule c.required-2.ensures.no_global in
-    let three = with_one c.in_ok-arg-2.field-0 c.in_ok-arg-3.field-0 c.required-3.result _ (required (codes "SESSIONS")) two c.in_ok-arg-3.ensures c.required-3.ensures.rule c.required-3.ensures.no_global in
-    let four = with_one c.in_ok-arg-3.field-0 c.in_ok-arg-4.field-0 c.optional.result _ (optional (codes "turns") 1 100000 (codes "2000")) three c.in_ok-arg-4.ensures c.optional.ensures.rule c.optional.ensures.no_global in
-    with_last c.in_ok-arg-4.field-0 c.path.result _ (path (codes "journal")) c.arg-5.result four c.arg-5.ensures c.path.ensures.rule c.path.ensures.no_global
+    let none : IsCommand run_words c.in_ok-run_words.field-0 = (c.in_ok-run_words.ensures.command, c.in_ok-run_words.ensures.local) in
+    let one = with_one c.in_ok-run_words.field-0 c.in_ok-arg.field-0 c.optional.result _ (optional (codes "turns") 1 100000 (codes "2000")) none c.in_ok-arg.ensures c.optional.ensures.rule c.optional.ensures.no_global in
+    let two = with_one c.in_ok-arg.field-0 c.in_ok-arg-2.field-0 c.path.result _ (path (codes "secrets")) one c.in_ok-arg-2.ensures c.path.ensures.rule c.path.ensures.no_global in
+    with_last c.in_ok-arg-2.field-0 c.path-2.result _ (path (codes "journal")) c.arg-3.result two c.arg-3.ensures c.path-2.ensures.rule c.path-2.ensures.no_global
 
 pub returns-clause-command : goal.returns-clause-command
-returns-clause-command c = shape_of run_without_store c.arg-5.result (made c)
+returns-clause-command c = shape_of run_without_store c.arg-3.result (made c)
 
 pub returns-clause-local : goal.returns-clause-local
-returns-clause-local c = local_of run_without_store c.arg-5.result (made c)
+returns-clause-local c = local_of run_without_store c.arg-3.result (made c)

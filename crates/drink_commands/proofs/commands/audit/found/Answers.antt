@@ -31,7 +31,7 @@ pub returns-clause-told : goal.returns-clause-told
 returns-clause-told g c =
     let files = g.S.Sources.file_text c.args.sources.now in
     let words = map (λ w. w.now) c.args.journals.now in
-    audited files c.args.standard.now c.read_plan.new.standard c.args.plan.now words c.in_ok-plan.plan c.in_ok-journals.journals c.in_ok-audit.field-0.world _
+    audited files c.args.form c.args.standard.now c.read_plan.new.standard c.args.plan.now words c.in_ok-plan.plan c.in_ok-journals.journals c.in_ok-audit.field-0.world _
     c.in_ok-plan.ensures.meaning c.in_ok-journals.ensures.meaning c.in_ok-audit.ensures.woven c.in_ok-audit.ensures.unwoven
 
 pub returns-clause-later : goal.returns-clause-later

@@ -79,7 +79,7 @@ write_end_of-requires-clause-few g c = subst (λ (l : List ProgramValue). length
 pub returns-clause-tells : goal.returns-clause-tells
 returns-clause-tells g c = λ plan_text sessions_text known.
     let files = g.S.Sources.file_text c.args.sources.now in
-    ran files c.new-standard.result c.read_plan.new.standard c.read_coded_programs.new.standard c.args.plan.now c.args.sessions.now plan_text sessions_text
+    ran c.args.form files c.new-standard.result c.read_plan.new.standard c.read_coded_programs.new.standard c.args.plan.now c.args.sessions.now plan_text sessions_text
     c.in_ok-plan.plan c.in_ok-programs.programs.items c.deref.result.now c.args.schedule.loss (g.W.Write.contents c.args.out.now) (g.W.Write.contents c.write_whole.new.out) c.deref-2.result.now
     c.in_ok-told.told.world (option_copied c.args.next) (option_copied c.args.left) (g.T.Targets.written c.args.targets.now) (g.T.Targets.written c.write_end_of.new.targets)
     c.in_ok-plan.ensures.meaning c.in_ok-programs.ensures.meaning

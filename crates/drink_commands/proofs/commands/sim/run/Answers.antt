@@ -63,7 +63,7 @@ returns-clause-simulates g c =
     let files = g.S.Sources.file_text c.args.sources.now in
     let acts = acts_with c.deref-2.result.now c.deref-3.result.now in
     on_three c.tell.result _ _ _ _ (λ written serial leaves plan_text sessions_text script_text known.
-    simulated files c.new-standard.result c.read_plan.new.standard c.read_coded_programs.new.standard c.read_events.new.standard c.args.plan.now c.args.sessions.now c.args.script.now
+    simulated c.args.form files c.new-standard.result c.read_plan.new.standard c.read_coded_programs.new.standard c.read_events.new.standard c.args.plan.now c.args.sessions.now c.args.script.now
     plan_text sessions_text script_text c.in_ok-plan.plan c.in_ok-programs.programs.items (acts_with c.deref.result.now c.in_ok-events.events.items) acts
     (option_copied c.args.journals) (option_copied c.args.next) (option_copied c.args.left) (g.W.Write.contents c.args.out.now) (g.W.Write.contents c.tell.new.out) (g.T.Targets.written c.args.targets.now) (g.T.Targets.written c.tell.new.targets)
     c.in_ok-plan.ensures.meaning c.in_ok-programs.ensures.meaning

@@ -13,7 +13,7 @@ use Rattle.drink_commands.proofs.commands.sim.tell.Goals as goal
 
 pub returns-in-Ok-clause-written : goal.returns-in-Ok-clause-written
 returns-in-Ok-clause-written g c =
-    on_ok_so c.write_files.result (Appends (g.W.Write.contents c.args.out.now) (g.W.Write.contents c.simulate.new.out) (transcript c.args.plan.now (acts_with c.args.programs.now c.args.events.now))) c.in-Ok.ensures.written
+    on_ok_so c.write_files.result (Appends (g.W.Write.contents c.args.out.now) (g.W.Write.contents c.simulate.new.out) (transcript c.args.form c.args.plan.now (acts_with c.args.programs.now c.args.events.now))) c.in-Ok.ensures.written
 
 pub returns-in-Ok-clause-serial : goal.returns-in-Ok-clause-serial
 returns-in-Ok-clause-serial g c = on_ok_so c.write_files.result (IsSerialRun (run_of (opening c.args.plan.now) (acts_with c.args.programs.now c.args.events.now))) c.in-Ok.ensures.serial

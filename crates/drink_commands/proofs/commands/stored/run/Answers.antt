@@ -1,7 +1,9 @@
-use Rattle.std.proofs.Common.{[], Some, inl, inr, refl, subst, sym, ◌≤◌, rules}
+use Rattle.std.specs.Option.{option_copied}
+use Rattle.std.proofs.Common.{[], Some, IfSome, inl, inr, refl, subst, sym, ◌≤◌, rules}
 use Rattle.std.proofs.lemmas.Result.{err_from_is_err_and}
 use Rattle.command_outputs.specs.Fault.{IsOfStoredRun}
 use Rattle.command_outputs.specs.Places.{IsAnInput}
+use Rattle.secret_files.specs.Files.{RefusesSecrets}
 use Rattle.drink_commands.specs.Stored.{IsEndedBy, IsNotHeld, RefusesStore, RunsStored}
 use Rattle.stored_runs.specs.declared.fault.StoredFault.{StoredFault}
 use Rattle.command_inputs.specs.declared.input.Input.TheVariants as inputs
@@ -9,7 +11,8 @@ use Rattle.command_outputs.specs.declared.fault.Fault.TheVariants.{NoRun, Text}
 use Rattle.drink_commands.specs.Texts.{nothing}
 use Rattle.drink_commands.proofs.Faults.{at_first}
 use Rattle.drink_commands.proofs.Running.{at_later, at_plan, at_word, err_more, judged, ok_more, one_at_most}
-use Rattle.drink_commands.proofs.Storing.{at_end, at_office, at_place, at_store, is_end, is_place, is_store, later, not_held, went_on}
+use Rattle.drink_commands.proofs.Reported.{under_seals}
+use Rattle.drink_commands.proofs.Storing.{at_end, at_office, at_place, at_secrets, at_store, is_end, is_place, is_secrets, is_store, later, not_held, went_on}
 use Rattle.drink_commands.proofs.commands.stored.run.Goals as goal
 
 pub returns-in_err-plan-clause-judged : goal.returns-in_err-plan-clause-judged
@@ -33,6 +36,13 @@ returns-in_err-programs-clause-judged g c =
     (judged IsOfStoredRun (g.S.Sources.file_text c.args.sources.now) c.args.office.now (g.S.Sources.standard_text c.args.sources.now) c.new-standard.result c.args.plan.now c.args.sessions.now (Text c.in_err-programs.field-0.0) (search rules)
     (at_later IsOfStoredRun (g.S.Sources.file_text c.args.sources.now) c.args.office.now c.new-standard.result c.read_plan.new.standard c.args.plan.now c.args.sessions.now c.in_ok-plan.plan c.in_ok-me.me (Text c.in_err-programs.field-0.0) c.in_ok-plan.ensures.meaning c.in_ok-me.ensures.office c.in_ok-me.ensures.reached
     (at_first IsOfStoredRun (g.S.Sources.file_text c.args.sources.now) c.read_plan.new.standard c.args.sessions.now [] (record nothing { plan = Some c.in_ok-plan.plan }) inputs.Sessions [] (Text c.in_err-programs.field-0.0) c.in_err-programs.ensures.fault)))
+
+pub returns-in_err-secrets-clause-judged : goal.returns-in_err-secrets-clause-judged
+returns-in_err-secrets-clause-judged g c =
+    let e = err_from_is_err_and c.from_residual-in_err-secrets.result c.from_residual-in_err-secrets.ensures.1 in
+    rw (e.1, e.2)
+    (later (g.S.Sources.file_text c.args.sources.now) (g.S.Sources.standard_text c.args.sources.now) c.new-standard.result c.read_plan.new.standard c.read_coded_programs.new.standard c.args.plan.now c.args.office.now c.args.sessions.now c.in_ok-plan.plan c.in_ok-me.me c.in_ok-programs.programs.items c.in_err-secrets.field-0.0 (search rules)
+    c.in_ok-plan.ensures.meaning c.in_ok-me.ensures.office c.in_ok-me.ensures.reached c.in_ok-programs.ensures.meaning (is_secrets (λ why. IfSome (option_copied c.args.secrets) (λ name. RefusesSecrets (g.S.Sources.file_text c.args.sources.now name) c.in_ok-plan.plan c.in_ok-me.me why)) c.in_err-secrets.field-0.0 c.in_err-secrets.ensures.fault))
 
 pub returns-in_err-refuse_input-clause-judged : goal.returns-in_err-refuse_input-clause-judged
 returns-in_err-refuse_input-clause-judged g c =
@@ -77,6 +87,17 @@ returns-in_err-me-clause-leaves g c =
     let Not = RefusesStore files standard has c.args.is_new c.args.plan.now c.args.office.now c.args.sessions.now in
     let Stands : StoredFault → Type 0 = λ cause. RunsStored g.B.Socket.Wire.tells files standard has c.args.is_new c.args.plan.now c.args.office.now c.args.sessions.now c.args.store.now c.args.turns (IsEndedBy cause) (g.W.Write.contents c.args.out.now) (g.W.Write.contents c.args.out.now) in
     rw (e.1, e.2) (at_office _ _ Input c.args.is_new Not Stands c.in_ok-plan.plan _ c.in_err-me.field-0.0 c.in_err-me.ensures.fault refl)
+
+pub returns-in_err-secrets-clause-leaves : goal.returns-in_err-secrets-clause-leaves
+returns-in_err-secrets-clause-leaves g c =
+    let e = err_from_is_err_and c.from_residual-in_err-secrets.result c.from_residual-in_err-secrets.ensures.1 in
+    let files = g.S.Sources.file_text c.args.sources.now in
+    let standard = g.S.Sources.standard_text c.args.sources.now in
+    let has = g.K.Stores.has c.args.stores.now c.args.store.now in
+    let Input = IsAnInput files c.args.plan.now c.args.sessions.now c.args.store.now in
+    let Not = RefusesStore files standard has c.args.is_new c.args.plan.now c.args.office.now c.args.sessions.now in
+    let Stands : StoredFault → Type 0 = λ cause. RunsStored g.B.Socket.Wire.tells files standard has c.args.is_new c.args.plan.now c.args.office.now c.args.sessions.now c.args.store.now c.args.turns (IsEndedBy cause) (g.W.Write.contents c.args.out.now) (g.W.Write.contents c.args.out.now) in
+    rw (e.1, e.2) (at_secrets _ _ Input c.args.is_new Not Stands (λ why. IfSome (option_copied c.args.secrets) (λ name. RefusesSecrets (g.S.Sources.file_text c.args.sources.now name) c.in_ok-plan.plan c.in_ok-me.me why)) c.in_err-secrets.field-0.0 c.in_err-secrets.ensures.fault refl)
 
 pub returns-in_err-refuse_input-clause-leaves : goal.returns-in_err-refuse_input-clause-leaves
 returns-in_err-refuse_input-clause-leaves g c =
@@ -123,6 +144,11 @@ returns-clause-runs g c =
             c.deref-2.ensures.value c.in_ok-me.ensures.reached c.in_ok-kept.ensures.kept c.in_ok-ended.ensures.goes_on a_text b_text known,
       ),
     )) c.end-2.ensures.done
+
+pub returns-clause-sealed : goal.returns-clause-sealed
+returns-clause-sealed g c =
+    ok_more c.end-2.result _ _ (λ status h. under_seals (g.S.Sources.file_text c.args.sources.now) (g.S.Sources.standard_text c.args.sources.now) c.new-standard.result c.read_plan.new.standard c.args.plan.now c.args.office.now c.args.sessions.now c.in_ok-plan.plan c.in_ok-me.me (option_copied c.args.secrets) (search rules)
+    c.in_ok-plan.ensures.meaning c.in_ok-me.ensures.office c.in_ok-secrets.ensures.had) c.end-2.ensures.done
 
 pub returns-clause-status : goal.returns-clause-status
 returns-clause-status g c = ok_more c.end-2.result _ _ (λ status h. subst (λ n. n ≤ 1) (sym h.1) (one_at_most c.in_ok-ended.ended.unfinished)) c.end-2.ensures.done
