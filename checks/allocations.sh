@@ -141,6 +141,8 @@ for example in branch_ledger lease_table shared_stock; do
     row "serial, $example" serial "$examples/$example/plan.txt" "$examples/$example/sessions.txt"
 done
 stock=$examples/shared_stock
+row "serial, objects" serial "$stock/plan.txt" "$stock/sessions.txt" --json
+row "sim, objects" sim "$stock/plan.txt" "$stock/sessions.txt" "$stock/script.txt" --json
 row "sim, shared_stock" sim "$stock/plan.txt" "$stock/sessions.txt" "$stock/script.txt"
 awk 'BEGIN { for (i = 0; i < 3000; i++) print "send shop depot 0" }' > "$work/long"
 row "sim, a transcript of several parts" sim "$stock/plan.txt" "$stock/sessions.txt" "$work/long"
@@ -164,6 +166,7 @@ seed=
 row "sim, journals" sim "$stock/plan.txt" "$stock/sessions.txt" "$stock/script.txt" --journals "$work/left"
 safe=$examples/till_and_safe
 row "audit, till_and_safe" audit "$safe/plan.txt" "$safe/till.journal" "$safe/safe.journal"
+row "audit, objects" audit "$safe/plan.txt" "$safe/till.journal" "$safe/safe.journal" --json
 row "audit, an office without a journal" audit "$safe/plan.txt" "$safe/till.journal"
 ledger=$examples/branch_ledger
 { cat "$ledger/plan.txt"; echo ---; cat "$ledger/sessions.txt"; } > "$work/in"

@@ -52,14 +52,15 @@ FAULTY = (
     "run a b c --turns", "run a b c --turns 0", "run a b c --turns 100001", "run a b c --turns 1 --turns 2", "run a b c --loss 1", "run a b c --new", "run a b c --sync none", "run a b c --sync all",
     "run a b c --store s --sync all", "run a b c --store s --journal j", "run a b c --store", "run a b c --store s --new x", "run a b c --store s --new=x", "run a b c --store s --new --new",
     "run a b c --journal -", "run a b c --store=-", "run a b c --journal -x", "run a b c --turns --journal j", "run a b c --journal --", "sim", "random", "random --seed 1", "run", "run a", "live", "live a b --store s", "live a", "live a b --turns 1", "live a b --journal j", "live a b --journals", "audit", "audit a", "audit a b --turns 1",
-    "serial a b --plan", "serial a b --plan -", "serial a b --left l", "sim a b c --plan n --left=-", "audit a b --left l --left l", "live a b --plan n --plan n", "live a b --left -", "random a b --seed 1 --loss 0 --steps 1 --plan -",
+    "serial a b --plan", "serial a b --plan -", "serial a b --left l", "sim a b c --plan n --left=-", "audit a b --left l --left l", "live a b --plan n --plan n", "live a b --left -", "random a b --seed 1 --loss 0 --steps 1 --plan -", "serial a b --json=x", "audit a b --json --json", "run a b c --json",
+    "serve", "serve a", "serve a b", "serve a b c --store s", "serve - b --store s", "serve a b --store -", "serve a b --store", "serve a b --new", "serve a b --store s --sync all", "serve a b --store s --linger 86401", "serve a b --store s --status x", "serve a b --store s --turns 1",
 )
 
 # Words that name a file that can't be read. They build nothing either.
 ABSENT = (
     "serial nowhere.txt sessions.txt", "serial plan.txt nowhere.txt", "serial -- plan.txt nowhere.txt", "serial nowhere/plan.txt sessions.txt", "serial folder sessions.txt", "serial plan.txt folder", "sim plan.txt - nowhere.txt",
     "sim plan.txt sessions.txt folder --journals d", "random plan.txt nowhere.txt --seed 18446744073709551615 --loss 100 --steps 1000000", "random nowhere.txt s --seed 0 --loss 0 --steps 1", "run nowhere.txt a sessions.txt --turns 100000",
-    "live plan.txt nowhere.txt", "audit nowhere.txt a.journal", "audit plan.txt a.journal nowhere.txt b.journal", "audit plan.txt folder a.journal",
+    "serve nowhere.txt a --store s", "live plan.txt nowhere.txt", "audit nowhere.txt a.journal", "audit plan.txt a.journal nowhere.txt b.journal", "audit plan.txt folder a.journal",
 )
 NOBODY = 65534
 
@@ -68,6 +69,7 @@ HANDED = [
     (["serial", "plan.txt", "-"], ["serial", "HERE/plan.txt", "-"]),
     (["serial", "a plan.txt", "the sessions"], ["serial", "HERE/a plan.txt", "HERE/the sessions"]),
     (["sim", "p", "s", "t", "--journals", "a folder"], ["sim", "HERE/p", "HERE/s", "HERE/t", "--journals", "HERE/a folder"]),
+    (["serial", "p", "--json", "s"], ["serial", "HERE/p", "--json", "HERE/s"]),
     (["serial", "--plan=n", "p", "s"], ["serial", "--plan=HERE/n", "HERE/p", "HERE/s"]),
     (["audit", "p", "s", "--plan", "n", "--left", "l"], ["audit", "HERE/p", "HERE/s", "--plan", "HERE/n", "--left", "HERE/l"]),
     (["random", "plan.txt", "-", "--seed", "1", "--loss", "2", "--steps=3"], ["random", "HERE/plan.txt", "-", "--seed", "1", "--loss", "2", "--steps=3"]),
@@ -198,7 +200,7 @@ def handed(check, few):
         there = [it.replace("HERE", check.work) for it in there]
         call = " ".join(["drink", *(f"[{it}]" for it in ("try", "--", *there))])
         few.wants(f"launcher: --unproved {words}", few.run(["--unproved", *words]), 7, b"", UNPROVED, [call])
-    few.wants("launcher: --unproved serial plan.txt", few.run("--unproved serial plan.txt"), 2, b"", r"<SESSIONS>\ndrink: --unproved takes(.|\n)*\n    audit PLAN JOURNAL\.\. \[--plan FILE\] \[--left FILE\]\n(.|\n)*60 seconds")
+    few.wants("launcher: --unproved serial plan.txt", few.run("--unproved serial plan.txt"), 2, b"", r"<SESSIONS>\ndrink: --unproved takes(.|\n)*\n    audit PLAN JOURNAL\.\. \[--plan FILE\] \[--left FILE\] \[--json\]\n(.|\n)*60 seconds")
     few.wants("launcher: --unproved serial plan.txt nowhere.txt", few.run("--unproved serial plan.txt nowhere.txt"), 1, b"", check.run("serial plan.txt nowhere.txt").err)
 
 

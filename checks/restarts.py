@@ -3,7 +3,7 @@ then as it was."""
 import os, re, resource, shutil, signal, socket, subprocess, time
 
 from common import ANSWER, HOST, PLAN, SECONDS, SESSIONS, TOP, at_ports, frame, free_ports
-from sockets import FEWER_TURNS, MOVED, MOVES, SHARED, VALUES, Door, blocks, ended, started
+from sockets import FEWER_TURNS, MOVED, MOVES, SHARED, VALUES, Door, blocks, ended, parted, started
 
 NOBODY = 65534
 TOLD = ANSWER.splitlines(keepends=True)[0]
@@ -374,8 +374,7 @@ def by_hand(check):
 
 def as_the_manual_says(check):
     """The office that the manual kills and starts again, at ports of its own; its neighbour runs beside it."""
-    with open(os.path.join(TOP, "docs/manual.md"), encoding="utf-8") as file:
-        found = blocks(file.read())
+    found = blocks(parted("docs/manual.md")[0])
     given = [(block.strip(), found[at + 1][0]) for at, (block, _, after) in enumerate(found[:-1]) if "drink run " in block and "--store" in block and "prints" in after]
     check.say(f"docs/manual.md: starts with a store: {len(given)}", None if len(given) == 3 else "three are wanted")
     if len(given) != 3:
@@ -399,9 +398,3 @@ def as_the_manual_says(check):
     check.equal(f"docs/manual.md: {one}: what it told", lines, told.encode())
     check.wants(f"docs/manual.md: {again}", ended(start(again, 5)), 0, retold.encode(), b"")
     check.wants(f"docs/manual.md: {other}", ended(neighbour), 0, theirs.encode(), b"")
-    audits = [(block.strip(), found[at + 1][0]) for at, (block, _, _) in enumerate(found[:-1]) if "./drink audit" in block and ".store" in block]
-    check.say(f"docs/manual.md: audits of stores: {len(audits)}", None if len(audits) == 1 else "one is wanted")
-    for block, wanted in audits:
-        one, other, *rest = wanted.splitlines(keepends=True)
-        orders = [re.escape("".join((*two, *rest))) for two in ((one, other), (other, one))]
-        check.wants(f"docs/manual.md: {block}", check.shell(block, cwd=room), 0, rf"\A({'|'.join(orders)})\Z", b"")

@@ -83,6 +83,7 @@ def runs(check):
     check.files({"ports.txt": plan})
     check.wants("live: plan.txt", check.run("live plan.txt own.txt"), 0, answer, b"")
     check.wants("live: a session at each end", check.run("live plan.txt both.txt"), 0, answer.replace(b"unfinished", b"b.1 done reads x=5 writes - gives 5\nunfinished"), b"")
+    secrets(check)
     told_on_a_terminal(check)
     terminals_that_take_nothing(check)
     interrupted(check)
@@ -90,6 +91,24 @@ def runs(check):
     broken(check)
     two_processes(check)
     two_terminals(check)
+
+
+def secrets(check):
+    """A file of secrets is one of a disk, and for its owner alone; what it has is never shown."""
+    key = b"000102030405060708090a0b0c0d0e0f"
+    check.files({"keys.txt": b"secret a b %s\n" % key, "wrong.txt": b"secret a b %sx\n" % key, "long.txt": b"#" * 262_144 + b"\n"})
+    answer, words = b"a.1 done reads x=5 writes - gives 5\nunfinished 0\n", "run ports.txt a own.txt --turns 5 --secrets"
+    for mode, is_fine in ((0o600, True), (0o400, True), (0o640, False), (0o604, False), (0o601, False)):
+        os.chmod(os.path.join(check.work, "keys.txt"), mode)
+        wanted = (0, answer, b"") if is_fine else (1, b"", r"\Adrink: keys\.txt: K5 OpenToOthers: [^\n]*\n\Z")
+        check.wants(f"run: secrets of mode {mode:o}", check.run(f"{words} keys.txt"), *wanted)
+    for name, refusal in (("wrong.txt", "line 1: K1 Secret"), ("long.txt", "X4 ReadFailed"), ("no.txt", "X4 ReadFailed"), ("folder", "X4 ReadFailed")):
+        if name != "no.txt":
+            os.chmod(os.path.join(check.work, name), 0o700)
+        ran = check.run(f"{words} {name}")
+        check.wants(f"run: secrets of {name}", ran, 1, b"", rf"\Adrink: {re.escape(name)}: {refusal}: [^\n]*\n\Z")
+        check.say(f"run: no key of {name} is shown", "it is" if key in ran.err else None)
+    os.chmod(os.path.join(check.work, "folder"), 0o755)
 
 
 class Door:
@@ -294,8 +313,7 @@ def two_processes(check):
 def two_terminals(check):
     """The runs of single offices that the manual prints, side by side, at ports of their own and with fewer turns; then what it
     prints of the journals that they leave, whichever of them came first."""
-    with open(os.path.join(TOP, "docs/manual.md"), encoding="utf-8") as file:
-        found = blocks(file.read())
+    found = blocks(parted("docs/manual.md")[0])
     given = [(block.strip(), found[at + 1][0]) for at, (block, _, after) in enumerate(found) if "drink run " in block and "--store" not in block and after.strip() == "prints"]
     check.say(f"docs/manual.md: offices side by side: {len(given)}", None if len(given) == 2 else "two are wanted")
     room = os.path.join(check.work, "room")
@@ -316,6 +334,14 @@ def two_terminals(check):
         one, other, *rest = wanted.splitlines(keepends=True)
         orders = [re.escape("".join((*two, *rest))) for two in ((one, other), (other, one))]
         check.wants(f"docs/manual.md: {block}", check.shell(block, cwd=room), 0, rf"\A({'|'.join(orders)})\Z", b"")
+
+
+def parted(name):
+    """A document without its chapter 'Every day', and that chapter, which is run by itself."""
+    with open(os.path.join(TOP, name), encoding="utf-8") as file:
+        text = file.read()
+    chapter = re.search(r"(?ms)^## Every day\n.*?(?=^## )", text)
+    return (text.replace(chapter[0], ""), chapter[0]) if chapter else (text, "")
 
 
 def blocks(text):

@@ -317,16 +317,16 @@ def helps(check):
 def ranges(check, manual, definitions, shown):
     """The ranges of numbers: of the definitions, of help, of the manual, and those that are taken."""
     defined = {name: (int(low), int(high)) for name, low, high in re.findall(r'\((?:numbered|optional) \(codes "(\w+)"\) (\d+) (\d+)', definitions)}
-    check.equal("help: numbers that have a range", sorted(defined), ["loss", "seed", "steps", "turns"])
+    check.equal("help: numbers that have a range", sorted(defined), ["linger", "loss", "seed", "status", "steps", "turns"])
     usual = re.search(r'optional \(codes "turns"\) \d+ \d+ \(codes "(\d+)"\)', definitions)
     check.equal("help: the turns where none are given", re.findall(r"--turns <N>.*\[default: (\d+)\]", shown), [usual[1]])
     check.equal("manual: the turns where none are given", re.findall(r"\*\*Turns\*\*: 1 to 100000, (\d+) where `--turns` isn't given", manual), [usual[1]])
-    told = {"seed": r"[Tt]he seed is {} to {}\b", "loss": r"the loss {} to {}\b", "steps": r"there are {} to {} steps", "turns": r"\*\*Turns\*\*: {} to {},"}
-    command = {it: "run no.file a s" if it == "turns" else "random no.file s" for it in defined}
+    told = {"seed": r"[Tt]he seed is {} to {}\b", "loss": r"the loss {} to {}\b", "steps": r"there are {} to {} steps", "turns": r"\*\*Turns\*\*: {} to {},", "linger": r"`--linger N`, {} to {}\b", "status": r"`--status N`, {} to {}\b"}
+    command = {it: {"turns": "run no.file a s", "linger": "serve no.file a --store s", "status": "serve no.file a --store s"}.get(it, "random no.file s") for it in defined}
     for name, (low, high) in defined.items():
         check.equal(f"help: the range of --{name}", re.findall(rf"--{name} <N>.*?\b(\d+) to (\d+)\b", shown), [(str(low), str(high))])
         check.say(f"manual: the range of --{name}", None if re.search(told[name].format(low, high), manual) else f"{told[name].format(low, high)!r} isn't there")
         for value, is_taken in ((low - 1, False), (low, True), (high, True), (high + 1, False)):
-            numbers = " ".join(f"--{it}={value if it == name else defined[it][0]}" for it in defined if (it == "turns") == (name == "turns"))
+            numbers = " ".join(f"--{it}={value if it == name else defined[it][0]}" for it in defined if command[it] == command[name])
             wanted = r"\Adrink: no.file: X4 ReadFailed" if is_taken else r"\Adrink: invalid value"
             check.wants(f"help: {command[name]} {numbers}", check.run(f"{command[name]} {numbers}"), 1 if is_taken else 2, b"", wanted)
