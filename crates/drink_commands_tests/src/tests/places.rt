@@ -1,13 +1,13 @@
-use crate::tests::clients::SILENT;
 use crate::tests::shelves::NoStores;
 use crate::tests::sockets::Deaf;
 use crate::tests::strings;
+use command_outputs::clients::Clients;
 use drink_program::program::answer;
 use input_texts::Texts;
 use office_stations::{Around, Open, Quiet};
 use output_files::{InMemory, Targets};
 use std::alloc::{AllocError, Global};
-use std::io::ErrorKind;
+use std::io::{Empty, ErrorKind, empty};
 use std::test::Fail;
 
 const ALONE: &[u8] = b"plan 1 run 7\noffice a 127.0.0.1:47001\noffice b 127.0.0.1:47002\n";
@@ -101,6 +101,21 @@ const BOUND: &str =
 const LIVE: &str =
     "drink: U2 BindFailed: no socket can have the address 127.0.0.1:0: the address is in use\n";
 
+/// Who asks nothing, of a standard input that is empty.
+struct Nobody;
+
+impl Clients for Nobody {
+    ghost use Rattle.std.specs.Prelude.{Some, []};
+
+    type Stream = Empty;
+
+    ghost asks = { λ _. Some [] };
+
+    fn stream(&self) -> Empty {
+        empty()
+    }
+}
+
 /// What is answered: the exit status, how much is printed and how many files are written, and what is said.
 fn answered(
     rt: &(impl AllocGlobal + std::thread::Threads + std::sync::Wait + std::rt::Clock + Sync),
@@ -133,7 +148,7 @@ fn answered(
         &around,
         &mut files,
         &mut NoStores,
-        &SILENT,
+        &Nobody,
         &mut out,
     );
     let written = out.len().saturating_add(files.files().len());
