@@ -1,5 +1,5 @@
 -- What left is of entries that stand.
-use Rattle.std.proofs.Common.{◌≡◌, ℕ, ◌≤◌, Bool, true, List, [], ◌∷◌, ◌++◌, length, map, take, drop, Option, Some, None, refl, sym, ap, subst, ◌∙◌, arith, length-append, append_assoc, append-nil}
+use Rattle.std.proofs.Common.{◌≡◌, ℕ, ◌≤◌, Bool, true, List, [], ◌∷◌, ◌++◌, length, map, take, drop, Option, Some, None, Result, Ok, Err, refl, sym, ap, subst, ◌∙◌, arith, length-append, append_assoc, append-nil}
 use Rattle.std.specs.Prelude.{All, slice_get}
 use mathlib.Core.List.{IsPrefix}
 use Rattle.std.proofs.lemmas.List.{take-append-le, take_all, take-append-drop}
@@ -9,14 +9,18 @@ use Rattle.std.proofs.lemmas.Option.{slice_get_within}
 use Rattle.bottle_values.specs.ListLaws.{get_left}
 use Rattle.office_map.specs.PlanValue.{PlanValue}
 use Rattle.office_journal.specs.declared.event.Entry.{Entry}
+use Rattle.office_journal.specs.declared.reply.Reply.{Reply}
+use Rattle.office_journal.specs.declared.reply.Refusal.{Refusal}
 use Rattle.site_core.specs.Journals.{Site, Receives}
+use Rattle.locked_office.specs.declared.advance.Stopped.{Stopped}
+use Rattle.locked_office.specs.Advance.{Advances}
 use Rattle.locked_office.specs.Calls.{Key, DeskPass, Does, Looks}
 use Rattle.journal_stores.specs.Stores.{Stands, IsFound, Finds}
 use Rattle.journal_texts.specs.Written.{header_line, lines_of, entry_line, journal_text}
 use Rattle.socket_pump.specs.declared.pump.Turn.{Turn}
 use Rattle.socket_pump.specs.declared.pump.PumpFault.{PumpFault}
 use Rattle.socket_pump.specs.Wires.{Account}
-use Rattle.socket_pump.specs.Chains.{Heard, Made, Hears, MakesFrame, Sends, sent_entry, datagram, answers}
+use Rattle.socket_pump.specs.Chains.{Heard, Made, Follows, Hears, MakesFrame, Sends, sent_entry, datagram, answers}
 use Rattle.socket_pump.specs.Turns.{Times, Turned, Stage, WhileHearing, AtRules, WhileTelling}
 use Rattle.socket_pump.specs.ChainLaws.{Begins, begins_both, does_begins, sees_begins, sends_begins}
 use Rattle.durable_turns.specs.LettingLaws.{has_on}
@@ -26,9 +30,15 @@ use Rattle.durable_turns.proofs.Mailing.{heard_is_fetched}
 
 -- ---- journals that go on
 
+follows_begins : (tag : ℕ) (k : Key) (p q : DeskPass) (answer : Result Reply Refusal) (rules : Result ℕ Stopped) → Follows tag k answer rules p q → Begins p q
+follows_begins tag k p q (Ok r) rules d = does_begins (λ s s'. Advances tag 64 rules s s') k p q d
+follows_begins tag k p q (Err why) rules d = ([], ap (λ (x : DeskPass). x.seen) d.1 ∙ sym (append-nil p.seen))
+
 hears_begins : (tag : ℕ) (k : Key) (p q : DeskPass) (hs : List Heard) → Hears tag k p hs q → Begins p q
 hears_begins tag k p q [] s = sees_begins p q s
-hears_begins tag k p q (h ∷ hs) s = begins_both p s.0 q (does_begins (λ x y. Receives x tag h.bytes h.answer y) k p s.0 s.1) (hears_begins tag k s.0 q hs s.2)
+hears_begins tag k p q (h ∷ hs) s =
+    begins_both p s.0 q (does_begins (λ x y. Receives x tag h.bytes h.answer y) k p s.0 s.2)
+    (begins_both s.0 s.1 q (follows_begins tag k s.0 s.1 h.answer h.rules s.3) (hears_begins tag k s.1 q hs s.4))
 
 pub turned_begins : (tells : Bool) (tag : ℕ) (k : Key) (last : Times) (now : ℕ) (p : DeskPass) (a : Account) (t : Turn) (b : Account) (q : DeskPass) (then : Times) → Turned tells tag k last now p a t b q then → Begins p q
 turned_begins tells tag k last now p a t b q then x =
@@ -120,7 +130,9 @@ on_wire tells tag k last now p t before mail m then a b c out clear is_mail fetc
     taken = x.heard.taken;
     all = x.heard.all;
   };
+  finally = x.finally;
   rules = x.rules;
+  all_rules = x.all_rules;
   made = x.made;
   told = record { sends = x.told.sends; mine = x.told.mine; failures = failures ∙ fetches.gives.0; wire = wire };
   sent = x.sent;

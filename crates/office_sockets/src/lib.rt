@@ -3,7 +3,7 @@
 //! - [`Socket`]: a wire that has an address, knows those of the neighbours, and is waited at until a datagram comes, it is woken, or so
 //!   many milliseconds are over. How it was waited is kept in [`Waits`] (`specs/Waits.antt`).
 //! - [`Wakes`] wakes who waits there; [`Binds`] makes both.
-//! - [`UdpSockets`] is UDP. Tests have sockets in memory.
+//! - [`UdpSockets`] is UDP; what comes in at a file that it heeds, as a client's input, ends a wait too. Tests have sockets in memory.
 //!
 //! Not said: that an address is one of this machine's; over UDP, what the system was asked, and how long it waited.
 #![tactic(auto)]

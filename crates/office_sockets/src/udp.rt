@@ -10,17 +10,33 @@ use socket_pump::{Contact, UdpWire, Wire, WireFailed};
 use std::alloc::Global;
 use std::io;
 use std::net::{Net, SocketAddr};
+use std::os::fd::RawFd;
 
 /// The sockets of UDP.
 #[derive(Drop)]
 pub struct UdpSockets<'a, N: Net> {
     net: &'a N,
     alloc: Global,
+    /// What comes in at this file ends a wait at a socket too.
+    heeded: Option<RawFd>,
 }
 
 impl<'a, N: Net> UdpSockets<'a, N> {
     pub fn new(net: &'a N, alloc: Global) -> UdpSockets<'a, N> {
-        UdpSockets { net, alloc }
+        UdpSockets {
+            net,
+            alloc,
+            heeded: None,
+        }
+    }
+
+    /// The same, at which what comes in at this file ends a wait too: so an office hears its client at once.
+    pub fn heeding(net: &'a N, alloc: Global, file: RawFd) -> UdpSockets<'a, N> {
+        UdpSockets {
+            net,
+            alloc,
+            heeded: Some(file),
+        }
     }
 }
 
@@ -30,7 +46,10 @@ impl<'a, N: Net> Binds for UdpSockets<'a, N> {
     type Alarm = mio::Waker;
 
     fn bind(&self, at: SocketAddr) -> io::Result<(UdpSocket, mio::Waker)> {
-        let wire = UdpWire::bind(self.net, self.alloc, at)?;
+        let mut wire = UdpWire::bind(self.net, self.alloc, at)?;
+        if let Some(file) = self.heeded {
+            wire.heed(file);
+        }
         let waker = wire.waker()?;
         let waits = Waits::none();
         Ok((UdpSocket { wire, waits }, waker))

@@ -15,7 +15,7 @@ use Rattle.socket_pump.specs.declared.pump.PumpFault.{PumpFault}
 use Rattle.socket_pump.specs.declared.pump.PumpFault.TheVariants.{WireFailed, Memory, JournalFull}
 use Rattle.socket_pump.specs.Wires.{Account, risen}
 use Rattle.socket_pump.specs.Last.{IsDue, sent_now}
-use Rattle.socket_pump.specs.Chains.{Heard, Made, Hears, taken, AllCount, AreTooks, Brought, answers, Sends, sent_entry, datagram, Sent, DueOnce}
+use Rattle.socket_pump.specs.Chains.{Heard, Made, Hears, taken, rules_after, AllCount, AreTooks, Brought, answers, Sends, sent_entry, datagram, Sent, DueOnce}
 
 -- when the message of each neighbour and number was last sent, and how long it then pauses
 abbrev pub Times : Type 0
@@ -27,7 +27,7 @@ Times = ℕ → ℕ → Option LastSend
 abbrev pub Ended : ℕ → List (Option (List ℕ)) → Type 0
 Ended n ends = ((n ≡ 32) × (ends ≡ [])) ⊎ ((n < 32) × (ends ≡ None ∷ []))
 
--- These datagrams came from the wire and were handed to the office, and none was refused for want of room. What the pass added are the entries of those that were taken.
+-- These datagrams came from the wire and were handed to the office, each followed by the rules that come next, and nothing was refused for want of room. What the pass added are the entries of those that were taken and of these rules.
 pub record Hearing (tells : Bool) (tag : ℕ) (k : Key) (p : DeskPass) (a : Account) (ends : List (Option (List ℕ))) (b : Account) (q : DeskPass) (heard : List Heard) : Type 0 where
   pub hears : Hears tag k p heard q
   pub count : AllCount heard
@@ -60,9 +60,9 @@ IsFaultOf why WireFailed = ⊥
 IsFaultOf why Memory = why ≡ refusal.Memory
 IsFaultOf why JournalFull = why ≡ refusal.JournalFull
 
--- the office had no room for this one
+-- the office had no room for this one, or for a rule that followed it
 abbrev pub HadNoRoom : PumpFault → Heard → Type 0
-HadNoRoom f h = (why : Refusal) × (h.answer ≡ Err why) × IsFaultOf why f
+HadNoRoom f h = ((why : Refusal) × (h.answer ≡ Err why) × IsFaultOf why f) ⊎ ((stopped : Stopped) × (h.rules ≡ Err stopped) × IsFaultOf stopped.refusal f)
 
 -- the wire failed after these; or there was no room for the last of them
 abbrev pub EndsBy : PumpFault → List Heard → Type 0
@@ -140,13 +140,15 @@ pub record BrokeTelling (tells : Bool) (tag : ℕ) (k : Key) (p : DeskPass) (a :
 
 -- ---- a turn
 
--- Datagrams, 32 or fewer and then none; rules, at most 64, and fewer only where none is next; messages, all that are due and no other, by how many each neighbour was known to have taken when the turn came to it; and a count to each who brought a message and got none.
+-- Datagrams, 32 or fewer and then none, each that was taken followed by the rules that come next; rules, at most 64, and fewer only where none is next; messages, all that are due and no other, by how many each neighbour was known to have taken when the turn came to it; and a count to each who brought a message and got none.
 pub record Turned (tells : Bool) (tag : ℕ) (k : Key) (last : Times) (now : ℕ) (p : DeskPass) (a : Account) (t : Turn) (b : Account) (q : DeskPass) (then : Times) : Type 0 where
   pub mid : DeskPass
   pub ruled : DeskPass
   pub received : Account
   pub heard : HeardAll tells tag k p a t.taken t.refused received mid
-  pub rules : Does (λ s s'. Advances tag 64 (Ok t.rules) s s') k mid ruled
+  pub finally : ℕ
+  pub rules : Does (λ s s'. Advances tag 64 (Ok finally) s s') k mid ruled
+  pub all_rules : t.rules ≡ rules_after heard.heard + finally
   pub made : List Made
   pub told : Told tells tag k ruled received b q made
   pub sent : length made ≡ t.sent

@@ -37,7 +37,8 @@
 //!
 //! - [`Wire`]: where datagrams come from and go to. [`UdpWire`] is a UDP socket, which tells of each neighbour what is known of the
 //!   way there ([`Contact`]); `memory_wires` has one in memory, for tests.
-//! - [`Pump::turn`]: datagrams that came, at most 32; rules that come next, at most 64; then each message that waits and is due,
+//! - [`Pump::turn`]: datagrams that came, at most 32, and after each that was taken the rules that come next, at most 64; the rules
+//!   that come next then, as many; then each message that waits and is due,
 //!   where one that isn't answered is due ever more seldom, from each 50 milliseconds to each 5 seconds (`specs/Last.antt`);
 //!   then a count to each neighbour that sent something and got nothing. What a turn leaves is `Turned`, and `Stage` at a
 //!   fault, in `specs/Turns.antt`.
@@ -46,7 +47,9 @@
 //!
 //! ```text
 //! wire                  desk                                  journal of the pump's pass
-//! receive  32 or none   took      the frame, or refused       took  took ..
+//! receive  32 or none   took      the frame, or refused       took
+//!                       advance   at most 64, where it was    do    do   ..
+//!                                 taken
 //!                       advance   at most 64                  do    do   ..
 //! send     its bytes    send_number, where it is due          send  send ..
 //! send     its bytes    send      a count alone               send  ..

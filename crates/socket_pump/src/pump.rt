@@ -1,6 +1,6 @@
 //! The pump: datagrams in, rules, messages out.
 
-ghost use Rattle.std.specs.Prelude.{◌≡◌, ◌<◌, ◌≤◌, ◌%◌, ◌⊎◌, ◌∷◌, [], ℕ, List, true, false, None, IfOk, MatchResult, length};
+ghost use Rattle.std.specs.Prelude.{◌≡◌, ◌<◌, ◌≤◌, ◌%◌, ◌⊎◌, ◌∷◌, [], ℕ, List, true, false, None, IfOk, IfSome, MatchResult, length};
 ghost use Rattle.office_map.specs.PlanValue.{are_neighbours};
 ghost use Rattle.own_lock.specs.Passes.{IsOf};
 ghost use Rattle.frame_codec.specs.Spelling.{spelling};
@@ -95,9 +95,10 @@ impl Pump {
         })
     }
 
-    /// Takes in what came on the wire, at most 32 datagrams; does the rules that come next, at most 64; sends each message that
-    /// waits and is due; and sends a count to each neighbour whose message came in this turn and who got none. `now` is in
-    /// milliseconds, from any beginning, and of the same clock in each turn.
+    /// Takes in what came on the wire, at most 32 datagrams, and does after each that was taken the rules that come next, at most 64;
+    /// does the rules that come next then, at most 64; sends each message that waits and is due; and sends a count to each neighbour
+    /// whose message came in this turn and who got none. `now` is in milliseconds, from any beginning, and of the same clock in each
+    /// turn.
     ///
     /// A message is due where it is new, and again when its pause is over: 50 milliseconds after it was first sent, and after
     /// each further time twice as long as before, at most 5 seconds. Once its neighbour is known to have taken a message more,
@@ -126,7 +127,7 @@ impl Pump {
         links_only_grow();
         let _ = self.plan.offices();
         let mut senders = Senders::none();
-        let (taken, refused) = match hear(rt, wire, desk, pass, &mut senders) {
+        let (taken, refused, followed) = match hear(rt, wire, desk, pass, &mut senders) {
             Ok(counts) => counts,
             Err(fault) => return Err(fault),
         };
@@ -145,7 +146,7 @@ impl Pump {
         Ok(Turn {
             taken,
             refused,
-            rules,
+            rules: followed + rules,
             sent: messages + counts,
         })
     }
@@ -354,45 +355,58 @@ fn fault_of(refusal: Refusal) -> PumpFault
     }
 }
 
-// Datagrams, at most so many: how many were taken, and refused.
+// Datagrams, at most so many, each that was taken followed by the rules that come next: how many were taken, and refused, and how many
+// rules were done.
+//
+// What a datagram brought is used before the next one is looked at, so that a bottle serves the sessions that wait for it
+// before it is asked for again.
 fn hear<R: Wait, W: Wire>(
     rt: &R,
     wire: &mut W,
     desk: &Desk,
     pass: &mut Pass<Office>,
     senders: &mut Senders,
-) -> Result<(u32, u32), PumpFault>
+) -> Result<(u32, u32, u32), PumpFault>
     requires of { IsOf desk.now pass.old }
     requires idle { pass.old.holds ≡ false }
     ensures stays { Stays desk.now pass.old pass.new }
+    ensures few { IfOk result (λ r. r.2 ≤ 2048) }
     ensures heard { MatchResult result
-        (λ r. HeardFrom W.tells pass.old.tag desk.now.key pass.old (W.account wire.old) senders.old r.0 r.1 (W.account wire.new) pass.new senders.new)
+        (λ r. HeardFrom W.tells pass.old.tag desk.now.key pass.old (W.account wire.old) senders.old r.0 r.1 r.2 (W.account wire.new) pass.new senders.new)
         (λ f. BrokeHearing W.tells pass.old.tag desk.now.key pass.old (W.account wire.old) f (W.account wire.new) pass.new) }
 {
     let mut taken = 0;
     let mut refused = 0;
+    let mut followed = 0;
     while taken + refused < MOST_DATAGRAMS {
         match hear_one(rt, wire, desk, pass, senders) {
-            Ok(None) => return Ok((taken, refused)),
-            Ok(Some(true)) => taken += 1,
-            Ok(Some(false)) => refused += 1,
+            Ok(None) => return Ok((taken, refused, followed)),
+            Ok(Some((true, rules))) => {
+                taken += 1;
+                followed += rules;
+            }
+            Ok(Some((false, rules))) => {
+                refused += 1;
+                followed += rules;
+            }
             Err(fault) => return Err(fault),
         }
     }
-    Ok((taken, refused))
+    Ok((taken, refused, followed))
 }
 
-// One datagram, and whether the office took it.
+// One datagram, whether the office took it, and how many rules followed it.
 fn hear_one<R: Wait, W: Wire>(
     rt: &R,
     wire: &mut W,
     desk: &Desk,
     pass: &mut Pass<Office>,
     senders: &mut Senders,
-) -> Result<Option<bool>, PumpFault>
+) -> Result<Option<(bool, u32)>, PumpFault>
     requires of { IsOf desk.now pass.old }
     requires idle { pass.old.holds ≡ false }
     ensures stays { Stays desk.now pass.old pass.new }
+    ensures few { IfOk result (λ o. IfSome o (λ did. did.1 ≤ 64)) }
     ensures heard { MatchResult result
         (λ o. HeardOne W.tells pass.old.tag desk.now.key pass.old (W.account wire.old) senders.old o (W.account wire.new) pass.new senders.new)
         (λ f. BrokeOne W.tells pass.old.tag desk.now.key pass.old (W.account wire.old) f (W.account wire.new) pass.new) }
@@ -410,8 +424,13 @@ fn hear_one<R: Wait, W: Wire>(
     let answer = desk.take_read(rt, pass, &read);
     senders.note(&read, &answer);
     match judged(answer) {
-        Ok(took) => Ok(Some(took)),
-        Err(fault) => Err(fault),
+        Ok(true) => {}
+        Ok(false) => return Ok(Some((false, 0))),
+        Err(fault) => return Err(fault),
+    }
+    match desk.advance(rt, pass, MOST_RULES) {
+        Ok(rules) => Ok(Some((true, rules))),
+        Err(stopped) => Err(fault_of(stopped.refusal)),
     }
 }
 

@@ -9,12 +9,14 @@ ghost use Rattle.socket_pump.specs.Wires.{risen};
 use crate::contact::{Contact, Contacts};
 use crate::wire::{Wire, WireFailed};
 use mio::net::UdpSocket;
+use mio::unix::SourceFd;
 use mio::{Events, Interest, Poll, Token, Waker};
 use office_map::OfficeId;
 use std::alloc::Global;
 use std::io;
 use std::marker::Model;
 use std::net::{Net, SocketAddr};
+use std::os::fd::RawFd;
 use std::time::Duration;
 
 /// The most reads of one call. A read may fail for what an earlier frame met; where so many fail in a row, the socket can't be used
@@ -81,6 +83,18 @@ impl UdpWire {
     /// What the system answers, where it has no descriptor left.
     pub fn waker(&self) -> io::Result<Waker> {
         Waker::new(self.poll.registry(), Token(1))
+    }
+
+    /// What comes in at this file ends a wait too, from now on: once for all that has come since the last wait. A file of which the
+    /// system tells no such thing, as one on a disk, ends none.
+    pub fn heed(&mut self, file: RawFd)
+        ensures { self.new ≡ self.old }
+    {
+        let mut source = SourceFd(&file);
+        let _ = self
+            .poll
+            .registry()
+            .register(&mut source, Token(2), Interest::READABLE);
     }
 
     /// Where a neighbour is, from now on.

@@ -18,6 +18,7 @@ use std::test::Fail;
 
 mod caller;
 mod failing_wires;
+mod follows;
 mod full_journal;
 mod resends;
 mod sockets;

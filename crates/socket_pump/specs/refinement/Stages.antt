@@ -4,12 +4,13 @@ use Rattle.office_journal.specs.declared.reply.Reply.{Reply}
 use Rattle.office_journal.specs.declared.reply.Refusal.{Refusal}
 use Rattle.window_link.specs.Windows.{used}
 use Rattle.site_core.specs.Growing.{link_at}
+use Rattle.locked_office.specs.Advance.{done_of}
 use Rattle.locked_office.specs.Calls.{Key, DeskPass, office_with}
 use Rattle.locked_office.specs.Sends.{WaitsFor}
 use Rattle.socket_pump.specs.declared.pump.PumpFault.{PumpFault}
 use Rattle.socket_pump.specs.Wires.{Account}
 use Rattle.socket_pump.specs.Last.{IsDue}
-use Rattle.socket_pump.specs.Chains.{Heard, Made, one_taken, taken, Counts, Sent, DueOnce}
+use Rattle.socket_pump.specs.Chains.{Heard, Made, one_taken, taken, rules_after, Counts, Sent, DueOnce}
 use Rattle.socket_pump.specs.refinement.Counts.{Owes, Spares}
 use Rattle.socket_pump.specs.Turns.{Times, Hearing, HeardAll, BrokeHearing, IsFaultOf, IsKnown, AreKnown, Remembers, Told, SentTo, BrokeTelling}
 
@@ -17,14 +18,14 @@ abbrev pub one_if : Bool → ℕ
 one_if true = 1
 one_if false = 0
 
--- no datagram came, or one that the office took or refused; and who is owed a count, before and then
-abbrev pub HeardOne : Bool → ℕ → Key → DeskPass → Account → List Bool → Option Bool → Account → DeskPass → List Bool → Type 0
+-- no datagram came, or one that the office took or refused, and so many rules followed it; and who is owed a count, before and then
+abbrev pub HeardOne : Bool → ℕ → Key → DeskPass → Account → List Bool → Option (Bool × ℕ) → Account → DeskPass → List Bool → Type 0
 HeardOne tells tag k p a s None b q t = (q ≡ p) × (b.failures ≡ a.failures) × (tells ≡ true → b ≡ record a { received = a.received ++ None ∷ [] }) × (t ≡ s)
-HeardOne tells tag k p a s (Some took) b q t = (h : Heard) × Hearing tells tag k p a [] b q (h ∷ []) × (taken (h ∷ []) ≡ one_if took) × Owes s (h ∷ []) t
+HeardOne tells tag k p a s (Some did) b q t = (h : Heard) × Hearing tells tag k p a [] b q (h ∷ []) × (taken (h ∷ []) ≡ one_if did.0) × (done_of h.rules ≡ did.1) × Owes s (h ∷ []) t
 
--- all datagrams, and who is owed a count then
-abbrev pub HeardFrom : Bool → ℕ → Key → DeskPass → Account → List Bool → ℕ → ℕ → Account → DeskPass → List Bool → Type 0
-HeardFrom tells tag k p a s took refused b q t = (all : HeardAll tells tag k p a took refused b q) × Owes s all.heard t
+-- all datagrams, with how many rules followed them, and who is owed a count then
+abbrev pub HeardFrom : Bool → ℕ → Key → DeskPass → Account → List Bool → ℕ → ℕ → ℕ → Account → DeskPass → List Bool → Type 0
+HeardFrom tells tag k p a s took refused rules b q t = (all : HeardAll tells tag k p a took refused b q) × (rules_after all.heard ≡ rules) × Owes s all.heard t
 
 -- the wire failed, or there was no room for what the one datagram brought
 abbrev pub BrokeOne : Bool → ℕ → Key → DeskPass → Account → PumpFault → Account → DeskPass → Type 0

@@ -100,7 +100,7 @@ fn turned_at<R: Wait>(
 }
 
 /// The entries of the journal from this place on.
-fn entries_from<R: Wait>(
+pub(crate) fn entries_from<R: Wait>(
     rt: &R,
     alloc: Global,
     side: &mut Side,

@@ -12,10 +12,11 @@ use std::sync::Wait;
 use std::test::Fail;
 
 /// Two records that the second office has, and a session of the first for which it has to give both.
-const TWO_RECORDS: &str =
+pub(crate) const TWO_RECORDS: &str =
     "plan 1 run 42\noffice a -\noffice b -\npair a b fork a\nrecord x a b 0 at b\nrecord y a b 0 at b\n";
 
-const TWO_RECORDS_SESSION: &str = "session a\nset x = read x + 1\nset y = read y + 1\nend\n";
+pub(crate) const TWO_RECORDS_SESSION: &str =
+    "session a\nset x = read x + 1\nset y = read y + 1\nend\n";
 
 static SENDS_AGAIN: [Turned; 8] = [
     Turned(Who::A, 7, [0, 0, 4, 1], false),

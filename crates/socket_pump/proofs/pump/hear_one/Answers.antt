@@ -1,6 +1,6 @@
-use Rattle.std.proofs.Common.{arith}
+use Rattle.std.proofs.Common.{Ok, Err, refl, arith}
 use Rattle.socket_pump.proofs.Owing.{owes_one}
-use Rattle.socket_pump.proofs.Hearing.{hearing_one, broke_at, broke_wire, reads, read_received}
+use Rattle.socket_pump.proofs.Hearing.{hearing_one, broke_at, broke_after, broke_wire, follows_refused, follows_taken, reads, read_received, rules_of}
 use Rattle.socket_pump.proofs.pump.hear_one.Goals as goal
 
 pub returns-in-Err-clause-heard : goal.returns-in-Err-clause-heard
@@ -17,10 +17,46 @@ returns-in-Err-judged-clause-heard g c =
     broke_at c.full_at_the_limit.ensures g.W.Wire.tells c.args.pass.now.tag c.args.desk.now.key c.args.pass.now c.take_read-answer.new.pass (g.W.Wire.account c.args.wire.now) (g.W.Wire.account c.receive.new.self) _ c.take_read-answer.result j.0 _
     (reads _ c.decode-read.result d.found d.fault) does j.1 j.2 w.0 w.1
 
+-- ---- it was refused
+
+pub returns-in-Ok-false-clause-heard : goal.returns-in-Ok-false-clause-heard
+returns-in-Ok-false-clause-heard g c =
+    let w = rw c.in-Ok-Some.field-0-is at c.in-Ok-Some.ensures.account in
+    let j = rw c.in-Ok-false.field-0-test at c.in-Ok-false.ensures in
+    let d = c.decode-read.ensures in
+    let does = read_received c.what_is_read_is_received.ensures c.args.pass.now.tag c.args.desk.now.key c.args.pass.now c.take_read-answer.new.pass _ c.decode-read.result c.take_read-answer.result d.found d.only d.fault c.take_read-answer.ensures.taken in (
+      _,
+      hearing_one g.W.Wire.tells c.args.pass.now.tag c.args.desk.now.key c.args.pass.now c.take_read-answer.new.pass c.take_read-answer.new.pass (g.W.Wire.account c.args.wire.now) (g.W.Wire.account c.receive.new.self) _ c.take_read-answer.result (Ok 0) does j.0
+          (follows_refused c.args.pass.now.tag c.args.desk.now.key c.take_read-answer.new.pass c.take_read-answer.result j.1) tt w.0 w.1,
+      omega (arith, j.1),
+      refl,
+      owes_one c.args.senders.now c.note.new.self _ c.decode-read.result c.take_read-answer.result (Ok 0) d.found d.only c.note.ensures,
+    )
+
+-- ---- it was taken, and rules follow
+
 pub returns-in-Ok-clause-heard : goal.returns-in-Ok-clause-heard
 returns-in-Ok-clause-heard g c =
     let w = rw c.in-Ok-Some.field-0-is at c.in-Ok-Some.ensures.account in
-    let j = c.in-Ok.ensures in
+    let j = rw c.in-Ok-true.field-0-test at c.in-Ok-true.ensures in
     let d = c.decode-read.ensures in
-    let does = read_received c.what_is_read_is_received.ensures c.args.pass.now.tag c.args.desk.now.key c.args.pass.now c.take_read-answer.new.pass _ c.decode-read.result c.take_read-answer.result d.found d.only d.fault c.take_read-answer.ensures.taken in
-    (_, hearing_one g.W.Wire.tells c.args.pass.now.tag c.args.desk.now.key c.args.pass.now c.take_read-answer.new.pass (g.W.Wire.account c.args.wire.now) (g.W.Wire.account c.receive.new.self) _ c.take_read-answer.result does j.0 w.0 w.1, omega (arith, j.1), owes_one c.args.senders.now c.note.new.self _ c.decode-read.result c.take_read-answer.result d.found d.only c.note.ensures)
+    let m = c.take_read-answer.new.pass in
+    let does = read_received c.what_is_read_is_received.ensures c.args.pass.now.tag c.args.desk.now.key c.args.pass.now m _ c.decode-read.result c.take_read-answer.result d.found d.only d.fault c.take_read-answer.ensures.taken in
+    let rules = rules_of m.tag c.args.pass.now.tag c.args.desk.now.key (Ok c.in-Ok.rules) m c.advance.new.pass c.take_read-answer.ensures.stays.1 c.in-Ok.ensures.advanced in (
+      _,
+      hearing_one g.W.Wire.tells c.args.pass.now.tag c.args.desk.now.key c.args.pass.now m c.advance.new.pass (g.W.Wire.account c.args.wire.now) (g.W.Wire.account c.receive.new.self) _ c.take_read-answer.result (Ok c.in-Ok.rules) does j.0
+          (follows_taken c.args.pass.now.tag c.args.desk.now.key m c.advance.new.pass c.take_read-answer.result (Ok c.in-Ok.rules) j.1 rules) tt w.0 w.1,
+      omega (arith, j.1),
+      refl,
+      owes_one c.args.senders.now c.note.new.self _ c.decode-read.result c.take_read-answer.result (Ok c.in-Ok.rules) d.found d.only c.note.ensures,
+    )
+
+pub returns-in-Err-advance-clause-heard : goal.returns-in-Err-advance-clause-heard
+returns-in-Err-advance-clause-heard g c =
+    let w = rw c.in-Ok-Some.field-0-is at c.in-Ok-Some.ensures.account in
+    let j = rw c.in-Ok-true.field-0-test at c.in-Ok-true.ensures in
+    let d = c.decode-read.ensures in
+    let m = c.take_read-answer.new.pass in
+    let does = read_received c.what_is_read_is_received.ensures c.args.pass.now.tag c.args.desk.now.key c.args.pass.now m _ c.decode-read.result c.take_read-answer.result d.found d.only d.fault c.take_read-answer.ensures.taken in
+    let rules = rules_of m.tag c.args.pass.now.tag c.args.desk.now.key (Err c.in-Err-advance.stopped) m c.advance.new.pass c.take_read-answer.ensures.stays.1 c.in-Err-advance.ensures.advanced in
+    broke_after g.W.Wire.tells c.args.pass.now.tag c.args.desk.now.key c.args.pass.now m c.advance.new.pass (g.W.Wire.account c.args.wire.now) (g.W.Wire.account c.receive.new.self) _ c.take_read-answer.result c.in-Err-advance.stopped _ does j.1 rules c.fault_of.ensures w.0 w.1

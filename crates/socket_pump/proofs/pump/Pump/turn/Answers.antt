@@ -38,7 +38,7 @@ returns-in-Err-acknowledge-clause-turned g c =
     let ok = subst IsConsistent (sym plan) c.offices.ensures.consistent in
     let within : (v : ℕ) → are_neighbours k.0 k.1 v ≡ true → v < 16 = λ v near. omega (arith, near_within k.0 k.1 v ok near, ok.offices_fit) in
     let all = fault_after c.links_only_grow.ensures g.W.Wire.tells c.args.pass.now.tag k (last_of c.args.self.now.lasts) (last_of c.tell.new.self.lasts) c.args.now heard.heard c.none-senders.result c.hear.new.senders c.tell.new.senders c.advance.new.pass c.tell.new.pass c.acknowledge.new.pass (g.W.Wire.account c.hear.new.wire)
-    (g.W.Wire.account c.tell.new.wire) (g.W.Wire.account c.acknowledge.new.wire) c.in-Ok-tell.sent c.in-Err-acknowledge.fault told.0 c.none-senders.ensures c.in-Ok.ensures.heard.1 within spoke told.1 told.2 told.3 in
+    (g.W.Wire.account c.tell.new.wire) (g.W.Wire.account c.acknowledge.new.wire) c.in-Ok-tell.sent c.in-Err-acknowledge.fault told.0 c.none-senders.ensures c.in-Ok.ensures.heard.2 within spoke told.1 told.2 told.3 in
     WhileTelling c.hear.new.pass c.advance.new.pass (g.W.Wire.account c.hear.new.wire) c.in-Ok.counts.0 c.in-Ok.counts.1 c.in-Ok-advance.rules c.in-Ok.ensures.heard.0 rules all.made all.told all.acked all.known all.due_once all.counts_broke all.remembers
 
 pub returns-clause-turned : goal.returns-clause-turned
@@ -56,13 +56,15 @@ returns-clause-turned g c =
     let within : (v : ℕ) → are_neighbours k.0 k.1 v ≡ true → v < 16 = λ v near. omega (arith, near_within k.0 k.1 v ok near, ok.offices_fit) in
     let all = counts_after c.links_only_grow.ensures g.W.Wire.tells c.args.pass.now.tag k (last_of c.args.self.now.lasts) (last_of c.tell.new.self.lasts) c.args.now heard.heard c.none-senders.result c.hear.new.senders c.tell.new.senders c.advance.new.pass c.tell.new.pass c.acknowledge.new.pass (g.W.Wire.account c.hear.new.wire)
     (g.W.Wire.account c.tell.new.wire) (g.W.Wire.account c.acknowledge.new.wire) c.in-Ok-tell.sent c.in-Ok-acknowledge.sent told.0
-    c.none-senders.ensures c.in-Ok.ensures.heard.1 (λ v x. brought_near c.args.pass.now.tag k c.args.pass.now c.hear.new.pass heard.heard v heard.hearing.hears x) within spoke told.1 told.2 told.3 told.4 in
+    c.none-senders.ensures c.in-Ok.ensures.heard.2 (λ v x. brought_near c.args.pass.now.tag k c.args.pass.now c.hear.new.pass heard.heard v heard.hearing.hears x) within spoke told.1 told.2 told.3 told.4 in
     record {
       mid = c.hear.new.pass;
       ruled = c.advance.new.pass;
       received = g.W.Wire.account c.hear.new.wire;
       heard = c.in-Ok.ensures.heard.0;
+      finally = c.in-Ok-advance.rules;
       rules = rules;
+      all_rules = omega (arith, c.in-Ok.ensures.heard.1);
       made = all.made;
       told = all.told;
       sent = all.counted;
