@@ -1,8 +1,9 @@
 //! A socket over another one.
 
-ghost use Rattle.std.specs.Prelude.{◌≡◌, ◌≤◌, false, true, IfOk, IfSome, MatchOption};
-ghost use Rattle.socket_pump.specs.Wires.{Accepts, Hands, risen};
-ghost use Rattle.sealed_sockets.specs.Sealed.{told_by};
+ghost use Rattle.std.specs.Prelude.{◌≡◌, ℕ, List, Option, None};
+ghost use Rattle.std.specs.Option.{option_copied};
+ghost use Rattle.socket_pump.specs.Wires.{risen};
+ghost use Rattle.sealed_sockets.specs.Sealed.{secrets_if, told_under};
 
 use office_map::OfficeId;
 use office_sockets::{Binds, Socket};
@@ -10,54 +11,65 @@ use sealed_frames::Secret;
 use sealed_wires::SealedWire;
 use socket_pump::{Contact, Wire, WireFailed};
 use std::io;
+use std::marker::{Brand, PhantomData};
 use std::net::SocketAddr;
 
 /// The place of a frame's byte that names its sender.
 const SENDER: usize = 8;
 
-/// A socket whose datagrams are frames under seals, or one that does what the socket below does.
+/// The secrets of sockets, if they have any, by the office with which each is shared.
+///
+/// They are known only when an office runs, and then all its sockets have them. So a type names them: whoever runs an office over
+/// sockets of it can't put others in their place. A call picks what its own secrets are.
+pub trait Secrets {
+    ghost secrets: { Option (List (Option (List ℕ))) };
+}
+
+impl Secrets for Brand {
+    ghost secrets = { None };
+}
+
+/// A socket whose datagrams are frames under these secrets, or, without any, one that does what the socket below does.
 #[derive(Drop)]
-pub struct SealedSocket<'a, S> {
+pub struct SealedSocket<'a, S, K: Secrets> {
     /// The socket below, under the secrets.
     pub wire: SealedWire<'a, S>,
     /// Whether there are secrets.
     pub sealed: bool,
     /// How many datagrams of each office were opened.
     pub heard: [u64; 16],
+    of: PhantomData<K>,
+    ghost under: { secrets_if sealed wire.secrets.now ≡ K.secrets },
 }
 
-impl<'a, S> SealedSocket<'a, S> {
-    /// The socket under these secrets, where there are any. Nobody was heard yet.
-    pub fn new(socket: S, secrets: Option<&'a [Option<Secret>]>) -> SealedSocket<'a, S>
-        ensures socket { result.wire.wire ≡ socket }
-        ensures secrets { MatchOption secrets.entry (result.sealed ≡ false) (λ given. (result.sealed ≡ true) × (result.wire.secrets.now ≡ given.now)) }
+impl<'a, S, K: Secrets> SealedSocket<'a, S, K> {
+    /// The socket under the secrets, where there are any. Nobody was heard yet.
+    fn new(socket: S, secrets: Option<&'a [Option<Secret>]>) -> SealedSocket<'a, S, K>
+        requires { option_copied secrets ≡ K.secrets }
     {
         match secrets {
             Some(secrets) => SealedSocket {
                 wire: SealedWire::new(socket, secrets),
                 sealed: true,
                 heard: [0; 16],
+                of: PhantomData,
             },
             None => SealedSocket {
                 wire: SealedWire::new(socket, &[]),
                 sealed: false,
                 heard: [0; 16],
+                of: PhantomData,
             },
         }
     }
 }
 
-impl<S: Socket> Wire for SealedSocket<'_, S> {
-    ghost account = { λ s. told_by s.sealed s.wire.secrets.now s.wire.failures (S.account s.wire.wire) };
+impl<S: Socket, K: Secrets> Wire for SealedSocket<'_, S, K> {
+    ghost account = { λ s. told_under K.secrets s.wire.failures (S.account s.wire.wire) };
 
     ghost tells = { S.tells };
 
-    fn receive(&mut self, buffer: &mut [u8; 128]) -> Result<Option<usize>, WireFailed>
-        ensures within { IfOk result (λ o. IfSome o (λ n. n ≤ 128)) }
-        ensures account { Hands S.tells (told_by self.old.sealed self.old.wire.secrets.now self.old.wire.failures (S.account self.old.wire.wire)) result buffer.new (told_by self.new.sealed self.new.wire.secrets.now self.new.wire.failures (S.account self.new.wire.wire)) }
-        ensures sealed { self.new.sealed ≡ self.old.sealed }
-        ensures secrets { self.new.wire.secrets.now ≡ self.old.wire.secrets.now }
-    {
+    fn receive(&mut self, buffer: &mut [u8; 128]) -> Result<Option<usize>, WireFailed> {
         if !self.sealed {
             return self.wire.wire.receive(buffer);
         }
@@ -71,11 +83,7 @@ impl<S: Socket> Wire for SealedSocket<'_, S> {
         }
     }
 
-    fn send(&mut self, to: OfficeId, bytes: &[u8]) -> Result<(), WireFailed>
-        ensures account { Accepts S.tells (told_by self.old.sealed self.old.wire.secrets.now self.old.wire.failures (S.account self.old.wire.wire)) to bytes.now result (told_by self.new.sealed self.new.wire.secrets.now self.new.wire.failures (S.account self.new.wire.wire)) }
-        ensures sealed { self.new.sealed ≡ self.old.sealed }
-        ensures secrets { self.new.wire.secrets.now ≡ self.old.wire.secrets.now }
-    {
+    fn send(&mut self, to: OfficeId, bytes: &[u8]) -> Result<(), WireFailed> {
         if !self.sealed {
             return self.wire.wire.send(to, bytes);
         }
@@ -83,7 +91,7 @@ impl<S: Socket> Wire for SealedSocket<'_, S> {
     }
 }
 
-impl<S: Socket> Socket for SealedSocket<'_, S> {
+impl<S: Socket, K: Secrets> Socket for SealedSocket<'_, S, K> {
     ghost waits = { λ s. S.waits s.wire.wire };
 
     fn address(&self) -> io::Result<SocketAddr> {
@@ -135,19 +143,31 @@ fn hear(heard: &mut [u64; 16], frame: &[u8]) {
 
 /// What binds sockets under these secrets, where there are any, over what binds those below.
 #[derive(Drop)]
-pub struct SealedSockets<'b, 'a, B> {
-    pub binds: &'b B,
-    pub secrets: Option<&'a [Option<Secret>]>,
+pub struct SealedSockets<'b, 'a, B, K: Secrets> {
+    binds: &'b B,
+    secrets: Option<&'a [Option<Secret>]>,
+    of: PhantomData<K>,
+    ghost under: { option_copied secrets ≡ K.secrets },
 }
 
-impl<'b, 'a, B: Binds> Binds for SealedSockets<'b, 'a, B> {
-    type Socket = SealedSocket<'a, B::Socket>;
+impl<'b, 'a, B, K: Secrets> SealedSockets<'b, 'a, B, K> {
+    pub fn new(binds: &'b B, secrets: Option<&'a [Option<Secret>]>) -> SealedSockets<'b, 'a, B, K>
+        requires { option_copied secrets ≡ K.secrets }
+    {
+        SealedSockets {
+            binds,
+            secrets,
+            of: PhantomData,
+        }
+    }
+}
+
+impl<'b, 'a, B: Binds, K: Secrets> Binds for SealedSockets<'b, 'a, B, K> {
+    type Socket = SealedSocket<'a, B::Socket, K>;
 
     type Alarm = B::Alarm;
 
-    fn bind(&self, at: SocketAddr) -> io::Result<(SealedSocket<'a, B::Socket>, B::Alarm)>
-        ensures secrets { IfOk result (λ bound. MatchOption self.now.secrets (bound.0.sealed ≡ false) (λ given. (bound.0.sealed ≡ true) × (bound.0.wire.secrets.now ≡ given.now))) }
-    {
+    fn bind(&self, at: SocketAddr) -> io::Result<(SealedSocket<'a, B::Socket, K>, B::Alarm)> {
         let (socket, alarm) = self.binds.bind(at)?;
         Ok((SealedSocket::new(socket, self.secrets), alarm))
     }
