@@ -72,7 +72,7 @@ random_without_end = with_rule (with_rule (with_rule random_words (numbered (cod
 abbrev pub random_command : App
 random_command = with_form (with_end random_without_end)
 
--- run PLAN OFFICE SESSIONS [--turns N] [--secrets FILE] [--journal FILE] [--store FILE] [--sync WHEN] [--new]
+-- run PLAN OFFICE SESSIONS [--turns N] [--secrets FILE] [--journal FILE] [--store FILE] [--sync WHEN] [--new] [--json]
 abbrev pub run_words : App
 run_words = with_rule (with_rule (with_rule (new_app (codes "run")) (required (codes "PLAN"))) (required (codes "OFFICE"))) (required (codes "SESSIONS"))
 
@@ -80,9 +80,9 @@ abbrev pub run_without_store : App
 run_without_store = with_rule (with_rule (with_rule run_words (optional (codes "turns") 1 100000 (codes "2000"))) (path (codes "secrets"))) (path (codes "journal"))
 
 abbrev pub run_command : App
-run_command = with_rule (with_rule (with_rule run_without_store (path (codes "store"))) (path (codes "sync"))) (flag (codes "new"))
+run_command = with_form (with_rule (with_rule (with_rule run_without_store (path (codes "store"))) (path (codes "sync"))) (flag (codes "new")))
 
--- serve PLAN OFFICE --store FILE [--sync WHEN] [--new] [--secrets FILE] [--linger N] [--status N]
+-- serve PLAN OFFICE --store FILE [--sync WHEN] [--new] [--secrets FILE] [--linger N] [--status N] [--json]
 abbrev pub serve_words : App
 serve_words = with_rule (with_rule (new_app (codes "serve")) (required (codes "PLAN"))) (required (codes "OFFICE"))
 
@@ -90,14 +90,14 @@ abbrev pub serve_with_store : App
 serve_with_store = with_rule (with_rule serve_words (named (codes "store"))) (path (codes "sync"))
 
 abbrev pub serve_command : App
-serve_command = with_rule (with_rule (with_rule (with_rule serve_with_store (flag (codes "new"))) (path (codes "secrets"))) (optional (codes "linger") 0 86400 (codes "0"))) (optional (codes "status") 0 86400 (codes "0"))
+serve_command = with_form (with_rule (with_rule (with_rule (with_rule serve_with_store (flag (codes "new"))) (path (codes "secrets"))) (optional (codes "linger") 0 86400 (codes "0"))) (optional (codes "status") 0 86400 (codes "0")))
 
--- live PLAN SESSIONS [--journals DIR] [--plan FILE] [--left FILE]
+-- live PLAN SESSIONS [--journals DIR] [--plan FILE] [--left FILE] [--json]
 abbrev pub live_without_end : App
 live_without_end = with_rule (with_rule (with_rule (new_app (codes "live")) (required (codes "PLAN"))) (required (codes "SESSIONS"))) (path (codes "journals"))
 
 abbrev pub live_command : App
-live_command = with_end live_without_end
+live_command = with_form (with_end live_without_end)
 
 -- audit PLAN JOURNAL.. [--plan FILE] [--left FILE] [--json]
 abbrev pub audit_command : App
@@ -181,27 +181,29 @@ Requests name rows (Random plan sessions seed loss steps next left json) =
     × IsNumber (word_of (codes "seed") rows) seed × IsNumber (word_of (codes "loss") rows) loss × IsNumber (word_of (codes "steps") rows) steps
     × (option_map (λ file. file.now) next ≡ given (codes "plan") rows) × (option_map (λ file. file.now) left ≡ given (codes "left") rows)
     × (has_flag (codes "json") rows ≡ json)
-Requests name rows (Run plan office sessions turns journal secrets) =
+Requests name rows (Run plan office sessions turns journal secrets json) =
     (bytes_eq name (codes "run") ≡ true) × (plan.now ≡ word_of (codes "PLAN") rows) × (office.now ≡ word_of (codes "OFFICE") rows)
     × (sessions.now ≡ word_of (codes "SESSIONS") rows) × IsNumber (word_of (codes "turns") rows) turns
     × (option_map (λ file. file.now) journal ≡ given (codes "journal") rows)
     × (given (codes "store") rows ≡ None) × (given (codes "sync") rows ≡ None) × (has_flag (codes "new") rows ≡ false)
-    × (option_map (λ file. file.now) secrets ≡ given (codes "secrets") rows)
-Requests name rows (RunStored plan office sessions turns store sync new secrets) =
+    × (option_map (λ file. file.now) secrets ≡ given (codes "secrets") rows) × (has_flag (codes "json") rows ≡ json)
+Requests name rows (RunStored plan office sessions turns store sync new secrets json) =
     (bytes_eq name (codes "run") ≡ true) × (plan.now ≡ word_of (codes "PLAN") rows) × (office.now ≡ word_of (codes "OFFICE") rows)
     × (sessions.now ≡ word_of (codes "SESSIONS") rows) × IsNumber (word_of (codes "turns") rows) turns
     × (given (codes "store") rows ≡ Some store.now) × (given (codes "journal") rows ≡ None)
     × (sync_meant (given (codes "sync") rows) ≡ Some sync) × (has_flag (codes "new") rows ≡ new)
-    × (option_map (λ file. file.now) secrets ≡ given (codes "secrets") rows)
-Requests name rows (Serve plan office store sync new secrets linger status) =
+    × (option_map (λ file. file.now) secrets ≡ given (codes "secrets") rows) × (has_flag (codes "json") rows ≡ json)
+Requests name rows (Serve plan office store sync new secrets linger status json) =
     (bytes_eq name (codes "serve") ≡ true) × (plan.now ≡ word_of (codes "PLAN") rows) × (office.now ≡ word_of (codes "OFFICE") rows)
     × (store.now ≡ word_of (codes "store") rows) × (sync_meant (given (codes "sync") rows) ≡ Some sync) × (has_flag (codes "new") rows ≡ new)
     × (option_map (λ file. file.now) secrets ≡ given (codes "secrets") rows)
     × IsNumber (word_of (codes "linger") rows) linger × IsNumber (word_of (codes "status") rows) status
-Requests name rows (Live plan sessions journals next left) =
+    × (has_flag (codes "json") rows ≡ json)
+Requests name rows (Live plan sessions journals next left json) =
     (bytes_eq name (codes "live") ≡ true) × (plan.now ≡ word_of (codes "PLAN") rows) × (sessions.now ≡ word_of (codes "SESSIONS") rows)
     × (option_map (λ folder. folder.now) journals ≡ given (codes "journals") rows)
     × (option_map (λ file. file.now) next ≡ given (codes "plan") rows) × (option_map (λ file. file.now) left ≡ given (codes "left") rows)
+    × (has_flag (codes "json") rows ≡ json)
 Requests name rows (Audit plan journals next left json) =
     (bytes_eq name (codes "audit") ≡ true) × (plan.now ≡ word_of (codes "PLAN") rows)
     × (map (λ journal. journal.now) journals.items ≡ words_of (codes "JOURNAL") rows)

@@ -56,6 +56,7 @@ pub enum Request<'a> {
         turns: u64,
         journal: Option<&'a str>,
         secrets: Option<&'a str>,
+        json: bool,
     },
     /// The same, where the office keeps its journal in a store and goes on from what it has. The store is made, or has to be there.
     RunStored {
@@ -67,6 +68,7 @@ pub enum Request<'a> {
         sync: Sync,
         new: bool,
         secrets: Option<&'a str>,
+        json: bool,
     },
     /// One office of a plan, at its address, that takes its sessions as they come, from such a store. It ends where none comes any more
     /// and no datagram came for so many seconds, and with 0 it doesn't; each so many seconds it is said how it stands, and with 0 it isn't.
@@ -80,6 +82,7 @@ pub enum Request<'a> {
         secrets: Option<&'a str>,
         linger: u64,
         status: u64,
+        json: bool,
     },
     /// All offices of a plan, on this machine. A folder, where one is named, is for their journals; a file for the plan of the next
     /// day; and one for the sessions that haven't finished.
@@ -89,6 +92,7 @@ pub enum Request<'a> {
         journals: Option<&'a str>,
         next: Option<&'a str>,
         left: Option<&'a str>,
+        json: bool,
     },
     /// Whether the journals that offices left are of one run of a plan, and what its sessions did. A file, where one is named, is for
     /// the plan of the next day, and one for the sessions that are left.
@@ -189,6 +193,7 @@ fn requested<'a>(alloc: Global, name: &str, found: &ArgMatches<'a>) -> Result<Re
             journals,
             next: given(found, "plan"),
             left: given(found, "left"),
+            json: has_flag(found, "json"),
         });
     }
     Ok(Request::Serial {
@@ -216,6 +221,7 @@ fn run_requested<'a>(alloc: Global, found: &ArgMatches<'a>) -> Result<Request<'a
     let journal = given(found, "journal");
     let new = has_flag(found, "new");
     let secrets = given(found, "secrets");
+    let json = has_flag(found, "json");
     let Some(sync) = sync_meant(given(found, "sync")) else {
         return Err(refused(alloc, ErrorKind::InvalidValue, OTHER_SYNC));
     };
@@ -230,6 +236,7 @@ fn run_requested<'a>(alloc: Global, found: &ArgMatches<'a>) -> Result<Request<'a
             turns,
             journal,
             secrets,
+            json,
         });
     };
     if journal.is_some() {
@@ -244,6 +251,7 @@ fn run_requested<'a>(alloc: Global, found: &ArgMatches<'a>) -> Result<Request<'a
         sync,
         new,
         secrets,
+        json,
     })
 }
 
@@ -269,6 +277,7 @@ fn serve_requested<'a>(alloc: Global, found: &ArgMatches<'a>) -> Result<Request<
         secrets: given(found, "secrets"),
         linger: number(found, "linger"),
         status: number(found, "status"),
+        json: has_flag(found, "json"),
     })
 }
 
@@ -459,7 +468,8 @@ fn run<'a>(alloc: Global) -> Result<Command<'a>, AllocError>
     run_without_store(alloc)?
         .arg(path(alloc, "store", STORE, "FILE"))?
         .arg(path(alloc, "sync", SYNC, "WHEN"))?
-        .arg(flag(alloc, "new", NEW))
+        .arg(flag(alloc, "new", NEW))?
+        .arg(flag(alloc, "json", OBJECTS))
 }
 
 /// `run` but for what is said of a store.
@@ -493,7 +503,8 @@ fn serve<'a>(alloc: Global) -> Result<Command<'a>, AllocError>
         .arg(flag(alloc, "new", NEW))?
         .arg(path(alloc, "secrets", SECRETS, "FILE"))?
         .arg(optional(alloc, "linger", LINGER, 0, MOST_SECONDS, NEVER))?
-        .arg(optional(alloc, "status", STATUS, 0, MOST_SECONDS, NEVER))
+        .arg(optional(alloc, "status", STATUS, 0, MOST_SECONDS, NEVER))?
+        .arg(flag(alloc, "json", OBJECTS))
 }
 
 /// `serve` but for how it begins and how long it goes on.
@@ -516,7 +527,8 @@ fn live<'a>(alloc: Global) -> Result<Command<'a>, AllocError>
 {
     live_without_end(alloc)?
         .arg(path(alloc, "plan", NEXT, "FILE"))?
-        .arg(path(alloc, "left", LEFT, "FILE"))
+        .arg(path(alloc, "left", LEFT, "FILE"))?
+        .arg(flag(alloc, "json", OBJECTS))
 }
 
 /// `live` but for what is said of the next day.

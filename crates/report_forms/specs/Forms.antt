@@ -1,11 +1,12 @@
 -- What is printed of sessions and of records, in either form.
 use Rattle.std.specs.Prelude.{ℕ, Bool, true, false, List, [], ◌∷◌, ◌++◌, length, codes}
 use Rattle.std.specs.List.{flat_map, range_with_len}
+use Rattle.std.specs.Fmt.{decimal}
 use Rattle.bottle_values.specs.Values.{Value}
 use Rattle.office_map.specs.PlanValue.{PlanValue}
 use Rattle.session_meaning.specs.declared.ending.Outcome.{Outcome}
 use Rattle.session_reports.specs.Report.{outcome_line, unfinished_line, value_line}
-use Rattle.json_reports.specs.Json.{json_outcome, json_unfinished, json_value_line, key}
+use Rattle.json_reports.specs.Json.{json_outcome, json_unfinished, json_value_line, key, quoted}
 use Rattle.report_forms.specs.declared.forms.Form.{Form}
 use Rattle.report_forms.specs.declared.forms.Form.TheVariants.{Plain, Json}
 
@@ -46,3 +47,13 @@ opening_as Json = 123 ∷ (key (codes "reply") ++ 34 ∷ [])
 abbrev pub closing_as : Form → List ℕ
 closing_as Plain = 10 ∷ []
 closing_as Json = 34 ∷ 125 ∷ 10 ∷ []
+
+-- a number under its name: NAME N, or {"NAME":N}
+abbrev pub count_as : Form → List ℕ → ℕ → List ℕ
+count_as Plain name n = name ++ (32 ∷ (decimal n ++ 10 ∷ []))
+count_as Json name n = 123 ∷ (key name ++ (decimal n ++ 125 ∷ 10 ∷ []))
+
+-- words under their name: NAME WORDS, or {"NAME":"WORDS"}
+abbrev pub words_as : Form → List ℕ → List ℕ → List ℕ
+words_as Plain name words = name ++ (32 ∷ (words ++ 10 ∷ []))
+words_as Json name words = 123 ∷ (key name ++ (quoted words ++ 125 ∷ 10 ∷ []))

@@ -3,7 +3,8 @@
 //! - [`Form`] says which of the two, as a command line asks for it ([`Form::of`]).
 //! - [`report::report`], [`report::add_outcome`], [`report::add_value`] and [`report::add_unfinished`] are those of
 //!   `session_reports` in the one form and those of `json_reports` in the other; [`report::add_outcomes`] adds the lines of several.
-//! - [`words::add_opening`] and [`words::add_closing`] stand around words that are a line in the one form, and the text of an object in the other.
+//! - [`words::add_opening`] and [`words::add_closing`] stand around words that are a line in the one form, and the text of an object in the other;
+//!   [`words::add_count`] and [`words::add_words`] add the line of a number, and of words, under a name.
 //!
 //! What is printed in a form is in `specs/Forms.antt`. A report's definition takes the form, so the contract of a command says which
 //! text it wrote.

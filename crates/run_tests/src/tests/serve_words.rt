@@ -6,17 +6,27 @@ use command_words::command_line::{Request, command_line};
 use journal_stores::Sync;
 use std::test::Fail;
 
-/// What stands after `serve p a`, and what it asks for: when what is appended is kept, whether the store is made, and seconds.
-static SERVED: [(&[&str], Sync, bool, u64, u64); 6] = [
-    (&["--store", "f"], Sync::Data, false, 0, 0),
-    (&["--store=f", "--new"], Sync::Data, true, 0, 0),
-    (&["--sync", "data", "--store", "f"], Sync::Data, false, 0, 0),
+/// What stands after `serve p a`, and what it asks for: when what is appended is kept, whether the store is made, seconds, and whether
+/// objects are printed.
+static SERVED: [(&[&str], Sync, bool, u64, u64, bool); 7] = [
+    (&["--store", "f"], Sync::Data, false, 0, 0, false),
+    (&["--json", "--store", "f"], Sync::Data, false, 0, 0, true),
+    (&["--store=f", "--new"], Sync::Data, true, 0, 0, false),
+    (
+        &["--sync", "data", "--store", "f"],
+        Sync::Data,
+        false,
+        0,
+        0,
+        false,
+    ),
     (
         &["--sync", "none", "--new", "--store", "f"],
         Sync::Nothing,
         true,
         0,
         0,
+        false,
     ),
     (
         &["--store", "f", "--linger", "86400", "--status=1"],
@@ -24,6 +34,7 @@ static SERVED: [(&[&str], Sync, bool, u64, u64); 6] = [
         false,
         86_400,
         1,
+        false,
     ),
     (
         &["--linger", "0", "--store", "f", "--status", "086400"],
@@ -31,12 +42,13 @@ static SERVED: [(&[&str], Sync, bool, u64, u64); 6] = [
         false,
         0,
         86_400,
+        false,
     ),
 ];
 
 #[test]
 fn reads_the_words_of_serve(rt: HostRuntime) -> Result<(), Fail> {
-    for (more, sync, new, linger, status) in &SERVED {
+    for (more, sync, new, linger, status, json) in &SERVED {
         let mut words = strings(rt.alloc(), &["drink", "serve", "p", "a"])?;
         for word in *more {
             words.push(String::from_str(rt.alloc(), *word)?)?;
@@ -51,6 +63,7 @@ fn reads_the_words_of_serve(rt: HostRuntime) -> Result<(), Fail> {
             secrets: None,
             linger: *linger,
             status: *status,
+            json: *json,
         };
         assert_eq!(rt; request, expected, "of {words:?}");
     }
@@ -73,6 +86,7 @@ fn serve_has_a_file_of_secrets(rt: HostRuntime) -> Result<(), Fail> {
         secrets: Some("k"),
         linger: 0,
         status: 0,
+        json: false,
     };
     assert_eq!(rt; request, expected);
     Ok(())
@@ -180,7 +194,7 @@ fn helps_with_serve(rt: HostRuntime) -> Result<(), Fail> {
     Ok(())
 }
 
-static SERVE_HELP: [&str; 10] = [
+static SERVE_HELP: [&str; 11] = [
     "Usage: drink serve [OPTIONS] --store <FILE> <PLAN> <OFFICE>\n",
     "  <PLAN>    The file of the plan; - is refused, since the standard input asks\n",
     "  --store <FILE>    A file for the office's journal, from which it goes on; - is refused\n",
@@ -189,6 +203,7 @@ static SERVE_HELP: [&str; 10] = [
     "  --linger <N>      Ends N quiet seconds after its input, 0 to 86400; 0: never [default: 0]\n",
     "  --status <N>      Tells each N seconds how it stands, 0 to 86400; 0: never [default: 0]\n",
     "  --secrets <FILE>  The file of the office's secrets, which is for its owner alone\n",
+    "  --json            Prints an object of JSON on each line\n",
     "\nA session is answered by `ticket T`, and by what it did once it has finished. A line `ticket T`\n",
     "\nExit status: 0 where it ended by --linger; 1 ",
 ];

@@ -286,6 +286,7 @@ fn reads_the_words_of_run(rt: HostRuntime) -> Result<(), Fail> {
             turns: *turns,
             journal: *journal,
             secrets: None,
+            json: false,
         };
         assert_eq!(rt; request, expected);
     }
@@ -314,6 +315,7 @@ fn reads_the_words_of_run_with_secrets(rt: HostRuntime) -> Result<(), Fail> {
         turns: 3,
         journal: None,
         secrets: Some("k"),
+        json: false,
     };
     assert_eq!(rt; request, expected);
     let words = ["drink", "run", "--secrets=k", "p", "a", "s", "--store", "f"];
@@ -328,6 +330,7 @@ fn reads_the_words_of_run_with_secrets(rt: HostRuntime) -> Result<(), Fail> {
         sync: Sync::Data,
         new: false,
         secrets: Some("k"),
+        json: false,
     };
     assert_eq!(rt; request, expected);
     Ok(())
@@ -412,6 +415,7 @@ fn reads_the_words_of_run_with_a_store(rt: HostRuntime) -> Result<(), Fail> {
             sync: *sync,
             new: *new,
             secrets: None,
+            json: false,
         };
         assert_eq!(rt; request, expected);
     }
@@ -491,6 +495,60 @@ fn other_words_about_a_store_are_a_fault(rt: HostRuntime) -> Result<(), Fail> {
     is_fault(&rt, &["drink", "live", "p", "s", "--store", "f"])
 }
 
+/// What a run of offices prints may be objects.
+#[test]
+fn reads_that_a_run_prints_objects(rt: HostRuntime) -> Result<(), Fail> {
+    let words = strings(rt.alloc(), &["drink", "run", "--json", "p", "a", "s"])?;
+    let request = command_line(rt.alloc(), words.as_slice())?;
+    let expected = Request::Run {
+        plan: "p",
+        office: "a",
+        sessions: "s",
+        turns: 2_000,
+        journal: None,
+        secrets: None,
+        json: true,
+    };
+    assert_eq!(rt; request, expected);
+    Ok(())
+}
+
+#[test]
+fn reads_that_a_run_with_a_store_prints_objects(rt: HostRuntime) -> Result<(), Fail> {
+    let words = ["drink", "run", "p", "a", "s", "--store=f", "--json"];
+    let words = strings(rt.alloc(), &words)?;
+    let request = command_line(rt.alloc(), words.as_slice())?;
+    let expected = Request::RunStored {
+        plan: "p",
+        office: "a",
+        sessions: "s",
+        turns: 2_000,
+        store: "f",
+        sync: Sync::Data,
+        new: false,
+        secrets: None,
+        json: true,
+    };
+    assert_eq!(rt; request, expected);
+    Ok(())
+}
+
+#[test]
+fn reads_that_live_prints_objects(rt: HostRuntime) -> Result<(), Fail> {
+    let words = strings(rt.alloc(), &["drink", "live", "p", "--json", "s"])?;
+    let request = command_line(rt.alloc(), words.as_slice())?;
+    let expected = Request::Live {
+        plan: "p",
+        sessions: "s",
+        journals: None,
+        next: None,
+        left: None,
+        json: true,
+    };
+    assert_eq!(rt; request, expected);
+    is_fault(&rt, &["drink", "live", "p", "s", "--json=yes"])
+}
+
 /// What the help of `run` says of a store.
 #[test]
 fn helps_with_a_store(rt: HostRuntime) -> Result<(), Fail> {
@@ -505,12 +563,13 @@ fn helps_with_a_store(rt: HostRuntime) -> Result<(), Fail> {
     Ok(())
 }
 
-static RUN_HELP: [&str; 7] = [
+static RUN_HELP: [&str; 8] = [
     "Usage: drink run [OPTIONS] <PLAN> <OFFICE> <SESSIONS>\n",
     "  --journal <FILE>  A file for the office's journal; - is refused\n",
     "  --store <FILE>    A file for the office's journal, from which it goes on; - is refused\n",
     "  --sync <WHEN>     data: kept once the disk has it (the usual); none: once the system has it\n",
     "  --new             Makes the store, which must not be there; without this it must be there\n",
+    "  --json            Prints an object of JSON on each line\n",
     "\nWith a store an office that ended, or was killed, goes on from what it kept",
     "\nExit status: 0 where all sessions finished; 1 where some are left, where an input or a store is\n",
 ];
@@ -533,6 +592,7 @@ fn reads_the_words_of_live(rt: HostRuntime) -> Result<(), Fail> {
             journals: *journals,
             next: None,
             left: None,
+            json: false,
         };
         assert_eq!(rt; request, expected);
     }
