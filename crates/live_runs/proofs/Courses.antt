@@ -13,7 +13,8 @@ use Rattle.own_lock.specs.Passes.{LockView}
 use Rattle.site_core.specs.Journals.{Site, IsLegal, StepsAddTheirEntry}
 use Rattle.site_core.specs.Tickets.{SessionsGoInOrder}
 use Rattle.locked_office.specs.Calls.{Key, DeskPass, tag_of}
-use Rattle.session_reports.specs.Report.{outcome_line, unfinished_line}
+use Rattle.report_forms.specs.Forms.{outcome_as, unfinished_as}
+use Rattle.report_forms.specs.declared.forms.Form.{Form}
 use Rattle.office_stations.specs.declared.fault.RunFault.{RunFault}
 use Rattle.office_stations.specs.declared.fault.RunFault.TheVariants.{NoThread}
 use Rattle.office_runs.specs.declared.report.Ran.{Ran}
@@ -30,14 +31,14 @@ use Rattle.live_runs.proofs.Written.{worker_submits_nothing, client_submits_a_be
 use Rattle.live_runs.proofs.Telling.{left_more, text_more, no_journals, journals_more}
 
 -- of offices, what came of the first of them is told
-pub record ToldSoFar (tells : Bool) (p : PlanValue) (programs : List ProgramValue) (asked : Bool) (all rest : List EndView) (unfinished : ℕ) (found : Option RunFault) (report : Told) : Type 0 where
+pub record ToldSoFar (form : Form) (tells : Bool) (p : PlanValue) (programs : List ProgramValue) (asked : Bool) (all rest : List EndView) (unfinished : ℕ) (found : Option RunFault) (report : Told) : Type 0 where
   pub courses : List Course
   pub keys : map (λ c. key_of c.site) courses ++ map key_of_end rest ≡ map key_of_end all
   pub each : All (IsCourse tells programs) courses
   pub sessions : All (λ e. programs_of_end e ≡ programs) rest
   pub fault : IsToldOf (flat_map faults_of courses) found
   pub left : unfinished ≡ length programs - length (all_finished (map site_of courses))
-  pub lines : report.lines ≡ flat_map (outcome_line p) (all_finished (map site_of courses))
+  pub lines : report.lines ≡ flat_map (outcome_as form p) (all_finished (map site_of courses))
   pub journals : HasJournals report.wanted (map site_of courses) report.texts
   pub wanted : report.wanted ≡ asked
 
@@ -63,9 +64,9 @@ fault_more fs a b c (Some why) told none (inr (inr h)) = inr (subst (λ x. Conta
 
 -- ---- one more office
 
-pub none_so_far : (tells : Bool) (p : PlanValue) (programs : List ProgramValue) (wanted : Bool) (all : List EndView) (left : ℕ) (fault : Option RunFault) (report : Told) → All (λ e. programs_of_end e ≡ programs) all → left ≡ length programs →
-    IfSome fault (λ why. why ≡ NoThread) → report ≡ none_told wanted → ToldSoFar tells p programs wanted all all left fault report
-none_so_far tells p programs wanted all left fault report sessions whole none empty = subst (λ (r : Told). ToldSoFar tells p programs wanted all all left fault r) (sym empty) record {
+pub none_so_far : (form : Form) (tells : Bool) (p : PlanValue) (programs : List ProgramValue) (wanted : Bool) (all : List EndView) (left : ℕ) (fault : Option RunFault) (report : Told) → All (λ e. programs_of_end e ≡ programs) all → left ≡ length programs →
+    IfSome fault (λ why. why ≡ NoThread) → report ≡ none_told wanted → ToldSoFar form tells p programs wanted all all left fault report
+none_so_far form tells p programs wanted all left fault report sessions whole none empty = subst (λ (r : Told). ToldSoFar form tells p programs wanted all all left fault r) (sym empty) record {
   courses = [];
   keys = refl;
   each = All-nil (IsCourse tells programs);
@@ -80,10 +81,10 @@ none_so_far tells p programs wanted all left fault report sessions whole none em
 sites_more : (cs : List Course) (c : Course) → map site_of (cs ++ c ∷ []) ≡ map site_of cs ++ c.site ∷ []
 sites_more cs c = map-append site_of cs (c ∷ [])
 
-pub one_more_told : (tells : Bool) (p : PlanValue) (programs : List ProgramValue) (wanted : Bool) (all before rest : List EndView) (e : EndView) (left next count : ℕ) (a r : Option RunFault) (old new : Told) → before ≡ e ∷ rest →
-    ToldSoFar tells p programs wanted all before left a old → TellsEnd tells (outcome_line p) e count old new → new.wanted ≡ old.wanted → next ≡ left - count →
-    IfNone r ((a ≡ None) × (e.broke ≡ None) × (e.stopped ≡ None)) → IfSome r (λ why. (a ≡ Some why) ⊎ ((e.broke ≡ Some why) ⊎ (e.stopped ≡ Some why))) → ToldSoFar tells p programs wanted all rest next r new
-one_more_told tells p programs wanted all before rest e left next count a r old new split h end same fewer none some =
+pub one_more_told : (form : Form) (tells : Bool) (p : PlanValue) (programs : List ProgramValue) (wanted : Bool) (all before rest : List EndView) (e : EndView) (left next count : ℕ) (a r : Option RunFault) (old new : Told) → before ≡ e ∷ rest →
+    ToldSoFar form tells p programs wanted all before left a old → TellsEnd tells (outcome_as form p) e count old new → new.wanted ≡ old.wanted → next ≡ left - count →
+    IfNone r ((a ≡ None) × (e.broke ≡ None) × (e.stopped ≡ None)) → IfSome r (λ why. (a ≡ Some why) ⊎ ((e.broke ≡ Some why) ⊎ (e.stopped ≡ Some why))) → ToldSoFar form tells p programs wanted all rest next r new
+one_more_told form tells p programs wanted all before rest e left next count a r old new split h end same fewer none some =
     let Same : EndView → Type 0 = λ x. programs_of_end x ≡ programs in
     let sessions : All Same (e ∷ rest) = subst (All Same) split h.sessions in
     let c : Course = end.course in
@@ -100,7 +101,7 @@ one_more_told tells p programs wanted all before rest e left next count a r old 
       sessions = All-tail Same e rest sessions;
       fault = subst (λ fs. IsToldOf fs r) (sym faults) (fault_more (flat_map faults_of h.courses) a e.broke e.stopped r h.fault none some);
       left = left_more sites c.site (length programs) left next count h.left fewer end.count ∙ ap (λ l. length programs - length (all_finished l)) (sym more);
-      lines = text_more (outcome_line p) sites c.site old.lines new.lines h.lines end.lines ∙ ap (λ l. flat_map (outcome_line p) (all_finished l)) (sym more);
+      lines = text_more (outcome_as form p) sites c.site old.lines new.lines h.lines end.lines ∙ ap (λ l. flat_map (outcome_as form p) (all_finished l)) (sym more);
       journals = subst (λ l. HasJournals new.wanted l new.texts) (sym more) (subst (λ w. HasJournals w (sites ++ c.site ∷ []) new.texts) (sym same) (journals_more old.wanted sites c.site old.texts new.texts h.journals end.journal));
       wanted = same ∙ h.wanted;
     }
@@ -108,10 +109,10 @@ one_more_told tells p programs wanted all before rest e left next count a r old 
 -- ---- one office
 
 -- what its journal tells is what came of its threads
-pub end_told : StepsAddTheirEntry → (tells : Bool) (p : PlanValue) (desk : LockView Key) (programs : List ProgramValue) (broke stopped : Option RunFault) (w c : DeskPass) (count : ℕ) (old new : Told) →
-    HasWorked tells desk broke w → HasSubmitted desk programs stopped c → AddsOffice p desk.key w.mine c.mine old new count →
-    TellsEnd tells (outcome_line p) (record { duty = with_programs programs desk.key; broke = broke; stopped = stopped }) count old new
-end_told law tells p desk programs broke stopped w c count old new work submit adds =
+pub end_told : StepsAddTheirEntry → (form : Form) (tells : Bool) (p : PlanValue) (desk : LockView Key) (programs : List ProgramValue) (broke stopped : Option RunFault) (w c : DeskPass) (count : ℕ) (old new : Told) →
+    HasWorked tells desk broke w → HasSubmitted desk programs stopped c → AddsOffice form p desk.key w.mine c.mine old new count →
+    TellsEnd tells (outcome_as form p) (record { duty = with_programs programs desk.key; broke = broke; stopped = stopped }) count old new
+end_told law form tells p desk programs broke stopped w c count old new work submit adds =
     let s : Site = adds.site in
     let worked : Worked broke tells (key_of s) most_turns work.first work.last = subst (λ (k : Key). Worked broke tells k most_turns work.first work.last) (sym adds.key) work.worked in
     let submitted : Submitted stopped (key_of s) submit.began c (of_office s.me programs) = subst (λ (k : Key). Submitted stopped k submit.began c (of_office k.1 programs)) (sym adds.key) submit.submitted in
@@ -137,11 +138,11 @@ end_told law tells p desk programs broke stopped w c count old new work submit a
       journal = adds.journal;
     }
 
-pub ends_told : {E : Type 0} → StepsAddTheirEntry → (tells : Bool) (p : PlanValue) (desk : LockView Key) (programs : List ProgramValue) (broke stopped : Option RunFault) (w c : DeskPass) (old new : Told) (result : Result ℕ E) →
-    HasWorked tells desk broke w → HasSubmitted desk programs stopped c → IfOk result (AddsOffice p desk.key w.mine c.mine old new) →
-    IfOk result (λ n. TellsEnd tells (outcome_line p) (record { duty = with_programs programs desk.key; broke = broke; stopped = stopped }) n old new)
-ends_told law tells p desk programs broke stopped w c old new (Ok n) work submit adds = end_told law tells p desk programs broke stopped w c n old new work submit adds
-ends_told law tells p desk programs broke stopped w c old new (Err e) work submit adds = adds
+pub ends_told : {E : Type 0} → StepsAddTheirEntry → (form : Form) (tells : Bool) (p : PlanValue) (desk : LockView Key) (programs : List ProgramValue) (broke stopped : Option RunFault) (w c : DeskPass) (old new : Told) (result : Result ℕ E) →
+    HasWorked tells desk broke w → HasSubmitted desk programs stopped c → IfOk result (AddsOffice form p desk.key w.mine c.mine old new) →
+    IfOk result (λ n. TellsEnd tells (outcome_as form p) (record { duty = with_programs programs desk.key; broke = broke; stopped = stopped }) n old new)
+ends_told law form tells p desk programs broke stopped w c old new (Ok n) work submit adds = end_told law form tells p desk programs broke stopped w c n old new work submit adds
+ends_told law form tells p desk programs broke stopped w c old new (Err e) work submit adds = adds
 
 -- ---- of which sessions and offices
 
@@ -168,10 +169,10 @@ keys_of_sites : (cs : List Course) → map key_of (map site_of cs) ≡ map (λ (
 keys_of_sites [] = refl
 keys_of_sites (c ∷ cs) = ap (λ l. key_of c.site ∷ l) (keys_of_sites cs)
 
-pub all_told : SessionsGoInOrder → (tells : Bool) (p : PlanValue) (programs : List ProgramValue) (wanted : Bool) (all rest : List EndView) (left : ℕ) (fault : Option RunFault) (report : Told) (ran : Ran) → map key_of_end all ≡ offices_of p → rest ≡ [] →
-    ToldSoFar tells p programs wanted all rest left fault report → string_bytes ran.text ≡ report.lines ++ unfinished_line left → ran.unfinished ≡ left → ran.fault ≡ fault → map string_bytes ran.journals.items ≡ report.texts →
-    TellsCourses tells p programs wanted ran
-all_told law tells p programs wanted all rest left fault report ran offices none h text unfinished same texts =
+pub all_told : SessionsGoInOrder → (form : Form) (tells : Bool) (p : PlanValue) (programs : List ProgramValue) (wanted : Bool) (all rest : List EndView) (left : ℕ) (fault : Option RunFault) (report : Told) (ran : Ran) → map key_of_end all ≡ offices_of p → rest ≡ [] →
+    ToldSoFar form tells p programs wanted all rest left fault report → string_bytes ran.text ≡ report.lines ++ unfinished_as form left → ran.unfinished ≡ left → ran.fault ≡ fault → map string_bytes ran.journals.items ≡ report.texts →
+    TellsCourses form tells p programs wanted ran
+all_told law form tells p programs wanted all rest left fault report ran offices none h text unfinished same texts =
     let sites : List Site = map site_of h.courses in
     let keys : map (λ (c : Course). key_of c.site) h.courses ≡ offices_of p =
     sym (append-nil (map (λ (c : Course). key_of c.site) h.courses)) ∙ ap (λ l. map (λ (c : Course). key_of c.site) h.courses ++ map key_of_end l) (sym none) ∙ h.keys ∙ offices in
@@ -181,13 +182,13 @@ all_told law tells p programs wanted all rest left fault report ran offices none
       each = h.each;
       fault = subst (IsToldOf (flat_map faults_of h.courses)) (sym same) h.fault;
       left = left_exactly law p programs (length p.offices) sites ran.unfinished (keys_of_sites h.courses ∙ keys) (all_written tells programs h.courses h.each) (unfinished ∙ h.left);
-      told = text ∙ ap (λ l. l ++ unfinished_line left) h.lines ∙ ap (λ (n : ℕ). flat_map (outcome_line p) (all_finished sites) ++ unfinished_line n) (sym unfinished);
+      told = text ∙ ap (λ l. l ++ unfinished_as form left) h.lines ∙ ap (λ (n : ℕ). flat_map (outcome_as form p) (all_finished sites) ++ unfinished_as form n) (sym unfinished);
       journals = subst (λ l. HasJournals wanted sites l) (sym texts) (subst (λ w. HasJournals w sites report.texts) h.wanted h.journals);
     }
 
 -- what it tells is what these journals tell
-pub tells_journals : (tells : Bool) (p : PlanValue) (programs : List ProgramValue) (wanted : Bool) (ran : Ran) → TellsCourses tells p programs wanted ran → TellsJournals p (range_with_len 0 (length p.offices)) (length programs) wanted ran
-tells_journals tells p programs wanted ran h = record {
+pub tells_journals : (form : Form) (tells : Bool) (p : PlanValue) (programs : List ProgramValue) (wanted : Bool) (ran : Ran) → TellsCourses form tells p programs wanted ran → TellsJournals form p (range_with_len 0 (length p.offices)) (length programs) wanted ran
+tells_journals form tells p programs wanted ran h = record {
   sites = map site_of h.courses;
   are = keys_of_sites h.courses ∙ h.are;
   legal = All-map IsLegal site_of h.courses (All-weaker (IsCourse tells programs) (λ (c : Course). IsLegal c.site) (λ c is. is.legal) h.courses h.each);

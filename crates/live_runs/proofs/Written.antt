@@ -18,7 +18,7 @@ use Rattle.locked_office.specs.Calls.{Key, DeskPass, office_with, Does, Looks}
 use Rattle.socket_pump.specs.declared.pump.Turn.{Turn}
 use Rattle.socket_pump.specs.declared.pump.PumpFault.{PumpFault}
 use Rattle.socket_pump.specs.Wires.{Account}
-use Rattle.socket_pump.specs.Chains.{Heard, Made, IsTook, AreTooks, sent_entry}
+use Rattle.socket_pump.specs.Chains.{Heard, Made, IsTook, AreRules, AreTooks, sent_entry}
 use Rattle.socket_pump.specs.Turns.{Times, HeardAll, Turned, Stage, WhileHearing, AtRules, WhileTelling}
 use Rattle.office_stations.specs.declared.fault.RunFault.{RunFault}
 use Rattle.office_stations.specs.declared.pace.TimedTurn.{TimedTurn}
@@ -71,9 +71,14 @@ took : (tag : ℕ) (bytes : List ℕ) (answer : Result Reply Refusal) (es : List
 took tag bytes (Ok r) es (f, spelled, is) = subst (All IsNoSubmit) (sym is) (All-cons IsNoSubmit (record { tag = tag; event = Took f; reply = r }) [] (λ s e. cc e) (All-nil IsNoSubmit))
 took tag bytes (Err why) es is = subst (All IsNoSubmit) (sym is) (All-nil IsNoSubmit)
 
+all_done : (tag : ℕ) (es : List Entry) → AreRules tag es → All IsNoSubmit es
+all_done tag [] done = All-nil IsNoSubmit
+all_done tag (x ∷ xs) (r, does, tagged, rest) = All-cons IsNoSubmit x xs (λ p e. cc (does, e)) (all_done tag xs rest)
+
 all_took : (tag : ℕ) (heard : List Heard) (es : List Entry) → AreTooks tag heard es → All IsNoSubmit es
 all_took tag [] es is = subst (All IsNoSubmit) (sym is) (All-nil IsNoSubmit)
-all_took tag (h ∷ hs) es (first, rest, is, one, others) = subst (All IsNoSubmit) (sym is) (All-append IsNoSubmit first rest (took tag h.bytes h.answer first one) (all_took tag hs rest others))
+all_took tag (h ∷ hs) es (first, rules, rest, is, one, done, others) =
+    subst (All IsNoSubmit) (sym is) (All-append IsNoSubmit first (rules ++ rest) (took tag h.bytes h.answer first one) (All-append IsNoSubmit rules rest (all_done tag rules done) (all_took tag hs rest others)))
 
 heard_all : (tells : Bool) (tag : ℕ) (k : Key) (p : DeskPass) (a : Account) (n m : ℕ) (b : Account) (q : DeskPass) → HeardAll tells tag k p a n m b q → Quiet p → Quiet q
 heard_all tells tag k p a n m b q h = quiet_more p q h.hearing.tooks h.hearing.mine (all_took tag h.heard h.hearing.tooks h.hearing.are)
@@ -93,7 +98,7 @@ all_sent tag (m ∷ ms) = All-cons IsNoSubmit (sent_entry tag m) (map (sent_entr
 
 turned : (tells : Bool) (tag : ℕ) (k : Key) (last : Times) (now : ℕ) (p : DeskPass) (a : Account) (t : Turn) (b : Account) (q : DeskPass) (later : Times) → Turned tells tag k last now p a t b q later → Quiet p → Quiet q
 turned tells tag k last now p a t b q later h quiet =
-    quiet_more h.ruled q (map (sent_entry tag) h.made) h.told.mine (all_sent tag h.made) (advanced tag 64 (Ok t.rules) k h.mid h.ruled h.rules (heard_all tells tag k p a t.taken t.refused h.received h.mid h.heard quiet))
+    quiet_more h.ruled q (map (sent_entry tag) h.made) h.told.mine (all_sent tag h.made) (advanced tag 64 (Ok h.finally) k h.mid h.ruled h.rules (heard_all tells tag k p a t.taken t.refused h.received h.mid h.heard quiet))
 
 broken : (tells : Bool) (tag : ℕ) (k : Key) (last : Times) (now : ℕ) (p : DeskPass) (a : Account) (f : PumpFault) (b : Account) (q : DeskPass) (later : Times) → Stage tells tag k last now p a f b q later → Quiet p → Quiet q
 broken tells tag k last now p a f b q later (WhileHearing heard times) quiet = quiet_more p q heard.tooks heard.mine (all_took tag heard.heard heard.tooks heard.are) quiet

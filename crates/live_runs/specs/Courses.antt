@@ -6,6 +6,7 @@ use mathlib.Core.List.{IsPrefix}
 use Rattle.office_map.specs.PlanValue.{PlanValue}
 use Rattle.session_meaning.specs.ProgramValue.{ProgramValue}
 use Rattle.own_lock.specs.Entries.{tagged}
+use Rattle.report_forms.specs.declared.forms.Form.{Form}
 use Rattle.site_core.specs.Journals.{Site, IsLegal}
 use Rattle.locked_office.specs.Calls.{Key, DeskPass, tag_of}
 use Rattle.office_stations.specs.declared.fault.RunFault.{RunFault}
@@ -54,11 +55,11 @@ abbrev pub offices_of : PlanValue → List Key
 offices_of p = map (λ me. (p, me)) (range_with_len 0 (length p.offices))
 
 -- What is told of the offices of a plan, in its order, is what came of their threads: which of the sessions finished, and how many haven't; the fault; and, where they are wanted, the journals.
-pub record TellsCourses (tells : Bool) (p : PlanValue) (programs : List ProgramValue) (wanted : Bool) (ran : Ran) : Type 0 where
+pub record TellsCourses (form : Form) (tells : Bool) (p : PlanValue) (programs : List ProgramValue) (wanted : Bool) (ran : Ran) : Type 0 where
   pub courses : List Course
   pub are : map (λ c. key_of c.site) courses ≡ offices_of p
   pub each : All (IsCourse tells programs) courses
   pub fault : IsToldOf (flat_map faults_of courses) ran.fault
   pub left : ran.unfinished + length (all_finished (map site_of courses)) ≡ length programs
-  pub told : string_bytes ran.text ≡ runs_report p (map site_of courses) ran.unfinished
+  pub told : string_bytes ran.text ≡ runs_report form p (map site_of courses) ran.unfinished
   pub journals : HasJournals wanted (map site_of courses) (map string_bytes ran.journals.items)

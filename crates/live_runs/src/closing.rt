@@ -1,7 +1,7 @@
 //! What is told of all offices, whose threads have ended.
 
 ghost use Rattle.std.specs.Prelude.{◌≡◌, ◌⊎◌, None, Some, map, All, IfOk, IfSome, IfNone};
-ghost use Rattle.session_reports.specs.Report.{outcome_line};
+ghost use Rattle.report_forms.specs.Forms.{outcome_as};
 ghost use Rattle.office_stations.specs.declared.fault.RunFault.TheVariants.{NoThread};
 ghost use Rattle.office_runs.specs.Runs.{IsQuiet};
 ghost use Rattle.live_runs.specs.Courses.{TellsCourses, offices_of};
@@ -13,6 +13,7 @@ use office_runs::met::add_office;
 use office_runs::report::{Ran, Report, with_unfinished};
 use office_runs::threads::{ClientEnd, WorkerEnd};
 use office_stations::{RunFault, Socket, count_of};
+use report_forms::Form;
 use session_programs::Program;
 use site_core::laws::{sessions_go_in_order, steps_add_their_entry};
 use std::alloc::{AllocError, Global};
@@ -22,6 +23,7 @@ use std::sync::Wait;
 pub(crate) fn tell_all<R: Wait, S: Socket>(
     rt: &R,
     alloc: Global,
+    form: Form,
     plan: &Plan,
     ended: Vec<Ended<'_, S>>,
     programs: &[Program],
@@ -29,7 +31,7 @@ pub(crate) fn tell_all<R: Wait, S: Socket>(
     first: Option<RunFault>,
 ) -> Result<Ran, AllocError>
     requires sessions { All (λ e. programs_of_end e ≡ programs.now) ended.items }
-    ensures told { IfOk result (λ ran. map key_of_end ended.entry.items ≡ offices_of plan.now → TellsCourses S.tells plan.now programs.now journals ran) }
+    ensures told { IfOk result (λ ran. map key_of_end ended.entry.items ≡ offices_of plan.now → TellsCourses form S.tells plan.now programs.now journals ran) }
     ensures quiet { IfOk result IsQuiet }
 {
     sessions_go_in_order();
@@ -41,10 +43,10 @@ pub(crate) fn tell_all<R: Wait, S: Socket>(
         fault = earlier(first, fault, end.broke(), end.stopped());
         let own = count_of(programs, OfficeId::new(me));
         me = me.saturating_add(1);
-        let count = remark_end(rt, alloc, plan, end, own, &mut report)?;
+        let count = remark_end(rt, alloc, form, plan, end, own, &mut report)?;
         left = left.saturating_sub(count);
     }
-    Ok(with_unfinished(report, left, fault)?)
+    Ok(with_unfinished(report, form, left, fault)?)
 }
 
 /// That a thread couldn't be started, if that was the first.
@@ -87,27 +89,29 @@ fn earlier_of(first: Option<RunFault>, a: Option<RunFault>, b: Option<RunFault>)
 fn remark_end<R: Wait, S: Socket>(
     rt: &R,
     alloc: Global,
+    form: Form,
     plan: &Plan,
     end: Ended<'_, S>,
     own: usize,
     report: &mut Report,
 ) -> Result<usize, AllocError>
-    ensures told { IfOk result (λ n. TellsEnd S.tells (outcome_line plan.now) end.entry n report.old report.new) }
+    ensures told { IfOk result (λ n. TellsEnd S.tells (outcome_as form plan.now) end.entry n report.old report.new) }
     ensures wanted { report.new.wanted ≡ report.old.wanted }
 {
     let ways = end.ways(alloc)?;
     report.expect(own, ways);
-    add_end(rt, plan, end, report)
+    add_end(rt, form, plan, end, report)
 }
 
 /// What came of an office is told, and how many of its sessions finished.
 fn add_end<R: Wait, S: Socket>(
     rt: &R,
+    form: Form,
     plan: &Plan,
     end: Ended<'_, S>,
     report: &mut Report,
 ) -> Result<usize, AllocError>
-    ensures told { IfOk result (λ n. TellsEnd S.tells (outcome_line plan.now) end.entry n report.old report.new) }
+    ensures told { IfOk result (λ n. TellsEnd S.tells (outcome_as form plan.now) end.entry n report.old report.new) }
     ensures wanted { report.new.wanted ≡ report.old.wanted }
 {
     steps_add_their_entry();
@@ -127,5 +131,5 @@ fn add_end<R: Wait, S: Socket>(
         pass: client,
         fault: _,
     } = client;
-    add_office(rt, plan, office, worker, client, report)
+    add_office(rt, form, plan, office, worker, client, report)
 }

@@ -11,6 +11,7 @@ use office_map::{OfficeId, Plan};
 use office_runs::Ran;
 use office_runs::threads::open_office;
 use office_stations::{Around, Binds, Gate, OpeningFault, Shared, Socket, Wakes, Watch};
+use report_forms::Form;
 use session_programs::Program;
 use std::alloc::{AllocError, Global};
 use std::collections::VecDeque;
@@ -31,6 +32,7 @@ use std::thread::{Scope, Threads};
 pub fn live<R, B, G, W>(
     rt: &R,
     alloc: Global,
+    form: Form,
     plan: &Plan,
     programs: &[Program],
     journals: bool,
@@ -43,15 +45,15 @@ where
     B::Alarm: Send,
     G: Gate + Sync,
     W: Watch + Sync,
-    ensures tells { IfOk result (TellsJournals plan.now (range_with_len 0 (length plan.now.offices)) (length programs.now) journals) }
-    ensures courses { IfOk result (TellsCourses B.Socket.tells plan.now programs.now journals) }
+    ensures tells { IfOk result (TellsJournals form plan.now (range_with_len 0 (length plan.now.offices)) (length programs.now) journals) }
+    ensures courses { IfOk result (TellsCourses form B.Socket.tells plan.now programs.now journals) }
     ensures quiet { IfOk result IsQuiet }
 {
     let crews = open_all(rt, alloc, plan, around.binds)?;
     let shared = Shared::new(programs.len() as u64);
     let (gate, watch) = (around.gate, around.watch);
     let ran = run_scoped(
-        rt, alloc, plan, crews, programs, journals, gate, watch, &shared,
+        rt, alloc, form, plan, crews, programs, journals, gate, watch, &shared,
     )?;
     Ok(ran)
 }
@@ -60,6 +62,7 @@ where
 fn run_scoped<R, S, A, G, W>(
     rt: &R,
     alloc: Global,
+    form: Form,
     plan: &Plan,
     crews: Vec<Crew<S, A>>,
     programs: &[Program],
@@ -74,18 +77,18 @@ where
     A: Wakes + Send,
     G: Gate + Sync,
     W: Watch + Sync,
-    ensures told { IfOk result (λ ran. crews.items ≡ offices_of plan.now → TellsCourses S.tells plan.now programs.now journals ran) }
+    ensures told { IfOk result (λ ran. crews.items ≡ offices_of plan.now → TellsCourses form S.tells plan.now programs.now journals ran) }
     ensures quiet { IfOk result IsQuiet }
 {
     thread::scope(
         thread::scope_env(),
         rt,
         |scope| -> Result<Ran, AllocError>
-            ensures told { IfOk result (λ ran. crews.items ≡ offices_of plan.entry.now → TellsCourses S.tells plan.entry.now programs.entry.now journals ran) }
+            ensures told { IfOk result (λ ran. crews.items ≡ offices_of plan.entry.now → TellsCourses form S.tells plan.entry.now programs.entry.now journals ran) }
             ensures quiet { IfOk result IsQuiet }
         {
             run_and_tell(
-                scope, rt, alloc, plan, crews, programs, journals, gate, watch, shared,
+                scope, rt, alloc, form, plan, crews, programs, journals, gate, watch, shared,
             )
         },
     )
@@ -96,6 +99,7 @@ fn run_and_tell<'x, E, R, S, A, G, W>(
     scope: &Scope<'x, E>,
     rt: &'x R,
     alloc: Global,
+    form: Form,
     plan: &'x Plan,
     crews: Vec<Crew<S, A>>,
     programs: &'x [Program],
@@ -110,12 +114,12 @@ where
     A: Wakes + Send + 'x,
     G: Gate + Sync,
     W: Watch + Sync,
-    ensures told { IfOk result (λ ran. crews.items ≡ offices_of plan.now → TellsCourses S.tells plan.now programs.now journals ran) }
+    ensures told { IfOk result (λ ran. crews.items ≡ offices_of plan.now → TellsCourses form S.tells plan.now programs.now journals ran) }
     ensures quiet { IfOk result IsQuiet }
 {
     let ended = run_all(scope, rt, alloc, plan, crews, programs, gate, watch, shared)?;
     let first = shared.fault(rt);
-    tell_all(rt, alloc, plan, ended, programs, journals, first)
+    tell_all(rt, alloc, form, plan, ended, programs, journals, first)
 }
 
 /// All offices of the plan, each with a socket that knows where the others' are.

@@ -3,6 +3,7 @@ use Rattle.std.proofs.Common.{◌≡◌, ◌≢◌, inl, inr, ℕ, suc, Bool, tr
 use Rattle.std.specs.Prelude.{IfOk, IfErr, IsOk, OnOk}
 use Rattle.session_meaning.specs.ProgramValue.{ProgramValue}
 use Rattle.site_core.specs.Journals.{Site}
+use Rattle.report_forms.specs.declared.forms.Form.{Form}
 use Rattle.request_streams.specs.declared.asked.Asked.TheVariants as ask
 use Rattle.office_answers.specs.declared.lack.Lack.{Lack}
 use Rattle.office_answers.specs.declared.lack.Lack.TheVariants.{JournalFull, Memory}
@@ -29,16 +30,16 @@ unsaid (Err l) P h p = subst P (sym h) p
 
 -- ---- sessions
 
-pub asked_session : (tag : ℕ) (s : Site) (x : ProgramValue) (r : Result Bool Lack) (s' : Site) (old new : List ℕ) → IfOk r (λ (b : Bool). Submitted tag s x b s' old new) → IfOk r (λ (b : Bool). Answered tag s (ask.Session x) b s' old new)
-asked_session tag s x (Err l) s' old new h = tt
-asked_session tag s x (Ok true) s' old new h = h
-asked_session tag s x (Ok false) s' old new h = ((x, refl, h.0), h.1)
+pub asked_session : (form : Form) (tag : ℕ) (s : Site) (x : ProgramValue) (r : Result Bool Lack) (s' : Site) (old new : List ℕ) → IfOk r (λ (b : Bool). Submitted form tag s x b s' old new) → IfOk r (λ (b : Bool). Answered form tag s (ask.Session x) b s' old new)
+asked_session form tag s x (Err l) s' old new h = tt
+asked_session form tag s x (Ok true) s' old new h = h
+asked_session form tag s x (Ok false) s' old new h = ((x, refl, h.0), h.1)
 
 -- under the next ticket
-pub asked_next : (tag : ℕ) (s : Site) (t : ℕ) (x : ProgramValue) (r : Result Bool Lack) (s' : Site) (old new : List ℕ) → t ≡ suc (tickets_of s) → IfOk r (λ (b : Bool). Submitted tag s x b s' old new) → IfOk r (λ (b : Bool). Answered tag s (ask.Numbered t x) b s' old new)
-asked_next tag s t x (Err l) s' old new next h = tt
-asked_next tag s t x (Ok true) s' old new next h = (h.0, inl (next, h.1), h.2)
-asked_next tag s t x (Ok false) s' old new next h = ((x, (refl, next), h.0), h.1)
+pub asked_next : (form : Form) (tag : ℕ) (s : Site) (t : ℕ) (x : ProgramValue) (r : Result Bool Lack) (s' : Site) (old new : List ℕ) → t ≡ suc (tickets_of s) → IfOk r (λ (b : Bool). Submitted form tag s x b s' old new) → IfOk r (λ (b : Bool). Answered form tag s (ask.Numbered t x) b s' old new)
+asked_next form tag s t x (Err l) s' old new next h = tt
+asked_next form tag s t x (Ok true) s' old new next h = (h.0, inl (next, h.1), h.2)
+asked_next form tag s t x (Ok false) s' old new next h = ((x, (refl, next), h.0), h.1)
 
 pub lacks_next : (tag : ℕ) (s : Site) (t : ℕ) (x : ProgramValue) (r : Result Bool Lack) (s' : Site) → t ≡ suc (tickets_of s) → IfErr r (λ (l : Lack). Lacks tag s (ask.Session x) l s') → IfErr r (λ (l : Lack). Lacks tag s (ask.Numbered t x) l s')
 lacks_next tag s t x (Ok b) s' next h = tt

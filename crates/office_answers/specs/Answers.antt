@@ -18,7 +18,8 @@ use Rattle.request_streams.specs.declared.asked.Asked.{Asked}
 use Rattle.request_streams.specs.declared.asked.Asked.TheVariants as ask
 use Rattle.office_answers.specs.declared.lack.Lack.{Lack}
 use Rattle.office_answers.specs.declared.lack.Lack.TheVariants.{JournalFull, Memory}
-use Rattle.office_answers.specs.Said.{Said, Taken, Finished, Pending, OtherSession, TicketAhead, NotOurs, Here, Away, Unread, said_line}
+use Rattle.report_forms.specs.declared.forms.Form.{Form}
+use Rattle.office_answers.specs.Said.{Said, Taken, Finished, Pending, OtherSession, TicketAhead, NotOurs, Here, Away, Unread, said_as}
 
 -- ---- what an office knows
 
@@ -82,9 +83,9 @@ abbrev pub IsFull : ℕ → Site → Asked → Site → Type 0
 IsFull tag s asked s' = (x : ProgramValue) × Submits s asked x × Steps s tag (Submit x) (Err refusal.QueueFull) s'
 
 -- it is answered by one line more; or it isn't, since the queue is full
-abbrev pub Answered : ℕ → Site → Asked → Bool → Site → List ℕ → List ℕ → Type 0
-Answered tag s asked true s' old new = (said : Said) × Answers tag s asked said s' × (new ≡ old ++ said_line s.plan said)
-Answered tag s asked false s' old new = IsFull tag s asked s' × (new ≡ old)
+abbrev pub Answered : Form → ℕ → Site → Asked → Bool → Site → List ℕ → List ℕ → Type 0
+Answered form tag s asked true s' old new = (said : Said) × Answers tag s asked said s' × (new ≡ old ++ said_as form s.plan said)
+Answered form tag s asked false s' old new = IsFull tag s asked s' × (new ≡ old)
 
 -- There is no room for a session that it would submit; or memory ran out, before it was submitted or after it.
 abbrev pub Lacks : ℕ → Site → Asked → Lack → Site → Type 0

@@ -8,7 +8,10 @@ use Rattle.session_language.specs.declared.fault.SessionRule.{SessionRule}
 use Rattle.session_language.specs.declared.fault.SessionRule.TheVariants.{Syntax, UnknownName, UnknownRecord, TooDeep, TooLong, TooManyRecords, TooManyGives, TooManyVariables}
 use Rattle.session_language.specs.declared.fault.SessionRefusal.{SessionRefusal}
 use Rattle.session_reports.specs.Names.{office_name, record_name}
-use Rattle.session_reports.specs.Report.{outcome_line, value_line}
+use Rattle.json_reports.specs.Json.{field, key, quoted}
+use Rattle.report_forms.specs.Forms.{count_as, outcome_as, value_as, words_as}
+use Rattle.report_forms.specs.declared.forms.Form.{Form}
+use Rattle.report_forms.specs.declared.forms.Form.TheVariants.{Plain, Json}
 
 pub data Said : Type 0 where
   -- the session has this ticket
@@ -36,18 +39,28 @@ rule_text TooManyRecords = codes "S6 TooManyRecords"
 rule_text TooManyGives = codes "S7 TooManyGives"
 rule_text TooManyVariables = codes "S8 TooManyVariables"
 
--- ticket T · pending T · refused CODE NAME · value NAME VALUE · away NAME NEIGHBOUR · refused CODE NAME line N
-abbrev pub said_line : PlanValue → Said → List ℕ
-said_line p (Taken t) = codes "ticket " ++ (decimal t ++ 10 ∷ [])
-said_line p (Finished o) = outcome_line p o
-said_line p (Pending t) = codes "pending " ++ (decimal t ++ 10 ∷ [])
-said_line p OtherSession = codes "refused O6 OtherSession\n"
-said_line p TicketAhead = codes "refused O7 TicketAhead\n"
-said_line p NotOurs = codes "refused O2 NotOurs\n"
-said_line p (Here r v) = value_line p r v
-said_line p (Away r n) = codes "away " ++ (record_name p r ++ (32 ∷ (office_name p n ++ 10 ∷ [])))
-said_line p (Unread f) = codes "refused " ++ (rule_text f.rule ++ (codes " line " ++ (decimal f.line ++ 10 ∷ [])))
+-- that a bottle isn't here: away NAME NEIGHBOUR, or {"away":"NAME","neighbour":"NEIGHBOUR"}
+abbrev pub away_as : Form → List ℕ → List ℕ → List ℕ
+away_as Plain name neighbour = codes "away " ++ (name ++ (32 ∷ (neighbour ++ 10 ∷ [])))
+away_as Json name neighbour = 123 ∷ (key (codes "away") ++ (quoted name ++ (field (codes "neighbour") (quoted neighbour) ++ 125 ∷ 10 ∷ [])))
 
--- ready T
-abbrev pub ready_line : ℕ → List ℕ
-ready_line t = codes "ready " ++ (decimal t ++ 10 ∷ [])
+-- that a text is refused by a rule, at a line: refused CODE NAME line N, or {"refused":"CODE NAME","line":N}
+abbrev pub unread_as : Form → List ℕ → ℕ → List ℕ
+unread_as Plain rule line = codes "refused " ++ (rule ++ (codes " line " ++ (decimal line ++ 10 ∷ [])))
+unread_as Json rule line = 123 ∷ (key (codes "refused") ++ (quoted rule ++ (field (codes "line") (decimal line) ++ 125 ∷ 10 ∷ [])))
+
+-- ticket T · pending T · refused CODE NAME · value NAME VALUE · away NAME NEIGHBOUR · refused CODE NAME line N; or an object of each
+abbrev pub said_as : Form → PlanValue → Said → List ℕ
+said_as form p (Taken t) = count_as form (codes "ticket") t
+said_as form p (Finished o) = outcome_as form p o
+said_as form p (Pending t) = count_as form (codes "pending") t
+said_as form p OtherSession = words_as form (codes "refused") (codes "O6 OtherSession")
+said_as form p TicketAhead = words_as form (codes "refused") (codes "O7 TicketAhead")
+said_as form p NotOurs = words_as form (codes "refused") (codes "O2 NotOurs")
+said_as form p (Here r v) = value_as form p r v
+said_as form p (Away r n) = away_as form (record_name p r) (office_name p n)
+said_as form p (Unread f) = unread_as form (rule_text f.rule) f.line
+
+-- how many tickets were given: ready T
+abbrev pub ready_as : Form → ℕ → List ℕ
+ready_as form t = count_as form (codes "ready") t

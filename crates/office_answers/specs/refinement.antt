@@ -10,7 +10,8 @@ use Rattle.office_journal.specs.declared.reply.Refusal.TheVariants as refusal
 use Rattle.site_core.specs.Journals.{Site, Steps}
 use Rattle.office_answers.specs.declared.answering.Again.{Again}
 use Rattle.office_answers.specs.declared.answering.Again.TheVariants as again
-use Rattle.office_answers.specs.Said.{Said, said_line}
+use Rattle.report_forms.specs.declared.forms.Form.{Form}
+use Rattle.office_answers.specs.Said.{Said, said_as}
 use Rattle.office_answers.specs.Answers.{SaysTicket, session_in}
 
 -- the session that one entry submits under this ticket
@@ -30,6 +31,6 @@ IsAgain given x again.Other = (y : ProgramValue) × (given ≡ Some y) × (y ≢
 IsAgain given x again.Never = given ≡ None
 
 -- a session is submitted, and that is said; or the queue is full
-abbrev pub Submitted : ℕ → Site → ProgramValue → Bool → Site → List ℕ → List ℕ → Type 0
-Submitted tag s x true s' old new = (said : Said) × SaysTicket tag s x said s' × (new ≡ old ++ said_line s.plan said)
-Submitted tag s x false s' old new = Steps s tag (Submit x) (Err refusal.QueueFull) s' × (new ≡ old)
+abbrev pub Submitted : Form → ℕ → Site → ProgramValue → Bool → Site → List ℕ → List ℕ → Type 0
+Submitted form tag s x true s' old new = (said : Said) × SaysTicket tag s x said s' × (new ≡ old ++ said_as form s.plan said)
+Submitted form tag s x false s' old new = Steps s tag (Submit x) (Err refusal.QueueFull) s' × (new ≡ old)

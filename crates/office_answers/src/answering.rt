@@ -19,6 +19,7 @@ use crate::said::{
 };
 use office_journal::{EventRef, Refusal, Reply};
 use office_map::Plan;
+use report_forms::Form;
 use request_streams::Asked;
 use session_language::laws::reads_back;
 use session_programs::Program;
@@ -33,6 +34,7 @@ use std::alloc::{AllocError, Global};
 /// `JournalFull` or `Memory`. Where it is `Memory`, a session may have been submitted.
 pub fn answer(
     alloc: Global,
+    form: Form,
     office: &mut Office,
     tag: u8,
     asked: &Asked,
@@ -40,16 +42,16 @@ pub fn answer(
     text: &mut String,
 ) -> Result<bool, Lack>
     requires { tag < 16 }
-    ensures answered { IfOk result (λ b. Answered tag office.old asked.now b office.new (string_bytes text.old) (string_bytes text.new)) }
+    ensures answered { IfOk result (λ b. Answered form tag office.old asked.now b office.new (string_bytes text.old) (string_bytes text.new)) }
     ensures lacks { IfErr result (λ lack. Lacks tag office.old asked.now lack office.new) }
 {
     match asked {
-        Asked::Session(program) => submit(office, tag, program, text),
+        Asked::Session(program) => submit(office, form, tag, program, text),
         Asked::Numbered(ticket, program) => {
-            answer_numbered(alloc, office, tag, *ticket, program, from, text)
+            answer_numbered(alloc, form, office, tag, *ticket, program, from, text)
         }
-        Asked::Look(record) => said(add_look(text, office, *record)),
-        Asked::Misread(refusal) => said(add_misread(text, *refusal)),
+        Asked::Look(record) => said(add_look(text, form, office, *record)),
+        Asked::Misread(refusal) => said(add_misread(text, form, *refusal)),
     }
 }
 
@@ -68,6 +70,7 @@ fn said(added: Result<(), AllocError>) -> Result<bool, Lack>
 /// said, if it is the same.
 fn answer_numbered(
     alloc: Global,
+    form: Form,
     office: &mut Office,
     tag: u8,
     ticket: u32,
@@ -76,29 +79,35 @@ fn answer_numbered(
     text: &mut String,
 ) -> Result<bool, Lack>
     requires { tag < 16 }
-    ensures answered { IfOk result (λ b. Answered tag office.old (asks.Numbered ticket program.now) b office.new (string_bytes text.old) (string_bytes text.new)) }
+    ensures answered { IfOk result (λ b. Answered form tag office.old (asks.Numbered ticket program.now) b office.new (string_bytes text.old) (string_bytes text.new)) }
     ensures lacks { IfErr result (λ lack. Lacks tag office.old (asks.Numbered ticket program.now) lack office.new) }
 {
     if is_next(office, ticket) {
-        return submit(office, tag, program, text);
+        return submit(office, form, tag, program, text);
     }
     match look_again(alloc, office, ticket, program, from) {
-        Ok(Again::Same) => said(add_known(text, office, ticket)),
-        Ok(Again::Other) => said(add_other(text)),
-        Ok(Again::Never) => said(add_ahead(text)),
+        Ok(Again::Same) => said(add_known(text, form, office, ticket)),
+        Ok(Again::Other) => said(add_other(text, form)),
+        Ok(Again::Never) => said(add_ahead(text, form)),
         Err(AllocError) => Err(Lack::Memory),
     }
 }
 
 /// Submits a session, and says its ticket, or that it is of another office.
-fn submit(office: &mut Office, tag: u8, program: &Program, text: &mut String) -> Result<bool, Lack>
+fn submit(
+    office: &mut Office,
+    form: Form,
+    tag: u8,
+    program: &Program,
+    text: &mut String,
+) -> Result<bool, Lack>
     requires { tag < 16 }
-    ensures submitted { IfOk result (λ b. Submitted tag office.old program.now b office.new (string_bytes text.old) (string_bytes text.new)) }
+    ensures submitted { IfOk result (λ b. Submitted form tag office.old program.now b office.new (string_bytes text.old) (string_bytes text.new)) }
     ensures lacks { IfErr result (λ lack. Lacks tag office.old (asks.Session program.now) lack office.new) }
 {
     match office.submit(tag, program) {
-        Ok(Reply::Ticket(ticket)) => said(add_taken(text, ticket)),
-        Err(Refusal::NotOurs) => said(add_not_ours(text)),
+        Ok(Reply::Ticket(ticket)) => said(add_taken(text, form, ticket)),
+        Err(Refusal::NotOurs) => said(add_not_ours(text, form)),
         Err(Refusal::QueueFull) => Ok(false),
         Err(Refusal::JournalFull) => Err(Lack::JournalFull),
         Ok(_) | Err(_) => Err(Lack::Memory),

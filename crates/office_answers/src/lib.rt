@@ -2,8 +2,8 @@
 //!
 //! - [`answer`] answers one thing that is asked, by one line: a session is submitted, under the next ticket or under its own; a
 //!   ticket that was given is looked up; a record's value is looked at; or it is said what can't be read (`Answers`, in
-//!   `specs/Answers.antt`; the lines are those of `specs/Said.antt`). Where the office's queue is full nothing is answered, and it
-//!   can be asked again.
+//!   `specs/Answers.antt`; the lines, in the form that is asked for, are those of `specs/Said.antt`). Where the office's queue is full
+//!   nothing is answered, and it can be asked again.
 //! - A session under a ticket is submitted once, however often it is asked for, in this life of the office or a later one, whose
 //!   journal goes on from what stood ([`laws::tickets_are_safe`]).
 //!

@@ -4,80 +4,106 @@ ghost use Rattle.std.specs.Prelude.{◌≡◌, ◌++◌, OnOk};
 ghost use Rattle.std.specs.String.{string_bytes};
 ghost use Rattle.office_map.specs.PlanValue.{PlanValue, peer};
 ghost use Rattle.session_reports.specs.Names.{office_name};
-ghost use Rattle.office_answers.specs.Said.{Away, NotOurs, OtherSession, Pending, Taken, TicketAhead, Unread, ready_line, rule_text, said_line};
+ghost use Rattle.office_answers.specs.Said.{Away, NotOurs, OtherSession, Pending, Taken, TicketAhead, Unread, away_as, ready_as, rule_text, said_as, unread_as};
 ghost use Rattle.office_answers.specs.Answers.{known, look};
 
 use office_map::{OfficeId, RecordId};
+use report_forms::Form;
+use report_forms::report::{add_outcome, add_value};
+use report_forms::words::{add_count, add_words};
 use session_language::{SessionRefusal, SessionRule};
 use session_reports::names::{office_name, record_name};
-use session_reports::report::{add_outcome, add_value};
 use site_core::Office;
 use std::alloc::AllocError;
 use std::fmt::Write;
 
 /// ticket T: the session has this ticket.
-pub(crate) fn add_taken(text: &mut String, ticket: u32) -> Result<(), AllocError>
-    ensures { OnOk result ((p : PlanValue) → string_bytes text.new ≡ string_bytes text.old ++ said_line p (Taken ticket)) }
+pub(crate) fn add_taken(text: &mut String, form: Form, ticket: u32) -> Result<(), AllocError>
+    ensures { OnOk result ((p : PlanValue) → string_bytes text.new ≡ string_bytes text.old ++ said_as form p (Taken ticket)) }
 {
-    writeln!(text, "ticket {ticket}")
+    add_count(text, form, "ticket", u64::from(ticket))
 }
 
 /// What became of the session with a ticket: the line of its outcome, or pending T.
-pub(crate) fn add_known(text: &mut String, office: &Office, ticket: u32) -> Result<(), AllocError>
-    ensures { OnOk result (string_bytes text.new ≡ string_bytes text.old ++ said_line office.now.plan (known office.now ticket)) }
+pub(crate) fn add_known(
+    text: &mut String,
+    form: Form,
+    office: &Office,
+    ticket: u32,
+) -> Result<(), AllocError>
+    ensures { OnOk result (string_bytes text.new ≡ string_bytes text.old ++ said_as form office.now.plan (known office.now ticket)) }
 {
     match office.outcome(ticket) {
-        Some(outcome) => add_outcome(text, office.plan(), outcome),
-        None => add_pending(text, ticket),
+        Some(outcome) => add_outcome(text, form, office.plan(), outcome),
+        None => add_pending(text, form, ticket),
     }
 }
 
-fn add_pending(text: &mut String, ticket: u32) -> Result<(), AllocError>
-    ensures { OnOk result ((p : PlanValue) → string_bytes text.new ≡ string_bytes text.old ++ said_line p (Pending ticket)) }
+fn add_pending(text: &mut String, form: Form, ticket: u32) -> Result<(), AllocError>
+    ensures { OnOk result ((p : PlanValue) → string_bytes text.new ≡ string_bytes text.old ++ said_as form p (Pending ticket)) }
 {
-    writeln!(text, "pending {ticket}")
+    add_count(text, form, "pending", u64::from(ticket))
 }
 
 /// Another session has the ticket.
-pub(crate) fn add_other(text: &mut String) -> Result<(), AllocError>
-    ensures { OnOk result ((p : PlanValue) → string_bytes text.new ≡ string_bytes text.old ++ said_line p OtherSession) }
+pub(crate) fn add_other(text: &mut String, form: Form) -> Result<(), AllocError>
+    ensures { OnOk result ((p : PlanValue) → string_bytes text.new ≡ string_bytes text.old ++ said_as form p OtherSession) }
 {
-    text.push_str("refused O6 OtherSession\n")
+    add_words(text, form, "refused", "O6 OtherSession")
 }
 
 /// Tickets before this one weren't given yet.
-pub(crate) fn add_ahead(text: &mut String) -> Result<(), AllocError>
-    ensures { OnOk result ((p : PlanValue) → string_bytes text.new ≡ string_bytes text.old ++ said_line p TicketAhead) }
+pub(crate) fn add_ahead(text: &mut String, form: Form) -> Result<(), AllocError>
+    ensures { OnOk result ((p : PlanValue) → string_bytes text.new ≡ string_bytes text.old ++ said_as form p TicketAhead) }
 {
-    text.push_str("refused O7 TicketAhead\n")
+    add_words(text, form, "refused", "O7 TicketAhead")
 }
 
 /// The session is another office's.
-pub(crate) fn add_not_ours(text: &mut String) -> Result<(), AllocError>
-    ensures { OnOk result ((p : PlanValue) → string_bytes text.new ≡ string_bytes text.old ++ said_line p NotOurs) }
+pub(crate) fn add_not_ours(text: &mut String, form: Form) -> Result<(), AllocError>
+    ensures { OnOk result ((p : PlanValue) → string_bytes text.new ≡ string_bytes text.old ++ said_as form p NotOurs) }
 {
-    text.push_str("refused O2 NotOurs\n")
+    add_words(text, form, "refused", "O2 NotOurs")
 }
 
 /// The value of a record, where its bottle is here; else the neighbour at which it is, or on its way to or from there.
-pub(crate) fn add_look(text: &mut String, office: &Office, id: RecordId) -> Result<(), AllocError>
-    ensures { OnOk result (string_bytes text.new ≡ string_bytes text.old ++ said_line office.now.plan (look office.now id)) }
+pub(crate) fn add_look(
+    text: &mut String,
+    form: Form,
+    office: &Office,
+    id: RecordId,
+) -> Result<(), AllocError>
+    ensures { OnOk result (string_bytes text.new ≡ string_bytes text.old ++ said_as form office.now.plan (look office.now id)) }
 {
     match office.held_value(id) {
-        Some(value) => add_value(text, office.plan(), id, value),
-        None => add_away(text, office, id),
+        Some(value) => add_value(text, form, office.plan(), id, value),
+        None => add_not_here(text, form, office, id),
     }
 }
 
-fn add_away(text: &mut String, office: &Office, id: RecordId) -> Result<(), AllocError>
-    ensures { OnOk result (string_bytes text.new ≡ string_bytes text.old ++ said_line office.now.plan (Away id (peer office.now.plan office.now.me id))) }
+fn add_not_here(
+    text: &mut String,
+    form: Form,
+    office: &Office,
+    id: RecordId,
+) -> Result<(), AllocError>
+    ensures { OnOk result (string_bytes text.new ≡ string_bytes text.old ++ said_as form office.now.plan (Away id (peer office.now.plan office.now.me id))) }
 {
-    let plan = office.plan();
-    text.push_str("away ")?;
-    text.push_str(record_name(plan, id))?;
-    text.push_str(" ")?;
-    text.push_str(other_name(office, id))?;
-    text.push_str("\n")
+    let name = record_name(office.plan(), id);
+    add_away(text, form, name, other_name(office, id))
+}
+
+/// The record of that name is away, at this neighbour or between.
+fn add_away(text: &mut String, form: Form, name: &str, neighbour: &str) -> Result<(), AllocError>
+    ensures { OnOk result (string_bytes text.new ≡ string_bytes text.old ++ away_as form name.now neighbour.now) }
+{
+    match form {
+        Form::Plain => writeln!(text, "away {name} {neighbour}"),
+        Form::Json => writeln!(
+            text,
+            "{{\"away\":\"{name}\",\"neighbour\":\"{neighbour}\"}}"
+        ),
+    }
 }
 
 /// The name of the office at a record's other end; of a record that the plan hasn't, that of its first office.
@@ -93,13 +119,23 @@ fn other_name(office: &Office, id: RecordId) -> &str
 }
 
 /// What was asked can't be read, and the first line at which that is seen.
-pub(crate) fn add_misread(text: &mut String, refusal: SessionRefusal) -> Result<(), AllocError>
-    ensures { OnOk result ((p : PlanValue) → string_bytes text.new ≡ string_bytes text.old ++ said_line p (Unread refusal)) }
+pub(crate) fn add_misread(
+    text: &mut String,
+    form: Form,
+    refusal: SessionRefusal,
+) -> Result<(), AllocError>
+    ensures { OnOk result ((p : PlanValue) → string_bytes text.new ≡ string_bytes text.old ++ said_as form p (Unread refusal)) }
 {
-    text.push_str("refused ")?;
-    text.push_str(rule_text(refusal.rule))?;
-    let line = refusal.line;
-    writeln!(text, " line {line}")
+    add_unread(text, form, rule_text(refusal.rule), refusal.line)
+}
+
+fn add_unread(text: &mut String, form: Form, rule: &str, line: u64) -> Result<(), AllocError>
+    ensures { OnOk result (string_bytes text.new ≡ string_bytes text.old ++ unread_as form rule.now line) }
+{
+    match form {
+        Form::Plain => writeln!(text, "refused {rule} line {line}"),
+        Form::Json => writeln!(text, "{{\"refused\":\"{rule}\",\"line\":{line}}}"),
+    }
 }
 
 /// The code and the name of a rule.
@@ -119,8 +155,8 @@ fn rule_text(rule: SessionRule) -> &'static str
 }
 
 /// ready T: so many tickets were given.
-pub fn add_ready(text: &mut String, tickets: u32) -> Result<(), AllocError>
-    ensures { OnOk result (string_bytes text.new ≡ string_bytes text.old ++ ready_line tickets) }
+pub fn add_ready(text: &mut String, form: Form, tickets: u32) -> Result<(), AllocError>
+    ensures { OnOk result (string_bytes text.new ≡ string_bytes text.old ++ ready_as form tickets) }
 {
-    writeln!(text, "ready {tickets}")
+    add_count(text, form, "ready", u64::from(tickets))
 }

@@ -9,7 +9,9 @@ use Rattle.office_map.specs.PlanValue.{PlanValue}
 use Rattle.session_meaning.specs.ProgramValue.{ProgramValue}
 use Rattle.own_lock.specs.Entries.{tagged}
 use Rattle.locked_office.specs.Calls.{Key, DeskPass, Looks, office_with, tag_of}
-use Rattle.session_reports.specs.Report.{outcome_line}
+use Rattle.report_forms.specs.Forms.{outcome_as}
+use Rattle.report_forms.specs.declared.forms.Form.{Form}
+use Rattle.socket_pump.specs.Wires.{Account}
 use Rattle.office_stations.specs.declared.fault.RunFault.{RunFault}
 use Rattle.office_runs.specs.declared.report.Ran.{Ran}
 use Rattle.office_stations.specs.Rounds.{Standing, Goes, of_office}
@@ -45,9 +47,9 @@ journal_added wanted s before after asked told reads = subst (λ (w : Bool). Add
 
 -- ---- one office alone
 
-pub tells_runs : (p : PlanValue) (me : ℕ) (k : Key) (x q : DeskPass) (sessions count : ℕ) (wanted : Bool) (ran : Ran) → k ≡ (p, me) → sessions ≡ count → Looks k x q → ran.unfinished ≡ sessions - length (finished_of (office_with k q.seen)) →
-    string_bytes ran.text ≡ runs_report p (office_with k q.seen ∷ []) ran.unfinished → HasJournals wanted (office_with k q.seen ∷ []) (map string_bytes ran.journals.items) → TellsJournals p (me ∷ []) count wanted ran
-tells_runs p me k x q sessions count wanted ran key all looks left told journals =
+pub tells_runs : (form : Form) (p : PlanValue) (me : ℕ) (k : Key) (x q : DeskPass) (sessions count : ℕ) (wanted : Bool) (ran : Ran) → k ≡ (p, me) → sessions ≡ count → Looks k x q → ran.unfinished ≡ sessions - length (finished_of (office_with k q.seen)) →
+    string_bytes ran.text ≡ runs_report form p (office_with k q.seen ∷ []) ran.unfinished → HasJournals wanted (office_with k q.seen ∷ []) (map string_bytes ran.journals.items) → TellsJournals form p (me ∷ []) count wanted ran
+tells_runs form p me k x q sessions count wanted ran key all looks left told journals =
     let site : Site = office_with k q.seen in
     let size : length (all_finished (site ∷ [])) ≡ length (finished_of site) = ap length (append-nil (finished_of site)) in
     record {
@@ -59,29 +61,30 @@ tells_runs p me k x q sessions count wanted ran key all looks left told journals
       journals = journals;
     }
 
-pub tells_run : (tells : Bool) (p : PlanValue) (me : ℕ) (programs : List ProgramValue) (turns : ℕ) (wanted : Bool) (ran : Ran) (k : Key) (a b : Standing) (q : DeskPass) (sessions : ℕ) (fault : Option RunFault) → k ≡ (p, me) → sessions ≡ count_of programs me →
-    (a.pass.tag ≡ 0) × (a.pass.seen ≡ []) × (a.pass.mine ≡ []) × ((v n : ℕ) → a.last v n ≡ None) → Goes fault tells a.pass.tag k turns a b (of_office me programs) → Looks k b.pass q → ran.fault ≡ fault →
-    string_bytes ran.text ≡ runs_report p (office_with k q.seen ∷ []) ran.unfinished → ran.unfinished ≡ sessions - length (finished_of (office_with k q.seen)) →
-    HasJournals wanted (office_with k q.seen ∷ []) (map string_bytes ran.journals.items) → TellsCourse tells p me programs turns wanted ran
-tells_run tells p me programs turns wanted ran k a b q sessions fault key all begins goes looks same told left journals = record {
+pub tells_run : (Is : Account → Type 0) (form : Form) (tells : Bool) (p : PlanValue) (me : ℕ) (programs : List ProgramValue) (turns : ℕ) (wanted : Bool) (ran : Ran) (k : Key) (a b : Standing) (q : DeskPass) (sessions : ℕ) (fault : Option RunFault) → k ≡ (p, me) → sessions ≡ count_of programs me →
+    (a.pass.tag ≡ 0) × (a.pass.seen ≡ []) × (a.pass.mine ≡ []) × ((v n : ℕ) → a.last v n ≡ None) → Goes fault tells a.pass.tag k turns a b (of_office me programs) → Is b.wire → Looks k b.pass q → ran.fault ≡ fault →
+    string_bytes ran.text ≡ runs_report form p (office_with k q.seen ∷ []) ran.unfinished → ran.unfinished ≡ sessions - length (finished_of (office_with k q.seen)) →
+    HasJournals wanted (office_with k q.seen ∷ []) (map string_bytes ran.journals.items) → TellsCourse Is form tells p me programs turns wanted ran
+tells_run Is form tells p me programs turns wanted ran k a b q sessions fault key all begins goes is looks same told left journals = record {
   first = a;
   begins = begins;
   last = b;
   goes = subst (λ (x : Option RunFault). Goes x tells 0 (p, me) turns a b (of_office me programs)) (sym same)
       (subst (λ (x : Key). Goes fault tells 0 x turns a b (of_office me programs)) key (subst (λ (t : ℕ). Goes fault tells t k turns a b (of_office me programs)) begins.0 goes));
+  is = is;
   seen = q;
   looked = subst (λ (x : Key). Looks x b.pass q) key looks;
   left = subst (λ (x : Key). ran.unfinished ≡ count_of programs me - length (finished_of (office_with x q.seen))) key (left ∙ ap (λ n. n - length (finished_of (office_with k q.seen))) all);
-  told = subst (λ (x : Key). string_bytes ran.text ≡ runs_report p (office_with x q.seen ∷ []) ran.unfinished) key told;
+  told = subst (λ (x : Key). string_bytes ran.text ≡ runs_report form p (office_with x q.seen ∷ []) ran.unfinished) key told;
   journals = subst (λ (x : Key). HasJournals wanted (office_with x q.seen ∷ []) (map string_bytes ran.journals.items)) key journals;
 }
 
 -- ---- of who wrote it
 
-pub adds_office : {E : Type 0} (p : PlanValue) (k : Key) (worker client : List Entry) (before after : Told) (s : Site) (result : Result ℕ E) → key_of s ≡ k → IsLegal s →
-    OnOk result (after.lines ≡ before.lines ++ flat_map (outcome_line p) (finished_of s)) → IfOk result (λ n. n ≡ length (finished_of s)) → OnOk result (AddsJournal before.wanted s before.texts after.texts) →
-    All (λ (e : Entry). e.tag < 2) s.entries → IsPrefix (tagged tag_of 0 s.entries) worker → IsPrefix (tagged tag_of 1 s.entries) client → IfOk result (AddsOffice p k worker client before after)
-adds_office p k worker client before after s (Ok n) key legal lines count journal tags turns submits = record {
+pub adds_office : {E : Type 0} (form : Form) (p : PlanValue) (k : Key) (worker client : List Entry) (before after : Told) (s : Site) (result : Result ℕ E) → key_of s ≡ k → IsLegal s →
+    OnOk result (after.lines ≡ before.lines ++ flat_map (outcome_as form p) (finished_of s)) → IfOk result (λ n. n ≡ length (finished_of s)) → OnOk result (AddsJournal before.wanted s before.texts after.texts) →
+    All (λ (e : Entry). e.tag < 2) s.entries → IsPrefix (tagged tag_of 0 s.entries) worker → IsPrefix (tagged tag_of 1 s.entries) client → IfOk result (AddsOffice form p k worker client before after)
+adds_office form p k worker client before after s (Ok n) key legal lines count journal tags turns submits = record {
   site = s;
   key = key;
   legal = legal;
@@ -92,4 +95,4 @@ adds_office p k worker client before after s (Ok n) key legal lines count journa
   turns = turns;
   submits = submits;
 }
-adds_office p k worker client before after s (Err e) key legal lines count journal tags turns submits = tt
+adds_office form p k worker client before after s (Err e) key legal lines count journal tags turns submits = tt

@@ -7,9 +7,11 @@ use Rattle.session_meaning.specs.ProgramValue.{ProgramValue}
 use Rattle.session_meaning.specs.declared.ending.Outcome.{Outcome}
 use Rattle.site_core.specs.Journals.{Site, IsLegal}
 use Rattle.locked_office.specs.Calls.{Key, DeskPass, Looks, office_with}
-use Rattle.session_reports.specs.Report.{outcome_line, unfinished_line}
+use Rattle.report_forms.specs.Forms.{outcome_as, unfinished_as}
+use Rattle.report_forms.specs.declared.forms.Form.{Form}
 use Rattle.journal_texts.specs.JournalText.{IsJournal}
 use Rattle.journal_texts.specs.Written.{journal_text}
+use Rattle.socket_pump.specs.Wires.{Account}
 use Rattle.office_stations.specs.Rounds.{Standing, Goes, of_office}
 use Rattle.office_stations.specs.Sessions.{count_of, finished_of}
 use Rattle.office_runs.specs.declared.report.Ran.{Ran}
@@ -19,8 +21,8 @@ abbrev pub all_finished : List Site → List Outcome
 all_finished = flat_map finished_of
 
 -- the lines of the sessions that finished, and how many haven't
-abbrev pub runs_report : PlanValue → List Site → ℕ → List ℕ
-runs_report p sites n = flat_map (outcome_line p) (all_finished sites) ++ unfinished_line n
+abbrev pub runs_report : Form → PlanValue → List Site → ℕ → List ℕ
+runs_report form p sites n = flat_map (outcome_as form p) (all_finished sites) ++ unfinished_as form n
 
 abbrev pub key_of : Site → Key
 key_of s = (s.plan, s.me)
@@ -43,28 +45,29 @@ HasJournals true sites texts = (texts ≡ map text_of sites) × All IsReadBack s
 HasJournals false sites texts = texts ≡ []
 
 -- What is told of offices with these keys, in this order, is what legal journals of theirs tell: which sessions finished, and how many of so many haven't; and, where they are wanted, these journals.
-pub record TellsOffices (p : PlanValue) (keys : List Key) (sessions : ℕ) (wanted : Bool) (ran : Ran) : Type 0 where
+pub record TellsOffices (form : Form) (p : PlanValue) (keys : List Key) (sessions : ℕ) (wanted : Bool) (ran : Ran) : Type 0 where
   pub sites : List Site
   pub are : map key_of sites ≡ keys
   pub legal : All IsLegal sites
   pub left : ran.unfinished ≡ sessions - length (all_finished sites)
-  pub told : string_bytes ran.text ≡ runs_report p sites ran.unfinished
+  pub told : string_bytes ran.text ≡ runs_report form p sites ran.unfinished
   pub journals : HasJournals wanted sites (map string_bytes ran.journals.items)
 
 -- so it is of these offices of the plan
-abbrev pub TellsJournals : PlanValue → List ℕ → ℕ → Bool → Ran → Type 0
-TellsJournals p offices = TellsOffices p (map (λ me. (p, me)) offices)
+abbrev pub TellsJournals : Form → PlanValue → List ℕ → ℕ → Bool → Ran → Type 0
+TellsJournals form p offices = TellsOffices form p (map (λ me. (p, me)) offices)
 
 -- What is told of an office is what its journal tells, which is what came of so many rounds with its sessions of the
 -- list, with nothing done and nothing sent before, of fewer only where a fault ended one; and, where it is wanted, this
--- journal.
-pub record TellsCourse (tells : Bool) (p : PlanValue) (me : ℕ) (programs : List ProgramValue) (turns : ℕ) (wanted : Bool) (ran : Ran) : Type 0 where
+-- journal. What its socket tells at the end is as Is says.
+pub record TellsCourse (Is : Account → Type 0) (form : Form) (tells : Bool) (p : PlanValue) (me : ℕ) (programs : List ProgramValue) (turns : ℕ) (wanted : Bool) (ran : Ran) : Type 0 where
   pub first : Standing
   pub begins : (first.pass.tag ≡ 0) × (first.pass.seen ≡ []) × (first.pass.mine ≡ []) × ((v n : ℕ) → first.last v n ≡ None)
   pub last : Standing
   pub goes : Goes ran.fault tells 0 (p, me) turns first last (of_office me programs)
+  pub is : Is last.wire
   pub seen : DeskPass
   pub looked : Looks (p, me) last.pass seen
   pub left : ran.unfinished ≡ count_of programs me - length (finished_of (office_with (p, me) seen.seen))
-  pub told : string_bytes ran.text ≡ runs_report p (office_with (p, me) seen.seen ∷ []) ran.unfinished
+  pub told : string_bytes ran.text ≡ runs_report form p (office_with (p, me) seen.seen ∷ []) ran.unfinished
   pub journals : HasJournals wanted (office_with (p, me) seen.seen ∷ []) (map string_bytes ran.journals.items)

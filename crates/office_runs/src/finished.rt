@@ -4,7 +4,7 @@ ghost use Rattle.std.specs.Prelude.{◌≡◌, ◌<◌, ◌++◌, false, length,
 ghost use Rattle.std.specs.List.{flat_map};
 ghost use Rattle.own_lock.specs.Passes.{IsOf};
 ghost use Rattle.locked_office.specs.Calls.{Stays, Looks, office_with};
-ghost use Rattle.session_reports.specs.Report.{outcome_line};
+ghost use Rattle.report_forms.specs.Forms.{outcome_as};
 ghost use Rattle.office_stations.specs.Sessions.{finished_of};
 ghost use Rattle.office_runs.specs.refinement.Reports.{AddsJournal};
 
@@ -12,6 +12,7 @@ use crate::report::Report;
 use locked_office::Desk;
 use office_map::Plan;
 use own_lock::Pass;
+use report_forms::Form;
 use site_core::Office;
 use std::alloc::AllocError;
 use std::sync::Wait;
@@ -22,6 +23,7 @@ pub(crate) fn add_sessions<R: Wait>(
     rt: &R,
     desk: &Desk,
     pass: &mut Pass<Office>,
+    form: Form,
     plan: &Plan,
     report: &mut Report,
 ) -> Result<usize, AllocError>
@@ -30,13 +32,13 @@ pub(crate) fn add_sessions<R: Wait>(
     requires office { desk.now.key.1 < length desk.now.key.0.offices }
     ensures stays { Stays desk.now pass.old pass.new }
     ensures looked { Looks desk.now.key pass.old pass.new }
-    ensures lines { OnOk result (report.new.lines ≡ report.old.lines ++ flat_map (outcome_line plan.now) (finished_of (office_with desk.now.key pass.new.seen))) }
+    ensures lines { OnOk result (report.new.lines ≡ report.old.lines ++ flat_map (outcome_as form plan.now) (finished_of (office_with desk.now.key pass.new.seen))) }
     ensures count { IfOk result (λ n. n ≡ length (finished_of (office_with desk.now.key pass.new.seen))) }
     ensures journal { OnOk result (AddsJournal report.old.wanted (office_with desk.now.key pass.new.seen) report.old.texts report.new.texts) }
     ensures wanted { report.new.wanted ≡ report.old.wanted }
 {
     let held = desk.lock().take(rt, pass);
-    let added = report.add(plan, held.get());
+    let added = report.add(form, plan, held.get());
     desk.lock().give(pass, held);
     added
 }

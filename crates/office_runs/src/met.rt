@@ -16,6 +16,7 @@ use crate::report::Report;
 use locked_office::Desk;
 use office_map::Plan;
 use own_lock::Pass;
+use report_forms::Form;
 use site_core::Office;
 use std::alloc::AllocError;
 use std::sync::Wait;
@@ -24,6 +25,7 @@ use std::sync::Wait;
 /// passes meet, so that it is known whose the entries are: those of who turned it, and of who submitted its sessions.
 pub fn add_office<R: Wait>(
     rt: &R,
+    form: Form,
     plan: &Plan,
     office: Opened,
     worker: Pass<Office>,
@@ -32,7 +34,7 @@ pub fn add_office<R: Wait>(
 ) -> Result<usize, AllocError>
     requires worker { IsFor (arc_value office.desk) 0 worker }
     requires client { IsFor (arc_value office.desk) 1 client }
-    ensures told { IfOk result (AddsOffice plan.now (opened_key office) worker.mine client.mine report.old report.new) }
+    ensures told { IfOk result (AddsOffice form plan.now (opened_key office) worker.mine client.mine report.old report.new) }
     ensures wanted { report.new.wanted ≡ report.old.wanted }
 {
     let Opened {
@@ -41,7 +43,7 @@ pub fn add_office<R: Wait>(
         rest,
     } = office;
     let desk: &Desk = &desk;
-    let added = add_sessions(rt, desk, &mut own, plan, report);
+    let added = add_sessions(rt, desk, &mut own, form, plan, report);
     meet_all(desk, rest, &mut own);
     desk.meet(worker, &mut own);
     desk.meet(client, &mut own);

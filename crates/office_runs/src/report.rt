@@ -3,15 +3,16 @@
 ghost use Rattle.std.specs.Prelude.{◌≡◌, ◌<◌, ◌++◌, [], length, map, IfOk, OnOk};
 ghost use Rattle.std.specs.List.{flat_map};
 ghost use Rattle.std.specs.String.{string_bytes};
-ghost use Rattle.session_reports.specs.Report.{outcome_line, unfinished_line};
+ghost use Rattle.report_forms.specs.Forms.{outcome_as, unfinished_as};
 ghost use Rattle.office_stations.specs.Sessions.{finished_of};
 ghost use Rattle.office_runs.specs.Runs.{IsQuiet};
 ghost use Rattle.office_runs.specs.refinement.Reports.{AddsJournal, none_told};
 
 use office_map::Plan;
-use office_stations::{RunFault, add_lines};
+use office_stations::RunFault;
+use report_forms::Form;
+use report_forms::report::{add_outcomes, add_unfinished};
 use run_remarks::{Remarks, Way};
-use session_reports::report::add_unfinished;
 use site_core::Office;
 use std::alloc::{AllocError, Global};
 use std::marker::Model;
@@ -77,16 +78,21 @@ impl Report {
 
     /// The sessions of an office that finished are told, by ticket, and how many they are; and its journal, where it is wanted.
     /// Where memory runs out, some may be.
-    pub(crate) fn add(&mut self, plan: &Plan, office: &Office) -> Result<usize, AllocError>
+    pub(crate) fn add(
+        &mut self,
+        form: Form,
+        plan: &Plan,
+        office: &Office,
+    ) -> Result<usize, AllocError>
         requires { office.now.me < length office.now.plan.offices }
-        ensures lines { OnOk result (self.new.lines ≡ self.old.lines ++ flat_map (outcome_line plan.now) (finished_of office.now)) }
+        ensures lines { OnOk result (self.new.lines ≡ self.old.lines ++ flat_map (outcome_as form plan.now) (finished_of office.now)) }
         ensures count { IfOk result (λ n. n ≡ length (finished_of office.now)) }
         ensures journal { OnOk result (AddsJournal self.old.wanted office.now self.old.texts self.new.texts) }
         ensures wanted { self.new.wanted ≡ self.old.wanted }
     {
         self.add_remarks(office)?;
         self.add_journal(office)?;
-        add_lines(&mut self.text, plan, office.outcomes())
+        add_outcomes(&mut self.text, form, plan, office.outcomes())
     }
 
     fn add_remarks(&mut self, office: &Office) -> Result<(), AllocError>
@@ -118,10 +124,11 @@ impl Report {
 /// What came of a run, of which the sessions that finished are told.
 pub fn with_unfinished(
     report: Report,
+    form: Form,
     unfinished: usize,
     fault: Option<RunFault>,
 ) -> Result<Ran, AllocError>
-    ensures text { IfOk result (λ r. string_bytes r.text ≡ report.lines ++ unfinished_line unfinished) }
+    ensures text { IfOk result (λ r. string_bytes r.text ≡ report.lines ++ unfinished_as form unfinished) }
     ensures unfinished { IfOk result (λ r. r.unfinished ≡ unfinished) }
     ensures fault { IfOk result (λ r. r.fault ≡ fault) }
     ensures journals { IfOk result (λ r. map string_bytes r.journals.items ≡ report.texts) }
@@ -135,7 +142,7 @@ pub fn with_unfinished(
         remarks,
         ..
     } = report;
-    add_unfinished(&mut text, unfinished)?;
+    add_unfinished(&mut text, form, unfinished)?;
     let remarks = if unfinished > 0 || fault.is_some() {
         remarks.text()?
     } else {

@@ -22,6 +22,7 @@ use office_stations::{
     count_of, submit_some,
 };
 use own_lock::Pass;
+use report_forms::Form;
 use run_remarks::Way;
 use session_programs::Program;
 use site_core::Office;
@@ -40,6 +41,7 @@ use std::sync::Wait;
 pub fn run_office<R: Wait + Clock, B: Binds, G: Gate, W: Watch>(
     rt: &R,
     alloc: Global,
+    form: Form,
     plan: &Plan,
     me: OfficeId,
     programs: &[Program],
@@ -48,8 +50,8 @@ pub fn run_office<R: Wait + Clock, B: Binds, G: Gate, W: Watch>(
     around: &Around<'_, B, G, W>,
 ) -> Result<Ran, OpeningFault>
     requires { me < length plan.now.offices }
-    ensures tells { IfOk result (TellsJournals plan.now (me ∷ []) (count_of programs.now me) journals) }
-    ensures ran { IfOk result (TellsCourse B.Socket.tells plan.now me programs.now turns journals) }
+    ensures tells { IfOk result (TellsJournals form plan.now (me ∷ []) (count_of programs.now me) journals) }
+    ensures ran { IfOk result (TellsCourse (λ a. (s : B.Socket) × (B.Socket.account s ≡ a)) form B.Socket.tells plan.now me programs.now turns journals) }
     ensures quiet { IfOk result IsQuiet }
 {
     let mut station = at_address(rt, alloc, plan, me, around.binds)?;
@@ -76,6 +78,7 @@ pub fn run_office<R: Wait + Clock, B: Binds, G: Gate, W: Watch>(
     let ran = told(
         rt,
         alloc,
+        form,
         plan,
         &desk,
         &mut pass,
@@ -133,6 +136,7 @@ fn take_turns<R: Wait + Clock, S: Socket, G: Gate, W: Watch>(
 fn told<R: Wait>(
     rt: &R,
     alloc: Global,
+    form: Form,
     plan: &Plan,
     desk: &Desk,
     pass: &mut Pass<Office>,
@@ -146,13 +150,13 @@ fn told<R: Wait>(
     requires office { desk.now.key.1 < length desk.now.key.0.offices }
     ensures looked { IfOk result (λ _. Looks desk.now.key pass.old pass.new) }
     ensures fault { IfOk result (λ r. r.fault ≡ fault) }
-    ensures text { IfOk result (λ r. string_bytes r.text ≡ runs_report plan.now (office_with desk.now.key pass.new.seen ∷ []) r.unfinished) }
+    ensures text { IfOk result (λ r. string_bytes r.text ≡ runs_report form plan.now (office_with desk.now.key pass.new.seen ∷ []) r.unfinished) }
     ensures left { IfOk result (λ r. r.unfinished ≡ sessions - length (finished_of (office_with desk.now.key pass.new.seen))) }
     ensures journals { IfOk result (λ r. HasJournals journals (office_with desk.now.key pass.new.seen ∷ []) (map string_bytes r.journals.items)) }
     ensures quiet { IfOk result IsQuiet }
 {
     let mut report = Report::new(alloc, journals);
     report.expect(sessions, ways);
-    let finished = add_sessions(rt, desk, pass, plan, &mut report)?;
-    Ok(with_unfinished(report, sessions.saturating_sub(finished), fault)?)
+    let finished = add_sessions(rt, desk, pass, form, plan, &mut report)?;
+    Ok(with_unfinished(report, form, sessions.saturating_sub(finished), fault)?)
 }

@@ -4,6 +4,7 @@ use office_map::{OfficeId, Plan};
 use office_runs::Ran;
 use office_runs::run::run_office;
 use office_stations::{Around, Binds, Gate, Open, OpeningFault, Quiet, Watch};
+use report_forms::Form;
 use session_language::read_sessions;
 use session_programs::Program;
 use std::alloc::Global;
@@ -59,7 +60,7 @@ fn live_in_memory<R: Threads + Wait + Clock + Sync, G: Gate + Sync>(
         gate,
         watch: &Quiet,
     };
-    Ok(live(rt, alloc, &plan, &programs, journals, &around))
+    Ok(live(rt, alloc, Form::Plain, &plan, &programs, journals, &around))
 }
 
 /// Whether nothing is left, no fault, no journal and no remark is told, and the lines begin so.
@@ -125,6 +126,7 @@ fn alone_with<R: Wait + Clock, B: Binds, G: Gate, W: Watch>(
     Ok(run_office(
         rt,
         alloc,
+        Form::Plain,
         &plan,
         OfficeId::new(0),
         &programs,

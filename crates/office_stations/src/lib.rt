@@ -38,7 +38,7 @@ pub use crate::hearing::{Hearing, Ways};
 pub use crate::opening::OpeningFault;
 pub use crate::pace::{Pace, TimedTurn};
 pub use crate::room::Room;
-pub use crate::sessions::{add_lines, count_finished, count_of};
+pub use crate::sessions::{count_finished, count_of};
 pub use crate::shared::Shared;
 pub use crate::station::{Station, at_address};
 pub use crate::watch::{Progress, Quiet, Watch};

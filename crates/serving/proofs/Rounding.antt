@@ -12,7 +12,9 @@ use Rattle.office_journal.specs.declared.event.Entry.{Entry}
 use Rattle.session_agenda.specs.Agenda.{unfinished}
 use Rattle.site_core.specs.Journals.{office_of, IsLegal}
 use Rattle.locked_office.specs.Calls.{Key, DeskPass, office_with}
-use Rattle.session_reports.specs.Report.{outcome_line}
+use Rattle.report_forms.specs.Forms.{outcome_as}
+use Rattle.report_forms.specs.declared.forms.Form.{Form}
+use Rattle.socket_pump.specs.Wires.{Account}
 use Rattle.office_stations.specs.declared.pace.TimedTurn.{TimedTurn}
 use Rattle.office_stations.specs.Rounds.{Standing, Turns, with_pass}
 use Rattle.office_stations.specs.Sessions.{finished_of}
@@ -21,7 +23,7 @@ use Rattle.stored_runs.proofs.Outcomes.{both, first_same, first_begin, finished_
 use Rattle.request_streams.specs.declared.asked.Asked.{Asked}
 use Rattle.request_streams.specs.Bytes.{Taking, nothing_taken}
 use Rattle.request_streams.specs.RequestLaws.{PartsAreOne}
-use Rattle.office_answers.specs.Said.{Said, said_line}
+use Rattle.office_answers.specs.Said.{Said, said_as}
 use Rattle.serving.specs.declared.fault.ServeFault.{ServeFault}
 use Rattle.serving.specs.declared.fault.ServeFault.TheVariants.{Run, InputFailed}
 use Rattle.serving.specs.Rounds.{AnswersAll, AnswersSome, CutOff, Made, Round, Rounds, round_text}
@@ -76,15 +78,15 @@ one_round tells k t said p filled q a b told waiting left first last grows legal
 }
 
 -- it was made, and is written
-pub made_of : (tells : Bool) (k : Key) (r : Result TimedTurn ServeFault) (said : List Said) (p filled q : DeskPass) (a b : Standing) (told : ℕ) (waiting left : List Asked) (text : List ℕ) (old new : Option (List ℕ)) → a.pass ≡ p → b.pass ≡ q → IsPrefix p.seen q.seen →
-    told ≡ length (finished_of (office_with k p.seen)) → AnswersSome 0 k p filled waiting left said → text ≡ flat_map (said_line k.0) said → IfOk r (λ (t : TimedTurn). Turns tells 0 k t (with_pass a filled) b) → OnOk r (IsLegal (office_with k q.seen)) →
-    OnOk r (Appends old new (text ++ flat_map (outcome_line k.0) (drop told (finished_of (office_with k q.seen))))) → IfOk r (λ (t : TimedTurn). RoundMade tells k t a b waiting left old new)
-made_of tells k (Err f) said p filled q a b told waiting left text old new first last grows count answers lines turns legal wrote = tt
-made_of tells k (Ok t) said p filled q a b told waiting left text old new first last grows count answers lines turns legal wrote = record {
+pub made_of : (form : Form) (tells : Bool) (k : Key) (r : Result TimedTurn ServeFault) (said : List Said) (p filled q : DeskPass) (a b : Standing) (told : ℕ) (waiting left : List Asked) (text : List ℕ) (old new : Option (List ℕ)) → a.pass ≡ p → b.pass ≡ q → IsPrefix p.seen q.seen →
+    told ≡ length (finished_of (office_with k p.seen)) → AnswersSome 0 k p filled waiting left said → text ≡ flat_map (said_as form k.0) said → IfOk r (λ (t : TimedTurn). Turns tells 0 k t (with_pass a filled) b) → OnOk r (IsLegal (office_with k q.seen)) →
+    OnOk r (Appends old new (text ++ flat_map (outcome_as form k.0) (drop told (finished_of (office_with k q.seen))))) → IfOk r (λ (t : TimedTurn). RoundMade form tells k t a b waiting left old new)
+made_of form tells k (Err f) said p filled q a b told waiting left text old new first last grows count answers lines turns legal wrote = tt
+made_of form tells k (Ok t) said p filled q a b told waiting left text old new first last grows count answers lines turns legal wrote = record {
   said = said;
   outcomes = drop told (finished_of (office_with k q.seen));
   round = one_round tells k t said p filled q a b told waiting left first last grows legal count answers turns;
-  written = subst (λ l. Appends old new (l ++ flat_map (outcome_line k.0) (drop told (finished_of (office_with k q.seen))))) lines wrote;
+  written = subst (λ l. Appends old new (l ++ flat_map (outcome_as form k.0) (drop told (finished_of (office_with k q.seen))))) lines wrote;
 }
 
 pub if_err : {A E : Type 0} (r : Result A E) (P Q : E → Type 0) → ((e : E) → P e → Q e) → IfErr r P → IfErr r Q
@@ -95,12 +97,12 @@ pub nothing_cut : (k : Key) (p : DeskPass) (waiting : List Asked) (stands : List
 nothing_cut k p waiting stands begins = record { asked = []; left = waiting; are = refl; mid = p; answers = refl; stand = begins }
 
 -- what was answered is said, or not
-pub cut_from : (k : Key) (p mid filled : DeskPass) (waiting asked left : List Asked) (said : List Said) (seen : List Entry) (n stood : ℕ) (text : List ℕ) (old new : Option (List ℕ)) → asked ++ left ≡ waiting → AnswersAll 0 k asked said p mid →
-    IsPrefix p.seen (take stood seen) → IsPrefix mid.seen filled.seen → IsPrefix filled.seen seen → n ≡ length filled.seen → text ≡ flat_map (said_line k.0) said → SaidOrNot old new text n stood →
-    (ws : List Said) × CutOff 0 k p waiting ws (take stood seen) × Appends old new (flat_map (said_line k.0) ws)
-cut_from k p mid filled waiting asked left said seen n stood text old new are answers begins middle grows count lines (inl same) =
+pub cut_from : (form : Form) (k : Key) (p mid filled : DeskPass) (waiting asked left : List Asked) (said : List Said) (seen : List Entry) (n stood : ℕ) (text : List ℕ) (old new : Option (List ℕ)) → asked ++ left ≡ waiting → AnswersAll 0 k asked said p mid →
+    IsPrefix p.seen (take stood seen) → IsPrefix mid.seen filled.seen → IsPrefix filled.seen seen → n ≡ length filled.seen → text ≡ flat_map (said_as form k.0) said → SaidOrNot old new text n stood →
+    (ws : List Said) × CutOff 0 k p waiting ws (take stood seen) × Appends old new (flat_map (said_as form k.0) ws)
+cut_from form k p mid filled waiting asked left said seen n stood text old new are answers begins middle grows count lines (inl same) =
     ([], nothing_cut k p waiting (take stood seen) begins, subst (λ x. Appends old x []) (sym same) (Appends-nil old))
-cut_from k p mid filled waiting asked left said seen n stood text old new are answers begins middle grows count lines (inr (wrote, le)) =
+cut_from form k p mid filled waiting asked left said seen n stood text old new are answers begins middle grows count lines (inr (wrote, le)) =
     (said, record { asked = asked; left = left; are = are; mid = mid; answers = answers; stand = both mid.seen filled.seen (take stood seen) middle (begins_first stood filled.seen seen (omega (arith, le, count)) grows) }, subst (Appends old new) lines wrote)
 
 -- ---- round after round
@@ -111,34 +113,34 @@ rounds_append tells k [] r a m b waiting mid left (same, waits) round =
 rounds_append tells k (x ∷ rs) r a m b waiting mid left (n, next, first, others) round = (n, next, first, rounds_append tells k rs r n m b next mid left others round)
 
 -- so many rounds were made, before which this came, and which say this
-pub record Done (tells : Bool) (k : Key) (a b : Standing) (left xs : List Asked) (bs : List ℕ) : Type 0 where
+pub record Done (form : Form) (tells : Bool) (k : Key) (a b : Standing) (left xs : List Asked) (bs : List ℕ) : Type 0 where
   pub made : List Made
   pub rounds : Rounds tells 0 k made a b [] left
   pub came : flat_map (λ (r : Made). r.came) made ≡ xs
-  pub lines : flat_map (round_text k.0) made ≡ bs
+  pub lines : flat_map (round_text form k.0) made ≡ bs
 
-pub none_done : (tells : Bool) (k : Key) (a : Standing) → Done tells k a a [] [] []
-none_done tells k a = record { made = []; rounds = (refl, refl); came = refl; lines = refl }
+pub none_done : (form : Form) (tells : Bool) (k : Key) (a : Standing) → Done form tells k a a [] [] []
+none_done form tells k a = record { made = []; rounds = (refl, refl); came = refl; lines = refl }
 
-pub one_done : (tells : Bool) (k : Key) (t : TimedTurn) (a m b : Standing) (before came after left xs : List Asked) (bs : List ℕ) (old new : Option (List ℕ)) → Done tells k a m before xs bs → after ≡ before ++ came → (r : RoundMade tells k t m b after left old new) →
-    Done tells k a b left (xs ++ came) (bs ++ (flat_map (said_line k.0) r.said ++ flat_map (outcome_line k.0) r.outcomes))
-one_done tells k t a m b before came after left xs bs old new d waits r =
+pub one_done : (form : Form) (tells : Bool) (k : Key) (t : TimedTurn) (a m b : Standing) (before came after left xs : List Asked) (bs : List ℕ) (old new : Option (List ℕ)) → Done form tells k a m before xs bs → after ≡ before ++ came → (r : RoundMade form tells k t m b after left old new) →
+    Done form tells k a b left (xs ++ came) (bs ++ (flat_map (said_as form k.0) r.said ++ flat_map (outcome_as form k.0) r.outcomes))
+one_done form tells k t a m b before came after left xs bs old new d waits r =
     let made : Made = record { came = came; turn = t; said = r.said; finished = r.outcomes } in
     record {
       made = d.made ++ made ∷ [];
       rounds = rounds_append tells k d.made made a m b [] before left d.rounds (subst (λ l. Round tells 0 k t r.said r.outcomes m b l left) waits r.round);
       came = flat_map-append (λ (x : Made). x.came) d.made (made ∷ []) ∙ ap (λ l. l ++ (came ++ [])) d.came ∙ ap (λ l. xs ++ l) (append-nil came);
-      lines = flat_map-append (round_text k.0) d.made (made ∷ []) ∙ ap (λ l. l ++ (round_text k.0 made ++ [])) d.lines ∙ ap (λ l. bs ++ l) (append-nil (round_text k.0 made));
+      lines = flat_map-append (round_text form k.0) d.made (made ∷ []) ∙ ap (λ l. l ++ (round_text form k.0 made ++ [])) d.lines ∙ ap (λ l. bs ++ l) (append-nil (round_text form k.0 made));
     }
 
 -- ---- how it ends
 
-module _ (tells : Bool) (k : Key) (input now : Option (List ℕ)) (t : Taking) (ended : Bool) (a b : Standing) (left xs : List Asked) (bs : List ℕ) (old mid : Option (List ℕ)) (d : Done tells k a b left xs bs) (h : Heard k.0 k.1 input now t ended xs) (wrote : Appends old mid bs) where
-  text : Appends old mid (told_text k.0 d.made [])
-  text = subst (Appends old mid) (sym (append-nil (flat_map (round_text k.0) d.made) ∙ d.lines)) wrote
+module _ (Is : Account → Type 0) (form : Form) (tells : Bool) (k : Key) (input now : Option (List ℕ)) (t : Taking) (ended : Bool) (a b : Standing) (left xs : List Asked) (bs : List ℕ) (old mid : Option (List ℕ)) (d : Done form tells k a b left xs bs) (h : Heard k.0 k.1 input now t ended xs) (wrote : Appends old mid bs) (is : Is b.wire) where
+  text : Appends old mid (told_text form k.0 d.made [])
+  text = subst (Appends old mid) (sym (append-nil (flat_map (round_text form k.0) d.made) ∙ d.lines)) wrote
 
   -- nothing is left to do
-  pub went_over : (stands : List Entry) → IsPrefix b.pass.seen stands → left ≡ [] → ended ≡ true → unfinished (office_of (office_with k b.pass.seen)).agenda ≡ 0 → Went tells k input a stands None old mid
+  pub went_over : (stands : List Entry) → IsPrefix b.pass.seen stands → left ≡ [] → ended ≡ true → unfinished (office_of (office_with k b.pass.seen)).agenda ≡ 0 → Went Is form tells k input a stands None old mid
   went_over stands begins none over done = record {
     goes = record {
       bytes = h.bytes;
@@ -153,12 +155,13 @@ module _ (tells : Bool) (k : Key) (input now : Option (List ℕ)) (t : Taking) (
       cut = [];
       cut_off = nothing_cut k b.pass (left ++ []) stands begins;
     };
+    is = is;
     told = text;
     over = λ e. record { over = over; answered = (none, refl); whole = refl; done = done };
   }
 
   -- a fault is found before a round
-  pub went_before : (f : ServeFault) (stands : List Entry) → IsPrefix b.pass.seen stands → Went tells k input a stands (Some f) old mid
+  pub went_before : (f : ServeFault) (stands : List Entry) → IsPrefix b.pass.seen stands → Went Is form tells k input a stands (Some f) old mid
   went_before f stands begins = record {
     goes = record {
       bytes = h.bytes;
@@ -173,18 +176,19 @@ module _ (tells : Bool) (k : Key) (input now : Option (List ℕ)) (t : Taking) (
       cut = [];
       cut_off = nothing_cut k b.pass (left ++ []) stands begins;
     };
-    told = unless (Some f) (Appends old mid (told_text k.0 d.made [])) text;
+    is = is;
+    told = unless (Some f) (Appends old mid (told_text form k.0 d.made [])) text;
     over = λ e. absurd cc;
   }
 
-  cut_of : (f : ServeFault) (waiting : List Asked) (stands : List Entry) (new : Option (List ℕ)) → IsPrefix b.pass.seen stands → RoundCut f k b.pass waiting stands mid new → (said : List Said) × CutOff 0 k b.pass waiting said stands × Unless (Some f) (Appends mid new (flat_map (said_line k.0) said))
+  cut_of : (f : ServeFault) (waiting : List Asked) (stands : List Entry) (new : Option (List ℕ)) → IsPrefix b.pass.seen stands → RoundCut form f k b.pass waiting stands mid new → (said : List Said) × CutOff 0 k b.pass waiting said stands × Unless (Some f) (Appends mid new (flat_map (said_as form k.0) said))
   cut_of (Run (stored.Run why)) waiting stands new begins c = c
   cut_of (Run stored.StoreFailed) waiting stands new begins c = c
   cut_of (Run (stored.WriteFailed cause)) waiting stands new begins c = ([], nothing_cut k b.pass waiting stands begins, tt)
   cut_of (InputFailed cause) waiting stands new begins c = c
 
   -- a round is cut off
-  pub went_cut : PartsAreOne → (f : ServeFault) (stands : List Entry) (later new : Option (List ℕ)) (u : Taking) (over : Bool) (after : List Asked) → Hears k.0 k.1 now later t u ended over left after → IsPrefix b.pass.seen stands → RoundCut f k b.pass after stands mid new → Went tells k input a stands (Some f) old new
+  pub went_cut : PartsAreOne → (f : ServeFault) (stands : List Entry) (later new : Option (List ℕ)) (u : Taking) (over : Bool) (after : List Asked) → Hears k.0 k.1 now later t u ended over left after → IsPrefix b.pass.seen stands → RoundCut form f k b.pass after stands mid new → Went Is form tells k input a stands (Some f) old new
   went_cut law f stands later new u over after hears begins c =
       let all : Heard k.0 k.1 input later u over (xs ++ hears.came) = heard_more law k.0 k.1 input now later t u ended over xs left after h hears in
       let cut = cut_of f after stands new begins c in
@@ -202,36 +206,37 @@ module _ (tells : Bool) (k : Key) (input now : Option (List ℕ)) (t : Taking) (
           cut = cut.0;
           cut_off = subst (λ l. CutOff 0 k b.pass l cut.0 stands) hears.waits cut.1;
         };
-        told = unless_then (Some f) (Appends mid new (flat_map (said_line k.0) cut.0)) (Appends old new (told_text k.0 d.made cut.0))
-            (λ w. subst (λ l. Appends old new (l ++ flat_map (said_line k.0) cut.0)) (sym d.lines) (Appends-trans old mid new bs (flat_map (said_line k.0) cut.0) wrote w)) cut.2;
+        is = is;
+        told = unless_then (Some f) (Appends mid new (flat_map (said_as form k.0) cut.0)) (Appends old new (told_text form k.0 d.made cut.0))
+            (λ w. subst (λ l. Appends old new (l ++ flat_map (said_as form k.0) cut.0)) (sym d.lines) (Appends-trans old mid new bs (flat_map (said_as form k.0) cut.0) wrote w)) cut.2;
         over = λ e. absurd cc;
       }
 
 -- ---- a loop of rounds
 
 -- what was heard, done and written so far
-pub record So (tells : Bool) (k : Key) (input now : Option (List ℕ)) (t : Taking) (ended : Bool) (a b : Standing) (left : List Asked) (old new : Option (List ℕ)) : Type 0 where
+pub record So (form : Form) (tells : Bool) (k : Key) (input now : Option (List ℕ)) (t : Taking) (ended : Bool) (a b : Standing) (left : List Asked) (old new : Option (List ℕ)) : Type 0 where
   pub xs : List Asked
   pub heard : Heard k.0 k.1 input now t ended xs
   pub bs : List ℕ
-  pub done : Done tells k a b left xs bs
+  pub done : Done form tells k a b left xs bs
   pub written : Appends old new bs
 
-pub none_so : (tells : Bool) (k : Key) (input : Option (List ℕ)) (t : Taking) (ended : Bool) (a : Standing) (left : List Asked) (old : Option (List ℕ)) → t ≡ nothing_taken → ended ≡ false → left ≡ [] → So tells k input input t ended a a left old old
-none_so tells k input t ended a left old nothing going none = record {
+pub none_so : (form : Form) (tells : Bool) (k : Key) (input : Option (List ℕ)) (t : Taking) (ended : Bool) (a : Standing) (left : List Asked) (old : Option (List ℕ)) → t ≡ nothing_taken → ended ≡ false → left ≡ [] → So form tells k input input t ended a a left old old
+none_so form tells k input t ended a left old nothing going none = record {
   xs = [];
   heard = none_heard k.0 k.1 input t ended nothing going;
   bs = [];
-  done = subst (λ l. Done tells k a a l [] []) (sym none) (none_done tells k a);
+  done = subst (λ l. Done form tells k a a l [] []) (sym none) (none_done form tells k a);
   written = Appends-nil old;
 }
 
-pub one_so : PartsAreOne → (tells : Bool) (k : Key) (input now later : Option (List ℕ)) (t u : Taking) (ended over : Bool) (a m b : Standing) (before after left : List Asked) (old mid new : Option (List ℕ)) (turn : TimedTurn) → So tells k input now t ended a m before old mid →
-    Hears k.0 k.1 now later t u ended over before after → RoundMade tells k turn m b after left mid new → So tells k input later u over a b left old new
-one_so law tells k input now later t u ended over a m b before after left old mid new turn so hears made = record {
+pub one_so : PartsAreOne → (form : Form) (tells : Bool) (k : Key) (input now later : Option (List ℕ)) (t u : Taking) (ended over : Bool) (a m b : Standing) (before after left : List Asked) (old mid new : Option (List ℕ)) (turn : TimedTurn) → So form tells k input now t ended a m before old mid →
+    Hears k.0 k.1 now later t u ended over before after → RoundMade form tells k turn m b after left mid new → So form tells k input later u over a b left old new
+one_so law form tells k input now later t u ended over a m b before after left old mid new turn so hears made = record {
   xs = so.xs ++ hears.came;
   heard = heard_more law k.0 k.1 input now later t u ended over so.xs before after so.heard hears;
-  bs = so.bs ++ (flat_map (said_line k.0) made.said ++ flat_map (outcome_line k.0) made.outcomes);
-  done = one_done tells k turn a m b before hears.came after left so.xs so.bs mid new so.done hears.waits made;
-  written = Appends-trans old mid new so.bs (flat_map (said_line k.0) made.said ++ flat_map (outcome_line k.0) made.outcomes) so.written made.written;
+  bs = so.bs ++ (flat_map (said_as form k.0) made.said ++ flat_map (outcome_as form k.0) made.outcomes);
+  done = one_done form tells k turn a m b before hears.came after left so.xs so.bs mid new so.done hears.waits made;
+  written = Appends-trans old mid new so.bs (flat_map (said_as form k.0) made.said ++ flat_map (outcome_as form k.0) made.outcomes) so.written made.written;
 }

@@ -16,7 +16,8 @@ use Rattle.stored_runs.specs.Runs.{HasStanding}
 use Rattle.stored_runs.proofs.Outcomes.{first_same}
 use Rattle.stored_runs.proofs.Growing.{looks_begin, within_on, lets_out_on}
 use Rattle.stored_runs.proofs.Begun.{standing_on}
-use Rattle.office_answers.specs.Said.{ready_line}
+use Rattle.office_answers.specs.Said.{ready_as}
+use Rattle.report_forms.specs.declared.forms.Form.{Form}
 use Rattle.office_answers.specs.Answers.{tickets_of}
 use Rattle.serving.specs.declared.fault.ServeFault.{ServeFault}
 use Rattle.serving.specs.declared.fault.ServeFault.TheVariants.{Run, InputFailed}
@@ -55,13 +56,13 @@ end_by failed f g (inl same) h = subst (IsEndBy failed) (sym same) h
 end_by failed f g (inr (inl (none, is))) h = subst (IsEndBy failed) (sym is) (subst (IsEndBy failed) none h)
 end_by failed f g (inr (inr (why, is, untold))) h = subst (IsEndBy failed) (sym is) (untold_fault failed why untold)
 
-pub whole : (tells : Bool) (k : Key) (kept : Keeping) (input stands : Option (List ℕ)) (a b : Account) (e : Served) (f : Option ServeFault) (text : List ℕ) (first : Standing) (last seen : DeskPass) (stood : ℕ) (old mid new : Option (List ℕ)) →
-    (first.pass.tag ≡ 0) × (first.pass.seen ≡ kept.site.entries) × (first.wire ≡ a) × ((v n : ℕ) → first.last v n ≡ None) → WentAfter text tells k input first (take stood last.seen) f old mid → Looks k last seen → stood ≤ length last.seen → HasStanding stands k last.seen stood → LetsOut tells 0 a b last.seen stood →
-    text ≡ ready_line (tickets_of kept.site) → e.unfinished ≡ unfinished (office_of (office_with k seen.seen)).agenda → EndsTelling f e.unfinished mid e.fault new → Serves tells k.0 k.1 kept input stands a b e old new
-whole tells (p, me) kept input stands a b e f text first last seen stood old mid new begins after looked within has out ready count ended =
+pub whole : (Is : Account → Type 0) (form : Form) (tells : Bool) (k : Key) (kept : Keeping) (input stands : Option (List ℕ)) (a b : Account) (e : Served) (f : Option ServeFault) (text : List ℕ) (first : Standing) (last seen : DeskPass) (stood : ℕ) (old mid new : Option (List ℕ)) →
+    (first.pass.tag ≡ 0) × (first.pass.seen ≡ kept.site.entries) × (first.wire ≡ a) × ((v n : ℕ) → first.last v n ≡ None) → WentAfter Is text form tells k input first (take stood last.seen) f old mid → Looks k last seen → stood ≤ length last.seen → HasStanding stands k last.seen stood → LetsOut tells 0 a b last.seen stood →
+    text ≡ ready_as form (tickets_of kept.site) → e.unfinished ≡ unfinished (office_of (office_with k seen.seen)).agenda → EndsTelling form f e.unfinished mid e.fault new → Serves Is form tells k.0 k.1 kept input stands a b e old new
+whole Is form tells (p, me) kept input stands a b e f text first last seen stood old mid new begins after looked within has out ready count ended =
     let grown : IsPrefix last.seen seen.seen = looks_begin (p, me) last seen looked in
     let same : take stood last.seen ≡ take stood seen.seen = first_same stood last.seen seen.seen within grown in
-    let went : Went tells (p, me) input first (take stood seen.seen) f after.mid mid = subst (λ (l : List Entry). Went tells (p, me) input first l f after.mid mid) same after.went in
+    let went : Went Is form tells (p, me) input first (take stood seen.seen) f after.mid mid = subst (λ (l : List Entry). Went Is form tells (p, me) input first l f after.mid mid) same after.went in
     record {
       first = first;
       begins = begins;
@@ -72,14 +73,15 @@ whole tells (p, me) kept input stands a b e f text first last seen stood old mid
       has = standing_on stands (p, me) last.seen seen.seen stood within grown has;
       lets_out = lets_out_on tells 0 a b last.seen seen.seen stood stood (omega arith) grown out;
       goes = went.goes;
+      is = went.is;
       over = λ none. went.over (none_still f e.fault ended.still none);
       unfinished = count;
-      told = unless_end f e.fault (Appends old after.mid text × Appends after.mid mid (told_text p went.goes.made went.goes.cut)) ((line : List ℕ) × IsLastLine e.fault e.unfinished line × Appends mid new line)
-          ((line : List ℕ) × IsLastLine e.fault e.unfinished line × Appends old new (ready_line (tickets_of kept.site) ++ (told_text p went.goes.made went.goes.cut ++ line))) ended.still
+      told = unless_end f e.fault (Appends old after.mid text × Appends after.mid mid (told_text form p went.goes.made went.goes.cut)) ((line : List ℕ) × IsLastLine form e.fault e.unfinished line × Appends mid new line)
+          ((line : List ℕ) × IsLastLine form e.fault e.unfinished line × Appends old new (ready_as form (tickets_of kept.site) ++ (told_text form p went.goes.made went.goes.cut ++ line))) ended.still
           (λ t q. (
             q.0,
             q.1,
-            subst (λ l. Appends old new (l ++ (told_text p went.goes.made went.goes.cut ++ q.0))) ready
-                (Appends-trans old after.mid new text (told_text p went.goes.made went.goes.cut ++ q.0) t.0 (Appends-trans after.mid mid new (told_text p went.goes.made went.goes.cut) q.0 t.1 q.2)),
-          )) (unless_both f (Appends old after.mid text) (Appends after.mid mid (told_text p went.goes.made went.goes.cut)) after.first went.told) ended.told;
+            subst (λ l. Appends old new (l ++ (told_text form p went.goes.made went.goes.cut ++ q.0))) ready
+                (Appends-trans old after.mid new text (told_text form p went.goes.made went.goes.cut ++ q.0) t.0 (Appends-trans after.mid mid new (told_text form p went.goes.made went.goes.cut) q.0 t.1 q.2)),
+          )) (unless_both f (Appends old after.mid text) (Appends after.mid mid (told_text form p went.goes.made went.goes.cut)) after.first went.told) ended.told;
     }

@@ -6,13 +6,14 @@ use Rattle.office_map.specs.PlanValue.{PlanValue}
 use Rattle.session_meaning.specs.declared.ending.Outcome.{Outcome}
 use Rattle.office_journal.specs.declared.event.Entry.{Entry}
 use Rattle.locked_office.specs.Calls.{Key, DeskPass, Does, office_with}
-use Rattle.session_reports.specs.Report.{outcome_line}
+use Rattle.report_forms.specs.Forms.{outcome_as}
+use Rattle.report_forms.specs.declared.forms.Form.{Form}
 use Rattle.office_answers.specs.declared.lack.Lack.{Lack}
 use Rattle.office_stations.specs.declared.pace.TimedTurn.{TimedTurn}
 use Rattle.office_stations.specs.Rounds.{Standing, Turns, with_pass}
 use Rattle.office_stations.specs.Sessions.{finished_of}
 use Rattle.request_streams.specs.declared.asked.Asked.{Asked}
-use Rattle.office_answers.specs.Said.{Said, said_line}
+use Rattle.office_answers.specs.Said.{Said, said_as}
 use Rattle.office_answers.specs.Answers.{Answers, IsFull, Lacks}
 
 -- ---- what is asked
@@ -38,11 +39,11 @@ pub record AnswersSome (tag : ℕ) (k : Key) (p q : DeskPass) (waiting left : Li
   pub full : AnswersNoMore tag k left mid q
 
 -- with the lines that say so
-abbrev pub AnswersFirst : ℕ → Key → DeskPass → DeskPass → List Asked → List Asked → List ℕ → List ℕ → Type 0
-AnswersFirst tag k p q waiting left old new = (said : List Said) × AnswersSome tag k p q waiting left said × (new ≡ old ++ flat_map (said_line k.0) said)
+abbrev pub AnswersFirst : Form → ℕ → Key → DeskPass → DeskPass → List Asked → List Asked → List ℕ → List ℕ → Type 0
+AnswersFirst form tag k p q waiting left old new = (said : List Said) × AnswersSome tag k p q waiting left said × (new ≡ old ++ flat_map (said_as form k.0) said)
 
 -- it answers some, with the lines that say so, and lacks room or memory for the next
-pub record StopsAnswering (tag : ℕ) (k : Key) (p q : DeskPass) (waiting : List Asked) (lack : Lack) (old new : List ℕ) : Type 0 where
+pub record StopsAnswering (form : Form) (tag : ℕ) (k : Key) (p q : DeskPass) (waiting : List Asked) (lack : Lack) (old new : List ℕ) : Type 0 where
   pub asked : List Asked
   pub next : Asked
   pub left : List Asked
@@ -51,7 +52,7 @@ pub record StopsAnswering (tag : ℕ) (k : Key) (p q : DeskPass) (waiting : List
   pub mid : DeskPass
   pub answers : AnswersAll tag k asked said p mid
   pub lacks : Does (λ s s'. Lacks tag s next lack s') k mid q
-  pub lines : new ≡ old ++ flat_map (said_line k.0) said
+  pub lines : new ≡ old ++ flat_map (said_as form k.0) said
 
 -- ---- rounds
 
@@ -79,8 +80,8 @@ Rounds tells tag k [] a b waiting left = (a ≡ b) × (waiting ≡ left)
 Rounds tells tag k (r ∷ rs) a b waiting left = (m : Standing) × (mid : List Asked) × Round tells tag k r.turn r.said r.finished a m (waiting ++ r.came) mid × Rounds tells tag k rs m b mid left
 
 -- what a round says, and then what finished in it
-abbrev pub round_text : PlanValue → Made → List ℕ
-round_text p r = flat_map (said_line p) r.said ++ flat_map (outcome_line p) r.finished
+abbrev pub round_text : Form → PlanValue → Made → List ℕ
+round_text form p r = flat_map (said_as form p) r.said ++ flat_map (outcome_as form p) r.finished
 
 -- What is said in a round that a fault cut off, of what was asked: the first of it was answered so, and what was done for that stands.
 pub record CutOff (tag : ℕ) (k : Key) (p : DeskPass) (waiting : List Asked) (said : List Said) (stands : List Entry) : Type 0 where

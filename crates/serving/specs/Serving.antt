@@ -11,13 +11,14 @@ use Rattle.locked_office.specs.Calls.{Key, DeskPass, office_with}
 use Rattle.socket_pump.specs.Wires.{Account}
 use Rattle.durable_turns.specs.Letting.{LetsOut}
 use Rattle.office_stations.specs.Rounds.{Standing}
-use Rattle.session_reports.specs.Report.{unfinished_line}
+use Rattle.report_forms.specs.Forms.{unfinished_as}
+use Rattle.report_forms.specs.declared.forms.Form.{Form}
 use Rattle.stored_runs.specs.declared.fault.StoredFault.TheVariants as stored
 use Rattle.stored_runs.specs.Keeping.{Keeping}
 use Rattle.stored_runs.specs.Runs.{HasStanding, IsFaultOf}
 use Rattle.request_streams.specs.declared.asked.Asked.{Asked}
 use Rattle.request_streams.specs.Bytes.{nothing_taken, taken, asked_by}
-use Rattle.office_answers.specs.Said.{Said, said_line, ready_line}
+use Rattle.office_answers.specs.Said.{Said, said_as, ready_as}
 use Rattle.office_answers.specs.Answers.{tickets_of}
 use Rattle.serving.specs.declared.fault.ServeFault.{ServeFault}
 use Rattle.serving.specs.declared.fault.ServeFault.TheVariants.{Run, InputFailed}
@@ -41,8 +42,8 @@ Unless (Some (Run (stored.WriteFailed cause))) P = Unit {0}
 Unless (Some (InputFailed cause)) P = P
 
 -- how many haven't finished; or nothing, where a fault is why
-abbrev pub IsLastLine : Option ServeFault → ℕ → List ℕ → Type 0
-IsLastLine fault left last = (last ≡ unfinished_line left) ⊎ ((last ≡ []) × (fault ≢ None))
+abbrev pub IsLastLine : Form → Option ServeFault → ℕ → List ℕ → Type 0
+IsLastLine form fault left last = (last ≡ unfinished_as form left) ⊎ ((last ≡ []) × (fault ≢ None))
 
 -- ---- what was asked
 
@@ -73,8 +74,8 @@ pub record Goes (tells : Bool) (k : Key) (input : Option (List ℕ)) (a : Standi
   pub cut_off : CutOff 0 k last.pass (left ++ rest) cut stands
 
 -- what is said round by round, and in the one that was cut off
-abbrev pub told_text : PlanValue → List Made → List Said → List ℕ
-told_text p made cut = flat_map (round_text p) made ++ flat_map (said_line p) cut
+abbrev pub told_text : Form → PlanValue → List Made → List Said → List ℕ
+told_text form p made cut = flat_map (round_text form p) made ++ flat_map (said_as form p) cut
 
 -- its client's stream has ended, all that was asked is answered, and all its sessions have finished
 pub record IsOver (k : Key) (last : DeskPass) (left rest : List Asked) (cut : List Said) (ended : Bool) : Type 0 where
@@ -83,8 +84,8 @@ pub record IsOver (k : Key) (last : DeskPass) (left rest : List Asked) (cut : Li
   pub whole : cut ≡ []
   pub done : unfinished (office_of (office_with k last.seen)).agenda ≡ 0
 
--- An office went on from its store, and served. It began with the journal that was kept. Its journal at the end is legal; so many of its first entries stand in the store, and each datagram that left is of one of these. What was said, line by line, is how many tickets were given at first; what it answered and what finished, round by round, all of which is of entries that stand; and at last how many sessions haven't finished. It ended by itself only where nothing was left to do.
-pub record Serves (tells : Bool) (p : PlanValue) (me : ℕ) (kept : Keeping) (input : Option (List ℕ)) (stands : Option (List ℕ)) (a b : Account) (e : Served) (old new : Option (List ℕ)) : Type 0 where
+-- An office went on from its store, and served. It began with the journal that was kept. Its journal at the end is legal; so many of its first entries stand in the store, and each datagram that left is of one of these. What was said, line by line, is how many tickets were given at first; what it answered and what finished, round by round, all of which is of entries that stand; and at last how many sessions haven't finished. It ended by itself only where nothing was left to do. What its socket tells after its rounds is as Is says.
+pub record Serves (Is : Account → Type 0) (form : Form) (tells : Bool) (p : PlanValue) (me : ℕ) (kept : Keeping) (input : Option (List ℕ)) (stands : Option (List ℕ)) (a b : Account) (e : Served) (old new : Option (List ℕ)) : Type 0 where
   pub first : Standing
   pub begins : (first.pass.tag ≡ 0) × (first.pass.seen ≡ kept.site.entries) × (first.wire ≡ a) × ((v n : ℕ) → first.last v n ≡ None)
   pub seen : List Entry
@@ -94,6 +95,7 @@ pub record Serves (tells : Bool) (p : PlanValue) (me : ℕ) (kept : Keeping) (in
   pub has : HasStanding stands (p, me) seen stood
   pub lets_out : LetsOut tells 0 a b seen stood
   pub goes : Goes tells (p, me) input first (take stood seen)
+  pub is : Is goes.last.wire
   pub over : e.fault ≡ None → IsOver (p, me) goes.last.pass goes.left goes.rest goes.cut goes.ended
   pub unfinished : e.unfinished ≡ unfinished (office_of (office_with (p, me) seen)).agenda
-  pub told : Unless e.fault ((last : List ℕ) × IsLastLine e.fault e.unfinished last × Appends old new (ready_line (tickets_of kept.site) ++ (told_text p goes.made goes.cut ++ last)))
+  pub told : Unless e.fault ((last : List ℕ) × IsLastLine form e.fault e.unfinished last × Appends old new (ready_as form (tickets_of kept.site) ++ (told_text form p goes.made goes.cut ++ last)))

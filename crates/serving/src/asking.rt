@@ -14,6 +14,7 @@ ghost use Rattle.serving.specs.refinement.Asking.{Asks};
 use locked_office::Desk;
 use office_answers::{Lack, answer};
 use own_lock::{Held, OwnLock, Pass};
+use report_forms::Form;
 use request_streams::Asked;
 use site_core::Office;
 use site_core::laws::steps_add_their_entry;
@@ -29,6 +30,7 @@ use std::sync::Wait;
 pub(crate) fn answer_some<R: Wait>(
     rt: &R,
     alloc: Global,
+    form: Form,
     desk: &Desk,
     pass: &mut Pass<Office>,
     waiting: &mut VecDeque<Asked>,
@@ -39,11 +41,11 @@ pub(crate) fn answer_some<R: Wait>(
     requires of { IsOf desk.now pass.old }
     requires idle { pass.old.holds ≡ false }
     ensures stays { Stays desk.now pass.old pass.new }
-    ensures answers { IfOk result (λ _. AnswersFirst pass.old.tag desk.now.key pass.old pass.new waiting.old.items waiting.new.items (string_bytes text.old) (string_bytes text.new)) }
-    ensures stops { IfErr result (λ lack. StopsAnswering pass.old.tag desk.now.key pass.old pass.new waiting.old.items lack (string_bytes text.old) (string_bytes text.new)) }
+    ensures answers { IfOk result (λ _. AnswersFirst form pass.old.tag desk.now.key pass.old pass.new waiting.old.items waiting.new.items (string_bytes text.old) (string_bytes text.new)) }
+    ensures stops { IfErr result (λ lack. StopsAnswering form pass.old.tag desk.now.key pass.old pass.new waiting.old.items lack (string_bytes text.old) (string_bytes text.new)) }
 {
     while let Some(first) = waiting.front() {
-        match ask_and_say(rt, alloc, desk, pass, first, from, line, text) {
+        match ask_and_say(rt, alloc, form, desk, pass, first, from, line, text) {
             Ok(true) => {}
             Ok(false) => return Ok(()),
             Err(lack) => return Err(lack),
@@ -64,6 +66,7 @@ fn drop_first(waiting: &mut VecDeque<Asked>)
 fn ask_and_say<R: Wait>(
     rt: &R,
     alloc: Global,
+    form: Form,
     desk: &Desk,
     pass: &mut Pass<Office>,
     asked: &Asked,
@@ -74,11 +77,11 @@ fn ask_and_say<R: Wait>(
     requires of { IsOf desk.now pass.old }
     requires idle { pass.old.holds ≡ false }
     ensures stays { Stays desk.now pass.old pass.new }
-    ensures asks { Does (λ s s'. Asks pass.old.tag s asked.now result s' (string_bytes text.old) (string_bytes text.new)) desk.now.key pass.old pass.new }
+    ensures asks { Does (λ s s'. Asks form pass.old.tag s asked.now result s' (string_bytes text.old) (string_bytes text.new)) desk.now.key pass.old pass.new }
     ensures same { OnErr result (string_bytes text.new ≡ string_bytes text.old) }
 {
     line.clear();
-    match ask(rt, alloc, desk, pass, asked, from, line) {
+    match ask(rt, alloc, form, desk, pass, asked, from, line) {
         Ok(true) => {}
         Ok(false) => return Ok(false),
         Err(lack) => return Err(lack),
@@ -94,6 +97,7 @@ fn ask_and_say<R: Wait>(
 fn ask<R: Wait>(
     rt: &R,
     alloc: Global,
+    form: Form,
     desk: &Desk,
     pass: &mut Pass<Office>,
     asked: &Asked,
@@ -103,15 +107,16 @@ fn ask<R: Wait>(
     requires of { IsOf desk.now pass.old }
     requires idle { pass.old.holds ≡ false }
     ensures stays { Stays desk.now pass.old pass.new }
-    ensures asks { Does (λ s s'. Asks pass.old.tag s asked.now result s' (string_bytes line.old) (string_bytes line.new)) desk.now.key pass.old pass.new }
+    ensures asks { Does (λ s s'. Asks form pass.old.tag s asked.now result s' (string_bytes line.old) (string_bytes line.new)) desk.now.key pass.old pass.new }
 {
     let held = desk.lock().take(rt, pass);
-    answer_held(alloc, desk.lock(), pass, held, asked, from, line)
+    answer_held(alloc, form, desk.lock(), pass, held, asked, from, line)
 }
 
 /// Answers it at the office that is held, and gives that back.
 fn answer_held(
     alloc: Global,
+    form: Form,
     lock: &OwnLock<Office>,
     pass: &mut Pass<Office>,
     mut held: Held<Office>,
@@ -121,10 +126,10 @@ fn answer_held(
 ) -> Result<bool, Lack>
     requires { Holds lock.now pass.old held }
     ensures stays { Stays lock.now pass.old pass.new }
-    ensures asks { Did (λ s s'. Asks pass.old.tag s asked.now result s' (string_bytes line.old) (string_bytes line.new)) lock.now.key pass.old pass.new }
+    ensures asks { Did (λ s s'. Asks form pass.old.tag s asked.now result s' (string_bytes line.old) (string_bytes line.new)) lock.now.key pass.old pass.new }
 {
     steps_add_their_entry();
-    let answer = answer(alloc, held.state(), pass.tag(), asked, from, line);
+    let answer = answer(alloc, form, held.state(), pass.tag(), asked, from, line);
     give_back(lock, pass, held);
     answer
 }

@@ -14,7 +14,7 @@ ghost use Rattle.office_stations.specs.refinement.Standings.{standing};
 ghost use Rattle.request_streams.specs.Bytes.{nothing_taken};
 ghost use Rattle.request_streams.specs.refinement.{taking_of};
 ghost use Rattle.stored_runs.specs.Keeping.{HasText};
-ghost use Rattle.stored_runs.specs.Runs.{HasStanding};
+ghost use Rattle.stored_runs.specs.Runs.{HasStanding, IsToldBy};
 ghost use Rattle.serving.specs.Serving.{IsEndBy, Serves};
 ghost use Rattle.serving.specs.refinement.Rounding.{RoundCut, RoundMade, Went, WentAfter};
 
@@ -32,6 +32,7 @@ use office_answers::add_ready;
 use office_map::{OfficeId, Plan};
 use office_stations::{Gate, OpeningFault, Shared, Socket, Station, TimedTurn, Watch};
 use own_lock::Pass;
+use report_forms::Form;
 use request_streams::Asked;
 use request_streams::laws::parts_are_one;
 use site_core::Office;
@@ -63,6 +64,7 @@ pub fn serve<
 >(
     rt: &R,
     alloc: Global,
+    form: Form,
     plan: &Plan,
     me: OfficeId,
     station: &mut Station<S>,
@@ -80,7 +82,7 @@ pub fn serve<
     requires site { (kept.site.plan ≡ plan.now) × (kept.site.me ≡ me) }
     requires usable { T.failed store.old.store ≡ false }
     requires text { IfSome (T.stood store.old.store) (λ text. (length text ≡ kept.bytes) × HasText plan.now me text kept.site.entries) }
-    ensures serves { IfOk result (λ e. Serves S.tells plan.now me kept (I.remaining input) (T.stood store.new.store) (S.account station.old.socket) (S.account station.new.socket) e (O.contents out.old) (O.contents out.new)) }
+    ensures serves { IfOk result (λ e. Serves (IsToldBy S.account) form S.tells plan.now me kept (I.remaining input) (T.stood store.new.store) (S.account station.old.socket) (S.account station.new.socket) e (O.contents out.old) (O.contents out.new)) }
     ensures fault { IfOk result (λ e. IsEndBy (T.failed store.new.store) e.fault) }
     ensures unwritten { OnErr result (O.contents out.new ≡ O.contents out.old) }
 {
@@ -92,12 +94,13 @@ pub fn serve<
         left: office.unfinished(),
     };
     let mut ready = String::new(alloc);
-    add_ready(&mut ready, office.tickets())?;
+    add_ready(&mut ready, form, office.tickets())?;
     let (desk, mut pass) = open_alone(alloc, office)?;
     let mut incoming = Incoming::new(alloc, input);
     let fault = start(
         rt,
         alloc,
+        form,
         plan,
         me,
         station,
@@ -115,7 +118,7 @@ pub fn serve<
     )
     .err();
     let unfinished = count_unfinished(rt, &desk, &mut pass);
-    let fault = end(alloc, fault, unfinished, out);
+    let fault = end(alloc, form, fault, unfinished, out);
     Ok(Served { unfinished, fault })
 }
 
@@ -145,6 +148,7 @@ fn start<
 >(
     rt: &R,
     alloc: Global,
+    form: Form,
     plan: &Plan,
     me: OfficeId,
     station: &mut Station<S>,
@@ -177,7 +181,7 @@ fn start<
     ensures has { HasStanding (T.stood store.new.store) desk.now.key pass.new.seen books.new.stood }
     ensures within { books.new.stood ≤ length pass.new.seen }
     ensures lets_out { LetsOut S.tells pass.old.tag (S.account station.old.socket) (S.account station.new.socket) pass.new.seen books.new.stood }
-    ensures went { WentAfter ready.now S.tells desk.now.key (I.remaining incoming.old.input) (standing pass.old (S.account station.old.socket) (last_of station.old.pump.lasts))
+    ensures went { WentAfter (IsToldBy S.account) ready.now form S.tells desk.now.key (I.remaining incoming.old.input) (standing pass.old (S.account station.old.socket) (last_of station.old.pump.lasts))
         (take books.new.stood pass.new.seen) (result_err result) (O.contents out.old) (O.contents out.new) }
     ensures fault { IsEndBy (T.failed store.new.store) (result_err result) }
 {
@@ -186,8 +190,8 @@ fn start<
         Err(fault) => return Err(ServeFault::Run(fault)),
     }
     go_on(
-        rt, alloc, plan, me, station, desk, pass, store, books, has_bytes, incoming, times, gate,
-        watch, out,
+        rt, alloc, form, plan, me, station, desk, pass, store, books, has_bytes, incoming, times,
+        gate, watch, out,
     )
 }
 
@@ -203,6 +207,7 @@ fn go_on<
 >(
     rt: &R,
     alloc: Global,
+    form: Form,
     plan: &Plan,
     me: OfficeId,
     station: &mut Station<S>,
@@ -234,7 +239,7 @@ fn go_on<
     ensures has { HasStanding (T.stood store.new.store) desk.now.key pass.new.seen books.new.stood }
     ensures within { books.new.stood ≤ length pass.new.seen }
     ensures lets_out { LetsOut S.tells pass.old.tag (S.account station.old.socket) (S.account station.new.socket) pass.new.seen books.new.stood }
-    ensures went { Went S.tells desk.now.key (I.remaining incoming.old.input) (standing pass.old (S.account station.old.socket) (last_of station.old.pump.lasts))
+    ensures went { Went (IsToldBy S.account) form S.tells desk.now.key (I.remaining incoming.old.input) (standing pass.old (S.account station.old.socket) (last_of station.old.pump.lasts))
         (take books.new.stood pass.new.seen) (result_err result) (O.contents out.old) (O.contents out.new) }
     ensures fault { IsEndBy (T.failed store.new.store) (result_err result) }
 {
@@ -245,7 +250,8 @@ fn go_on<
         }
     }
     rounds(
-        rt, alloc, plan, me, station, desk, pass, store, books, incoming, times, gate, watch, out,
+        rt, alloc, form, plan, me, station, desk, pass, store, books, incoming, times, gate, watch,
+        out,
     )
 }
 
@@ -261,6 +267,7 @@ fn rounds<
 >(
     rt: &R,
     alloc: Global,
+    form: Form,
     plan: &Plan,
     me: OfficeId,
     station: &mut Station<S>,
@@ -290,7 +297,7 @@ fn rounds<
     ensures has { StoreHas (T.stood store.new.store) desk.now.key pass.new.seen books.new.stood }
     ensures within { books.new.stood ≤ length pass.new.seen }
     ensures lets_out { LetsOut S.tells pass.old.tag (S.account station.old.socket) (S.account station.new.socket) pass.new.seen books.new.stood }
-    ensures went { Went S.tells desk.now.key (I.remaining incoming.old.input) (standing pass.old (S.account station.old.socket) (last_of station.old.pump.lasts))
+    ensures went { Went (IsToldBy S.account) form S.tells desk.now.key (I.remaining incoming.old.input) (standing pass.old (S.account station.old.socket) (last_of station.old.pump.lasts))
         (take books.new.stood pass.new.seen) (result_err result) (O.contents out.old) (O.contents out.new) }
     ensures fault { IsEndBy (T.failed store.new.store) (result_err result) }
 {
@@ -314,6 +321,7 @@ fn rounds<
         let turn = match round(
             rt,
             alloc,
+            form,
             plan,
             me,
             station,
@@ -374,6 +382,7 @@ fn is_over(no_more: bool, waiting: &VecDeque<Asked>, left: usize, course: &Cours
 fn round<R: Wait + Clock, S: Socket, G: Gate, W: Watch, T: Store, O: Write>(
     rt: &R,
     alloc: Global,
+    form: Form,
     plan: &Plan,
     me: OfficeId,
     station: &mut Station<S>,
@@ -412,13 +421,13 @@ fn round<R: Wait + Clock, S: Socket, G: Gate, W: Watch, T: Store, O: Write>(
     ensures told { OnOk result (books.new.told ≡ length (finished_of (office_with desk.now.key pass.new.seen))) }
     ensures left { OnOk result (books.new.left ≡ unfinished (office_of (office_with desk.now.key pass.new.seen)).agenda) }
     ensures usable { OnOk result (T.failed store.new ≡ false) }
-    ensures made { IfOk result (λ t. RoundMade S.tells desk.now.key t (standing pass.old (S.account station.old.socket) (last_of station.old.pump.lasts))
+    ensures made { IfOk result (λ t. RoundMade form S.tells desk.now.key t (standing pass.old (S.account station.old.socket) (last_of station.old.pump.lasts))
         (standing pass.new (S.account station.new.socket) (last_of station.new.pump.lasts)) waiting.old.items waiting.new.items (O.contents out.old) (O.contents out.new)) }
     ensures fault { IfErr result (λ f. IsEndBy (T.failed store.new) (Some f)) }
-    ensures cut { IfErr result (λ f. RoundCut f desk.now.key pass.old waiting.old.items (take books.new.stood pass.new.seen) (O.contents out.old) (O.contents out.new)) }
+    ensures cut { IfErr result (λ f. RoundCut form f desk.now.key pass.old waiting.old.items (take books.new.stood pass.new.seen) (O.contents out.old) (O.contents out.new)) }
 {
     said.clear();
-    match answer_some(rt, alloc, desk, pass, waiting, from, line, said) {
+    match answer_some(rt, alloc, form, desk, pass, waiting, from, line, said) {
         Ok(()) => {}
         Err(lack) => {
             let before = said.as_str();
@@ -431,8 +440,8 @@ fn round<R: Wait + Clock, S: Socket, G: Gate, W: Watch, T: Store, O: Write>(
     hurry_for(station, lines);
     gate.before(me);
     turn_and_tell(
-        rt, alloc, plan, me, station, mail, desk, pass, store, books, lines, text, watch, shared,
-        out,
+        rt, alloc, form, plan, me, station, mail, desk, pass, store, books, lines, text, watch,
+        shared, out,
     )
 }
 

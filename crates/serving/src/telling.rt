@@ -8,7 +8,7 @@ ghost use Rattle.own_lock.specs.Passes.{IsOf};
 ghost use Rattle.session_agenda.specs.Agenda.{unfinished};
 ghost use Rattle.site_core.specs.Journals.{office_of, IsLegal};
 ghost use Rattle.locked_office.specs.Calls.{Stays, Looks, office_with};
-ghost use Rattle.session_reports.specs.Report.{outcome_line};
+ghost use Rattle.report_forms.specs.Forms.{outcome_as};
 ghost use Rattle.socket_pump.specs.Last.{last_of};
 ghost use Rattle.durable_turns.specs.Letting.{StoreHas, LetsOut};
 ghost use Rattle.office_stations.specs.Rounds.{Turns};
@@ -26,6 +26,7 @@ use office_answers::Lack;
 use office_map::{OfficeId, Plan};
 use office_stations::{RunFault, Shared, Socket, Station, TimedTurn, Watch};
 use own_lock::Pass;
+use report_forms::Form;
 use site_core::Office;
 use std::alloc::Global;
 use std::io::Write;
@@ -40,6 +41,7 @@ use stored_runs::turning::turn_once;
 pub(crate) fn turn_and_tell<R: Wait + Clock, S: Socket, W: Watch, T: Store, O: Write>(
     rt: &R,
     alloc: Global,
+    form: Form,
     plan: &Plan,
     me: OfficeId,
     station: &mut Station<S>,
@@ -75,7 +77,7 @@ pub(crate) fn turn_and_tell<R: Wait + Clock, S: Socket, W: Watch, T: Store, O: W
     ensures usable { OnOk result (T.failed store.new ≡ false) }
     ensures turns { IfOk result (λ t. Turns S.tells pass.old.tag desk.now.key t
         (standing pass.old (S.account station.old.socket) (last_of station.old.pump.lasts)) (standing pass.new (S.account station.new.socket) (last_of station.new.pump.lasts))) }
-    ensures lines { OnOk result (Appends (O.contents out.old) (O.contents out.new) (said.now ++ flat_map (outcome_line plan.now) (drop books.old.told (finished_of (office_with desk.now.key pass.new.seen))))) }
+    ensures lines { OnOk result (Appends (O.contents out.old) (O.contents out.new) (said.now ++ flat_map (outcome_as form plan.now) (drop books.old.told (finished_of (office_with desk.now.key pass.new.seen))))) }
     ensures fault { IfErr result (λ f. IsEndBy (T.failed store.new) (Some f)) }
     ensures untold { IfErr result (λ f. Unless (Some f) (SaidOrNot (O.contents out.old) (O.contents out.new) said.now (length pass.old.seen) books.new.stood)) }
 {
@@ -97,7 +99,7 @@ pub(crate) fn turn_and_tell<R: Wait + Clock, S: Socket, W: Watch, T: Store, O: W
         Ok(()) => {}
         Err(fault) => return Err(ServeFault::Run(fault)),
     }
-    match stand_and_tell(rt, alloc, desk, pass, plan, store, books, text, out) {
+    match stand_and_tell(rt, alloc, desk, pass, form, plan, store, books, text, out) {
         Ok(()) => {}
         Err(fault) => return Err(ServeFault::Run(fault)),
     }
@@ -181,16 +183,17 @@ fn stand<R: Wait, T: Store>(
 /// one where this couldn't be told.
 pub(crate) fn end<O: Write>(
     alloc: Global,
+    form: Form,
     fault: Option<ServeFault>,
     left: usize,
     out: &mut O,
 ) -> Option<ServeFault>
-    ensures { EndsTelling fault left (O.contents out.old) result (O.contents out.new) }
+    ensures { EndsTelling form fault left (O.contents out.old) result (O.contents out.new) }
 {
     if let Some(ServeFault::Run(StoredFault::WriteFailed(_))) = fault {
         return fault;
     }
-    match tell_left(alloc, left, out) {
+    match tell_left(alloc, form, left, out) {
         Ok(()) => fault,
         Err(StoredFault::WriteFailed(cause)) => {
             Some(ServeFault::Run(StoredFault::WriteFailed(cause)))

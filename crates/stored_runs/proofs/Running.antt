@@ -11,7 +11,9 @@ use Rattle.office_journal.specs.declared.event.Entry.{Entry}
 use Rattle.site_core.specs.Journals.{Site, IsLegal}
 use Rattle.own_lock.specs.Passes.{pass_after_take}
 use Rattle.locked_office.specs.Calls.{Key, DeskPass, Looks, office_with, pass_after_adding}
-use Rattle.session_reports.specs.Report.{outcome_line}
+use Rattle.report_forms.specs.Forms.{outcome_as}
+use Rattle.report_forms.specs.declared.forms.Form.{Form}
+use Rattle.socket_pump.specs.Wires.{Account}
 use Rattle.office_stations.specs.declared.pace.TimedTurn.{TimedTurn}
 use Rattle.office_stations.specs.Rounds.{Standing, Turns}
 use Rattle.office_stations.specs.Sessions.{finished_of}
@@ -70,17 +72,17 @@ turned_and_looked tells tag k t a b q h looks = record { after = h.after; turned
 -- ---- what was done and told
 
 -- after these rounds one was cut short
-pub cut_short : (tells : Bool) (k : Key) (turns n : ℕ) (a m b : Standing) (ss left : List ProgramValue) (f : StoredFault) → Made tells 0 k turns n a m ss left → CutShort tells k m b left f → Goes (Some f) tells k turns a b ss
-cut_short tells k turns n a m b ss left f h cut = (h.made, m, h.begun, left, h.rounds, f, cut, inl refl)
+pub cut_short : (Is : Account → Type 0) (tells : Bool) (k : Key) (turns n : ℕ) (a m b : Standing) (ss left : List ProgramValue) (f : StoredFault) → Made tells 0 k turns n a m ss left → Is m.wire → CutShort tells k m b left f → Goes Is (Some f) tells k turns a b ss
+cut_short Is tells k turns n a m b ss left f h is cut = (h.made, m, h.begun, left, h.rounds, is, f, cut, inl refl)
 
 pub grown_stood : (es fs : List Entry) (n m : ℕ) → n ≡ length es → IsPrefix es fs → (m ≡ n) ⊎ (m ≡ length fs) → n ≤ m
 grown_stood es fs n m all p (inl same) = omega (arith, same)
 grown_stood es fs n m all p (inr now) = omega (arith, now, all, ap length p.1, length-append es p.0)
 
 -- what had finished when all stood was told
-pub told_at : (p : PlanValue) (k : Key) (old seen es : List Entry) (n m before after : ℕ) (a b : Option (List ℕ)) → IsPrefix old seen → IsPrefix seen es → n ≡ length seen → n ≤ m → after ≡ length (finished_of (office_with k seen)) →
-    Appends a b (flat_map (outcome_line p) (drop before (finished_of (office_with k seen)))) → Told p k es (length old) m before after a b
-told_at p k old seen es n m before after a b begun grown all le count lines =
+pub told_at : (form : Form) (p : PlanValue) (k : Key) (old seen es : List Entry) (n m before after : ℕ) (a b : Option (List ℕ)) → IsPrefix old seen → IsPrefix seen es → n ≡ length seen → n ≤ m → after ≡ length (finished_of (office_with k seen)) →
+    Appends a b (flat_map (outcome_as form p) (drop before (finished_of (office_with k seen)))) → Told form p k es (length old) m before after a b
+told_at form p k old seen es n m before after a b begun grown all le count lines =
     let here : take n es ≡ seen = sym (first_same n seen es (omega (arith, all)) grown) ∙ take_all n seen (omega (arith, all)) in
     let same : finished_by k es n ≡ finished_of (office_with k seen) = ap (λ l. finished_of (office_with k l)) here in
     record {
@@ -88,7 +90,7 @@ told_at p k old seen es n m before after a b begun grown all le count lines =
       from = omega (arith, all, ap length begun.1, length-append old begun.0);
       stand = le;
       count = count ∙ ap length (sym same);
-      lines = subst (λ (l : List Outcome). Appends a b (flat_map (outcome_line p) (drop before l))) (sym same) lines;
+      lines = subst (λ (l : List Outcome). Appends a b (flat_map (outcome_as form p) (drop before l))) (sym same) lines;
     }
 
 pub unless : (f : Option StoredFault) (P : Type 0) → P → Unless f P

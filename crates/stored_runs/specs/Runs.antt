@@ -1,7 +1,6 @@
 -- What is told of an office that keeps its journal in a store, and what stands there.
-use Rattle.std.specs.Prelude.{◌≡◌, ◌≢◌, ◌⊎◌, ◌≤◌, ◌-◌, ℕ, Bool, true, false, List, [], ◌∷◌, ◌++◌, codes, length, take, drop, Option, None, Some}
+use Rattle.std.specs.Prelude.{◌≡◌, ◌≢◌, ◌⊎◌, ◌≤◌, ◌-◌, ℕ, Bool, true, false, List, [], ◌++◌, codes, length, take, drop, Option, None, Some}
 use Rattle.std.specs.List.{flat_map}
-use Rattle.std.specs.Fmt.{decimal}
 use Rattle.std.specs.Io.KnownBytes.{Appends}
 use Rattle.std.specs.String.{string_bytes}
 use Rattle.office_map.specs.PlanValue.{PlanValue}
@@ -9,7 +8,8 @@ use Rattle.session_meaning.specs.ProgramValue.{ProgramValue}
 use Rattle.session_meaning.specs.declared.ending.Outcome.{Outcome}
 use Rattle.office_journal.specs.declared.event.Entry.{Entry}
 use Rattle.locked_office.specs.Calls.{Key, DeskPass, Looks, office_with}
-use Rattle.session_reports.specs.Report.{outcome_line, unfinished_line}
+use Rattle.report_forms.specs.Forms.{count_as, outcome_as, unfinished_as}
+use Rattle.report_forms.specs.declared.forms.Form.{Form}
 use Rattle.socket_pump.specs.Wires.{Account}
 use Rattle.durable_turns.specs.declared.fault.TurnFault.{TurnFault}
 use Rattle.durable_turns.specs.declared.fault.TurnFault.TheVariants as turn
@@ -55,26 +55,26 @@ abbrev pub finished_by : Key → List Entry → ℕ → List Outcome
 finished_by k entries n = finished_of (office_with k (take n entries))
 
 -- how many sessions had finished before: before N
-abbrev pub before_line : ℕ → List ℕ
-before_line n = codes "before " ++ (decimal n ++ 10 ∷ [])
+abbrev pub before_as : Form → ℕ → List ℕ
+before_as form n = count_as form (codes "before") n
 
 -- how many sessions had finished at a start, and then the lines of these
-abbrev pub told_text : PlanValue → ℕ → List Outcome → List ℕ
-told_text p before outcomes = before_line before ++ flat_map (outcome_line p) outcomes
+abbrev pub told_text : Form → PlanValue → ℕ → List Outcome → List ℕ
+told_text form p before outcomes = before_as form before ++ flat_map (outcome_as form p) outcomes
 
 -- how many are left; or nothing, where a fault is why
-abbrev pub IsLastLine : Option StoredFault → ℕ → List ℕ → Type 0
-IsLastLine fault left last = (last ≡ unfinished_line left) ⊎ ((last ≡ []) × (fault ≢ None))
+abbrev pub IsLastLine : Form → Option StoredFault → ℕ → List ℕ → Type 0
+IsLastLine form fault left last = (last ≡ unfinished_as form left) ⊎ ((last ≡ []) × (fault ≢ None))
 
 -- Of the sessions that have finished by the entries that stand, the first are told; at the end all are, or a fault is why not. And how many of the office's are then not told as finished.
-pub record IsTold (p : PlanValue) (me : ℕ) (programs : List ProgramValue) (before : ℕ) (standing : List Outcome) (e : Ended) (old new : Option (List ℕ)) : Type 0 where
+pub record IsTold (form : Form) (p : PlanValue) (me : ℕ) (programs : List ProgramValue) (before : ℕ) (standing : List Outcome) (e : Ended) (old new : Option (List ℕ)) : Type 0 where
   pub told : ℕ
   pub within : told ≤ length standing
   pub all : e.fault ≡ None → told ≡ length standing
   pub left : e.unfinished ≡ count_of programs me - told
   pub last : List ℕ
-  pub ends : IsLastLine e.fault e.unfinished last
-  pub written : Appends old new (told_text p before (take told standing) ++ last)
+  pub ends : IsLastLine form e.fault e.unfinished last
+  pub written : Appends old new (told_text form p before (take told standing) ++ last)
 
 -- so it is, unless writing failed: then nobody knows what is told
 abbrev pub Unless : Option StoredFault → Type 0 → Type 0
@@ -114,22 +114,26 @@ pub data CutShort (tells : Bool) (k : Key) (a b : Standing) (sessions : List Pro
 abbrev pub IsToldAs : StoredFault → StoredFault → Type 0
 IsToldAs first fault = (fault ≡ first) ⊎ ((cause : StoredFault) × (fault ≡ cause) × IsUntold cause)
 
--- rounds until so many count; where there is a fault, fewer, and then what it cut short
-abbrev pub Goes : Option StoredFault → Bool → Key → ℕ → Standing → Standing → List ProgramValue → Type 0
-Goes None tells k turns a b sessions = (made : List TimedTurn) × (counted turns made ≡ turns) × IsLastBegun turns made × (left : List ProgramValue) × Rounds tells 0 k made a b sessions left
-Goes (Some fault) tells k turns a b sessions = (made : List TimedTurn) × (at : Standing) × IsLastBegun turns made × (left : List ProgramValue) × Rounds tells 0 k made a at sessions left × (first : StoredFault) × CutShort tells k at b left first × IsToldAs first fault
+-- one of the sockets of which each tells so tells this
+abbrev pub IsToldBy : {S : Type 0} → (S → Account) → Account → Type 0
+IsToldBy {S = S} account a = (s : S) × (account s ≡ a)
+
+-- rounds until so many count; where there is a fault, fewer, and then what it cut short; and what the socket tells after them is as Is says
+abbrev pub Goes : (Account → Type 0) → Option StoredFault → Bool → Key → ℕ → Standing → Standing → List ProgramValue → Type 0
+Goes Is None tells k turns a b sessions = (made : List TimedTurn) × (counted turns made ≡ turns) × IsLastBegun turns made × (left : List ProgramValue) × Rounds tells 0 k made a b sessions left × Is b.wire
+Goes Is (Some fault) tells k turns a b sessions = (made : List TimedTurn) × (at : Standing) × IsLastBegun turns made × (left : List ProgramValue) × Rounds tells 0 k made a at sessions left × Is at.wire × (first : StoredFault) × CutShort tells k at b left first × IsToldAs first fault
 
 -- nothing is said for people where all sessions are told as finished and no fault ended the run
 abbrev pub IsQuiet : Ended → Type 0
 IsQuiet e = e.unfinished ≡ 0 → e.fault ≡ None → string_bytes e.remarks ≡ []
 
 -- An office went on from its store, with these bytes standing there at the end, and its socket first and last so. It began with the journal that was kept, and did rounds with the sessions that were left. Its journal at the end is legal; so many of its first entries stand in the store; each datagram that left is of one of those; and what is told are sessions that have finished by them.
-pub record GoesOn (tells : Bool) (p : PlanValue) (me : ℕ) (programs : List ProgramValue) (turns : ℕ) (kept : Keeping) (stands : Option (List ℕ)) (a b : Account) (e : Ended) (old new : Option (List ℕ)) : Type 0 where
+pub record GoesOn (Is : Account → Type 0) (form : Form) (tells : Bool) (p : PlanValue) (me : ℕ) (programs : List ProgramValue) (turns : ℕ) (kept : Keeping) (stands : Option (List ℕ)) (a b : Account) (e : Ended) (old new : Option (List ℕ)) : Type 0 where
   pub first : Standing
   pub begins : (first.pass.tag ≡ 0) × (first.pass.seen ≡ kept.site.entries) × (first.wire ≡ a) × ((v n : ℕ) → first.last v n ≡ None)
   pub last : Standing
   pub ends : last.wire ≡ b
-  pub goes : Goes e.fault tells (p, me) turns first last (of_office me (drop kept.next programs))
+  pub goes : Goes Is e.fault tells (p, me) turns first last (of_office me (drop kept.next programs))
   pub seen : DeskPass
   pub looked : Looks (p, me) last.pass seen
   pub stood : ℕ
@@ -137,4 +141,4 @@ pub record GoesOn (tells : Bool) (p : PlanValue) (me : ℕ) (programs : List Pro
   pub all : e.fault ≡ None → stood ≡ length last.pass.seen
   pub has : HasStanding stands (p, me) seen.seen stood
   pub lets_out : LetsOut tells 0 a b seen.seen stood
-  pub told : Unless e.fault (IsTold p me programs (length (finished_of kept.site)) (finished_by (p, me) seen.seen stood) e old new)
+  pub told : Unless e.fault (IsTold form p me programs (length (finished_of kept.site)) (finished_by (p, me) seen.seen stood) e old new)

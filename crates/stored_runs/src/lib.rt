@@ -4,7 +4,7 @@
 //!   (`specs/Keeping.antt`): those that it submitted begin its own of the list. Where the store hasn't its journal, it names the line.
 //! - [`run_stored`] turns it at a station (clause `goes_on`, definitions in `specs/Runs.antt`): whatever ends the run, the store has
 //!   the text of the journal's first entries, each datagram that left is of one of them, and what is told as finished finished by
-//!   them. It is told as soon as it stands.
+//!   them. It is told as soon as it stands, in the form that is asked for.
 //! - What `run_stored` is made of is public, for other runs with a store: [`found_in`], [`beginning`], [`turning`], [`telling`] and its
 //!   [`books`].
 //!

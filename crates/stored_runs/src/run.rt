@@ -12,7 +12,7 @@ ghost use Rattle.office_stations.specs.Rounds.{of_office};
 ghost use Rattle.office_stations.specs.Sessions.{finished_of};
 ghost use Rattle.office_stations.specs.refinement.Standings.{standing};
 ghost use Rattle.stored_runs.specs.Keeping.{HasText};
-ghost use Rattle.stored_runs.specs.Runs.{finished_by, Goes, GoesOn, HasStanding, IsFaultOf, IsQuiet, Unless};
+ghost use Rattle.stored_runs.specs.Runs.{finished_by, Goes, GoesOn, HasStanding, IsFaultOf, IsQuiet, IsToldBy, Unless};
 ghost use Rattle.stored_runs.specs.refinement.Running.{EndsTelling, TellsAfter, Told};
 
 use crate::beginning::{begin, open_alone};
@@ -28,6 +28,7 @@ use locked_office::Desk;
 use office_map::{OfficeId, Plan};
 use office_stations::{Gate, OpeningFault, Shared, Socket, Station, Watch, count_of, submit_some};
 use own_lock::Pass;
+use report_forms::Form;
 use run_remarks::{Remarks, Way};
 use session_programs::Program;
 use site_core::Office;
@@ -45,6 +46,7 @@ use std::sync::Wait;
 pub fn run_stored<R: Wait + Clock, S: Socket, G: Gate, W: Watch, T: Store, O: Write>(
     rt: &R,
     alloc: Global,
+    form: Form,
     plan: &Plan,
     me: OfficeId,
     programs: &[Program],
@@ -63,7 +65,7 @@ pub fn run_stored<R: Wait + Clock, S: Socket, G: Gate, W: Watch, T: Store, O: Wr
     requires next { kept.next ≤ length programs.now }
     requires usable { T.failed store.old ≡ false }
     requires text { IfSome (T.stood store.old) (λ text. (length text ≡ kept.bytes) × HasText plan.now me text kept.site.entries) }
-    ensures goes_on { IfOk result (λ e. GoesOn S.tells plan.now me programs.now turns kept (T.stood store.new) (S.account station.old.socket) (S.account station.new.socket) e (O.contents out.old) (O.contents out.new)) }
+    ensures goes_on { IfOk result (λ e. GoesOn (IsToldBy S.account) form S.tells plan.now me programs.now turns kept (T.stood store.new) (S.account station.old.socket) (S.account station.new.socket) e (O.contents out.old) (O.contents out.new)) }
     ensures fault { IfOk result (λ e. IsFaultOf (T.failed store.new) e.fault) }
     ensures quiet { IfOk result IsQuiet }
     ensures unwritten { OnErr result (O.contents out.new ≡ O.contents out.old) }
@@ -78,17 +80,17 @@ pub fn run_stored<R: Wait + Clock, S: Socket, G: Gate, W: Watch, T: Store, O: Wr
         told: office.outcomes().len(),
         left: office.unfinished(),
     };
-    let before = before_text(alloc, plan, office.outcomes())?;
+    let before = before_text(alloc, form, plan, office.outcomes())?;
     let (desk, mut pass) = open_alone(alloc, office)?;
     let sessions = count_of(programs, me);
     let shared = Shared::new(sessions as u64);
     let fault = start(
-        rt, alloc, station, &desk, &mut pass, store, &mut books, plan, me, programs, next, turns,
-        bytes, &before, gate, watch, &shared, out,
+        rt, alloc, station, &desk, &mut pass, store, &mut books, form, plan, me, programs, next,
+        turns, bytes, &before, gate, watch, &shared, out,
     )
     .err();
     let left = sessions.saturating_sub(books.told);
-    let fault = tell_end(alloc, fault, left, out);
+    let fault = tell_end(alloc, form, fault, left, out);
     let ways = station.ways(alloc);
     let remarks = remarks(
         rt,
@@ -116,6 +118,7 @@ fn start<R: Wait + Clock, S: Socket, G: Gate, W: Watch, T: Store, O: Write>(
     pass: &mut Pass<Office>,
     store: &mut T,
     books: &mut Books,
+    form: Form,
     plan: &Plan,
     me: OfficeId,
     programs: &[Program],
@@ -140,14 +143,14 @@ fn start<R: Wait + Clock, S: Socket, G: Gate, W: Watch, T: Store, O: Write>(
     requires told { books.old.told ≡ length (finished_of (office_with desk.now.key pass.old.seen)) }
     ensures stays { Stays desk.now pass.old pass.new }
     ensures grows { IsPrefix pass.old.seen pass.new.seen }
-    ensures goes { Goes (result_err result) S.tells desk.now.key turns (standing pass.old (S.account station.old.socket) (last_of station.old.pump.lasts))
+    ensures goes { Goes (IsToldBy S.account) (result_err result) S.tells desk.now.key turns (standing pass.old (S.account station.old.socket) (last_of station.old.pump.lasts))
         (standing pass.new (S.account station.new.socket) (last_of station.new.pump.lasts)) (of_office me (drop from programs.now)) }
     ensures has { HasStanding (T.stood store.new) desk.now.key pass.new.seen books.new.stood }
     ensures within { books.new.stood ≤ length pass.new.seen }
     ensures all { OnOk result (books.new.stood ≡ length pass.new.seen) }
     ensures lets_out { LetsOut S.tells pass.old.tag (S.account station.old.socket) (S.account station.new.socket) pass.new.seen books.new.stood }
     ensures all_told { OnOk result (books.new.told ≡ length (finished_by desk.now.key pass.new.seen books.new.stood)) }
-    ensures told { Unless (result_err result) (TellsAfter before.now plan.now desk.now.key pass.new.seen (length pass.old.seen) books.new.stood books.old.told books.new.told (O.contents out.old) (O.contents out.new)) }
+    ensures told { Unless (result_err result) (TellsAfter before.now form plan.now desk.now.key pass.new.seen (length pass.old.seen) books.new.stood books.old.told books.new.told (O.contents out.old) (O.contents out.new)) }
     ensures fault { IsFaultOf (T.failed store.new) (result_err result) }
 {
     match write_whole(out, before) {
@@ -155,8 +158,8 @@ fn start<R: Wait + Clock, S: Socket, G: Gate, W: Watch, T: Store, O: Write>(
         Err(fault) => return Err(fault),
     }
     go_on(
-        rt, alloc, station, desk, pass, store, books, plan, me, programs, from, turns, has_bytes,
-        gate, watch, shared, out,
+        rt, alloc, station, desk, pass, store, books, form, plan, me, programs, from, turns,
+        has_bytes, gate, watch, shared, out,
     )
 }
 
@@ -169,6 +172,7 @@ fn go_on<R: Wait + Clock, S: Socket, G: Gate, W: Watch, T: Store, O: Write>(
     pass: &mut Pass<Office>,
     store: &mut T,
     books: &mut Books,
+    form: Form,
     plan: &Plan,
     me: OfficeId,
     programs: &[Program],
@@ -192,14 +196,14 @@ fn go_on<R: Wait + Clock, S: Socket, G: Gate, W: Watch, T: Store, O: Write>(
     requires told { books.old.told ≡ length (finished_of (office_with desk.now.key pass.old.seen)) }
     ensures stays { Stays desk.now pass.old pass.new }
     ensures grows { IsPrefix pass.old.seen pass.new.seen }
-    ensures goes { Goes (result_err result) S.tells desk.now.key turns (standing pass.old (S.account station.old.socket) (last_of station.old.pump.lasts))
+    ensures goes { Goes (IsToldBy S.account) (result_err result) S.tells desk.now.key turns (standing pass.old (S.account station.old.socket) (last_of station.old.pump.lasts))
         (standing pass.new (S.account station.new.socket) (last_of station.new.pump.lasts)) (of_office me (drop from programs.now)) }
     ensures has { HasStanding (T.stood store.new) desk.now.key pass.new.seen books.new.stood }
     ensures within { books.new.stood ≤ length pass.new.seen }
     ensures all { OnOk result (books.new.stood ≡ length pass.new.seen) }
     ensures lets_out { LetsOut S.tells pass.old.tag (S.account station.old.socket) (S.account station.new.socket) pass.new.seen books.new.stood }
     ensures all_told { OnOk result (books.new.told ≡ length (finished_by desk.now.key pass.new.seen books.new.stood)) }
-    ensures told { Unless (result_err result) (Told plan.now desk.now.key pass.new.seen (length pass.old.seen) books.new.stood books.old.told books.new.told (O.contents out.old) (O.contents out.new)) }
+    ensures told { Unless (result_err result) (Told form plan.now desk.now.key pass.new.seen (length pass.old.seen) books.new.stood books.old.told books.new.told (O.contents out.old) (O.contents out.new)) }
     ensures fault { IsFaultOf (T.failed store.new) (result_err result) }
 {
     if has_bytes == 0 {
@@ -209,8 +213,8 @@ fn go_on<R: Wait + Clock, S: Socket, G: Gate, W: Watch, T: Store, O: Write>(
         }
     }
     take_turns(
-        rt, alloc, station, desk, pass, store, books, plan, me, programs, from, turns, gate, watch,
-        shared, out,
+        rt, alloc, station, desk, pass, store, books, form, plan, me, programs, from, turns, gate,
+        watch, shared, out,
     )
 }
 
@@ -223,6 +227,7 @@ fn take_turns<R: Wait + Clock, S: Socket, G: Gate, W: Watch, T: Store, O: Write>
     pass: &mut Pass<Office>,
     store: &mut T,
     books: &mut Books,
+    form: Form,
     plan: &Plan,
     me: OfficeId,
     programs: &[Program],
@@ -243,14 +248,14 @@ fn take_turns<R: Wait + Clock, S: Socket, G: Gate, W: Watch, T: Store, O: Write>
     requires told { books.old.told ≡ length (finished_of (office_with desk.now.key pass.old.seen)) }
     ensures stays { Stays desk.now pass.old pass.new }
     ensures grows { IsPrefix pass.old.seen pass.new.seen }
-    ensures goes { Goes (result_err result) S.tells desk.now.key turns (standing pass.old (S.account station.old.socket) (last_of station.old.pump.lasts))
+    ensures goes { Goes (IsToldBy S.account) (result_err result) S.tells desk.now.key turns (standing pass.old (S.account station.old.socket) (last_of station.old.pump.lasts))
         (standing pass.new (S.account station.new.socket) (last_of station.new.pump.lasts)) (of_office me (drop from programs.now)) }
     ensures has { StoreHas (T.stood store.new) desk.now.key pass.new.seen books.new.stood }
     ensures within { books.new.stood ≤ length pass.new.seen }
     ensures all { OnOk result (books.new.stood ≡ length pass.new.seen) }
     ensures lets_out { LetsOut S.tells pass.old.tag (S.account station.old.socket) (S.account station.new.socket) pass.new.seen books.new.stood }
     ensures all_told { OnOk result (books.new.told ≡ length (finished_by desk.now.key pass.new.seen books.new.stood)) }
-    ensures told { Unless (result_err result) (Told plan.now desk.now.key pass.new.seen (length pass.old.seen) books.new.stood books.old.told books.new.told (O.contents out.old) (O.contents out.new)) }
+    ensures told { Unless (result_err result) (Told form plan.now desk.now.key pass.new.seen (length pass.old.seen) books.new.stood books.old.told books.new.told (O.contents out.old) (O.contents out.new)) }
     ensures fault { IsFaultOf (T.failed store.new) (result_err result) }
 {
     let mut mail = Mail::new(alloc);
@@ -280,7 +285,9 @@ fn take_turns<R: Wait + Clock, S: Socket, G: Gate, W: Watch, T: Store, O: Write>
             Ok(turn) => turn,
             Err(fault) => return Err(fault),
         };
-        match stand_and_tell(rt, alloc, desk, pass, plan, store, books, &mut text, out) {
+        match stand_and_tell(
+            rt, alloc, desk, pass, form, plan, store, books, &mut text, out,
+        ) {
             Ok(()) => {}
             Err(fault) => return Err(fault),
         }
@@ -295,16 +302,17 @@ fn take_turns<R: Wait + Clock, S: Socket, G: Gate, W: Watch, T: Store, O: Write>
 /// this couldn't be told.
 fn tell_end<O: Write>(
     alloc: Global,
+    form: Form,
     fault: Option<StoredFault>,
     left: usize,
     out: &mut O,
 ) -> Option<StoredFault>
-    ensures { EndsTelling fault left (O.contents out.old) result (O.contents out.new) }
+    ensures { EndsTelling form fault left (O.contents out.old) result (O.contents out.new) }
 {
     if let Some(StoredFault::WriteFailed(_)) = fault {
         return fault;
     }
-    match tell_left(alloc, left, out) {
+    match tell_left(alloc, form, left, out) {
         Ok(()) => fault,
         Err(StoredFault::WriteFailed(cause)) => Some(StoredFault::WriteFailed(cause)),
         Err(other) => match fault {

@@ -8,7 +8,7 @@ ghost use Rattle.own_lock.specs.Passes.{IsOf};
 ghost use Rattle.session_agenda.specs.Agenda.{unfinished};
 ghost use Rattle.site_core.specs.Journals.{office_of};
 ghost use Rattle.locked_office.specs.Calls.{Stays, Looks, office_with};
-ghost use Rattle.session_reports.specs.Report.{outcome_line, unfinished_line};
+ghost use Rattle.report_forms.specs.Forms.{outcome_as, unfinished_as};
 ghost use Rattle.durable_turns.specs.Letting.{StoreHas, key_of};
 ghost use Rattle.office_stations.specs.Sessions.{finished_of};
 ghost use Rattle.stored_runs.specs.Runs.{IsFaultOf, IsOfStanding, IsUntold, Unless, told_text};
@@ -21,10 +21,12 @@ use input_texts::failure_kind;
 use journal_stores::Store;
 use locked_office::Desk;
 use office_map::Plan;
-use office_stations::{RunFault, add_lines};
+use office_stations::RunFault;
 use own_lock::Pass;
+use report_forms::Form;
+use report_forms::report::{add_outcomes, add_unfinished};
+use report_forms::words::add_count;
 use session_meaning::Outcome;
-use session_reports::report::add_unfinished;
 use site_core::Office;
 use std::alloc::{AllocError, Global};
 use std::io::Write;
@@ -61,15 +63,16 @@ pub fn write_some<W: Write>(out: &mut W, text: &str) -> Result<(), StoredFault>
 /// didn't knows how many to pass over.
 pub(crate) fn before_text(
     alloc: Global,
+    form: Form,
     plan: &Plan,
     outcomes: &[Outcome],
 ) -> Result<String, AllocError>
-    ensures { IfOk result (λ text. string_bytes text ≡ told_text plan.now (length outcomes.now) outcomes.now) }
+    ensures { IfOk result (λ text. string_bytes text ≡ told_text form plan.now (length outcomes.now) outcomes.now) }
 {
     let count = outcomes.len();
     let mut text = String::new(alloc);
-    writeln!(text, "before {count}")?;
-    add_lines(&mut text, plan, outcomes)?;
+    add_count(&mut text, form, "before", count as u64)?;
+    add_outcomes(&mut text, form, plan, outcomes)?;
     Ok(text)
 }
 
@@ -83,6 +86,7 @@ pub fn stand_and_tell<R: Wait, S: Store, W: Write>(
     alloc: Global,
     desk: &Desk,
     pass: &mut Pass<Office>,
+    form: Form,
     plan: &Plan,
     store: &mut S,
     books: &mut Books,
@@ -101,7 +105,7 @@ pub fn stand_and_tell<R: Wait, S: Store, W: Write>(
     ensures all { OnOk result (books.new.stood ≡ length pass.new.seen) }
     ensures told { OnOk result (books.new.told ≡ length (finished_of (office_with desk.now.key pass.new.seen))) }
     ensures left { OnOk result (books.new.left ≡ unfinished (office_of (office_with desk.now.key pass.new.seen)).agenda) }
-    ensures lines { OnOk result (Appends (W.contents out.old) (W.contents out.new) (flat_map (outcome_line plan.now) (drop books.old.told (finished_of (office_with desk.now.key pass.new.seen))))) }
+    ensures lines { OnOk result (Appends (W.contents out.old) (W.contents out.new) (flat_map (outcome_as form plan.now) (drop books.old.told (finished_of (office_with desk.now.key pass.new.seen))))) }
     ensures same { OnErr result (books.new.told ≡ books.old.told) }
     ensures untold { IfErr result (λ fault. Unless (Some fault) (W.contents out.new ≡ W.contents out.old)) }
     ensures usable { OnOk result (S.failed store.new ≡ false) }
@@ -109,7 +113,7 @@ pub fn stand_and_tell<R: Wait, S: Store, W: Write>(
     ensures cause { IfErr result IsOfStanding }
 {
     let held = desk.lock().take(rt, pass);
-    let added = stand_and_add(alloc, text, held.get(), plan, store, books);
+    let added = stand_and_add(alloc, text, held.get(), form, plan, store, books);
     desk.lock().give(pass, held);
     let count = match added {
         Ok(count) => count,
@@ -129,6 +133,7 @@ fn stand_and_add<S: Store>(
     alloc: Global,
     text: &mut String,
     office: &Office,
+    form: Form,
     plan: &Plan,
     store: &mut S,
     books: &mut Books,
@@ -139,7 +144,7 @@ fn stand_and_add<S: Store>(
     ensures steps { (books.new.stood ≡ books.old.stood) ⊎ (books.new.stood ≡ length office.now.entries) }
     ensures all { OnOk result (books.new.stood ≡ length office.now.entries) }
     ensures count { IfOk result (λ n. n ≡ length (finished_of office.now)) }
-    ensures lines { OnOk result (string_bytes text.new ≡ flat_map (outcome_line plan.now) (drop books.old.told (finished_of office.now))) }
+    ensures lines { OnOk result (string_bytes text.new ≡ flat_map (outcome_as form plan.now) (drop books.old.told (finished_of office.now))) }
     ensures told { books.new.told ≡ books.old.told }
     ensures left { OnOk result (books.new.left ≡ unfinished (office_of office.now).agenda) }
     ensures usable { OnOk result (S.failed store.new ≡ false) }
@@ -152,7 +157,7 @@ fn stand_and_add<S: Store>(
     }
     books.left = office.unfinished();
     text.clear();
-    match add_since(text, plan, office.outcomes(), books.told) {
+    match add_since(text, form, plan, office.outcomes(), books.told) {
         Ok(count) => Ok(count),
         Err(_) => Err(StoredFault::Run(RunFault::Memory)),
     }
@@ -161,27 +166,33 @@ fn stand_and_add<S: Store>(
 /// The lines of these sessions from that place on are added, and how many they are in all is told.
 fn add_since(
     text: &mut String,
+    form: Form,
     plan: &Plan,
     outcomes: &[Outcome],
     from: usize,
 ) -> Result<usize, AllocError>
-    ensures lines { OnOk result (string_bytes text.new ≡ string_bytes text.old ++ flat_map (outcome_line plan.now) (drop from outcomes.now)) }
+    ensures lines { OnOk result (string_bytes text.new ≡ string_bytes text.old ++ flat_map (outcome_as form plan.now) (drop from outcomes.now)) }
     ensures count { IfOk result (λ n. n ≡ length outcomes.now) }
 {
     if from < outcomes.len() {
-        add_lines(text, plan, &outcomes[from..])?;
+        add_outcomes(text, form, plan, &outcomes[from..])?;
     }
     Ok(outcomes.len())
 }
 
 /// How many sessions are left is told at the end.
-pub fn tell_left<W: Write>(alloc: Global, left: usize, out: &mut W) -> Result<(), StoredFault>
-    ensures told { OnOk result (Appends (W.contents out.old) (W.contents out.new) (unfinished_line left)) }
+pub fn tell_left<W: Write>(
+    alloc: Global,
+    form: Form,
+    left: usize,
+    out: &mut W,
+) -> Result<(), StoredFault>
+    ensures told { OnOk result (Appends (W.contents out.old) (W.contents out.new) (unfinished_as form left)) }
     ensures untold { IfErr result (λ fault. Unless (Some fault) (W.contents out.new ≡ W.contents out.old)) }
     ensures fault { IfErr result IsOfTelling }
 {
     let mut text = String::new(alloc);
-    let Ok(()) = add_unfinished(&mut text, left) else {
+    let Ok(()) = add_unfinished(&mut text, form, left) else {
         return Err(StoredFault::Run(RunFault::Memory));
     };
     write_whole(out, &text)

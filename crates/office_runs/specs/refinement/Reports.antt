@@ -7,7 +7,8 @@ use Rattle.office_journal.specs.declared.event.Entry.{Entry}
 use Rattle.site_core.specs.Journals.{Site, IsLegal}
 use Rattle.own_lock.specs.Entries.{tagged}
 use Rattle.locked_office.specs.Calls.{Key, tag_of}
-use Rattle.session_reports.specs.Report.{outcome_line}
+use Rattle.report_forms.specs.Forms.{outcome_as}
+use Rattle.report_forms.specs.declared.forms.Form.{Form}
 use Rattle.office_stations.specs.Sessions.{finished_of}
 use Rattle.office_runs.specs.Runs.{text_of, key_of, IsReadBack}
 
@@ -27,12 +28,12 @@ AddsJournal true s before after = (after ≡ before ++ text_of s ∷ []) × IsRe
 AddsJournal false s before after = after ≡ before
 
 -- One more office is told by a legal journal of it, and so many of its sessions have finished. Each entry there has the tag 0 or 1, and those of either tag are a beginning of what the pass with it added.
-pub record AddsOffice (p : PlanValue) (k : Key) (worker client : List Entry) (before after : Told) (n : ℕ) : Type 0 where
+pub record AddsOffice (form : Form) (p : PlanValue) (k : Key) (worker client : List Entry) (before after : Told) (n : ℕ) : Type 0 where
   pub site : Site
   pub key : key_of site ≡ k
   pub legal : IsLegal site
   pub count : n ≡ length (finished_of site)
-  pub lines : after.lines ≡ before.lines ++ flat_map (outcome_line p) (finished_of site)
+  pub lines : after.lines ≡ before.lines ++ flat_map (outcome_as form p) (finished_of site)
   pub journal : AddsJournal before.wanted site before.texts after.texts
   pub tags : All (λ (e : Entry). e.tag < 2) site.entries
   pub turns : IsPrefix (tagged tag_of 0 site.entries) worker

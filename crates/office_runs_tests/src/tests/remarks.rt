@@ -7,6 +7,7 @@ use office_map::OfficeId;
 use office_runs::Ran;
 use office_runs::run::run_office;
 use office_stations::{Around, Binds, Gate, Open, OpeningFault, Progress, Quiet, RunFault, Watch};
+use report_forms::Form;
 use run_remarks::Unmet;
 use std::alloc::Global;
 use std::rt::Clock;
@@ -74,7 +75,7 @@ fn live_without_route<R: Threads + Wait + Clock + Sync, W: Watch + Sync>(
         gate: &Open,
         watch,
     };
-    Ok(live(rt, alloc, &plan, &programs, false, &around))
+    Ok(live(rt, alloc, Form::Plain, &plan, &programs, false, &around))
 }
 
 /// What a run of 50 turns of the star's first office answers.
@@ -91,6 +92,7 @@ fn star_with<R: Wait + Clock, B: Binds, G: Gate, W: Watch>(
     Ok(run_office(
         rt,
         alloc,
+        Form::Plain,
         &plan,
         OfficeId::new(0),
         &programs,

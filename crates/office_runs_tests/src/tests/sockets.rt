@@ -6,6 +6,7 @@ use live_runs::live::live;
 use office_map::OfficeId;
 use office_runs::Ran;
 use office_stations::{Around, Open, OpeningFault, Quiet, RunFault, UdpSockets, without_address};
+use report_forms::Form;
 use std::io::ErrorKind;
 use std::test::Fail;
 
@@ -95,7 +96,7 @@ fn a_thousand_sessions_over_udp(rt: HostRuntime) -> Result<(), Fail> {
         gate: &Open,
         watch: &Quiet,
     };
-    let ran = live(&rt, alloc, &plan, &programs, false, &around);
+    let ran = live(&rt, alloc, Form::Plain, &plan, &programs, false, &around);
     assert!(rt; has_counted(ran, 1_000, 500_500));
     Ok(())
 }
@@ -130,7 +131,7 @@ fn a_socket_that_fails_ends_a_run_of_all(rt: HostRuntime) -> Result<(), Fail> {
             gate: &Open,
             watch: &Quiet,
         };
-        let ran = live(&rt, alloc, &plan, &programs, false, &around);
+        let ran = live(&rt, alloc, Form::Plain, &plan, &programs, false, &around);
         assert_eq!(rt;
             ran.map(|ran| ran.fault),
             Ok(Some(RunFault::WireFailed)),

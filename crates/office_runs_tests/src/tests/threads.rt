@@ -5,6 +5,7 @@ use super::{GIVE, ROW, ROW_SESSIONS, is_told, live_in_memory, plan, programs};
 use live_runs::live::live;
 use office_map::OfficeId;
 use office_stations::{Around, Gate, Open, Quiet, RunFault};
+use report_forms::Form;
 use std::sync::atomic::{AtomicU64, Ordering};
 use std::test::Fail;
 use std::thread::yield_now;
@@ -151,7 +152,7 @@ fn the_first_fault_is_told(rt: HostRuntime) -> Result<(), Fail> {
         gate: &gate,
         watch: &Quiet,
     };
-    let ran = live(&rt, alloc, &plan, &programs, false, &around);
+    let ran = live(&rt, alloc, Form::Plain, &plan, &programs, false, &around);
     assert_eq!(rt; ran.map(|ran| ran.fault), Ok(Some(RunFault::WireFailed)));
     Ok(())
 }

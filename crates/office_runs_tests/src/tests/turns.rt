@@ -5,6 +5,7 @@ use super::{GIVE, ROW, ROW_SESSIONS, alone, alone_with, is_told, plan, programs}
 use live_runs::live::live;
 use office_map::OfficeId;
 use office_stations::{Around, Gate, Open, Quiet};
+use report_forms::Form;
 use std::sync::atomic::{AtomicU64, Ordering};
 use std::test::Fail;
 use std::time::{Duration, Instant};
@@ -103,7 +104,7 @@ fn a_run_of_all_ends(rt: HostRuntime) -> Result<(), Fail> {
         gate: &gate,
         watch: &Quiet,
     };
-    let ran = live(&rt, alloc, &plan, &programs, false, &around);
+    let ran = live(&rt, alloc, Form::Plain, &plan, &programs, false, &around);
     assert_eq!(rt;
         ran.map(|ran| (ran.unfinished > 0, ran.fault)),
         Ok((true, None))
@@ -133,7 +134,7 @@ fn whoever_waits_is_woken(rt: HostRuntime) -> Result<(), Fail> {
         gate: &Open,
         watch: &Quiet,
     };
-    let ran = live(&rt, alloc, &plan, &programs, false, &around);
+    let ran = live(&rt, alloc, Form::Plain, &plan, &programs, false, &around);
     for mailbox in boxes.as_slice() {
         assert_eq!(rt; mailbox.forgotten.load(Ordering::SeqCst), 0);
     }

@@ -3,9 +3,10 @@ use Rattle.std.specs.Prelude.{ℕ, Bool, List, Result, Ok, Err}
 use Rattle.site_core.specs.Journals.{Site}
 use Rattle.request_streams.specs.declared.asked.Asked.{Asked}
 use Rattle.office_answers.specs.declared.lack.Lack.{Lack}
+use Rattle.report_forms.specs.declared.forms.Form.{Form}
 use Rattle.office_answers.specs.Answers.{Answered, Lacks}
 
 -- it is answered, or not yet; or it lacks something for the answer
-abbrev pub Asks : ℕ → Site → Asked → Result Bool Lack → Site → List ℕ → List ℕ → Type 0
-Asks tag s asked (Ok b) s' old new = Answered tag s asked b s' old new
-Asks tag s asked (Err lack) s' old new = Lacks tag s asked lack s'
+abbrev pub Asks : Form → ℕ → Site → Asked → Result Bool Lack → Site → List ℕ → List ℕ → Type 0
+Asks form tag s asked (Ok b) s' old new = Answered form tag s asked b s' old new
+Asks form tag s asked (Err lack) s' old new = Lacks tag s asked lack s'

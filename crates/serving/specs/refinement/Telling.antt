@@ -4,6 +4,7 @@ use Rattle.std.specs.Io.KnownBytes.{Appends}
 use Rattle.office_stations.specs.declared.fault.RunFault.TheVariants as run
 use Rattle.stored_runs.specs.declared.fault.StoredFault.{StoredFault}
 use Rattle.stored_runs.specs.declared.fault.StoredFault.TheVariants as stored
+use Rattle.report_forms.specs.declared.forms.Form.{Form}
 use Rattle.stored_runs.specs.Runs.{IsUntold}
 use Rattle.serving.specs.declared.fault.ServeFault.{ServeFault}
 use Rattle.serving.specs.declared.fault.ServeFault.TheVariants.{Run}
@@ -18,6 +19,6 @@ abbrev pub IsStill : Option ServeFault → Option ServeFault → Type 0
 IsStill fault result = (result ≡ fault) ⊎ (((fault ≡ None) × (result ≡ Some (Run (stored.Run run.Memory)))) ⊎ ((why : StoredFault) × (result ≡ Some (Run why)) × IsUntold why))
 
 -- how many haven't finished is told, unless writing failed
-pub record EndsTelling (fault : Option ServeFault) (left : ℕ) (old : Option (List ℕ)) (result : Option ServeFault) (new : Option (List ℕ)) : Type 0 where
+pub record EndsTelling (form : Form) (fault : Option ServeFault) (left : ℕ) (old : Option (List ℕ)) (result : Option ServeFault) (new : Option (List ℕ)) : Type 0 where
   pub still : IsStill fault result
-  pub told : Unless result ((last : List ℕ) × IsLastLine result left last × Appends old new last)
+  pub told : Unless result ((last : List ℕ) × IsLastLine form result left last × Appends old new last)

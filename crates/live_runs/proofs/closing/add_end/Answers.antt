@@ -1,6 +1,6 @@
 use Rattle.std.proofs.Common.{IfOk, subst}
 use Rattle.std.specs.Arc.{arc_value}
-use Rattle.session_reports.specs.Report.{outcome_line}
+use Rattle.report_forms.specs.Forms.{outcome_as}
 use Rattle.live_runs.specs.refinement.Ends.{TellsEnd}
 use Rattle.live_runs.proofs.Courses.{ends_told}
 use Rattle.live_runs.proofs.closing.add_end.Goals as goal
@@ -8,5 +8,5 @@ use Rattle.live_runs.proofs.closing.add_end.Goals as goal
 pub returns-clause-told : goal.returns-clause-told
 returns-clause-told g c =
     let o = c.end.inside in
-    subst (λ e. IfOk c.add_office.result (λ n. TellsEnd g.S.Wire.tells (outcome_line c.args.plan.now) e n c.args.report.now c.add_office.new.report)) c.end.view_is
-    (ends_told c.steps_add_their_entry.ensures g.S.Wire.tells c.args.plan.now (arc_value o.office.desk) o.programs.now o.worker.fault o.client.fault o.worker.pass o.client.pass c.args.report.now c.add_office.new.report c.add_office.result c.end.invariant.0 c.end.invariant.1 c.add_office.ensures.told)
+    subst (λ e. IfOk c.add_office.result (λ n. TellsEnd g.S.Wire.tells (outcome_as c.args.form c.args.plan.now) e n c.args.report.now c.add_office.new.report)) c.end.view_is
+    (ends_told c.steps_add_their_entry.ensures c.args.form g.S.Wire.tells c.args.plan.now (arc_value o.office.desk) o.programs.now o.worker.fault o.client.fault o.worker.pass o.client.pass c.args.report.now c.add_office.new.report c.add_office.result c.end.invariant.0 c.end.invariant.1 c.add_office.ensures.told)

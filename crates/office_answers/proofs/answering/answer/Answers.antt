@@ -2,7 +2,7 @@ use Rattle.std.proofs.Common.{rules, ◌≡◌, ◌++◌, Bool, true, refl, sym,
 use Rattle.std.specs.String.{string_bytes}
 use Rattle.office_map.specs.PlanValue.{PlanValue}
 use Rattle.request_streams.specs.declared.asked.Asked.TheVariants as ask
-use Rattle.office_answers.specs.Said.{Unread, said_line}
+use Rattle.office_answers.specs.Said.{Unread, said_as}
 use Rattle.office_answers.specs.Answers.{Answered}
 use Rattle.office_answers.proofs.Answered.{once_said}
 use Rattle.office_answers.proofs.answering.answer.Goals as goal
@@ -14,5 +14,5 @@ returns-in-Misread-clause-answered c =
     let old = string_bytes c.args.text.now in
     let new = string_bytes c.add_misread.new.text in
     let is : c.args.asked.now ≡ ask.Misread f = search rules in
-    once_said c.add_misread.result c.said-in-Misread.result ((p : PlanValue) → new ≡ old ++ said_line p (Unread f)) (λ (b : Bool). Answered c.args.tag s c.args.asked.now b s old new) c.said-in-Misread.ensures.said c.add_misread.ensures
-    (λ q. subst (λ a. Answered c.args.tag s a true s old new) (sym is) (Unread f, (refl, refl), q s.plan))
+    once_said c.add_misread.result c.said-in-Misread.result ((p : PlanValue) → new ≡ old ++ said_as c.args.form p (Unread f)) (λ (b : Bool). Answered c.args.form c.args.tag s c.args.asked.now b s old new) c.said-in-Misread.ensures.said c.add_misread.ensures
+    (λ q. subst (λ a. Answered c.args.form c.args.tag s a true s old new) (sym is) (Unread f, (refl, refl), q s.plan))

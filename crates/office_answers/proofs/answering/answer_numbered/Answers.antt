@@ -3,7 +3,7 @@ use Rattle.std.specs.String.{string_bytes}
 use Rattle.office_map.specs.PlanValue.{PlanValue}
 use Rattle.request_streams.specs.declared.asked.Asked.TheVariants as ask
 use Rattle.office_answers.specs.declared.answering.Again.TheVariants as again
-use Rattle.office_answers.specs.Said.{OtherSession, TicketAhead, said_line}
+use Rattle.office_answers.specs.Said.{OtherSession, TicketAhead, said_as}
 use Rattle.office_answers.specs.Answers.{Answered, session_under, tickets_of}
 use Rattle.office_answers.specs.refinement.{IsAgain}
 use Rattle.office_answers.proofs.Answered.{again_never, again_other, asked_again, once_said}
@@ -18,7 +18,7 @@ returns-in-Ok-Other-clause-answered c =
     let new = string_bytes c.add_other.new.text in
     let other : t ≢ suc (tickets_of s) = λ e. let yes' = c.is_next.ensures.1 e in absurd (cc (yes', c.if-is_next.false)) in
     let is : IsAgain (session_under s t) x again.Other = search rules in
-    once_said c.add_other.result c.said-in-Ok-Other.result ((p : PlanValue) → new ≡ old ++ said_line p OtherSession) (λ (b : Bool). Answered c.args.tag s (ask.Numbered t x) b s old new) c.said-in-Ok-Other.ensures.said c.add_other.ensures
+    once_said c.add_other.result c.said-in-Ok-Other.result ((p : PlanValue) → new ≡ old ++ said_as c.args.form p OtherSession) (λ (b : Bool). Answered c.args.form c.args.tag s (ask.Numbered t x) b s old new) c.said-in-Ok-Other.ensures.said c.add_other.ensures
     (λ q. (OtherSession, asked_again c.args.tag s t x OtherSession other (again_other s t x is.0 (session_under s t) is.1 is.2), q s.plan))
 
 pub returns-in-Ok-Never-clause-answered : goal.returns-in-Ok-Never-clause-answered
@@ -30,5 +30,5 @@ returns-in-Ok-Never-clause-answered c =
     let new = string_bytes c.add_ahead.new.text in
     let other : t ≢ suc (tickets_of s) = λ e. let yes' = c.is_next.ensures.1 e in absurd (cc (yes', c.if-is_next.false)) in
     let is : IsAgain (session_under s t) x again.Never = search rules in
-    once_said c.add_ahead.result c.said-in-Ok-Never.result ((p : PlanValue) → new ≡ old ++ said_line p TicketAhead) (λ (b : Bool). Answered c.args.tag s (ask.Numbered t x) b s old new) c.said-in-Ok-Never.ensures.said c.add_ahead.ensures
+    once_said c.add_ahead.result c.said-in-Ok-Never.result ((p : PlanValue) → new ≡ old ++ said_as c.args.form p TicketAhead) (λ (b : Bool). Answered c.args.form c.args.tag s (ask.Numbered t x) b s old new) c.said-in-Ok-Never.ensures.said c.add_ahead.ensures
     (λ q. (TicketAhead, asked_again c.args.tag s t x TicketAhead other (again_never s t x (session_under s t) is), q s.plan))

@@ -5,7 +5,7 @@ use Rattle.office_map.specs.PlanValue.{PlanValue}
 use Rattle.session_meaning.specs.declared.ending.Outcome.{Outcome}
 use Rattle.site_core.specs.Journals.{office_of}
 use Rattle.site_core.specs.Readers.{outcome_with}
-use Rattle.office_answers.specs.Said.{Pending, said_line}
+use Rattle.office_answers.specs.Said.{Pending, said_as}
 use Rattle.office_answers.specs.Answers.{known, said_of}
 use Rattle.office_answers.proofs.Answered.{on_ok}
 use Rattle.office_answers.proofs.said.add_known.Goals as goal
@@ -17,4 +17,4 @@ returns-in-None c =
     let old = string_bytes c.args.text.now in
     let new = string_bytes c.add_pending.new.text in
     let none : outcome_with (office_of s).agenda.outcomes t ≡ None = sym c.outcome.ensures ∙ ap option_copied c.in-None.is in
-    on_ok c.add_pending.result ((p : PlanValue) → new ≡ old ++ said_line p (Pending t)) (new ≡ old ++ said_line s.plan (known s t)) (λ h. h s.plan ∙ ap (λ (o : Option Outcome). old ++ said_line s.plan (said_of t o)) (sym none)) c.add_pending.ensures
+    on_ok c.add_pending.result ((p : PlanValue) → new ≡ old ++ said_as c.args.form p (Pending t)) (new ≡ old ++ said_as c.args.form s.plan (known s t)) (λ h. h s.plan ∙ ap (λ (o : Option Outcome). old ++ said_as c.args.form s.plan (said_of t o)) (sym none)) c.add_pending.ensures

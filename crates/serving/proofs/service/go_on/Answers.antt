@@ -1,11 +1,11 @@
-use Rattle.std.proofs.Common.{take, subst, sym, arith}
+use Rattle.std.proofs.Common.{take, refl, subst, sym, arith}
 use Rattle.std.proofs.KnownBytes.{Appends-nil}
 use Rattle.socket_pump.specs.Last.{last_of}
 use Rattle.durable_turns.specs.Letting.{StoreHas}
 use Rattle.office_stations.specs.Rounds.{Standing}
 use Rattle.office_stations.specs.refinement.Standings.{standing}
 use Rattle.request_streams.specs.refinement.{taking_of}
-use Rattle.stored_runs.specs.Runs.{HasStanding}
+use Rattle.stored_runs.specs.Runs.{HasStanding, IsToldBy}
 use Rattle.stored_runs.proofs.Outcomes.{itself}
 use Rattle.stored_runs.proofs.Growing.{no_datagram}
 use Rattle.stored_runs.proofs.Begun.{begun, standing_first, standing_so, went_on}
@@ -30,8 +30,8 @@ returns-in-Err-clause-went g c =
     let seen = c.args.pass.now.seen in
     let stood = c.args.books.now.stood in
     let input = g.I.Read.remaining c.args.incoming.now.input in
-    went_before g.S.Wire.tells k input input (taking_of c.args.incoming.now.intake) c.args.incoming.now.has_ended at at _ _ _ (g.O.Write.contents c.args.out.now) (g.O.Write.contents c.args.out.now) (none_done g.S.Wire.tells k at)
-    (none_heard k.0 k.1 input (taking_of c.args.incoming.now.intake) c.args.incoming.now.has_ended c.requires.nothing c.requires.going) (Appends-nil (g.O.Write.contents c.args.out.now)) (Run c.in-Err.fault) (take stood seen) (begins_first stood seen seen (omega (arith, c.requires.all)) (itself seen))
+    went_before (IsToldBy g.S.Wire.account) c.args.form g.S.Wire.tells k input input (taking_of c.args.incoming.now.intake) c.args.incoming.now.has_ended at at _ _ _ (g.O.Write.contents c.args.out.now) (g.O.Write.contents c.args.out.now) (none_done c.args.form g.S.Wire.tells k at)
+    (none_heard k.0 k.1 input (taking_of c.args.incoming.now.intake) c.args.incoming.now.has_ended c.requires.nothing c.requires.going) (Appends-nil (g.O.Write.contents c.args.out.now)) (c.args.station.now.socket, refl) (Run c.in-Err.fault) (take stood seen) (begins_first stood seen seen (omega (arith, c.requires.all)) (itself seen))
 
 pub rounds-requires-clause-has : goal.rounds-requires-clause-has
 rounds-requires-clause-has g c =

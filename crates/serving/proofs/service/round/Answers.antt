@@ -6,7 +6,7 @@ use Rattle.std.specs.Io.KnownBytes.{Appends}
 use mathlib.Core.List.{IsPrefix}
 use Rattle.office_map.specs.PlanValue.{PlanValue}
 use Rattle.locked_office.specs.Calls.{Key, office_with}
-use Rattle.session_reports.specs.Report.{outcome_line}
+use Rattle.report_forms.specs.Forms.{outcome_as}
 use Rattle.socket_pump.specs.Last.{PumpView, last_of}
 use Rattle.durable_turns.specs.Letting.{LetsOut}
 use Rattle.durable_turns.specs.LettingLaws.{has_on}
@@ -16,7 +16,7 @@ use Rattle.office_stations.specs.Sessions.{finished_of}
 use Rattle.office_stations.specs.refinement.Standings.{standing}
 use Rattle.stored_runs.proofs.Outcomes.{both}
 use Rattle.stored_runs.proofs.Growing.{looks_begin, no_datagram, within_on}
-use Rattle.office_answers.specs.Said.{Said, said_line}
+use Rattle.office_answers.specs.Said.{Said, said_as}
 use Rattle.serving.specs.declared.fault.ServeFault.{ServeFault}
 use Rattle.serving.specs.Rounds.{AnswersSome, CutOff, StopsAnswering}
 use Rattle.serving.specs.Serving.{Unless}
@@ -31,28 +31,28 @@ use Rattle.serving.proofs.service.round.Goals as goal
 
 pub tell_before_lack-requires-clause-has : goal.tell_before_lack-requires-clause-has
 tell_before_lack-requires-clause-has g c =
-    let grown = stops_begin c.args.pass.now.tag c.args.desk.now.key c.args.pass.now c.answer_some.new.pass c.args.waiting.now.items c.in-Err.lack (string_bytes c.clear.new.self) (string_bytes c.answer_some.new.text) c.in-Err.ensures.stops in
+    let grown = stops_begin c.args.form c.args.pass.now.tag c.args.desk.now.key c.args.pass.now c.answer_some.new.pass c.args.waiting.now.items c.in-Err.lack (string_bytes c.clear.new.self) (string_bytes c.answer_some.new.text) c.in-Err.ensures.stops in
     has_on (g.T.Store.stood c.args.store.now) c.args.desk.now.key c.args.pass.now.seen c.answer_some.new.pass.seen c.args.books.now.stood (omega (arith, c.requires.all)) grown c.requires.has
 
 pub tell_before_lack-requires-clause-within : goal.tell_before_lack-requires-clause-within
 tell_before_lack-requires-clause-within g c =
-    let grown = stops_begin c.args.pass.now.tag c.args.desk.now.key c.args.pass.now c.answer_some.new.pass c.args.waiting.now.items c.in-Err.lack (string_bytes c.clear.new.self) (string_bytes c.answer_some.new.text) c.in-Err.ensures.stops in
+    let grown = stops_begin c.args.form c.args.pass.now.tag c.args.desk.now.key c.args.pass.now c.answer_some.new.pass c.args.waiting.now.items c.in-Err.lack (string_bytes c.clear.new.self) (string_bytes c.answer_some.new.text) c.in-Err.ensures.stops in
     within_on c.args.books.now.stood c.args.pass.now.seen c.answer_some.new.pass.seen (omega (arith, c.requires.all)) grown
 
 pub returns-in-Err-clause-grows : goal.returns-in-Err-clause-grows
 returns-in-Err-clause-grows g c =
-    let grown = stops_begin c.args.pass.now.tag c.args.desk.now.key c.args.pass.now c.answer_some.new.pass c.args.waiting.now.items c.in-Err.lack (string_bytes c.clear.new.self) (string_bytes c.answer_some.new.text) c.in-Err.ensures.stops in
+    let grown = stops_begin c.args.form c.args.pass.now.tag c.args.desk.now.key c.args.pass.now c.answer_some.new.pass c.args.waiting.now.items c.in-Err.lack (string_bytes c.clear.new.self) (string_bytes c.answer_some.new.text) c.in-Err.ensures.stops in
     both c.args.pass.now.seen c.answer_some.new.pass.seen c.tell_before_lack.new.pass.seen grown (looks_begin c.args.desk.now.key c.answer_some.new.pass c.tell_before_lack.new.pass c.tell_before_lack.ensures.looked)
 
 pub returns-in-Err-clause-later : goal.returns-in-Err-clause-later
 returns-in-Err-clause-later g c =
-    let grown = stops_begin c.args.pass.now.tag c.args.desk.now.key c.args.pass.now c.answer_some.new.pass c.args.waiting.now.items c.in-Err.lack (string_bytes c.clear.new.self) (string_bytes c.answer_some.new.text) c.in-Err.ensures.stops in
+    let grown = stops_begin c.args.form c.args.pass.now.tag c.args.desk.now.key c.args.pass.now c.answer_some.new.pass c.args.waiting.now.items c.in-Err.lack (string_bytes c.clear.new.self) (string_bytes c.answer_some.new.text) c.in-Err.ensures.stops in
     let all = both c.args.pass.now.seen c.answer_some.new.pass.seen c.tell_before_lack.new.pass.seen grown (looks_begin c.args.desk.now.key c.answer_some.new.pass c.tell_before_lack.new.pass c.tell_before_lack.ensures.looked) in
     later_of c.args.pass.now.seen c.tell_before_lack.new.pass.seen c.args.books.now.stood c.tell_before_lack.new.books.stood (omega (arith, c.requires.all)) all c.tell_before_lack.ensures.steps
 
 pub returns-in-Err-clause-within : goal.returns-in-Err-clause-within
 returns-in-Err-clause-within g c =
-    let grown = stops_begin c.args.pass.now.tag c.args.desk.now.key c.args.pass.now c.answer_some.new.pass c.args.waiting.now.items c.in-Err.lack (string_bytes c.clear.new.self) (string_bytes c.answer_some.new.text) c.in-Err.ensures.stops in
+    let grown = stops_begin c.args.form c.args.pass.now.tag c.args.desk.now.key c.args.pass.now c.answer_some.new.pass c.args.waiting.now.items c.in-Err.lack (string_bytes c.clear.new.self) (string_bytes c.answer_some.new.text) c.in-Err.ensures.stops in
     let all = both c.args.pass.now.seen c.answer_some.new.pass.seen c.tell_before_lack.new.pass.seen grown (looks_begin c.args.desk.now.key c.answer_some.new.pass c.tell_before_lack.new.pass c.tell_before_lack.ensures.looked) in
     stood_within c.args.pass.now.seen c.tell_before_lack.new.pass.seen c.args.books.now.stood c.tell_before_lack.new.books.stood (omega (arith, c.requires.all)) all c.tell_before_lack.ensures.steps
 
@@ -71,16 +71,16 @@ returns-in-Err-clause-cut g c =
     let new = g.O.Write.contents c.tell_before_lack.new.out in
     let empty : string_bytes c.clear.new.self ≡ [] = c.clear.ensures.bytes in
     let text : c.as_str-before.result.now ≡ string_bytes c.answer_some.new.text = search rules in
-    let stops : StopsAnswering 0 k p m waiting c.in-Err.lack (string_bytes c.clear.new.self) (string_bytes c.answer_some.new.text) =
-    subst (λ (x : ℕ). StopsAnswering x k p m waiting c.in-Err.lack (string_bytes c.clear.new.self) (string_bytes c.answer_some.new.text)) c.requires.tag c.in-Err.ensures.stops in
-    let grown = stops_begin 0 k p m waiting c.in-Err.lack (string_bytes c.clear.new.self) (string_bytes c.answer_some.new.text) stops in
+    let stops : StopsAnswering c.args.form 0 k p m waiting c.in-Err.lack (string_bytes c.clear.new.self) (string_bytes c.answer_some.new.text) =
+    subst (λ (x : ℕ). StopsAnswering c.args.form x k p m waiting c.in-Err.lack (string_bytes c.clear.new.self) (string_bytes c.answer_some.new.text)) c.requires.tag c.in-Err.ensures.stops in
+    let grown = stops_begin c.args.form 0 k p m waiting c.in-Err.lack (string_bytes c.clear.new.self) (string_bytes c.answer_some.new.text) stops in
     let looked = looks_begin k m q c.tell_before_lack.ensures.looked in
     let all = both p.seen m.seen q.seen grown looked in
     let later = later_of p.seen q.seen c.args.books.now.stood stood (omega (arith, c.requires.all)) all c.tell_before_lack.ensures.steps in
     let begins : IsPrefix p.seen (take stood q.seen) = begins_first stood p.seen q.seen (omega (arith, later, c.requires.all)) all in
-    let lines : c.as_str-before.result.now ≡ flat_map (said_line k.0) stops.said = text ∙ stops.lines ∙ ap (λ l. l ++ flat_map (said_line k.0) stops.said) empty in
-    unless_then (Some c.tell_before_lack.result) (SaidOrNot old new c.as_str-before.result.now (length m.seen) stood) ((ws : List Said) × CutOff 0 k p waiting ws (take stood q.seen) × Appends old new (flat_map (said_line k.0) ws))
-    (cut_from k p stops.mid m waiting stops.asked (stops.next ∷ stops.left) stops.said q.seen (length m.seen) stood c.as_str-before.result.now old new stops.are stops.answers begins (lack_begin 0 k p m waiting c.in-Err.lack (string_bytes c.clear.new.self) (string_bytes c.answer_some.new.text) stops) looked refl lines)
+    let lines : c.as_str-before.result.now ≡ flat_map (said_as c.args.form k.0) stops.said = text ∙ stops.lines ∙ ap (λ l. l ++ flat_map (said_as c.args.form k.0) stops.said) empty in
+    unless_then (Some c.tell_before_lack.result) (SaidOrNot old new c.as_str-before.result.now (length m.seen) stood) ((ws : List Said) × CutOff 0 k p waiting ws (take stood q.seen) × Appends old new (flat_map (said_as c.args.form k.0) ws))
+    (cut_from c.args.form k p stops.mid m waiting stops.asked (stops.next ∷ stops.left) stops.said q.seen (length m.seen) stood c.as_str-before.result.now old new stops.are stops.answers begins (lack_begin c.args.form 0 k p m waiting c.in-Err.lack (string_bytes c.clear.new.self) (string_bytes c.answer_some.new.text) stops) looked refl lines)
     c.tell_before_lack.ensures.told
 
 -- ---- it turns
@@ -137,9 +137,9 @@ returns-clause-made g c =
     (subst (λ s. IfOk r (λ (t : TimedTurn). Turns g.S.Wire.tells m.tag k t (standing m (g.S.Wire.account s) (last_of c.hurry_for.new.station.pump.lasts)) end)) c.hurry_for.ensures.socket c.turn_and_tell.ensures.turns)) in
     let said = c.as_str-lines.result.now in
     let same : said ≡ string_bytes c.answer_some.new.text = search rules in
-    let lines : said ≡ flat_map (said_line k.0) answers.0 = same ∙ answers.2 ∙ ap (λ l. l ++ flat_map (said_line k.0) answers.0) empty in
-    let wrote = subst (λ (x : PlanValue). OnOk r (Appends old new (said ++ flat_map (outcome_line x) (drop c.args.books.now.told (finished_of (office_with k q.seen)))))) (sym (ap (λ (x : Key). x.0) c.requires.is)) c.turn_and_tell.ensures.lines in
-    made_of g.S.Wire.tells k r answers.0 p m q begin end c.args.books.now.told waiting left said old new refl refl grown c.requires.told some lines turns c.turn_and_tell.ensures.legal wrote
+    let lines : said ≡ flat_map (said_as c.args.form k.0) answers.0 = same ∙ answers.2 ∙ ap (λ l. l ++ flat_map (said_as c.args.form k.0) answers.0) empty in
+    let wrote = subst (λ (x : PlanValue). OnOk r (Appends old new (said ++ flat_map (outcome_as c.args.form x) (drop c.args.books.now.told (finished_of (office_with k q.seen)))))) (sym (ap (λ (x : Key). x.0) c.requires.is)) c.turn_and_tell.ensures.lines in
+    made_of c.args.form g.S.Wire.tells k r answers.0 p m q begin end c.args.books.now.told waiting left said old new refl refl grown c.requires.told some lines turns c.turn_and_tell.ensures.legal wrote
 
 pub returns-clause-cut : goal.returns-clause-cut
 returns-clause-cut g c =
@@ -159,8 +159,8 @@ returns-clause-cut g c =
     let empty : string_bytes c.clear.new.self ≡ [] = c.clear.ensures.bytes in
     let said = c.as_str-lines.result.now in
     let same : said ≡ string_bytes c.answer_some.new.text = search rules in
-    let lines : said ≡ flat_map (said_line k.0) answers.0 = same ∙ answers.2 ∙ ap (λ l. l ++ flat_map (said_line k.0) answers.0) empty in
+    let lines : said ≡ flat_map (said_as c.args.form k.0) answers.0 = same ∙ answers.2 ∙ ap (λ l. l ++ flat_map (said_as c.args.form k.0) answers.0) empty in
     let begins : IsPrefix p.seen (take stood q.seen) = begins_first stood p.seen q.seen (omega (arith, c.turn_and_tell.ensures.later, c.requires.all)) all in
-    if_err c.turn_and_tell.result (λ (f : ServeFault). Unless (Some f) (SaidOrNot old new said (length m.seen) stood)) (λ (f : ServeFault). RoundCut f k p waiting (take stood q.seen) old new)
-    (λ f. unless_then (Some f) (SaidOrNot old new said (length m.seen) stood) ((ws : List Said) × CutOff 0 k p waiting ws (take stood q.seen) × Appends old new (flat_map (said_line k.0) ws))
-    (cut_from k p some.mid m waiting some.asked left answers.0 q.seen (length m.seen) stood said old new some.are some.answers begins (mid_begin 0 k p m waiting left answers.0 some) c.turn_and_tell.ensures.grows refl lines)) c.turn_and_tell.ensures.untold
+    if_err c.turn_and_tell.result (λ (f : ServeFault). Unless (Some f) (SaidOrNot old new said (length m.seen) stood)) (λ (f : ServeFault). RoundCut c.args.form f k p waiting (take stood q.seen) old new)
+    (λ f. unless_then (Some f) (SaidOrNot old new said (length m.seen) stood) ((ws : List Said) × CutOff 0 k p waiting ws (take stood q.seen) × Appends old new (flat_map (said_as c.args.form k.0) ws))
+    (cut_from c.args.form k p some.mid m waiting some.asked left answers.0 q.seen (length m.seen) stood said old new some.are some.answers begins (mid_begin 0 k p m waiting left answers.0 some) c.turn_and_tell.ensures.grows refl lines)) c.turn_and_tell.ensures.untold

@@ -16,7 +16,7 @@ abbrev pub invariant-loop : goal.invariant-loop
 invariant-loop g l = record {
   stays : Stays l.desk l.fn.pass l.pass;
   key : l.desk.key ≡ l.station.pump.key;
-  so : So g.S.Wire.tells l.desk.key (g.I.Read.remaining l.fn.incoming.input) (g.I.Read.remaining l.incoming.input) (taking_of l.incoming.intake) l.incoming.has_ended (standing l.fn.pass (g.S.Wire.account l.fn.station.socket) (last_of l.fn.station.pump.lasts))
+  so : So l.form g.S.Wire.tells l.desk.key (g.I.Read.remaining l.fn.incoming.input) (g.I.Read.remaining l.incoming.input) (taking_of l.incoming.intake) l.incoming.has_ended (standing l.fn.pass (g.S.Wire.account l.fn.station.socket) (last_of l.fn.station.pump.lasts))
       (standing l.pass (g.S.Wire.account l.station.socket) (last_of l.station.pump.lasts)) l.waiting.items (g.O.Write.contents l.fn.out) (g.O.Write.contents l.out);
   grows : IsPrefix l.fn.pass.seen l.pass.seen;
   usable : g.T.Store.failed l.store.store ≡ false;

@@ -8,7 +8,8 @@ use Rattle.socket_pump.specs.Last.{last_of}
 use Rattle.office_stations.specs.Rounds.{Standing}
 use Rattle.office_stations.specs.refinement.Standings.{standing}
 use Rattle.stored_runs.specs.Keeping.{HasText}
-use Rattle.office_answers.specs.Said.{ready_line}
+use Rattle.stored_runs.specs.Runs.{IsToldBy}
+use Rattle.office_answers.specs.Said.{ready_as}
 use Rattle.office_answers.specs.Answers.{tickets_of}
 use Rattle.serving.specs.declared.fault.ServeFault.{ServeFault}
 use Rattle.serving.specs.declared.served.Served.{Served}
@@ -41,16 +42,16 @@ returns-clause-serves g c =
     let tag : c.in_ok-desk.pass.tag ≡ 0 = ap (λ (x : DeskPass). x.tag) c.in_ok-desk.ensures.pass in
     let seen : c.in_ok-desk.pass.seen ≡ kept.site.entries = search rules in
     let fault : result_err c.start.result ≡ c.err-fault.result = sym c.err-fault.ensures.value in
-    let ready : c.deref.result.now ≡ ready_line (tickets_of kept.site) = search rules in
+    let ready : c.deref.result.now ≡ ready_as c.args.form (tickets_of kept.site) = search rules in
     let input : g.I.Read.remaining c.new-incoming.result.input ≡ g.I.Read.remaining c.args.input = ap g.I.Read.remaining c.new-incoming.ensures.input in
     let e : Served = record { unfinished = c.count_unfinished-unfinished.result; fault = c.end-fault.result } in
     let last = c.start.new.pass in
     let stood = c.start.new.books.stood in
-    let after = subst (λ (x : Option (List ℕ)). WentAfter c.deref.result.now tells k x first (take stood last.seen) (result_err c.start.result) (g.O.Write.contents c.args.out.now) (g.O.Write.contents c.start.new.out)) input c.start.ensures.went in
-    subst (λ (x : Key). Serves tells x.0 x.1 kept (g.I.Read.remaining c.args.input) (g.T.Store.stood c.start.new.store.store) a b e (g.O.Write.contents c.args.out.now) (g.O.Write.contents c.end-fault.new.out)) key
-    (whole tells k kept (g.I.Read.remaining c.args.input) (g.T.Store.stood c.start.new.store.store) a b e c.err-fault.result c.deref.result.now first last c.count_unfinished-unfinished.new.pass stood (g.O.Write.contents c.args.out.now) (g.O.Write.contents c.start.new.out) (g.O.Write.contents c.end-fault.new.out)
+    let after = subst (λ (x : Option (List ℕ)). WentAfter (IsToldBy g.S.Wire.account) c.deref.result.now c.args.form tells k x first (take stood last.seen) (result_err c.start.result) (g.O.Write.contents c.args.out.now) (g.O.Write.contents c.start.new.out)) input c.start.ensures.went in
+    subst (λ (x : Key). Serves (IsToldBy g.S.Wire.account) c.args.form tells x.0 x.1 kept (g.I.Read.remaining c.args.input) (g.T.Store.stood c.start.new.store.store) a b e (g.O.Write.contents c.args.out.now) (g.O.Write.contents c.end-fault.new.out)) key
+    (whole (IsToldBy g.S.Wire.account) c.args.form tells k kept (g.I.Read.remaining c.args.input) (g.T.Store.stood c.start.new.store.store) a b e c.err-fault.result c.deref.result.now first last c.count_unfinished-unfinished.new.pass stood (g.O.Write.contents c.args.out.now) (g.O.Write.contents c.start.new.out) (g.O.Write.contents c.end-fault.new.out)
     (tag, seen, refl, c.requires.last)
-    (subst (λ (f : Option ServeFault). WentAfter c.deref.result.now tells k (g.I.Read.remaining c.args.input) first (take stood last.seen) f (g.O.Write.contents c.args.out.now) (g.O.Write.contents c.start.new.out)) fault after) c.count_unfinished-unfinished.ensures.looked c.start.ensures.within c.start.ensures.has
+    (subst (λ (f : Option ServeFault). WentAfter (IsToldBy g.S.Wire.account) c.deref.result.now c.args.form tells k (g.I.Read.remaining c.args.input) first (take stood last.seen) f (g.O.Write.contents c.args.out.now) (g.O.Write.contents c.start.new.out)) fault after) c.count_unfinished-unfinished.ensures.looked c.start.ensures.within c.start.ensures.has
     (subst (λ (t : ℕ). LetsOut tells t a b last.seen stood) tag c.start.ensures.lets_out) ready c.count_unfinished-unfinished.ensures.count c.end-fault.ensures)
 
 pub returns-clause-fault : goal.returns-clause-fault

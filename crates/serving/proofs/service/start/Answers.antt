@@ -1,4 +1,4 @@
-use Rattle.std.proofs.Common.{take, arith}
+use Rattle.std.proofs.Common.{take, refl, arith}
 use Rattle.std.specs.Result.{result_err}
 use Rattle.std.specs.Io.KnownBytes.{Appends}
 use Rattle.std.proofs.KnownBytes.{Appends-nil}
@@ -6,6 +6,7 @@ use Rattle.socket_pump.specs.Last.{last_of}
 use Rattle.office_stations.specs.Rounds.{Standing}
 use Rattle.office_stations.specs.refinement.Standings.{standing}
 use Rattle.request_streams.specs.refinement.{taking_of}
+use Rattle.stored_runs.specs.Runs.{IsToldBy}
 use Rattle.stored_runs.proofs.Outcomes.{itself}
 use Rattle.stored_runs.proofs.Growing.{no_datagram}
 use Rattle.stored_runs.proofs.Begun.{standing_first}
@@ -35,8 +36,8 @@ returns-in-Err-clause-went g c =
     record {
       mid = new;
       first = unknown c.in-Err.fault (Appends (g.O.Write.contents c.args.out.now) new c.args.ready.now) c.in-Err.ensures.fault;
-      went = went_before g.S.Wire.tells k input input (taking_of c.args.incoming.now.intake) c.args.incoming.now.has_ended at at _ _ _ new new (none_done g.S.Wire.tells k at)
-          (none_heard k.0 k.1 input (taking_of c.args.incoming.now.intake) c.args.incoming.now.has_ended c.requires.nothing c.requires.going) (Appends-nil new) (Run c.in-Err.fault) (take stood seen) (begins_first stood seen seen (omega (arith, c.requires.all)) (itself seen));
+      went = went_before (IsToldBy g.S.Wire.account) c.args.form g.S.Wire.tells k input input (taking_of c.args.incoming.now.intake) c.args.incoming.now.has_ended at at _ _ _ new new (none_done c.args.form g.S.Wire.tells k at)
+          (none_heard k.0 k.1 input (taking_of c.args.incoming.now.intake) c.args.incoming.now.has_ended c.requires.nothing c.requires.going) (Appends-nil new) (c.args.station.now.socket, refl) (Run c.in-Err.fault) (take stood seen) (begins_first stood seen seen (omega (arith, c.requires.all)) (itself seen));
     }
 
 pub returns-clause-went : goal.returns-clause-went

@@ -2,7 +2,7 @@ use Rattle.std.proofs.Common.{◌≡◌, ◌≤◌, length, drop, Some, inl, ref
 use Rattle.std.specs.List.{flat_map}
 use Rattle.std.proofs.KnownBytes.{Appends-trans}
 use Rattle.locked_office.specs.Calls.{office_with}
-use Rattle.session_reports.specs.Report.{outcome_line}
+use Rattle.report_forms.specs.Forms.{outcome_as}
 use Rattle.socket_pump.specs.Last.{PumpView, last_of}
 use Rattle.durable_turns.specs.Letting.{LetsOut}
 use Rattle.office_stations.specs.Rounds.{Standing, Turns}
@@ -116,5 +116,5 @@ returns-clause-turns g c =
 pub returns-clause-lines : goal.returns-clause-lines
 returns-clause-lines g c =
     let k = c.args.desk.now.key in
-    Appends-trans (g.O.Write.contents c.args.out.now) (g.O.Write.contents c.write_some.new.out) (g.O.Write.contents c.stand_and_tell.new.out) c.args.said.now (flat_map (outcome_line c.args.plan.now) (drop c.args.books.now.told (finished_of (office_with k c.stand_and_tell.new.pass.seen)))) c.in-Ok-write_some.ensures.written
+    Appends-trans (g.O.Write.contents c.args.out.now) (g.O.Write.contents c.write_some.new.out) (g.O.Write.contents c.stand_and_tell.new.out) c.args.said.now (flat_map (outcome_as c.args.form c.args.plan.now) (drop c.args.books.now.told (finished_of (office_with k c.stand_and_tell.new.pass.seen)))) c.in-Ok-write_some.ensures.written
     c.in-Ok-stand_and_tell.ensures.lines

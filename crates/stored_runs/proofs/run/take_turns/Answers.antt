@@ -6,13 +6,13 @@ use Rattle.locked_office.specs.Calls.{office_with}
 use Rattle.socket_pump.specs.Last.{PumpView, last_of}
 use Rattle.durable_turns.specs.Letting.{LetsOut}
 use Rattle.durable_turns.specs.LettingLaws.{has_on}
-use Rattle.session_reports.specs.Report.{outcome_line}
+use Rattle.report_forms.specs.Forms.{outcome_as}
 use Rattle.office_stations.specs.Rounds.{Standing, Fills, StopsFilling, Turns, of_office, with_pass}
 use Rattle.office_stations.specs.Sessions.{finished_of}
 use Rattle.office_stations.specs.refinement.Standings.{standing}
 use Rattle.office_stations.specs.refinement.RoundLaws.{Made, none_made, one_round}
 use Rattle.stored_runs.specs.declared.fault.StoredFault.TheVariants.{Run}
-use Rattle.stored_runs.specs.Runs.{AtSessions, AtTurn, AfterTurn}
+use Rattle.stored_runs.specs.Runs.{AtSessions, AtTurn, AfterTurn, IsToldBy}
 use Rattle.stored_runs.specs.refinement.Running.{Told}
 use Rattle.stored_runs.proofs.Growing.{looks_begin, fills_begin, stops_begin, within_on, no_datagram, lets_out_on, lets_out_both}
 use Rattle.stored_runs.proofs.Outcomes.{itself, both, finished_on}
@@ -33,14 +33,14 @@ loop-init g c = record {
   out = no_datagram g.S.Wire.tells c.args.pass.now.tag (g.S.Wire.account c.args.station.now.socket) c.args.pass.now.seen c.args.books.now.stood;
   told = c.requires.told;
   more = omega arith;
-  lines = nothing_more c.args.plan.now c.args.books.now.told (finished_of (office_with c.args.desk.now.key c.args.pass.now.seen)) (g.O.Write.contents c.args.out.now) (omega (arith, c.requires.told));
+  lines = nothing_more c.args.form c.args.plan.now c.args.books.now.told (finished_of (office_with c.args.desk.now.key c.args.pass.now.seen)) (g.O.Write.contents c.args.out.now) (omega (arith, c.requires.told));
 }
 
 pub returns-then-count-turns-clause-told : goal.returns-then-count-turns-clause-told
 returns-then-count-turns-clause-told g c =
     let i = c.loop.invariant in
     let same : c.loop.books.stood ≤ c.loop.books.stood = omega arith in
-    told_at c.args.plan.now c.args.desk.now.key c.args.pass.now.seen c.loop.pass.seen c.loop.pass.seen c.loop.books.stood c.loop.books.stood c.args.books.now.told c.loop.books.told (g.O.Write.contents c.args.out.now) (g.O.Write.contents c.loop.out)
+    told_at c.args.form c.args.plan.now c.args.desk.now.key c.args.pass.now.seen c.loop.pass.seen c.loop.pass.seen c.loop.books.stood c.loop.books.stood c.args.books.now.told c.loop.books.told (g.O.Write.contents c.args.out.now) (g.O.Write.contents c.loop.out)
     i.grows (itself c.loop.pass.seen) i.all same i.told i.lines
 
 pub returns-then-count-turns-clause-all_told : goal.returns-then-count-turns-clause-all_told
@@ -54,7 +54,7 @@ returns-in-Err-clause-goes g c =
     let begin : Standing = standing c.args.pass.now (g.S.Wire.account c.args.station.now.socket) (last_of c.args.station.now.pump.lasts) in
     let at : Standing = standing c.loop.pass (g.S.Wire.account c.loop.station.socket) (last_of c.loop.station.pump.lasts) in
     let end : Standing = standing c.submit_some.new.pass (g.S.Wire.account c.loop.station.socket) (last_of c.loop.station.pump.lasts) in
-    cut_short g.S.Wire.tells c.args.desk.now.key c.args.turns c.loop.count begin at end (of_office c.args.me (drop c.args.from c.args.programs.now)) (of_office c.args.me (drop c.loop.next c.args.programs.now)) (Run c.in-Err.fault) c.loop.invariant.made
+    cut_short (IsToldBy g.S.Wire.account) g.S.Wire.tells c.args.desk.now.key c.args.turns c.loop.count begin at end (of_office c.args.me (drop c.args.from c.args.programs.now)) (of_office c.args.me (drop c.loop.next c.args.programs.now)) (Run c.in-Err.fault) c.loop.invariant.made (c.loop.station.socket, refl)
     (AtSessions c.in-Err.fault (subst (λ (x : ℕ). StopsFilling x c.args.desk.now.key c.loop.pass c.submit_some.new.pass (of_office c.args.me (drop c.loop.next c.args.programs.now)) c.in-Err.fault) (c.loop.invariant.stays.1 ∙ c.requires.tag) c.in-Err.ensures.stops) refl)
 
 pub returns-in-Err-clause-has : goal.returns-in-Err-clause-has
@@ -76,7 +76,7 @@ pub returns-in-Err-clause-told : goal.returns-in-Err-clause-told
 returns-in-Err-clause-told g c =
     let i = c.loop.invariant in
     let grown = stops_begin c.loop.pass.tag c.args.desk.now.key c.loop.pass c.submit_some.new.pass (of_office c.args.me (drop c.loop.next c.args.programs.now)) c.in-Err.fault c.in-Err.ensures.stops in
-    told_at c.args.plan.now c.args.desk.now.key c.args.pass.now.seen c.loop.pass.seen c.submit_some.new.pass.seen c.loop.books.stood c.loop.books.stood c.args.books.now.told c.loop.books.told (g.O.Write.contents c.args.out.now) (g.O.Write.contents c.loop.out)
+    told_at c.args.form c.args.plan.now c.args.desk.now.key c.args.pass.now.seen c.loop.pass.seen c.submit_some.new.pass.seen c.loop.books.stood c.loop.books.stood c.args.books.now.told c.loop.books.told (g.O.Write.contents c.args.out.now) (g.O.Write.contents c.loop.out)
     i.grows grown i.all (omega arith) i.told i.lines
 
 -- ---- it ends in its turn
@@ -97,7 +97,7 @@ returns-in-Err-turn_once-clause-goes g c =
     let at : Standing = standing c.loop.pass (g.S.Wire.account c.loop.station.socket) (last_of c.loop.station.pump.lasts) in
     let end : Standing = standing c.turn_once.new.pass (g.S.Wire.account c.turn_once.new.station.socket) (last_of c.turn_once.new.station.pump.lasts) in
     let left = of_office c.args.me (drop c.submit_some.new.next c.args.programs.now) in
-    cut_short g.S.Wire.tells c.args.desk.now.key c.args.turns c.loop.count begin at end (of_office c.args.me (drop c.args.from c.args.programs.now)) (of_office c.args.me (drop c.loop.next c.args.programs.now)) c.in-Err-turn_once.fault c.loop.invariant.made
+    cut_short (IsToldBy g.S.Wire.account) g.S.Wire.tells c.args.desk.now.key c.args.turns c.loop.count begin at end (of_office c.args.me (drop c.args.from c.args.programs.now)) (of_office c.args.me (drop c.loop.next c.args.programs.now)) c.in-Err-turn_once.fault c.loop.invariant.made (c.loop.station.socket, refl)
     (AtTurn c.submit_some.new.pass left (subst (λ (x : ℕ). Fills x c.args.desk.now.key c.loop.pass c.submit_some.new.pass (of_office c.args.me (drop c.loop.next c.args.programs.now)) left) (c.loop.invariant.stays.1 ∙ c.requires.tag) c.in-Ok.ensures.fills) c.in-Err-turn_once.ensures.broke)
 
 pub returns-in-Err-turn_once-clause-lets_out : goal.returns-in-Err-turn_once-clause-lets_out
@@ -115,8 +115,8 @@ returns-in-Err-turn_once-clause-told g c =
     let grown = fills_begin c.loop.pass.tag c.args.desk.now.key c.loop.pass c.submit_some.new.pass (of_office c.args.me (drop c.loop.next c.args.programs.now)) (of_office c.args.me (drop c.submit_some.new.next c.args.programs.now)) c.in-Ok.ensures.fills in
     let all = both c.loop.pass.seen c.submit_some.new.pass.seen c.turn_once.new.pass.seen grown c.turn_once.ensures.grows in
     let later = grown_stood c.loop.pass.seen c.turn_once.new.pass.seen c.loop.books.stood c.turn_once.new.stood i.all all c.turn_once.ensures.steps in
-    unless (Some c.in-Err-turn_once.fault) (Told c.args.plan.now c.args.desk.now.key c.turn_once.new.pass.seen (length c.args.pass.now.seen) c.turn_once.new.stood c.args.books.now.told c.loop.books.told (g.O.Write.contents c.args.out.now) (g.O.Write.contents c.loop.out))
-    (told_at c.args.plan.now c.args.desk.now.key c.args.pass.now.seen c.loop.pass.seen c.turn_once.new.pass.seen c.loop.books.stood c.turn_once.new.stood c.args.books.now.told c.loop.books.told (g.O.Write.contents c.args.out.now) (g.O.Write.contents c.loop.out)
+    unless (Some c.in-Err-turn_once.fault) (Told c.args.form c.args.plan.now c.args.desk.now.key c.turn_once.new.pass.seen (length c.args.pass.now.seen) c.turn_once.new.stood c.args.books.now.told c.loop.books.told (g.O.Write.contents c.args.out.now) (g.O.Write.contents c.loop.out))
+    (told_at c.args.form c.args.plan.now c.args.desk.now.key c.args.pass.now.seen c.loop.pass.seen c.turn_once.new.pass.seen c.loop.books.stood c.turn_once.new.stood c.args.books.now.told c.loop.books.told (g.O.Write.contents c.args.out.now) (g.O.Write.contents c.loop.out)
     i.grows all i.all later i.told i.lines)
 
 -- ---- it ends where its entries were to stand, or to be told
@@ -131,7 +131,7 @@ returns-in-Err-stand_and_tell-clause-goes g c =
     let mid = of_office c.args.me (drop c.loop.next c.args.programs.now) in
     let left = of_office c.args.me (drop c.submit_some.new.next c.args.programs.now) in
     let tag : c.loop.pass.tag ≡ 0 = c.loop.invariant.stays.1 ∙ c.requires.tag in
-    cut_short g.S.Wire.tells k c.args.turns c.loop.count begin at end (of_office c.args.me (drop c.args.from c.args.programs.now)) mid c.in-Err-stand_and_tell.fault c.loop.invariant.made
+    cut_short (IsToldBy g.S.Wire.account) g.S.Wire.tells k c.args.turns c.loop.count begin at end (of_office c.args.me (drop c.args.from c.args.programs.now)) mid c.in-Err-stand_and_tell.fault c.loop.invariant.made (c.loop.station.socket, refl)
     (AfterTurn c.in-Ok-turn_once.turn turned left (record {
       filled = c.submit_some.new.pass;
       fills = subst (λ (x : ℕ). Fills x k c.loop.pass c.submit_some.new.pass mid left) tag c.in-Ok.ensures.fills;
@@ -166,10 +166,10 @@ returns-in-Err-stand_and_tell-clause-told g c =
     grown_stood c.turn_once.new.pass.seen c.stand_and_tell.new.pass.seen c.turn_once.new.stood c.stand_and_tell.new.books.stood c.in-Ok-turn_once.ensures.all looked c.stand_and_tell.ensures.steps in
     let same : c.stand_and_tell.new.books.told ≡ c.loop.books.told = c.in-Err-stand_and_tell.ensures.same in
     unless_then (Some c.in-Err-stand_and_tell.fault) (g.O.Write.contents c.stand_and_tell.new.out ≡ g.O.Write.contents c.loop.out)
-    (Told c.args.plan.now k c.stand_and_tell.new.pass.seen (length c.args.pass.now.seen) c.stand_and_tell.new.books.stood c.args.books.now.told c.stand_and_tell.new.books.told (g.O.Write.contents c.args.out.now) (g.O.Write.contents c.stand_and_tell.new.out))
-    (λ still. told_at c.args.plan.now k c.args.pass.now.seen c.loop.pass.seen c.stand_and_tell.new.pass.seen c.loop.books.stood c.stand_and_tell.new.books.stood c.args.books.now.told c.stand_and_tell.new.books.told (g.O.Write.contents c.args.out.now)
+    (Told c.args.form c.args.plan.now k c.stand_and_tell.new.pass.seen (length c.args.pass.now.seen) c.stand_and_tell.new.books.stood c.args.books.now.told c.stand_and_tell.new.books.told (g.O.Write.contents c.args.out.now) (g.O.Write.contents c.stand_and_tell.new.out))
+    (λ still. told_at c.args.form c.args.plan.now k c.args.pass.now.seen c.loop.pass.seen c.stand_and_tell.new.pass.seen c.loop.books.stood c.stand_and_tell.new.books.stood c.args.books.now.told c.stand_and_tell.new.books.told (g.O.Write.contents c.args.out.now)
     (g.O.Write.contents c.stand_and_tell.new.out) i.grows all i.all (omega (arith, first, second)) (same ∙ i.told)
-    (subst (λ x. Appends (g.O.Write.contents c.args.out.now) x (flat_map (outcome_line c.args.plan.now) (drop c.args.books.now.told (finished_of (office_with k c.loop.pass.seen))))) (sym still) i.lines)) c.in-Err-stand_and_tell.ensures.untold
+    (subst (λ x. Appends (g.O.Write.contents c.args.out.now) x (flat_map (outcome_as c.args.form c.args.plan.now) (drop c.args.books.now.told (finished_of (office_with k c.loop.pass.seen))))) (sym still) i.lines)) c.in-Err-stand_and_tell.ensures.untold
 
 -- ---- it goes on
 
@@ -222,7 +222,7 @@ loop-preserved g c =
       out = subst (λ s. LetsOut g.S.Wire.tells c.args.pass.now.tag a (g.S.Wire.account s) c.stand_and_tell.new.pass.seen c.stand_and_tell.new.books.stood) (sym socket) out;
       told = c.in-Ok-stand_and_tell.ensures.told;
       more = omega (arith, i.more, i.told, c.in-Ok-stand_and_tell.ensures.told, ap length more.1, length-append before more.0);
-      lines = more_lines p c.args.books.now.told before after (g.O.Write.contents c.args.out.now) (g.O.Write.contents c.loop.out) (g.O.Write.contents c.stand_and_tell.new.out) c.loop.books.told (omega (arith, i.more, i.told)) i.told more i.lines c.in-Ok-stand_and_tell.ensures.lines;
+      lines = more_lines c.args.form p c.args.books.now.told before after (g.O.Write.contents c.args.out.now) (g.O.Write.contents c.loop.out) (g.O.Write.contents c.stand_and_tell.new.out) c.loop.books.told (omega (arith, i.more, i.told)) i.told more i.lines c.in-Ok-stand_and_tell.ensures.lines;
     }
 
 -- ---- its journal only grows

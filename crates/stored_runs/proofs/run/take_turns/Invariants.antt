@@ -3,7 +3,7 @@ use Rattle.std.specs.List.{flat_map}
 use Rattle.std.specs.Io.KnownBytes.{Appends}
 use mathlib.Core.List.{IsPrefix}
 use Rattle.locked_office.specs.Calls.{Stays, office_with}
-use Rattle.session_reports.specs.Report.{outcome_line}
+use Rattle.report_forms.specs.Forms.{outcome_as}
 use Rattle.socket_pump.specs.Last.{last_of}
 use Rattle.durable_turns.specs.Letting.{StoreHas, LetsOut}
 use Rattle.office_stations.specs.Rounds.{of_office}
@@ -27,5 +27,5 @@ invariant-loop g l = record {
   out : LetsOut g.S.Wire.tells l.fn.pass.tag (g.S.Wire.account l.fn.station.socket) (g.S.Wire.account l.station.socket) l.pass.seen l.books.stood;
   told : l.books.told ≡ length (finished_of (office_with l.desk.key l.pass.seen));
   more : l.fn.books.told ≤ l.books.told;
-  lines : Appends (g.O.Write.contents l.fn.out) (g.O.Write.contents l.out) (flat_map (outcome_line l.plan) (drop l.fn.books.told (finished_of (office_with l.desk.key l.pass.seen))));
+  lines : Appends (g.O.Write.contents l.fn.out) (g.O.Write.contents l.out) (flat_map (outcome_as l.form l.plan) (drop l.fn.books.told (finished_of (office_with l.desk.key l.pass.seen))));
 }
