@@ -6,12 +6,13 @@ use Rattle.std.proofs.lemmas.List.{length-map}
 use Rattle.std.proofs.lemmas.List.FromFn.{length-range_with_len}
 use Rattle.office_map.specs.PlanValue.{PlanValue}
 use Rattle.locked_office.specs.Calls.{Key}
+use Rattle.report_forms.specs.declared.forms.Form.{Form}
 use Rattle.office_runs.specs.Runs.{HasJournals, TellsJournals, key_of, text_of}
 use Rattle.office_runs.specs.declared.report.Ran.{Ran}
 
-pub few_journals : (p : PlanValue) (n : ℕ) (wanted : Bool) (ran : Ran) → TellsJournals p (range_with_len 0 (length p.offices)) n wanted ran
+pub few_journals : (form : Form) (p : PlanValue) (n : ℕ) (wanted : Bool) (ran : Ran) → TellsJournals form p (range_with_len 0 (length p.offices)) n wanted ran
     → length ran.journals.items ≤ length p.offices
-few_journals p n wanted ran h = by_test wanted h.journals
+few_journals form p n wanted ran h = by_test wanted h.journals
   where
     sizes : length h.sites ≡ length p.offices
     sizes =

@@ -4,6 +4,7 @@ pub mod Reported
 pub mod Running
 pub mod Storing
 pub mod OfServing
+pub mod OfSeals
 pub mod JournalTexts
 pub mod FewJournals
 pub mod SerialTold

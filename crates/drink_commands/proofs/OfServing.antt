@@ -1,16 +1,14 @@
 -- What a fault of `serve` says, and what it leaves; and that what was written is what the text means.
-use Rattle.std.proofs.Common.{◌≡◌, ◌⊎◌, ℕ, zero, suc, Bool, List, [], ◌∷◌, take, Option, Some, None, refl, sym, subst, arith, inl, inr, IfSome}
+use Rattle.std.proofs.Common.{◌≡◌, ◌⊎◌, ℕ, zero, suc, Bool, List, [], ◌∷◌, take, Option, Some, None, refl, sym, subst, arith, inl, inr}
 use Rattle.input_texts.specs.Words.{HaveTexts, StandFor, Unread, unread}
 use Rattle.office_map.specs.PlanValue.{PlanValue, office_named}
 use Rattle.socket_pump.specs.Wires.{Account}
-use Rattle.stored_runs.specs.Keeping.{Keeping}
 use Rattle.stored_runs.specs.declared.fault.KeptFault.{KeptFault}
 use Rattle.stored_runs.specs.declared.fault.StoredFault.TheVariants as stored
 use Rattle.secret_files.specs.declared.fault.SecretsFault.{SecretsFault}
 use Rattle.serving.specs.declared.fault.ServeFault.{ServeFault}
 use Rattle.serving.specs.declared.fault.ServeFault.TheVariants as serve
 use Rattle.serving.specs.declared.served.Served.{Served}
-use Rattle.serving.specs.Serving.{Serves}
 use Rattle.command_inputs.specs.declared.input.Input.{Input}
 use Rattle.command_inputs.specs.declared.input.Input.TheVariants as inputs
 use Rattle.command_inputs.specs.declared.fault.TextFault.{TextFault}
@@ -22,9 +20,10 @@ use Rattle.command_outputs.specs.declared.fault.Fault.{Fault}
 use Rattle.command_outputs.specs.declared.fault.Fault.TheVariants.{Memory, Text, Refused, NoSuchOffice, NoAddress, NoJournal, NoPlace, NoRun, CutShort, WriteFailed, FileFailed, NoStore, StoreFailed, OtherSessions, NoSecrets}
 use Rattle.command_outputs.specs.Fault.{IsAmong, IsFaultAt, IsOfStoredRun, IsPlaceFault}
 use Rattle.drink_commands.specs.Run.{IsOfOffice, IsReached, SaysOf}
-use Rattle.drink_commands.specs.Served.{HasItsSecrets, IsCutOff, IsFoundIn, IsJudgedServed, IsNotFoundIn, IsOfService, IsServeEnd, JudgesServed, LeavesServed, RefusesFound, WritesServed}
-use Rattle.drink_commands.specs.Sealed.{HasSecrets, IsSecretsFault}
-use Rattle.drink_commands.specs.Stored.{IsStoreFault, LeavesStored}
+use Rattle.report_forms.specs.declared.forms.Form.{Form}
+use Rattle.drink_commands.specs.Served.{HasServed, IsCutOff, IsJudgedServed, IsNotFoundIn, IsOfService, IsServeEnd, JudgesServed, LeavesServed, RefusesFound, WritesServed}
+use Rattle.drink_commands.specs.Sealed.{IsSecretsFault}
+use Rattle.drink_commands.specs.Stored.{IsStoreFault, IsUnbegun, LeavesStored}
 use Rattle.drink_commands.specs.Texts.{Judges, NoOther, Refuses, nothing}
 use Rattle.drink_commands.proofs.Faults.{RefusesWord, TakesPlan, among, among_more, weaker}
 use Rattle.drink_commands.proofs.Faults as texts
@@ -88,6 +87,10 @@ module _ (U S : Type 0) (F : List ℕ → Obstacle → Type 0) (is_new : Bool) (
 
   pub at_store : (M : KeptFault → Type 0) → ((fault : KeptFault) → M fault → N fault) → (f : Fault) → IsStoreFault S is_new M f → U → L f
   at_store M k f h u = as_stored f (λ t e. subst (IsStoreFault S is_new M) e h) (storing.at_store U S F is_new N (λ cause. R (serve.Run cause)) M k f h u)
+
+  pub at_unbegun : (M : KeptFault → Type 0) → ((fault : KeptFault) → M fault → N fault) → (f : Fault) → IsUnbegun S is_new M f → U → L f
+  at_unbegun M k f (inl (cause, is)) u = subst L (sym is) u
+  at_unbegun M k f (inr h) u = at_store M k f h u
 
   -- the service had begun
   pub at_end : (e : Served) (f : Fault) → IsServeEnd e f → ((cause : ServeFault) → IsCutOff cause e → R cause) → L f
@@ -189,27 +192,16 @@ module _ (files : List ℕ → Option (List ℕ)) (standard : Option (List ℕ))
       let (after, has, more) = started u standard files (a ∷ []) (a_text ∷ []) e known in
       (plan a_text after has).0
 
-  pub writes : (tells : Bool) (known_bytes : Option (List ℕ)) (is_new : Bool) (kept : Keeping) (asks heard stands : Option (List ℕ)) (first last : Account) (end : Served) (old new : Option (List ℕ))
-      → IsReached p me → IsFoundIn known_bytes is_new p me kept → heard ≡ asks → Serves tells p me kept heard stands first last end old new
-      → (a_text : List ℕ) → StandFor files standard (a ∷ []) (a_text ∷ []) → WritesServed tells known_bytes is_new a_text word asks end old new
-  writes tells known_bytes is_new kept asks heard stands first last end old new reached found same serves a_text known = record {
+  pub writes : (Is : PlanValue → ℕ → Account → Type 0) (form : Form) (tells : Bool) (known_bytes : Option (List ℕ)) (is_new : Bool) (asks : Option (List ℕ)) (end : Served) (old new : Option (List ℕ)) → IsReached p me → HasServed (Is p me) form tells known_bytes is_new p me asks end old new
+      → (a_text : List ℕ) → StandFor files standard (a ∷ []) (a_text ∷ []) → WritesServed Is form tells known_bytes is_new a_text word asks end old new
+  writes Is form tells known_bytes is_new asks end old new reached served a_text known = record {
     p = p;
     accepted = meaning a_text known;
     me = me;
     office = named;
     reached = reached;
-    kept = kept;
-    found = found;
-    stands = stands;
-    first = first;
-    last = last;
-    serves = subst (λ it. Serves tells p me kept it stands first last end old new) same serves;
+    served = served;
   }
-
-  pub under_seals : (file : Option (List ℕ)) → IfSome file (HasSecrets files p me) → HasItsSecrets files standard a word file
-  under_seals file had name a_text is known =
-      let P : List ℕ → Type 0 = HasSecrets files p me in
-      (p, me, meaning a_text known, named, subst (λ o. IfSome o P) is had)
 
   pub not_found : (known_bytes : Option (List ℕ)) (is_new : Bool) (fault : KeptFault) → IsNotFoundIn known_bytes is_new p me fault → RefusesFound files standard known_bytes is_new a word fault
   not_found known_bytes is_new fault h a_text known = (p, me, meaning a_text known, named, h)

@@ -13,6 +13,7 @@ use Rattle.script_runs.specs.Runs.{run_of}
 use Rattle.script_runs.specs.Transcript.{transcript, IsSerialRun}
 use Rattle.random_runs.specs.Runs.{Tells}
 use Rattle.drink_commands.specs.Random.{TellsRun}
+use Rattle.report_forms.specs.declared.forms.Form.{Form}
 use Rattle.office_runs.specs.Runs.{TellsCourse, TellsJournals}
 use Rattle.office_runs.specs.declared.report.Ran.{Ran}
 use Rattle.command_outputs.specs.Days.{WritesEndOf}
@@ -20,7 +21,7 @@ use Rattle.command_outputs.specs.Journals.{File, WritesFiles}
 use Rattle.command_outputs.specs.Places.{IsIn, IsObstacle}
 use Rattle.drink_commands.specs.Run.{IsReached, RefusesFile, RefusesFolder, WritesOffice, WritesOffices, WritesRan, are_wanted}
 use Rattle.command_outputs.specs.declared.fault.Obstacle.{Obstacle}
-use Rattle.drink_commands.specs.Sealed.{HasSecrets, IsSealed}
+use Rattle.socket_pump.specs.Wires.{Account}
 use Rattle.drink_commands.specs.Simulation.{LeavesFiles, Simulates}
 use Rattle.drink_commands.proofs.Faults.{TakesPlan, TakesScript, TakesSessions}
 
@@ -69,19 +70,12 @@ simulated form files u v w x a b c a_text b_text c_text p programs acts run fold
 
 -- ---- offices that run
 
-pub under_seals : (files : List ℕ → Option (List ℕ)) (standard : Option (List ℕ)) (u v : Unread) (a word b : List ℕ) (p : PlanValue) (me : ℕ) (file : Option (List ℕ)) → u ≡ unread standard (a ∷ b ∷ []) → TakesPlan files u a v p → office_named p word ≡ Some me
-    → IfSome file (HasSecrets files p me) → IsSealed files standard a word b file
-under_seals files standard u v a word b p me file e plan named had name a_text b_text is known =
-    let (after, has, more) = started u standard files (a ∷ b ∷ []) (a_text ∷ b_text ∷ []) e known in
-    let P : List ℕ → Type 0 = HasSecrets files p me in
-    (p, me, (plan a_text after has).0, named, subst (λ o. IfSome o P) is had)
-
-pub ran_office : (tells : Bool) (Free : PlanValue → ℕ → List ℕ → Type 0) (files : List ℕ → Option (List ℕ)) (u v w : Unread) (a word b a_text b_text : List ℕ) (p : PlanValue) (me : ℕ) (programs seen : List ProgramValue)
+pub ran_office : (Is : PlanValue → ℕ → Account → Type 0) (form : Form) (tells : Bool) (Free : PlanValue → ℕ → List ℕ → Type 0) (files : List ℕ → Option (List ℕ)) (u v w : Unread) (a word b a_text b_text : List ℕ) (p : PlanValue) (me : ℕ) (programs seen : List ProgramValue)
     (turns : ℕ) (file : Option (List ℕ)) (run : Ran) (old new : Option (List ℕ)) (kept left : Option (List File)) → TakesPlan files u a v p → office_named p word ≡ Some me → IsReached p me → TakesSessions files v b w p programs
-    → HaveTexts files u (a ∷ b ∷ []) (a_text ∷ b_text ∷ []) → seen ≡ programs → IfSome file (Free p me) → TellsCourse tells p me seen turns (is_some file) run → Appends old new (string_bytes run.text)
+    → HaveTexts files u (a ∷ b ∷ []) (a_text ∷ b_text ∷ []) → seen ≡ programs → IfSome file (Free p me) → TellsCourse (Is p me) form tells p me seen turns (is_some file) run → Appends old new (string_bytes run.text)
     → WritesFiles file (λ place. map (λ text. (place, string_bytes text)) run.journals.items) kept left
-    → WritesOffice tells Free a_text word b_text turns file run old new kept left
-ran_office tells Free files u v w a word b a_text b_text p me programs seen turns file run old new kept left plan e reached sessions (after, has, (next, has_next, more)) same free told written journal =
+    → WritesOffice Is form tells Free a_text word b_text turns file run old new kept left
+ran_office Is form tells Free files u v w a word b a_text b_text p me programs seen turns file run old new kept left plan e reached sessions (after, has, (next, has_next, more)) same free told written journal =
     let it = plan a_text after has in
     record {
       named = record {
@@ -96,17 +90,17 @@ ran_office tells Free files u v w a word b a_text b_text p me programs seen turn
         is_reached = reached;
       };
       free = free;
-      told = subst (λ ps. TellsCourse tells p me ps turns (is_some file) run) same told;
+      told = subst (λ ps. TellsCourse (Is p me) form tells p me ps turns (is_some file) run) same told;
       written = written;
       journal = journal;
     }
 
-pub ran_offices : (Free : PlanValue → ℕ → List ℕ → Type 0) (files : List ℕ → Option (List ℕ)) (u v w : Unread) (a b a_text b_text : List ℕ) (p : PlanValue) (programs seen : List ProgramValue)
+pub ran_offices : (form : Form) (Free : PlanValue → ℕ → List ℕ → Type 0) (files : List ℕ → Option (List ℕ)) (u v w : Unread) (a b a_text b_text : List ℕ) (p : PlanValue) (programs seen : List ProgramValue)
     (folder next_file unfinished : Option (List ℕ)) (run : Ran) (old new : Option (List ℕ)) (kept left : Option (List File)) → TakesPlan files u a v p → TakesSessions files v b w p programs
     → HaveTexts files u (a ∷ b ∷ []) (a_text ∷ b_text ∷ []) → seen ≡ programs → IfSome folder (Free p (length p.offices))
-    → TellsJournals p (range_with_len 0 (length p.offices)) (length seen) (are_wanted folder next_file unfinished) run → WritesRan p seen folder next_file unfinished run old new kept left
-    → WritesOffices Free a_text b_text folder next_file unfinished run old new kept left
-ran_offices Free files u v w a b a_text b_text p programs seen folder next_file unfinished run old new kept left plan sessions (after, has, (next, has_next, more)) same free told writes =
+    → TellsJournals form p (range_with_len 0 (length p.offices)) (length seen) (are_wanted folder next_file unfinished) run → WritesRan p seen folder next_file unfinished run old new kept left
+    → WritesOffices form Free a_text b_text folder next_file unfinished run old new kept left
+ran_offices form Free files u v w a b a_text b_text p programs seen folder next_file unfinished run old new kept left plan sessions (after, has, (next, has_next, more)) same free told writes =
     let it = plan a_text after has in
     record {
       both = record {
@@ -116,7 +110,7 @@ ran_offices Free files u v w a b a_text b_text p programs seen folder next_file 
         are_sessions = (sessions b_text next (subst (λ s. HasText files s b b_text next) (sym it.1) has_next)).0;
       };
       free = free;
-      told = subst (λ ps. TellsJournals p (range_with_len 0 (length p.offices)) (length ps) (are_wanted folder next_file unfinished) run) same told;
+      told = subst (λ ps. TellsJournals form p (range_with_len 0 (length p.offices)) (length ps) (are_wanted folder next_file unfinished) run) same told;
       writes = subst (λ ps. WritesRan p ps folder next_file unfinished run old new kept left) same writes;
     }
 

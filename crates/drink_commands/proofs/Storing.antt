@@ -5,8 +5,7 @@ use Rattle.office_map.specs.PlanValue.{PlanValue, office_named}
 use Rattle.session_meaning.specs.ProgramValue.{ProgramValue}
 use Rattle.session_language.specs.Reading.{sessions_of}
 use Rattle.socket_pump.specs.Wires.{Account}
-use Rattle.stored_runs.specs.Keeping.{Keeping}
-use Rattle.stored_runs.specs.Runs.{GoesOn}
+use Rattle.report_forms.specs.declared.forms.Form.{Form}
 use Rattle.stored_runs.specs.declared.ended.Ended.{Ended}
 use Rattle.stored_runs.specs.declared.fault.KeptFault.{KeptFault}
 use Rattle.stored_runs.specs.declared.fault.StoredFault.{StoredFault}
@@ -22,7 +21,7 @@ use Rattle.command_outputs.specs.declared.fault.Fault.TheVariants.{Memory, Text,
 use Rattle.command_outputs.specs.Fault.{IsAmong, IsOfStoredRun, IsPlaceFault}
 use Rattle.command_inputs.specs.Plans.{IsAcceptedAs}
 use Rattle.drink_commands.specs.Run.{IsNoOffice, IsReached, IsUnreached, SaysOf}
-use Rattle.drink_commands.specs.Stored.{IsEnd, IsEndedBy, IsJudgedStored, IsKept, IsNotHeld, IsRefusal, IsStoreFault, LeavesStored, RefusesStore, WritesStored}
+use Rattle.drink_commands.specs.Stored.{IsEnd, IsEndedBy, IsJudgedStored, IsNotHeld, IsRefusal, IsStoreFault, IsUnbegun, LeavesStored, RefusesStore, WentOn, WritesStored}
 use Rattle.drink_commands.specs.Texts.{Known, NoOther, nothing}
 use Rattle.drink_commands.proofs.Faults as texts
 use Rattle.drink_commands.proofs.Faults.{TakesPlan, TakesSessions, at_next, sessions_taken}
@@ -136,6 +135,11 @@ module _ (U S : Type 0) (F : List ℕ → Obstacle → Type 0) (is_new : Bool) (
   at_store M k (OtherSessions ticket) h u = (u, h.0, k _ h.1)
   at_store M k (NoSecrets why) h u = absurd h
 
+  -- the office isn't begun
+  pub at_unbegun : (M : KeptFault → Type 0) → ((fault : KeptFault) → M fault → N fault) → (f : Fault) → IsUnbegun S is_new M f → U → L f
+  at_unbegun M k f (inl (cause, is)) u = subst L (sym is) u
+  at_unbegun M k f (inr h) u = at_store M k f h u
+
   -- the run had begun
   pub at_end : (e : Ended) (f : Fault) → IsEnd e f → ((cause : StoredFault) → IsEndedBy cause e → R cause) → L f
   at_end e Memory h k = absurd h
@@ -224,6 +228,11 @@ is_store S is_new N StoreFailed h = absurd h
 is_store S is_new N (OtherSessions ticket) h = inr (inr tt)
 is_store S is_new N (NoSecrets why) h = absurd h
 
+-- the office isn't begun
+pub is_unbegun : (S : Type 0) (is_new : Bool) (N : KeptFault → Type 0) (f : Fault) → IsUnbegun S is_new N f → IsAmong [] f ⊎ IsOfStoredRun f
+is_unbegun S is_new N f (inl (cause, is)) = subst (λ (x : Fault). IsAmong [] x ⊎ IsOfStoredRun x) (sym is) (inr (inl (inl tt)))
+is_unbegun S is_new N f (inr h) = is_store S is_new N f h
+
 -- ---- what a fault says
 
 -- one that comes later than the texts
@@ -248,10 +257,9 @@ module _ (files : List ℕ → Option (List ℕ)) (standard : Option (List ℕ))
       let it = plan a_text after has in
       (it.0, (sessions b_text next (subst (λ s. HasText files s b b_text next) (sym it.1) has_next)).0)
 
-  pub went_on : (tells : Bool) (known_bytes : Option (List ℕ)) (is_new : Bool) (turns : ℕ) (kept : Keeping) (stands : Option (List ℕ)) (first last : Account) (end : Ended) (old new : Option (List ℕ)) (again : List ProgramValue)
-      → again ≡ programs → IsReached p me → IsKept known_bytes is_new p me seen kept → GoesOn tells p me again turns kept stands first last end old new
-      → (a_text b_text : List ℕ) → StandFor files standard (a ∷ b ∷ []) (a_text ∷ b_text ∷ []) → WritesStored tells known_bytes is_new a_text word b_text turns end old new
-  went_on tells known_bytes is_new turns kept stands first last end old new again too reached is_kept goes a_text b_text known =
+  pub went_on : (Is : PlanValue → ℕ → Account → Type 0) (form : Form) (tells : Bool) (known_bytes : Option (List ℕ)) (is_new : Bool) (turns : ℕ) (end : Ended) (old new : Option (List ℕ)) → IsReached p me → WentOn (Is p me) form tells known_bytes is_new p me seen turns end old new
+      → (a_text b_text : List ℕ) → StandFor files standard (a ∷ b ∷ []) (a_text ∷ b_text ∷ []) → WritesStored Is form tells known_bytes is_new a_text word b_text turns end old new
+  went_on Is form tells known_bytes is_new turns end old new reached went a_text b_text known =
       let it = meaning a_text b_text known in
       record {
         named = record {
@@ -260,12 +268,7 @@ module _ (files : List ℕ → Option (List ℕ)) (standard : Option (List ℕ))
           is_office = named;
           is_reached = reached;
         };
-        kept = kept;
-        is_kept = subst (λ ps. IsKept known_bytes is_new p me ps kept) same is_kept;
-        stands = stands;
-        first = first;
-        last = last;
-        goes_on = subst (λ ps. GoesOn tells p me ps turns kept stands first last end old new) too goes;
+        went_on = subst (λ ps. WentOn (Is p me) form tells known_bytes is_new p me ps turns end old new) same went;
       }
 
   pub not_held : (known_bytes : Option (List ℕ)) (is_new : Bool) (fault : KeptFault) → IsNotHeld known_bytes is_new p me seen fault → RefusesStore files standard known_bytes is_new a word b fault

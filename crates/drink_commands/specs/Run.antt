@@ -6,7 +6,9 @@ use Rattle.std.specs.Io.KnownBytes.{Appends}
 use Rattle.input_texts.specs.Words.{HaveFirstTexts, StandFor}
 use Rattle.office_map.specs.PlanValue.{PlanValue, office_named, office_name_of}
 use Rattle.session_meaning.specs.ProgramValue.{ProgramValue}
+use Rattle.socket_pump.specs.Wires.{Account}
 use Rattle.office_stations.specs.Addresses.{is_without}
+use Rattle.report_forms.specs.declared.forms.Form.{Form}
 use Rattle.office_runs.specs.Runs.{TellsCourse, TellsJournals}
 use Rattle.office_runs.specs.declared.report.Ran.{Ran}
 use Rattle.office_stations.specs.declared.fault.RunFault.{RunFault}
@@ -53,12 +55,12 @@ pub record NamedOffice (plan word sessions : List ℕ) : Type 0 where
   pub is_reached : IsReached both.p me
 
 -- The two texts mean a plan and sessions under it, and the word names an office of the plan, which has an address, as its
--- neighbours have. What is told of so many turns of that office with its sessions among those was written after what the writer held,
--- and its journal, where a word names a file for it, to that file; and that one was free to take it, as Free says.
-pub record WritesOffice (tells : Bool) (Free : PlanValue → ℕ → List ℕ → Type 0) (plan word sessions : List ℕ) (turns : ℕ) (file : Option (List ℕ)) (ran : Ran) (old new : Option (List ℕ)) (kept left : Option (List File)) : Type 0 where
+-- neighbours have. What is told, in that form, of so many turns of that office with its sessions among those was written after what the writer held,
+-- and its journal, where a word names a file for it, to that file; and that one was free to take it, as Free says. What its socket told is as Is says.
+pub record WritesOffice (Is : PlanValue → ℕ → Account → Type 0) (form : Form) (tells : Bool) (Free : PlanValue → ℕ → List ℕ → Type 0) (plan word sessions : List ℕ) (turns : ℕ) (file : Option (List ℕ)) (ran : Ran) (old new : Option (List ℕ)) (kept left : Option (List File)) : Type 0 where
   pub named : NamedOffice plan word sessions
   pub free : IfSome file (Free named.both.p named.me)
-  pub told : TellsCourse tells named.both.p named.me named.both.programs turns (is_some file) ran
+  pub told : TellsCourse (Is named.both.p named.me) form tells named.both.p named.me named.both.programs turns (is_some file) ran
   pub written : Appends old new (string_bytes ran.text)
   pub journal : WritesFiles file (λ place. map (λ text. (place, string_bytes text)) ran.journals.items) kept left
 
@@ -75,25 +77,25 @@ pub record WritesRan (p : PlanValue) (programs : List ProgramValue) (folder next
 abbrev pub are_wanted : (folder next unfinished : Option (List ℕ)) → Bool
 are_wanted folder next unfinished = is_some folder || is_day_named next unfinished
 
--- The two texts mean a plan and sessions under it. What is told of a run of all the plan's offices with those sessions was written, and the
+-- The two texts mean a plan and sessions under it. What is told, in that form, of a run of all the plan's offices with those sessions was written, and the
 -- folder that a word names for their journals was free to take them, as Free says.
-pub record WritesOffices (Free : PlanValue → ℕ → List ℕ → Type 0) (plan sessions : List ℕ) (folder next unfinished : Option (List ℕ)) (ran : Ran) (old new : Option (List ℕ)) (kept left : Option (List File)) : Type 0 where
+pub record WritesOffices (form : Form) (Free : PlanValue → ℕ → List ℕ → Type 0) (plan sessions : List ℕ) (folder next unfinished : Option (List ℕ)) (ran : Ran) (old new : Option (List ℕ)) (kept left : Option (List File)) : Type 0 where
   pub both : PlanAndSessions plan sessions
   pub free : IfSome folder (Free both.p (length both.p.offices))
-  pub told : TellsJournals both.p (range_with_len 0 (length both.p.offices)) (length both.programs) (are_wanted folder next unfinished) ran
+  pub told : TellsJournals form both.p (range_with_len 0 (length both.p.offices)) (length both.programs) (are_wanted folder next unfinished) ran
   pub writes : WritesRan both.p both.programs folder next unfinished ran old new kept left
 
 -- so it is with the texts that the words stand for, of a run that ended as P says
-abbrev pub RunsOffice : Bool → (List ℕ → Option (List ℕ)) → Option (List ℕ) → (plan word sessions : List ℕ) → ℕ → Option (List ℕ) → (Ran → Type 0) → Option (List ℕ) → Option (List ℕ) → Option (List File) → Option (List File) → Type 0
-RunsOffice tells files standard plan word sessions turns file P old new kept left = (plan_text sessions_text : List ℕ)
+abbrev pub RunsOffice : (PlanValue → ℕ → Account → Type 0) → Form → Bool → (List ℕ → Option (List ℕ)) → Option (List ℕ) → (plan word sessions : List ℕ) → ℕ → Option (List ℕ) → (Ran → Type 0) → Option (List ℕ) → Option (List ℕ) → Option (List File) → Option (List File) → Type 0
+RunsOffice Is form tells files standard plan word sessions turns file P old new kept left = (plan_text sessions_text : List ℕ)
     → StandFor files standard (plan ∷ sessions ∷ []) (plan_text ∷ sessions_text ∷ [])
-    → (ran : Ran) × P ran × WritesOffice tells (IsFree files plan sessions) plan_text word sessions_text turns file ran old new kept left
+    → (ran : Ran) × P ran × WritesOffice Is form tells (IsFree files plan sessions) plan_text word sessions_text turns file ran old new kept left
 
 -- so it is of all offices of the plan and all sessions
-abbrev pub RunsOffices : (List ℕ → Option (List ℕ)) → Option (List ℕ) → (plan sessions : List ℕ) → (folder next unfinished : Option (List ℕ)) → (Ran → Type 0) → Option (List ℕ) → Option (List ℕ) → Option (List File) → Option (List File) → Type 0
-RunsOffices files standard plan sessions folder next unfinished P old new kept left = (plan_text sessions_text : List ℕ)
+abbrev pub RunsOffices : Form → (List ℕ → Option (List ℕ)) → Option (List ℕ) → (plan sessions : List ℕ) → (folder next unfinished : Option (List ℕ)) → (Ran → Type 0) → Option (List ℕ) → Option (List ℕ) → Option (List File) → Option (List File) → Type 0
+RunsOffices form files standard plan sessions folder next unfinished P old new kept left = (plan_text sessions_text : List ℕ)
     → StandFor files standard (plan ∷ sessions ∷ []) (plan_text ∷ sessions_text ∷ [])
-    → (ran : Ran) × P ran × WritesOffices (AreFree files plan sessions) plan_text sessions_text folder next unfinished ran old new kept left
+    → (ran : Ran) × P ran × WritesOffices form (AreFree files plan sessions) plan_text sessions_text folder next unfinished ran old new kept left
 
 -- ---- what a fault says
 

@@ -1,22 +1,22 @@
--- What `run` says of secrets.
-use Rattle.std.specs.Prelude.{◌≡◌, ℕ, List, [], ◌∷◌, Option, Some, Ok}
-use Rattle.input_texts.specs.Words.{StandFor}
-use Rattle.office_map.specs.PlanValue.{PlanValue, office_named}
+-- What commands say of secrets.
+use Rattle.std.specs.Prelude.{◌≡◌, ℕ, List, Option, Some, None, Ok}
+use Rattle.office_map.specs.PlanValue.{PlanValue}
+use Rattle.socket_pump.specs.Wires.{Account}
 use Rattle.secret_texts.specs.SecretText.{secrets_of}
 use Rattle.secret_files.specs.declared.fault.SecretsFault.{SecretsFault}
-use Rattle.command_inputs.specs.Plans.{IsAcceptedAs}
+use Rattle.sealed_sockets.specs.Sealed.{IsToldUnder}
 use Rattle.command_outputs.specs.declared.fault.Fault.{Fault}
 use Rattle.command_outputs.specs.declared.fault.Fault.TheVariants.{NoSecrets}
 
--- an office has secrets by the text of the file of this name
-abbrev pub HasSecrets : (List ℕ → Option (List ℕ)) → PlanValue → ℕ → List ℕ → Type 0
-HasSecrets files p me name = (text : List ℕ) → files name ≡ Some text → (secrets : List (Option (List ℕ))) × (secrets_of p me text ≡ Ok secrets)
+-- these are an office's secrets by the text of the file that is named for them, where it is known; without a file it has none
+abbrev pub AreSecrets : (List ℕ → Option (List ℕ)) → PlanValue → ℕ → (file : Option (List ℕ)) → Option (List (Option (List ℕ))) → Type 0
+AreSecrets files p me None secrets = secrets ≡ None
+AreSecrets files p me (Some name) None = ⊥
+AreSecrets files p me (Some name) (Some secrets) = (text : List ℕ) → files name ≡ Some text → secrets_of p me text ≡ Ok secrets
 
--- with the texts that the words stand for the office has secrets by the file that is named for them, if one is
-abbrev pub IsSealed : (List ℕ → Option (List ℕ)) → Option (List ℕ) → (plan word sessions : List ℕ) → Option (List ℕ) → Type 0
-IsSealed files standard plan word sessions file = (name plan_text sessions_text : List ℕ) → file ≡ Some name
-    → StandFor files standard (plan ∷ sessions ∷ []) (plan_text ∷ sessions_text ∷ [])
-    → (p : PlanValue) × (me : ℕ) × IsAcceptedAs plan_text p × (office_named p word ≡ Some me) × HasSecrets files p me name
+-- a socket over one of which each tells so, under an office's secrets by the file that is named for them, tells this
+abbrev pub IsUnderSeals : {S : Type 0} → (S → Account) → (List ℕ → Option (List ℕ)) → (file : Option (List ℕ)) → PlanValue → ℕ → Account → Type 0
+IsUnderSeals account files file p me a = (secrets : Option (List (Option (List ℕ)))) × AreSecrets files p me file secrets × IsToldUnder account secrets a
 
 -- the office doesn't get its secrets, and what P says of why
 abbrev pub IsSecretsFault : (SecretsFault → Type 0) → Fault → Type 0

@@ -10,6 +10,7 @@ use Rattle.serving.specs.declared.fault.ServeFault.{ServeFault}
 use Rattle.serving.specs.declared.fault.ServeFault.TheVariants.{Run, InputFailed}
 use Rattle.serving.specs.declared.served.Served.{Served}
 use Rattle.serving.specs.Serving.{Serves}
+use Rattle.report_forms.specs.declared.forms.Form.{Form}
 use Rattle.command_inputs.specs.declared.input.Input.TheVariants as inputs
 use Rattle.command_inputs.specs.declared.fault.TextFault.TheVariants.{ReadFailed}
 use Rattle.command_inputs.specs.Plans.{IsAcceptedAs}
@@ -19,7 +20,6 @@ use Rattle.command_outputs.specs.declared.fault.Obstacle.{Obstacle}
 use Rattle.command_outputs.specs.declared.fault.Fault.{Fault}
 use Rattle.command_outputs.specs.declared.fault.Fault.TheVariants.{Text, CutShort, WriteFailed, StoreFailed}
 use Rattle.drink_commands.specs.Run.{IsOfOffice, IsReached, SaysOf}
-use Rattle.drink_commands.specs.Sealed.{HasSecrets}
 use Rattle.drink_commands.specs.Stored.{IsHad, LeavesStored}
 use Rattle.drink_commands.specs.Texts.{Judges, Refuses, nothing}
 
@@ -53,30 +53,29 @@ IsNotFoundIn known is_new p me fault = (bytes : List ℕ) × IsHad known is_new 
 
 -- ---- what is written
 
--- The text means a plan, and the word names an office of it, which has an address, as its neighbours have. The office went on from what its store has, and
--- served a client that asks this; and what it said was written after what the writer held.
-pub record WritesServed (tells : Bool) (known : Option (List ℕ)) (is_new : Bool) (plan word : List ℕ) (asks : Option (List ℕ)) (e : Served) (old new : Option (List ℕ)) : Type 0 where
-  pub p : PlanValue
-  pub accepted : IsAcceptedAs plan p
-  pub me : ℕ
-  pub office : office_named p word ≡ Some me
-  pub reached : IsReached p me
+-- The office went on from what its store has, and served a client that asks this; and what it said, in that form, was written after what the writer held. What
+-- its socket told is as Is says.
+pub record HasServed (Is : Account → Type 0) (form : Form) (tells : Bool) (known : Option (List ℕ)) (is_new : Bool) (p : PlanValue) (me : ℕ) (asks : Option (List ℕ)) (e : Served) (old new : Option (List ℕ)) : Type 0 where
   pub kept : Keeping
   pub found : IsFoundIn known is_new p me kept
   pub stands : Option (List ℕ)
   pub first : Account
   pub last : Account
-  pub serves : Serves tells p me kept asks stands first last e old new
+  pub serves : Serves Is form tells p me kept asks stands first last e old new
+
+-- The text means a plan, and the word names an office of it, which has an address, as its neighbours have. The office served so.
+pub record WritesServed (Is : PlanValue → ℕ → Account → Type 0) (form : Form) (tells : Bool) (known : Option (List ℕ)) (is_new : Bool) (plan word : List ℕ) (asks : Option (List ℕ)) (e : Served) (old new : Option (List ℕ)) : Type 0 where
+  pub p : PlanValue
+  pub accepted : IsAcceptedAs plan p
+  pub me : ℕ
+  pub office : office_named p word ≡ Some me
+  pub reached : IsReached p me
+  pub served : HasServed (Is p me) form tells known is_new p me asks e old new
 
 -- so it is with the text that the word stands for, of a service that ended as P says; and the store is no input
-abbrev pub ServesOffice : Bool → (List ℕ → Option (List ℕ)) → Option (List ℕ) → Option (List ℕ) → Bool → (plan word store : List ℕ) → Option (List ℕ) → (Served → Type 0) → Option (List ℕ) → Option (List ℕ) → Type 0
-ServesOffice tells files standard known is_new plan word store asks P old new = IsOther plan store
-    × ((plan_text : List ℕ) → StandFor files standard (plan ∷ []) (plan_text ∷ []) → (e : Served) × P e × WritesServed tells known is_new plan_text word asks e old new)
-
--- with the text that the word stands for the office has secrets by the file that is named for them, if one is
-abbrev pub HasItsSecrets : (List ℕ → Option (List ℕ)) → Option (List ℕ) → (plan word : List ℕ) → Option (List ℕ) → Type 0
-HasItsSecrets files standard plan word file = (name plan_text : List ℕ) → file ≡ Some name → StandFor files standard (plan ∷ []) (plan_text ∷ [])
-    → (p : PlanValue) × (me : ℕ) × IsAcceptedAs plan_text p × (office_named p word ≡ Some me) × HasSecrets files p me name
+abbrev pub ServesOffice : (PlanValue → ℕ → Account → Type 0) → Form → Bool → (List ℕ → Option (List ℕ)) → Option (List ℕ) → Option (List ℕ) → Bool → (plan word store : List ℕ) → Option (List ℕ) → (Served → Type 0) → Option (List ℕ) → Option (List ℕ) → Type 0
+ServesOffice Is form tells files standard known is_new plan word store asks P old new = IsOther plan store
+    × ((plan_text : List ℕ) → StandFor files standard (plan ∷ []) (plan_text ∷ []) → (e : Served) × P e × WritesServed Is form tells known is_new plan_text word asks e old new)
 
 -- ---- what a fault says
 

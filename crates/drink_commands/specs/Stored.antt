@@ -1,12 +1,14 @@
 -- What `run` writes with a store, and what its faults say.
-use Rattle.std.specs.Prelude.{◌≡◌, ◌≤◌, ℕ, Bool, List, [], ◌∷◌, true, false, length, Option, Some, None, Ok}
+use Rattle.std.specs.Prelude.{◌≡◌, ◌⊎◌, ◌≤◌, ℕ, Bool, List, [], ◌∷◌, true, false, length, Option, Some, None, Ok}
 use Rattle.std.specs.String.{string_bytes}
 use Rattle.input_texts.specs.Words.{StandFor}
 use Rattle.office_map.specs.PlanValue.{PlanValue, office_named}
 use Rattle.session_meaning.specs.ProgramValue.{ProgramValue}
 use Rattle.session_language.specs.Reading.{sessions_of}
 use Rattle.socket_pump.specs.Wires.{Account}
+use Rattle.office_stations.specs.declared.opening.OpeningFault.{OpeningFault}
 use Rattle.stored_runs.specs.Keeping.{IsFound, IsNotKept, Keeping, LeavesFrom}
+use Rattle.report_forms.specs.declared.forms.Form.{Form}
 use Rattle.stored_runs.specs.Runs.{GoesOn}
 use Rattle.stored_runs.specs.declared.ended.Ended.{Ended}
 use Rattle.stored_runs.specs.declared.fault.KeptFault.{KeptFault}
@@ -21,7 +23,7 @@ use Rattle.command_outputs.specs.declared.fault.Obstacle.{Obstacle}
 use Rattle.command_outputs.specs.declared.fault.StoreRefusal.{StoreRefusal}
 use Rattle.command_outputs.specs.declared.fault.StoreRefusal.TheVariants as refusal
 use Rattle.command_outputs.specs.declared.fault.Fault.{Fault}
-use Rattle.command_outputs.specs.declared.fault.Fault.TheVariants.{Memory, NoPlace, CutShort, WriteFailed, NoStore, StoreFailed, OtherSessions}
+use Rattle.command_outputs.specs.declared.fault.Fault.TheVariants.{Memory, NoPlace, NoRun, CutShort, WriteFailed, NoStore, StoreFailed, OtherSessions}
 
 -- ---- how it ended
 
@@ -58,23 +60,27 @@ pub record IsKept (known : Option (List ℕ)) (is_new : Bool) (p : PlanValue) (m
 
 -- ---- what is written
 
--- The two texts mean a plan and sessions under it, and the word names an office of the plan, which has an address, as its neighbours
--- have. The office went on from what its store has, which is no input, for so many turns with its sessions among those; and what is told of
--- that was written after what the writer held.
-pub record WritesStored (tells : Bool) (known : Option (List ℕ)) (is_new : Bool) (plan word sessions : List ℕ) (turns : ℕ) (e : Ended) (old new : Option (List ℕ)) : Type 0 where
-  pub named : NamedOffice plan word sessions
+-- The office went on from what its store has, for so many turns with its sessions among those; and what is told of that, in that form, was written after
+-- what the writer held. What its socket told is as Is says.
+pub record WentOn (Is : Account → Type 0) (form : Form) (tells : Bool) (known : Option (List ℕ)) (is_new : Bool) (p : PlanValue) (me : ℕ) (programs : List ProgramValue) (turns : ℕ) (e : Ended) (old new : Option (List ℕ)) : Type 0 where
   pub kept : Keeping
-  pub is_kept : IsKept known is_new named.both.p named.me named.both.programs kept
+  pub is_kept : IsKept known is_new p me programs kept
   pub stands : Option (List ℕ)
   pub first : Account
   pub last : Account
-  pub goes_on : GoesOn tells named.both.p named.me named.both.programs turns kept stands first last e old new
+  pub goes_on : GoesOn Is form tells p me programs turns kept stands first last e old new
 
--- so it is with the texts that the words stand for, of a run that ended as P says
-abbrev pub RunsStored : Bool → (List ℕ → Option (List ℕ)) → Option (List ℕ) → Option (List ℕ) → Bool → (plan word sessions store : List ℕ) → ℕ → (Ended → Type 0) → Option (List ℕ) → Option (List ℕ) → Type 0
-RunsStored tells files standard known is_new plan word sessions store turns P old new = IsOther plan store × IsOther sessions store
+-- The two texts mean a plan and sessions under it, and the word names an office of the plan, which has an address, as its neighbours
+-- have. The office went on so, with its sessions among those.
+pub record WritesStored (Is : PlanValue → ℕ → Account → Type 0) (form : Form) (tells : Bool) (known : Option (List ℕ)) (is_new : Bool) (plan word sessions : List ℕ) (turns : ℕ) (e : Ended) (old new : Option (List ℕ)) : Type 0 where
+  pub named : NamedOffice plan word sessions
+  pub went_on : WentOn (Is named.both.p named.me) form tells known is_new named.both.p named.me named.both.programs turns e old new
+
+-- so it is with the texts that the words stand for, of a run that ended as P says; and the store is no input
+abbrev pub RunsStored : (PlanValue → ℕ → Account → Type 0) → Form → Bool → (List ℕ → Option (List ℕ)) → Option (List ℕ) → Option (List ℕ) → Bool → (plan word sessions store : List ℕ) → ℕ → (Ended → Type 0) → Option (List ℕ) → Option (List ℕ) → Type 0
+RunsStored Is form tells files standard known is_new plan word sessions store turns P old new = IsOther plan store × IsOther sessions store
     × ((plan_text sessions_text : List ℕ) → StandFor files standard (plan ∷ sessions ∷ []) (plan_text ∷ sessions_text ∷ [])
-    → (e : Ended) × P e × WritesStored tells known is_new plan_text word sessions_text turns e old new)
+    → (e : Ended) × P e × WritesStored Is form tells known is_new plan_text word sessions_text turns e old new)
 
 -- ---- what a fault says
 
@@ -100,6 +106,10 @@ IsStoreFault Same is_new Not Memory = Unit {0}
 IsStoreFault Same is_new Not (NoStore why) = IsRefusal Same is_new Not why
 IsStoreFault Same is_new Not (OtherSessions ticket) = Same × Not (kept.OtherSessions ticket)
 IsStoreFault Same is_new Not _ = ⊥
+
+-- the office isn't begun: it doesn't get its socket, or memory; or it doesn't get its store, or doesn't go on from it
+abbrev pub IsUnbegun : Type 0 → Bool → (KeptFault → Type 0) → Fault → Type 0
+IsUnbegun Same is_new Not f = ((cause : OpeningFault) × (f ≡ NoRun cause)) ⊎ IsStoreFault Same is_new Not f
 
 -- with the texts that the words stand for what the store has isn't gone on from
 abbrev pub RefusesStore : (List ℕ → Option (List ℕ)) → Option (List ℕ) → Option (List ℕ) → Bool → (plan word sessions : List ℕ) → KeptFault → Type 0

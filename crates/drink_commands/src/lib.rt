@@ -10,8 +10,8 @@
 //! - [`commands::run::run`] is `drink run`. It writes what a legal journal of the office tells that its words name, and answers
 //!   whether sessions are left (clause `runs`). Its faults say what the texts are, and OFFICE and the addresses under the plan,
 //!   before the sessions (clause `judged`); nothing is written at one but what stands where the run was cut short (clause `leaves`).
-//!   Where its journal goes is looked at before anything is run. Where a file is named for its secrets, it has them by that file's text
-//!   (clause `sealed`), and its socket is under seals.
+//!   Where its journal goes is looked at before anything is run. Where a file is named for its secrets, they are those of that file's
+//!   text, and what its socket tells is told under them (`specs/Sealed.antt`); so it is with a store and of `drink serve`.
 //! - [`commands::stored::run`] is `drink run` with a store. The office goes on from what its store has, and what is written is what
 //!   `stored_runs` promises (clause `runs`). Its faults say what the texts are, as those of `run` (clause `judged`), and what the store has
 //!   that isn't gone on from; then nothing is written, and the store is as it was (clause `leaves`).
@@ -34,7 +34,7 @@
 //! Not said: which bytes a device gives; what was written where writing failed; anything of the texts where memory ran
 //! out, and that it ran out where that is said; which run `random` draws; what comes from a network, and which session
 //! comes first at a record; that a socket, a thread or a store couldn't be had, and that no socket was opened before a
-//! fault of the words (tests show it); that what a socket gave was opened under the secrets; that `--sync` is as asked for; that a file could be written later too; what
+//! fault of the words (tests show it); that `--sync` is as asked for; that a file could be written later too; what
 //! help, the version and a fault say.
 #![tactic(auto)]
 

@@ -13,11 +13,6 @@ pub ok_more : {A : Type 0} (r : Result A Fault) (P Q : A → Type 0) → ((x : A
 ok_more (Ok x) P Q k h = k x h
 ok_more (Err f) P Q k h = tt
 
--- two things hold of what was done
-pub ok_both : {A : Type 0} (r : Result A Fault) (P Q : A → Type 0) → IfOk r P → IfOk r Q → IfOk r (λ x. P x × Q x)
-ok_both (Ok x) P Q h k = (h, k)
-ok_both (Err f) P Q h k = tt
-
 -- a status of 0 is that of what was done
 pub done : (r : Result ℕ Fault) (P : ℕ → Type 0) → IfOk r P → status_of r ≡ 0 → P 0
 done (Ok status) P h e = subst P e h

@@ -4,6 +4,8 @@ use Rattle.clap.specs.Words.{IsAmong}
 use Rattle.clap.specs.declared.error.kind.ErrorKind.{ErrorKind}
 use Rattle.command_words.specs.CommandLine.{Asks, faults_of}
 use Rattle.command_outputs.specs.Journals.{File}
+use Rattle.office_map.specs.PlanValue.{PlanValue}
+use Rattle.socket_pump.specs.Wires.{Account}
 use Rattle.drink_program.specs.Requests.{IsDone}
 use Rattle.command_words.specs.declared.command_line.Request.{Request}
 use Rattle.serial_command.specs.Answers.{IsShown}
@@ -15,7 +17,7 @@ status_of (Ok status) = status
 status_of (Err fault) = 1
 
 -- The words ask for something that was done, or for help or the version.
-abbrev pub IsAnswered : Bool → (List ℕ → Option (List ℕ)) → Option (List ℕ) → (List ℕ → Option (List ℕ)) → List (List ℕ) → Option (List ℕ) → Option (List ℕ) → Option (List File) → Option (List File) → Type 0
-IsAnswered tells files standard stores words old new kept left =
-    ((request : Request) × Asks words request × IsDone tells files standard stores request 0 old new kept left)
+abbrev pub IsAnswered : (Option (List ℕ) → PlanValue → ℕ → Account → Type 0) → Bool → (List ℕ → Option (List ℕ)) → Option (List ℕ) → (List ℕ → Option (List ℕ)) → List (List ℕ) → Option (List ℕ) → Option (List ℕ) → Option (List File) → Option (List File) → Type 0
+IsAnswered Is tells files standard stores words old new kept left =
+    ((request : Request) × Asks words request × IsDone Is tells files standard stores request 0 old new kept left)
     ⊎ ((kind : ErrorKind) × IsShown kind × IsAmong kind (faults_of words))

@@ -2,6 +2,7 @@
 
 ghost use Rattle.std.specs.Prelude.{◌≡◌, IfErr, IfOk, map};
 ghost use Rattle.std.specs.String.{string_bytes};
+ghost use Rattle.drink_commands.specs.Sealed.{IsUnderSeals};
 ghost use Rattle.drink_program.specs.Requests.{IsDone, IsJudgedFor, IsStatusOf, word_of};
 ghost use Rattle.drink_program.specs.Status.{IsAnswered, status_of};
 
@@ -15,6 +16,7 @@ use command_words::command_line::{Request, command_line, help};
 use drink_commands::commands::{audit, live, random, run, serial, serve, sim, stored};
 use input_texts::{Devices, Sources};
 use journal_stores::StoreFile;
+use libc::STDIN_FILENO;
 use office_stations::{Around, Binds, Gate, Open, UdpSockets};
 use output_files::{Disk, Targets};
 use random_runs::Schedule;
@@ -45,7 +47,12 @@ where
     let devices = Devices::new(rt);
     let mut disk = Disk::new(rt);
     let mut stores = StoreFiles::new(rt);
-    let binds = UdpSockets::new(rt, rt.alloc());
+    let words = words(rt);
+    let binds = if is_served(&words) {
+        UdpSockets::heeding(rt, rt.alloc(), STDIN_FILENO)
+    } else {
+        UdpSockets::new(rt, rt.alloc())
+    };
     let screen = if error.is_terminal() {
         opened(rt).ok()
     } else {
@@ -57,7 +64,7 @@ where
         gate: &Open,
         watch: &watch,
     };
-    let exit = match words(rt) {
+    let exit = match words {
         Ok(words) => answer(
             rt,
             rt.alloc(),
@@ -72,6 +79,14 @@ where
         Err(exit) => exit,
     };
     exit.end(rt)
+}
+
+/// Whether these words ask for an office that serves, whose client is to be heard at once.
+fn is_served(words: &Result<Vec<String>, Exit>) -> bool {
+    match words {
+        Ok(words) => words.get(1).is_some_and(|word| word.as_str() == "serve"),
+        Err(_) => false,
+    }
 }
 
 /// Does what these words ask for, of a client too that asks on the standard input. The first of them is the program's name. The status is 0 only where what they ask for was
@@ -100,7 +115,7 @@ where
     C: Clients,
     W: Write,
     requires { C.asks clients.now ≡ S.standard_text sources.now }
-    ensures done { result.status ≡ 0 → IsAnswered B.Socket.tells (S.file_text sources.now) (S.standard_text sources.now) (K.has stores.old) (map string_bytes words.now) (W.contents out.old) (W.contents out.new) (T.written targets.old) (T.written targets.new) }
+    ensures done { result.status ≡ 0 → IsAnswered (IsUnderSeals B.Socket.account (S.file_text sources.now)) B.Socket.tells (S.file_text sources.now) (S.standard_text sources.now) (K.has stores.old) (map string_bytes words.now) (W.contents out.old) (W.contents out.new) (T.written targets.old) (T.written targets.new) }
     ensures unwritten { result.status ≡ 2 → (out.new ≡ out.old) × (targets.new ≡ targets.old) × (stores.new ≡ stores.old) }
 {
     if words.len() < 2 {
@@ -199,7 +214,7 @@ where
     C: Clients,
     W: Write,
     requires { C.asks clients.now ≡ S.standard_text sources.now }
-    ensures done { IfOk result (λ status. IsDone B.Socket.tells (S.file_text sources.now) (S.standard_text sources.now) (K.has stores.old) request.now status (W.contents out.old) (W.contents out.new) (T.written targets.old) (T.written targets.new)) }
+    ensures done { IfOk result (λ status. IsDone (IsUnderSeals B.Socket.account (S.file_text sources.now)) B.Socket.tells (S.file_text sources.now) (S.standard_text sources.now) (K.has stores.old) request.now status (W.contents out.old) (W.contents out.new) (T.written targets.old) (T.written targets.new)) }
     ensures status { IfOk result (IsStatusOf request.now) }
     ensures judged { IfErr result (IsJudgedFor (S.file_text sources.now) (S.standard_text sources.now) request.now) }
 {
@@ -254,10 +269,14 @@ where
             turns,
             journal,
             secrets,
-        } => run::run(
-            rt, alloc, sources, plan, office, sessions, *turns, *journal, *secrets, around,
-            targets, out,
-        ),
+            json,
+        } => {
+            let form = Form::of(*json);
+            run::run(
+                rt, alloc, form, sources, plan, office, sessions, *turns, *journal, *secrets,
+                around, targets, out,
+            )
+        }
         Request::RunStored {
             plan,
             office,
@@ -267,10 +286,14 @@ where
             sync,
             new,
             secrets,
-        } => stored::run(
-            rt, alloc, sources, plan, office, sessions, *turns, store, *sync, *new, *secrets,
-            around, stores, out,
-        ),
+            json,
+        } => {
+            let form = Form::of(*json);
+            stored::run(
+                rt, alloc, form, sources, plan, office, sessions, *turns, store, *sync, *new,
+                *secrets, around, stores, out,
+            )
+        }
         Request::Serve {
             plan,
             office,
@@ -280,14 +303,16 @@ where
             secrets,
             linger,
             status,
+            json,
         } => {
+            let form = Form::of(*json);
             let times = Times {
                 linger: *linger,
                 status: *status,
             };
             serve::run(
-                rt, alloc, sources, plan, office, store, *sync, *new, *secrets, times, around,
-                stores, clients, out,
+                rt, alloc, form, sources, plan, office, store, *sync, *new, *secrets, times,
+                around, stores, clients, out,
             )
         }
         Request::Live {
@@ -296,9 +321,14 @@ where
             journals,
             next,
             left,
-        } => live::run(
-            rt, alloc, sources, plan, sessions, *journals, *next, *left, around, targets, out,
-        ),
+            json,
+        } => {
+            let form = Form::of(*json);
+            live::run(
+                rt, alloc, form, sources, plan, sessions, *journals, *next, *left, around, targets,
+                out,
+            )
+        }
         Request::Audit {
             plan,
             journals,

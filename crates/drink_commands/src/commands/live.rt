@@ -21,6 +21,7 @@ use office_map::Plan;
 use office_runs::Ran;
 use office_stations::{Around, Binds, Gate, Watch};
 use output_files::Targets;
+use report_forms::Form;
 use session_programs::Program;
 use std::alloc::Global;
 use std::io::Write;
@@ -28,8 +29,8 @@ use std::rt::Clock;
 use std::sync::Wait;
 use std::thread::Threads;
 
-/// Runs the sessions on all offices of a plan, each on threads and at a socket of this machine's own, and writes what those that
-/// finished did, by office and ticket, and how many haven't. Each input is read and judged before the next one is read, and
+/// Runs the sessions on all offices of a plan, each on threads and at a socket of this machine's own, and writes in that form what
+/// those that finished did, by office and ticket, and how many haven't. Each input is read and judged before the next one is read, and
 /// nothing is run or written before both are judged. Where a folder is named for the offices' journals, it has to be there or such that
 /// it can be made, and their files in it such that they can be written, none of them an input or with a journal of its office and this
 /// run. The journals are written to them after the run; then the plan of the next day and the sessions that haven't finished, where files
@@ -38,6 +39,7 @@ use std::thread::Threads;
 pub fn run<R, S, B, G, V, T, W>(
     rt: &R,
     alloc: Global,
+    form: Form,
     sources: &S,
     plan: &str,
     sessions: &str,
@@ -58,12 +60,12 @@ where
     V: Watch + Sync,
     T: Targets,
     W: Write,
-    ensures runs { IfOk result (λ status. RunsOffices (S.file_text sources.now) (S.standard_text sources.now) plan.now sessions.now (option_copied journals.entry) (option_copied next.entry) (option_copied left.entry)
+    ensures runs { IfOk result (λ status. RunsOffices form (S.file_text sources.now) (S.standard_text sources.now) plan.now sessions.now (option_copied journals.entry) (option_copied next.entry) (option_copied left.entry)
         (EndsWith status) (W.contents out.old) (W.contents out.new) (T.written targets.old) (T.written targets.new)) }
     ensures status { IfOk result (λ status. status ≤ 1) }
 
     ensures judged { IfErr result (IsJudgedOr IsOfRun (S.file_text sources.now) (S.standard_text sources.now) (plan.now ∷ sessions.now ∷ []) (Input.Plan ∷ Input.Sessions ∷ [])) }
-    ensures leaves { IfErr result (Leaves ((out.new ≡ out.old) × (targets.new ≡ targets.old)) (RefusesFolder (S.file_text sources.now) (S.standard_text sources.now) plan.now sessions.now (option_copied journals.entry)) (λ cause. RunsOffices (S.file_text sources.now) (S.standard_text sources.now) plan.now sessions.now (option_copied journals.entry) (option_copied next.entry) (option_copied left.entry)
+    ensures leaves { IfErr result (Leaves ((out.new ≡ out.old) × (targets.new ≡ targets.old)) (RefusesFolder (S.file_text sources.now) (S.standard_text sources.now) plan.now sessions.now (option_copied journals.entry)) (λ cause. RunsOffices form (S.file_text sources.now) (S.standard_text sources.now) plan.now sessions.now (option_copied journals.entry) (option_copied next.entry) (option_copied left.entry)
         (IsCutBy cause) (W.contents out.old) (W.contents out.new) (T.written targets.old) (T.written targets.new))) }
 {
     let plan_word = plan;
@@ -75,7 +77,7 @@ where
         alloc, sources, targets, plan_word, sessions, &plan, journals,
     )?;
     let wanted = are_wanted(journals, next, left);
-    let ran = live(rt, alloc, &plan, &programs, wanted, around)?;
+    let ran = live(rt, alloc, form, &plan, &programs, wanted, around)?;
     write_ran(
         alloc,
         out,

@@ -7,13 +7,14 @@ ghost use Rattle.std.specs.Io.KnownBytes.{Appends};
 ghost use Rattle.office_map.specs.PlanValue.{office_named};
 ghost use Rattle.office_stations.specs.Sessions.{count_of};
 ghost use Rattle.office_runs.specs.Runs.{IsQuiet, TellsCourse, TellsJournals};
+ghost use Rattle.sealed_sockets.specs.Sealed.{IsToldUnder};
 ghost use Rattle.command_outputs.specs.Journals.{WritesFiles};
 ghost use Rattle.drink_commands.specs.Run.{EndsWith, IsCutBy, IsJudgedRun, IsReached, Leaves, NoObstacle, RefusesFile, RunsOffice, SaysOf};
-ghost use Rattle.drink_commands.specs.Sealed.{IsSealed};
+ghost use Rattle.drink_commands.specs.Sealed.{IsUnderSeals};
 ghost use Rattle.drink_commands.specs.Texts.{NoOther};
 
 use crate::commands::ended;
-use crate::commands::secrets::secrets_in;
+use crate::commands::secrets::{lent, secrets_in};
 use command_inputs::{read_coded_programs, read_plan};
 use command_outputs::Fault;
 use command_outputs::journal_files::write_each;
@@ -25,15 +26,18 @@ use office_runs::Ran;
 use office_runs::run::run_office;
 use office_stations::{Around, Binds, Gate, OpeningFault, Watch, without_address};
 use output_files::Targets;
-use sealed_sockets::SealedSockets;
+use report_forms::Form;
+use sealed_frames::Secret;
+use sealed_sockets::{SealedSockets, Secrets};
 use session_programs::Program;
 use std::alloc::{AllocError, Global};
 use std::io::Write;
+use std::marker::Brand;
 use std::rt::Clock;
 use std::sync::Wait;
 
-/// Runs an office of a plan at its address for so many turns, with those of the sessions that are its own, and writes what those
-/// that finished did, and how many haven't. The plan is read and judged first; then an office of it has to have that name, and
+/// Runs an office of a plan at its address for so many turns, with those of the sessions that are its own, and writes in that form
+/// what those that finished did, and how many haven't. The plan is read and judged first; then an office of it has to have that name, and
 /// it and its neighbours an address; then the sessions are read and judged. Where a file is named for the office's secrets, it has to have
 /// them, and the office is under seals. Where one is named for its journal, it has to be one that can be written, no input, and without a
 /// journal of this office and run. Nothing is run or written before. Then that journal is written to it, and the watch is told what was
@@ -41,6 +45,7 @@ use std::sync::Wait;
 pub fn run<R, S, B, G, V, T, W>(
     rt: &R,
     alloc: Global,
+    form: Form,
     sources: &S,
     plan: &str,
     office: &str,
@@ -60,13 +65,12 @@ where
     V: Watch,
     T: Targets,
     W: Write,
-    ensures runs { IfOk result (λ status. RunsOffice B.Socket.tells (S.file_text sources.now) (S.standard_text sources.now) plan.now office.now sessions.now turns (option_copied journal.entry)
+    ensures runs { IfOk result (λ status. RunsOffice (IsUnderSeals B.Socket.account (S.file_text sources.now) (option_copied secrets.entry)) form B.Socket.tells (S.file_text sources.now) (S.standard_text sources.now) plan.now office.now sessions.now turns (option_copied journal.entry)
         (EndsWith status) (W.contents out.old) (W.contents out.new) (T.written targets.old) (T.written targets.new)) }
-    ensures sealed { IfOk result (λ _. IsSealed (S.file_text sources.now) (S.standard_text sources.now) plan.now office.now sessions.now (option_copied secrets.entry)) }
     ensures status { IfOk result (λ status. status ≤ 1) }
 
     ensures judged { IfErr result (IsJudgedRun (S.file_text sources.now) (S.standard_text sources.now) plan.now office.now sessions.now) }
-    ensures leaves { IfErr result (Leaves ((out.new ≡ out.old) × (targets.new ≡ targets.old)) (RefusesFile (S.file_text sources.now) (S.standard_text sources.now) plan.now office.now sessions.now (option_copied journal.entry)) (λ cause. RunsOffice B.Socket.tells (S.file_text sources.now) (S.standard_text sources.now) plan.now office.now sessions.now turns (option_copied journal.entry)
+    ensures leaves { IfErr result (Leaves ((out.new ≡ out.old) × (targets.new ≡ targets.old)) (RefusesFile (S.file_text sources.now) (S.standard_text sources.now) plan.now office.now sessions.now (option_copied journal.entry)) (λ cause. RunsOffice (IsUnderSeals B.Socket.account (S.file_text sources.now) (option_copied secrets.entry)) form B.Socket.tells (S.file_text sources.now) (S.standard_text sources.now) plan.now office.now sessions.now turns (option_copied journal.entry)
         (IsCutBy cause) (W.contents out.old) (W.contents out.new) (T.written targets.old) (T.written targets.new))) }
 {
     let plan_word = plan;
@@ -79,50 +83,55 @@ where
     look_at_file(
         alloc, sources, targets, plan_word, sessions, &plan, me, journal,
     )?;
-    let binds = SealedSockets {
-        binds: around.binds,
-        secrets: secrets.as_deref(),
-    };
-    let ran = run_at(
+    let ran = run_at::<R, B, G, V, Brand>(
         rt,
         alloc,
+        form,
         &plan,
         me,
         &programs,
         turns,
         journal.is_some(),
-        &binds,
-        around.gate,
-        around.watch,
+        lent(&secrets),
+        around,
     )?;
     write_ran(alloc, out, targets, journal, around.watch, &ran)
 }
 
-/// A run of an office at a socket that is bound so.
-fn run_at<'a, R, B, G, V>(
+/// A run of an office at a socket under these secrets, if there are any.
+fn run_at<R, B, G, V, K>(
     rt: &R,
     alloc: Global,
+    form: Form,
     plan: &Plan,
     me: OfficeId,
     programs: &[Program],
     turns: u64,
     journals: bool,
-    binds: &'a B,
-    gate: &'a G,
-    watch: &'a V,
+    secrets: Option<&[Option<Secret>]>,
+    around: &Around<'_, B, G, V>,
 ) -> Result<Ran, OpeningFault>
 where
     R: Wait + Clock,
     B: Binds,
     G: Gate,
     V: Watch,
-    requires { me < length plan.now.offices }
-    ensures tells { IfOk result (TellsJournals plan.now (me ∷ []) (count_of programs.now me) journals) }
-    ensures ran { IfOk result (TellsCourse B.Socket.tells plan.now me programs.now turns journals) }
+    K: Secrets,
+    requires office { me < length plan.now.offices }
+    requires secrets { option_copied secrets ≡ K.secrets }
+    ensures tells { IfOk result (TellsJournals form plan.now (me ∷ []) (count_of programs.now me) journals) }
+    ensures ran { IfOk result (TellsCourse (IsToldUnder B.Socket.account K.secrets) form B.Socket.tells plan.now me programs.now turns journals) }
     ensures quiet { IfOk result IsQuiet }
 {
-    let around = Around { binds, gate, watch };
-    run_office(rt, alloc, plan, me, programs, turns, journals, &around)
+    let binds = SealedSockets::<B, K>::new(around.binds, secrets);
+    let around = Around {
+        binds: &binds,
+        gate: around.gate,
+        watch: around.watch,
+    };
+    run_office(
+        rt, alloc, form, plan, me, programs, turns, journals, &around,
+    )
 }
 
 /// What came of a run is written, and the journal that it leaves, and the watch is told what was left; then, where it was cut short,

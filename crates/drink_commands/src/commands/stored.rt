@@ -1,16 +1,17 @@
 //! The command `run` with a store.
 
-ghost use Rattle.std.specs.Prelude.{◌≡◌, ◌≤◌, ◌<◌, false, true, length, All, IsTrue, IfErr, IfOk, IfSome};
+ghost use Rattle.std.specs.Prelude.{◌≡◌, ◌≤◌, ◌<◌, false, true, length, All, IsTrue, IfErr, IfOk, IfSome, OnErr};
 ghost use Rattle.session_programs.specs.Program.{fits};
 ghost use Rattle.stored_runs.specs.Keeping.{HasText};
 ghost use Rattle.command_outputs.specs.Places.{IsAnInput};
-ghost use Rattle.drink_commands.specs.Stored.{EndsStored, IsEnd, IsEndedBy, IsJudgedStored, IsKept, IsNotHeld, IsRefusal, IsStoreFault, LeavesStored, RefusesStore, RunsStored};
+ghost use Rattle.drink_commands.specs.Stored.{EndsStored, IsEnd, IsEndedBy, IsJudgedStored, IsKept, IsNotHeld, IsRefusal, IsStoreFault, IsUnbegun, LeavesStored, RefusesStore, RunsStored, WentOn};
 ghost use Rattle.std.specs.Option.{option_copied};
-ghost use Rattle.drink_commands.specs.Sealed.{IsSealed};
+ghost use Rattle.drink_commands.specs.Sealed.{IsUnderSeals};
+ghost use Rattle.sealed_sockets.specs.Sealed.{IsToldUnder};
 ghost use Rattle.drink_commands.specs.refinement.Stores.{IsToldOf};
 
 use crate::commands::run::office_to_run;
-use crate::commands::secrets::secrets_in;
+use crate::commands::secrets::{lent, secrets_in};
 use crate::commands::status_with;
 use command_inputs::{read_coded_programs, read_plan};
 use command_outputs::Fault;
@@ -23,11 +24,14 @@ use journal_stores::{OpenFault, Sync};
 use journal_texts::JournalRefusal;
 use office_map::{OfficeId, Plan};
 use office_stations::{Around, Binds, Gate, Watch, at_address};
+use report_forms::Form;
 use run_words::words::office_name;
-use sealed_sockets::SealedSockets;
+use sealed_frames::Secret;
+use sealed_sockets::{SealedSockets, Secrets};
 use session_programs::Program;
 use std::alloc::{AllocError, Global};
 use std::io::{ErrorKind, Write};
+use std::marker::Brand;
 use std::rt::Clock;
 use std::sync::Wait;
 use stored_runs::{Ended, Kept, KeptFault, LineFault, StoredFault, resumed, run_stored};
@@ -35,10 +39,11 @@ use stored_runs::{Ended, Kept, KeptFault, LineFault, StoredFault, resumed, run_s
 /// As [`run`](crate::commands::run::run), where the office keeps its journal in the store of that name and goes on from what it has. The
 /// store is made, or has to be there. It is no input of the run; it is opened once the office has its socket, and has to have the
 /// journal of this office and run, whose sessions begin the office's here. Where it doesn't, it stays as it is. How many sessions had finished
-/// before is written first, and what these did; then what each does that finishes, once that stands; and at the end how many are left.
+/// before is written first, in that form, and what these did; then what each does that finishes, once that stands; and at the end how many are left.
 pub fn run<R, S, B, G, V, K, W>(
     rt: &R,
     alloc: Global,
+    form: Form,
     sources: &S,
     plan: &str,
     office: &str,
@@ -60,14 +65,13 @@ where
     V: Watch,
     K: Stores,
     W: Write,
-    ensures runs { IfOk result (λ status. RunsStored B.Socket.tells (S.file_text sources.now) (S.standard_text sources.now) (K.has stores.old store.now) is_new plan.now office.now sessions.now store.now turns (EndsStored status) (W.contents out.old) (W.contents out.new)) }
-    ensures sealed { IfOk result (λ _. IsSealed (S.file_text sources.now) (S.standard_text sources.now) plan.now office.now sessions.now (option_copied secrets.entry)) }
+    ensures runs { IfOk result (λ status. RunsStored (IsUnderSeals B.Socket.account (S.file_text sources.now) (option_copied secrets.entry)) form B.Socket.tells (S.file_text sources.now) (S.standard_text sources.now) (K.has stores.old store.now) is_new plan.now office.now sessions.now store.now turns (EndsStored status) (W.contents out.old) (W.contents out.new)) }
     ensures status { IfOk result (λ status. status ≤ 1) }
 
     ensures judged { IfErr result (IsJudgedStored (S.file_text sources.now) (S.standard_text sources.now) plan.now office.now sessions.now) }
     ensures leaves { IfErr result (LeavesStored (W.contents out.new ≡ W.contents out.old) (stores.new ≡ stores.old) (IsAnInput (S.file_text sources.now) plan.now sessions.now store.now) is_new
         (RefusesStore (S.file_text sources.now) (S.standard_text sources.now) (K.has stores.old store.now) is_new plan.now office.now sessions.now)
-        (λ cause. RunsStored B.Socket.tells (S.file_text sources.now) (S.standard_text sources.now) (K.has stores.old store.now) is_new plan.now office.now sessions.now store.now turns (IsEndedBy cause) (W.contents out.old) (W.contents out.new))) }
+        (λ cause. RunsStored (IsUnderSeals B.Socket.account (S.file_text sources.now) (option_copied secrets.entry)) form B.Socket.tells (S.file_text sources.now) (S.standard_text sources.now) (K.has stores.old store.now) is_new plan.now office.now sessions.now store.now turns (IsEndedBy cause) (W.contents out.old) (W.contents out.new))) }
 {
     let plan_word = plan;
     let words = [plan, sessions];
@@ -77,18 +81,77 @@ where
     let programs = read_coded_programs(alloc, sources, &mut standard, sessions, &plan)?;
     let secrets = secrets_in(alloc, sources, secrets, &plan, me)?;
     refuse_input(alloc, sources, plan_word, sessions, store)?;
-    let binds = SealedSockets {
-        binds: around.binds,
-        secrets: secrets.as_deref(),
+    let wanted = Wanted {
+        name: store,
+        sync,
+        is_new,
     };
-    let mut station = at_address(rt, alloc, &plan, me, &binds)?;
-    let (kept, mut held) = hold(alloc, stores, store, sync, is_new, &plan, me, &programs)?;
-    let ended = run_stored(
+    let ended = go_on::<R, B, G, V, K, W, Brand>(
         rt,
         alloc,
+        form,
         &plan,
         me,
         &programs,
+        turns,
+        &wanted,
+        lent(&secrets),
+        around,
+        stores,
+        out,
+    )?;
+    around.watch.end(&ended.remarks);
+    end(&ended)
+}
+
+/// Which store an office has, how its bytes are made to stand, and whether it is made.
+#[derive(Clone, Copy)]
+pub(crate) struct Wanted<'a> {
+    pub(crate) name: &'a str,
+    pub(crate) sync: Sync,
+    pub(crate) is_new: bool,
+}
+
+/// The office goes on from its store, at a socket under these secrets, if there are any.
+fn go_on<R, B, G, V, K, W, X>(
+    rt: &R,
+    alloc: Global,
+    form: Form,
+    plan: &Plan,
+    me: OfficeId,
+    programs: &[Program],
+    turns: u64,
+    wanted: &Wanted<'_>,
+    secrets: Option<&[Option<Secret>]>,
+    around: &Around<'_, B, G, V>,
+    stores: &mut K,
+    out: &mut W,
+) -> Result<Ended, Fault>
+where
+    R: Wait + Clock,
+    B: Binds,
+    G: Gate,
+    V: Watch,
+    K: Stores,
+    W: Write,
+    X: Secrets,
+    requires office { me < length plan.now.offices }
+    requires fit { All (λ p. IsTrue (fits plan.now p)) programs.now }
+    requires secrets { option_copied secrets ≡ X.secrets }
+    ensures went { IfOk result (λ e. WentOn (IsToldUnder B.Socket.account X.secrets) form B.Socket.tells (K.has stores.old wanted.now.name.now) wanted.now.is_new plan.now me programs.now turns e (W.contents out.old) (W.contents out.new)) }
+    ensures unwritten { OnErr result (W.contents out.new ≡ W.contents out.old) }
+    ensures fault { IfErr result (IsUnbegun (stores.new ≡ stores.old) wanted.now.is_new (IsNotHeld (K.has stores.old wanted.now.name.now) wanted.now.is_new plan.now me programs.now)) }
+{
+    let binds = SealedSockets::<B, X>::new(around.binds, secrets);
+    let mut station = at_address(rt, alloc, plan, me, &binds)?;
+    let (kept, mut held) = hold(alloc, stores, wanted, plan, me, programs)?;
+    let ended = run_stored(
+        rt,
+        alloc,
+        form,
+        plan,
+        me,
+        programs,
         turns,
         &mut station,
         kept,
@@ -97,32 +160,29 @@ where
         around.watch,
         out,
     )?;
-    around.watch.end(&ended.remarks);
-    end(&ended)
+    Ok(ended)
 }
 
 /// The office as its store has it, and that store, which goes on from there.
 fn hold<K: Stores>(
     alloc: Global,
     stores: &mut K,
-    name: &str,
-    sync: Sync,
-    is_new: bool,
+    wanted: &Wanted<'_>,
     plan: &Plan,
     me: OfficeId,
     programs: &[Program],
 ) -> Result<(Kept, K::Store), Fault>
     requires office { me < length plan.now.offices }
     requires fit { All (λ p. IsTrue (fits plan.now p)) programs.now }
-    ensures kept { IfOk result (λ r. IsKept (K.has stores.old name.now) is_new plan.now me programs.now r.0) }
+    ensures kept { IfOk result (λ r. IsKept (K.has stores.old wanted.now.name.now) wanted.now.is_new plan.now me programs.now r.0) }
     ensures usable { IfOk result (λ r. K.Store.failed r.1 ≡ false) }
     ensures text { IfOk result (λ r. IfSome (K.Store.stood r.1) (λ text. (length text ≡ r.0.bytes) × HasText plan.now me text r.0.site.entries)) }
-    ensures fault { IfErr result (IsStoreFault (stores.new ≡ stores.old) is_new (IsNotHeld (K.has stores.old name.now) is_new plan.now me programs.now)) }
+    ensures fault { IfErr result (IsStoreFault (stores.new ≡ stores.old) wanted.now.is_new (IsNotHeld (K.has stores.old wanted.now.name.now) wanted.now.is_new plan.now me programs.now)) }
 {
-    if is_new {
-        make(alloc, stores, name, sync, plan, me, programs)
+    if wanted.is_new {
+        make(alloc, stores, wanted.name, wanted.sync, plan, me, programs)
     } else {
-        find(alloc, stores, name, sync, plan, me, programs)
+        find(alloc, stores, wanted.name, wanted.sync, plan, me, programs)
     }
 }
 

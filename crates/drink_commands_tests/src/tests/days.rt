@@ -201,6 +201,7 @@ fn a_run_of_all_offices_leaves_the_next_day(rt: HostRuntime) {
     let result = live::run(
         &rt,
         rt.alloc(),
+        Form::Plain,
         &memory,
         "p",
         "s",
@@ -230,6 +231,7 @@ fn a_run_that_is_cut_short_leaves_all(rt: HostRuntime) {
     let result = live::run(
         &rt,
         rt.alloc(),
+        Form::Plain,
         &memory,
         "p",
         "s",

@@ -20,11 +20,12 @@ const PLAN: &str =
 /// What a run is answered: the exit status, what is printed, and what is said.
 type Answer = (u8, String, String);
 
-/// Office `a` serves a client that asks this, so many bytes at a time, until nothing came for a second.
+/// Office `a` serves a client that asks this, so many bytes at a time, until nothing came for a second; with more words for the command.
 fn served(
     rt: &(impl AllocGlobal + Threads + Wait + Clock + std::marker::Sync),
     asks: &str,
     step: usize,
+    more: &[&str],
     shelf: &mut Shelf<'_>,
 ) -> Result<Answer, Fail> {
     let alloc = rt.alloc();
@@ -41,6 +42,9 @@ fn served(
     )?;
     if !shelf.is_there {
         words.push(String::from_str(alloc, "--new")?)?;
+    }
+    for word in more {
+        words.push(String::from_str(alloc, *word)?)?;
     }
     let client = Client { asks, step };
     let mut out = Vec::new(alloc);
@@ -173,8 +177,35 @@ fn told(
     let asks = replaced(alloc, asks, '|', "\n")?;
     let bottom = Bottom::of(Vec::new(alloc));
     let mut shelf = Shelf::new("f", &bottom, false);
-    served(rt, asks.as_str(), step, &mut shelf)
+    served(rt, asks.as_str(), step, &[], &mut shelf)
 }
+
+/// What is said may be objects, with the same values.
+#[test]
+fn objects_are_said(rt: HostRuntime) -> Result<(), Fail> {
+    let alloc = rt.alloc();
+    let bottom = Bottom::of(Vec::new(alloc));
+    let mut shelf = Shelf::new("f", &bottom, false);
+    let asks =
+        "ticket 1\nsession a\ngive 1\nend\nticket 1\nsession a\ngive 1\nend\nticket 3\nsession a\nend\nsession b\nend\nvalue y\nvalue x\nvalue z\n";
+    let (status, printed, said) = served(&rt, asks, usize::MAX, &["--json"], &mut shelf)?;
+    assert_eq!(rt; said.as_str(), "");
+    assert_eq!(rt; status, 0);
+    assert_eq!(rt; printed.as_str(), OBJECTS);
+    Ok(())
+}
+
+const OBJECTS: &str = "{\"ready\":0}
+{\"ticket\":1}
+{\"pending\":1}
+{\"refused\":\"O7 TicketAhead\"}
+{\"refused\":\"O2 NotOurs\"}
+{\"value\":\"y\",\"is\":8}
+{\"away\":\"x\",\"neighbour\":\"b\"}
+{\"refused\":\"S3 UnknownRecord\",\"line\":16}
+{\"office\":\"a\",\"ticket\":1,\"end\":\"done\",\"reads\":{},\"writes\":{},\"gives\":[1]}
+{\"unfinished\":0}
+";
 
 /// An office that is started again knows its tickets: a session that is asked for again under its ticket isn't done again.
 #[test]
@@ -183,14 +214,14 @@ fn a_ticket_is_safe_over_starts(rt: HostRuntime) -> Result<(), Fail> {
     let bottom = Bottom::of(Vec::new(alloc));
     let mut shelf = Shelf::new("f", &bottom, false);
     let asks = "ticket 1\nsession a\ngive 1\nend\n";
-    let (status, printed, _) = served(&rt, asks, usize::MAX, &mut shelf)?;
+    let (status, printed, _) = served(&rt, asks, usize::MAX, &[], &mut shelf)?;
     assert_eq!(rt; status, 0);
     assert_eq!(rt;
         printed.as_str(),
         "ready 0\nticket 1\na.1 done reads - writes - gives 1\nunfinished 0\n"
     );
     shelf.is_there = true;
-    let (status, printed, _) = served(&rt, asks, usize::MAX, &mut shelf)?;
+    let (status, printed, _) = served(&rt, asks, usize::MAX, &[], &mut shelf)?;
     assert_eq!(rt; status, 0);
     assert_eq!(rt;
         printed.as_str(),

@@ -107,6 +107,41 @@ fn an_office_goes_on_from_its_store(rt: HostRuntime) -> Result<(), Fail> {
     Ok(())
 }
 
+/// More words for the command, whether its store is there, and the objects that it tells.
+static OBJECTS: [(&[&str], bool, &str); 3] = [
+    (
+        &["--json"],
+        false,
+        "{\"office\":\"a\",\"ticket\":1,\"end\":\"done\",\"reads\":{},\"writes\":{},\"gives\":[1]}\n{\"unfinished\":1}\n",
+    ),
+    (
+        &["--store", "f", "--new", "--json"],
+        false,
+        "{\"before\":0}\n{\"office\":\"a\",\"ticket\":1,\"end\":\"done\",\"reads\":{},\"writes\":{},\"gives\":[1]}\n{\"unfinished\":1}\n",
+    ),
+    (
+        &["--json", "--store", "f"],
+        true,
+        "{\"before\":1}\n{\"office\":\"a\",\"ticket\":1,\"end\":\"done\",\"reads\":{},\"writes\":{},\"gives\":[1]}\n{\"unfinished\":1}\n",
+    ),
+];
+
+#[test]
+fn an_office_tells_objects(rt: HostRuntime) -> Result<(), Fail> {
+    let alloc = rt.alloc();
+    let binds = Deaf::new(alloc);
+    let bottom = Bottom::of(Vec::new(alloc));
+    let mut shelf = Shelf::new("f", &bottom, false);
+    for (words, is_there, expected) in &OBJECTS {
+        shelf.is_there = *is_there;
+        let (status, printed, said) = asked(&rt, SESSIONS, *words, &binds, &mut shelf)?;
+        assert_eq!(rt; said.as_str(), "");
+        assert_eq!(rt; status, 1);
+        assert_eq!(rt; printed.as_str(), *expected);
+    }
+    Ok(())
+}
+
 /// A part of a line at the end is cut off, and an empty store is that of an office which has done nothing.
 #[test]
 fn a_torn_line_is_cut_off(rt: HostRuntime) -> Result<(), Fail> {

@@ -2,8 +2,9 @@ use Rattle.std.proofs.Common.{ℕ, List, ◌∷◌, map, sym, subst, IfErr}
 use Rattle.std.specs.Option.{option_copied}
 use Rattle.input_texts.specs.Words.{StandFor}
 use Rattle.drink_commands.specs.Audit.{Audits, IsJudgedAudit}
+use Rattle.drink_commands.specs.Sealed.{IsUnderSeals}
 use Rattle.drink_commands.specs.Served.{IsServed, ServesOffice}
-use Rattle.drink_program.proofs.Done.{keeps, ok_both, ok_more}
+use Rattle.drink_program.proofs.Done.{keeps, ok_more}
 use Rattle.drink_program.proofs.program.perform.Goals as goal
 
 pub returns-in-Serial : goal.returns-in-Serial
@@ -29,14 +30,14 @@ returns-in-Random g c = record {
 
 pub returns-in-Run : goal.returns-in-Run
 returns-in-Run g c = record {
-  done = rw c.in-Run.is (ok_both c.run-in-Run.result _ _ c.run-in-Run.ensures.runs c.run-in-Run.ensures.sealed);
+  done = rw (c.in-Run.is, sym c.of-form-in-Run.ensures) c.run-in-Run.ensures.runs;
   status = rw c.in-Run.is c.run-in-Run.ensures.status;
   judged = rw c.in-Run.is c.run-in-Run.ensures.judged;
 }
 
 pub returns-in-RunStored : goal.returns-in-RunStored
 returns-in-RunStored g c = record {
-  done = rw c.in-RunStored.is (ok_more c.run-in-RunStored.result _ _ (λ status h. (keeps _, h.0, h.1)) (ok_both c.run-in-RunStored.result _ _ c.run-in-RunStored.ensures.runs c.run-in-RunStored.ensures.sealed));
+  done = rw (c.in-RunStored.is, sym c.of-form-in-RunStored.ensures) (ok_more c.run-in-RunStored.result _ _ (λ status h. (keeps _, h)) c.run-in-RunStored.ensures.runs);
   status = rw c.in-RunStored.is c.run-in-RunStored.ensures.status;
   judged = rw c.in-RunStored.is c.run-in-RunStored.ensures.judged;
 }
@@ -46,19 +47,18 @@ returns-in-Serve g c =
     let files = g.S.Sources.file_text c.args.sources.now in
     let standard = g.S.Sources.standard_text c.args.sources.now in
     record {
-      done = rw c.in-Serve.is (ok_more c.run-in-Serve.result _ _ (λ status h. (
+      done = rw (c.in-Serve.is, sym c.of-form-in-Serve.ensures) (ok_more c.run-in-Serve.result _ _ (λ status h. (
         keeps _,
-        subst (λ asks. ServesOffice g.B.Socket.Wire.tells files standard (g.K.Stores.has c.args.stores.now c.in-Serve.store.now) c.in-Serve.new c.in-Serve.plan.now c.in-Serve.office.now c.in-Serve.store.now asks IsServed
-            (g.W.Write.contents c.args.out.now) (g.W.Write.contents c.run-in-Serve.new.out)) c.requires h.0,
-        h.1,
-      )) (ok_both c.run-in-Serve.result _ _ c.run-in-Serve.ensures.serves c.run-in-Serve.ensures.sealed));
+        subst (λ asks. ServesOffice (IsUnderSeals g.B.Socket.Wire.account files (option_copied c.in-Serve.secrets)) c.of-form-in-Serve.result g.B.Socket.Wire.tells files standard (g.K.Stores.has c.args.stores.now c.in-Serve.store.now) c.in-Serve.new c.in-Serve.plan.now c.in-Serve.office.now c.in-Serve.store.now asks IsServed
+            (g.W.Write.contents c.args.out.now) (g.W.Write.contents c.run-in-Serve.new.out)) c.requires h,
+      )) c.run-in-Serve.ensures.serves);
       status = rw c.in-Serve.is c.run-in-Serve.ensures.status;
       judged = rw c.in-Serve.is c.run-in-Serve.ensures.judged;
     }
 
 pub returns-in-Live : goal.returns-in-Live
 returns-in-Live g c = record {
-  done = rw c.in-Live.is c.run-in-Live.ensures.runs;
+  done = rw (c.in-Live.is, sym c.of-form-in-Live.ensures) c.run-in-Live.ensures.runs;
   status = rw c.in-Live.is c.run-in-Live.ensures.status;
   judged = rw c.in-Live.is c.run-in-Live.ensures.judged;
 }

@@ -20,7 +20,7 @@ use Rattle.drink_commands.proofs.FewJournals.{few_journals}
 use Rattle.drink_commands.proofs.commands.live.run.Goals as goal
 
 pub write_ran-requires-clause-journals : goal.write_ran-requires-clause-journals
-write_ran-requires-clause-journals g c = few_journals c.in_ok-plan.plan _ _ c.in_ok-ran.ran c.in_ok-ran.ensures.tells
+write_ran-requires-clause-journals g c = few_journals c.args.form c.in_ok-plan.plan _ _ c.in_ok-ran.ran c.in_ok-ran.ensures.tells
 
 pub write_ran-requires-clause-fit : goal.write_ran-requires-clause-fit
 write_ran-requires-clause-fit g c = subst (All (λ (x : ProgramValue). IsTrue (fits c.in_ok-plan.plan x))) (sym c.deref-2.ensures.value) c.in_ok-programs.ensures.fit
@@ -87,9 +87,9 @@ returns-clause-runs g c =
     ok_more c.write_ran.result _ _ (λ status h. λ plan_text sessions_text known. (
       c.in_ok-ran.ran,
       h.0,
-      (ran_offices (AreFree files c.args.plan.now c.args.sessions.now) files c.new-standard.result c.read_plan.new.standard c.read_coded_programs.new.standard c.args.plan.now c.args.sessions.now plan_text sessions_text c.in_ok-plan.plan c.in_ok-programs.programs.items c.deref.result.now (option_copied c.args.journals) (option_copied c.args.next) (option_copied c.args.left) c.in_ok-ran.ran (g.W.Write.contents c.args.out.now) (g.W.Write.contents c.write_ran.new.out) (g.T.Targets.written c.args.targets.now) (g.T.Targets.written c.write_ran.new.targets)
+      (ran_offices c.args.form (AreFree files c.args.plan.now c.args.sessions.now) files c.new-standard.result c.read_plan.new.standard c.read_coded_programs.new.standard c.args.plan.now c.args.sessions.now plan_text sessions_text c.in_ok-plan.plan c.in_ok-programs.programs.items c.deref.result.now (option_copied c.args.journals) (option_copied c.args.next) (option_copied c.args.left) c.in_ok-ran.ran (g.W.Write.contents c.args.out.now) (g.W.Write.contents c.write_ran.new.out) (g.T.Targets.written c.args.targets.now) (g.T.Targets.written c.write_ran.new.targets)
           c.in_ok-plan.ensures.meaning c.in_ok-programs.ensures.meaning
-          (started c.new-standard.result (g.S.Sources.standard_text c.args.sources.now) files (c.args.plan.now ∷ c.args.sessions.now ∷ []) (plan_text ∷ sessions_text ∷ []) (search rules) known) c.deref.ensures.value c.in_ok-look_at_folder.ensures.free (subst (λ wanted. TellsJournals c.in_ok-plan.plan (range_with_len 0 (length c.in_ok-plan.plan.offices)) (length c.deref.result.now) wanted c.in_ok-ran.ran) c.are_wanted-wanted.ensures c.in_ok-ran.ensures.tells)
+          (started c.new-standard.result (g.S.Sources.standard_text c.args.sources.now) files (c.args.plan.now ∷ c.args.sessions.now ∷ []) (plan_text ∷ sessions_text ∷ []) (search rules) known) c.deref.ensures.value c.in_ok-look_at_folder.ensures.free (subst (λ wanted. TellsJournals c.args.form c.in_ok-plan.plan (range_with_len 0 (length c.in_ok-plan.plan.offices)) (length c.deref.result.now) wanted c.in_ok-ran.ran) c.are_wanted-wanted.ensures c.in_ok-ran.ensures.tells)
           (subst (λ ps. WritesRan c.in_ok-plan.plan ps (option_copied c.args.journals) (option_copied c.args.next) (option_copied c.args.left) c.in_ok-ran.ran (g.W.Write.contents c.args.out.now) (g.W.Write.contents c.write_ran.new.out) (g.T.Targets.written c.args.targets.now) (g.T.Targets.written c.write_ran.new.targets))
           (c.deref-2.ensures.value ∙ sym c.deref.ensures.value) h.1)),
     )) c.write_ran.ensures.done
@@ -124,9 +124,9 @@ returns-clause-leaves g c =
     err_more c.write_ran.result _ _ (λ f h. at_end _ (RefusesFolder (g.S.Sources.file_text c.args.sources.now) (g.S.Sources.standard_text c.args.sources.now) c.args.plan.now c.args.sessions.now (option_copied c.args.journals)) _ _ f h (λ cause h. λ plan_text sessions_text known. (
       c.in_ok-ran.ran,
       h.0,
-      (ran_offices (AreFree files c.args.plan.now c.args.sessions.now) files c.new-standard.result c.read_plan.new.standard c.read_coded_programs.new.standard c.args.plan.now c.args.sessions.now plan_text sessions_text c.in_ok-plan.plan c.in_ok-programs.programs.items c.deref.result.now (option_copied c.args.journals) (option_copied c.args.next) (option_copied c.args.left) c.in_ok-ran.ran (g.W.Write.contents c.args.out.now) (g.W.Write.contents c.write_ran.new.out) (g.T.Targets.written c.args.targets.now) (g.T.Targets.written c.write_ran.new.targets)
+      (ran_offices c.args.form (AreFree files c.args.plan.now c.args.sessions.now) files c.new-standard.result c.read_plan.new.standard c.read_coded_programs.new.standard c.args.plan.now c.args.sessions.now plan_text sessions_text c.in_ok-plan.plan c.in_ok-programs.programs.items c.deref.result.now (option_copied c.args.journals) (option_copied c.args.next) (option_copied c.args.left) c.in_ok-ran.ran (g.W.Write.contents c.args.out.now) (g.W.Write.contents c.write_ran.new.out) (g.T.Targets.written c.args.targets.now) (g.T.Targets.written c.write_ran.new.targets)
           c.in_ok-plan.ensures.meaning c.in_ok-programs.ensures.meaning
-          (started c.new-standard.result (g.S.Sources.standard_text c.args.sources.now) files (c.args.plan.now ∷ c.args.sessions.now ∷ []) (plan_text ∷ sessions_text ∷ []) (search rules) known) c.deref.ensures.value c.in_ok-look_at_folder.ensures.free (subst (λ wanted. TellsJournals c.in_ok-plan.plan (range_with_len 0 (length c.in_ok-plan.plan.offices)) (length c.deref.result.now) wanted c.in_ok-ran.ran) c.are_wanted-wanted.ensures c.in_ok-ran.ensures.tells)
+          (started c.new-standard.result (g.S.Sources.standard_text c.args.sources.now) files (c.args.plan.now ∷ c.args.sessions.now ∷ []) (plan_text ∷ sessions_text ∷ []) (search rules) known) c.deref.ensures.value c.in_ok-look_at_folder.ensures.free (subst (λ wanted. TellsJournals c.args.form c.in_ok-plan.plan (range_with_len 0 (length c.in_ok-plan.plan.offices)) (length c.deref.result.now) wanted c.in_ok-ran.ran) c.are_wanted-wanted.ensures c.in_ok-ran.ensures.tells)
           (subst (λ ps. WritesRan c.in_ok-plan.plan ps (option_copied c.args.journals) (option_copied c.args.next) (option_copied c.args.left) c.in_ok-ran.ran (g.W.Write.contents c.args.out.now) (g.W.Write.contents c.write_ran.new.out) (g.T.Targets.written c.args.targets.now) (g.T.Targets.written c.write_ran.new.targets))
           (c.deref-2.ensures.value ∙ sym c.deref.ensures.value) h.1)),
     ))) c.write_ran.ensures.leaves

@@ -1,4 +1,6 @@
 use Rattle.std.specs.Option.{option_copied}
+use Rattle.std.specs.Prelude.{option_map}
+use Rattle.sealed_sockets.specs.Sealed.{IsToldUnder}
 use Rattle.office_runs.specs.Runs.{TellsCourse}
 use Rattle.std.proofs.Common.{◌≡◌, ◌∙◌, [], ◌∷◌, Some, IfSome, inl, inr, refl, subst, sym, ◌≤◌, rules}
 use Rattle.std.proofs.lemmas.Result.{err_from_is_err_and}
@@ -6,13 +8,15 @@ use Rattle.command_outputs.specs.Fault.{IsOfRun}
 use Rattle.command_outputs.specs.Places.{IsFree, IsObstacle}
 use Rattle.secret_files.specs.Files.{RefusesSecrets}
 use Rattle.drink_commands.specs.Run.{RefusesFile}
+use Rattle.drink_commands.specs.Sealed.{IsUnderSeals}
 use Rattle.drink_commands.specs.Texts.{nothing}
 use Rattle.command_inputs.specs.declared.input.Input.TheVariants as inputs
 use Rattle.command_outputs.specs.declared.fault.Fault.TheVariants.{NoRun, Text}
 use Rattle.drink_commands.proofs.Faults as texts
 use Rattle.drink_commands.proofs.Faults.{at_first, at_next, sessions_taken}
-use Rattle.drink_commands.proofs.Reported.{file_refused, ran_office, started, under_seals}
+use Rattle.drink_commands.proofs.Reported.{file_refused, ran_office, started}
 use Rattle.drink_commands.proofs.Running.{at_end, at_later, at_office, at_place, at_plan, at_secrets, at_word, err_more, is_end, is_place, is_secrets, judged, is_some_copied, ok_more, one_at_most}
+use Rattle.drink_commands.proofs.OfSeals.{course_as, under_seals}
 use Rattle.drink_commands.proofs.commands.run.run.Goals as goal
 
 pub returns-in_err-plan-clause-judged : goal.returns-in_err-plan-clause-judged
@@ -86,19 +90,19 @@ returns-clause-judged g c =
 pub returns-clause-runs : goal.returns-clause-runs
 returns-clause-runs g c =
     let files = g.S.Sources.file_text c.args.sources.now in
+    let account = g.B.Socket.Wire.account in
+    let lent = option_copied c.lent.result in
+    let Is = IsUnderSeals account files (option_copied c.args.secrets) in
+    let told = course_as (IsToldUnder account lent) (Is c.in_ok-plan.plan c.in_ok-me.me)
+    (under_seals account files (option_copied c.args.secrets) c.in_ok-plan.plan c.in_ok-me.me (option_map (λ v. v.items) c.in_ok-secrets.secrets) lent c.in_ok-secrets.ensures.are c.lent.ensures)
+    c.args.form g.B.Socket.Wire.tells c.in_ok-plan.plan c.in_ok-me.me c.deref.result.now c.args.turns c.is_some.result c.in_ok-ran.ran c.in_ok-ran.ensures.ran in
     ok_more c.write_ran.result _ _ (λ status h. λ plan_text sessions_text known. (
       c.in_ok-ran.ran,
       h.0,
-      (ran_office g.B.Socket.Wire.tells (IsFree files c.args.plan.now c.args.sessions.now) files c.new-standard.result c.read_plan.new.standard c.read_coded_programs.new.standard c.args.plan.now c.args.office.now c.args.sessions.now plan_text sessions_text c.in_ok-plan.plan c.in_ok-me.me c.in_ok-programs.programs.items c.deref.result.now c.args.turns (option_copied c.args.journal) c.in_ok-ran.ran (g.W.Write.contents c.args.out.now) (g.W.Write.contents c.write_ran.new.out) (g.T.Targets.written c.args.targets.now) (g.T.Targets.written c.write_ran.new.targets)
+      (ran_office Is c.args.form g.B.Socket.Wire.tells (IsFree files c.args.plan.now c.args.sessions.now) files c.new-standard.result c.read_plan.new.standard c.read_coded_programs.new.standard c.args.plan.now c.args.office.now c.args.sessions.now plan_text sessions_text c.in_ok-plan.plan c.in_ok-me.me c.in_ok-programs.programs.items c.deref.result.now c.args.turns (option_copied c.args.journal) c.in_ok-ran.ran (g.W.Write.contents c.args.out.now) (g.W.Write.contents c.write_ran.new.out) (g.T.Targets.written c.args.targets.now) (g.T.Targets.written c.write_ran.new.targets)
           c.in_ok-plan.ensures.meaning c.in_ok-me.ensures.office c.in_ok-me.ensures.reached c.in_ok-programs.ensures.meaning
-          (started c.new-standard.result (g.S.Sources.standard_text c.args.sources.now) files (c.args.plan.now ∷ c.args.sessions.now ∷ []) (plan_text ∷ sessions_text ∷ []) (search rules) known) c.deref.ensures.value c.in_ok-look_at_file.ensures.free (subst (λ wanted. TellsCourse g.B.Socket.Wire.tells c.in_ok-plan.plan c.in_ok-me.me c.deref.result.now c.args.turns wanted c.in_ok-ran.ran) (c.is_some.ensures ∙ is_some_copied c.args.journal) c.in_ok-ran.ensures.ran) h.1 h.2),
+          (started c.new-standard.result (g.S.Sources.standard_text c.args.sources.now) files (c.args.plan.now ∷ c.args.sessions.now ∷ []) (plan_text ∷ sessions_text ∷ []) (search rules) known) c.deref.ensures.value c.in_ok-look_at_file.ensures.free (subst (λ wanted. TellsCourse (Is c.in_ok-plan.plan c.in_ok-me.me) c.args.form g.B.Socket.Wire.tells c.in_ok-plan.plan c.in_ok-me.me c.deref.result.now c.args.turns wanted c.in_ok-ran.ran) (c.is_some.ensures ∙ is_some_copied c.args.journal) told) h.1 h.2),
     )) c.write_ran.ensures.done
-
-pub returns-clause-sealed : goal.returns-clause-sealed
-returns-clause-sealed g c =
-    let files = g.S.Sources.file_text c.args.sources.now in
-    ok_more c.write_ran.result _ _ (λ status h. under_seals files (g.S.Sources.standard_text c.args.sources.now) c.new-standard.result c.read_plan.new.standard c.args.plan.now c.args.office.now c.args.sessions.now c.in_ok-plan.plan c.in_ok-me.me (option_copied c.args.secrets) (search rules)
-    c.in_ok-plan.ensures.meaning c.in_ok-me.ensures.office c.in_ok-secrets.ensures.had) c.write_ran.ensures.done
 
 pub returns-clause-status : goal.returns-clause-status
 returns-clause-status g c = ok_more c.write_ran.result _ _ (λ status h. subst (λ n. n ≤ 1) (sym h.0.1) (one_at_most c.in_ok-ran.ran.unfinished)) c.write_ran.ensures.done
@@ -137,10 +141,16 @@ returns-in_err-ran-clause-leaves g c =
 pub returns-clause-leaves : goal.returns-clause-leaves
 returns-clause-leaves g c =
     let files = g.S.Sources.file_text c.args.sources.now in
+    let account = g.B.Socket.Wire.account in
+    let lent = option_copied c.lent.result in
+    let Is = IsUnderSeals account files (option_copied c.args.secrets) in
+    let told = course_as (IsToldUnder account lent) (Is c.in_ok-plan.plan c.in_ok-me.me)
+    (under_seals account files (option_copied c.args.secrets) c.in_ok-plan.plan c.in_ok-me.me (option_map (λ v. v.items) c.in_ok-secrets.secrets) lent c.in_ok-secrets.ensures.are c.lent.ensures)
+    c.args.form g.B.Socket.Wire.tells c.in_ok-plan.plan c.in_ok-me.me c.deref.result.now c.args.turns c.is_some.result c.in_ok-ran.ran c.in_ok-ran.ensures.ran in
     err_more c.write_ran.result _ _ (λ f h. at_end _ (RefusesFile (g.S.Sources.file_text c.args.sources.now) (g.S.Sources.standard_text c.args.sources.now) c.args.plan.now c.args.office.now c.args.sessions.now (option_copied c.args.journal)) _ _ f h (λ cause h. λ plan_text sessions_text known. (
       c.in_ok-ran.ran,
       h.0,
-      (ran_office g.B.Socket.Wire.tells (IsFree files c.args.plan.now c.args.sessions.now) files c.new-standard.result c.read_plan.new.standard c.read_coded_programs.new.standard c.args.plan.now c.args.office.now c.args.sessions.now plan_text sessions_text c.in_ok-plan.plan c.in_ok-me.me c.in_ok-programs.programs.items c.deref.result.now c.args.turns (option_copied c.args.journal) c.in_ok-ran.ran (g.W.Write.contents c.args.out.now) (g.W.Write.contents c.write_ran.new.out) (g.T.Targets.written c.args.targets.now) (g.T.Targets.written c.write_ran.new.targets)
+      (ran_office Is c.args.form g.B.Socket.Wire.tells (IsFree files c.args.plan.now c.args.sessions.now) files c.new-standard.result c.read_plan.new.standard c.read_coded_programs.new.standard c.args.plan.now c.args.office.now c.args.sessions.now plan_text sessions_text c.in_ok-plan.plan c.in_ok-me.me c.in_ok-programs.programs.items c.deref.result.now c.args.turns (option_copied c.args.journal) c.in_ok-ran.ran (g.W.Write.contents c.args.out.now) (g.W.Write.contents c.write_ran.new.out) (g.T.Targets.written c.args.targets.now) (g.T.Targets.written c.write_ran.new.targets)
           c.in_ok-plan.ensures.meaning c.in_ok-me.ensures.office c.in_ok-me.ensures.reached c.in_ok-programs.ensures.meaning
-          (started c.new-standard.result (g.S.Sources.standard_text c.args.sources.now) files (c.args.plan.now ∷ c.args.sessions.now ∷ []) (plan_text ∷ sessions_text ∷ []) (search rules) known) c.deref.ensures.value c.in_ok-look_at_file.ensures.free (subst (λ wanted. TellsCourse g.B.Socket.Wire.tells c.in_ok-plan.plan c.in_ok-me.me c.deref.result.now c.args.turns wanted c.in_ok-ran.ran) (c.is_some.ensures ∙ is_some_copied c.args.journal) c.in_ok-ran.ensures.ran) h.1 h.2),
+          (started c.new-standard.result (g.S.Sources.standard_text c.args.sources.now) files (c.args.plan.now ∷ c.args.sessions.now ∷ []) (plan_text ∷ sessions_text ∷ []) (search rules) known) c.deref.ensures.value c.in_ok-look_at_file.ensures.free (subst (λ wanted. TellsCourse (Is c.in_ok-plan.plan c.in_ok-me.me) c.args.form g.B.Socket.Wire.tells c.in_ok-plan.plan c.in_ok-me.me c.deref.result.now c.args.turns wanted c.in_ok-ran.ran) (c.is_some.ensures ∙ is_some_copied c.args.journal) told) h.1 h.2),
     ))) c.write_ran.ensures.leaves

@@ -1,0 +1,25 @@
+use Rattle.std.proofs.Common.{inl, inr, refl}
+use Rattle.std.proofs.lemmas.Result.{err_from_is_err_and}
+use Rattle.sealed_sockets.specs.Sealed.{IsToldUnder}
+use Rattle.drink_commands.proofs.OfSeals.{went_of}
+use Rattle.drink_commands.proofs.commands.stored.go_on.Goals as goal
+
+pub returns-in_err-station-clause-fault : goal.returns-in_err-station-clause-fault
+returns-in_err-station-clause-fault g c =
+    let e = err_from_is_err_and c.from_residual.result c.from_residual.ensures.1 in
+    rw (e.1, e.2) (inl (c.in_err-station.field-0.0, refl))
+
+pub returns-in_err-kept-clause-fault : goal.returns-in_err-kept-clause-fault
+returns-in_err-kept-clause-fault g c =
+    let e = err_from_is_err_and c.from_residual-in_err-kept.result c.from_residual-in_err-kept.ensures.1 in
+    rw (e.1, e.2) (inr c.in_err-kept.ensures.fault)
+
+pub returns-in_err-ended-clause-fault : goal.returns-in_err-ended-clause-fault
+returns-in_err-ended-clause-fault g c =
+    let e = err_from_is_err_and c.from_residual-in_err-ended.result c.from_residual-in_err-ended.ensures.1 in
+    rw (e.1, e.2) (inl (c.in_err-ended.field-0.0, refl))
+
+pub returns-clause-went : goal.returns-clause-went
+returns-clause-went g c =
+    went_of _ (IsToldUnder g.B.Socket.Wire.account g.X.Secrets.secrets) (λ a x. (x.0.wire.wire, x.0.wire.failures, x.1)) c.args.form g.B.Socket.Wire.tells _ c.args.wanted.now.is_new c.args.plan.now c.args.me c.args.programs.now c.args.turns c.in_ok-kept.kept _ _ _ c.in_ok-ended.ended _ _
+    c.in_ok-kept.ensures.kept c.in_ok-ended.ensures.goes_on
