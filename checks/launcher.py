@@ -52,7 +52,7 @@ FAULTY = (
     "run a b c --turns", "run a b c --turns 0", "run a b c --turns 100001", "run a b c --turns 1 --turns 2", "run a b c --loss 1", "run a b c --new", "run a b c --sync none", "run a b c --sync all",
     "run a b c --store s --sync all", "run a b c --store s --journal j", "run a b c --store", "run a b c --store s --new x", "run a b c --store s --new=x", "run a b c --store s --new --new",
     "run a b c --journal -", "run a b c --store=-", "run a b c --journal -x", "run a b c --turns --journal j", "run a b c --journal --", "sim", "random", "random --seed 1", "run", "run a", "live", "live a b --store s", "live a", "live a b --turns 1", "live a b --journal j", "live a b --journals", "audit", "audit a", "audit a b --turns 1",
-    "serial a b --plan", "serial a b --plan -", "serial a b --left l", "sim a b c --plan n --left=-", "audit a b --left l --left l", "live a b --plan n --plan n", "live a b --left -", "random a b --seed 1 --loss 0 --steps 1 --plan -", "serial a b --json=x", "audit a b --json --json", "run a b c --json",
+    "serial a b --plan", "serial a b --plan -", "serial a b --left l", "sim a b c --plan n --left=-", "audit a b --left l --left l", "live a b --plan n --plan n", "live a b --left -", "random a b --seed 1 --loss 0 --steps 1 --plan -", "serial a b --json=x", "audit a b --json --json", "run a b c --json=x", "live a b --json --json", "serve a b --json",
     "serve", "serve a", "serve a b", "serve a b c --store s", "serve - b --store s", "serve a b --store -", "serve a b --store", "serve a b --new", "serve a b --store s --sync all", "serve a b --store s --linger 86401", "serve a b --store s --status x", "serve a b --store s --turns 1",
 )
 
@@ -78,6 +78,8 @@ HANDED = [
     (["run", "plan.txt", "a", "s", "--journal", "j"], ["run", "HERE/plan.txt", "a", "HERE/s", "--journal", "HERE/j"]),
     (["run", "--journal=a file", "p", "a", "s"], ["run", "--journal=HERE/a file", "HERE/p", "a", "HERE/s"]),
     (["run", "p", "a", "s", "--store", "j", "--new"], ["run", "HERE/p", "a", "HERE/s", "--store", "HERE/j", "--new"]),
+    (["run", "--json", "p", "a", "s", "--store", "j"], ["run", "--json", "HERE/p", "a", "HERE/s", "--store", "HERE/j"]),
+    (["live", "plan.txt", "--json", "s"], ["live", "HERE/plan.txt", "--json", "HERE/s"]),
     (["run", "--new", "p", "a", "s", "--sync", "none", "--store=a file"], ["run", "--new", "HERE/p", "a", "HERE/s", "--sync", "none", "--store=HERE/a file"]),
     (["run", "-", "a", "/dev/null", "--journal=/j"], ["run", "-", "a", "/dev/null", "--journal=/j"]),
     (["live", "plan.txt", "s"], ["live", "HERE/plan.txt", "HERE/s"]),

@@ -1,7 +1,7 @@
 """What is printed with --json: an object on each line, which says what the line for people says."""
 import json, os, re
 
-from common import PLAN, SESSIONS, TOP
+from common import PLAN, SESSIONS, TOP, at_ports, free_ports
 
 LEDGER = b"""{"office":"north","ticket":1,"end":"done","reads":{"alice":100,"bob":20},"writes":{"alice":70,"bob":50},"gives":[70,50]}
 {"office":"south","ticket":1,"end":{"refused":1},"reads":{"bob":50,"carol":75},"writes":{},"gives":[]}
@@ -42,6 +42,9 @@ ENDED = b"""{"office":"a","ticket":1,"end":"done","reads":{"x":5},"writes":{"x":
 {"value":"x","is":9223372036854775807}
 """
 
+# The session of sessions.txt.
+OWN = b'{"office":"a","ticket":1,"end":"done","reads":{"x":5},"writes":{},"gives":[5]}\n'
+
 # Words of runs whose two forms are compared.
 ALIKE = (
     "serial examples/monthly_settlement/plan.txt examples/monthly_settlement/sessions.txt",
@@ -73,12 +76,34 @@ def objects(check):
     check.wants("objects: an audit that isn't woven", check.run("audit examples/two_desks/plan.txt changed.journal examples/two_desks/desk2.journal --json"), 1, b'{"unwoven":"desk1","entry":7}\n', b"")
     check.wants("objects: a fault is no object", check.run("serial nowhere.txt sessions.txt --json"), 1, b"", r"\Adrink: nowhere\.txt: X4 ReadFailed: ")
     check.wants("objects: with a word", check.run("serial plan.txt sessions.txt --json=yes"), 2, b"", r"\Adrink: unexpected value 'yes' for '--json' found; no more were expected")
+    offices(check)
     for words in ALIKE:
         plain, told = check.run(words), check.run(f"{words} --json")
         lines = told.out.decode().splitlines()
         check.equal(f"objects: {words}: the same", "".join(line_of(it) for it in lines), plain.out.decode())
         check.equal(f"objects: {words}: the status", told.status, plain.status)
-        check.equal(f"objects: {words}: their spelling", lines, [json.dumps(json.loads(it), separators=(",", ":")) for it in lines])
+        check.equal(f"objects: {words}: their spelling", lines, [spelled(it) for it in lines])
+
+
+def offices(check):
+    """Offices at sockets: what they print is objects, and what is said for people of what is left is not."""
+    check.files({"ports.txt": at_ports(PLAN, free_ports(2)), "theirs.txt": SESSIONS.replace(b"session a", b"session b")})
+    check.forget("objects.store")
+    done = OWN + b'{"unfinished":0}\n'
+    for words, wanted in (
+        ("live plan.txt sessions.txt --json", done),
+        ("run ports.txt a sessions.txt --turns 5 --json", done),
+        ("run ports.txt a sessions.txt --turns 5 --store objects.store --new --json", b'{"before":0}\n' + done),
+        ("run ports.txt a sessions.txt --turns 5 --json --store objects.store", b'{"before":1}\n' + done),
+    ):
+        check.wants(f"objects: {words}", check.run(words), 0, wanted, b"")
+    check.wants("objects: a session that is left", check.run("run ports.txt b theirs.txt --turns 5 --json"), 1, b'{"unfinished":1}\n', r"\Adrink: b\.1 waits for x from a")
+    check.wants("objects: a store that isn't there", check.run("run ports.txt a sessions.txt --store nowhere.store --json"), 1, b"", r"\Adrink: nowhere\.store: U7 NoStore: ")
+
+
+def spelled(text):
+    """How an object is spelled."""
+    return json.dumps(json.loads(text), separators=(",", ":"))
 
 
 def line_of(text):
@@ -94,6 +119,12 @@ def line_of(text):
             return f"value {it['value']} {it['is']}\n"
         case ["unwoven", "entry"]:
             return f"unwoven {it['unwoven']} {it['entry']}\n"
-        case ["unfinished" | "reply" as key]:
-            return f"{'' if key == 'reply' else 'unfinished '}{it[key]}\n"
+        case ["away", "neighbour"]:
+            return f"away {it['away']} {it['neighbour']}\n"
+        case ["refused", "line"]:
+            return f"refused {it['refused']} line {it['line']}\n"
+        case ["reply"]:
+            return f"{it['reply']}\n"
+        case ["unfinished" | "before" | "ready" | "ticket" | "pending" | "refused" as key]:
+            return f"{key} {it[key]}\n"
     return f"no line: {text}\n"

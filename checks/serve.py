@@ -3,6 +3,7 @@ killed, with the evening's audit and the next morning."""
 import os, re, select, signal, subprocess, time
 
 from common import HOST, SECONDS, at_ports, free_ports
+from objects import line_of, spelled
 from restarts import COUNTED, COUNTS, LINES, MOST_EVENTS
 
 # The office a, its neighbour b, which isn't started, and c, which is none.
@@ -41,6 +42,20 @@ ASKED = [
     ("a line between a ticket and its session", b"ticket 1\ngive 1\n" + ONE, b"refused S1 Syntax line 2\n"),
     ("a ticket without a session", b"ticket 1\nvalue y\n", b"refused S1 Syntax line 2\nvalue y 8\n"),
 ]
+
+# The same of one that says objects.
+ASKED_FOR_OBJECTS = (b"ticket 1\n" + ONE) * 2 + b"ticket 3\n" + ONE + b"session b\nend\nvalue y\nvalue x\nvalue q\n"
+OBJECTS = b"""{"ready":0}
+{"ticket":1}
+{"pending":1}
+{"refused":"O7 TicketAhead"}
+{"refused":"O2 NotOurs"}
+{"value":"y","is":8}
+{"away":"x","neighbour":"b"}
+{"refused":"S3 UnknownRecord","line":17}
+{"office":"a","ticket":1,"end":"done","reads":{},"writes":{},"gives":[1]}
+{"unfinished":0}
+"""
 
 # Words that are no command line, after PLAN and OFFICE.
 NO_WORDS = ("", "--store", "--store -", "--new", "--store s --sync all", "--store s --sync", "--store s --store t", "--store s --new=1", "--store s --turns 5", "--store s --linger", "--store s --linger x", "--store s --linger 86401", "--store s --status -1", "--store s --secrets", "--store s --secrets -", "own.txt --store s")
@@ -108,18 +123,30 @@ def serves(check):
 
 
 def asked(check):
-    """What is asked at once, up to the end of the input; all of these offices at the same time."""
-    ports, running = free_ports(3 * len(ASKED)), []
-    for at, (name, asks, says) in enumerate(ASKED):
+    """What is asked at once, up to the end of the input; and that objects say the same."""
+    said = ended_after(check, "", [(name, asks) for name, asks, says in ASKED])
+    for (name, ended), (_, _, says) in zip(said, ASKED):
+        check.equal(f"serve: {name}", ended, (0, b"ready 0\n" + says + b"unfinished 0\n", b""))
+    told = ended_after(check, " --json", [("objects", ASKED_FOR_OBJECTS), *((name, asks) for name, asks, says in ASKED)])
+    check.equal("serve --json: objects", told[0][1], (0, OBJECTS, b""))
+    for (name, (status, out, err)), (_, _, says) in zip(told[1:], ASKED):
+        lines = out.decode().splitlines()
+        check.equal(f"serve --json: {name}", (status, "".join(line_of(it) for it in lines), err), (0, (b"ready 0\n" + says + b"unfinished 0\n").decode(), b""))
+        check.equal(f"serve --json: {name}: their spelling", lines, [spelled(it) for it in lines])
+
+
+def ended_after(check, more, rows):
+    """How offices end of which this is asked, each alone; all at the same time."""
+    ports, running = free_ports(3 * len(rows)), []
+    for at, (name, asks) in enumerate(rows):
         check.files({f"served{at}.txt": at_ports(PLAN, ports[3 * at : 3 * at + 3])})
         check.forget(f"served{at}.store")
-        it = Service(check, f"served{at}.txt a --store served{at}.store --new --linger 1 --sync none")
+        it = Service(check, f"served{at}.txt a --store served{at}.store --new --linger 1 --sync none{more}")
         it.ask(asks)
         it.process.stdin.close()
         it.process.stdin = None
-        running.append((name, it, (0, b"ready 0\n" + says + b"unfinished 0\n", b"")))
-    for name, it, wanted in running:
-        check.equal(f"serve: {name}", it.end(), wanted)
+        running.append((name, it))
+    return [(name, it.end()) for name, it in running]
 
 
 def as_it_comes(check):
