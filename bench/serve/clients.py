@@ -7,7 +7,7 @@ A client asks for a session, and for the next once what that did was said; with 
 its number. Each office has a record with each of its neighbours; each session adds 1 to one of them, every second one to both. The time
 of a session goes from the write of its first line to the read of its outcome. All has to finish, and add up.
 """
-import os, re, select, socket, sqlite3, statistics, subprocess, sys, threading, time
+import os, re, select, socket, sqlite3, struct, statistics, subprocess, sys, threading, time
 
 OFFICES, HOST, RUNS = ("o0", "o1", "o2", "o3"), "127.0.0.1", 3
 PAIRS = ((0, 1), (1, 2), (2, 3), (0, 3))
@@ -49,7 +49,7 @@ class Office:
     """A process of an office, the clients that ask it, and when each asked."""
 
     def __init__(self, number, words, takes):
-        env = {**os.environ, **({"LD_PRELOAD": SLOW, "SYNC_TAKES": takes} if takes else {})}
+        env = {**os.environ, "LD_PRELOAD": SLOW, "SYNC_COUNTS": f"{FOLDER}/syncs", **({"SYNC_TAKES": takes} if takes else {})}
         self.number, self.rest, self.asked, self.began = number, b"", 0, {}
         self.process = subprocess.Popen(words, stdin=subprocess.PIPE, stdout=subprocess.PIPE, bufsize=0, env=env)
 
@@ -71,10 +71,13 @@ def memory(process):
 
 
 def run(clients, count, words, takes, marks=()):
-    """The seconds of a run, the seconds of each session, the values at the end, and the memory of the first office once so many sessions were told."""
+    """The seconds of a run, the seconds of each session, the memory of the first office once so many sessions were told, the sizes of the
+    stores, and how many syncs, datagrams and entries there were."""
     for it in OFFICES:
         if os.path.exists(f"{FOLDER}/{it}.store"):
             os.remove(f"{FOLDER}/{it}.store")
+    with open(f"{FOLDER}/syncs", "wb") as file:
+        file.write(bytes(8))
     with open(f"{FOLDER}/plan", "w", encoding="ascii") as file:
         file.write(plan(free_ports(len(OFFICES))))
     offices = [Office(at, [PROGRAM, "serve", f"{FOLDER}/plan", it, "--store", f"{FOLDER}/{it}.store", "--new", *words], takes) for at, it in enumerate(OFFICES)]
@@ -109,14 +112,23 @@ def run(clients, count, words, takes, marks=()):
     added = sum(len(records(it.number, k)) for it in offices for k in range(it.asked))
     if audit.returncode or sum(map(int, values.values())) != added or f"unfinished 0\n" not in audit.stdout:
         sys.exit(f"clients.py: the audit has to add up to {added}: {audit.stdout[-300:]} {audit.stderr}")
-    return seconds, took, seen, [os.path.getsize(it) for it in stores]
+    return seconds, took, seen, [os.path.getsize(it) for it in stores], counts(stores)
+
+
+def counts(stores):
+    """How many syncs there were, datagrams that were sent, and entries."""
+    with open(f"{FOLDER}/syncs", "rb") as file:
+        syncs = struct.unpack("=q", file.read())[0]
+    lines = [line for it in stores for line in open(it, encoding="ascii") if line[0].isdigit()]
+    return syncs, sum(line.split(" ", 2)[1] == "send" for line in lines), len(lines)
 
 
 def told(name, clients, runs):
     """A row of the table, of the run whose rate is the median."""
-    seconds, took = sorted(runs)[len(runs) // 2]
+    seconds, took, counted = sorted(runs)[len(runs) // 2]
     took.sort()
-    print(f"| {name} | {clients} | {len(took) / seconds:,.0f} | {took[len(took) // 2] * 1000:.2f} | {took[len(took) * 99 // 100] * 1000:.2f} |", flush=True)
+    each = " | ".join(f"{it / len(took):.1f}" for it in counted) if counted else " | | "
+    print(f"| {name} | {clients} | {len(took) / seconds:,.0f} | {took[len(took) // 2] * 1000:.2f} | {took[len(took) * 99 // 100] * 1000:.2f} | {each} |", flush=True)
 
 
 def sqlite(clients, count):
@@ -148,21 +160,26 @@ def sqlite(clients, count):
         it.start()
     for it in threads:
         it.join()
-    return time.monotonic() - start, took
+    return time.monotonic() - start, took, None
+
+
+def measured(*words):
+    seconds, took, _, _, counted = run(*words)
+    return seconds, took, counted
 
 
 def rates():
-    print("| Store | Clients | Sessions a second | Milliseconds, median | 99 of 100 within |\n|---|---|---|---|---|")
+    print("| Store | Clients | Sessions a second | Milliseconds, median | 99 of 100 within | Syncs a session | Datagrams | Entries |\n|---|---|---|---|---|---|---|---|")
     for name, (words, takes) in WAYS.items():
         for clients, count in COUNTS.items():
-            told(name, clients, [run(clients, count, words, takes)[:2] for _ in range(RUNS)])
+            told(name, clients, [measured(clients, count, words, takes) for _ in range(RUNS)])
     for clients, count in COUNTS.items():
         told("SQLite, `synchronous=FULL`, a log ahead, on this disk", clients, [sqlite(clients, count // 8) for _ in range(RUNS)])
 
 
 def sizes():
     marks = (MANY // 10, MANY)
-    _, _, seen, stores = run(16, MANY, ["--sync", "none"], None, marks)
+    _, _, seen, stores, _ = run(16, MANY, ["--sync", "none"], None, marks)
     print(f"Memory of the first office, in KiB, once {marks[0]:,} and {marks[1]:,} sessions were told: {seen[0]:,} and {seen[1]:,}; its store then had {stores[0]:,} bytes.")
 
 

@@ -47,5 +47,5 @@ for clients in 1 16; do
     all=$(wc -l < "$at/times")
     middle=$(sed -n "$(((all + 1) / 2))p" "$at/times")
     last=$(sed -n "$((all * 99 / 100))p" "$at/times")
-    awk -v c="$clients" -v r="$rate" -v m="$middle" -v l="$last" 'BEGIN { printf "| PostgreSQL, on this disk | %d | %s | %.2f | %.2f |\n", c, r, m / 1000, l / 1000 }'
+    awk -v c="$clients" -v r="$rate" -v m="$middle" -v l="$last" 'BEGIN { printf "| PostgreSQL, on this disk | %d | %s | %.2f | %.2f | | | |\n", c, r, m / 1000, l / 1000 }'
 done
