@@ -1,5 +1,6 @@
 pub mod Values
 pub mod Operations
+pub mod SameValues
 pub mod Texts
 pub mod Versions
 pub mod Bytes

@@ -1,10 +1,14 @@
--- What a value is.
-use Rattle.std.specs.Prelude.{ℤ}
+-- Which values are numbers.
+use Rattle.std.specs.Prelude.{ℤ, pos, Bool, true, false}
+use Rattle.bottle_values.specs.declared.Value.{Value}
+use Rattle.bottle_values.specs.declared.Value.TheVariants.{Number, Text}
 
--- a value as contracts see it, which is a number
-pub data Value : Type 0 where
-  Number : (z : ℤ) → Value
+-- whether a value is a number
+abbrev pub is_number : Value → Bool
+is_number (Number z) = true
+is_number (Text t) = false
 
--- the number that a value is
+-- the number that a value is, or 0 for a text
 abbrev pub number_in : Value → ℤ
 number_in (Number z) = z
+number_in (Text t) = pos 0

@@ -4,13 +4,17 @@ ghost use Rattle.std.specs.Prelude.{◌≡◌, ◌≤◌, ◌++◌, [], IsTrue, 
 ghost use Rattle.std.specs.List.{list_all};
 ghost use Rattle.std.specs.Str.{bytes_eq};
 ghost use Rattle.bottle_values.specs.Texts.{is_text, is_text_byte};
+ghost use Rattle.bottle_values.specs.Printed.{quoted};
 
+use std::fmt;
 use std::marker::Model;
 
 /// The most bytes that a text has.
 pub const MAX_TEXT: usize = 64;
 
 /// A text: 0 to 64 bytes, each a visible one or a space, but no quotation mark. Contracts see the bytes.
+///
+/// It prints between two quotation marks.
 ///
 /// Its bytes stand in place, with zeros behind them, so that it is copied as a number is, and two texts are the same
 /// where their fields are.
@@ -65,6 +69,17 @@ impl Text {
         &self.bytes[..self.len as usize]
     }
 
+    /// The bytes as ASCII, which they are.
+    pub fn as_str(&self) -> &str
+        ensures { result.now ≡ self.now }
+    {
+        let bytes = self.as_bytes();
+        match str::from_utf8(bytes) {
+            Ok(text) => text,
+            Err(_) => unreachable!(),
+        }
+    }
+
     /// The two texts one after the other, if that is no longer than a text may be.
     pub fn join(self, other: Text) -> Option<Text>
         ensures { result ≡ (if is_text (self ++ other) then Some (self ++ other) else None) }
@@ -98,11 +113,26 @@ impl Text {
     }
 }
 
+impl fmt::Display for Text {
+    ghost output = { λ text. Some (quoted text) };
+
+    fn fmt<W: fmt::Write>(&self, f: &mut fmt::Formatter<W>) -> fmt::Result {
+        write!(f, "\"{}\"", self.as_str())
+    }
+}
+
 /// Whether a byte may stand in a text.
 pub fn is_text_byte(b: u8) -> bool
     ensures { result ≡ is_text_byte b }
 {
     (32..=126).contains(&b) && b != b'"'
+}
+
+/// Whether these bytes are a text.
+pub fn is_text(bytes: &[u8]) -> bool
+    ensures { result ≡ is_text bytes.now }
+{
+    bytes.len() <= MAX_TEXT && are_text_bytes(bytes)
 }
 
 fn are_text_bytes(bytes: &[u8]) -> bool

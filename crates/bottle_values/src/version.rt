@@ -1,7 +1,9 @@
 //! Versions of plans.
 
 ghost use Rattle.std.specs.Prelude.{◌≡◌};
-ghost use Rattle.bottle_values.specs.Versions.{number_of};
+ghost use Rattle.bottle_values.specs.Versions.{number_of, admits};
+
+use crate::Value;
 
 /// The version of a plan, and of each frame of its run.
 #[derive(Clone, Copy, Debug, PartialEq, Eq, Hash)]
@@ -20,6 +22,19 @@ impl Version {
         match self {
             Version::One => 1,
             Version::Two => 2,
+        }
+    }
+
+    /// Whether a value can be one of a run of this version.
+    pub fn admits(self, value: Value) -> bool
+        ensures { result ≡ admits self value }
+    {
+        match self {
+            Version::One => match value {
+                Value::Number(_) => true,
+                Value::Text(_) => false,
+            },
+            Version::Two => true,
         }
     }
 }
