@@ -9,6 +9,8 @@ use Rattle.std.proofs.lemmas.List.Folds.{Any-from_list_any, list_any_at, list_an
 use Rattle.std.proofs.lemmas.List.Quantifiers.{all_pairs_push}
 use Rattle.std.proofs.lemmas.List.Sums.{sum_by_push, sum_by-cons, fails_before_first, length-filter}
 use Rattle.std.proofs.lemmas.Slice.Eq.{bytes_eq-Decides}
+use Rattle.bottle_values.specs.declared.Value.{Value}
+use Rattle.bottle_values.specs.Versions.{admits}
 use Rattle.office_map.specs.declared.entries.OfficeEntry.{OfficeEntry}
 use Rattle.office_map.specs.declared.entries.PairEntry.{PairEntry}
 use Rattle.office_map.specs.declared.entries.RecordEntry.{RecordEntry}
@@ -61,6 +63,7 @@ office_consistent p o ok named addressed fresh free room =
       record_names = ok.record_names;
       records_have_pairs = ok.records_have_pairs;
       records_fit = ok.records_fit;
+      values_are_admitted = ok.values_are_admitted;
     }
 
 still_neighbours : (p : PlanValue) (pair : PairEntry) (a b : ℕ) → are_neighbours p a b ≡ true → are_neighbours (with_pair p pair) a b ≡ true
@@ -81,6 +84,7 @@ pair_consistent p pair ok first second apart fresh =
       record_names = ok.record_names;
       records_have_pairs = All-weaker (λ (r : RecordEntry). are_neighbours p r.first r.second ≡ true) (λ (r : RecordEntry). are_neighbours (with_pair p pair) r.first r.second ≡ true) (λ r h. still_neighbours p pair r.first r.second h) p.records ok.records_have_pairs;
       records_fit = ok.records_fit;
+      values_are_admitted = ok.values_are_admitted;
     }
 
 -- the ends, in one order or the other
@@ -117,8 +121,8 @@ one_record_more : (p : PlanValue) (r : RecordEntry) (a b : ℕ) → records_betw
 one_record_more p r a b fit room false h = omega arith
 one_record_more p r a b fit room true h = let same = records_same p r a b (in_either_order a b r.first r.second h) in omega (arith, same)
 
-pub record_consistent : (p : PlanValue) (r : RecordEntry) → IsConsistent p → is_name r.name ≡ true → are_neighbours p r.first r.second ≡ true → record_named p r.name ≡ None → records_between p r.first r.second < 8 → IsConsistent (with_record p r)
-record_consistent p r ok named pair fresh room =
+pub record_consistent : (p : PlanValue) (r : RecordEntry) → IsConsistent p → is_name r.name ≡ true → admits p.version r.value ≡ true → are_neighbours p r.first r.second ≡ true → record_named p r.name ≡ None → records_between p r.first r.second < 8 → IsConsistent (with_record p r)
+record_consistent p r ok named admitted pair fresh room =
     record {
       offices_fit = ok.offices_fit;
       offices_are_named = ok.offices_are_named;
@@ -132,6 +136,7 @@ record_consistent p r ok named pair fresh room =
       record_names = all_pairs_push (λ (a b : RecordEntry). a.name ≢ b.name) p.records r ok.record_names (λ k d lt. differ _ _ (none_passes (λ (e : RecordEntry). bytes_eq e.name r.name) p.records fresh k d lt));
       records_have_pairs = All-push (λ (e : RecordEntry). are_neighbours p e.first e.second ≡ true) p.records r ok.records_have_pairs pair;
       records_fit = λ a b. rw (sum_by_push (λ e. cond (lies_between a b e) 1 0) p.records r) (one_record_more p r a b (ok.records_fit a b) room (lies_between a b r) refl);
+      values_are_admitted = All-push (λ (e : RecordEntry). IsTrue (admits p.version e.value)) p.records r ok.values_are_admitted admitted;
     }
 
 -- neighbours are two different offices
@@ -190,13 +195,14 @@ office_added p now o found taken name address ok is has same named fresh looked 
     let addressed : is_address o.address ≡ true = rw a has in
     office_consistent p o ok good addressed unnamed unused room
 
-pub record_added : (p now : PlanValue) (r : RecordEntry) (found : Option ℕ) (pair : Bool) (count : ℕ) (name : List ℕ) → IsConsistent p → is_name name ≡ true → p ≡ now → pair ≡ are_neighbours now r.first r.second → pair ≡ true → found ≡ record_named now name → is_some found ≡ false → count ≡ records_between now r.first r.second → count < 8 → r.name ≡ name → IsConsistent (with_record p r)
-record_added p now r found pair count name ok is same looked joined named fresh counted few n =
+pub record_added : (p now : PlanValue) (r : RecordEntry) (found : Option ℕ) (pair : Bool) (count : ℕ) (name : List ℕ) (value : Value) → IsConsistent p → is_name name ≡ true → admits now.version value ≡ true → p ≡ now → pair ≡ are_neighbours now r.first r.second → pair ≡ true → found ≡ record_named now name → is_some found ≡ false → count ≡ records_between now r.first r.second → count < 8 → r.name ≡ name → r.value ≡ value → IsConsistent (with_record p r)
+record_added p now r found pair count name value ok is fits same looked joined named fresh counted few n v =
     let neighbours : are_neighbours p r.first r.second ≡ true = rw same (sym looked ∙ joined) in
     let unnamed : record_named p r.name ≡ None = rw (n, same) (sym named ∙ none_found found fresh) in
     let room : records_between p r.first r.second < 8 = rw (same, ← counted) few in
     let good : is_name r.name ≡ true = rw n is in
-    record_consistent p r ok good neighbours unnamed room
+    let admitted : admits p.version r.value ≡ true = rw (v, same) fits in
+    record_consistent p r ok good admitted neighbours unnamed room
 
 within : (i n x : ℕ) → cond (nat_lt i n) (Some i) None ≡ Some x → x < n
 within i n x h = grind (arith, nat_tests)

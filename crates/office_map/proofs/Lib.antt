@@ -1,5 +1,8 @@
 mod FirstFault
 mod AsciiAddresses
+mod PlanWords
+mod PlainWords
+mod NumberPlans
 mod ListBounds
 mod FilteredRanges
 mod FirstPosition

@@ -1,6 +1,7 @@
 -- What holds of every accepted plan.
 use Rattle.std.specs.Prelude.{◌≡◌, ◌≢◌, ℕ, ◌<◌, ◌≤◌, length, All, AllPairs, IsTrue, false}
 use Rattle.std.specs.Result.{MatchResult}
+use Rattle.bottle_values.specs.Versions.{admits}
 use Rattle.office_map.specs.declared.entries.OfficeEntry.{OfficeEntry}
 use Rattle.office_map.specs.declared.entries.PairEntry.{PairEntry}
 use Rattle.office_map.specs.declared.entries.RecordEntry.{RecordEntry}
@@ -15,7 +16,7 @@ use Rattle.office_map.specs.Limits.{most_offices, most_pair_records}
 
 -- The tables agree with one another, and no limit is passed. Offices and records have names, each its own; each office has
 -- an address or `-`, and no two have one address; a pair or a record joins two different declared offices, no two offices
--- have two pairs, and a record lies between neighbours.
+-- have two pairs, and a record lies between neighbours. Under version 1 no record starts with a text.
 pub record IsConsistent (p : PlanValue) : Type 0 where
   pub offices_fit : length p.offices ≤ most_offices
   pub offices_are_named : All (λ (o : OfficeEntry). IsTrue (is_name o.name)) p.offices
@@ -29,6 +30,7 @@ pub record IsConsistent (p : PlanValue) : Type 0 where
   pub record_names : AllPairs (λ (a b : RecordEntry). a.name ≢ b.name) p.records
   pub records_have_pairs : All (λ (r : RecordEntry). IsTrue (are_neighbours p r.first r.second)) p.records
   pub records_fit : (a b : ℕ) → records_between p a b ≤ most_pair_records
+  pub values_are_admitted : All (λ (r : RecordEntry). IsTrue (admits p.version r.value)) p.records
 
 -- consistent tables with two offices at least
 abbrev pub IsComplete : PlanValue → Type 0

@@ -1,7 +1,9 @@
 pub mod Limits
 pub mod Address
 pub mod PlanValue
+pub mod PlanWords
 pub mod PlanText
+pub mod NumberPlans
 pub mod Precedence
 pub mod Consistency
 pub mod OrderOrRing
@@ -10,3 +12,4 @@ pub mod RefusedLines
 pub mod NeighbourLaws
 pub mod OrderLaws
 pub mod StatementLaws
+pub mod PlanWordLaws

@@ -1,12 +1,14 @@
 -- Which plan the lines of a text mean, and which is their first fault.
 use Rattle.std.specs.Prelude.{◌≡◌, ℕ, ◌^◌, ◌≤◌, ◌⊎◌, List, [], ◌∷◌, ◌++◌, length, Bool, not, ◌&&◌, ◌||◌, ◌==◌, nat_lt, nat_le, Option, Some, None, Result, Ok, Err, if◌then◌else◌, codes, is_some, option_map, ℤ, pos, neg_ℤ}
-use Rattle.std.specs.List.{list_any}
+use Rattle.std.specs.List.{list_any, before_first}
 use Rattle.std.specs.Str.{bytes_eq}
 use Rattle.std.specs.Option.{ok_or}
 use Rattle.std.specs.Result.{MatchResult}
-use Rattle.bottle_values.specs.Values.{Value}
-use Rattle.bottle_values.specs.Values.{Number}
-use Rattle.bottle_values.specs.declared.version.Version.TheVariants.{One}
+use Rattle.bottle_values.specs.declared.Value.{Value}
+use Rattle.bottle_values.specs.declared.Value.TheVariants.{Number, Text}
+use Rattle.bottle_values.specs.Texts.{is_text}
+use Rattle.bottle_values.specs.declared.version.Version.{Version}
+use Rattle.bottle_values.specs.declared.version.Version.TheVariants.{One, Two}
 use Rattle.office_map.specs.declared.entries.OfficeEntry.{OfficeEntry}
 use Rattle.office_map.specs.declared.fault.PlanRule.{PlanRule}
 use Rattle.office_map.specs.declared.fault.PlanRule.TheVariants.{Header, Line, NameTwice, UnknownName, SelfPair, PairTwice, Limit}
@@ -16,7 +18,8 @@ use Rattle.office_map.specs.declared.ring.Ring as rings
 use Rattle.office_map.specs.declared.fault.PlanFault.TheVariants.{Memory, Refused, Ring}
 use Rattle.office_map.specs.PlanValue.{PlanValue, office_named, record_named, are_neighbours, records_between, with_office, with_pair, with_record, no_address}
 use Rattle.office_map.specs.Precedence.{IsNamedRing, HasOrder}
-use Rattle.text_lines.specs.Text.{name_of, plain_words, number_of, lines, statements}
+use Rattle.text_lines.specs.Text.{name_of, number_of, lines, statements}
+use Rattle.office_map.specs.PlanWords.{is_quote, quoted, plain_plan_words}
 use Rattle.office_map.specs.Address.{address_of_word}
 use Rattle.office_map.specs.Limits.{most_offices, most_pair_records, most_text}
 
@@ -83,30 +86,54 @@ integer_of [] = None
 integer_of (first ∷ digits) =
     if first == 45 then negative_of digits else option_map pos (number_of (first ∷ digits))
 
-abbrev pub value_of : List ℕ → Option Value
-value_of word = option_map Number (integer_of word)
+-- the text between the two " of a word, if it is one: the " behind it is the next one, and the word's last byte
+abbrev pub text_of : List ℕ → Option (List ℕ)
+text_of [] = None
+text_of (first ∷ rest) =
+    if (is_quote first && quoted rest == length rest) && is_text (before_first is_quote rest) then Some (before_first is_quote rest) else None
 
--- record NAME A B VALUE at E, where E is A or B
-abbrev pub record_line : List ℕ → List ℕ → List ℕ → List ℕ → List ℕ → List ℕ → List ℕ → Option Declaration
-record_line keyword name a b value at end =
-    if (bytes_eq keyword (codes "record") && bytes_eq at (codes "at")) && (bytes_eq end a || bytes_eq end b) then record_of (name_of name) (name_of a) (name_of b) (value_of value) (bytes_eq end a) else None
+-- a number where there is one, else a text
+abbrev pub number_or_text : Option ℤ → Option (List ℕ) → Option Value
+number_or_text (Some z) text = Some (Number z)
+number_or_text None text = option_map Text text
 
-abbrev pub declaration_of : List (List ℕ) → Option Declaration
-declaration_of (keyword ∷ name ∷ address ∷ []) = office_line keyword name address
-declaration_of (keyword ∷ a ∷ b ∷ fork ∷ end ∷ []) = pair_line keyword a b fork end
-declaration_of (keyword ∷ name ∷ a ∷ b ∷ value ∷ at ∷ end ∷ []) = record_line keyword name a b value at end
-declaration_of words = None
+-- the value that a word spells: a number, and under version 2 a text too
+abbrev pub value_under : Version → List ℕ → Option Value
+value_under One word = option_map Number (integer_of word)
+value_under Two word = number_or_text (integer_of word) (text_of word)
+
+-- record NAME A B VALUE at E, where E is A or B, and this is what VALUE spells
+abbrev pub record_line : Option Value → List ℕ → List ℕ → List ℕ → List ℕ → List ℕ → List ℕ → Option Declaration
+record_line value keyword name a b at end =
+    if (bytes_eq keyword (codes "record") && bytes_eq at (codes "at")) && (bytes_eq end a || bytes_eq end b) then record_of (name_of name) (name_of a) (name_of b) value (bytes_eq end a) else None
+
+-- what words declare, where this tells the value that a word spells
+abbrev pub declaration_of : (List ℕ → Option Value) → List (List ℕ) → Option Declaration
+declaration_of value (keyword ∷ name ∷ address ∷ []) = office_line keyword name address
+declaration_of value (keyword ∷ a ∷ b ∷ fork ∷ end ∷ []) = pair_line keyword a b fork end
+declaration_of value (keyword ∷ name ∷ a ∷ b ∷ spelled ∷ at ∷ end ∷ []) = record_line (value spelled) keyword name a b at end
+declaration_of value words = None
 
 -- a number below 2 ^ 32
 abbrev pub small_number : Option ℕ → Option ℕ
 small_number None = None
 small_number (Some n) = if nat_lt n (2 ^ 32) then Some n else None
 
--- plan 1 run N
-abbrev pub run_of : List (List ℕ) → Option ℕ
-run_of (plan ∷ one ∷ run ∷ number ∷ []) =
-    if (bytes_eq plan (codes "plan") && bytes_eq one (codes "1")) && bytes_eq run (codes "run") then small_number (number_of number) else None
-run_of words = None
+-- the version that a word tells
+abbrev pub version_of : List ℕ → Option Version
+version_of word = if bytes_eq word (codes "1") then Some One else if bytes_eq word (codes "2") then Some Two else None
+
+-- a version with a run
+abbrev pub with_run : Option Version → Option ℕ → Option (Version × ℕ)
+with_run (Some version) (Some run) = Some (version, run)
+with_run (Some version) None = None
+with_run None run = None
+
+-- plan VERSION run N
+abbrev pub header_of : List (List ℕ) → Option (Version × ℕ)
+header_of (plan ∷ version ∷ run ∷ number ∷ []) =
+    if bytes_eq plan (codes "plan") && bytes_eq run (codes "run") then with_run (version_of version) (small_number (number_of number)) else None
+header_of words = None
 
 -- another office has this address; `-` is none
 abbrev pub is_address_taken : PlanValue → List ℕ → Bool
@@ -138,14 +165,18 @@ abbrev pub at_line : {A : Type 0} → ℕ → Result A PlanRule → Result A Pla
 at_line n (Ok x) = Ok x
 at_line n (Err rule) = Err (record { rule = rule; line = n })
 
+-- a plan that declares nothing yet
+abbrev pub empty_plan : Version → ℕ → PlanValue
+empty_plan version run = record { version = version; run = run; offices = []; pairs = []; records = [] }
+
 unfoldable pub read_header : ℕ × List ℕ → Result PlanValue PlanRefusal
 read_header l = at_line l.0 (do
-  run ← ok_or (and_then (plain_words l.1) run_of) Header
-  Ok (record { version = One; run = run; offices = []; pairs = []; records = [] }))
+  header ← ok_or (and_then (plain_plan_words l.1) header_of) Header
+  Ok (empty_plan header.0 header.1))
 
 unfoldable pub read_line : PlanValue → ℕ × List ℕ → Result PlanValue PlanRefusal
 read_line p l = at_line l.0 (do
-  d ← ok_or (and_then (plain_words l.1) declaration_of) Line
+  d ← ok_or (and_then (plain_plan_words l.1) (declaration_of (value_under p.version))) Line
   declare p d)
 
 -- each line in order, on what those before it declare

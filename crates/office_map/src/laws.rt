@@ -3,6 +3,7 @@
 ghost use Rattle.office_map.specs.PlanText.{ReadsInOrder};
 ghost use Rattle.office_map.specs.Consistency.{ReadsCompletePlans};
 ghost use Rattle.office_map.specs.RefusedLines.{RefusesALine};
+ghost use Rattle.office_map.specs.NumberPlans.{NumbersMeanTheSame};
 ghost use Rattle.office_map.specs.Precedence.{AnOrderHasNoRing, OneOrderIsLeastFirst};
 ghost use Rattle.office_map.specs.OrderOrRing.{AnOrderOrARing};
 
@@ -21,6 +22,11 @@ pub fn reads_complete_plans()
 /// or has too few offices.
 pub fn refuses_a_line()
     ensures { RefusesALine }
+{}
+
+/// A text that isn't of version 2 is read as one of numbers alone, in every word and fault.
+pub fn numbers_mean_the_same()
+    ensures { NumbersMeanTheSame }
 {}
 
 /// Offices in an order hold no ring.

@@ -32,12 +32,17 @@
 //! names have the same key, and an office's neighbours and records are stored lists. Copies of a
 //! plan share all of it ([`Plan::copy`]).
 //!
+//! A value is a number or, under version 2, a text between two `"`. The words of a line are cut alike under both versions
+//! ([`plan_words`]), and a text that isn't of version 2 is read as one of numbers alone ([`laws::numbers_mean_the_same`]).
+//!
 //! It stands on `text_lines`, for lines, words, names and numbers, on `short_names`, for names that are
-//! kept, on `bottle_values`, for what an answer is unless memory runs out, and on `thiserror`, for the
+//! kept, on `bottle_values`, for values, versions and what an answer is unless memory runs out, and on `thiserror`, for the
 //! messages of its faults. Definitions:
 //!
 //! - `specs/PlanText.antt`: which plan the lines of a text mean, what is their first fault, and
 //!   what reading answers.
+//! - `specs/PlanWords.antt`: the words of a line.
+//! - `specs/NumberPlans.antt`: the same for plans of numbers alone, and that they mean the same.
 //! - `specs/PlanValue.antt`: the tables, and what contracts ask of them.
 //! - `specs/Precedence.antt`: who precedes whom at the start, orders and rings.
 //! - `specs/Consistency.antt`: what holds of every accepted plan.
@@ -56,6 +61,7 @@ mod index;
 pub mod laws;
 pub mod limits;
 mod line;
+mod line_words;
 mod new_entries;
 mod plan;
 mod plan_entries;
@@ -69,5 +75,6 @@ mod word;
 pub use entries::PairEntry;
 pub use fault::{PlanFault, PlanRefusal, PlanRule, RING_RULE};
 pub use ids::{OfficeId, RecordId};
+pub use line_words::{first_plan_word, plan_words};
 pub use plan::Plan;
 pub use ring::Ring;

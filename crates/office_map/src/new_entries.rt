@@ -4,6 +4,7 @@ ghost use Rattle.std.specs.Prelude.{IsTrue};
 ghost use Rattle.text_lines.specs.Text.{is_name};
 ghost use Rattle.office_map.specs.Address.{is_address};
 
+use bottle_values::Value;
 use text_lines::ShortName;
 
 /// An office that a line declares; its address as it stands in the text.
@@ -29,7 +30,7 @@ pub(crate) struct NewRecord {
     pub name: ShortName,
     pub a: ShortName,
     pub b: ShortName,
-    pub value: i64,
+    pub value: Value,
     pub starts_at_first: bool,
     ghost named: { IsTrue (is_name name) },
 }

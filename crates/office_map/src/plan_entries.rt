@@ -1,6 +1,5 @@
 //! The tables of a plan, while its lines are read and afterwards.
 
-ghost use Rattle.bottle_values.specs.Values.{Number};
 ghost use Rattle.std.specs.Prelude.{◌≡◌, ◌<◌, [], length, Some, IsTrue};
 ghost use Rattle.std.specs.List.{list_any};
 ghost use Rattle.std.specs.Str.{bytes_eq};
@@ -15,7 +14,7 @@ use crate::line::Declaration;
 use crate::new_entries::{NewOffice, NewPair, NewRecord};
 use crate::records::RecordTable;
 use crate::word::Word;
-use bottle_values::{Value, Version};
+use bottle_values::Version;
 use std::alloc::Global;
 use std::marker::Model;
 use text_lines::ShortName;
@@ -55,18 +54,18 @@ impl PlanEntries {
     ghost use Rattle.std.specs.Prelude.{◌≤◌, ◌⊎◌, find};
     ghost use Rattle.std.specs.Option.{option_copied};
     ghost use Rattle.office_map.specs.PlanValue.{office_named, office_name_of, record_named, joins, are_neighbours, records_between, is_end, fork_end_of};
-    ghost use Rattle.office_map.specs.PlanText.{declare, at_line, is_address_taken, AnOffice, APair, ARecord};
-    ghost use Rattle.office_map.specs.refinement.PlanReader.{seen, Fails};
+    ghost use Rattle.office_map.specs.PlanText.{empty_plan, declare, at_line, is_address_taken, AnOffice, APair, ARecord};
+    ghost use Rattle.office_map.specs.refinement.PlanReader.{seen, Fails, HasAdmitted};
+    ghost use Rattle.bottle_values.specs.Versions.{admits};
     ghost use Rattle.bottle_values.specs.Memory.{UnlessMemory};
     ghost use Rattle.office_map.specs.Consistency.{IsConsistent};
-    ghost use Rattle.bottle_values.specs.declared.version.Version.TheVariants as versions;
 
-    /// Of version 1.
-    pub fn new(alloc: Global, run: u32) -> PlanEntries
-        ensures { result ≡ record { version = versions.One; run = run; offices = []; pairs = []; records = [] } }
+    /// Nothing is declared yet.
+    pub fn new(alloc: Global, version: Version, run: u32) -> PlanEntries
+        ensures { result ≡ empty_plan version run }
     {
         PlanEntries {
-            version: Version::One,
+            version,
             run,
             offices: Vec::new(alloc),
             pairs: Vec::new(alloc),
@@ -178,6 +177,7 @@ impl PlanEntries {
         number: u64,
         declaration: &Declaration<'_>,
     ) -> Result<(), PlanFault>
+        requires { HasAdmitted self.old.version (seen declaration.now) }
         ensures { UnlessMemory (λ _. self.new) Fails result (at_line number (declare self.old (seen declaration.now))) }
     {
         match declaration {
@@ -236,8 +236,9 @@ impl PlanEntries {
     }
 
     fn add_record(&mut self, number: u64, declared: &NewRecord) -> Result<(), PlanFault>
+        requires { IsTrue (admits self.old.version declared.now.value) }
         ensures { UnlessMemory (λ _. self.new) Fails result
-            (at_line number (declare self.old (ARecord declared.now.name declared.now.a declared.now.b (Number declared.now.value) declared.now.starts_at_first))) }
+            (at_line number (declare self.old (ARecord declared.now.name declared.now.a declared.now.b declared.now.value declared.now.starts_at_first))) }
     {
         let Some(first) = self.office_named(&declared.a) else {
             return Err(refused(PlanRule::UnknownName, number));
@@ -258,7 +259,7 @@ impl PlanEntries {
             name: declared.name,
             first,
             second,
-            value: Value::from(declared.value),
+            value: declared.value,
             starts_at_first: declared.starts_at_first,
         };
         self.records.push(entry)?;

@@ -1,17 +1,19 @@
 //! The tables of a plan, from its text.
 
 ghost use Rattle.std.specs.Prelude.{◌≡◌, ◌<◌, ◌+◌, ◌^◌, length, map, option_map, IfOk};
-ghost use Rattle.text_lines.specs.Text.{lines, statements_from, plain_words};
+ghost use Rattle.text_lines.specs.Text.{lines, statements_from};
+ghost use Rattle.office_map.specs.PlanWords.{plain_plan_words};
 ghost use Rattle.office_map.specs.PlanText.{plan_of, read_line, read_lines, read_header};
 ghost use Rattle.office_map.specs.refinement.PlanReader.{Fails};
 ghost use Rattle.bottle_values.specs.Memory.{UnlessMemory};
 
 use crate::fault::{PlanFault, PlanRule, refused};
 use crate::limits::{FEWEST_OFFICES, TEXT_LIMIT};
-use crate::line::{declaration_in, run_in};
+use crate::line::{declaration_in, header_in};
+use crate::line_words::plan_words;
 use crate::plan_entries::PlanEntries;
 use std::alloc::{AllocError, Global};
-use text_lines::{Statements, is_plain, words};
+use text_lines::{Statements, is_plain};
 
 /// The tables that a text means. The first faulty line is refused.
 #[tactic(auto, unfolding(crate::specs::PlanText::plan_of))]
@@ -43,8 +45,8 @@ fn read_header(alloc: Global, number: u64, line: &[u8]) -> Result<PlanEntries, P
     let Some(words) = plain_words(alloc, line)? else {
         return Err(refused(PlanRule::Header, number));
     };
-    match run_in(&words) {
-        Some(run) => Ok(PlanEntries::new(alloc, run)),
+    match header_in(&words) {
+        Some((version, run)) => Ok(PlanEntries::new(alloc, version, run)),
         None => Err(refused(PlanRule::Header, number)),
     }
 }
@@ -77,7 +79,7 @@ fn read_line(
     if !is_plain(line) {
         return Err(refused(PlanRule::Line, number));
     }
-    match declaration_in(line) {
+    match declaration_in(tables.version(), line) {
         Some(declaration) => tables.declare(alloc, number, &declaration),
         None => Err(refused(PlanRule::Line, number)),
     }
@@ -85,10 +87,10 @@ fn read_line(
 
 /// The words of a line, where no byte of it is out of place.
 fn plain_words(alloc: Global, line: &[u8]) -> Result<Option<Vec<&[u8]>>, AllocError>
-    ensures { IfOk result (λ o. option_map (λ v. map (λ w. w.now) v.items) o ≡ plain_words line.now) }
+    ensures { IfOk result (λ o. option_map (λ v. map (λ w. w.now) v.items) o ≡ plain_plan_words line.now) }
 {
     if is_plain(line) {
-        Ok(Some(words(alloc, line)?))
+        Ok(Some(plan_words(alloc, line)?))
     } else {
         Ok(None)
     }

@@ -1,5 +1,5 @@
 mod Digits
 mod FirstLine
-mod FirstWord
+pub mod FirstWord
 mod AsciiNames
 pub mod NamePlaces

@@ -12,6 +12,7 @@ lines = std_lines.lines
 abbrev pub is_newline : ℕ → Bool
 is_newline b = b == 10
 
+-- a space or a tab
 abbrev pub is_blank : ℕ → Bool
 is_blank b = b == 32 || b == 9
 

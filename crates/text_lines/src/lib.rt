@@ -21,7 +21,7 @@ mod numbers;
 mod statements;
 
 pub use guesses::Guesses;
-pub use line_words::{first_word, is_same_word, words};
+pub use line_words::{blank_place, first_word, is_blank, is_same_word, words};
 pub use lines::{first_line, is_plain, is_plain_byte, place_of};
 pub use name_places::place_of_name;
 pub use names::{is_name, name, short_name};

@@ -38,7 +38,7 @@ pub fn first_word(line: &[u8]) -> Option<(&[u8], &[u8])>
 
 /// The place of the first space or tab, or the length where there is none. Most words are short: a search of many bytes at once
 /// begins only after the first few.
-fn blank_place(line: &[u8]) -> usize
+pub fn blank_place(line: &[u8]) -> usize
     ensures { result ≡ position_or_len is_blank line.now }
 {
     let near = if line.len() < SHORT_WORD {

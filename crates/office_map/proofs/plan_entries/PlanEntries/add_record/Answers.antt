@@ -15,7 +15,7 @@ invariant_of-self-2 c =
     let fit : length c.args.self.now.offices ≤ 16 = (subst IsConsistent c.self.view_is c.self.invariant.0).offices_fit in
     let long : length c.self.inside.counts ≡ 256 = search rules in
     rw c.in_ok-push.ensures.ok (
-      (record_added _ c.args.self.now _ c.record_named.result c.are_neighbours.result c.records_between.result c.args.declared.now.name c.self.invariant.0 c.args.declared.now.named c.self.view_is c.are_neighbours.ensures c.if-not-are_neighbours.false c.record_named.ensures (sym c.is_some.ensures ∙ c.if-is_some.false) c.records_between.ensures (omega arith) refl),
+      (record_added _ c.args.self.now _ c.record_named.result c.are_neighbours.result c.records_between.result c.args.declared.now.name c.args.declared.now.value c.self.invariant.0 c.args.declared.now.named c.requires c.self.view_is c.are_neighbours.ensures c.if-not-are_neighbours.false c.record_named.ensures (sym c.is_some.ensures ∙ c.if-is_some.false) c.records_between.ensures (omega arith) refl refl),
       counted_more c.self.inside.records c.self.inside.counts _ c.pair_index.result (get_or c.self.inside.counts c.pair_index.result 0 + 1) long c.self.invariant.1 (omega (arith, ends.first, fit)) (omega (arith, ends.second, fit)) c.pair_index.ensures.place c.pair_index.ensures.within refl,
       c.self.invariant.2,
     )
