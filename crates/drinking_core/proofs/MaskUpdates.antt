@@ -8,7 +8,7 @@ use Rattle.bit_masks.specs.Sets.{is_in128, IsLeast}
 use Rattle.bit_masks.specs.declared.mask128.Mask128.{Mask128}
 use Rattle.bottle_values.specs.Maps.{put}
 use Rattle.bottle_values.specs.Lists.{is_among}
-use Rattle.bottle_values.specs.Values.{Value}
+use Rattle.bottle_values.specs.declared.Value.{Value}
 use Rattle.drinking_core.specs.Drinkers.{Drinker, Start, AskBottle, GiveBottle, Drink, Finish, Withdraw, is_thirsty, may, act, with_token, with_bottle, holds, is_drinking}
 use Rattle.drinking_core.specs.refinement.Masks.{spot_in, record_at, AreSpots, IsSpot, bit_in, Tells, AreMasks}
 

@@ -7,7 +7,7 @@ use Rattle.std.proofs.lemmas.List.{get_or-set_same, get_or-set_other, get_or_pas
 use mathlib.Core.Path.{fun_ext}
 use Rattle.bit_masks.specs.Sets.{is_in128, IsLeast}
 use Rattle.bit_masks.specs.declared.mask128.Mask128.{Mask128}
-use Rattle.bottle_values.specs.Values.{Value}
+use Rattle.bottle_values.specs.declared.Value.{Value}
 use Rattle.bottle_values.specs.Maps.{put, write_all}
 use Rattle.drinking_core.specs.declared.phase.Phase.TheVariants.{Tranquil, Thirsty}
 use Rattle.drinking_core.specs.declared.shared_bottle.SharedBottle.{SharedBottle}

@@ -1,7 +1,7 @@
 -- An office that shares bottles with its neighbours, and the guard and effect of each rule of the bottles.
 use Rattle.std.specs.Prelude.{ℕ, Bool, true, false, not, ◌==◌, ◌&&◌, ◌||◌, List, Option, None, Some, is_some, option_map, slice_get, if◌then◌else◌}
 use Rattle.std.specs.List.{list_all}
-use Rattle.bottle_values.specs.Values.{Value}
+use Rattle.bottle_values.specs.declared.Value.{Value}
 use Rattle.bottle_values.specs.Maps.{put, write_all}
 use Rattle.office_map.specs.declared.entries.RecordEntry.{RecordEntry}
 use Rattle.office_map.specs.PlanValue.{PlanValue, records_of, start_end, peer}

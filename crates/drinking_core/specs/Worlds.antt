@@ -1,7 +1,7 @@
 -- All offices of a plan at their bars with the bottles and request tokens on the way, and where each bottle is.
 use Rattle.std.specs.Prelude.{◌≡◌, ℕ, zero, suc, ◌<◌, ◌≤◌, Bool, true, false, ◌==◌, ◌&&◌, nat_lt, List, [], ◌∷◌, ◌++◌, length, Option, None, Some, slice_get, if◌then◌else◌}
 use Rattle.std.specs.List.{list_all}
-use Rattle.bottle_values.specs.Values.{Value}
+use Rattle.bottle_values.specs.declared.Value.{Value}
 use Rattle.bottle_values.specs.Maps.{put}
 use Rattle.bottle_values.specs.Lists.{num}
 use Rattle.office_map.specs.declared.entries.RecordEntry.{RecordEntry}

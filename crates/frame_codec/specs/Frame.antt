@@ -1,6 +1,7 @@
 -- What a frame says, and the range of each of its fields.
-use Rattle.std.specs.Prelude.{◌≡◌, ℕ, ◌<◌, ◌^◌, Option, Some, None, IsTrue, IfSome}
+use Rattle.std.specs.Prelude.{◌≡◌, ℕ, ◌<◌, ◌^◌, Bool, true, Option, Some, None, IsTrue, IfSome}
 use Rattle.bottle_values.specs.Operations.{is_value}
+use Rattle.bottle_values.specs.Versions.{admits}
 use Rattle.bottle_values.specs.declared.version.Version.{Version}
 use Rattle.frame_codec.specs.declared.message.Msg.{Msg}
 use Rattle.frame_codec.specs.declared.message.Msg.TheVariants.{AskFork, Fork, AskBottle, Bottle}
@@ -21,14 +22,21 @@ abbrev pub IsNumbered : Option Msg → ℕ → Type 0
 IsNumbered None number = number ≡ 0
 IsNumbered (Some msg) number = (0 < number) × (number < sequence_space)
 
--- a record's number has 16 bits, its value is an i64
+-- a record's number has 16 bits, its value is one
 abbrev pub IsMsg : Msg → Type 0
 IsMsg AskFork = Unit {0}
 IsMsg Fork = Unit {0}
 IsMsg (AskBottle bottle) = bottle < 2 ^ 16
 IsMsg (Bottle bottle value) = (bottle < 2 ^ 16) × IsTrue (is_value value)
 
--- each field is in the format's range
+-- whether a message can go in a frame of this version
+abbrev pub carries : Version → Msg → Bool
+carries version AskFork = true
+carries version Fork = true
+carries version (AskBottle bottle) = true
+carries version (Bottle bottle value) = admits version value
+
+-- each field is in the format's range, and version 01 carries no text
 pub record IsFrame (f : Fields) : Type 0 where
   pub run : f.run < 2 ^ 32
   pub from : f.from < 2 ^ 8
@@ -36,3 +44,4 @@ pub record IsFrame (f : Fields) : Type 0 where
   pub number : IsNumbered f.msg f.number
   pub count : f.count < sequence_space
   pub msg : IfSome f.msg IsMsg
+  pub carried : IfSome f.msg (λ m. IsTrue (carries f.version m))

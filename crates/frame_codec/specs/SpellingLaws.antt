@@ -1,18 +1,20 @@
 -- What follows of spellings: what two of them can have in common.
-use Rattle.std.proofs.Common.{◌≡◌, ℕ, ◌<◌, ◌^◌, ℤ, pos, negsuc, IsTrue, List, [], ◌++◌, take, drop, get_or, Option, Some, None, refl, sym, ap, ◌∙◌, arith}
+use Rattle.std.proofs.Common.{◌≡◌, ℕ, ◌<◌, ◌^◌, ℤ, pos, negsuc, IsTrue, List, [], ◌++◌, length, take, drop, get_or, Option, Some, None, refl, sym, ap, ◌∙◌, arith}
+use Rattle.std.proofs.Math.Seq.{take-append_seam, drop-append_seam}
 use Rattle.std.specs.Prelude.{IfSome}
-use Rattle.std.proofs.lemmas.Bool.{ltb-true}
+use Rattle.std.proofs.lemmas.Bool.{ltb-true, false≢true}
 use Rattle.byteorder.specs.Endian.{big_bytes, big_number}
 use Rattle.byteorder.specs.Numbers.{big_number-reads_back}
 use Rattle.bottle_values.specs.Operations.{is_i64, is_value}
 use Rattle.bottle_values.specs.Bytes.{bytes_of, twos_complement}
-use Rattle.bottle_values.specs.Values.{Value, Number, number_in}
-use Rattle.bottle_values.specs.Versions.{number_of}
+use Rattle.bottle_values.specs.declared.Value.{Value}
+use Rattle.bottle_values.specs.declared.Value.TheVariants.{Number, Text}
+use Rattle.bottle_values.specs.Versions.{number_of, admits}
 use Rattle.bottle_values.specs.declared.version.Version.{Version}
 use Rattle.bottle_values.specs.declared.version.Version.TheVariants.{One, Two}
 use Rattle.frame_codec.specs.declared.message.Msg.{Msg}
 use Rattle.frame_codec.specs.declared.message.Msg.TheVariants.{AskFork, Fork, AskBottle, Bottle}
-use Rattle.frame_codec.specs.Frame.{Fields, IsFrame, IsMsg, IsNumbered}
+use Rattle.frame_codec.specs.Frame.{Fields, IsFrame, IsMsg, IsNumbered, carries}
 use Rattle.frame_codec.specs.Header.{kind_of}
 use Rattle.frame_codec.specs.Spelling.{Spells, value_bytes, message, body, spelling}
 
@@ -34,19 +36,38 @@ below : (z : ℤ) → IsTrue (is_i64 z) → twos_complement z < 2 ^ 64
 below (pos n) f = let a = ltb-true _ _ f in omega arith
 below (negsuc n) f = omega arith
 
-same_value : (v w : Value) → IsTrue (is_value v) → IsTrue (is_value w) → bytes_of (number_in v) ≡ bytes_of (number_in w) → v ≡ w
-same_value (Number y) (Number z) fv fw e = ap Number (same_int y z fv fw (same_number 8 _ _ (below y fv) (below z fw) e))
+same_number_value : (y z : ℤ) → IsTrue (is_i64 y) → IsTrue (is_i64 z) → bytes_of y ≡ bytes_of z → Number y ≡ Number z
+same_number_value y z fy fz e = ap Number (same_int y z fy fz (same_number 8 _ _ (below y fy) (below z fz) e))
+
+-- no text begins another of its length
+pub record SameText (s t x y : List ℕ) : Type 0 where
+  pub same : s ≡ t
+  pub rest : x ≡ y
+
+same_text : (s t x y : List ℕ) → length s ≡ length t → s ++ x ≡ t ++ y → SameText s t x y
+same_text s t x y size e = record {
+  same = sym (take-append_seam s x) ∙ ap (take (length s)) e ∙ ap (λ n. take n (t ++ y)) size ∙ take-append_seam t y;
+  rest = sym (drop-append_seam s x) ∙ ap (drop (length s)) e ∙ ap (λ n. drop n (t ++ y)) size ∙ drop-append_seam t y;
+}
 
 -- no value begins another of its version
 pub record SameValue (v w : Value) (x y : List ℕ) : Type 0 where
   pub same : v ≡ w
   pub rest : x ≡ y
 
-same_spelled_value : (version : Version) (v w : Value) (x y : List ℕ) → IsTrue (is_value v) → IsTrue (is_value w) → value_bytes version v ++ x ≡ value_bytes version w ++ y → SameValue v w x y
-same_spelled_value One v w x y fv fw e =
-    record { same = same_value v w fv fw (ap (take 8) e); rest = ap (drop 8) e }
-same_spelled_value Two v w x y fv fw e =
-    record { same = same_value v w fv fw (ap (λ (l : List ℕ). take 8 (drop 1 l)) e); rest = ap (drop 9) e }
+same_value : (version : Version) (v w : Value) (x y : List ℕ) → IsTrue (is_value v) → IsTrue (is_value w) → IsTrue (admits version v) → IsTrue (admits version w)
+    → value_bytes version v ++ x ≡ value_bytes version w ++ y → SameValue v w x y
+same_value One (Number a) (Number b) x y fv fw av aw e =
+    record { same = same_number_value a b fv fw (ap (take 8) e); rest = ap (drop 8) e }
+same_value One (Number a) (Text t) x y fv fw av aw e = absurd (false≢true aw)
+same_value One (Text s) w x y fv fw av aw e = absurd (false≢true av)
+same_value Two (Number a) (Number b) x y fv fw av aw e =
+    record { same = same_number_value a b fv fw (ap (λ (l : List ℕ). take 8 (drop 1 l)) e); rest = ap (drop 9) e }
+same_value Two (Number a) (Text t) x y fv fw av aw e = absurd cc
+same_value Two (Text s) (Number b) x y fv fw av aw e = absurd cc
+same_value Two (Text s) (Text t) x y fv fw av aw e =
+    let text = same_text s t x y (ap (λ (l : List ℕ). get_or l 1 0) e) (ap (drop 2) e) in
+    record { same = ap Text text.same; rest = text.rest }
 
 -- ---- messages
 
@@ -55,27 +76,27 @@ pub record SameMessage (m n : Msg) (x y : List ℕ) : Type 0 where
   pub same : m ≡ n
   pub rest : x ≡ y
 
-same_message : (version : Version) (m n : Msg) (x y : List ℕ) → IsMsg m → IsMsg n → message version m ++ x ≡ message version n ++ y → SameMessage m n x y
-same_message version AskFork AskFork x y fm fn e = record { same = refl; rest = cc }
-same_message version AskFork Fork x y fm fn e = absurd cc
-same_message version AskFork (AskBottle b) x y fm fn e = absurd cc
-same_message version AskFork (Bottle b w) x y fm fn e = absurd cc
-same_message version Fork AskFork x y fm fn e = absurd cc
-same_message version Fork Fork x y fm fn e = record { same = refl; rest = cc }
-same_message version Fork (AskBottle b) x y fm fn e = absurd cc
-same_message version Fork (Bottle b w) x y fm fn e = absurd cc
-same_message version (AskBottle a) AskFork x y fm fn e = absurd cc
-same_message version (AskBottle a) Fork x y fm fn e = absurd cc
-same_message version (AskBottle a) (AskBottle b) x y fm fn e =
+same_message : (version : Version) (m n : Msg) (x y : List ℕ) → IsMsg m → IsMsg n → IsTrue (carries version m) → IsTrue (carries version n) → message version m ++ x ≡ message version n ++ y → SameMessage m n x y
+same_message version AskFork AskFork x y fm fn cm cn e = record { same = refl; rest = cc }
+same_message version AskFork Fork x y fm fn cm cn e = absurd cc
+same_message version AskFork (AskBottle b) x y fm fn cm cn e = absurd cc
+same_message version AskFork (Bottle b w) x y fm fn cm cn e = absurd cc
+same_message version Fork AskFork x y fm fn cm cn e = absurd cc
+same_message version Fork Fork x y fm fn cm cn e = record { same = refl; rest = cc }
+same_message version Fork (AskBottle b) x y fm fn cm cn e = absurd cc
+same_message version Fork (Bottle b w) x y fm fn cm cn e = absurd cc
+same_message version (AskBottle a) AskFork x y fm fn cm cn e = absurd cc
+same_message version (AskBottle a) Fork x y fm fn cm cn e = absurd cc
+same_message version (AskBottle a) (AskBottle b) x y fm fn cm cn e =
     record { same = ap AskBottle (same_number 2 a b fm fn (ap (λ (l : List ℕ). take 2 (drop 1 l)) e)); rest = ap (drop 3) e }
-same_message version (AskBottle a) (Bottle b w) x y fm fn e = absurd cc
-same_message version (Bottle a v) AskFork x y fm fn e = absurd cc
-same_message version (Bottle a v) Fork x y fm fn e = absurd cc
-same_message version (Bottle a v) (AskBottle b) x y fm fn e = absurd cc
-same_message version (Bottle a v) (Bottle b w) x y fm fn e =
+same_message version (AskBottle a) (Bottle b w) x y fm fn cm cn e = absurd cc
+same_message version (Bottle a v) AskFork x y fm fn cm cn e = absurd cc
+same_message version (Bottle a v) Fork x y fm fn cm cn e = absurd cc
+same_message version (Bottle a v) (AskBottle b) x y fm fn cm cn e = absurd cc
+same_message version (Bottle a v) (Bottle b w) x y fm fn cm cn e =
     let bottle : a ≡ b = same_number 2 a b fm.0 fn.0 (ap (λ (l : List ℕ). take 2 (drop 1 l)) e) in
     let behind : value_bytes version v ++ x ≡ value_bytes version w ++ y = ap (drop 3) e in
-    let value = same_spelled_value version v w x y fm.1 fn.1 behind in
+    let value = same_value version v w x y fm.1 fn.1 cm cn behind in
     record { same = ap (λ (r : ℕ). Bottle r v) bottle ∙ ap (λ (u : Value). Bottle b u) value.same; rest = value.rest }
 
 -- the same of what follows a header, where the kinds agree
@@ -83,12 +104,12 @@ pub record SameBody (m n : Option Msg) (x y : List ℕ) : Type 0 where
   pub same : m ≡ n
   pub rest : x ≡ y
 
-same_body : (version : Version) (m n : Option Msg) (x y : List ℕ) → IfSome m IsMsg → IfSome n IsMsg → kind_of m ≡ kind_of n → body version m ++ x ≡ body version n ++ y → SameBody m n x y
-same_body version None None x y fm fn k e = record { same = refl; rest = e }
-same_body version None (Some n) x y fm fn k e = absurd (omega arith)
-same_body version (Some m) None x y fm fn k e = absurd (omega arith)
-same_body version (Some m) (Some n) x y fm fn k e =
-    let s = same_message version m n x y fm fn e in record { same = ap Some s.same; rest = s.rest }
+same_body : (version : Version) (m n : Option Msg) (x y : List ℕ) → IfSome m IsMsg → IfSome n IsMsg → IfSome m (λ k. IsTrue (carries version k)) → IfSome n (λ k. IsTrue (carries version k)) → kind_of m ≡ kind_of n → body version m ++ x ≡ body version n ++ y → SameBody m n x y
+same_body version None None x y fm fn cm cn k e = record { same = refl; rest = e }
+same_body version None (Some n) x y fm fn cm cn k e = absurd (omega arith)
+same_body version (Some m) None x y fm fn cm cn k e = absurd (omega arith)
+same_body version (Some m) (Some n) x y fm fn cm cn k e =
+    let s = same_message version m n x y fm fn cm cn e in record { same = ap Some s.same; rest = s.rest }
 
 -- ---- frames
 
@@ -130,7 +151,7 @@ same_spelled f g x y ff fg e =
     let count = same_number 8 f.count g.count (let low = ff.count in omega arith) (let low = fg.count in omega arith) (ap (λ (l : List ℕ). take 8 (drop 18 l)) e) in
     let kind : kind_of f.msg ≡ kind_of g.msg = ap (λ (l : List ℕ). get_or l 3 0) e in
     let behind : body g.version f.msg ++ x ≡ body g.version g.msg ++ y = ap (λ (v : Version). body v f.msg ++ x) (sym version) ∙ ap (drop 26) e in
-    let msg = same_body g.version f.msg g.msg x y ff.msg fg.msg kind behind in
+    let msg = same_body g.version f.msg g.msg x y ff.msg fg.msg (rw (← version) ff.carried) fg.carried kind behind in
     same_fields f g version run from to number count msg.same
 
 -- no spelling begins another

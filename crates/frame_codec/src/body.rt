@@ -1,27 +1,30 @@
 //! What follows a header: a message, whose value is spelled as its version says.
 
-ghost use Rattle.std.specs.Prelude.{◌≡◌, ◌≤◌, ◌++◌, length, drop, IfOk, IsTrue};
+ghost use Rattle.std.specs.Prelude.{◌≡◌, ◌≤◌, ◌+◌, ◌∷◌, ◌++◌, length, drop, IfOk, IsTrue};
 ghost use Rattle.std.specs.Result.{result_err};
-ghost use Rattle.bottle_values.specs.Bytes.{bytes_of};
 ghost use Rattle.bottle_values.specs.Operations.{is_value};
-ghost use Rattle.bottle_values.specs.Values.{number_in};
-ghost use Rattle.frame_codec.specs.Frame.{IsMsg};
+ghost use Rattle.bottle_values.specs.Versions.{admits};
+ghost use Rattle.bottle_values.specs.declared.version.Version.TheVariants as version;
+ghost use Rattle.frame_codec.specs.Frame.{IsMsg, carries};
 ghost use Rattle.frame_codec.specs.Spelling.{message, value_bytes};
-ghost use Rattle.frame_codec.specs.refinement.DecodedParts.{message_fault, number_fault, value_fault};
+ghost use Rattle.frame_codec.specs.refinement.DecodedParts.{message_fault, number_fault, text_fault, value_fault};
 
 use crate::fault::FrameFault;
 use crate::message::{ASK_BOTTLE, ASK_FORK, BOTTLE, FORK, Msg};
-use bottle_values::{Value, Version};
+use bottle_values::{MAX_TEXT, Text, Value, Version};
 use byteorder::{BigEndian, ByteOrder};
 
-// The form of a value in version 02: its first byte.
+// The forms of a value in version 02: its first byte.
 const NUMBER: u8 = 1;
+
+const TEXT: u8 = 2;
 
 /// The message that these bytes spell in that version, all of them.
 pub fn read_message(version: Version, bytes: &[u8]) -> Result<Msg, FrameFault>
     ensures fault { result_err result ≡ message_fault version bytes.now }
     ensures spelled { IfOk result (λ msg. bytes.now ≡ message version msg) }
     ensures range { IfOk result IsMsg }
+    ensures carried { IfOk result (λ msg. IsTrue (carries version msg)) }
 {
     match bytes {
         [ASK_FORK] => Ok(Msg::AskFork),
@@ -41,12 +44,14 @@ fn read_value(version: Version, bytes: &[u8]) -> Result<Value, FrameFault>
     ensures fault { result_err result ≡ value_fault version bytes.now }
     ensures spelled { IfOk result (λ value. bytes.now ≡ value_bytes version value) }
     ensures range { IfOk result (λ value. IsTrue (is_value value)) }
+    ensures admitted { IfOk result (λ value. IsTrue (admits version value)) }
 {
     match version {
         Version::One => read_number(bytes),
         Version::Two => match bytes {
             [NUMBER, number @ ..] => read_number(number),
-            [] => Err(FrameFault::Length),
+            [TEXT, size, text @ ..] => read_text(*size, text),
+            [] | [TEXT] => Err(FrameFault::Length),
             [_, ..] => Err(FrameFault::ValueForm),
         },
     }
@@ -55,8 +60,9 @@ fn read_value(version: Version, bytes: &[u8]) -> Result<Value, FrameFault>
 // The number that has these bytes, all of them.
 fn read_number(bytes: &[u8]) -> Result<Value, FrameFault>
     ensures fault { result_err result ≡ number_fault bytes.now }
-    ensures spelled { IfOk result (λ value. bytes.now ≡ bytes_of (number_in value)) }
+    ensures spelled { IfOk result (λ value. bytes.now ≡ value_bytes version.One value) }
     ensures range { IfOk result (λ value. IsTrue (is_value value)) }
+    ensures number { IfOk result (λ value. IsTrue (admits version.One value)) }
 {
     let Ok(number) = <[u8; 8]>::try_from(bytes) else {
         return Err(FrameFault::Length);
@@ -64,9 +70,28 @@ fn read_number(bytes: &[u8]) -> Result<Value, FrameFault>
     Ok(Value::of_bytes(number))
 }
 
+// The text of that length that these bytes are, all of them.
+fn read_text(size: u8, bytes: &[u8]) -> Result<Value, FrameFault>
+    ensures fault { result_err result ≡ text_fault size bytes.now }
+    ensures spelled { IfOk result (λ value. 2 ∷ size ∷ bytes.now ≡ value_bytes version.Two value) }
+    ensures range { IfOk result (λ value. IsTrue (is_value value)) }
+{
+    if size as usize > MAX_TEXT {
+        return Err(FrameFault::ValueForm);
+    }
+    if bytes.len() != size as usize {
+        return Err(FrameFault::Length);
+    }
+    match Text::of(bytes) {
+        Some(text) => Ok(Value::Text(text)),
+        None => Err(FrameFault::TextByte),
+    }
+}
+
 /// Writes the message to the front of `out`, as that version spells it, and returns how many bytes it has.
 pub fn write_message(version: Version, msg: Msg, out: &mut [u8]) -> usize
-    requires { 69 ≤ length out.old }
+    requires room { 69 ≤ length out.old }
+    requires carried { IsTrue (carries version msg) }
     ensures written { out.new ≡ message version msg ++ drop (length (message version msg)) out.old }
     ensures length { result ≡ length (message version msg) }
 {
@@ -94,7 +119,8 @@ pub fn write_message(version: Version, msg: Msg, out: &mut [u8]) -> usize
 
 // Writes the value to the front of `out`, as that version spells it, and returns how many bytes it has.
 fn write_value(version: Version, value: Value, out: &mut [u8]) -> usize
-    requires { 66 ≤ length out.old }
+    requires room { 66 ≤ length out.old }
+    requires admitted { IsTrue (admits version value) }
     ensures written { out.new ≡ value_bytes version value ++ drop (length (value_bytes version value)) out.old }
     ensures length { result ≡ length (value_bytes version value) }
 {
@@ -103,10 +129,27 @@ fn write_value(version: Version, value: Value, out: &mut [u8]) -> usize
             out[..8].copy_from_slice(&value.to_bytes());
             8
         }
-        Version::Two => {
-            out[0] = NUMBER;
-            out[1..9].copy_from_slice(&value.to_bytes());
-            9
-        }
+        Version::Two => match value {
+            Value::Number(_) => {
+                out[0] = NUMBER;
+                out[1..9].copy_from_slice(&value.to_bytes());
+                9
+            }
+            Value::Text(text) => write_text(&text, out),
+        },
     }
+}
+
+// Writes the text to the front of `out`, with its form and length, and returns how many bytes these have.
+fn write_text(text: &Text, out: &mut [u8]) -> usize
+    requires room { 66 ≤ length out.old }
+    ensures written { out.new ≡ 2 ∷ length text.now ∷ text.now ++ drop (2 + length text.now) out.old }
+    ensures length { result ≡ 2 + length text.now }
+{
+    let bytes = text.as_bytes();
+    let end = 2 + bytes.len();
+    out[0] = TEXT;
+    out[1] = bytes.len() as u8;
+    out[2..end].copy_from_slice(bytes);
+    end
 }

@@ -23,11 +23,11 @@ pub enum FrameFault {
     Count,
     /// A data frame's tag is none of 01 to 04.
     Tag,
-    /// In version 02 the byte behind a bottle's record is no form of a value.
+    /// In version 02 the byte behind a bottle's record is no form of a value, or a text's length is above 64.
     ValueForm,
     /// The frame is longer or shorter than its version, kind, tag and form say.
     Length,
-    /// A byte of a text is none that may stand in one. No value is a text yet.
+    /// A byte of a text is none that may stand in one.
     TextByte,
 }
 

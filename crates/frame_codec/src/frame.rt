@@ -1,7 +1,7 @@
 //! A frame as a value: what one office tells its neighbour in one datagram.
 
-ghost use Rattle.std.specs.Prelude.{◌≡◌, ◌<◌, ◌^◌, Some, None};
-ghost use Rattle.frame_codec.specs.Frame.{IsNumbered};
+ghost use Rattle.std.specs.Prelude.{◌≡◌, ◌<◌, ◌^◌, ◌↔◌, Some, None, IsTrue, IfSome};
+ghost use Rattle.frame_codec.specs.Frame.{IsNumbered, carries};
 ghost use Rattle.frame_codec.specs.Limits.{sequence_space};
 
 use crate::message::Msg;
@@ -12,7 +12,7 @@ use std::marker::Model;
 pub const MAX_NUMBER: u64 = (1 << 48) - 1;
 
 /// A frame whose fields are in the format's ranges. It is data, with a message and its number, or an
-/// acknowledgement, with no message and the number 0.
+/// acknowledgement, with no message and the number 0. One of version 01 carries no text.
 #[derive(Clone, Copy, Debug, PartialEq, Eq, Hash)]
 pub struct Frame {
     run: u32,
@@ -25,15 +25,15 @@ pub struct Frame {
 }
 
 impl Model for Frame {
-    ghost use Rattle.std.specs.Prelude.{◌<◌, ◌^◌};
-    ghost use Rattle.frame_codec.specs.Frame.{Fields, IsNumbered};
+    ghost use Rattle.std.specs.Prelude.{◌<◌, ◌^◌, IsTrue, IfSome};
+    ghost use Rattle.frame_codec.specs.Frame.{Fields, IsNumbered, carries};
     ghost use Rattle.frame_codec.specs.Limits.{sequence_space};
 
     ghost Value = { Fields };
 
     ghost view = { λ f. record { version = f.version; run = f.run; from = f.from; to = f.to; number = f.number; count = f.count; msg = f.msg } };
 
-    ghost invariant = { λ f. IsNumbered f.msg f.number × (f.count < sequence_space) };
+    ghost invariant = { λ f. IsNumbered f.msg f.number × (f.count < sequence_space) × IfSome f.msg (λ m. IsTrue (carries f.version m)) };
 
     ghost inverse = { λ f. record { version = f.version; run = f.run; from = f.from; to = f.to; number = f.number; count = f.count; msg = f.msg } };
 }
@@ -52,6 +52,7 @@ impl Frame {
         requires positive { 0 < number }
         requires number { number < sequence_space }
         requires count { count < sequence_space }
+        requires carried { IsTrue (carries version msg) }
         ensures { result ≡ record { version = version; run = run; from = from; to = to; number = number; count = count; msg = Some msg } }
     {
         Frame {
@@ -127,8 +128,40 @@ impl Frame {
 
     /// The message, or None of an acknowledgement.
     pub fn msg(&self) -> Option<Msg>
-        ensures { result ≡ self.now.msg }
+        ensures value { result ≡ self.now.msg }
+        ensures carried { IfSome result (λ msg. IsTrue (carries self.now.version msg)) }
     {
         self.msg
+    }
+
+    /// Whether two frames are the same.
+    pub fn equals(&self, other: &Frame) -> bool
+        ensures { IsTrue result ↔ (self.now ≡ other.now) }
+    {
+        are_same(self, other)
+    }
+}
+
+fn are_same(one: &Frame, other: &Frame) -> bool
+    ensures { IsTrue result ↔ (one.now ≡ other.now) }
+{
+    one.version.number() == other.version.number()
+        && one.run == other.run
+        && one.from == other.from
+        && one.to == other.to
+        && one.number == other.number
+        && one.count == other.count
+        && same_messages(&one.msg, &other.msg)
+}
+
+fn same_messages(left: &Option<Msg>, right: &Option<Msg>) -> bool
+    ensures { IsTrue result ↔ (left.now ≡ right.now) }
+{
+    match left {
+        None => right.is_none(),
+        Some(left) => match right {
+            None => false,
+            Some(right) => left.equals(right),
+        },
     }
 }

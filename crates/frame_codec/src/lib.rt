@@ -1,7 +1,8 @@
 //! Frames of the link between two neighbouring offices, and their bytes on the wire.
 //!
 //! - A [`Frame`] is data, with a numbered message, or an acknowledgement. Its type keeps each field
-//!   in the format's range (`IsFrame`, in `specs/Frame.antt`).
+//!   in the format's range, and that one of version 01 carries no text (`IsFrame`, in
+//!   `specs/Frame.antt`). [`Frame::equals`] and [`Msg::equals`] compare what they say.
 //! - [`decode`] answers a frame exactly where the grammar relates all of the bytes and that frame
 //!   (its clauses `found` and `only`; the grammar is `Spells`, in `specs/Spelling.antt`), and else
 //!   the first fault that applies (`fault`; the list is `has`, in the same file).

@@ -1,6 +1,9 @@
 //! What a frame can carry.
 
-use bottle_values::Value;
+ghost use Rattle.std.specs.Prelude.{◌≡◌, ◌↔◌, IsTrue};
+ghost use Rattle.frame_codec.specs.Frame.{carries};
+
+use bottle_values::{Value, Version};
 
 // The tags, the first byte of each message.
 pub const ASK_FORK: u8 = 1;
@@ -26,4 +29,42 @@ pub enum Msg {
     AskBottle(u16),
     /// A bottle with the record's value.
     Bottle(u16, Value),
+}
+
+impl Msg {
+    /// Whether a frame of this version can carry it.
+    pub fn is_carried(&self, version: Version) -> bool
+        ensures { result ≡ carries version self.now }
+    {
+        match self {
+            Msg::Bottle(_, value) => version.admits(*value),
+            _ => true,
+        }
+    }
+
+    /// Whether two messages are the same.
+    pub fn equals(&self, other: &Msg) -> bool
+        ensures { IsTrue result ↔ (self.now ≡ other.now) }
+    {
+        match self {
+            Msg::AskFork => match other {
+                Msg::AskFork => true,
+                _ => false,
+            },
+            Msg::Fork => match other {
+                Msg::Fork => true,
+                _ => false,
+            },
+            Msg::AskBottle(bottle) => match other {
+                Msg::AskBottle(another) => *bottle == *another,
+                _ => false,
+            },
+            Msg::Bottle(bottle, value) => match other {
+                Msg::Bottle(another, its_value) => {
+                    *bottle == *another && value.equals(*its_value)
+                }
+                _ => false,
+            },
+        }
+    }
 }

@@ -1,14 +1,16 @@
 -- A frame that is packed is read back.
-use Rattle.std.proofs.Common.{◌≡◌, ℕ, ◌+◌, ◌*◌, ◌/◌, ◌%◌, ◌^◌, ◌<◌, cond, eqb, Option, None, Some, refl, sym, ap, ◌∙◌, arith}
-use Rattle.std.proofs.lemmas.Bool.{eq-eqb, ne_eqb}
+use Rattle.std.proofs.Common.{◌≡◌, ℕ, ◌+◌, ◌*◌, ◌/◌, ◌%◌, ◌^◌, ◌<◌, ℤ, pos, true, IsTrue, cond, eqb, List, Option, None, Some, refl, sym, ap, ◌∙◌, arith}
+use Rattle.std.specs.Prelude.{nat_le, is_some, slice_get, IfSome}
+use Rattle.std.proofs.lemmas.Bool.{eq-eqb, ne_eqb, false≢true}
 use Rattle.std.proofs.lemmas.Nat.{div-add-mod', div-mul-add, mod-mul-add, mod_below, div_below}
-use Rattle.bottle_values.specs.Values.{Value}
+use Rattle.bottle_values.specs.declared.Value.TheVariants.{Number, Text}
 use Rattle.bottle_values.specs.declared.version.Version.{Version}
 use Rattle.bottle_values.specs.declared.version.Version.TheVariants.{One, Two}
-use Rattle.frame_codec.specs.Frame.{Fields, IsNumbered}
+use Rattle.frame_codec.specs.Frame.{Fields, IsNumbered, carries}
 use Rattle.frame_codec.specs.declared.message.Msg.{Msg}
 use Rattle.frame_codec.specs.declared.message.Msg.TheVariants as msg
-use Rattle.journal_pages.specs.refinement.PackedFrames.{joined, code_of, code_of_version, version_in, which_of, value_of, message_in, frame_with, packed_message}
+use Rattle.journal_pages.specs.Framed.{frame_with, framed, text_carried, StandsAt}
+use Rattle.journal_pages.specs.refinement.PackedFrames.{joined, code_of, code_of_version, version_in, which_of, number_of, place_in, message_in, packed_message}
 
 -- a message's number, and an acknowledgement's, is below 2 ^ 48
 pub numbered_below : (m : Option Msg) (n : ℕ) → IsNumbered m n → n < 2 ^ 48
@@ -31,50 +33,78 @@ head_tag code tag lt = mod-mul-add code 16 tag lt
 pub head_code : (code tag : ℕ) → tag < 16 → (code * 16 + tag) / 16 ≡ code
 head_code code tag lt = div-mul-add code 16 tag lt
 
-message_back : (v : Version) (m : Msg) → message_in ((code_of_version v + code_of m) % 4) (which_of m) (value_of m) ≡ m
-message_back One msg.AskFork = refl
-message_back One msg.Fork = refl
-message_back One (msg.AskBottle r) = refl
-message_back One (msg.Bottle r x) = refl
-message_back Two msg.AskFork = refl
-message_back Two msg.Fork = refl
-message_back Two (msg.AskBottle r) = refl
-message_back Two (msg.Bottle r x) = refl
-
-version_back : (v : Version) (m : Msg) → version_in (code_of_version v + code_of m) ≡ v
-version_back One msg.AskFork = refl
-version_back One msg.Fork = refl
-version_back One (msg.AskBottle r) = refl
-version_back One (msg.Bottle r x) = refl
-version_back Two msg.AskFork = refl
-version_back Two msg.Fork = refl
-version_back Two (msg.AskBottle r) = refl
-version_back Two (msg.Bottle r x) = refl
-
 -- a frame without a message has the number 0, and one with a message another
 carried_back : (m : Option Msg) (n : ℕ) → IsNumbered m n → cond (eqb n 0) None (Some (packed_message m)) ≡ m
 carried_back None n h = ap (λ b. cond {A = Option Msg} b None (Some msg.AskFork)) (eq-eqb n 0 h)
 carried_back (Some m) n h = ap (λ b. cond {A = Option Msg} b None (Some m)) (ne_eqb n 0 (λ zero. absurd (omega (arith, h.0, zero))))
 
--- a frame's parts are that frame
-frame_back : (f : Fields) → IsNumbered f.msg f.number → frame_with f.version f.run f.from f.to f.number f.count (packed_message f.msg) ≡ f
-frame_back f h = ap (λ (m : Option Msg). record { version = f.version; run = f.run; from = f.from; to = f.to; number = f.number; count = f.count; msg = m }) (carried_back f.msg f.number h)
+made : Version → ℕ → ℕ → ℕ → ℕ → ℕ → Option Msg → Fields
+made version run from to number count m = record { version = version; run = run; from = from; to = to; number = number; count = count; msg = m }
+
+-- the parts of a frame are that frame
+parts_back : (version : Version) (run from to number count : ℕ) (m : Option Msg) → IsNumbered m number → frame_with version run from to number count (packed_message m) ≡ record { version = version; run = run; from = from; to = to; number = number; count = count; msg = m }
+unfolding made
+parts_back version run from to number count m h = ap (made version run from to number count) (carried_back m number h)
+
+-- what is told of a frame with this message, of that version
+abbrev told_frame : List (List ℕ) → ℕ → Version → ℕ → ℕ → ℕ → ℕ → ℕ → Msg → Fields
+told_frame texts place version run from to number count m =
+    let code : ℕ = code_of_version version + code_of m in
+    framed (nat_le 8 code) (slice_get texts (place_in (number_of place m))) (which_of m) (frame_with (version_in code) run from to number count (message_in (code % 4) (which_of m) (number_of place m)))
+
+told_back : (texts : List (List ℕ)) (place : ℕ) (version : Version) (run from to number count : ℕ) (m : Option Msg) → IsNumbered m number → IfSome m (λ n. IsTrue (carries version n)) → StandsAt texts place m →
+    told_frame texts place version run from to number count (packed_message m) ≡ record { version = version; run = run; from = from; to = to; number = number; count = count; msg = m }
+told_back texts place One run from to number count None h carried at = parts_back One run from to number count None h
+told_back texts place Two run from to number count None h carried at = parts_back Two run from to number count None h
+told_back texts place One run from to number count (Some msg.AskFork) h carried at = parts_back One run from to number count (Some msg.AskFork) h
+told_back texts place Two run from to number count (Some msg.AskFork) h carried at = parts_back Two run from to number count (Some msg.AskFork) h
+told_back texts place One run from to number count (Some msg.Fork) h carried at = parts_back One run from to number count (Some msg.Fork) h
+told_back texts place Two run from to number count (Some msg.Fork) h carried at = parts_back Two run from to number count (Some msg.Fork) h
+told_back texts place One run from to number count (Some (msg.AskBottle r)) h carried at = parts_back One run from to number count (Some (msg.AskBottle r)) h
+told_back texts place Two run from to number count (Some (msg.AskBottle r)) h carried at = parts_back Two run from to number count (Some (msg.AskBottle r)) h
+told_back texts place One run from to number count (Some (msg.Bottle r (Number z))) h carried at = parts_back One run from to number count (Some (msg.Bottle r (Number z))) h
+told_back texts place Two run from to number count (Some (msg.Bottle r (Number z))) h carried at = parts_back Two run from to number count (Some (msg.Bottle r (Number z))) h
+told_back texts place One run from to number count (Some (msg.Bottle r (Text text))) h carried at = absurd (false≢true carried)
+told_back texts place Two run from to number count (Some (msg.Bottle r (Text text))) h carried at =
+    ap (λ o. framed true o r (frame_with Two run from to number count (msg.Bottle r (Number (pos place))))) at ∙ parts_back Two run from to number count (Some (msg.Bottle r (Text text))) h
 
 -- so are they where its number, its count and its message were packed
-pub packed_frame : (f : Fields) (run from to number count code which : ℕ) (value : Value) → IsNumbered f.msg f.number → run ≡ f.run → from ≡ f.from → to ≡ f.to → number ≡ f.number → count ≡ f.count →
-    code ≡ code_of_version f.version + code_of (packed_message f.msg) → which ≡ which_of (packed_message f.msg) → value ≡ value_of (packed_message f.msg) →
-    frame_with (version_in code) run from to number count (message_in (code % 4) which value) ≡ f
-packed_frame f run from to number count code which value h r a b n c k w x =
-    let m = packed_message f.msg in
-    let packed : ℕ = code_of_version f.version + code_of m in
-    ap (λ i. frame_with (version_in i) run from to number count (message_in (i % 4) which value)) k
-    ∙ ap (λ v. frame_with v run from to number count (message_in (packed % 4) which value)) (version_back f.version m)
-    ∙ ap (λ i. frame_with f.version i from to number count (message_in (packed % 4) which value)) r ∙ ap (λ i. frame_with f.version f.run i to number count (message_in (packed % 4) which value)) a
-    ∙ ap (λ i. frame_with f.version f.run f.from i number count (message_in (packed % 4) which value)) b ∙ ap (λ i. frame_with f.version f.run f.from f.to i count (message_in (packed % 4) which value)) n
-    ∙ ap (λ i. frame_with f.version f.run f.from f.to f.number i (message_in (packed % 4) which value)) c
-    ∙ ap (λ i. frame_with f.version f.run f.from f.to f.number f.count (message_in (packed % 4) i value)) w
-    ∙ ap (λ i. frame_with f.version f.run f.from f.to f.number f.count (message_in (packed % 4) (which_of m) i)) x
-    ∙ ap (frame_with f.version f.run f.from f.to f.number f.count) (message_back f.version m) ∙ frame_back f h
+pub packed_frame : (texts : List (List ℕ)) (place : ℕ) (f : Fields) (run from to number count code which : ℕ) (value : ℤ) → IsNumbered f.msg f.number → IfSome f.msg (λ m. IsTrue (carries f.version m)) → StandsAt texts place f.msg →
+    run ≡ f.run → from ≡ f.from → to ≡ f.to → number ≡ f.number → count ≡ f.count →
+    code ≡ code_of_version f.version + code_of (packed_message f.msg) → which ≡ which_of (packed_message f.msg) → value ≡ number_of place (packed_message f.msg) →
+    framed (nat_le 8 code) (slice_get texts (place_in value)) which (frame_with (version_in code) run from to number count (message_in (code % 4) which value)) ≡ f
+packed_frame texts place f run from to number count code which value h carried at r a b n c k w x =
+    rw (r, a, b, n, c, k, w, x) (told_back texts place f.version f.run f.from f.to f.number f.count f.msg h carried at)
+
+-- it has a text beside where it carries one
+code_tells : (version : Version) (m : Option Msg) → nat_le 8 (code_of_version version + code_of (packed_message m)) ≡ is_some (text_carried m)
+code_tells One None = refl
+code_tells Two None = refl
+code_tells One (Some msg.AskFork) = refl
+code_tells Two (Some msg.AskFork) = refl
+code_tells One (Some msg.Fork) = refl
+code_tells Two (Some msg.Fork) = refl
+code_tells One (Some (msg.AskBottle r)) = refl
+code_tells Two (Some (msg.AskBottle r)) = refl
+code_tells One (Some (msg.Bottle r (Number z))) = refl
+code_tells Two (Some (msg.Bottle r (Number z))) = refl
+code_tells One (Some (msg.Bottle r (Text text))) = refl
+code_tells Two (Some (msg.Bottle r (Text text))) = refl
+
+pub packed_text : (f : Fields) (code : ℕ) → code ≡ code_of_version f.version + code_of (packed_message f.msg) → nat_le 8 code ≡ is_some (text_carried f.msg)
+packed_text f code is = ap (nat_le 8) is ∙ code_tells f.version f.msg
+
+-- at the place that was given
+text_placed : (place : ℕ) (m : Option Msg) → is_some (text_carried m) ≡ true → place_in (number_of place (packed_message m)) ≡ place
+text_placed place None e = absurd (false≢true e)
+text_placed place (Some msg.AskFork) e = absurd (false≢true e)
+text_placed place (Some msg.Fork) e = absurd (false≢true e)
+text_placed place (Some (msg.AskBottle r)) e = absurd (false≢true e)
+text_placed place (Some (msg.Bottle r (Number z))) e = absurd (false≢true e)
+text_placed place (Some (msg.Bottle r (Text text))) e = refl
+
+pub packed_place : (f : Fields) (code place : ℕ) (value : ℤ) → code ≡ code_of_version f.version + code_of (packed_message f.msg) → value ≡ number_of place (packed_message f.msg) → nat_le 8 code ≡ true → place_in value ≡ place
+packed_place f code place value k x has = ap place_in x ∙ text_placed place f.msg (sym (packed_text f code k) ∙ has)
 
 -- ---- read again
 
@@ -97,3 +127,12 @@ ack_again version run from to number count number' count' m n c none =
 pub data_again : (version : Version) (run from to number count number' count' : ℕ) (m m' : Msg) → number ≡ number' → count ≡ count' → m ≡ m' → (number ≡ 0 → ⊥) → ◌≡◌ {A = Fields} (record { version = version; run = run; from = from; to = to; number = number; count = count; msg = Some m }) (frame_with version run from to number' count' m')
 data_again version run from to number count number' count' m m' n c b some =
     data_is version run from to number count m some ∙ ap (λ i. frame_with version run from to i count m) n ∙ ap (λ i. frame_with version run from to number' i m) c ∙ ap (frame_with version run from to number' count') b
+
+-- and where the text stands beside
+pub ack_text : (f : Fields) (r : ℕ) (text : List ℕ) (run from to number count : ℕ) → run ≡ f.run → from ≡ f.from → to ≡ f.to → number ≡ f.number → count ≡ f.count → number ≡ 0 →
+    ◌≡◌ {A = Fields} (record { version = Two; run = run; from = from; to = to; number = 0; count = count; msg = None }) (framed true (Some text) r f)
+ack_text f r text run from to number count er ea eb en ec none = rw (er, ea, eb, ec) (ack_is Two f.run f.from f.to f.number f.count (msg.Bottle r (Text text)) (sym en ∙ none))
+
+pub data_text : (f : Fields) (r : ℕ) (text : List ℕ) (run from to number count : ℕ) → run ≡ f.run → from ≡ f.from → to ≡ f.to → number ≡ f.number → count ≡ f.count → (number ≡ 0 → ⊥) →
+    ◌≡◌ {A = Fields} (record { version = Two; run = run; from = from; to = to; number = number; count = count; msg = Some (msg.Bottle r (Text text)) }) (framed true (Some text) r f)
+data_text f r text run from to number count er ea eb en ec some = rw (er, ea, eb, en, ec) (data_is Two f.run f.from f.to f.number f.count (msg.Bottle r (Text text)) (λ zero. some (en ∙ zero)))

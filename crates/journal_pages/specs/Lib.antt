@@ -1,4 +1,5 @@
 pub mod Limits
 pub mod Told
+pub mod Framed
 pub mod Kept
 pub mod refinement

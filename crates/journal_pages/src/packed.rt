@@ -1,11 +1,13 @@
 //! An entry in 32 bytes.
 
-ghost use Rattle.std.specs.Prelude.{◌≡◌, ◌/◌, ◌%◌, ◌^◌, ◌<◌, ◌≤◌};
-ghost use Rattle.frame_codec.specs.Frame.{IsNumbered};
+ghost use Rattle.std.specs.Prelude.{◌≡◌, ◌/◌, ◌%◌, ◌^◌, ◌<◌, ◌≤◌, List, ℕ, false, true, is_some, nat_le, IsTrue, IfSome, Some};
+ghost use Rattle.frame_codec.specs.Frame.{IsNumbered, carries};
+ghost use Rattle.bottle_values.specs.declared.version.Version.{Version};
+ghost use Rattle.journal_pages.specs.Framed.{framed, frame_in, text_carried, StandsAt};
 ghost use Rattle.journal_pages.specs.refinement.PackedFrames as packed;
 
 use crate::kind::Kind;
-use bottle_values::{Value, Version};
+use bottle_values::{Text, Value, Version};
 use frame_codec::{Frame, Msg};
 use std::marker::Model;
 use std::mem::size_of;
@@ -16,17 +18,16 @@ pub const ENTRY_BYTES: usize = 32;
 /// The lower part of a number is below this.
 const SPAN: u64 = 1 << 32;
 
-/// An entry of a journal, in the least form that serves. The program of a submitted session stands beside, in a list of the journal.
+/// An entry of a journal, in the least form that serves. The program of a submitted session stands beside, in a list of the journal,
+/// and so does a text that a frame carries.
 ///
-/// An entry with its event and its reply takes 120 bytes: what was replied to a frame that was made is that frame, and an event that
-/// it hasn't takes as much room as one that it has. Here a field serves several kinds, and a number and a count, which end below
+/// An entry with its event and its reply takes some 250 bytes: what was replied to a frame that was made is that frame, and an event
+/// that it hasn't takes as much room as one that it has. Here a field serves several kinds, and a number and a count, which end below
 /// 2^48, are kept in two parts. Fields lie in the order of the source, the widest first, so that none is padded.
-///
-/// A value of another kind than a number would stand beside as a program does, with its place here.
 #[derive(Drop)]
 pub struct Packed {
-    /// The value that a frame carries.
-    value: Value,
+    /// The number that a frame carries; the place of its text.
+    value: i64,
     /// The run of a frame; the ticket of a session.
     run: u32,
     /// The lower part of a frame's number; the place of a session's program.
@@ -36,8 +37,8 @@ pub struct Packed {
     count_high: u16,
     /// The record that a frame's message names; the record of a rule, or the instructions of its work.
     which: u16,
-    /// The tag, 16 for each message before the one that a frame brings, and 64 for a frame of version 02. The message of a frame
-    /// with the number 0 says nothing.
+    /// The tag, 16 for each message before the one that a frame brings, 64 for a frame of version 02, and 128 for one with a text.
+    /// The message of a frame with the number 0 says nothing.
     head: u8,
     kind: Kind,
     from: u8,
@@ -49,13 +50,14 @@ pub struct Packed {
 }
 
 impl Model for Packed {
-    ghost use Rattle.std.specs.Prelude.{◌/◌, ◌%◌};
+    ghost use Rattle.std.specs.Prelude.{◌/◌, ◌%◌, nat_le};
     ghost use Rattle.journal_pages.specs.Told.{Told};
-    ghost use Rattle.journal_pages.specs.refinement.PackedFrames.{joined, message_in, version_in, frame_with};
+    ghost use Rattle.journal_pages.specs.Framed.{frame_with};
+    ghost use Rattle.journal_pages.specs.refinement.PackedFrames.{joined, message_in, version_in, place_in};
 
     ghost Value = { Told };
 
-    ghost view = { λ p. record { kind = p.kind; tag = p.head % 16; ticket = p.run; place = p.number_low; v = p.v; i = p.i; which = p.which; frame = frame_with (version_in (p.head / 16)) p.run p.from p.to (joined p.number_low p.number_high) (joined p.count_low p.count_high) (message_in ((p.head / 16) % 4) p.which p.value) } };
+    ghost view = { λ p. record { kind = p.kind; tag = p.head % 16; ticket = p.run; place = p.number_low; v = p.v; i = p.i; which = p.which; frame = frame_with (version_in (p.head / 16)) p.run p.from p.to (joined p.number_low p.number_high) (joined p.count_low p.count_high) (message_in ((p.head / 16) % 4) p.which p.value); has_text = nat_le 8 (p.head / 16); text = place_in p.value } };
 }
 
 const _: () = prove!(size_of::<Packed>() == ENTRY_BYTES);
@@ -68,9 +70,10 @@ impl Packed {
         ensures tag { result.tag ≡ tag }
         ensures ticket { result.ticket ≡ ticket }
         ensures place { result.place ≡ place }
+        ensures plain { result.has_text ≡ false }
     {
         Packed {
-            value: Value::from(0),
+            value: 0,
             run: ticket,
             number_low: place,
             count_low: 0,
@@ -93,9 +96,10 @@ impl Packed {
         ensures tag { result.tag ≡ tag }
         ensures neighbour { result.v ≡ v }
         ensures which { result.which ≡ which }
+        ensures plain { result.has_text ≡ false }
     {
         Packed {
-            value: Value::from(0),
+            value: 0,
             run: 0,
             number_low: 0,
             count_low: 0,
@@ -111,20 +115,23 @@ impl Packed {
         }
     }
 
-    /// An entry of a frame, with whom it was made for, and of which message.
-    pub fn of_frame(kind: Kind, tag: u8, v: u8, i: u8, frame: &Frame) -> Packed
+    /// An entry of a frame, with whom it was made for, and of which message. The text that the frame carries, if it carries one,
+    /// stands at that place.
+    pub fn of_frame(kind: Kind, tag: u8, v: u8, i: u8, frame: &Frame, place: u32) -> Packed
         requires { tag < 16 }
         ensures kind { result.kind ≡ kind }
         ensures tag { result.tag ≡ tag }
         ensures neighbour { result.v ≡ v }
         ensures message { result.i ≡ i }
-        ensures frame { result.frame ≡ frame.now }
+        ensures frame { (texts : List (List ℕ)) → StandsAt texts place frame.now.msg → frame_in texts result ≡ frame.now }
+        ensures has_text { result.has_text ≡ is_some (text_carried frame.now.msg) }
+        ensures text { result.has_text ≡ true → result.text ≡ place }
     {
         let number = number_of(frame);
         let taken = frame.count();
-        let carried = frame.msg().unwrap_or(Msg::AskFork);
+        let carried = packed_message(frame);
         Packed {
-            value: value_of(&carried),
+            value: value_of(&carried, place),
             run: frame.run(),
             number_low: low(number),
             count_low: low(taken),
@@ -189,7 +196,21 @@ impl Packed {
         self.i
     }
 
-    /// The frame that was made, or came.
+    /// Whether a text stands beside that its frame carries.
+    pub fn has_text(&self) -> bool
+        ensures { result ≡ self.now.has_text }
+    {
+        self.head / 16 >= 8
+    }
+
+    /// The place of that text.
+    pub fn text(&self) -> usize
+        ensures { result ≡ self.now.text }
+    {
+        place_in(self.value)
+    }
+
+    /// The frame that was made, or came, where it carries no text.
     pub fn frame(&self) -> Frame
         ensures { result ≡ self.now.frame }
     {
@@ -202,6 +223,21 @@ impl Packed {
         let msg = message(self.head / 16 % 4, self.which, self.value);
         Frame::data(version, self.run, self.from, self.to, number, count, msg)
     }
+
+    /// The frame that carries the text.
+    pub fn frame_with(&self, text: Text) -> Frame
+        ensures { result ≡ framed true (Some text) self.now.which self.now.frame }
+    {
+        let plain = self.frame();
+        let (run, from, to) = (plain.run(), plain.from(), plain.to());
+        let number = plain.number();
+        let count = plain.count();
+        if number == 0 {
+            return Frame::ack(Version::Two, run, from, to, count);
+        }
+        let msg = Msg::Bottle(self.which, Value::Text(text));
+        Frame::data(Version::Two, run, from, to, number, count, msg)
+    }
 }
 
 /// The frame's number, which ends below 2^48 as its count does.
@@ -213,10 +249,21 @@ fn number_of(frame: &Frame) -> u64
     frame.number()
 }
 
+/// What a frame's message is packed as: that of an acknowledgement says nothing.
+fn packed_message(frame: &Frame) -> Msg
+    ensures message { result ≡ packed.packed_message frame.now.msg }
+    ensures carried { IfSome frame.now.msg (λ msg. IsTrue (carries frame.now.version msg)) }
+{
+    match frame.msg() {
+        Some(msg) => msg,
+        None => Msg::AskFork,
+    }
+}
+
 /// A tag below 16, and a code of a version and a message, in one byte.
 #[tactic(auto, using(crate::proofs::PackedFrames::head_tag, crate::proofs::PackedFrames::head_code))]
 fn head(code: u8, tag: u8) -> u8
-    requires code { code < 8 }
+    requires code { code < 16 }
     requires tag { tag < 16 }
     ensures tag { result % 16 ≡ tag }
     ensures code { result / 16 ≡ code }
@@ -238,7 +285,7 @@ fn code_of_version(version: Version) -> u8
 fn version_in(code: u8) -> Version
     ensures { result ≡ packed.version_in code }
 {
-    if code < 4 {
+    if code % 8 < 4 {
         return Version::One;
     }
     Version::Two
@@ -246,13 +293,23 @@ fn version_in(code: u8) -> Version
 
 fn code_of(msg: &Msg) -> u8
     ensures code { result ≡ packed.code_of msg.now }
-    ensures few { result < 4 }
+    ensures few { result < 12 }
 {
     match msg {
         Msg::AskFork => 0,
         Msg::Fork => 1,
         Msg::AskBottle(_) => 2,
-        Msg::Bottle(_, _) => 3,
+        Msg::Bottle(_, value) => code_of_value(value),
+    }
+}
+
+fn code_of_value(value: &Value) -> u8
+    ensures code { result ≡ packed.code_of_value value.now }
+    ensures few { result < 12 }
+{
+    match value {
+        Value::Number(_) => 3,
+        Value::Text(_) => 11,
     }
 }
 
@@ -267,20 +324,41 @@ fn which_of(msg: &Msg) -> u16
     }
 }
 
-fn value_of(msg: &Msg) -> Value
-    ensures { result ≡ packed.value_of msg.now }
+/// The number that it carries, or the place of its text, where that is this.
+fn value_of(msg: &Msg, place: u32) -> i64
+    ensures { result ≡ packed.number_of place msg.now }
 {
     match msg {
-        Msg::Bottle(_, value) => *value,
-        Msg::AskFork => Value::from(0),
-        Msg::Fork => Value::from(0),
-        Msg::AskBottle(_) => Value::from(0),
+        Msg::Bottle(_, value) => number_as(value, place),
+        Msg::AskFork => 0,
+        Msg::Fork => 0,
+        Msg::AskBottle(_) => 0,
     }
 }
 
-/// The message with that code, about that record and with that value, where it has them.
-fn message(code: u8, which: u16, value: Value) -> Msg
-    ensures { result ≡ packed.message_in code which value }
+fn number_as(value: &Value, place: u32) -> i64
+    ensures { result ≡ packed.number_as place value.now }
+{
+    match value {
+        Value::Number(number) => *number,
+        Value::Text(_) => i64::from(place),
+    }
+}
+
+/// The place that stands for a text.
+fn place_in(value: i64) -> usize
+    ensures { result ≡ packed.place_in value }
+{
+    if value < 0 {
+        return 0;
+    }
+    value as usize
+}
+
+/// The message with that code, about that record and with that number, where it has them.
+fn message(code: u8, which: u16, number: i64) -> Msg
+    ensures message { result ≡ packed.message_in code which number }
+    ensures carried { (version : Version) → IsTrue (carries version result) }
 {
     if code == 0 {
         return Msg::AskFork;
@@ -291,7 +369,7 @@ fn message(code: u8, which: u16, value: Value) -> Msg
     if code == 2 {
         return Msg::AskBottle(which);
     }
-    Msg::Bottle(which, value)
+    Msg::Bottle(which, Value::Number(number))
 }
 
 /// The lower 32 bits of a number.

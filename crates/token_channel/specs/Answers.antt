@@ -11,7 +11,7 @@ use Rattle.token_channel.specs.Places.{holds, waits}
 
 -- the answer tells what the frame was, and where it brought a message, that one and those that follow it
 abbrev pub Tells : Taken → Arrival → List Msg → Type 0
-Tells (Fresh taken) (arrival.Fresh m) following = taken.items ≡ m ∷ following
+Tells (Fresh taken) (arrival.Fresh m) following = taken ≡ m ∷ following
 Tells Acked arrival.Acked following = Unit {0}
 Tells Repeat arrival.Repeat following = Unit {0}
 Tells Kept arrival.Kept following = Unit {0}
@@ -20,7 +20,7 @@ Tells _ _ following = ⊥
 
 -- one of the messages that are listed carries the thing
 abbrev pub brings : Taken → Thing → Bool
-brings (Fresh taken) t = waits t taken.items
+brings (Fresh taken) t = waits t taken
 brings Acked t = false
 brings Repeat t = false
 brings Kept t = false

@@ -1,6 +1,6 @@
 -- A message with a bottle that waits at an end.
 use Rattle.std.specs.Prelude.{◌≡◌, ℕ, ◌+◌, slice_get, Option, None, Some}
-use Rattle.bottle_values.specs.Values.{Value}
+use Rattle.bottle_values.specs.declared.Value.{Value}
 use Rattle.frame_codec.specs.declared.message.Msg.{Msg}
 use Rattle.frame_codec.specs.declared.message.Msg.TheVariants.{Bottle}
 use Rattle.window_link.specs.Links.{LinkState}

@@ -2,6 +2,7 @@
 
 ghost use Rattle.std.specs.Prelude.{◌≡◌, ◌+◌, ◌*◌, ◌<◌, ◌≤◌, ◌^◌, ◌↔◌, ◌++◌, ◌||◌, length, IsTrue, IsErr, IfOk, IfErr, OnOk, OnErr, None, true, false};
 ghost use Rattle.std.specs.Result.{result_err};
+ghost use Rattle.frame_codec.specs.Frame.{carries};
 ghost use Rattle.office_map.specs.PlanValue.{are_neighbours, records_between};
 ghost use Rattle.window_link.specs.Windows.{used};
 ghost use Rattle.window_link.specs.Links.{frame_of, ack_frame_of, arrival_at};
@@ -13,10 +14,10 @@ ghost use Rattle.frame_codec.specs.Limits.{sequence_space};
 ghost use Rattle.window_link.specs.Limits.{greatest};
 
 use crate::fault::ChannelFault;
+use crate::messages::Messages;
 use crate::places;
 use crate::taken::Taken;
 use crate::thing::{SharedThing, Thing};
-use arrayvec::ArrayVec;
 use frame_codec::{Frame, Msg};
 use office_map::{OfficeId, Plan};
 use std::alloc::{AllocError, Global};
@@ -73,6 +74,13 @@ impl Channel {
         places::holds(&self.places, thing)
     }
 
+    /// Whether the channel's frames can carry the message.
+    pub fn carries(&self, msg: &Msg) -> bool
+        ensures { result ≡ carries self.now.link.version msg.now }
+    {
+        self.link.carries(msg)
+    }
+
     /// How many of the peer's messages were taken, in order.
     pub fn taken(&self) -> u64
         ensures value { result ≡ self.now.link.receiving.taken }
@@ -106,7 +114,8 @@ impl Channel {
     /// # Errors
     /// `Worn` where the link's greatest number was used. Nothing changed.
     pub fn send(&mut self, msg: Msg) -> Result<(), LinkFault>
-        requires { holds self.old.places (thing_of msg) ≡ true }
+        requires held { holds self.old.places (thing_of msg) ≡ true }
+        requires carried { IsTrue (carries self.old.link.version msg) }
         ensures worn { IsErr result ↔ (used self.old.link.sending ≡ greatest) }
         ensures fault { IfErr result (λ fault. fault ≡ LinkFault.Worn) }
         ensures sent { OnOk result (self.new ≡ sent self.old msg) }
@@ -149,7 +158,7 @@ impl Channel {
         ensures unchanged { OnErr result (self.new ≡ self.old) }
     {
         self.check(frame)?;
-        let mut messages = ArrayVec::new();
+        let mut messages = Messages::none();
         let arrival = self.accept(frame, &mut messages);
         match arrival {
             Arrival::Acked => Ok(Taken::Acked),
@@ -180,12 +189,12 @@ impl Channel {
     /// no others, are in `taken` then: none, or its own and after it what was kept, up to the first gap or breach.
     ///
     /// Who takes in many frames lends the same room each time: a vector of fixed room is filled when it is made.
-    pub fn accept(&mut self, frame: &Frame, taken: &mut ArrayVec<Msg, MAX_KEPT>) -> Arrival
+    pub fn accept(&mut self, frame: &Frame, taken: &mut Messages) -> Arrival
         requires { channel_fault self.old frame.now ≡ None }
         ensures arrival { result ≡ arrival_at self.old.link frame.now }
-        ensures messages { taken.new.items ≡ taken_with self.old frame.now }
+        ensures messages { taken.new ≡ taken_with self.old frame.now }
         ensures channel { self.new ≡ after_taking self.old frame.now }
-        ensures held { (t : Thing) → holds self.new.places t ≡ (waits t taken.new.items || holds self.old.places t) }
+        ensures held { (t : Thing) → holds self.new.places t ≡ (waits t taken.new || holds self.old.places t) }
     {
         let arrival = self.arrive(frame);
         // A copy, since the borrow checker takes an arrival that was passed for lent.
@@ -207,8 +216,8 @@ impl Channel {
     }
 
     // The messages that are taken with what arrived, which is held by now: none, or that one and what follows it.
-    fn settle(&mut self, arrival: Arrival, taken: &mut ArrayVec<Msg, MAX_KEPT>)
-        ensures messages { taken.new.items ≡ with_following arrival (following most_following self.old) }
+    fn settle(&mut self, arrival: Arrival, taken: &mut Messages)
+        ensures messages { taken.new ≡ with_following arrival (following most_following self.old) }
         ensures channel { self.new ≡ settled arrival self.old }
     {
         taken.clear();
@@ -221,9 +230,9 @@ impl Channel {
         }
     }
 
-    fn follow_all(&mut self, taken: &mut ArrayVec<Msg, MAX_KEPT>)
-        requires { length taken.old.items ≡ 1 }
-        ensures messages { taken.new.items ≡ taken.old.items ++ following most_following self.old }
+    fn follow_all(&mut self, taken: &mut Messages)
+        requires { length taken.old ≡ 1 }
+        ensures messages { taken.new ≡ taken.old ++ following most_following self.old }
         ensures channel { self.new ≡ followed most_following self.old }
     {
         for _ in 1..MAX_KEPT {

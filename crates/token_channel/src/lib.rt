@@ -27,6 +27,7 @@
 mod channel;
 mod fault;
 pub mod laws;
+mod messages;
 mod places;
 mod taken;
 mod thing;
@@ -34,6 +35,7 @@ mod waiting;
 
 pub use channel::Channel;
 pub use fault::ChannelFault;
+pub use messages::Messages;
 pub use taken::Taken;
 pub use thing::{SharedThing, Thing};
 pub use waiting::waiting_bottle;

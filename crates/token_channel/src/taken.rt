@@ -1,8 +1,6 @@
 //! What was taken with a frame.
 
-use arrayvec::ArrayVec;
-use frame_codec::Msg;
-use window_link::MAX_KEPT;
+use crate::messages::Messages;
 
 /// What a frame that isn't refused was, with all that is taken with it.
 #[derive(Debug, Drop)]
@@ -10,7 +8,7 @@ pub enum Taken {
     /// An acknowledgement, without a message.
     Acked,
     /// The next message, and after it those that were kept, up to the first gap. All are taken.
-    Fresh(ArrayVec<Msg, MAX_KEPT>),
+    Fresh(Messages),
     /// A message that was taken before.
     Repeat,
     /// A message that is ahead of the next one; it is kept.

@@ -1,7 +1,7 @@
 //! What waits on a channel.
 
 ghost use Rattle.std.specs.Prelude.{◌≡◌, ◌≤◌, ℕ, Some, IfSome, IfNone, slice_get};
-ghost use Rattle.bottle_values.specs.Values as bottle;
+ghost use Rattle.bottle_values.specs.declared.Value as bottle;
 ghost use Rattle.frame_codec.specs.declared.message.Msg.TheVariants as msg;
 ghost use Rattle.token_channel.specs.declared.thing.Thing.TheVariants as things;
 ghost use Rattle.token_channel.specs.Things.{count_carrying};

@@ -1,10 +1,11 @@
 -- Every run keeps both ends lawful, and every frame that was made true.
 use Rattle.std.proofs.Common.{◌≡◌, ℕ, zero, suc, ◌+◌, ◌-◌, ◌<◌, ◌≤◌, max, Bool, true, false, List, [], ◌∷◌, ◌++◌, length, drop, replicate, get_or, Option, Some, None, refl, sym, ap, ◌∙◌, subst, arith, ⊎_elim, append_assoc}
 use Rattle.std.specs.Prelude.{slice_get, ◌&&◌}
-use Rattle.std.proofs.lemmas.Bool.{cond_both, ltb-true}
+use Rattle.std.proofs.lemmas.Bool.{cond_both, ltb-true, and_parts}
 use Rattle.std.proofs.lemmas.List.{length-append, length-drop}
 use Rattle.bottle_values.specs.ListLaws.{get_left, get_push, get-drop}
 use Rattle.bottle_values.specs.declared.version.Version.{Version}
+use Rattle.frame_codec.specs.Frame.{carries}
 use Rattle.frame_codec.specs.declared.message.Msg.{Msg}
 use Rattle.window_link.specs.declared.laws.event.End.{End}
 use Rattle.window_link.specs.declared.laws.event.End.TheVariants.{Left, Right}
@@ -122,8 +123,8 @@ sound_send : (p : Pair) (e : End) (msg : Msg) → Sound p → Sound (send p e ms
 unfolding sent_more
 sound_send p e msg S =
     let s = p.stream e in
-    cond_both {A = LinkReply × Pair} (can_send s) _ _ (λ r. Sound r.1)
-    (λ yes. sound_with p e (sent_more s msg) S (grows_sent s msg) (lawful_sent s msg (S.lawful e) (ltb-true _ _ (and_left _ _ yes))))
+    cond_both {A = LinkReply × Pair} (can_send p.version s msg) _ _ (λ r. Sound r.1)
+    (λ yes. sound_with p e (sent_more s msg) S (grows_sent s msg) (lawful_sent s msg (S.lawful e) (ltb-true _ _ (and_parts (carries p.version msg) _ (and_left _ _ yes)).1)))
     (λ no. S)
 
 sound_post : (p : Pair) (e : End) (number : ℕ) (msg : Option Msg) → Sound p → ((m : Msg) → msg ≡ Some m → nth (p.stream e).sent number ≡ Some m) → Sound (post p e number msg).1

@@ -5,7 +5,7 @@ use Rattle.std.proofs.lemmas.Bool.{eq-eqb, le-ltb}
 use Rattle.std.proofs.lemmas.List.{length-append, length-drop, drop-drop, drop-append-le, append-nil}
 use Rattle.bottle_values.specs.Versions.{number_of}
 use Rattle.frame_codec.specs.declared.message.Msg.{Msg}
-use Rattle.frame_codec.specs.Frame.{Fields}
+use Rattle.frame_codec.specs.Frame.{Fields, carries}
 use Rattle.window_link.specs.declared.laws.event.End.{End}
 use Rattle.window_link.specs.declared.laws.event.End.TheVariants.{Left, Right}
 use Rattle.window_link.specs.declared.laws.event.Posted.{Posted}
@@ -115,8 +115,8 @@ step_send p e msg S =
     let s = p.stream e in
     let h = S.lawful e in
     ap (λ l. answer (queue_step l msg) (ends_of p) e) (at_is p e)
-    ∙ ap (λ n. answer (cond (nat_lt (length (waiting s)) most_waiting && nat_lt n greatest) (Queued, with_sending (link_at p e) msg) (Idle, link_at p e)) (ends_of p) e) (used_is s h)
-    ∙ choice (can_send s)
+    ∙ ap (λ n. answer (cond (carries p.version msg && nat_lt (length (waiting s)) most_waiting && nat_lt n greatest) (Queued, with_sending (link_at p e) msg) (Idle, link_at p e)) (ends_of p) e) (used_is s h)
+    ∙ choice (can_send p.version s msg)
   where
     queued_to : LinkReply × Pair
     queued_to = (Queued, with_stream p e (more (p.stream e) msg))

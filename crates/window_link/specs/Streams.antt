@@ -2,7 +2,7 @@
 use Rattle.std.specs.Prelude.{◌≡◌, ℕ, zero, suc, ◌+◌, ◌-◌, ◌≤◌, max, Bool, ◌&&◌, nat_lt, if◌then◌else◌, List, [], ◌∷◌, ◌++◌, length, drop, replicate, get_or, slice_get, Option, Some, None}
 use Rattle.bottle_values.specs.declared.version.Version.{Version}
 use Rattle.frame_codec.specs.declared.message.Msg.{Msg}
-use Rattle.frame_codec.specs.Frame.{Fields}
+use Rattle.frame_codec.specs.Frame.{Fields, carries}
 use Rattle.window_link.specs.declared.laws.event.End.{End}
 use Rattle.window_link.specs.declared.laws.event.End.TheVariants.{Left, Right}
 use Rattle.window_link.specs.declared.laws.event.Posted.{Posted}
@@ -68,14 +68,14 @@ nth xs (suc k) = slice_get xs k
 
 -- ---- the events
 
--- a message can be sent where there is room and a number for it
-abbrev pub can_send : Stream → Bool
-can_send s = nat_lt (length (waiting s)) most_waiting && nat_lt (length s.sent) greatest
+-- a message can be sent where the frames can carry it, and there is room and a number for it
+abbrev pub can_send : Version → Stream → Msg → Bool
+can_send version s msg = carries version msg && nat_lt (length (waiting s)) most_waiting && nat_lt (length s.sent) greatest
 
 abbrev pub send : Pair → End → Msg → LinkReply × Pair
 send p e msg =
     let s = p.stream e in
-    if can_send s
+    if can_send p.version s msg
     then (Queued, with_stream p e (record { sent = s.sent ++ msg ∷ []; taken = s.taken; acked = s.acked; kept = s.kept }))
     else (Idle, p)
 

@@ -1,13 +1,15 @@
 -- What follows of windows.
-use Rattle.std.proofs.Common.{◌≡◌, ℕ, zero, suc, ◌+◌, ◌-◌, ◌<◌, ◌≤◌, List, [], ◌∷◌, ◌++◌, get_or, Option, Some, None, ◌⊎◌, inl, inr, refl, ap, ◌∙◌, arith}
-use Rattle.std.specs.Prelude.{◌==◌, nat_le}
+use Rattle.std.proofs.Common.{◌≡◌, ℕ, zero, suc, ◌+◌, ◌-◌, ◌<◌, ◌≤◌, true, IsTrue, List, [], ◌∷◌, ◌++◌, drop, get_or, Option, Some, None, ◌⊎◌, inl, inr, refl, ap, ◌∙◌, subst, arith}
+use Rattle.std.specs.Prelude.{◌==◌, nat_le, slice_get}
 use Rattle.std.proofs.lemmas.List.{length-drop}
-use Rattle.std.proofs.lemmas.Bool.{cond_both, eqb-true, eqb-false, leb-true, leb-false}
+use Rattle.std.proofs.lemmas.Bool.{cond_both, eqb-true, eqb-false, leb-true, leb-false, and_parts, and_from}
 use Rattle.bottle_values.specs.ListLaws.{get-set}
+use Rattle.bottle_values.specs.declared.version.Version.{Version}
+use Rattle.frame_codec.specs.Frame.{carries}
 use Rattle.frame_codec.specs.declared.message.Msg.{Msg}
 use Rattle.window_link.specs.declared.arrival.Arrival.{Arrival}
 use Rattle.window_link.specs.declared.arrival.Arrival.TheVariants.{Acked, Fresh, Repeat, Kept, Early}
-use Rattle.window_link.specs.Windows.{Sending, used, acknowledged, arrival, kept_or, kept_with, kept_after}
+use Rattle.window_link.specs.Windows.{Sending, are_carried, used, acknowledged, arrival, kept_or, kept_with, kept_after}
 use Rattle.window_link.specs.Limits.{most_kept}
 
 -- what a number is, by where it stands
@@ -56,3 +58,26 @@ get-with ks i k msg m e = elim (get-set ks i k (kept_or (get_or ks i None) msg) 
     new : (o : Option Msg) → get_or ks i None ≡ o → k ≡ i → kept_or o msg ≡ Some m → (get_or ks k None ≡ Some m) ⊎ ((k ≡ i) × (msg ≡ m))
     new None is same h = inr (same, cc)
     new (Some there) is same h = inl (ap (λ x. get_or ks x None) same ∙ is ∙ h)
+
+-- ---- what is carried
+
+-- with one message more
+pub carried_more : (version : Version) (ms : List Msg) (m : Msg) → IsTrue (are_carried version ms) → IsTrue (carries version m) → IsTrue (are_carried version (ms ++ m ∷ []))
+carried_more version [] m all one = and_from (carries version m) true one refl
+carried_more version (x ∷ ms) m all one =
+    let parts = and_parts (carries version x) (are_carried version ms) all in
+    and_from (carries version x) (are_carried version (ms ++ m ∷ [])) parts.0 (carried_more version ms m parts.1 one)
+
+-- without the first ones
+pub carried_after : (version : Version) (n : ℕ) (ms : List Msg) → IsTrue (are_carried version ms) → IsTrue (are_carried version (drop n ms))
+carried_after version zero ms all = all
+carried_after version (suc n) [] all = all
+carried_after version (suc n) (x ∷ ms) all = carried_after version n ms (and_parts (carries version x) (are_carried version ms) all).1
+
+-- each of them
+pub carried_each : (version : Version) (ms : List Msg) (i : ℕ) (m : Msg) → IsTrue (are_carried version ms) → slice_get ms i ≡ Some m → IsTrue (carries version m)
+carried_each version [] i m all is = absurd cc
+carried_each version (x ∷ ms) zero m all is =
+    let same : x ≡ m = cc in subst (λ k. IsTrue (carries version k)) same (and_parts (carries version x) (are_carried version ms) all).0
+carried_each version (x ∷ ms) (suc i) m all is =
+    carried_each version ms i m (and_parts (carries version x) (are_carried version ms) all).1 is

@@ -1,5 +1,8 @@
 -- The two windows that one end of a link keeps, and how messages move them.
-use Rattle.std.specs.Prelude.{ℕ, ◌+◌, ◌-◌, max, ◌==◌, nat_le, if◌then◌else◌, List, [], ◌∷◌, ◌++◌, length, drop, get_or, set, Option, Some, None}
+use Rattle.std.specs.Prelude.{ℕ, ◌+◌, ◌-◌, max, Bool, ◌==◌, nat_le, if◌then◌else◌, List, [], ◌∷◌, ◌++◌, length, drop, get_or, set, Option, Some, None}
+use Rattle.std.specs.List.{list_all}
+use Rattle.bottle_values.specs.declared.version.Version.{Version}
+use Rattle.frame_codec.specs.Frame.{carries}
 use Rattle.frame_codec.specs.declared.message.Msg.{Msg}
 use Rattle.window_link.specs.declared.arrival.Arrival.{Arrival}
 use Rattle.window_link.specs.declared.arrival.Arrival.TheVariants.{Acked, Fresh, Repeat, Kept, Early}
@@ -11,6 +14,10 @@ use Rattle.window_link.specs.Limits.{most_kept}
 pub record Sending : Type 0 where
   pub acked : ℕ
   pub waiting : List Msg
+
+-- whether frames of this version can carry all of these messages
+abbrev pub are_carried : Version → List Msg → Bool
+are_carried version ms = list_all (carries version) ms
 
 -- the last number that was used
 abbrev pub used : Sending → ℕ

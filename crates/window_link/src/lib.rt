@@ -10,6 +10,9 @@
 //!   begins what was sent, what is acknowledged was taken, and the rest waits (`HasLawfulStreams`, in
 //!   `specs/Two.antt`, over the streams of `specs/Streams.antt`).
 //!
+//! What waits is what frames of the link's version can carry (`are_carried`, in `specs/Windows.antt`): [`Link::queue`] asks that
+//! of its message, and [`Link::carries`] tells it.
+//!
 //! `sending` and `receiving` are the two windows of an end, and `waiting` is the ring of those that wait. No call of
 //! [`Link`] takes memory. It stands on `frame_codec`.
 //!

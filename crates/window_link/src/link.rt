@@ -2,7 +2,8 @@
 
 ghost use Rattle.std.specs.Prelude.{◌≡◌, ◌<◌, ◌≤◌, ◌^◌, ◌↔◌, length, None, is_some, true, IsTrue, IsErr, IfOk, IfErr, OnOk, OnErr};
 ghost use Rattle.std.specs.Result.{result_err};
-ghost use Rattle.window_link.specs.Windows.{used, queued, next_kept, advanced, without_next};
+ghost use Rattle.frame_codec.specs.Frame.{carries};
+ghost use Rattle.window_link.specs.Windows.{are_carried, used, queued, next_kept, advanced, without_next};
 ghost use Rattle.window_link.specs.Links.{resumed, frame_of, ack_frame_of, fault_of, arrival_at, after_arrival};
 ghost use Rattle.frame_codec.specs.Limits.{sequence_space};
 ghost use Rattle.window_link.specs.Limits.{greatest};
@@ -16,7 +17,7 @@ use bottle_values::Version;
 use frame_codec::{Frame, Msg};
 use std::marker::Model;
 
-/// One office's end of the link to a neighbour.
+/// One office's end of the link to a neighbour. Its frames can carry all that waits.
 #[derive(Drop)]
 pub struct Link {
     run: u32,
@@ -28,11 +29,15 @@ pub struct Link {
 }
 
 impl Model for Link {
+    ghost use Rattle.std.specs.Prelude.{IsTrue};
     ghost use Rattle.window_link.specs.Links.{LinkState};
+    ghost use Rattle.window_link.specs.Windows.{are_carried};
 
     ghost Value = { LinkState };
 
     ghost view = { λ l. record { run = l.run; me = l.me; peer = l.peer; sending = l.sending; receiving = l.receiving; version = l.version } };
+
+    ghost invariant = { λ l. IsTrue (are_carried l.version l.sending.waiting) };
 }
 
 impl Link {
@@ -68,6 +73,13 @@ impl Link {
         self.sending.has_room()
     }
 
+    /// Whether the link's frames can carry the message.
+    pub fn carries(&self, msg: &Msg) -> bool
+        ensures { result ≡ carries self.now.version msg.now }
+    {
+        msg.is_carried(self.version)
+    }
+
     /// How many of the peer's messages were taken, in order.
     pub fn taken(&self) -> u64
         ensures value { result ≡ self.now.receiving.taken }
@@ -89,6 +101,7 @@ impl Link {
         ensures value { result.now ≡ self.now.sending.waiting }
         ensures few { length result.now ≤ MAX_WAITING }
         ensures range { used self.now.sending < sequence_space }
+        ensures carried { IsTrue (are_carried self.now.version result.now) }
     {
         self.sending.waiting()
     }
@@ -98,7 +111,8 @@ impl Link {
     /// # Errors
     /// `Worn` where the greatest number was used. The link is as it was.
     pub fn queue(&mut self, msg: Msg) -> Result<(), LinkFault>
-        requires { length self.old.sending.waiting < MAX_WAITING }
+        requires room { length self.old.sending.waiting < MAX_WAITING }
+        requires carried { IsTrue (carries self.old.version msg) }
         ensures worn { IsErr result ↔ (used self.old.sending ≡ greatest) }
         ensures fault { IfErr result (λ fault. fault ≡ LinkFault.Worn) }
         ensures numbered { OnOk result (used self.old.sending < greatest) }

@@ -3,7 +3,7 @@ use Rattle.std.specs.Prelude.{◌≡◌, ℕ, ◌<◌, Bool, true, false, List, 
 use Rattle.std.proofs.Math.ListN.{set}
 use Rattle.bit_masks.specs.declared.mask128.Mask128.{Mask128}
 use Rattle.bit_masks.specs.Sets.{is_in128}
-use Rattle.bottle_values.specs.Values.{Value}
+use Rattle.bottle_values.specs.declared.Value.{Value}
 use Rattle.office_map.specs.PlanValue.{PlanValue, peer}
 use Rattle.drinking_core.specs.declared.phase.Phase.{Phase}
 use Rattle.drinking_core.specs.declared.shared_bottle.SharedBottle.{SharedBottle}

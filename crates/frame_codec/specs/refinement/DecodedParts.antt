@@ -1,12 +1,14 @@
 -- What the code holds between reading a header and making the frame.
 use Rattle.std.specs.Prelude.{◌≡◌, ℕ, ◌<◌, ◌≤◌, ◌^◌, Bool, IsTrue, ◌+◌, not, ◌&&◌, ◌==◌, nat_lt, nat_le, if◌then◌else◌, List, [], ◌∷◌, length, take, Option, Some, None}
+use Rattle.std.specs.List.{list_all}
+use Rattle.bottle_values.specs.Texts.{is_text_byte, longest_text}
 use Rattle.bottle_values.specs.declared.version.Version.{Version}
 use Rattle.bottle_values.specs.declared.version.Version.TheVariants.{One, Two}
 use Rattle.frame_codec.specs.declared.header.Kind.{Kind}
 use Rattle.frame_codec.specs.declared.header.Kind.TheVariants.{Data, Ack}
 use Rattle.frame_codec.specs.declared.header.Header.{Header}
 use Rattle.frame_codec.specs.declared.fault.FrameFault.{FrameFault}
-use Rattle.frame_codec.specs.declared.fault.FrameFault.TheVariants.{Tag, ValueForm, Length}
+use Rattle.frame_codec.specs.declared.fault.FrameFault.TheVariants.{Tag, ValueForm, Length, TextByte}
 use Rattle.frame_codec.specs.Frame.{Fields}
 use Rattle.frame_codec.specs.Header.{data_kind, ack_kind, header}
 use Rattle.frame_codec.specs.Limits.{sequence_space}
@@ -41,11 +43,22 @@ pub record BeginsWith (bytes : List ℕ) (h : Header) : Type 0 where
 abbrev pub number_fault : List ℕ → Option FrameFault
 number_fault bytes = if length bytes == 8 then None else Some Length
 
+-- of a text's bytes, where it is to have so many
+abbrev pub text_fault : ℕ → List ℕ → Option FrameFault
+text_fault size bytes =
+    if not (nat_le size longest_text) then Some ValueForm else if not (length bytes == size) then Some Length
+    else if list_all is_text_byte bytes then None else Some TextByte
+
+-- of what follows the form of a text
+abbrev pub sized_fault : List ℕ → Option FrameFault
+sized_fault [] = Some Length
+sized_fault (size ∷ bytes) = text_fault size bytes
+
 -- of a value's
 abbrev pub value_fault : Version → List ℕ → Option FrameFault
 value_fault One bytes = number_fault bytes
 value_fault Two [] = Some Length
-value_fault Two (form ∷ rest) = if form == 1 then number_fault rest else Some ValueForm
+value_fault Two (form ∷ rest) = if form == 1 then number_fault rest else if form == 2 then sized_fault rest else Some ValueForm
 
 -- of what follows the tag of a bottle
 abbrev pub bottle_fault : Version → List ℕ → Option FrameFault

@@ -9,7 +9,7 @@ use Rattle.window_link.specs.declared.laws.event.LinkEvent.{LinkEvent}
 use Rattle.window_link.specs.declared.laws.event.LinkEvent.TheVariants.{Queue, Make, Ack, Arrive}
 use Rattle.window_link.specs.declared.laws.event.LinkReply.{LinkReply}
 use Rattle.window_link.specs.declared.laws.event.LinkReply.TheVariants.{Idle, Queued, Made, Arrived}
-use Rattle.frame_codec.specs.Frame.{Fields}
+use Rattle.frame_codec.specs.Frame.{Fields, carries}
 use Rattle.window_link.specs.declared.arrival.Arrival.{Arrival}
 use Rattle.window_link.specs.declared.arrival.Arrival.TheVariants.{Acked, Fresh, Repeat, Kept, Early}
 use Rattle.window_link.specs.Windows.{Receiving, used, queued, next_kept, advanced}
@@ -31,7 +31,7 @@ with_sending l msg =
 
 abbrev pub queue_step : LinkState → Msg → LinkReply × LinkState
 queue_step l msg =
-    if nat_lt (length l.sending.waiting) most_waiting && nat_lt (used l.sending) greatest
+    if carries l.version msg && nat_lt (length l.sending.waiting) most_waiting && nat_lt (used l.sending) greatest
     then (Queued, with_sending l msg)
     else (Idle, l)
 

@@ -26,8 +26,8 @@ pub enum LinkEvent {
 /// What an event gives.
 #[derive(Clone, Copy, Debug, PartialEq, Eq)]
 pub enum LinkReply {
-    /// There was nothing to do: no room or number for a message, no such waiting message, no such
-    /// frame.
+    /// There was nothing to do: no room or number for a message, or one that frames of this version can't carry, no
+    /// such waiting message, no such frame.
     Idle,
     /// The message waits.
     Queued,

@@ -36,11 +36,15 @@ pub fn step(
     }
 }
 
-// Where the greatest number was used the ends are idle, as they are where no place is free.
+// Where the greatest number was used the ends are idle, as they are where no place is free, and where a frame can't carry
+// the message.
 fn queue(link: &mut Link, msg: Msg) -> LinkReply
     ensures reply { result ≡ (queue_step link.old msg).0 }
     ensures link { link.new ≡ (queue_step link.old msg).1 }
 {
+    if !link.carries(&msg) {
+        return LinkReply::Idle;
+    }
     if !link.has_room() {
         return LinkReply::Idle;
     }

@@ -31,5 +31,6 @@ returns-clause-range c =
       to = search rules;
       number = rw (← c.number-2.ensures.value) c.number-2.ensures.range;
       count = search rules;
-      msg = rw (← c.msg.ensures) m;
+      msg = rw (← c.msg.ensures.value) m;
+      carried = rw (← c.msg.ensures.value) c.msg.ensures.carried;
     }

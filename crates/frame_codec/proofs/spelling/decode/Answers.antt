@@ -33,7 +33,7 @@ pub returns-in_ok-read_message-in-Data-clause-found :
 returns-in_ok-read_message-in-Data-clause-found c =
     let bytes = c.args.bytes.now in
     let m = c.in_ok-read_message-in-Data.ensures in
-    rw c.data.ensures (spells_data bytes _ _ c.in_ok-header.ensures.found c.in-Data.is (sym (take_rest bytes 26) ∙ m.spelled) m.range)
+    rw c.data.ensures (spells_data bytes _ _ c.in_ok-header.ensures.found c.in-Data.is (sym (take_rest bytes 26) ∙ m.spelled) m.range m.carried)
 
 pub returns-in_ok-read_message-in-Data-clause-only :
     goal.returns-in_ok-read_message-in-Data-clause-only

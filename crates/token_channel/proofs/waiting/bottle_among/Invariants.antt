@@ -1,6 +1,6 @@
 use Rattle.std.proofs.Common.{◌≡◌, ℕ, ◌<◌, Some}
 use Rattle.std.specs.List.{slice_get}
-use Rattle.bottle_values.specs.Values.{Value}
+use Rattle.bottle_values.specs.declared.Value.{Value}
 use Rattle.frame_codec.specs.declared.message.Msg.TheVariants.{Bottle}
 use Rattle.token_channel.proofs.waiting.bottle_among.Given as goal
 

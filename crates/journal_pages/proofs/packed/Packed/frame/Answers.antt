@@ -1,6 +1,7 @@
-use Rattle.std.proofs.Common.{sym, ap, ◌∙◌, ◌/◌, ◌%◌}
+use Rattle.std.proofs.Common.{◌≡◌, sym, ap, ◌∙◌, ◌/◌, ◌%◌, rules}
 use Rattle.journal_pages.specs.Told.{Told}
-use Rattle.journal_pages.specs.refinement.PackedFrames.{joined, message_in, version_in, frame_with}
+use Rattle.journal_pages.specs.Framed.{frame_with}
+use Rattle.journal_pages.specs.refinement.PackedFrames.{joined, message_in, version_in}
 use Rattle.journal_pages.proofs.PackedFrames.{ack_again, data_again}
 use Rattle.journal_pages.proofs.packed.Packed.frame.Goals as goal
 
@@ -15,8 +16,12 @@ returns-then-number-eq0 c =
 pub returns : goal.returns
 returns c =
     let s = c.self.inside in
+    let carried : c.message-msg.result ≡ message_in ((s.head / 16) % 4) s.which s.value = search rules in
     c.data.ensures
-    ∙ data_again c.version_in-version.result s.run s.from s.to c.joined-number.result c.joined-count.result (joined s.number_low s.number_high) (joined s.count_low s.count_high) c.message-msg.result (message_in ((s.head / 16) % 4) s.which s.value) c.joined-number.ensures.value c.joined-count.ensures.value c.message-msg.ensures
+    ∙ data_again c.version_in-version.result s.run s.from s.to c.joined-number.result c.joined-count.result (joined s.number_low s.number_high) (joined s.count_low s.count_high) c.message-msg.result (message_in ((s.head / 16) % 4) s.which s.value) c.joined-number.ensures.value c.joined-count.ensures.value carried
     c.if-number-eq0.false
     ∙ ap (λ v. frame_with v s.run s.from s.to (joined s.number_low s.number_high) (joined s.count_low s.count_high) (message_in ((s.head / 16) % 4) s.which s.value)) c.version_in-version.ensures
     ∙ ap (λ (t : Told). t.frame) c.self.view_is
+
+pub data-requires-clause-carried : goal.data-requires-clause-carried
+data-requires-clause-carried c = c.message-msg.ensures.carried c.version_in-version.result
