@@ -1,5 +1,5 @@
 -- Texts that can be cut in one place alone.
-use Rattle.std.proofs.Common.{◌≡◌, ℕ, List, [], ◌∷◌, ◌++◌, Bool, true, false, ◌&&◌, All, refl, sym, ap, ap₂, ◌∙◌, append_assoc}
+use Rattle.std.proofs.Common.{◌≡◌, ℕ, List, [], ◌∷◌, ◌++◌, Bool, true, false, All, refl, sym, ap, ap₂, ◌∙◌, append_assoc}
 use Rattle.std.specs.List.{list_all, flat_map}
 use Rattle.std.proofs.lemmas.Bool.{and_parts, both_ways}
 use Rattle.std.proofs.lemmas.List.Elements.{All-head, All-tail}
@@ -43,7 +43,7 @@ Begins c [] = ⊥
 Begins c (b ∷ bs) = b ≡ c
 
 -- that a text is this one says with what it begins
-begins : (c : ℕ) (u s : List ℕ) → u ≡ c ∷ s → Begins c u
+pub begins : (c : ℕ) (u s : List ℕ) → u ≡ c ∷ s → Begins c u
 begins c [] s e = absurd (cc)
 begins c (b ∷ u) s e = (cc)
 

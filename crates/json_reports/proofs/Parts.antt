@@ -1,15 +1,18 @@
 -- The parts of a line of JSON, each of which tells what it is of.
-use Rattle.std.proofs.Common.{◌≡◌, ◌<◌, ◌^◌, ◌+◌, ◌/◌, ◌%◌, ◌≤◌, ◌==◌, ℕ, suc, List, [], ◌∷◌, ◌++◌, length, drop, get_or, Bool, true, false, nat_lt, ◌&&◌, ◌||◌, All, codes, refl, sym, ap, ap₂, ◌∙◌, subst, append_assoc, arith}
-use Rattle.std.specs.Prelude.{ℤ, pos, negsuc}
-use Rattle.std.specs.List.{list_all}
+use Rattle.std.proofs.Common.{◌≡◌, ◌<◌, ◌^◌, ◌+◌, ◌%◌, ◌≤◌, ◌==◌, ℕ, suc, List, [], ◌∷◌, ◌++◌, length, drop, get_or, Bool, true, false, nat_lt, ◌&&◌, ◌||◌, All, refl, sym, ap, ap₂, ◌∙◌, append_assoc, arith}
+use Rattle.std.specs.Prelude.{ℤ, pos, negsuc, nat_le, if◌then◌else◌}
+use Rattle.std.proofs.Math.Seq.{drop-append_seam}
+use Rattle.std.specs.List.{flat_map, list_all}
 use Rattle.std.specs.Char.{is_ascii_digit}
 use Rattle.std.specs.Fmt.{decimal, signed_decimal}
 use Rattle.std.proofs.lemmas.Bool.{and_parts, both_ways}
 use Rattle.std.proofs.lemmas.Bool.Decides.{nat_tests}
 use Rattle.std.proofs.lemmas.Fmt.{decimal_by_steps, decimal_injective, decimal_nonempty}
 use Rattle.std.proofs.lemmas.List.Folds.{list_all-append}
-use Rattle.bottle_values.specs.Values.{Value, Number}
-use Rattle.bottle_values.specs.Operations.{is_value}
+use Rattle.bottle_values.specs.declared.Value.{Value}
+use Rattle.bottle_values.specs.declared.Value.TheVariants.{Number, Text}
+use Rattle.bottle_values.specs.Operations.{is_i64, is_value}
+use Rattle.bottle_values.specs.Texts.{is_text, is_text_byte, longest_text}
 use Rattle.bottle_values.specs.ListLaws.{all_weaker}
 use Rattle.text_lines.specs.Text.{is_name_byte}
 use Rattle.office_map.specs.PlanValue.{PlanValue}
@@ -17,9 +20,9 @@ use Rattle.office_map.specs.Consistency.{IsConsistent}
 use Rattle.session_meaning.specs.declared.ending.End.{End}
 use Rattle.session_meaning.specs.declared.ending.End.TheVariants.{Done, Refused, Overflow, Mismatch}
 use Rattle.session_reports.specs.Names.{record_name}
-use Rattle.json_reports.specs.Json.{quoted, key, joined, json_value, json_end, json_member, json_object, json_array}
+use Rattle.json_reports.specs.Json.{escaped, quoted, key, joined, json_value, json_end, json_member, json_object, json_array}
 use Rattle.json_reports.specs.JsonLaws.{IsEnd, IsRecord}
-use Rattle.json_reports.proofs.Cutting.{AreSame, Begins, Stops, Tells, cut_once, joined_told}
+use Rattle.json_reports.proofs.Cutting.{Begins, begins, Stops, Tells, cut_once, joined_told}
 use Rattle.json_reports.proofs.Names.{one_record, record_bytes}
 
 -- ---- numbers
@@ -47,41 +50,93 @@ is_number_byte b = is_ascii_digit b || b == 45
 digit_of_number : (b : ℕ) → is_ascii_digit b ≡ true → is_number_byte b ≡ true
 digit_of_number b h = ap (λ d. d || b == 45) h
 
-positive : (n : ℕ) → is_value (Number (pos n)) ≡ true → n < 2 ^ 64
+positive : (n : ℕ) → is_i64 (pos n) ≡ true → n < 2 ^ 64
 positive n h = let low : nat_lt n (2 ^ 63) ≡ true = h in grind (low, arith, nat_tests)
 
-negative : (n : ℕ) → is_value (Number (negsuc n)) ≡ true → suc n < 2 ^ 64
+negative : (n : ℕ) → is_i64 (negsuc n) ≡ true → suc n < 2 ^ 64
 negative n h = let low : nat_lt n (2 ^ 63) ≡ true = h in grind (low, arith, nat_tests)
 
-number_bytes : (v : Value) → is_value v ≡ true → list_all is_number_byte (json_value v) ≡ true
-number_bytes (Number (pos n)) h = all_weaker is_ascii_digit is_number_byte digit_of_number (decimal n) (digits n (positive n h))
-number_bytes (Number (negsuc n)) h = all_weaker is_ascii_digit is_number_byte digit_of_number (decimal (suc n)) (digits (suc n) (negative n h))
+number_bytes : (z : ℤ) → is_i64 z ≡ true → list_all is_number_byte (signed_decimal z) ≡ true
+number_bytes (pos n) h = all_weaker is_ascii_digit is_number_byte digit_of_number (decimal n) (digits n (positive n h))
+number_bytes (negsuc n) h = all_weaker is_ascii_digit is_number_byte digit_of_number (decimal (suc n)) (digits (suc n) (negative n h))
 
 -- there is one at least
-json_value_some : (v : Value) → is_value v ≡ true → 0 < length (json_value v)
-json_value_some (Number (pos n)) h = decimal_nonempty n (positive n h)
-json_value_some (Number (negsuc n)) h = omega arith
+number_some : (z : ℤ) → is_i64 z ≡ true → 0 < length (signed_decimal z)
+number_some (pos n) h = decimal_nonempty n (positive n h)
+number_some (negsuc n) h = omega arith
+
+-- and it is no other byte
+no_other : (z : ℤ) (c : ℕ) (s : List ℕ) → is_i64 z ≡ true → is_number_byte c ≡ false → Begins c (signed_decimal z ++ s) → ⊥
+no_other z c s h other = by_bytes (signed_decimal z) (number_bytes z h) (number_some z h)
+  where
+    by_bytes : (ds : List ℕ) → list_all is_number_byte ds ≡ true → 0 < length ds → Begins c (ds ++ s) → ⊥
+    by_bytes [] all some e = absurd (omega (arith, some))
+    by_bytes (b ∷ ds) all some e = both_ways (is_number_byte c) other (ap is_number_byte (sym e) ∙ (and_parts (is_number_byte b) (list_all is_number_byte ds) all).0)
 
 -- digits don't begin with a sign
 no_sign : (n : ℕ) (ds : List ℕ) → n < 2 ^ 64 → decimal n ≡ 45 ∷ ds → ⊥
 no_sign n ds h e = let all : list_all is_ascii_digit (45 ∷ ds) ≡ true = ap (list_all is_ascii_digit) (sym e) ∙ digits n h in absurd (both_ways (list_all is_ascii_digit (45 ∷ ds)) refl all)
 
-one_value : (v w : Value) → is_value v ≡ true → is_value w ≡ true → json_value v ≡ json_value w → v ≡ w
-one_value (Number (pos n)) (Number (pos m)) a b e = ap (λ k. Number (pos k)) (decimal_injective n m (positive n a) (positive m b) e)
-one_value (Number (pos n)) (Number (negsuc m)) a b e = absurd (no_sign n (decimal (suc m)) (positive n a) e)
-one_value (Number (negsuc n)) (Number (pos m)) a b e = absurd (no_sign m (decimal (suc n)) (positive m b) (sym e))
-one_value (Number (negsuc n)) (Number (negsuc m)) a b e =
+one_number : (y z : ℤ) → is_i64 y ≡ true → is_i64 z ≡ true → signed_decimal y ≡ signed_decimal z → y ≡ z
+one_number (pos n) (pos m) a b e = ap pos (decimal_injective n m (positive n a) (positive m b) e)
+one_number (pos n) (negsuc m) a b e = absurd (no_sign n (decimal (suc m)) (positive n a) e)
+one_number (negsuc n) (pos m) a b e = absurd (no_sign m (decimal (suc n)) (positive m b) (sym e))
+one_number (negsuc n) (negsuc m) a b e =
     let same : suc n ≡ suc m = decimal_injective (suc n) (suc m) (negative n a) (negative m b) (ap (drop 1) e) in
     let one : n ≡ m = omega (arith, same) in
-    ap (λ k. Number (negsuc k)) one
-
-pub value_told : Tells json_value (λ v. is_value v ≡ true) (Stops is_number_byte)
-value_told v w s t a b p q e = let same = cut_once is_number_byte (json_value v) (json_value w) s t (number_bytes v a) (number_bytes w b) p q e in (one_value v w a b same.front, same.back)
-
--- ---- names
+    ap negsuc one
 
 then_quote : (name s : List ℕ) → quoted name ++ s ≡ 34 ∷ (name ++ 34 ∷ s)
 then_quote name s = ap (λ (t : List ℕ). 34 ∷ t) (append_assoc name (34 ∷ []) s)
+
+-- ---- texts
+
+-- what stands behind a byte of a string
+abbrev second : ℕ → List ℕ
+second b = if b == 92 then 92 ∷ [] else []
+
+no_quote : (b : ℕ) → is_text_byte b ≡ true → b ≡ 34 → ⊥
+no_quote b h e = both_ways (is_text_byte 34) refl (ap is_text_byte (sym e) ∙ h)
+
+escaped_told : (xs ys s t : List ℕ) → list_all is_text_byte xs ≡ true → list_all is_text_byte ys ≡ true
+    → flat_map escaped xs ++ 34 ∷ s ≡ flat_map escaped ys ++ 34 ∷ t → (xs ≡ ys) × (s ≡ t)
+escaped_told [] [] s t a b e = (refl, ap (drop 1) e)
+escaped_told [] (y ∷ ys) s t a b e =
+    let same : ◌≡◌ {A = ℕ} 34 y = ap (λ (u : List ℕ). get_or u 0 0) e in
+    absurd (no_quote y (and_parts (is_text_byte y) (list_all is_text_byte ys) b).0 (sym same))
+escaped_told (x ∷ xs) [] s t a b e =
+    let same : ◌≡◌ {A = ℕ} x 34 = ap (λ (u : List ℕ). get_or u 0 0) e in
+    absurd (no_quote x (and_parts (is_text_byte x) (list_all is_text_byte xs) a).0 same)
+escaped_told (x ∷ xs) (y ∷ ys) s t a b e =
+    let here : x ≡ y = ap (λ (u : List ℕ). get_or u 0 0) e in
+    let behind : (second x ++ flat_map escaped xs) ++ 34 ∷ s ≡ (second y ++ flat_map escaped ys) ++ 34 ∷ t = ap (drop 1) e in
+    let level : second x ++ (flat_map escaped xs ++ 34 ∷ s) ≡ second x ++ (flat_map escaped ys ++ 34 ∷ t) =
+    sym (append_assoc (second x) (flat_map escaped xs) (34 ∷ s)) ∙ behind ∙ append_assoc (second y) (flat_map escaped ys) (34 ∷ t)
+    ∙ ap (λ (z : ℕ). second z ++ (flat_map escaped ys ++ 34 ∷ t)) (sym here) in
+    let rest : flat_map escaped xs ++ 34 ∷ s ≡ flat_map escaped ys ++ 34 ∷ t =
+    sym (drop-append_seam (second x) (flat_map escaped xs ++ 34 ∷ s)) ∙ ap (drop (length (second x))) level
+    ∙ drop-append_seam (second x) (flat_map escaped ys ++ 34 ∷ t) in
+    let more = escaped_told xs ys s t (and_parts (is_text_byte x) (list_all is_text_byte xs) a).1 (and_parts (is_text_byte y) (list_all is_text_byte ys) b).1 rest in
+    (ap₂ (λ (z : ℕ) (zs : List ℕ). z ∷ zs) here more.0, more.1)
+
+text_bytes : (t : List ℕ) → is_text t ≡ true → list_all is_text_byte t ≡ true
+text_bytes t h = (and_parts (nat_le (length t) longest_text) (list_all is_text_byte t) h).1
+
+text_told : (x y s t : List ℕ) → is_text x ≡ true → is_text y ≡ true → quoted (flat_map escaped x) ++ s ≡ quoted (flat_map escaped y) ++ t → (x ≡ y) × (s ≡ t)
+text_told x y s t a b e =
+    escaped_told x y s t (text_bytes x a) (text_bytes y b) (ap (drop 1) (sym (then_quote (flat_map escaped x) s) ∙ e ∙ then_quote (flat_map escaped y) t))
+
+-- ---- either
+
+pub value_told : Tells json_value (λ v. is_value v ≡ true) (Stops is_number_byte)
+value_told (Number y) (Number z) s t a b p q e =
+    let same = cut_once is_number_byte (signed_decimal y) (signed_decimal z) s t (number_bytes y a) (number_bytes z b) p q e in
+    (ap Number (one_number y z a b same.front), same.back)
+value_told (Number y) (Text v) s t a b p q e = absurd (no_other y 34 s a refl (begins 34 (signed_decimal y ++ s) ((flat_map escaped v ++ 34 ∷ []) ++ t) e))
+value_told (Text u) (Number z) s t a b p q e = absurd (no_other z 34 t b refl (begins 34 (signed_decimal z ++ t) ((flat_map escaped u ++ 34 ∷ []) ++ s) (sym e)))
+value_told (Text u) (Text v) s t a b p q e = let same = text_told u v s t a b e in (ap Text same.0, same.1)
+
+-- ---- names
 
 abbrev IsName : List ℕ → Type 0
 IsName w = list_all is_name_byte w ≡ true
@@ -115,11 +170,8 @@ no_brace : (p : PlanValue) (w : ℕ × Value) (s : List ℕ) → IsRecord p w �
 no_brace p w s ok e = absurd (omega (arith, e))
 
 no_bracket : (v : Value) (s : List ℕ) → is_value v ≡ true → Begins 93 (json_value v ++ s) → ⊥
-no_bracket v s ok e = by_bytes (json_value v) (number_bytes v ok) (json_value_some v ok) e
-  where
-    by_bytes : (ds : List ℕ) → list_all is_number_byte ds ≡ true → 0 < length ds → Begins 93 (ds ++ s) → ⊥
-    by_bytes [] all some e = absurd (omega (arith, some))
-    by_bytes (b ∷ ds) all some e = both_ways (is_number_byte 93) refl (ap is_number_byte (sym e) ∙ (and_parts (is_number_byte b) (list_all is_number_byte ds) all).0)
+no_bracket (Number z) s ok e = no_other z 93 s ok refl e
+no_bracket (Text t) s ok e = absurd (omega (arith, e))
 
 pub object_told : (p : PlanValue) → IsConsistent p → (xs ys : List (ℕ × Value)) (s t : List ℕ) → All (IsRecord p) xs → All (IsRecord p) ys → json_object p xs ++ s ≡ json_object p ys ++ t → (xs ≡ ys) × (s ≡ t)
 object_told p c xs ys s t a b e =

@@ -1,8 +1,9 @@
 -- What is printed of sessions and of records as JSON: an object a line.
-use Rattle.std.specs.Prelude.{ℕ, List, [], ◌∷◌, ◌++◌, length, codes}
+use Rattle.std.specs.Prelude.{ℕ, List, [], ◌∷◌, ◌++◌, ◌==◌, if◌then◌else◌, length, codes}
 use Rattle.std.specs.List.{flat_map, range_with_len}
 use Rattle.std.specs.Fmt.{decimal, signed_decimal}
-use Rattle.bottle_values.specs.Values.{Value, Number}
+use Rattle.bottle_values.specs.declared.Value.{Value}
+use Rattle.bottle_values.specs.declared.Value.TheVariants.{Number, Text}
 use Rattle.office_map.specs.PlanValue.{PlanValue}
 use Rattle.session_meaning.specs.declared.ending.End.{End}
 use Rattle.session_meaning.specs.declared.ending.End.TheVariants.{Done, Refused, Overflow, Mismatch}
@@ -21,8 +22,14 @@ abbrev pub joined : {A : Type 0} → (A → List ℕ) → List A → List ℕ
 joined text [] = []
 joined text (x ∷ xs) = text x ++ flat_map (λ y. 44 ∷ text y) xs
 
+-- a byte of a string: a backslash stands twice
+abbrev pub escaped : ℕ → List ℕ
+escaped b = b ∷ (if b == 92 then 92 ∷ [] else [])
+
+-- a number in decimal, or the string of a text
 abbrev pub json_value : Value → List ℕ
 json_value (Number z) = signed_decimal z
+json_value (Text t) = quoted (flat_map escaped t)
 
 -- "done", {"refused":CODE}, "overflow" or "mismatch"
 abbrev pub json_end : End → List ℕ

@@ -1,16 +1,17 @@
 //! The lines of outcomes and of values.
 
-ghost use Rattle.std.specs.Prelude.{◌≡◌, ◌++◌, ◌∷◌, codes, length, IfOk, OnOk};
-ghost use Rattle.std.specs.List.{flat_map};
+ghost use Rattle.std.specs.Prelude.{◌≡◌, ◌<◌, ◌++◌, ◌∷◌, [], if◌then◌else◌, codes, length, IfOk, IsTrue, OnOk};
+ghost use Rattle.std.specs.List.{flat_map, list_all};
 ghost use Rattle.std.specs.Fmt.{decimal};
 ghost use Rattle.std.specs.String.{string_bytes};
+ghost use Rattle.bottle_values.specs.Texts.{is_text_byte};
 ghost use Rattle.session_reports.specs.Report.{value_at};
-ghost use Rattle.json_reports.specs.Json.{field, json_array, json_end, json_member, json_object, json_outcome, json_report_of, json_title, json_unfinished, json_unwoven, json_value, json_value_line, json_value_lines, key, quoted};
+ghost use Rattle.json_reports.specs.Json.{escaped, field, joined, json_array, json_end, json_member, json_object, json_outcome, json_report_of, json_title, json_unfinished, json_unwoven, json_value, json_value_line, json_value_lines, key, quoted};
 
-use bottle_values::Value;
+use bottle_values::{Text, Value};
 use itoa::Buffer;
 use office_map::{OfficeId, Plan, RecordId};
-use session_meaning::{End, Outcome};
+use session_meaning::{End, Gives, Outcome};
 use session_reports::laws::rows_are_added;
 use session_reports::names::{office_name, record_name};
 use session_reports::numbers::add_number;
@@ -42,7 +43,7 @@ pub fn add_outcome(text: &mut String, plan: &Plan, outcome: &Outcome) -> Result<
     add_title(text, plan, outcome)?;
     add_object_field(text, "reads", plan, outcome.ending.reads.as_slice())?;
     add_object_field(text, "writes", plan, outcome.ending.writes.as_slice())?;
-    add_gives(text, outcome.ending.gives.as_slice())?;
+    add_gives(text, &outcome.ending.gives)?;
     text.push_str("}\n")
 }
 
@@ -83,7 +84,7 @@ fn add_object_field(
     add_object(text, plan, records)
 }
 
-fn add_gives(text: &mut String, gives: &[Value]) -> Result<(), AllocError>
+fn add_gives(text: &mut String, gives: &Gives) -> Result<(), AllocError>
     ensures { OnOk result (string_bytes text.new ≡ string_bytes text.old ++ field (codes "gives") (json_array gives.now)) }
 {
     add_field_key(text, "gives")?;
@@ -180,38 +181,72 @@ fn add_member(text: &mut String, plan: &Plan, id: RecordId, value: Value) -> Res
     add_one(text, value)
 }
 
-fn add_array(text: &mut String, values: &[Value]) -> Result<(), AllocError>
-    ensures { OnOk result (string_bytes text.new ≡ string_bytes text.old ++ json_array values.now) }
+fn add_array(text: &mut String, gives: &Gives) -> Result<(), AllocError>
+    ensures { OnOk result (string_bytes text.new ≡ string_bytes text.old ++ json_array gives.now) }
 {
     text.push_str("[")?;
-    if let Some((first, others)) = values.split_first() {
-        add_one(text, *first)?;
-        add_more(text, others)?;
-    }
+    add_items(text, gives)?;
     text.push_str("]")
 }
 
-fn add_more(text: &mut String, values: &[Value]) -> Result<(), AllocError>
-    ensures { OnOk result (string_bytes text.new ≡ string_bytes text.old ++ flat_map (λ v. 44 ∷ json_value v) values.now) }
+fn add_items(text: &mut String, gives: &Gives) -> Result<(), AllocError>
+    ensures { OnOk result (string_bytes text.new ≡ string_bytes text.old ++ joined json_value gives.now) }
 {
-    for value in values {
-        add_next(text, *value)?;
+    for i in 0..gives.len() {
+        add_item(text, i == 0, gives.get(i))?;
     }
     Ok(())
 }
 
-fn add_next(text: &mut String, value: Value) -> Result<(), AllocError>
-    ensures { OnOk result (string_bytes text.new ≡ string_bytes text.old ++ (44 ∷ json_value value)) }
+/// A value of an array, behind a comma where it isn't the first.
+fn add_item(text: &mut String, is_first: bool, value: Value) -> Result<(), AllocError>
+    ensures { OnOk result (string_bytes text.new ≡ string_bytes text.old ++ ((if is_first then [] else 44 ∷ []) ++ json_value value)) }
 {
-    text.push_str(",")?;
+    if !is_first {
+        text.push_str(",")?;
+    }
     add_one(text, value)
 }
 
 fn add_one(text: &mut String, value: Value) -> Result<(), AllocError>
     ensures { OnOk result (string_bytes text.new ≡ string_bytes text.old ++ json_value value) }
 {
-    let mut buffer = Buffer::new();
-    text.push_str(buffer.format(value.number()))
+    match value {
+        Value::Number(number) => {
+            let mut buffer = Buffer::new();
+            text.push_str(buffer.format(number))
+        }
+        Value::Text(words) => add_string(text, words),
+    }
+}
+
+fn add_string(text: &mut String, words: Text) -> Result<(), AllocError>
+    ensures { OnOk result (string_bytes text.new ≡ string_bytes text.old ++ quoted (flat_map escaped words)) }
+{
+    text.push_str("\"")?;
+    add_escaped(text, words.as_bytes())?;
+    text.push_str("\"")
+}
+
+fn add_escaped(text: &mut String, bytes: &[u8]) -> Result<(), AllocError>
+    requires { IsTrue (list_all is_text_byte bytes.now) }
+    ensures { OnOk result (string_bytes text.new ≡ string_bytes text.old ++ flat_map escaped bytes.now) }
+{
+    for byte in bytes {
+        add_byte(text, *byte)?;
+    }
+    Ok(())
+}
+
+fn add_byte(text: &mut String, byte: u8) -> Result<(), AllocError>
+    requires { byte < 128 }
+    ensures { OnOk result (string_bytes text.new ≡ string_bytes text.old ++ escaped byte) }
+{
+    text.push(char::from(byte))?;
+    if byte == b'\\' {
+        text.push_str("\\")?;
+    }
+    Ok(())
 }
 
 fn add_values(text: &mut String, plan: &Plan, values: &[Value]) -> Result<(), AllocError>

@@ -1,5 +1,7 @@
 mod PostfixSplit
+pub mod KeptTexts
 mod EndingLaws
+mod ValuesFit
 mod WorkedExamples
 mod StepsAreCounted
 mod working_copies

@@ -1,10 +1,11 @@
 -- Worked examples of the definitions, by computing.
-use Rattle.std.specs.Prelude.{◌≡◌, ℕ, pos, negsuc, ℤ, List, [], ◌∷◌, refl}
-use Rattle.bottle_values.specs.Values.{Value, Number}
+use Rattle.std.specs.Prelude.{◌≡◌, ℕ, pos, negsuc, ℤ, List, [], ◌∷◌, codes, replicate, refl}
+use Rattle.bottle_values.specs.declared.Value.{Value}
+use Rattle.bottle_values.specs.declared.Value.TheVariants.{Number, Text}
 use Rattle.session_meaning.specs.declared.node.Operator.TheVariants as op
 use Rattle.session_meaning.specs.declared.node.Comparison.{Comparison}
 use Rattle.session_meaning.specs.declared.node.Comparison.TheVariants as cmp
-use Rattle.session_meaning.specs.declared.ending.End.TheVariants.{Done, Refused, Overflow}
+use Rattle.session_meaning.specs.declared.ending.End.TheVariants.{Done, Refused, Overflow, Mismatch}
 use Rattle.session_meaning.specs.Tree.{Term, Constant, Var, ReadOf, Neg, Bin, Test, LetVar, SetTo, GiveOf, Requires, When, Choice, Loop, Block, Nothing, Then}
 use Rattle.session_meaning.specs.ProgramValue.{ProgramValue}
 use Rattle.session_meaning.specs.Meaning.{alone}
@@ -118,3 +119,52 @@ pub refused_in_the_second_turn : ◌≡◌ {A = ℕ} (length_on
     (program ((118 ∷ []) ∷ []) (Then (LetVar 0 (number 0)) (Then (Loop 3 (Then (LetVar 0 (Bin op.Plus (Var 0) (number 1))) (Then (Requires (compared (Var 0) cmp.Less (number 2)) 9) Nothing))) Nothing))) []) 20
 unfolding length_on
 refused_in_the_second_turn = refl
+
+-- Texts: record 0 holds "no", and record 1 the number 7.
+abbrev pub text : List ℕ → Term
+text t = Constant (Text t)
+
+-- require read x == "no" else 3, set x = read x + "-yes", give read x
+abbrev pub joining : ProgramValue
+joining =
+    program [] (Then (Requires (compared (ReadOf 0) cmp.Equal (text (codes "no"))) 3)
+    (Then (SetTo 0 (Bin op.Plus (ReadOf 0) (text (codes "-yes")))) (Then (GiveOf (ReadOf 0)) Nothing)))
+
+pub joined_texts : alone joining ((0, Text (codes "no")) ∷ []) ≡ record { end = Done; reads = (0, Text (codes "no")) ∷ []; writes = (0, Text (codes "no-yes")) ∷ []; gives = Text (codes "no-yes") ∷ [] }
+unfolding alone
+joined_texts = refl
+
+abbrev pub no_and_seven : List (ℕ × Value)
+no_and_seven = (0, Text (codes "no")) ∷ (1, value (pos 7)) ∷ []
+
+-- set x = read x + read y: two reads, and the operator that ends the session
+abbrev pub mixing : ProgramValue
+mixing = program [] (Then (SetTo 0 (Bin op.Plus (ReadOf 0) (ReadOf 1))) Nothing)
+
+pub mixed_values : alone mixing no_and_seven ≡ record { end = Mismatch; reads = no_and_seven; writes = []; gives = [] }
+unfolding alone
+mixed_values = refl
+
+pub mixed_length : ◌≡◌ {A = ℕ} (length_on mixing no_and_seven) 3
+unfolding length_on
+mixed_length = refl
+
+-- require read x < read y else 3: two reads, and the condition, which ends it
+pub texts_have_no_order : ◌≡◌ {A = ℕ} (length_on (program [] (Then (Requires (compared (ReadOf 0) cmp.Less (ReadOf 1)) 3) Nothing)) no_and_seven) 3
+unfolding length_on
+texts_have_no_order = refl
+
+-- require read x != read y else 3: a number and a text differ, so 4 with `require`, and the end
+pub texts_are_no_numbers : ◌≡◌ {A = ℕ} (length_on (program [] (Then (Requires (compared (ReadOf 0) cmp.NotEqual (ReadOf 1)) 3) Nothing)) no_and_seven) 5
+unfolding length_on
+texts_are_no_numbers = refl
+
+-- give -read x: the read, and the minus
+pub minus_of_a_text : ◌≡◌ {A = ℕ} (length_on (program [] (Then (GiveOf (Neg (ReadOf 0))) Nothing)) no_and_seven) 2
+unfolding length_on
+minus_of_a_text = refl
+
+-- set x = read x + read y, where x has 64 bytes and y one more
+pub joined_past_64 : alone mixing ((0, Text (replicate 64 97)) ∷ (1, Text (98 ∷ [])) ∷ []) ≡ record { end = Overflow; reads = (0, Text (replicate 64 97)) ∷ (1, Text (98 ∷ [])) ∷ []; writes = []; gives = [] }
+unfolding alone
+joined_past_64 = refl

@@ -2,6 +2,8 @@ pub mod Tree
 pub mod ProgramValue
 pub mod Meaning
 pub mod Length
+pub mod Fitting
+pub mod FittingLaws
 pub mod Stepwise
 pub mod Laws
 pub mod refinement

@@ -3,7 +3,7 @@
 -- it takes.
 use Rattle.std.specs.Prelude.{◌≡◌, ℕ, zero, suc, List, [], ◌∷◌, ◌++◌, Bool, true, false, Option, Some, None, Result, Ok, Err, slice_set}
 use Rattle.std.specs.List.{slice_index_or}
-use Rattle.bottle_values.specs.Values.{Value}
+use Rattle.bottle_values.specs.declared.Value.{Value}
 use Rattle.bottle_values.specs.declared.ValueFault.{ValueFault}
 use Rattle.bottle_values.specs.Operations.{nought, opposite}
 use Rattle.session_meaning.specs.declared.node.Operator.{Operator}

@@ -1,6 +1,6 @@
 -- Syntax trees, without where they lie in memory.
 use Rattle.std.specs.Prelude.{ℕ}
-use Rattle.bottle_values.specs.Values.{Value}
+use Rattle.bottle_values.specs.declared.Value.{Value}
 use Rattle.session_meaning.specs.declared.node.Operator.{Operator}
 use Rattle.session_meaning.specs.declared.node.Comparison.{Comparison}
 

@@ -2,6 +2,9 @@ pub mod TreeEncoding
 pub mod PostfixSplit
 pub mod TreeOfStatements
 pub mod RowLaws
+pub mod KeptNode
+pub mod TextBytes
 pub mod ExpressionNodes
+pub mod KeptGives
 pub mod Postfix
 pub mod CopiedSlots

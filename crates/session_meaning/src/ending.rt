@@ -2,6 +2,7 @@
 
 ghost use Rattle.std.specs.Prelude.{◌≡◌, [], ◌∷◌, ◌++◌, OnOk, OnErr, IfOk};
 
+use crate::gives::Gives;
 use bottle_values::{Value, ValueFault};
 use office_map::{OfficeId, RecordId};
 use std::alloc::{AllocError, Global};
@@ -13,7 +14,7 @@ pub enum End {
     Done,
     /// A `require` was false, with this code.
     Refused(u16),
-    /// A result was no i64.
+    /// A result was no i64, or a joined text too long.
     Overflow,
     /// A text stood where only a number can.
     Mismatch,
@@ -41,7 +42,7 @@ pub struct RecordValues {
 
 impl Model for RecordValues {
     ghost use Rattle.std.specs.Prelude.{ℕ, List};
-    ghost use Rattle.bottle_values.specs.Values as bottle;
+    ghost use Rattle.bottle_values.specs.declared.Value as bottle;
 
     ghost Value = { List (ℕ × bottle.Value) };
 
@@ -96,64 +97,6 @@ impl RecordValues {
     {
         Ok(RecordValues {
             records: Vec::from_slice(alloc, &self.records)?,
-        })
-    }
-}
-
-/// The values that a session gave, in order. Contracts see the list.
-#[derive(Drop)]
-pub struct Gives {
-    values: Vec<Value>,
-}
-
-impl Model for Gives {
-    ghost use Rattle.std.specs.Prelude.{List};
-    ghost use Rattle.bottle_values.specs.Values as bottle;
-
-    ghost Value = { List bottle.Value };
-
-    ghost view = { λ g. g.values.items };
-}
-
-impl Gives {
-    /// No value yet.
-    pub fn new(alloc: Global) -> Gives
-        ensures { result ≡ [] }
-    {
-        Gives {
-            values: Vec::new(alloc),
-        }
-    }
-
-    /// These values, in the same memory.
-    pub fn of(values: Vec<Value>) -> Gives
-        ensures { result ≡ values.items }
-    {
-        Gives { values }
-    }
-
-    /// Adds a value at the end. Where memory runs out the list is as it was.
-    pub fn push(&mut self, value: Value) -> Result<(), AllocError>
-        ensures pushed { OnOk result (self.new ≡ self.old ++ value ∷ []) }
-        ensures unchanged { OnErr result (self.new ≡ self.old) }
-    {
-        self.values.push(value)?;
-        Ok(())
-    }
-
-    /// The values, in order.
-    pub fn as_slice(&self) -> &[Value]
-        ensures { result.now ≡ self.now }
-    {
-        self.values.as_slice()
-    }
-
-    /// The same list, in memory of its own.
-    pub fn copy(&self, alloc: Global) -> Result<Gives, AllocError>
-        ensures { IfOk result (λ g. g ≡ self.now) }
-    {
-        Ok(Gives {
-            values: Vec::from_slice(alloc, &self.values)?,
         })
     }
 }

@@ -3,8 +3,9 @@
 ghost use Rattle.std.specs.Prelude.{◌≡◌, IfOk};
 ghost use Rattle.session_meaning.specs.refinement.Postfix.{postfix, tree_of, IsPostfix};
 
-use crate::node::Node;
-use crate::nodes::{KeptNodes, Nodes};
+use crate::kept_nodes::KeptNodes;
+use crate::node_list::NodeList;
+use crate::nodes::Nodes;
 use std::alloc::{AllocError, Global};
 use std::marker::Model;
 
@@ -36,7 +37,7 @@ impl Model for Expression {
 
 impl Expression {
     /// The expression of a list of nodes in postfix order.
-    pub fn of(alloc: Global, nodes: &[Node]) -> Result<Expression, AllocError>
+    pub fn of(alloc: Global, nodes: &NodeList) -> Result<Expression, AllocError>
         requires { IsPostfix nodes.now }
         ensures { IfOk result (λ e. e ≡ tree_of nodes.now) }
     {
@@ -49,6 +50,6 @@ impl Expression {
     pub fn nodes(&self) -> Nodes<'_>
         ensures { result ≡ postfix self.now }
     {
-        Nodes::of(self.kept.as_slice())
+        self.kept.nodes()
     }
 }

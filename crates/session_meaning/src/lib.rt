@@ -19,8 +19,12 @@
 
 mod ending;
 mod expression;
+mod gives;
+mod kept;
+mod kept_nodes;
 pub mod laws;
 mod node;
+mod node_list;
 mod nodes;
 pub mod operands;
 mod slots;
@@ -28,9 +32,11 @@ mod tree;
 mod variables;
 mod working_copy;
 
-pub use crate::ending::{End, Ending, Gives, Outcome, RecordValues};
+pub use crate::ending::{End, Ending, Outcome, RecordValues};
 pub use crate::expression::Expression;
+pub use crate::gives::Gives;
 pub use crate::node::{Comparison, Node, Operator};
+pub use crate::node_list::NodeList;
 pub use crate::nodes::Nodes;
 pub use crate::tree::{Condition, Statement};
 pub use crate::variables::Variables;

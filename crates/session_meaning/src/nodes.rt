@@ -1,89 +1,12 @@
 //! The nodes of an expression, as it keeps them.
 
-ghost use Rattle.std.specs.Prelude.{◌≡◌, ◌∷◌, [], ◌++◌, ◌<◌, ◌≤◌, ◌+◌, ◌^◌, length, map, take, drop, slice_get, Some, IfOk, IfSome, IfNone};
-ghost use Rattle.session_meaning.specs.refinement.ExpressionNodes.{node_of, nodes_in};
+ghost use Rattle.std.specs.Prelude.{◌≡◌, ◌∷◌, [], ◌++◌, ◌<◌, ◌≤◌, ◌+◌, ◌^◌, length, map, take, drop, slice_get, Some, false, IfSome, IfNone};
+ghost use Rattle.session_meaning.specs.refinement.KeptNode.{node_of};
+ghost use Rattle.session_meaning.specs.refinement.TextBytes.{nodes_bytes};
 
-use crate::node::{Node, Operator};
-use bottle_values::Value;
-use office_map::RecordId;
-use std::alloc::{AllocError, Global};
+use crate::kept::Kept;
+use crate::node::Node;
 use std::marker::Model;
-
-/// A node as it is kept: a literal as its number, whatever room a value takes.
-#[derive(Clone, Copy)]
-pub(crate) enum Kept {
-    Number(i64),
-    Variable(u8),
-    Read(RecordId),
-    Negate,
-    Apply(Operator),
-}
-
-impl Kept {
-    fn of(node: Node) -> Kept
-        ensures { node_of result ≡ node }
-    {
-        match node {
-            Node::Literal(value) => Kept::Number(value.number()),
-            Node::Variable(place) => Kept::Variable(place),
-            Node::Read(id) => Kept::Read(id),
-            Node::Negate => Kept::Negate,
-            Node::Apply(operator) => Kept::Apply(operator),
-        }
-    }
-
-    fn node(self) -> Node
-        ensures { result ≡ node_of self }
-    {
-        match self {
-            Kept::Number(number) => Node::Literal(Value::from(number)),
-            Kept::Variable(place) => Node::Variable(place),
-            Kept::Read(id) => Node::Read(id),
-            Kept::Negate => Node::Negate,
-            Kept::Apply(operator) => Node::Apply(operator),
-        }
-    }
-}
-
-/// One node stands in its place, and several in memory of their own.
-///
-/// Most statements of a ledger give, set or let one value: a list for each of them would take and give back memory for
-/// 16 bytes.
-#[derive(Drop)]
-pub(crate) enum KeptNodes {
-    One([Kept; 1]),
-    Several(Vec<Kept>),
-}
-
-impl KeptNodes {
-    pub(crate) fn of(alloc: Global, nodes: &[Node]) -> Result<KeptNodes, AllocError>
-        ensures { IfOk result (λ n. nodes_in n ≡ nodes.now) }
-    {
-        match nodes {
-            [node] => Ok(KeptNodes::One([Kept::of(*node)])),
-            _ => Ok(KeptNodes::Several(several(alloc, nodes)?)),
-        }
-    }
-
-    pub(crate) fn as_slice(&self) -> &[Kept]
-        ensures { map node_of result.now ≡ nodes_in self.now }
-    {
-        match self {
-            KeptNodes::One(node) => node.as_slice(),
-            KeptNodes::Several(nodes) => nodes,
-        }
-    }
-}
-
-fn several(alloc: Global, nodes: &[Node]) -> Result<Vec<Kept>, AllocError>
-    ensures { IfOk result (λ kept. map node_of kept.items ≡ nodes.now) }
-{
-    let mut kept = Vec::with_capacity(alloc, nodes.len())?;
-    for node in nodes {
-        kept.push(Kept::of(*node))?;
-    }
-    Ok(kept)
-}
 
 /// The nodes of an expression, or some of them that follow one another, each operator after its operands. Contracts see
 /// the list.
@@ -92,23 +15,24 @@ fn several(alloc: Global, nodes: &[Node]) -> Result<Vec<Kept>, AllocError>
 #[derive(Drop)]
 pub struct Nodes<'a> {
     kept: &'a [Kept],
+    bytes: &'a [u8],
 }
 
 impl<'a> Model for Nodes<'a> {
     ghost use Rattle.std.specs.Prelude.{List, map};
     ghost use Rattle.session_meaning.specs.declared.node.Node.{Node};
-    ghost use Rattle.session_meaning.specs.refinement.ExpressionNodes.{node_of};
+    ghost use Rattle.session_meaning.specs.refinement.KeptNode.{node_of};
 
     ghost Value = { List Node };
 
-    ghost view = { λ n. map node_of n.kept.now };
+    ghost view = { λ n. map (node_of n.bytes.now) n.kept.now };
 }
 
 impl<'a> Nodes<'a> {
-    pub(crate) fn of(kept: &'a [Kept]) -> Nodes<'a>
-        ensures { result ≡ map node_of kept.now }
+    pub(crate) fn of(kept: &'a [Kept], bytes: &'a [u8]) -> Nodes<'a>
+        ensures { result ≡ map (node_of bytes.now) kept.now }
     {
-        Nodes { kept }
+        Nodes { kept, bytes }
     }
 
     /// How many there are. No memory holds more.
@@ -119,6 +43,13 @@ impl<'a> Nodes<'a> {
         self.kept.len()
     }
 
+    /// Whether a text among them may have bytes.
+    pub fn has_bytes(&self) -> bool
+        ensures { result ≡ false → nodes_bytes self.now ≡ 0 }
+    {
+        self.bytes.len() > 0
+    }
+
     /// The node after so many others.
     pub fn node(&self, i: usize) -> Node
         requires { i < length self.now }
@@ -126,7 +57,7 @@ impl<'a> Nodes<'a> {
         ensures rest { drop i self.now ≡ result ∷ drop (i + 1) self.now }
     {
         let kept = self.kept;
-        kept[i].node()
+        kept[i].node(self.bytes)
     }
 
     /// The last node, and those before it.
@@ -136,7 +67,12 @@ impl<'a> Nodes<'a> {
         ensures none { IfNone result (self.now ≡ []) }
     {
         let (last, before) = self.kept.split_last()?;
-        Some((last.node(), Nodes { kept: before }))
+        let bytes = self.bytes;
+        let before = Nodes {
+            kept: before,
+            bytes,
+        };
+        Some((last.node(bytes), before))
     }
 
     /// The first so many, and the others.
@@ -146,6 +82,7 @@ impl<'a> Nodes<'a> {
         ensures back { result.1 ≡ drop at self.now }
     {
         let (front, back) = self.kept.split_at(at);
-        (Nodes { kept: front }, Nodes { kept: back })
+        let bytes = self.bytes;
+        (Nodes { kept: front, bytes }, Nodes { kept: back, bytes })
     }
 }

@@ -12,7 +12,7 @@ pub struct Variables {
 
 impl Model for Variables {
     ghost use Rattle.std.specs.Prelude.{List};
-    ghost use Rattle.bottle_values.specs.Values as bottle;
+    ghost use Rattle.bottle_values.specs.declared.Value as bottle;
 
     ghost Value = { List bottle.Value };
 

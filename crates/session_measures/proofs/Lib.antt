@@ -3,3 +3,5 @@ mod LengthWithinCost
 mod PostfixNeeds
 mod SortedNeeds
 mod WorkedExamples
+pub mod FittingNodes
+pub mod TextBytes

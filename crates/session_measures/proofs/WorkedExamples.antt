@@ -1,6 +1,6 @@
 -- A worked example of the measures, by computing.
 use Rattle.std.specs.Prelude.{◌≡◌, ℕ, pos, refl}
-use Rattle.bottle_values.specs.Values.{Number}
+use Rattle.bottle_values.specs.declared.Value.TheVariants.{Number}
 use Rattle.session_meaning.specs.declared.node.Operator.TheVariants as op
 use Rattle.session_meaning.specs.declared.node.Comparison.TheVariants as cmp
 use Rattle.session_meaning.specs.Tree.{Term, Constant, Var, Neg, Bin, LetVar, GiveOf, Choice, Loop, Block, Nothing, Then}

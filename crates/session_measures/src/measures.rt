@@ -3,9 +3,11 @@
 ghost use Rattle.std.specs.Prelude.{◌≡◌, ◌≤◌, min, max, ◌+◌, ◌*◌};
 ghost use Rattle.session_meaning.specs.refinement.TreeOfStatements.{test_of, command_of, block_of};
 ghost use Rattle.session_measures.specs.Measures.{nodes, test_nodes, cost, block_cost, gives, block_gives, statements, block_statements};
-ghost use Rattle.session_measures.specs.refinement.Extent.{extent, block_extent};
+ghost use Rattle.session_measures.specs.refinement.Extent.{extent, block_extent, term_extent, test_extent};
+ghost use Rattle.session_meaning.specs.refinement.TextBytes.{nodes_bytes, term_bytes, value_bytes};
 
-use session_meaning::{Condition, Expression, Statement};
+use bottle_values::Value;
+use session_meaning::{Condition, Expression, Node, Nodes, Statement};
 
 /// One past the greatest cost of a session.
 const PAST: u32 = 10_001;
@@ -19,7 +21,7 @@ pub struct Measures {
     pub gives: u32,
     /// How many statements there are.
     pub statements: u32,
-    /// How many nodes and statements there are, which bounds the bytes of their text.
+    /// How many nodes and statements there are, and bytes of texts, which bounds the bytes of their text.
     pub extent: u32,
 }
 
@@ -34,6 +36,62 @@ fn nodes(e: &Expression) -> u32
 {
     let count = e.nodes().len();
     if count < 10_001 { count as u32 } else { PAST }
+}
+
+/// The nodes of an expression, and the bytes of its texts.
+fn extent(e: &Expression) -> u32
+    ensures { result ≡ min 10001 (term_extent e.now) }
+{
+    sum(nodes(e), texts_of(e))
+}
+
+/// The bytes of an expression's texts.
+#[tactic(auto, using(crate::proofs::TextBytes::bytes_are))]
+fn texts_of(e: &Expression) -> u32
+    ensures { result ≡ min 10001 (term_bytes e.now) }
+{
+    texts_bytes(&e.nodes())
+}
+
+/// The bytes of texts among nodes. Where there are none, the nodes aren't looked at.
+fn texts_bytes(nodes: &Nodes<'_>) -> u32
+    ensures { result ≡ min 10001 (nodes_bytes nodes.now) }
+{
+    if nodes.has_bytes() {
+        bytes_of_all(nodes)
+    } else {
+        0
+    }
+}
+
+fn bytes_of_all(nodes: &Nodes<'_>) -> u32
+    ensures { result ≡ min 10001 (nodes_bytes nodes.now) }
+{
+    let mut bytes = 0;
+    for i in 0..nodes.len() {
+        if let Node::Literal(value) = nodes.node(i) {
+            bytes = sum(bytes, value_bytes(value));
+        }
+    }
+    bytes
+}
+
+/// The bytes of a text.
+fn value_bytes(value: Value) -> u32
+    ensures { result ≡ value_bytes value }
+{
+    match value {
+        Value::Number(_) => 0,
+        Value::Text(text) => text.as_bytes().len() as u32,
+    }
+}
+
+fn test_extent(c: &Condition) -> u32
+    ensures { result ≡ min 10001 (test_extent (test_of c.now)) }
+{
+    let left = extent(&c.left);
+    let right = extent(&c.right);
+    sum(sum(1, left), right)
 }
 
 fn test_nodes(c: &Condition) -> u32
@@ -67,20 +125,22 @@ fn measures_of(statement: &Statement) -> Measures
     ensures extent { result.extent ≡ min 10001 (extent (command_of statement.now)) }
 {
     match statement {
-        Statement::Let(_, e) => plain(nodes(e), 0),
-        Statement::Set(_, e) => plain(nodes(e), 0),
-        Statement::Give(e) => plain(nodes(e), 1),
-        Statement::Require(c, _) => plain(test_nodes(c), 0),
+        Statement::Let(_, e) => plain(nodes(e), extent(e), 0),
+        Statement::Set(_, e) => plain(nodes(e), extent(e), 0),
+        Statement::Give(e) => plain(nodes(e), extent(e), 1),
+        Statement::Require(c, _) => plain(test_nodes(c), test_extent(c), 0),
         Statement::If(c, body) => {
             let test = test_nodes(c);
+            let extent = test_extent(c);
             let body = block_measures(body);
-            headed(test, body)
+            headed(test, extent, body)
         }
         Statement::IfElse(c, first, second) => {
             let test = test_nodes(c);
+            let extent = test_extent(c);
             let a = block_measures(first);
             let b = block_measures(second);
-            headed(test, either(a, b))
+            headed(test, extent, either(a, b))
         }
         Statement::Repeat(turns, body) => {
             let body = block_measures(body);
@@ -103,18 +163,18 @@ fn nothing() -> Measures
     }
 }
 
-/// A statement without blocks, of so many nodes and tests, that gives so many values.
-fn plain(size: u32, given: u32) -> Measures
+/// A statement without blocks, of so many nodes and tests and with such an extent, that gives so many values.
+fn plain(size: u32, extent: u32, given: u32) -> Measures
     ensures cost { result.cost ≡ min 10001 (1 + size) }
     ensures gives { result.gives ≡ given }
     ensures statements { result.statements ≡ 1 }
-    ensures extent { result.extent ≡ min 10001 (1 + size) }
+    ensures extent { result.extent ≡ min 10001 (1 + extent) }
 {
     Measures {
         cost: sum(1, size),
         gives: given,
         statements: 1,
-        extent: sum(1, size),
+        extent: sum(1, extent),
     }
 }
 
@@ -148,19 +208,19 @@ fn either(a: Measures, b: Measures) -> Measures
     }
 }
 
-/// A body under a test of so many nodes.
-fn headed(test: u32, body: Measures) -> Measures
+/// A body under a test of so many nodes and with such an extent.
+fn headed(test: u32, extent: u32, body: Measures) -> Measures
     ensures cost { result.cost ≡ min 10001 (1 + test + body.cost) }
     ensures gives { result.gives ≡ body.gives }
     ensures statements { result.statements ≡ min 10001 (1 + body.statements) }
-    ensures extent { result.extent ≡ min 10001 (1 + test + body.extent) }
+    ensures extent { result.extent ≡ min 10001 (1 + extent + body.extent) }
 {
     let head = sum(1, test);
     Measures {
         cost: sum(head, body.cost),
         gives: body.gives,
         statements: sum(1, body.statements),
-        extent: sum(head, body.extent),
+        extent: sum(sum(1, extent), body.extent),
     }
 }
 

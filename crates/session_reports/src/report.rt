@@ -11,7 +11,7 @@ use crate::numbers::add_number;
 use bottle_values::Value;
 use itoa::Buffer;
 use office_map::{Plan, RecordId};
-use session_meaning::{End, Outcome};
+use session_meaning::{End, Gives, Outcome};
 use std::alloc::{AllocError, Global};
 
 /// One line for each outcome, in this order, and then one line for each record, in order of number.
@@ -40,7 +40,7 @@ pub fn add_outcome(text: &mut String, plan: &Plan, outcome: &Outcome) -> Result<
     add_title(text, plan, outcome)?;
     add_records(text, " reads", plan, outcome.ending.reads.as_slice())?;
     add_records(text, " writes", plan, outcome.ending.writes.as_slice())?;
-    add_gives(text, outcome.ending.gives.as_slice())?;
+    add_gives(text, &outcome.ending.gives)?;
     text.push_str("\n")?;
     Ok(())
 }
@@ -93,15 +93,15 @@ fn add_record(text: &mut String, plan: &Plan, id: RecordId, value: Value) -> Res
     add_text(text, value)
 }
 
-fn add_gives(text: &mut String, gives: &[Value]) -> Result<(), AllocError>
+fn add_gives(text: &mut String, gives: &Gives) -> Result<(), AllocError>
     ensures { OnOk result (string_bytes text.new ≡ string_bytes text.old ++ (codes " gives" ++ listed value_text gives.now)) }
 {
     text.push_str(" gives")?;
-    if gives.is_empty() {
+    if gives.len() == 0 {
         return text.push_str(" -");
     }
-    for value in gives {
-        add_given(text, *value)?;
+    for i in 0..gives.len() {
+        add_given(text, gives.get(i))?;
     }
     Ok(())
 }
@@ -116,8 +116,17 @@ fn add_given(text: &mut String, value: Value) -> Result<(), AllocError>
 fn add_text(text: &mut String, value: Value) -> Result<(), AllocError>
     ensures { OnOk result (string_bytes text.new ≡ string_bytes text.old ++ value_text value) }
 {
-    let mut buffer = Buffer::new();
-    text.push_str(buffer.format(value.number()))
+    match value {
+        Value::Number(number) => {
+            let mut buffer = Buffer::new();
+            text.push_str(buffer.format(number))
+        }
+        Value::Text(words) => {
+            text.push_str("\"")?;
+            text.push_str(words.as_str())?;
+            text.push_str("\"")
+        }
+    }
 }
 
 fn add_values(text: &mut String, plan: &Plan, values: &[Value]) -> Result<(), AllocError>

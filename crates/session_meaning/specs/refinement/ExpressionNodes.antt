@@ -1,21 +1,12 @@
 -- The nodes that an expression keeps.
-use Rattle.std.specs.Prelude.{List, map}
-use Rattle.bottle_values.specs.Values as bottle
+use Rattle.std.specs.Prelude.{List, [], map}
 use Rattle.session_meaning.specs.declared.node.Node.{Node}
-use Rattle.session_meaning.specs.declared.node.Node.TheVariants.{Literal, Variable, Read, Negate, Apply}
-use Rattle.session_meaning.specs.declared.nodes.Kept.{Kept}
-use Rattle.session_meaning.specs.declared.nodes.Kept.TheVariants as kept
-use Rattle.session_meaning.specs.declared.nodes.KeptNodes.{KeptNodes}
-use Rattle.session_meaning.specs.declared.nodes.KeptNodes.TheVariants.{One, Several}
+use Rattle.session_meaning.specs.declared.kept_nodes.KeptNodes.{KeptNodes}
+use Rattle.session_meaning.specs.declared.kept_nodes.KeptNodes.TheVariants.{One, Several, Texts}
+use Rattle.session_meaning.specs.refinement.KeptNode.{node_of}
 
--- what a node is that is kept
-abbrev pub node_of : Kept → Node
-node_of (kept.Number z) = Literal (bottle.Number z)
-node_of (kept.Variable place) = Variable place
-node_of (kept.Read r) = Read r
-node_of kept.Negate = Negate
-node_of (kept.Apply o) = Apply o
-
+-- the nodes of an expression, in each of the forms in which it keeps them
 abbrev pub nodes_in : KeptNodes → List Node
-nodes_in (One nodes) = map node_of nodes
-nodes_in (Several nodes) = map node_of nodes.items
+nodes_in (One nodes) = map (node_of []) nodes
+nodes_in (Several nodes) = map (node_of []) nodes.items
+nodes_in (Texts list) = list.value

@@ -1,6 +1,6 @@
 use Rattle.std.proofs.Common.{ℕ, List, ◌∷◌, [], ◌++◌, ap, ◌∙◌, codes}
 use Rattle.std.specs.String.{string_bytes}
-use Rattle.bottle_values.specs.Values.{Value}
+use Rattle.bottle_values.specs.declared.Value.{Value}
 use Rattle.json_reports.specs.Json.{field, json_array, json_object, json_title}
 use Rattle.json_reports.proofs.Added.{five_added}
 use Rattle.json_reports.proofs.report.add_outcome.Goals as goal
@@ -14,5 +14,5 @@ returns c =
     c.in_ok-add_title.ensures
     (c.in_ok-add_object_field.ensures ∙ ap (λ (ws : List (ℕ × Value)). string_bytes c.add_title.new.text ++ field (codes "reads") (json_object p ws)) c.as_slice.ensures)
     (c.in_ok-add_object_field-2.ensures ∙ ap (λ (ws : List (ℕ × Value)). string_bytes c.add_object_field.new.text ++ field (codes "writes") (json_object p ws)) c.as_slice-2.ensures)
-    (c.in_ok-add_gives.ensures ∙ ap (λ (vs : List Value). string_bytes c.add_object_field-2.new.text ++ field (codes "gives") (json_array vs)) c.as_slice-3.ensures)
+    c.in_ok-add_gives.ensures
     c.push_str.ensures.bytes

@@ -45,26 +45,29 @@ block_measures-returns t c =
 
 pub measures_of-returns-in-If : goal.measures_of-returns-in-If
 measures_of-returns-in-If t c =
-    let e : command_of c.args.statement.now ≡ When (test_of c.deref-in-If.result.now) (block_of c.deref-in-If-2.result.now) = search (rules, the_lemmas, row_block_is) in
+    let e : command_of c.args.statement.now ≡ When (test_of c.deref-in-If.result.now) (block_of c.deref-in-If-3.result.now) = search (rules, the_lemmas, row_block_is) in
+    let f : command_of c.args.statement.now ≡ When (test_of c.deref-in-If-2.result.now) (block_of c.deref-in-If-3.result.now) = search (rules, the_lemmas) in
     let body = c.block_measures-body.ensures in
     record {
       cost = rw (e, c.headed.ensures.cost) (head_capped _ _ _ _ c.test_nodes-test.ensures body.cost);
       gives = rw (e, c.headed.ensures.gives) body.gives;
       statements = rw (e, c.headed.ensures.statements) (one_capped _ _ body.statements);
-      extent = rw (e, c.headed.ensures.extent) (head_capped _ _ _ _ c.test_nodes-test.ensures body.extent);
+      extent = rw (f, c.headed.ensures.extent) (head_capped _ _ _ _ c.test_extent-extent.ensures body.extent);
     }
 
 pub measures_of-returns-in-IfElse : goal.measures_of-returns-in-IfElse
 measures_of-returns-in-IfElse t c =
-    let e : command_of c.args.statement.now ≡ Choice (test_of c.deref-in-IfElse.result.now) (block_of c.deref-in-IfElse-2.result.now) (block_of c.deref-in-IfElse-3.result.now) = search (rules, the_lemmas, row_block_is) in
+    let e : command_of c.args.statement.now ≡ Choice (test_of c.deref-in-IfElse.result.now) (block_of c.deref-in-IfElse-3.result.now) (block_of c.deref-in-IfElse-4.result.now) = search (rules, the_lemmas, row_block_is) in
+    let f : command_of c.args.statement.now ≡ Choice (test_of c.deref-in-IfElse-2.result.now) (block_of c.deref-in-IfElse-3.result.now) (block_of c.deref-in-IfElse-4.result.now) = search (rules, the_lemmas) in
     let test = c.test_nodes-test-in-IfElse.ensures in
+    let wide = c.test_extent-extent-in-IfElse.ensures in
     let a = c.block_measures-a.ensures in
     let b = c.block_measures-b.ensures in
     record {
       cost = rw (e, c.headed-in-IfElse.ensures.cost, c.either.ensures.cost) (part_capped _ _ _ _ _ _ test a.cost b.cost);
       gives = rw (e, c.headed-in-IfElse.ensures.gives, c.either.ensures.gives) (larger_capped _ _ _ _ a.gives b.gives);
       statements = rw (e, c.headed-in-IfElse.ensures.statements, c.either.ensures.statements) (both_capped _ _ _ _ a.statements b.statements);
-      extent = rw (e, c.headed-in-IfElse.ensures.extent, c.either.ensures.extent) (parts_capped _ _ _ _ _ _ test a.extent b.extent);
+      extent = rw (f, c.headed-in-IfElse.ensures.extent, c.either.ensures.extent) (parts_capped _ _ _ _ _ _ wide a.extent b.extent);
     }
 
 pub measures_of-returns-in-Repeat : goal.measures_of-returns-in-Repeat

@@ -3,4 +3,4 @@ use Rattle.session_meaning.specs.refinement.Postfix.{postfix}
 use Rattle.session_meaning.proofs.expression.Expression.nodes.Goals as goal
 
 pub returns : goal.returns
-returns c = c.of.ensures ∙ c.as_slice.ensures ∙ sym c.self.invariant ∙ ap postfix c.self.view_is
+returns c = c.nodes.ensures ∙ sym c.self.invariant ∙ ap postfix c.self.view_is

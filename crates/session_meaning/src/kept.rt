@@ -1,0 +1,52 @@
+//! A node as an expression keeps it.
+
+ghost use Rattle.std.specs.Prelude.{◌≡◌};
+ghost use Rattle.session_meaning.specs.refinement.KeptNode.{node_of, text_in};
+
+use crate::node::{Node, Operator};
+use bottle_values::{Text, Value};
+use office_map::RecordId;
+
+/// A node as it is kept: a literal as its number, or as the place and the length of its text among bytes that stand
+/// beside the nodes, whatever room a value takes.
+#[derive(Clone, Copy)]
+pub(crate) enum Kept {
+    Number(i64),
+    Text(u32, u8),
+    Variable(u8),
+    Read(RecordId),
+    Negate,
+    Apply(Operator),
+}
+
+impl Kept {
+    /// What it is, with these bytes beside it.
+    #[inline(always)]
+    pub(crate) fn node(self, bytes: &[u8]) -> Node
+        ensures { result ≡ node_of bytes.now self }
+    {
+        match self {
+            Kept::Number(number) => Node::Literal(Value::Number(number)),
+            Kept::Text(start, len) => {
+                Node::Literal(Value::Text(text_in(bytes, start as usize, len as usize)))
+            }
+            Kept::Variable(place) => Node::Variable(place),
+            Kept::Read(id) => Node::Read(id),
+            Kept::Negate => Node::Negate,
+            Kept::Apply(operator) => Node::Apply(operator),
+        }
+    }
+}
+
+/// The text of so many bytes from a place on. It stands apart, so that a number is told without it.
+#[inline(never)]
+fn text_in(bytes: &[u8], start: usize, len: usize) -> Text
+    ensures { result ≡ text_in bytes.now start len }
+{
+    let rest = bytes.split_at(start.min(bytes.len())).1;
+    let told = rest.split_at(len.min(rest.len())).0;
+    match Text::of(told) {
+        Some(text) => text,
+        None => Text::empty(),
+    }
+}
