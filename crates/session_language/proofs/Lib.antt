@@ -1,4 +1,5 @@
 pub mod Pieces
+pub mod Quotes
 pub mod Places
 pub mod LawProofs
 pub mod canonical
@@ -6,3 +7,4 @@ pub mod expressions
 pub mod session_reading
 pub mod LongestMatch
 pub mod LineGrammar
+pub mod NumberLines

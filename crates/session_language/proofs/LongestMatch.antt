@@ -1,16 +1,18 @@
 -- A line is cut into its longest pieces.
-use Rattle.std.proofs.Common.{◌≡◌, ◌<◌, ◌≤◌, ◌+◌, ℕ, zero, suc, List, [], ◌∷◌, ◌++◌, length, take, drop, Bool, true, false, ◌&&◌, ◌⊎◌, inl, inr, ◌==◌, Option, Some, None, if◌then◌else◌, refl, sym, ap, ◌∙◌, subst, arith}
-use Rattle.std.specs.List.{list_all}
+use Rattle.std.proofs.Common.{◌≡◌, ◌<◌, ◌≤◌, ◌+◌, ℕ, zero, suc, List, [], ◌∷◌, ◌++◌, length, take, drop, Bool, true, false, ◌&&◌, ◌⊎◌, inl, inr, ◌==◌, nat_lt, Option, Some, None, if◌then◌else◌, refl, sym, ap, ◌∙◌, subst, arith, append_assoc, length-append}
+use Rattle.std.specs.List.{list_all, list_any}
 use Rattle.std.proofs.lemmas.Bool.{and_parts}
 use Rattle.std.proofs.lemmas.Bool.Decides.{nat_tests}
 use Rattle.std.proofs.lemmas.List.{append-nil, take-append-drop}
 use Rattle.std.proofs.lemmas.List.Folds.{list_all-append}
 use Rattle.text_lines.specs.Text.{is_blank, is_name_byte}
+use Rattle.bottle_values.specs.Printed.{quoted}
 use Rattle.session_language.specs.declared.lexer.Symbol.{Symbol}
 use Rattle.session_language.specs.declared.lexer.Symbol.TheVariants.{Assign, Equal, NotEqual, Less, AtMost, Greater, AtLeast, Plus, Minus, Times, Open, Close}
-use Rattle.session_language.specs.Lexer.{Piece, AWord, ASymbol, AStray, word_len, one_byte, two_bytes, long_symbol, symbol_or_stray, symbol_at, piece_at, pieces_of}
+use Rattle.session_language.specs.Lexer.{Piece, AWord, ASymbol, AQuoted, AStray, word_len, one_byte, two_bytes, long_symbol, symbol_or_stray, symbol_at, is_quote, quoted_len, quoted_at, piece_at, pieces_of}
 use Rattle.session_language.specs.LongestMatch.{spelling, IsPiece, IsLongest, IsCut, nothing, blank, piece, CutsTheLongest}
-use Rattle.session_language.proofs.Pieces.{pieces_of-nil, pieces_of-blank, pieces_of-piece, piece_shorter}
+use Rattle.session_language.proofs.Pieces.{pieces_of-nil, pieces_of-blank, pieces_of-piece, quoted_by, no_word_by, piece_shorter}
+use Rattle.session_language.proofs.Quotes.{HasNoQuote, no_quote_in, closed, none_to_come, ends_once, has_one}
 
 -- symbols and their spellings
 first_byte : List ℕ → ℕ
@@ -90,6 +92,7 @@ first_of_piece b bs (AWord (x ∷ w)) h =
     let same : b ≡ x = let e = h.0 in (cc) in
     let named : is_name_byte x ≡ true = (and_parts (is_name_byte x) (list_all is_name_byte w) h.2).0 in grind (same, named, arith, nat_tests)
 first_of_piece b bs (ASymbol s) h = ap (λ cs. is_blank (first_byte cs)) h ∙ (spelled s).2
+first_of_piece b bs (AQuoted t) h = let same : b ≡ 34 = let e = h.0 in (cc) in ap is_blank same
 first_of_piece b bs AStray h = let same : b ≡ h.0 = let e = h.1 in (cc) in ap is_blank same ∙ h.2.no_blank
 
 no_bytes : (p : Piece) → IsPiece [] p → ⊥
@@ -97,6 +100,7 @@ unfolding first_byte
 no_bytes (AWord []) h = omega (arith, h.1)
 no_bytes (AWord (x ∷ w)) h = let e = h.0 in absurd (cc)
 no_bytes (ASymbol s) h = let no : true ≡ false = ap (λ cs. is_blank (first_byte cs)) h ∙ (spelled s).2 in absurd (cc)
+no_bytes (AQuoted t) h = let e = h.0 in absurd (cc)
 no_bytes AStray h = let e = h.1 in absurd (cc)
 
 -- more than one byte of which the first is in a word
@@ -104,14 +108,34 @@ longer_word : (b c : ℕ) (bs : List ℕ) (p : Piece) → is_name_byte b ≡ tru
 unfolding first_byte
 longer_word b c bs (AWord w) named h = ap (list_all is_name_byte) h.0 ∙ h.2
 longer_word b c bs (ASymbol s) named h = let no : is_name_byte b ≡ false = ap (λ cs. is_name_byte (first_byte cs)) h ∙ (spelled s).1 in absurd (cc)
+longer_word b c bs (AQuoted t) named h = let same : b ≡ 34 = let e = h.0 in (cc) in let no : is_name_byte b ≡ false = ap is_name_byte same in absurd (cc)
 longer_word b c bs AStray named h = let e = h.1 in absurd (cc)
 
-longer_symbol : (b c : ℕ) (bs : List ℕ) (p : Piece) → is_name_byte b ≡ false → IsPiece (b ∷ c ∷ bs) p → (s : Symbol) × (two_bytes b ≡ Some s) × (c ≡ 61) × (bs ≡ [])
-longer_symbol b c bs (AWord w) named h =
+longer_symbol : (b c : ℕ) (bs : List ℕ) (p : Piece) → is_name_byte b ≡ false → is_quote b ≡ false → IsPiece (b ∷ c ∷ bs) p → (s : Symbol) × (two_bytes b ≡ Some s) × (c ≡ 61) × (bs ≡ [])
+longer_symbol b c bs (AWord w) named no_quote h =
     let all : list_all is_name_byte (b ∷ c ∷ bs) ≡ true = ap (list_all is_name_byte) h.0 ∙ h.2 in
     let is : is_name_byte b ≡ true = (and_parts (is_name_byte b) (list_all is_name_byte (c ∷ bs)) all).0 in absurd (cc)
-longer_symbol b c bs (ASymbol s) named h = let t = two_long s b c bs h in (s, two_symbol s b c bs h, t.0, t.1)
-longer_symbol b c bs AStray named h = let e = h.1 in absurd (cc)
+longer_symbol b c bs (ASymbol s) named no_quote h = let t = two_long s b c bs h in (s, two_symbol s b c bs h, t.0, t.1)
+longer_symbol b c bs (AQuoted t) named no_quote h = let same : b ≡ 34 = let e = h.0 in (cc) in let yes : is_quote b ≡ true = ap is_quote same in absurd (cc)
+longer_symbol b c bs AStray named no_quote h = let e = h.1 in absurd (cc)
+
+-- what begins with a quotation mark and has more bytes ends with the next one
+record IsQuoted (tail : List ℕ) : Type 0 where
+  text : List ℕ
+  split : tail ≡ text ++ 34 ∷ []
+  inside : HasNoQuote text
+
+longer_quoted : (b : ℕ) (tail : List ℕ) (p : Piece) → is_quote b ≡ true → 0 < length tail → IsPiece (b ∷ tail) p → IsQuoted tail
+longer_quoted b [] p is some h = absurd (omega arith)
+longer_quoted b (c ∷ bs) (AWord w) is some h =
+    let all : list_all is_name_byte (b ∷ c ∷ bs) ≡ true = ap (list_all is_name_byte) h.0 ∙ h.2 in
+    let named : is_name_byte b ≡ true = (and_parts (is_name_byte b) (list_all is_name_byte (c ∷ bs)) all).0 in
+    let same : b ≡ 34 = grind (is, arith, nat_tests) in let no : is_name_byte b ≡ false = ap is_name_byte same in absurd (cc)
+longer_quoted b (c ∷ bs) (ASymbol s) is some h =
+    let same : b ≡ 34 = grind (is, arith, nat_tests) in
+    let none : two_bytes b ≡ None = ap two_bytes same in let found : two_bytes b ≡ Some s = two_symbol s b c bs h in absurd (cc)
+longer_quoted b (c ∷ bs) (AQuoted t) is some h = let e = h.0 in record { text = t; split = (cc); inside = no_quote_in t h.1 }
+longer_quoted b (c ∷ bs) AStray is some h = let e = h.1 in absurd (cc)
 
 -- a piece at the front of a line that is the longest there
 record IsAtFront (line : List ℕ) (p : Piece) (rest : List ℕ) : Type 0 where
@@ -170,39 +194,89 @@ word_found b bs named =
     })
 
 -- the longest symbol, or a stray byte
-long_found : (b : ℕ) (bs : List ℕ) (s : Symbol) → is_name_byte b ≡ false → long_symbol b bs ≡ Some s → IsAtFront (b ∷ bs) (ASymbol s) (drop 1 bs)
-long_found b [] s named e = absurd (cc)
-long_found b (c ∷ bs) s named e = by_byte (c == 61) refl e
+long_found : (b : ℕ) (bs : List ℕ) (s : Symbol) → is_name_byte b ≡ false → is_quote b ≡ false → long_symbol b bs ≡ Some s → IsAtFront (b ∷ bs) (ASymbol s) (drop 1 bs)
+long_found b [] s named no_quote e = absurd (cc)
+long_found b (c ∷ bs) s named no_quote e = by_byte (c == 61) refl e
   where
     by_byte : (v : Bool) → (c == 61) ≡ v → (if v then two_bytes b else None) ≡ Some s → IsAtFront (b ∷ c ∷ bs) (ASymbol s) bs
     by_byte true h f = let same : c ≡ 61 = grind (h, arith, nat_tests) in record {
       front = b ∷ c ∷ [];
       split = refl;
       is = ap (λ x. b ∷ x ∷ []) same ∙ two_spelled b s f;
-      longest = λ more after q split is. (longer_symbol b c more q named is).3;
+      longest = λ more after q split is. (longer_symbol b c more q named no_quote is).3;
     }
     by_byte false h f = absurd (cc)
 
-no_longer : (b : ℕ) (bs : List ℕ) → is_name_byte b ≡ false → long_symbol b bs ≡ None → IsLongest (b ∷ []) bs
-no_longer b bs named none [] after q split is = refl
-no_longer b bs named none (c ∷ more) after q split is =
-    let t = longer_symbol b c more q named is in
+no_longer : (b : ℕ) (bs : List ℕ) → is_name_byte b ≡ false → is_quote b ≡ false → long_symbol b bs ≡ None → IsLongest (b ∷ []) bs
+no_longer b bs named no_quote none [] after q split is = refl
+no_longer b bs named no_quote none (c ∷ more) after q split is =
+    let t = longer_symbol b c more q named no_quote is in
     let found : long_symbol b (c ∷ (more ++ after)) ≡ Some t.0 = ap (λ x. long_symbol b (x ∷ (more ++ after))) t.2 ∙ t.1 in
     let same : Some t.0 ≡ None = sym found ∙ ap (long_symbol b) (sym split) ∙ none in absurd (cc)
 
-short_found : (b : ℕ) (bs : List ℕ) → is_blank b ≡ false → is_name_byte b ≡ false → long_symbol b bs ≡ None → IsAtFront (b ∷ bs) (symbol_or_stray (one_byte b)) bs
-short_found b bs no_blank named none = record { front = b ∷ []; split = refl; is = by_symbol (one_byte b) refl; longest = no_longer b bs named none }
+short_found : (b : ℕ) (bs : List ℕ) → is_blank b ≡ false → is_name_byte b ≡ false → is_quote b ≡ false → long_symbol b bs ≡ None → IsAtFront (b ∷ bs) (symbol_or_stray (one_byte b)) bs
+short_found b bs no_blank named no_quote none = record { front = b ∷ []; split = refl; is = by_symbol (one_byte b) refl; longest = no_longer b bs named no_quote none }
   where
     by_symbol : (o : Option Symbol) → one_byte b ≡ o → IsPiece (b ∷ []) (symbol_or_stray o)
     by_symbol (Some s) e = one_spelled b s e
     by_symbol None e = (b, refl, record { no_blank = no_blank; no_word = named; no_symbol = λ s f. let g = one_symbol s b (sym f) in absurd (cc) })
 
-symbol_found : (b : ℕ) (bs : List ℕ) → is_blank b ≡ false → is_name_byte b ≡ false → (o : Option Symbol) → long_symbol b bs ≡ o → IsAtFront (b ∷ bs) (symbol_at o b bs).0 (symbol_at o b bs).1
-symbol_found b bs no_blank named (Some s) e = long_found b bs s named e
-symbol_found b bs no_blank named None e = short_found b bs no_blank named e
+symbol_found : (b : ℕ) (bs : List ℕ) → is_blank b ≡ false → is_name_byte b ≡ false → is_quote b ≡ false → (o : Option Symbol) → long_symbol b bs ≡ o → IsAtFront (b ∷ bs) (symbol_at o b bs).0 (symbol_at o b bs).1
+symbol_found b bs no_blank named no_quote (Some s) e = long_found b bs s named no_quote e
+symbol_found b bs no_blank named no_quote None e = short_found b bs no_blank named no_quote e
+
+quoted_found : (b : ℕ) (bs : List ℕ) → is_blank b ≡ false → is_quote b ≡ true → IsAtFront (b ∷ bs) (quoted_at bs).0 (quoted_at bs).1
+quoted_found b bs no_blank is = by_end (nat_lt (quoted_len bs) (length bs)) refl
+  where
+    same : b ≡ 34
+    same = grind (is, arith, nat_tests)
+
+    by_end : (v : Bool) → nat_lt (quoted_len bs) (length bs) ≡ v → IsAtFront (b ∷ bs) (quoted_by v bs).0 (quoted_by v bs).1
+    by_end true e =
+        let c = closed bs (grind (e, arith, nat_tests)) in
+        let t : List ℕ = take (quoted_len bs) bs in
+        let rest : List ℕ = drop (suc (quoted_len bs)) bs in
+        record {
+          front = b ∷ (t ++ 34 ∷ []);
+          split = ap (λ x. b ∷ x) (c.split ∙ sym (append_assoc t (34 ∷ []) rest));
+          is = (ap (λ x. x ∷ (t ++ 34 ∷ [])) same, c.inside.none);
+          longest = λ more after q split fits.
+              let l = longer_quoted b ((t ++ 34 ∷ []) ++ more) q is (omega (arith, length-append (t ++ 34 ∷ []) more, length-append t (34 ∷ []))) fits in
+              (ends_once t l.text more c.inside l.inside l.split).0;
+        }
+    by_end false e = record {
+      front = b ∷ [];
+      split = refl;
+      is = (
+        b,
+        refl,
+        record {
+          no_blank = no_blank;
+          no_word = ap is_name_byte same;
+          no_symbol = λ s f.
+              let none : one_byte b ≡ None = ap one_byte same in let found = one_symbol s b (sym f) in absurd (cc);
+        },
+      );
+      longest = alone (none_to_come bs (grind (e, arith, nat_tests)));
+    }
+      where
+        alone : HasNoQuote bs → IsLongest (b ∷ []) bs
+        alone none [] after q split fits = refl
+        alone none (c ∷ more) after q split fits =
+            let l = longer_quoted b (c ∷ more) q is (omega arith) fits in
+            let here : bs ≡ (l.text ++ 34 ∷ []) ++ after = split ∙ ap (λ x. x ++ after) l.split in
+            let yes : list_any is_quote bs ≡ true = ap (list_any is_quote) here ∙ has_one l.text after in
+            let no : list_any is_quote bs ≡ false = none.none in absurd (cc)
+
+no_word_found : (b : ℕ) (bs : List ℕ) → is_blank b ≡ false → is_name_byte b ≡ false → IsAtFront (b ∷ bs) (no_word_by (is_quote b) b bs).0 (no_word_by (is_quote b) b bs).1
+no_word_found b bs no_blank named = by_byte (is_quote b) refl
+  where
+    by_byte : (v : Bool) → is_quote b ≡ v → IsAtFront (b ∷ bs) (no_word_by v b bs).0 (no_word_by v b bs).1
+    by_byte true h = quoted_found b bs no_blank h
+    by_byte false h = symbol_found b bs no_blank named h (long_symbol b bs) refl
 
 piece_by : Bool → ℕ → List ℕ → Piece × List ℕ
-piece_by v b bs = if v then (AWord (take (word_len (b ∷ bs)) (b ∷ bs)), drop (word_len (b ∷ bs)) (b ∷ bs)) else symbol_at (long_symbol b bs) b bs
+piece_by v b bs = if v then (AWord (take (word_len (b ∷ bs)) (b ∷ bs)), drop (word_len (b ∷ bs)) (b ∷ bs)) else no_word_by (is_quote b) b bs
 
 piece_found : (b : ℕ) (bs : List ℕ) → is_blank b ≡ false → IsAtFront (b ∷ bs) (piece_at b bs).0 (piece_at b bs).1
 unfolding piece_by
@@ -210,7 +284,7 @@ piece_found b bs no_blank = by_byte (is_name_byte b) refl
   where
     by_byte : (v : Bool) → is_name_byte b ≡ v → IsAtFront (b ∷ bs) (piece_by v b bs).0 (piece_by v b bs).1
     by_byte true h = word_found b bs h
-    by_byte false h = symbol_found b bs no_blank h (long_symbol b bs) refl
+    by_byte false h = no_word_found b bs no_blank h
 
 -- the lexer's pieces are a cut
 cut_at : (b : ℕ) (bs : List ℕ) → is_blank b ≡ false → IsCut (piece_at b bs).1 (pieces_of (piece_at b bs).1) → IsCut (b ∷ bs) (pieces_of (b ∷ bs))
@@ -275,16 +349,48 @@ word_or_stray bs w h g =
     let yes : is_name_byte (first_byte w) ≡ true = named_first w h.1 h.2 in
     let no : is_name_byte (first_byte w) ≡ false = ap (λ x. is_name_byte (first_byte x)) (sym h.0 ∙ g.1) ∙ g.2.no_word in absurd (cc)
 
+word_or_quoted : (bs w t : List ℕ) → IsPiece bs (AWord w) → IsPiece bs (AQuoted t) → ⊥
+unfolding first_byte
+word_or_quoted bs w t h g =
+    let yes : is_name_byte (first_byte w) ≡ true = named_first w h.1 h.2 in
+    let no : is_name_byte (first_byte w) ≡ false = ap (λ x. is_name_byte (first_byte x)) (sym h.0 ∙ g.0) in absurd (cc)
+
+no_symbol_quoted : (t : List ℕ) → symbol_of (quoted t) ≡ None
+unfolding symbol_of
+no_symbol_quoted [] = refl
+no_symbol_quoted (b ∷ t) = refl
+
+symbol_or_quoted : (bs t : List ℕ) (s : Symbol) → IsPiece bs (ASymbol s) → IsPiece bs (AQuoted t) → ⊥
+symbol_or_quoted bs t s h g =
+    let found : Some s ≡ None = sym (spelled s).0 ∙ ap symbol_of (sym h ∙ g.0) ∙ no_symbol_quoted t in absurd (cc)
+
+quoted_or_stray : (bs t : List ℕ) → IsPiece bs (AQuoted t) → IsPiece bs AStray → ⊥
+quoted_or_stray bs [] h g = let e : 34 ∷ 34 ∷ [] ≡ g.0 ∷ [] = sym h.0 ∙ g.1 in absurd (cc)
+quoted_or_stray bs (b ∷ t) h g = let e : 34 ∷ b ∷ (t ++ 34 ∷ []) ≡ g.0 ∷ [] = sym h.0 ∙ g.1 in absurd (cc)
+
+same_quoted : (bs t u : List ℕ) → IsPiece bs (AQuoted t) → IsPiece bs (AQuoted u) → t ≡ u
+same_quoted bs t u h g =
+    let e : quoted t ≡ quoted u = sym h.0 ∙ g.0 in
+    let f : t ++ 34 ∷ [] ≡ u ++ 34 ∷ [] = (cc) in
+    (ends_once t u [] (no_quote_in t h.1) (no_quote_in u g.1) (append-nil (t ++ 34 ∷ []) ∙ f)).1
+
 -- and these bytes are one piece
 one_piece : (bs : List ℕ) (p q : Piece) → IsPiece bs p → IsPiece bs q → p ≡ q
 one_piece bs (AWord v) (AWord w) h g = ap AWord (sym h.0 ∙ g.0)
 one_piece bs (AWord w) (ASymbol s) h g = absurd (word_or_symbol bs w s h g)
+one_piece bs (AWord w) (AQuoted t) h g = absurd (word_or_quoted bs w t h g)
 one_piece bs (AWord w) AStray h g = absurd (word_or_stray bs w h g)
 one_piece bs (ASymbol s) (AWord w) h g = absurd (word_or_symbol bs w s g h)
 one_piece bs (ASymbol s) (ASymbol t) h g =
     let same : Some s ≡ Some t = sym (spelled s).0 ∙ ap symbol_of (sym h ∙ g) ∙ (spelled t).0 in let is : s ≡ t = (cc) in ap ASymbol is
+one_piece bs (ASymbol s) (AQuoted t) h g = absurd (symbol_or_quoted bs t s h g)
+one_piece bs (AQuoted t) (AWord w) h g = absurd (word_or_quoted bs w t g h)
+one_piece bs (AQuoted t) (ASymbol s) h g = absurd (symbol_or_quoted bs t s g h)
+one_piece bs (AQuoted t) (AQuoted u) h g = ap AQuoted (same_quoted bs t u h g)
+one_piece bs (AQuoted t) AStray h g = absurd (quoted_or_stray bs t h g)
 one_piece bs (ASymbol s) AStray h g = absurd (g.2.no_symbol s (sym h ∙ g.1))
 one_piece bs AStray (AWord w) h g = absurd (word_or_stray bs w g h)
+one_piece bs AStray (AQuoted t) h g = absurd (quoted_or_stray bs t g h)
 one_piece bs AStray (ASymbol s) h g = absurd (h.2.no_symbol s (sym g ∙ h.1))
 one_piece bs AStray AStray h g = refl
 

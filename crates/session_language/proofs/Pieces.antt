@@ -1,20 +1,38 @@
 -- A line, one piece after another.
-use Rattle.std.proofs.Common.{◌≡◌, ℕ, zero, suc, ◌+◌, ◌≤◌, List, [], ◌∷◌, length, take, drop, Option, Some, None, Bool, true, false, refl, sym, ap, ◌∙◌, arith, length-drop, if◌then◌else◌}
+use Rattle.std.proofs.Common.{◌≡◌, ℕ, zero, suc, ◌+◌, ◌≤◌, List, [], ◌∷◌, length, take, drop, Option, Some, None, Bool, true, false, nat_lt, refl, sym, ap, ◌∙◌, arith, length-drop, if◌then◌else◌}
 use Rattle.std.specs.List.{prefix_len}
 use Rattle.text_lines.specs.Text.{is_blank, is_name_byte}
 use Rattle.session_language.specs.declared.lexer.Symbol.{Symbol}
-use Rattle.session_language.specs.Lexer.{Piece, AWord, word_len, symbol_at, long_symbol, piece_at, pieces_in, pieces_of}
+use Rattle.session_language.specs.Lexer.{Piece, AWord, AQuoted, AStray, word_len, symbol_at, long_symbol, is_quote, quoted_len, quoted_at, piece_at, pieces_in, pieces_of}
 
 symbol_shorter : (o : Option Symbol) (b : ℕ) (bs : List ℕ) → length (symbol_at o b bs).1 ≤ length bs
 symbol_shorter (Some s) b bs = omega (arith, length-drop 1 bs)
 symbol_shorter None b bs = omega arith
 
-word_or_symbol : (v : Bool) (b : ℕ) (bs : List ℕ) → is_name_byte b ≡ v → length (piece_at b bs).1 ≤ length bs
-word_or_symbol true b bs h = rw h (omega (arith, length-drop (1 + prefix_len is_name_byte bs) (b ∷ bs)))
-word_or_symbol false b bs h = rw h (symbol_shorter (long_symbol b bs) b bs)
+-- what is quoted, or a quotation mark after which there is no other
+abbrev pub quoted_by : Bool → List ℕ → Piece × List ℕ
+quoted_by v bs = if v then (AQuoted (take (quoted_len bs) bs), drop (suc (quoted_len bs)) bs) else (AStray, bs)
+
+quoted_shorter : (bs : List ℕ) → length (quoted_at bs).1 ≤ length bs
+quoted_shorter bs = by_end (nat_lt (quoted_len bs) (length bs))
+  where
+    by_end : (v : Bool) → length (quoted_by v bs).1 ≤ length bs
+    by_end true = omega (arith, length-drop (suc (quoted_len bs)) bs)
+    by_end false = omega arith
+
+abbrev pub no_word_by : Bool → ℕ → List ℕ → Piece × List ℕ
+no_word_by v b bs = if v then quoted_at bs else symbol_at (long_symbol b bs) b bs
+
+no_word_shorter : (v : Bool) (b : ℕ) (bs : List ℕ) → length (no_word_by v b bs).1 ≤ length bs
+no_word_shorter true b bs = quoted_shorter bs
+no_word_shorter false b bs = symbol_shorter (long_symbol b bs) b bs
+
+by_first : (v : Bool) (b : ℕ) (bs : List ℕ) → is_name_byte b ≡ v → length (piece_at b bs).1 ≤ length bs
+by_first true b bs h = rw h (omega (arith, length-drop (1 + prefix_len is_name_byte bs) (b ∷ bs)))
+by_first false b bs h = rw h (no_word_shorter (is_quote b) b bs)
 
 pub piece_shorter : (b : ℕ) (bs : List ℕ) → length (piece_at b bs).1 ≤ length bs
-piece_shorter b bs = word_or_symbol (is_name_byte b) b bs refl
+piece_shorter b bs = by_first (is_name_byte b) b bs refl
 
 -- any fuel that is enough gives the same
 pub enough : (m n : ℕ) (bs : List ℕ) → length bs ≤ m → length bs ≤ n → pieces_in m bs ≡ pieces_in n bs

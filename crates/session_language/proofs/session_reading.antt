@@ -4,5 +4,6 @@ pub mod AddStatement
 pub mod StatementStep
 pub mod ResolveNames
 pub mod LiteralRanges
+pub mod LiteralsFit
 pub mod NamedRecords
 pub mod KeptDrafts

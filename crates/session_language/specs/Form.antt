@@ -2,6 +2,7 @@
 use Rattle.std.specs.Prelude.{ℕ, List, [], ◌∷◌, Option, Some, None, if◌then◌else◌, nat_lt, nat_le, option_map, option_and_then, codes}
 use Rattle.std.specs.Str.{bytes_eq}
 use Rattle.text_lines.specs.Text.{name_of, number_of}
+use Rattle.bottle_values.specs.declared.version.Version.{Version}
 use Rattle.session_meaning.specs.declared.node.Comparison.{Comparison}
 use Rattle.session_meaning.specs.declared.node.Comparison.TheVariants.{Equal, NotEqual, Less, AtMost, Greater, AtLeast}
 use Rattle.session_language.specs.declared.lexer.Symbol.{Symbol}
@@ -59,17 +60,17 @@ abbrev pub ends_there : Phrase × List Piece → Option Phrase
 ends_there (e, []) = Some e
 ends_there (e, p ∷ ps) = None
 
-abbrev pub phrase_alone : List Piece → Option Phrase
-phrase_alone ps = option_and_then ends_there (phrase_at ps)
+abbrev pub phrase_alone : Version → List Piece → Option Phrase
+phrase_alone v ps = option_and_then ends_there (phrase_at v ps)
 
 abbrev pub if_named : Option (List ℕ) → Option Phrase → Option (List ℕ × Phrase)
 if_named (Some name) e = option_map (λ x. (name, x)) e
 if_named None e = None
 
 -- NAME = expression
-abbrev pub assigned : List Piece → Option (List ℕ × Phrase)
-assigned (AWord w ∷ ASymbol symbol.Assign ∷ ps) = if_named (name_of w) (phrase_alone ps)
-assigned ps = None
+abbrev pub assigned : Version → List Piece → Option (List ℕ × Phrase)
+assigned v (AWord w ∷ ASymbol symbol.Assign ∷ ps) = if_named (name_of w) (phrase_alone v ps)
+assigned v ps = None
 
 abbrev pub small_code : Option ℕ → Option ℕ
 small_code None = None
@@ -90,17 +91,17 @@ question left c x = option_map (Asks left c) (ends_there x)
 abbrev pub Last : Type 0
 Last = Phrase → Comparison → Phrase × List Piece → Option Said
 
-abbrev pub compared : Last → Phrase → Option Comparison → List Piece → Option Said
-compared last left None ps = None
-compared last left (Some c) ps = option_and_then (last left c) (phrase_at ps)
+abbrev pub compared : Version → Last → Phrase → Option Comparison → List Piece → Option Said
+compared v last left None ps = None
+compared v last left (Some c) ps = option_and_then (last left c) (phrase_at v ps)
 
-abbrev pub after_left : Last → Phrase × List Piece → Option Said
-after_left last (left, ASymbol s ∷ ps) = compared last left (comparison_of s) ps
-after_left last (left, ps) = None
+abbrev pub after_left : Version → Last → Phrase × List Piece → Option Said
+after_left v last (left, ASymbol s ∷ ps) = compared v last left (comparison_of s) ps
+after_left v last (left, ps) = None
 
 -- expression comparison expression, and what comes last
-abbrev pub condition : Last → List Piece → Option Said
-condition last ps = option_and_then (after_left last) (phrase_at ps)
+abbrev pub condition : Version → Last → List Piece → Option Said
+condition v last ps = option_and_then (after_left v last) (phrase_at v ps)
 
 abbrev pub few_turns : Option ℕ → Option ℕ
 few_turns None = None
@@ -115,35 +116,35 @@ abbrev pub if_empty : Form → List Piece → Option Form
 if_empty f [] = Some f
 if_empty f (p ∷ ps) = None
 
--- what stands after the first word
-abbrev pub said_after : Keyword → List Piece → Option Said
-said_after Let ps = option_map (λ x. Lets x.0 x.1) (assigned ps)
-said_after Set ps = option_map (λ x. Sets x.0 x.1) (assigned ps)
-said_after Give ps = option_map Gives (phrase_alone ps)
-said_after Require ps = condition demand ps
-said_after If ps = condition question ps
-said_after Repeat ps = option_map Repeats (count_alone ps)
-said_after Else ps = None
-said_after Session ps = None
-said_after End ps = None
-said_after Other ps = None
+-- what stands after the first word, in a session under a plan of this version
+abbrev pub said_after : Version → Keyword → List Piece → Option Said
+said_after v Let ps = option_map (λ x. Lets x.0 x.1) (assigned v ps)
+said_after v Set ps = option_map (λ x. Sets x.0 x.1) (assigned v ps)
+said_after v Give ps = option_map Gives (phrase_alone v ps)
+said_after v Require ps = condition v demand ps
+said_after v If ps = condition v question ps
+said_after v Repeat ps = option_map Repeats (count_alone ps)
+said_after v Else ps = None
+said_after v Session ps = None
+said_after v End ps = None
+said_after v Other ps = None
 
-abbrev pub form_after : Keyword → List Piece → Option Form
-form_after Session ps = option_map Opens (name_alone ps)
-form_after End ps = if_empty Closes ps
-form_after Let ps = option_map Says (said_after Let ps)
-form_after Set ps = option_map Says (said_after Set ps)
-form_after Give ps = option_map Says (said_after Give ps)
-form_after Require ps = option_map Says (said_after Require ps)
-form_after If ps = option_map Says (said_after If ps)
-form_after Repeat ps = option_map Says (said_after Repeat ps)
-form_after Else ps = if_empty Otherwise ps
-form_after Other ps = None
+abbrev pub form_after : Version → Keyword → List Piece → Option Form
+form_after v Session ps = option_map Opens (name_alone ps)
+form_after v End ps = if_empty Closes ps
+form_after v Let ps = option_map Says (said_after v Let ps)
+form_after v Set ps = option_map Says (said_after v Set ps)
+form_after v Give ps = option_map Says (said_after v Give ps)
+form_after v Require ps = option_map Says (said_after v Require ps)
+form_after v If ps = option_map Says (said_after v If ps)
+form_after v Repeat ps = option_map Says (said_after v Repeat ps)
+form_after v Else ps = if_empty Otherwise ps
+form_after v Other ps = None
 
 -- the form of a line, if it has one
-abbrev pub form_of : List Piece → Option Form
-form_of (AWord w ∷ ps) = form_after (keyword_of w) ps
-form_of ps = None
+abbrev pub form_of : Version → List Piece → Option Form
+form_of v (AWord w ∷ ps) = form_after v (keyword_of w) ps
+form_of v ps = None
 
 -- a keyword that begins neither the first line of a session, nor `else`, nor `end`
 abbrev pub IsStatement : Keyword → Type 0

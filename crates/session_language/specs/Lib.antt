@@ -14,3 +14,4 @@ pub mod Laws
 pub mod refinement
 pub mod LongestMatch
 pub mod LineGrammar
+pub mod NumberLines

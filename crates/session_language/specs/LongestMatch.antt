@@ -1,10 +1,11 @@
 -- How a line is cut: into its longest pieces, with blanks between them.
 use Rattle.std.specs.Prelude.{◌≡◌, ◌≢◌, ◌<◌, ℕ, List, [], ◌∷◌, ◌++◌, length, true, false, codes}
-use Rattle.std.specs.List.{list_all}
+use Rattle.std.specs.List.{list_all, list_any}
 use Rattle.text_lines.specs.Text.{is_blank, is_name_byte}
+use Rattle.bottle_values.specs.Printed.{quoted}
 use Rattle.session_language.specs.declared.lexer.Symbol.{Symbol}
 use Rattle.session_language.specs.declared.lexer.Symbol.TheVariants.{Assign, Equal, NotEqual, Less, AtMost, Greater, AtLeast, Plus, Minus, Times, Open, Close}
-use Rattle.session_language.specs.Lexer.{Piece, AWord, ASymbol, AStray, pieces_of}
+use Rattle.session_language.specs.Lexer.{Piece, AWord, ASymbol, AQuoted, AStray, is_quote, pieces_of}
 
 abbrev pub spelling : Symbol → List ℕ
 spelling Assign = codes "="
@@ -26,10 +27,12 @@ pub record IsStray (b : ℕ) : Type 0 where
   pub no_word : is_name_byte b ≡ false
   pub no_symbol : (s : Symbol) → spelling s ≢ b ∷ []
 
--- these bytes are this piece: letters, digits and _, or a symbol, or a stray byte
+-- these bytes are this piece: letters, digits and _, or a symbol, or two quotation marks and none between them, or a stray
+-- byte
 abbrev pub IsPiece : List ℕ → Piece → Type 0
 IsPiece bs (AWord w) = (bs ≡ w) × (0 < length w) × (list_all is_name_byte w ≡ true)
 IsPiece bs (ASymbol s) = bs ≡ spelling s
+IsPiece bs (AQuoted t) = (bs ≡ quoted t) × (list_any is_quote t ≡ false)
 IsPiece bs AStray = (b : ℕ) × (bs ≡ b ∷ []) × IsStray b
 
 -- with more of the bytes that follow it, it would be no piece

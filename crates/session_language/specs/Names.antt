@@ -3,15 +3,10 @@ use Rattle.std.specs.Prelude.{ℕ, pos, List, Option, Some, None, Bool, true, is
 use Rattle.std.specs.List.{list_all}
 use Rattle.std.specs.Str.{bytes_eq}
 use Rattle.office_map.specs.PlanValue.{PlanValue, record_named, is_end}
-use Rattle.bottle_values.specs.Values.{Number}
-use Rattle.session_meaning.specs.declared.node.Node.{Node}
-use Rattle.session_meaning.specs.declared.node.Node.TheVariants.{Literal, Variable, Read}
-use Rattle.session_language.specs.declared.builder.Element.{Element}
-use Rattle.session_language.specs.declared.builder.Element.TheVariants as element
+use Rattle.bottle_values.specs.declared.Value.TheVariants.{Number, Text}
 use Rattle.session_language.specs.declared.scope.Scope as code
-use Rattle.session_language.specs.declared.names.Placed.{Placed}
 use Rattle.session_meaning.specs.Tree.{Term, Constant, Var, ReadOf, Neg, Bin}
-use Rattle.session_language.specs.Spelling.{Operand, ANumber, AVariable, ARecord, Spelled, Plain, Negative, Binary, Token, Leaf, Plus, Minus, Times, Open, Close}
+use Rattle.session_language.specs.Spelling.{Operand, ANumber, AText, AVariable, ARecord, Spelled, Plain, Negative, Binary, Token, Leaf, Plus, Minus, Times, Open, Close}
 
 -- the plan, the session's office, and the variables that earlier lines name
 pub record Scope : Type 0 where
@@ -35,22 +30,20 @@ record_of s name = if_of_office s (record_named s.plan name)
 
 abbrev pub knows_variable : Scope → Operand → Bool
 knows_variable s (ANumber n) = true
+knows_variable s (AText t) = true
 knows_variable s (AVariable name) = is_some (variable_named s name)
 knows_variable s (ARecord name) = true
 
 abbrev pub knows_record : Scope → Operand → Bool
 knows_record s (ANumber n) = true
+knows_record s (AText t) = true
 knows_record s (AVariable name) = true
 knows_record s (ARecord name) = is_some (record_of s name)
 
 -- an unknown name is at place 0
-abbrev pub node_of : Scope → Operand → Node
-node_of s (ANumber n) = Literal (Number (pos n))
-node_of s (AVariable name) = Variable (unwrap_or (variable_named s name) 0)
-node_of s (ARecord name) = Read (unwrap_or (record_of s name) 0)
-
 abbrev pub operand_of : Scope → Operand → Term
 operand_of s (ANumber n) = Constant (Number (pos n))
+operand_of s (AText t) = Constant (Text t)
 operand_of s (AVariable name) = Var (unwrap_or (variable_named s name) 0)
 operand_of s (ARecord name) = ReadOf (unwrap_or (record_of s name) 0)
 
@@ -59,14 +52,6 @@ abbrev pub placed : Scope → Spelled → Term
 placed s (Plain x) = operand_of s x
 placed s (Negative e) = Neg (placed s e)
 placed s (Binary o a b) = Bin o (placed s a) (placed s b)
-
-abbrev pub element_of : Scope → Token → Element
-element_of s (Leaf x) = element.Operand (node_of s x)
-element_of s Plus = element.Plus
-element_of s Minus = element.Minus
-element_of s Times = element.Times
-element_of s Open = element.Open
-element_of s Close = element.Close
 
 -- what is so of a token's operand; of a token without one it is so
 abbrev pub of_operand : (Operand → Bool) → Token → Bool
@@ -88,7 +73,3 @@ knows_variables s = list_all (token_variable s)
 
 abbrev pub knows_records : Scope → List Token → Bool
 knows_records s = list_all (token_record s)
-
--- all that the code keeps of a token
-abbrev pub placed_of : Scope → Token → Placed
-placed_of s t = record { element = element_of s t; knows_variable = token_variable s t; knows_record = token_record s t }

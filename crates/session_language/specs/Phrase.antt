@@ -2,6 +2,9 @@
 use Rattle.std.specs.Prelude.{◌≡◌, ◌<◌, ◌≤◌, ℕ, min, List, [], ◌∷◌, Bool, true, false, Option, Some, None, if◌then◌else◌, option_map, codes}
 use Rattle.std.specs.Str.{bytes_eq}
 use Rattle.text_lines.specs.Text.{name_of, number_of}
+use Rattle.bottle_values.specs.Texts.{is_text}
+use Rattle.bottle_values.specs.declared.version.Version.{Version}
+use Rattle.bottle_values.specs.declared.version.Version.TheVariants.{One, Two}
 use Rattle.session_language.specs.declared.lexer.Symbol.{Symbol}
 use Rattle.session_language.specs.declared.lexer.Symbol.TheVariants as symbol
 use Rattle.session_language.specs.declared.lexer.Piece as code_piece
@@ -13,9 +16,9 @@ use Rattle.session_language.specs.declared.token.Next.{Next}
 use Rattle.session_language.specs.declared.token.Next.TheVariants as nexts
 use Rattle.session_meaning.specs.declared.node.Node.{Node}
 use Rattle.session_language.specs.declared.summary.Summary.{Summary}
-use Rattle.session_language.specs.Lexer.{Piece, AWord, ASymbol, AStray, seen}
+use Rattle.session_language.specs.Lexer.{Piece, AWord, ASymbol, AQuoted, AStray, seen}
 use Rattle.session_meaning.specs.refinement.Postfix.{postfix}
-use Rattle.session_language.specs.Spelling.{Operand, ANumber, AVariable, ARecord, Spelled, Token, Leaf, Plus, Minus, Times, Open, Close}
+use Rattle.session_language.specs.Spelling.{Operand, ANumber, AText, AVariable, ARecord, Spelled, Token, Leaf, Plus, Minus, Times, Open, Close}
 use Rattle.session_language.specs.Parse.{Part, read_part}
 use Rattle.session_language.specs.Names.{Scope, placed, knows_variables, knows_records}
 
@@ -40,6 +43,11 @@ or_variable None name = option_map AVariable name
 -- a number or a variable's name
 abbrev pub operand_in : List ℕ → Option Operand
 operand_in word = or_variable (number_of word) (name_of word)
+
+-- A text, where a plan of this version has texts, by what stands between two quotation marks.
+abbrev pub text_in : Version → List ℕ → Option Operand
+text_in One bytes = None
+text_in Two bytes = if is_text bytes then Some (AText bytes) else None
 
 -- the tokens at the front of a line, and the pieces after them
 pub record Run : Type 0 where
@@ -68,15 +76,17 @@ abbrev pub is_read : List ℕ → Bool
 is_read word = bytes_eq word (codes "read")
 
 -- the flag says that the last word was `read`, after which a record's name must stand
-abbrev pub run : Bool → List Piece → Option Run
-run false [] = stop_at []
-run true [] = None
-run false (AWord w ∷ ps) = if is_read w then run true ps else with_operand (operand_in w) (AWord w ∷ ps) (run false ps)
-run true (AWord w ∷ ps) = with_record (name_of w) (run false ps)
-run false (ASymbol s ∷ ps) = with_symbol (expression_symbol s) (ASymbol s ∷ ps) (run false ps)
-run true (ASymbol s ∷ ps) = None
-run false (AStray ∷ ps) = stop_at (AStray ∷ ps)
-run true (AStray ∷ ps) = None
+abbrev pub run : Version → Bool → List Piece → Option Run
+run v false [] = stop_at []
+run v true [] = None
+run v false (AWord w ∷ ps) = if is_read w then run v true ps else with_operand (operand_in w) (AWord w ∷ ps) (run v false ps)
+run v true (AWord w ∷ ps) = with_record (name_of w) (run v false ps)
+run v false (ASymbol s ∷ ps) = with_symbol (expression_symbol s) (ASymbol s ∷ ps) (run v false ps)
+run v true (ASymbol s ∷ ps) = None
+run v false (AQuoted bytes ∷ ps) = with_operand (text_in v bytes) (AQuoted bytes ∷ ps) (run v false ps)
+run v true (AQuoted bytes ∷ ps) = None
+run v false (AStray ∷ ps) = stop_at (AStray ∷ ps)
+run v true (AStray ∷ ps) = None
 
 -- an expression: its tokens, the tree that they spell, and how deep it is
 pub record Phrase : Type 0 where
@@ -92,8 +102,8 @@ phrase_in None = None
 phrase_in (Some r) = phrase_of r.tokens r.rest (read_part r.tokens)
 
 -- the expression at the front of a line, and the pieces after it
-unfoldable pub phrase_at : List Piece → Option (Phrase × List Piece)
-phrase_at ps = phrase_in (run false ps)
+unfoldable pub phrase_at : Version → List Piece → Option (Phrase × List Piece)
+phrase_at v ps = phrase_in (run v false ps)
 
 -- the code's tokens
 abbrev pub leaf_of : code_operand.Operand → Operand
@@ -115,10 +125,11 @@ stopped None ps = []
 stopped (Some p) ps = seen p ∷ ps
 
 -- what comes next in a run, and what follows it
-abbrev pub Tells : Next → Option Run → List Piece → Type 0
-Tells (nexts.Token t) r ps = r ≡ with_token (token_of t) (run false ps)
-Tells (nexts.Stop p) r ps = r ≡ stop_at (stopped p ps)
-Tells nexts.Wrong r ps = r ≡ None
+abbrev pub Tells : Version → Next → Option Run → List Piece → Type 0
+Tells v (nexts.Token t) r ps = r ≡ with_token (token_of t) (run v false ps)
+Tells v (nexts.Text bytes) r ps = (r ≡ with_token (Leaf (AText bytes.now)) (run v false ps)) × (is_text bytes.now ≡ true)
+Tells v (nexts.Stop p) r ps = r ≡ stop_at (stopped p ps)
+Tells v nexts.Wrong r ps = r ≡ None
 
 -- what the code keeps of an expression besides its nodes
 abbrev pub summary_of : Scope → Phrase → Summary
@@ -134,5 +145,6 @@ Reads (Some (x, p)) s nodes read ps = (e : Phrase) × (read ≡ Some (e, stopped
 -- a token takes a byte at least
 abbrev pub IsShorter : Next → ℕ → ℕ → Type 0
 IsShorter (nexts.Token t) old new = new < old
+IsShorter (nexts.Text bytes) old new = new < old
 IsShorter (nexts.Stop p) old new = new ≤ old
 IsShorter nexts.Wrong old new = new ≤ old

@@ -257,11 +257,11 @@ take_formed p x form = ok_or form Syntax >>= take_form p x
 
 -- what a line leaves of what was read before it, or why it is refused
 abbrev pub take_line : PlanValue → Reading → List ℕ → Result Reading SessionRule
-take_line p x line = take_formed p x (form_of (pieces_of line))
+take_line p x line = take_formed p x (form_of p.version (pieces_of line))
 
 -- what stands after the first word of a line
 abbrev pub take_after : PlanValue → Reading → Keyword → List Piece → Result Reading SessionRule
-take_after p x k ps = take_formed p x (form_after k ps)
+take_after p x k ps = take_formed p x (form_after p.version k ps)
 
 abbrev pub at_line : {A : Type 0} → ℕ → Result A SessionRule → Result A SessionRefusal
 at_line n (Ok x) = Ok x

@@ -4,6 +4,7 @@ use Rattle.session_meaning.specs.declared.node.Operator.{Operator}
 
 pub data Operand : Type 0 where
   ANumber : (n : ℕ) → Operand
+  AText : (bytes : List ℕ) → Operand
   AVariable : (name : List ℕ) → Operand
   -- `read` and a record's name
   ARecord : (name : List ℕ) → Operand

@@ -1,26 +1,32 @@
 //! An expression in postfix order, built from the tokens of a line in one pass.
 
-ghost use Rattle.std.specs.Prelude.{◌≡◌, ◌+◌, ◌<◌, ◌≤◌, ◌^◌, ◌++◌, ◌∷◌, ◌&&◌, [], IfOk, OnOk, min, max, suc, length, option_map, replicate, if◌then◌else◌, Some};
+ghost use Rattle.std.specs.Prelude.{◌≡◌, ◌+◌, ◌<◌, ◌≤◌, ◌^◌, ◌++◌, ◌∷◌, ◌&&◌, [], IfOk, OnOk, min, max, suc, length, option_map, replicate, if◌then◌else◌, Some, None, true};
 ghost use Rattle.session_language.specs.refinement.PostfixBuilder.{build_of, fresh_build, ended, emit, emit_wanting, emit_having, after_sign, joined_depth, sum_depth, sum_end, completed, HasRoom};
+ghost use Rattle.session_language.specs.refinement.PlacedTokens.{Operand, seen_element};
+ghost use Rattle.session_meaning.specs.declared.node.Node.TheVariants.{Literal};
+ghost use Rattle.bottle_values.specs.declared.Value.TheVariants as values;
+ghost use Rattle.bottle_values.specs.Texts.{is_text};
 ghost use Rattle.session_meaning.specs.refinement.Postfix.{IsPostfix, tree_of};
 ghost use Rattle.session_language.specs.Limits.{past_depth};
 ghost use Rattle.session_language.specs.Lexer.{pieces_of};
 ghost use Rattle.session_language.specs.Names.{scope_of};
 ghost use Rattle.session_language.specs.Phrase.{phrase_at, Reads};
 
+use crate::leaf::Leaf;
 use crate::lexer::{Piece, Pieces};
 use crate::limits::PAST_DEPTH;
 use crate::scope::Scope;
 use crate::summary::Summary;
 use crate::token::Next;
-use session_meaning::{Expression, Node, Operator};
+use bottle_values::{Text, Value};
+use session_meaning::{Expression, Node, NodeList, Operator};
 use std::alloc::{AllocError, Global};
 use text_lines::Guesses;
 
 /// A token whose names are known.
 #[derive(Clone, Copy)]
 pub enum Element {
-    Operand(Node),
+    Operand(Leaf),
     Plus,
     Minus,
     Times,
@@ -62,7 +68,7 @@ pub enum Stage {
 pub struct Builder {
     pub outer: Vec<Level>,
     pub stage: Stage,
-    pub nodes: Vec<Node>,
+    pub nodes: NodeList,
     pub guesses: Guesses,
 }
 
@@ -75,7 +81,7 @@ impl Builder {
         pieces: &mut Pieces<'a>,
     ) -> Result<Option<(Summary, Option<Piece<'a>>)>, AllocError>
         requires { length scope.now.variables.now ≤ 255 }
-        ensures gives { IfOk result (λ o. Reads o (scope_of scope.now) self.new.nodes.items (phrase_at (pieces_of pieces.old.rest.now)) (pieces_of pieces.new.rest.now)) }
+        ensures gives { IfOk result (λ o. Reads o (scope_of scope.now) self.new.nodes (phrase_at (scope_of scope.now).plan.version (pieces_of pieces.old.rest.now)) (pieces_of pieces.new.rest.now)) }
         ensures within { length pieces.new.rest.now ≤ length pieces.old.rest.now }
     {
         self.clear();
@@ -83,8 +89,14 @@ impl Builder {
         let mut knows_variables = true;
         let mut knows_records = true;
         loop {
-            let token = match pieces.next_token() {
+            let token = match pieces.next_token(scope.plan.version()) {
                 Next::Token(token) => token,
+                Next::Text(bytes) => {
+                    if !self.take_text(bytes)? {
+                        return Ok(None);
+                    }
+                    continue;
+                }
                 Next::Stop(stop) => {
                     let Some(depth) = self.finish()? else {
                         return Ok(None);
@@ -117,7 +129,7 @@ impl Builder {
 
     /// The expression ends: how deep it is. None where it may not end.
     fn finish(&mut self) -> Result<Option<u8>, AllocError>
-        ensures { IfOk result (λ o. ended (build_of self.old) ≡ option_map (λ d. (d, self.new.nodes.items)) o) }
+        ensures { IfOk result (λ o. ended (build_of self.old) ≡ option_map (λ d. (d, self.new.nodes)) o) }
     {
         let Stage::Has(sum, depth) = self.stage else {
             return Ok(None);
@@ -131,8 +143,8 @@ impl Builder {
 
     /// What was read last, in memory of its own.
     pub fn expression(&self, alloc: Global) -> Result<Expression, AllocError>
-        requires { IsPostfix self.now.nodes.items }
-        ensures { IfOk result (λ e. e ≡ tree_of self.now.nodes.items) }
+        requires { IsPostfix self.now.nodes }
+        ensures { IfOk result (λ e. e ≡ tree_of self.now.nodes) }
     {
         Expression::of(alloc, &self.nodes)
     }
@@ -140,7 +152,7 @@ impl Builder {
     /// Takes one token. False where the grammar has no such token there.
     fn take(&mut self, element: Element) -> Result<bool, AllocError>
         requires { HasRoom self.old.stage }
-        ensures { IfOk result (λ ok. emit (build_of self.old) element ≡ (if ok then Some (build_of self.new) else None)) }
+        ensures { IfOk result (λ ok. emit (build_of self.old) (seen_element element) ≡ (if ok then Some (build_of self.new) else None)) }
     {
         match self.stage {
             Stage::Wants(level) => self.take_wanting(level, element),
@@ -148,13 +160,28 @@ impl Builder {
         }
     }
 
+    /// Takes a text. False where the grammar has no operand there.
+    #[inline(never)]
+    fn take_text(&mut self, bytes: &[u8]) -> Result<bool, AllocError>
+        requires { is_text bytes.now ≡ true }
+        ensures { IfOk result (λ ok. emit (build_of self.old) (Operand (Literal (values.Text bytes.now))) ≡ (if ok then Some (build_of self.new) else None)) }
+    {
+        let Stage::Wants(level) = self.stage else {
+            return Ok(false);
+        };
+        let text = kept_text(bytes);
+        self.nodes.push(Node::Literal(Value::Text(text)))?;
+        self.complete(level, 1)?;
+        Ok(true)
+    }
+
     fn take_wanting(&mut self, level: Level, element: Element) -> Result<bool, AllocError>
         requires { level.minuses + 1 < 2 ^ 64 }
-        ensures { IfOk result (λ ok. emit_wanting (build_of self.old).outer level (build_of self.old).nodes element ≡ (if ok then Some (build_of self.new) else None)) }
+        ensures { IfOk result (λ ok. emit_wanting (build_of self.old).outer level (build_of self.old).nodes (seen_element element) ≡ (if ok then Some (build_of self.new) else None)) }
     {
         match element {
-            Element::Operand(node) => {
-                self.nodes.push(node)?;
+            Element::Operand(leaf) => {
+                self.nodes.push(leaf.node())?;
                 self.complete(level, 1)?;
                 Ok(true)
             }
@@ -172,7 +199,7 @@ impl Builder {
     }
 
     fn take_having(&mut self, sum: Sum, depth: u8, element: Element) -> Result<bool, AllocError>
-        ensures { IfOk result (λ ok. emit_having (build_of self.old).outer sum depth (build_of self.old).nodes element ≡ (if ok then Some (build_of self.new) else None)) }
+        ensures { IfOk result (λ ok. emit_having (build_of self.old).outer sum depth (build_of self.old).nodes (seen_element element) ≡ (if ok then Some (build_of self.new) else None)) }
     {
         match element {
             Element::Plus => {
@@ -220,6 +247,17 @@ impl Builder {
             }
         }
         Ok(())
+    }
+}
+
+/// These bytes as a text.
+fn kept_text(bytes: &[u8]) -> Text
+    requires { is_text bytes.now ≡ true }
+    ensures { result ≡ bytes.now }
+{
+    match Text::of(bytes) {
+        Some(text) => text,
+        None => Text::empty(),
     }
 }
 
@@ -279,8 +317,8 @@ fn sum_depth(sum: Sum, depth: u8) -> u8
     }
 }
 
-fn push_negations(nodes: &mut Vec<Node>, count: usize) -> Result<(), AllocError>
-    ensures { OnOk result (nodes.new.items ≡ nodes.old.items ++ replicate count Node.Negate) }
+fn push_negations(nodes: &mut NodeList, count: usize) -> Result<(), AllocError>
+    ensures { OnOk result (nodes.new ≡ nodes.old ++ replicate count Node.Negate) }
 {
     for _ in 0..count {
         nodes.push(Node::Negate)?;
@@ -289,8 +327,8 @@ fn push_negations(nodes: &mut Vec<Node>, count: usize) -> Result<(), AllocError>
 }
 
 /// Writes the operator of a sum whose right operand is complete.
-fn push_sum(nodes: &mut Vec<Node>, sum: Sum) -> Result<(), AllocError>
-    ensures { OnOk result (nodes.new.items ≡ nodes.old.items ++ sum_end sum) }
+fn push_sum(nodes: &mut NodeList, sum: Sum) -> Result<(), AllocError>
+    ensures { OnOk result (nodes.new ≡ nodes.old ++ sum_end sum) }
 {
     match sum {
         Sum::Nothing => {}

@@ -5,6 +5,7 @@ ghost use Rattle.session_programs.specs.Program.{fits, text_under};
 ghost use Rattle.session_language.specs.Reading.{sessions_of};
 ghost use Rattle.session_language.specs.LongestMatch.{CutsTheLongest};
 ghost use Rattle.session_language.specs.LineGrammar.{ReadsTheForms};
+ghost use Rattle.session_language.specs.NumberLines.{NumbersMeanTheSame};
 ghost use Rattle.session_language.specs.Laws.{ReadsInOrder, RefusesALine, ReadsTheGrammar, IsUnambiguous};
 
 use office_map::Plan;
@@ -24,6 +25,11 @@ pub fn refuses_a_line()
 /// A line is cut into its longest pieces.
 pub fn cuts_the_longest()
     ensures { CutsTheLongest }
+{}
+
+/// A line under a plan of version 1 is read as one of numbers alone, in every word and fault.
+pub fn numbers_mean_the_same()
+    ensures { NumbersMeanTheSame }
 {}
 
 /// Lines are read by the grammar.

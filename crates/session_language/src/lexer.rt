@@ -1,12 +1,13 @@
-//! Words and symbols of a line.
+//! Words, symbols and texts of a line.
 
 ghost use Rattle.std.specs.Prelude.{◌≡◌, ◌∷◌, [], ◌≤◌, ◌<◌, length, MatchOption, OnSome, false, true};
 ghost use Rattle.text_lines.specs.Text.{is_name_byte};
-ghost use Rattle.session_language.specs.Lexer.{seen, Begins, one_byte, two_bytes, long_symbol, piece_at, pieces_of, word_len, begins_equals, AWord};
+ghost use Rattle.session_language.specs.Lexer.{seen, Begins, one_byte, two_bytes, long_symbol, quoted_at, piece_at, pieces_of, word_len, begins_equals, is_quote, AWord, AQuoted};
 ghost use Rattle.session_language.specs.Phrase.{run, Tells, IsShorter};
 
-use crate::token::{Next, Operand, Token, expression_symbol, is_read, operand_in};
-use text_lines::short_name;
+use crate::token::{Next, Operand, Token, expression_symbol, is_read, is_text_in, operand_in};
+use bottle_values::Version;
+use text_lines::{place_of, short_name};
 
 /// A symbol of the language.
 #[derive(Clone, Copy, PartialEq, Eq)]
@@ -25,14 +26,16 @@ pub enum Symbol {
     Close,
 }
 
-/// A run of letters, digits and `_`, a symbol, or a byte that begins neither.
+/// A run of letters, digits and `_`, a symbol, what stands between two quotation marks, or a byte that begins none of these.
 ///
-/// A byte that begins neither is a piece too (`AStray`), and no form has one. So the lexer is total, and a faulty line
-/// needs no case of its own.
+/// A byte that begins none is a piece too (`AStray`), as a quotation mark after which there is no other, and no form has one.
+/// So the lexer is total, and a faulty line needs no case of its own. Whether a text may be what is quoted, and stand there,
+/// the reader of expressions looks at.
 #[derive(Clone, Copy)]
 pub enum Piece<'a> {
     Word(&'a [u8]),
     Symbol(Symbol),
+    Quoted(&'a [u8]),
     Stray,
 }
 
@@ -64,6 +67,11 @@ impl<'a> Pieces<'a> {
                     self.rest = after;
                     return Some(Piece::Symbol(symbol));
                 }
+                Start::Quote => {
+                    let (piece, rest) = quoted_piece(after);
+                    self.rest = rest;
+                    return Some(piece);
+                }
                 Start::Other => {
                     let (piece, rest) = other_piece(*first, after);
                     self.rest = rest;
@@ -74,14 +82,21 @@ impl<'a> Pieces<'a> {
         None
     }
 
-    /// The next token of an expression, or where it stops.
-    pub(crate) fn next_token(&mut self) -> Next<'a>
-        ensures gives { Tells result (run false (pieces_of self.old.rest.now)) (pieces_of self.new.rest.now) }
+    /// The next token of an expression of a session under a plan of this version, or where it stops.
+    pub(crate) fn next_token(&mut self, version: Version) -> Next<'a>
+        ensures gives { Tells version result (run version false (pieces_of self.old.rest.now)) (pieces_of self.new.rest.now) }
         ensures shorter { IsShorter result (length self.old.rest.now) (length self.new.rest.now) }
     {
         match self.next() {
             None => Next::Stop(None),
             Some(Piece::Word(word)) => self.after_word(word),
+            Some(Piece::Quoted(bytes)) => {
+                if is_text_in(version, bytes) {
+                    Next::Text(bytes)
+                } else {
+                    Next::Stop(Some(Piece::Quoted(bytes)))
+                }
+            }
             Some(Piece::Symbol(symbol)) => match expression_symbol(symbol) {
                 Some(token) => Next::Token(token),
                 None => Next::Stop(Some(Piece::Symbol(symbol))),
@@ -92,7 +107,7 @@ impl<'a> Pieces<'a> {
 
     /// The token that a word begins.
     fn after_word(&mut self, word: &'a [u8]) -> Next<'a>
-        ensures gives { Tells result (run false (AWord word.entry.now ∷ pieces_of self.old.rest.now)) (pieces_of self.new.rest.now) }
+        ensures gives { (v : Version) → Tells v result (run v false (AWord word.entry.now ∷ pieces_of self.old.rest.now)) (pieces_of self.new.rest.now) }
         ensures shorter { length self.new.rest.now ≤ length self.old.rest.now }
     {
         if is_read(word) {
@@ -106,7 +121,7 @@ impl<'a> Pieces<'a> {
 
     /// The record whose name must come after `read`.
     fn after_read(&mut self) -> Next<'a>
-        ensures gives { Tells result (run true (pieces_of self.old.rest.now)) (pieces_of self.new.rest.now) }
+        ensures gives { (v : Version) → Tells v result (run v true (pieces_of self.old.rest.now)) (pieces_of self.new.rest.now) }
         ensures shorter { length self.new.rest.now ≤ length self.old.rest.now }
     {
         let Some(Piece::Word(word)) = self.next() else {
@@ -126,6 +141,7 @@ enum Start {
     Word,
     /// A symbol of one byte, whatever comes after it.
     Sign(Symbol),
+    Quote,
     Other,
 }
 
@@ -140,14 +156,31 @@ fn start_of(b: u8) -> Start
         b'*' => Start::Sign(Symbol::Times),
         b'(' => Start::Sign(Symbol::Open),
         b')' => Start::Sign(Symbol::Close),
+        b'"' => Start::Quote,
         _ => Start::Other,
     }
 }
 
-/// The piece that begins with a byte of no word.
+/// The piece that begins with a quotation mark.
+#[inline(never)]
+fn quoted_piece<'a>(after: &'a [u8]) -> (Piece<'a>, &'a [u8])
+    ensures gives { (seen result.0, result.1.now) ≡ quoted_at after.now }
+    ensures shorter { length result.1.now ≤ length after.now }
+{
+    let len = place_of(after, b'"');
+    if len < after.len() {
+        let (bytes, rest) = after.split_at(len);
+        (Piece::Quoted(bytes), rest.split_at(1).1)
+    } else {
+        (Piece::Stray, after)
+    }
+}
+
+/// The piece that begins with a byte of no word, and with no quotation mark.
 #[inline(never)]
 fn other_piece<'a>(first: u8, after: &'a [u8]) -> (Piece<'a>, &'a [u8])
-    requires { is_name_byte first ≡ false }
+    requires no_word { is_name_byte first ≡ false }
+    requires no_quote { is_quote first ≡ false }
     ensures gives { (seen result.0, result.1.now) ≡ piece_at first after.now }
     ensures shorter { length result.1.now ≤ length after.now }
 {

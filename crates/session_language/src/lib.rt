@@ -24,6 +24,8 @@
 //! - [`read_sessions`] gives the programs that a text means (`sessions_of`, in `specs/Reading.antt`), or the first
 //!   refusal with its line. Each program fits the plan.
 //! - A program's canonical text under a plan that it fits means that program, and nothing else ([`laws::reads_back`]).
+//! - Under a plan of version 2 an operand may be a text between two quotation marks. A line under a plan of version 1 is read
+//!   as one of numbers alone ([`laws::numbers_mean_the_same`], with `specs/NumberLines.antt`).
 //! - A [`Program`] is that of `session_programs`, its tree and what it does alone are those of `session_meaning`; this
 //!   crate passes on their types.
 //! - A [`Reader`] takes the lines of a text one at a time (`take_line`, in `specs/Reading.antt`).
@@ -48,6 +50,7 @@ mod draft;
 mod fault;
 pub mod keyword;
 pub mod laws;
+mod leaf;
 pub mod lexer;
 pub mod limits;
 mod names;

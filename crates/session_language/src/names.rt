@@ -1,9 +1,10 @@
 //! Tokens whose names are in their places.
 
 ghost use Rattle.std.specs.Prelude.{◌≡◌, true};
+ghost use Rattle.session_language.specs.refinement.PlacedTokens.{Operand, leaf_node, seen_element, seen_placed};
 
 use crate::builder::Element;
-use session_meaning::Node;
+use crate::leaf::Leaf;
 
 /// A token whose names are in their places, and whether they are known as a variable and as a record.
 #[derive(Clone, Copy)]
@@ -13,14 +14,14 @@ pub struct Placed {
     pub knows_record: bool,
 }
 
-pub(crate) fn known_node(node: Node) -> Placed
-    ensures { result ≡ record { element = Element.Operand node; knows_variable = true; knows_record = true } }
+pub(crate) fn known_leaf(leaf: Leaf) -> Placed
+    ensures { seen_placed result ≡ record { element = Operand (leaf_node leaf); knows_variable = true; knows_record = true } }
 {
-    known(Element::Operand(node))
+    known(Element::Operand(leaf))
 }
 
 pub(crate) fn known(element: Element) -> Placed
-    ensures { result ≡ record { element = element; knows_variable = true; knows_record = true } }
+    ensures { seen_placed result ≡ record { element = seen_element element; knows_variable = true; knows_record = true } }
 {
     Placed {
         element,

@@ -16,6 +16,7 @@ use crate::keyword::{Keyword, keyword_of};
 use crate::lexer::{Piece, Pieces};
 use crate::limits::MOST_SESSIONS;
 use office_map::Plan;
+use session_meaning::NodeList;
 use session_programs::Program;
 use std::alloc::Global;
 use std::mem;
@@ -42,7 +43,7 @@ impl Reader {
                     product: None,
                     minuses: 0,
                 }),
-                nodes: Vec::new(alloc),
+                nodes: NodeList::new(alloc),
                 guesses: Guesses::new(),
             },
             done: Vec::new(alloc),

@@ -3,11 +3,10 @@
 ghost use Rattle.std.specs.Prelude.{◌≢◌, AllPairs};
 
 use crate::builder::Element;
-use crate::names::{Placed, known, known_node};
+use crate::leaf::Leaf;
+use crate::names::{Placed, known, known_leaf};
 use crate::token::{Operand, Token};
-use bottle_values::Value;
 use office_map::{OfficeId, Plan, RecordId};
-use session_meaning::Node;
 use text_lines::{Guesses, ShortName};
 
 /// The plan, the session's office, and the variables that earlier lines name.
@@ -21,9 +20,10 @@ pub struct Scope<'a> {
 
 impl Scope<'_> {
     ghost use Rattle.std.specs.Prelude.{◌≡◌, ◌≤◌, length};
-    ghost use Rattle.session_language.specs.Names.{scope_of, variable_named, record_of, placed_of};
+    ghost use Rattle.session_language.specs.Names.{scope_of, variable_named, record_of};
     ghost use Rattle.session_language.specs.Phrase.{leaf_of, token_of};
-    ghost use Rattle.session_language.specs.Spelling.{Leaf};
+    ghost use Rattle.session_language.specs.Spelling as spelling;
+    ghost use Rattle.session_language.specs.refinement.PlacedTokens.{placed_of, seen_placed};
 
     /// The place of a variable.
     pub fn variable_named(&self, guesses: &mut Guesses, name: &ShortName) -> Option<usize>
@@ -48,7 +48,7 @@ impl Scope<'_> {
     /// A token with its names in their places. An unknown name is at place 0.
     pub fn element(&self, guesses: &mut Guesses, token: Token) -> Placed
         requires { length self.now.variables.now ≤ 255 }
-        ensures { result ≡ placed_of (scope_of self.now) (token_of token) }
+        ensures { seen_placed result ≡ placed_of (scope_of self.now) (token_of token) }
     {
         match token {
             Token::Leaf(operand) => self.place(guesses, operand),
@@ -62,22 +62,22 @@ impl Scope<'_> {
 
     fn place(&self, guesses: &mut Guesses, operand: Operand) -> Placed
         requires { length self.now.variables.now ≤ 255 }
-        ensures { result ≡ placed_of (scope_of self.now) (Leaf (leaf_of operand)) }
+        ensures { seen_placed result ≡ placed_of (scope_of self.now) (spelling.Leaf (leaf_of operand)) }
     {
         match operand {
-            Operand::Number(n) => known_node(Node::Literal(Value::from(n.value as i64))),
+            Operand::Number(n) => known_leaf(Leaf::Number(n)),
             Operand::Variable(name) => match self.variable_named(guesses, &name) {
-                Some(place) => known_node(Node::Variable(place as u8)),
+                Some(place) => known_leaf(Leaf::Variable(place as u8)),
                 None => Placed {
-                    element: Element::Operand(Node::Variable(0)),
+                    element: Element::Operand(Leaf::Variable(0)),
                     knows_variable: false,
                     knows_record: true,
                 },
             },
             Operand::Record(name) => match self.record_of(&name) {
-                Some(record) => known_node(Node::Read(record)),
+                Some(record) => known_leaf(Leaf::Read(record)),
                 None => Placed {
-                    element: Element::Operand(Node::Read(RecordId::new(0))),
+                    element: Element::Operand(Leaf::Read(RecordId::new(0))),
                     knows_variable: true,
                     knows_record: false,
                 },

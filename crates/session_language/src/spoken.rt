@@ -40,7 +40,7 @@ fn alone(
     pieces: Pieces<'_>,
 ) -> Result<Option<Summary>, AllocError>
     requires { length scope.now.variables.now ≤ 255 }
-    ensures { IfOk result (λ o. ReadsAlone o (scope_of scope.now) builder.new.nodes.items (phrase_alone (pieces_of pieces.entry.rest.now))) }
+    ensures { IfOk result (λ o. ReadsAlone o (scope_of scope.now) builder.new.nodes (phrase_alone (scope_of scope.now).plan.version (pieces_of pieces.entry.rest.now))) }
 {
     let mut rest = pieces;
     match builder.phrase(scope, &mut rest)? {
@@ -56,7 +56,7 @@ fn assigned(
     pieces: Pieces<'_>,
 ) -> Result<Option<(ShortName, Summary)>, AllocError>
     requires { length scope.now.variables.now ≤ 255 }
-    ensures { IfOk result (λ o. ReadsAssigned o (scope_of scope.now) builder.new.nodes.items (assigned (pieces_of pieces.entry.rest.now))) }
+    ensures { IfOk result (λ o. ReadsAssigned o (scope_of scope.now) builder.new.nodes (assigned (scope_of scope.now).plan.version (pieces_of pieces.entry.rest.now))) }
 {
     let mut rest = pieces;
     let Some(Piece::Word(word)) = rest.next() else {

@@ -1,10 +1,12 @@
 //! Tokens of expressions.
 
-ghost use Rattle.std.specs.Prelude.{◌≡◌, option_map};
-ghost use Rattle.session_language.specs.Phrase.{leaf_of, token_of, operand_in, expression_symbol, is_read};
+ghost use Rattle.std.specs.Prelude.{◌≡◌, option_map, Some, None, if◌then◌else◌};
+ghost use Rattle.session_language.specs.Phrase.{leaf_of, token_of, operand_in, text_in, expression_symbol, is_read};
+ghost use Rattle.session_language.specs.Spelling.{AText};
 
 use crate::lexer::{Piece, Symbol};
 use crate::number::Number;
+use bottle_values::{Version, is_text};
 use text_lines::{ShortName, number, short_name};
 
 /// A number, a variable, or `read` and a record.
@@ -25,11 +27,14 @@ pub enum Token {
     Close,
 }
 
-/// What comes next in an expression: a token, or the first piece that is none of it, or a `read`
-/// with no name after it.
+/// What comes next in an expression: a token, or a text by its bytes in the line, or the first piece that is none of it, or a
+/// `read` with no name after it.
+///
+/// A text is no token of the code, so that a number is handed on without the room of a text.
 #[derive(Clone, Copy)]
 pub enum Next<'a> {
     Token(Token),
+    Text(&'a [u8]),
     Stop(Option<Piece<'a>>),
     Wrong,
 }
@@ -50,6 +55,16 @@ pub(crate) fn operand_in(word: &[u8]) -> Option<Operand>
     match short_name(word) {
         Some(name) => Some(Operand::Variable(name)),
         None => None,
+    }
+}
+
+/// Whether what stands between two quotation marks is a text, where a plan of this version has texts.
+pub(crate) fn is_text_in(version: Version, bytes: &[u8]) -> bool
+    ensures { text_in version bytes.now ≡ (if result then Some (AText bytes.now) else None) }
+{
+    match version {
+        Version::One => false,
+        Version::Two => is_text(bytes),
     }
 }
 

@@ -4,14 +4,15 @@ use Rattle.std.specs.List.{list_all}
 use Rattle.office_map.specs.PlanValue.{PlanValue, is_end, office_name_of, record_name_of}
 use Rattle.session_meaning.specs.ProgramValue.{ProgramValue}
 use Rattle.session_meaning.specs.Tree.{Block}
+use Rattle.session_meaning.specs.Fitting.{block_fits}
 use Rattle.session_measures.specs.Needs.{needs_of}
 use Rattle.session_measures.specs.Measures.{block_statements, block_cost}
 use Rattle.session_programs.specs.Limits.{most_statements, most_cost, most_bytes}
 use Rattle.session_programs.specs.Text.{Words, session_text, wide_words}
 
--- the program's office is the plan's, and each record that it needs is of that office
+-- the program's office is the plan's, each record that it needs is of that office, and the plan's version has its literals
 abbrev pub fits : PlanValue → ProgramValue → Bool
-fits p x = nat_lt x.office (length p.offices) && list_all (λ r. is_end p r x.office) (needs_of x.body)
+fits p x = (nat_lt x.office (length p.offices) && list_all (λ r. is_end p r x.office) (needs_of x.body)) && block_fits p.version x.body
 
 -- the plan's names, and the program's own
 abbrev pub words_under : PlanValue → ProgramValue → Words

@@ -7,7 +7,9 @@ use Rattle.session_programs.specs.declared.words.Words as code_words
 use Rattle.session_programs.specs.declared.words.RecordNames.{RecordNames}
 use Rattle.session_programs.specs.declared.words.RecordNames.TheVariants.{Of, Wide}
 use Rattle.std.specs.List.{slice_index_or}
-use Rattle.bottle_values.specs.Values.{Value, Number}
+use Rattle.bottle_values.specs.declared.Value.{Value}
+use Rattle.bottle_values.specs.declared.Value.TheVariants.{Number, Text}
+use Rattle.bottle_values.specs.Printed.{quoted}
 use Rattle.session_meaning.specs.declared.node.Operator.{Operator}
 use Rattle.session_meaning.specs.declared.node.Operator.TheVariants as op
 use Rattle.session_meaning.specs.declared.node.Comparison.{Comparison}
@@ -33,13 +35,15 @@ words_of w = record { office = w.office.now; variables = w.variables.now; record
 abbrev pub variable_name : Words → ℕ → List ℕ
 variable_name w k = slice_index_or w.variables k []
 
--- a literal is a number of the text, which has no sign
+-- the number of a literal, which has no sign
 abbrev pub magnitude : ℤ → ℕ
 magnitude (pos n) = n
 magnitude (negsuc n) = 0
 
+-- a literal is a number without a sign, or a text between two quotation marks
 abbrev pub literal : Value → List ℕ
 literal (Number z) = decimal (magnitude z)
+literal (Text t) = quoted t
 
 abbrev pub in_parentheses : List ℕ → List ℕ
 in_parentheses text = 40 ∷ (text ++ 41 ∷ [])

@@ -1,6 +1,8 @@
 -- What holds of every program: all that a text can mean, and no more.
 use Rattle.std.specs.Prelude.{◌≡◌, ◌≢◌, ◌<◌, ◌≤◌, ◌^◌, ℕ, suc, max, ℤ, pos, negsuc, List, length, All, AllPairs, IsTrue, false}
-use Rattle.bottle_values.specs.Values.{Value, Number}
+use Rattle.bottle_values.specs.declared.Value.{Value}
+use Rattle.bottle_values.specs.declared.Value.TheVariants.{Number, Text}
+use Rattle.bottle_values.specs.Texts.{is_text}
 use Rattle.text_lines.specs.Text.{is_name}
 use Rattle.session_meaning.specs.declared.node.Operator.TheVariants as op
 use Rattle.session_programs.specs.declared.rank.Rank.{Rank}
@@ -38,9 +40,10 @@ abbrev pub IsUnsigned : ℤ → Type 0
 IsUnsigned (pos n) = n < 2 ^ 63
 IsUnsigned (negsuc n) = ⊥
 
--- a literal is a number of a text, which has no sign
+-- a literal is a number, which has no sign, or a text that isn't too long
 abbrev pub IsLiteral : Value → Type 0
 IsLiteral (Number z) = IsUnsigned z
+IsLiteral (Text t) = IsTrue (is_text t)
 
 -- an expression over the first variables, so many as are known
 abbrev pub IsOver : ℕ → Term → Type 0

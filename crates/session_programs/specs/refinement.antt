@@ -1,4 +1,6 @@
+pub mod Constants
 pub mod Emission
 pub mod NodeEmission
 pub mod Closed
+pub mod Plain
 pub mod Listing

@@ -3,7 +3,7 @@
 //! - A [`Program`] is a session's office, the names of its variables, and its statements as a tree. [`Program::of`] makes one of
 //!   parts that are well formed, and what holds of every program is in `specs/WellFormed.antt` (clause `well_formed` of `tree`).
 //! - `needs` are the records that it reads or sets anywhere (`all`, `in_order`, `named`), `fits` says whether a plan has its office
-//!   and its records, and `text` is its canonical text under such a plan (`text_under`, in `specs/Program.antt`; clause
+//!   and its records, and texts where it has such, and `text` is its canonical text under such a plan (`text_under`, in `specs/Program.antt`; clause
 //!   `canonical`).
 //! - The limits are in `specs/Limits.antt` (the code has its own, [`limits`]). Whether a session keeps those of its length, its
 //!   statements, its cost and its bytes of text, is looked at in `session_sizes`, above.
@@ -19,6 +19,7 @@
 
 mod code;
 mod coding;
+mod constant;
 mod instruction;
 pub mod limits;
 mod listing;
@@ -29,9 +30,10 @@ mod text;
 mod words;
 
 pub use crate::code::Code;
+pub use crate::constant::Constant;
 pub use crate::instruction::{Instruction, Line};
 pub use crate::listing::comparison_text;
 pub use crate::program::{Program, with_codes};
 pub use crate::rank::Rank;
 pub use crate::register::Register;
-pub use crate::text::magnitude;
+pub use crate::text::{magnitude, write_text};

@@ -14,8 +14,10 @@ ghost use Rattle.session_programs.specs.refinement.Listing.{code_of};
 use crate::code::Code;
 use crate::listing::session_text;
 use crate::words::{RecordNames, Words};
+use bottle_values::Version;
 use office_map::{OfficeId, Plan, RecordId};
 use session_meaning::Statement;
+use session_measures::are_of_numbers;
 use session_measures::laws::needs_what_it_names;
 use std::alloc::{AllocError, Global};
 use std::marker::Model;
@@ -48,6 +50,7 @@ struct Said {
     variables: Vec<ShortName>,
     needs: Vec<RecordId>,
     statements: Vec<Statement>,
+    has_numbers_alone: bool,
 }
 
 impl Model for Program {
@@ -61,6 +64,8 @@ impl Model for Program {
     ghost use Rattle.session_measures.specs.Needs.{needs_of};
     ghost use Rattle.session_programs.specs.WellFormed.{IsWellFormed};
     ghost use Rattle.session_programs.specs.refinement.Listing.{code_of};
+    ghost use Rattle.bottle_values.specs.declared.version.Version.TheVariants.{One};
+    ghost use Rattle.session_meaning.specs.Fitting.{block_fits};
 
     ghost Value = { ProgramValue };
 
@@ -69,7 +74,8 @@ impl Model for Program {
     ghost view = { λ p. record { office = (arc_value p.said).office; variables = (arc_value p.said).variables.items; body = block_of (arc_value p.said).statements.items } };
 
     ghost invariant = { λ p. ((arc_value p.said).needs.items ≡ needs_of (block_of (arc_value p.said).statements.items)) × IsWellFormed (record { office = (arc_value p.said).office; variables = (arc_value p.said).variables.items; body = block_of (arc_value p.said).statements.items })
-        × IfSome p.code (λ c. c ≡ code_of (record { office = (arc_value p.said).office; variables = (arc_value p.said).variables.items; body = block_of (arc_value p.said).statements.items })) };
+        × IfSome p.code (λ c. c ≡ code_of (record { office = (arc_value p.said).office; variables = (arc_value p.said).variables.items; body = block_of (arc_value p.said).statements.items }))
+        × ((arc_value p.said).has_numbers_alone ≡ block_fits One (block_of (arc_value p.said).statements.items)) };
 }
 
 impl Program {
@@ -90,11 +96,13 @@ impl Program {
     {
         let mut statements = statements;
         statements.shrink_to_fit();
+        let has_numbers_alone = are_of_numbers(&statements);
         let said = Said {
             office,
             variables,
             needs,
             statements,
+            has_numbers_alone,
         };
         Ok(Program {
             said: Arc::new(alloc, said)?,
@@ -135,15 +143,23 @@ impl Program {
         &self.said.statements
     }
 
-    /// Whether its office is the plan's, and each record that it needs is of that office.
+    /// Whether its office is the plan's, each record that it needs is of that office, and it has no text where the plan's version
+    /// has none.
+    #[tactic(auto, using(session_meaning::specs::FittingLaws::all_fit_two))]
     pub fn fits(&self, plan: &Plan) -> bool
         ensures { result ≡ fits plan.now self.now }
     {
-        let Said { office, needs, .. } = &*self.said;
-        if office.index() >= plan.offices() {
+        let said = &*self.said;
+        if said.office.index() >= plan.offices() {
             return false;
         }
-        are_of_office(plan, needs, *office)
+        if !are_of_office(plan, &said.needs, said.office) {
+            return false;
+        }
+        match plan.version() {
+            Version::One => said.has_numbers_alone,
+            Version::Two => true,
+        }
     }
 
     /// The canonical text of the session under a plan that it fits.

@@ -2,13 +2,15 @@
 
 ghost use Rattle.std.specs.Prelude.{◌≡◌, ◌∷◌, [], ◌++◌, OnOk, codes};
 ghost use Rattle.std.specs.String.{string_bytes};
+ghost use Rattle.std.specs.Fmt.{decimal};
+ghost use Rattle.bottle_values.specs.Printed.{quoted};
 ghost use Rattle.session_meaning.specs.Tree.{Term};
 ghost use Rattle.session_meaning.specs.refinement.Postfix.{postfix};
 ghost use Rattle.session_programs.specs.Text.{words_of, literal, magnitude, variable_name, record_names, rank_of, term_text, factor_text, product_text, operation_text, read_text};
 
 use crate::rank::Rank;
 use crate::words::{RecordNames, Words};
-use bottle_values::Value;
+use bottle_values::{Text, Value};
 use itoa::Buffer;
 use office_map::RecordId;
 use session_meaning::operands::operands;
@@ -105,8 +107,24 @@ fn write_product(out: &mut String, words: &Words<'_>, nodes: &Nodes<'_>) -> Resu
 fn write_literal(out: &mut String, value: Value) -> Result<(), AllocError>
     ensures { OnOk result (string_bytes out.new ≡ string_bytes out.old ++ literal value) }
 {
+    match value {
+        Value::Number(number) => write_number(out, number),
+        Value::Text(text) => write_text(out, text),
+    }
+}
+
+fn write_number(out: &mut String, number: i64) -> Result<(), AllocError>
+    ensures { OnOk result (string_bytes out.new ≡ string_bytes out.old ++ decimal (magnitude number)) }
+{
     let mut buffer = Buffer::new();
-    out.push_str(buffer.format(magnitude(value.number())))
+    out.push_str(buffer.format(magnitude(number)))
+}
+
+/// A text between two quotation marks.
+pub fn write_text(out: &mut String, text: Text) -> Result<(), AllocError>
+    ensures { OnOk result (string_bytes out.new ≡ string_bytes out.old ++ quoted text) }
+{
+    write!(out, "{text}")
 }
 
 /// The number of a literal, which has no sign.

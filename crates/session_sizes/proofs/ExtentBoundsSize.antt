@@ -1,11 +1,13 @@
 -- A session with few nodes and statements is short, since each has a bounded text.
-use Rattle.std.proofs.Common.{◌≡◌, ◌≤◌, ◌<◌, ◌*◌, ℕ, ℤ, zero, suc, pos, negsuc, Bool, true, false, nat_lt, List, [], ◌∷◌, ◌++◌, length, All, IsTrue, codes, refl, arith, length-append, slice_index_or}
+use Rattle.std.proofs.Common.{◌≡◌, ◌≤◌, ◌<◌, ◌+◌, ◌*◌, ℕ, ℤ, zero, suc, pos, negsuc, Bool, true, false, nat_lt, List, [], ◌∷◌, ◌++◌, length, All, IsTrue, codes, refl, arith, length-append, slice_index_or}
 use Rattle.std.specs.Fmt.{decimal}
 use Rattle.std.proofs.lemmas.Fmt.{length-decimal-le}
 use Rattle.std.specs.Char.{is_ascii_alphabetic}
 use Rattle.std.proofs.lemmas.Bool.{and_parts}
 use Rattle.std.proofs.lemmas.Bool.Decides.{nat_tests}
-use Rattle.bottle_values.specs.Values.{Value, Number}
+use Rattle.bottle_values.specs.declared.Value.{Value}
+use Rattle.bottle_values.specs.declared.Value.TheVariants.{Number, Text}
+use Rattle.session_meaning.specs.refinement.TextBytes.{value_bytes}
 use Rattle.text_lines.specs.Text.{is_name}
 use Rattle.session_meaning.specs.declared.node.Operator.{Operator}
 use Rattle.session_meaning.specs.declared.node.Operator.TheVariants as op
@@ -15,8 +17,8 @@ use Rattle.session_programs.specs.declared.rank.Rank.{Rank}
 use Rattle.session_programs.specs.declared.rank.Rank.TheVariants.{Factor, Product, Sum}
 use Rattle.session_meaning.specs.Tree.{Term, Constant, Var, ReadOf, Neg, Bin, Test, Command, LetVar, SetTo, GiveOf, Requires, When, Choice, Loop, Block, Nothing, Then}
 use Rattle.session_programs.specs.Program.{are_too_long}
-use Rattle.session_measures.specs.Measures.{nodes, test_nodes, block_cost, block_statements}
-use Rattle.session_measures.specs.refinement.Extent.{extent, block_extent}
+use Rattle.session_measures.specs.Measures.{block_cost, block_statements}
+use Rattle.session_measures.specs.refinement.Extent.{term_extent, test_extent, extent, block_extent}
 use Rattle.session_programs.specs.WellFormed.{IsUnsigned, IsLiteral, IsOver, IsTestOver, IsStatementOver, known_after, known_after_block, AreStatements}
 use Rattle.session_programs.specs.Text.{Words, magnitude, literal, variable_name, wide_words, rank_of, term_text, comparison_text, test_text, let_text, set_text, require_text, line, command_text, block_text, session_text}
 use Rattle.session_sizes.specs.refinement.TextSizes.{around_factor, around_product, around_both}
@@ -49,8 +51,9 @@ short_number : (z : ℤ) → IsUnsigned z → length (decimal (magnitude z)) ≤
 short_number (pos n) h = length-decimal-le 19 n (omega arith) (omega arith) (omega arith)
 short_number (negsuc n) h = absurd h
 
-short_literal : (v : Value) → IsLiteral v → length (literal v) ≤ 19
-short_literal (Number z) h = short_number z h
+short_literal : (v : Value) → IsLiteral v → length (literal v) ≤ 19 + value_bytes v
+short_literal (Number z) h = let s = short_number z h in omega (arith, s)
+short_literal (Text t) h = omega (arith, length-append t (34 ∷ []))
 
 past_names : (vs : List (List ℕ)) (k : ℕ) → length vs ≤ k → length (slice_index_or vs k []) ≤ 16
 past_names [] k h = omega arith
@@ -72,7 +75,7 @@ module _ (vs : List (List ℕ)) (names : All (λ v. IsTrue (is_name v)) vs) wher
   abbrev w : Words
   w = wide_words vs
 
-  term : (known : ℕ) (e : Term) → IsOver known e → length (term_text w e) ≤ 21 * nodes e
+  term : (known : ℕ) (e : Term) → IsOver known e → length (term_text w e) ≤ 21 * term_extent e
   term known (Constant v) h = let s = short_literal v h in omega arith
   term known (Var k) h = let s : length (term_text w (Var k)) ≤ 16 = short_name vs k names in omega arith
   term known (ReadOf r) h = omega arith
@@ -82,7 +85,7 @@ module _ (vs : List (List ℕ)) (names : All (λ v. IsTrue (is_name v)) vs) wher
       let s = term known a h.0 in let t = term known b h.1 in
       let f = operation_bytes w o a b in let g = little_around_both o (rank_of a) (rank_of b) in omega arith
 
-  test : (known : ℕ) (t : Test) → IsTestOver known t → length (test_text w t) ≤ 21 * test_nodes t
+  test : (known : ℕ) (t : Test) → IsTestOver known t → length (test_text w t) ≤ 21 * test_extent t
   test known t h =
       let s = term known t.left h.0.0 in let r = term known t.right h.1.0 in let c = short_sign t.comparison in
       omega (arith, length-append (term_text w t.left) (comparison_text t.comparison ++ term_text w t.right), length-append (comparison_text t.comparison) (term_text w t.right))

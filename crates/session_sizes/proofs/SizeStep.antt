@@ -3,7 +3,11 @@ use Rattle.std.proofs.Common.{◌≡◌, ◌≤◌, ℕ, ◌+◌, min, List, [],
 use Rattle.std.proofs.Math.Seq.{take-suc, take-suc-set}
 use Rattle.std.proofs.lemmas.List.{take_all, length-set}
 use Rattle.std.specs.Fmt.{decimal}
-use Rattle.std.specs.Prelude.{slice_get}
+use Rattle.std.specs.Prelude.{slice_get, IsTrue, nat_le}
+use Rattle.std.specs.List.{list_all}
+use Rattle.std.proofs.lemmas.Bool.{and_parts, leb-true}
+use Rattle.bottle_values.specs.Printed.{quoted}
+use Rattle.bottle_values.specs.Texts.{is_text, is_text_byte, longest_text}
 use Rattle.bottle_values.specs.ListLaws.{first_more}
 use Rattle.session_meaning.specs.declared.node.Operator.{Operator}
 use Rattle.session_meaning.specs.declared.node.Operator.TheVariants as op
@@ -42,6 +46,13 @@ operation_bytes w op.Times a b =
     let y = length-append (operator_text op.Times) (factor_text (rank_of b) (term_text w b)) in
     let v = product_bytes (rank_of a) (term_text w a) in
     let z = factor_bytes (rank_of b) (term_text w b) in omega arith
+
+-- a text with both its marks
+pub quoted_bytes : (text : List ℕ) → length (quoted text) ≡ length text + 2
+quoted_bytes text = omega (arith, length-append text (34 ∷ []))
+
+pub few_bytes : (text : List ℕ) → IsTrue (is_text text) → length text ≤ 64
+few_bytes text h = leb-true (length text) 64 (and_parts (nat_le (length text) longest_text) (list_all is_text_byte text) h).0
 
 -- the last of some, as it stands and once another is in its place
 pub last_replaced : (rs : List Rank) (k : ℕ) (r new : Rank) → length rs ≡ suc k → r ≡ slice_index_or rs k r → (rs ≡ take k rs ++ r ∷ []) × (slice_set rs k new ≡ take k rs ++ new ∷ [])

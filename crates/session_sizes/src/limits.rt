@@ -6,8 +6,8 @@ pub const MOST_STATEMENTS: u32 = 256;
 /// The most that a session may cost.
 pub const MOST_COST: u32 = 10_000;
 
-/// Each node has at most 21 bytes of text, each statement at most 24 besides, and the first and the last line have 29.
-/// So the text of a session that has no more nodes and statements than this is never too long.
+/// Each node has at most 21 bytes besides those of a text, each statement at most 24 besides, and the first and the last line have
+/// 29. So a session that has no more nodes, bytes of texts and statements than this is never too long.
 ///
 /// Such a session isn't measured. They are counted apart from the cost: of an `if` only the dearer part costs, and
 /// `repeat 0` costs 1 whatever stands in it.

@@ -3,6 +3,7 @@
 
 ghost use Rattle.std.specs.Prelude.{◌≡◌, ◌≤◌, ◌++◌, ◌∷◌, [], IfOk, List, min, ◌+◌, length};
 ghost use Rattle.std.specs.Fmt.{decimal};
+ghost use Rattle.bottle_values.specs.Printed.{quoted};
 ghost use Rattle.session_meaning.specs.refinement.TreeOfStatements.{test_of, command_of, block_of};
 ghost use Rattle.session_programs.specs.Limits.{past_bytes};
 ghost use Rattle.session_programs.specs.Program.{are_too_long};
@@ -13,7 +14,7 @@ ghost use Rattle.session_programs.specs.Text.{Words, wide_words, literal, variab
 ghost use Rattle.session_sizes.specs.refinement.TextSizes.{ranks_of, bytes_of, around_factor, around_product, around_both};
 
 use crate::limits::{MOST_BYTES, MOST_COST, MOST_STATEMENTS, PAST_BYTES, SHORT_EXTENT};
-use bottle_values::Value;
+use bottle_values::{Text, Value};
 use session_meaning::{Condition, Expression, Node, Nodes, Operator, Statement};
 use session_measures::measures::block_measures;
 use session_programs::{Rank, comparison_text, magnitude};
@@ -267,12 +268,23 @@ fn sum(a: u32, b: u32) -> u32
     (a + b).min(PAST_BYTES)
 }
 
-/// How many bytes a literal has.
+/// How many bytes a literal has, a text with both its quotation marks.
 fn literal_size(value: Value) -> u32
     ensures count { result ≡ length (literal value) }
-    ensures few { result ≤ 20 }
+    ensures few { result ≤ 66 }
 {
-    digits(magnitude(value.number()))
+    match value {
+        Value::Number(number) => digits(magnitude(number)),
+        Value::Text(text) => text_size(text),
+    }
+}
+
+#[tactic(auto, using(crate::proofs::SizeStep::quoted_bytes, crate::proofs::SizeStep::few_bytes))]
+fn text_size(text: Text) -> u32
+    ensures count { result ≡ length (quoted text) }
+    ensures few { result ≤ 66 }
+{
+    text.as_bytes().len() as u32 + 2
 }
 
 /// How many digits a number has.

@@ -5,7 +5,7 @@ use Rattle.office_map.specs.PlanValue.{PlanValue, office_named}
 use Rattle.office_map.specs.PlanText.{◌>>=◌, ◌>>◌, refuse_if}
 use Rattle.session_language.specs.declared.fault.SessionRule.{SessionRule}
 use Rattle.session_language.specs.declared.fault.SessionRule.TheVariants.{UnknownName, TooLong}
-use Rattle.session_language.specs.Lexer.{Piece, AWord, ASymbol, AStray, pieces_of}
+use Rattle.session_language.specs.Lexer.{Piece, AWord, ASymbol, AQuoted, AStray, pieces_of}
 use Rattle.session_language.specs.Form.{Said, Form, Opens, Says, Otherwise, Closes, keyword_of, name_alone, form_after, form_of}
 use Rattle.session_language.specs.Limits.{most_sessions}
 use Rattle.session_language.specs.Reading.{Draft, Reading, Spoken, Ended, Going, Closed, scope_in, speak, add, turned_in, ended, begun, with_open, with_ended, take_opening, take_statement, take_closing, take_otherwise, take_formed}
@@ -82,14 +82,15 @@ named_keeps : (p : PlanValue) (x y : Reading) (f : Option (List ℕ)) → take_f
 named_keeps p x y None h = absurd (cc)
 named_keeps p x y (Some name) h = opening_keeps p x y name x.open_session h
 
-first_keeps : (p : PlanValue) (x y : Reading) (ps : List Piece) → opens ps ≡ true → take_formed p x (form_of ps) ≡ Ok y → Keeps x y
+first_keeps : (p : PlanValue) (x y : Reading) (ps : List Piece) → opens ps ≡ true → take_formed p x (form_of p.version ps) ≡ Ok y → Keeps x y
 first_keeps p x y [] h k = absurd (cc)
-first_keeps p x y (AWord w ∷ ps) h k = named_keeps p x y (name_alone ps) (sym (ap (λ word. take_formed p x (form_after word ps)) (is_session_alone (keyword_of w) h)) ∙ k)
+first_keeps p x y (AWord w ∷ ps) h k = named_keeps p x y (name_alone ps) (sym (ap (λ word. take_formed p x (form_after p.version word ps)) (is_session_alone (keyword_of w) h)) ∙ k)
 first_keeps p x y (ASymbol s ∷ ps) h k = absurd (cc)
+first_keeps p x y (AQuoted bytes ∷ ps) h k = absurd (cc)
 first_keeps p x y (AStray ∷ ps) h k = absurd (cc)
 
 pub lines_close_one : LinesCloseOne
 lines_close_one p x y line none h = record {
-  few = formed_few p x y (form_of (pieces_of line)) none h;
+  few = formed_few p x y (form_of p.version (pieces_of line)) none h;
   opening = λ b. first_keeps p x y (pieces_of line) b h ∙ none;
 }

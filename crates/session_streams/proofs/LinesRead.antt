@@ -9,7 +9,7 @@ use Rattle.session_language.specs.declared.keyword.Keyword.{Keyword}
 use Rattle.session_language.specs.declared.keyword.Keyword.TheVariants.{Session, Let, Set, Give, Require, If, Else, Repeat, End, Other}
 use Rattle.session_language.specs.declared.fault.SessionRule.{SessionRule}
 use Rattle.session_language.specs.declared.fault.SessionRule.TheVariants.{Syntax, UnknownName, TooLong}
-use Rattle.session_language.specs.Lexer.{Piece, AWord, ASymbol, AStray, pieces_of}
+use Rattle.session_language.specs.Lexer.{Piece, AWord, ASymbol, AQuoted, AStray, pieces_of}
 use Rattle.session_language.specs.Form.{Said, Form, Opens, Says, Otherwise, Closes, keyword_of, name_alone, form_after, form_of}
 use Rattle.session_language.specs.Limits.{most_sessions}
 use Rattle.session_language.specs.Reading.{Draft, Reading, Spoken, Ended, Going, Closed, scope_in, speak, add, turned_in, ended, begun, with_open, with_ended, take_opening, take_statement, take_closing, take_otherwise, take_formed, take_line}
@@ -91,7 +91,7 @@ formed p x y (Some Otherwise) h = turned_over x y x.open_session h
 formed p x y (Some Closes) h = closed_there x y x.open_session h
 
 pub taken_alone : (p : PlanValue) (x y : Reading) (line : List ℕ) → take_line p x line ≡ Ok y → IsTaken x y (take_line p (bare x.open_session) line)
-taken_alone p x y line h = formed p x y (form_of (pieces_of line)) h
+taken_alone p x y line h = formed p x y (form_of p.version (pieces_of line)) h
 
 -- ---- lines that begin a session
 
@@ -115,10 +115,11 @@ opening_refused p x d (Some name) e = ap (λ o. take_opening p x o name) e
 pub opening_within : (p : PlanValue) (x : Reading) (d : Draft) (line : List ℕ) → begins_session line ≡ true → x.open_session ≡ Some d → take_line p x line ≡ Err Syntax
 opening_within p x d line h e = by_pieces (pieces_of line) h
   where
-    by_pieces : (ps : List Piece) → opens ps ≡ true → take_formed p x (form_of ps) ≡ Err Syntax
+    by_pieces : (ps : List Piece) → opens ps ≡ true → take_formed p x (form_of p.version ps) ≡ Err Syntax
     by_pieces [] k = absurd (cc)
-    by_pieces (AWord w ∷ ps) k = ap (λ word. take_formed p x (form_after word ps)) (is_session_alone (keyword_of w) k) ∙ opening_refused p x d (name_alone ps) e
+    by_pieces (AWord w ∷ ps) k = ap (λ word. take_formed p x (form_after p.version word ps)) (is_session_alone (keyword_of w) k) ∙ opening_refused p x d (name_alone ps) e
     by_pieces (ASymbol s ∷ ps) k = absurd (cc)
+    by_pieces (AQuoted bytes ∷ ps) k = absurd (cc)
     by_pieces (AStray ∷ ps) k = absurd (cc)
 
 -- ---- lines that are refused
@@ -177,4 +178,4 @@ refused_form p x rule (Some Otherwise) h = refused_else x rule x.open_session h
 refused_form p x rule (Some Closes) h = refused_end x rule x.open_session h
 
 pub refused_alone : (p : PlanValue) (x : Reading) (rule : SessionRule) (line : List ℕ) → take_line p x line ≡ Err rule → IsRefused x rule (take_line p (bare x.open_session) line)
-refused_alone p x rule line h = refused_form p x rule (form_of (pieces_of line)) h
+refused_alone p x rule line h = refused_form p x rule (form_of p.version (pieces_of line)) h

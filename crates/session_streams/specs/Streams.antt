@@ -8,7 +8,7 @@ use Rattle.session_language.specs.declared.keyword.Keyword.TheVariants.{Session,
 use Rattle.session_language.specs.declared.fault.SessionRule.{SessionRule}
 use Rattle.session_language.specs.declared.fault.SessionRule.TheVariants.{Syntax}
 use Rattle.session_language.specs.declared.fault.SessionRefusal.{SessionRefusal}
-use Rattle.session_language.specs.Lexer.{Piece, AWord, ASymbol, AStray, pieces_of}
+use Rattle.session_language.specs.Lexer.{Piece, AWord, ASymbol, AQuoted, AStray, pieces_of}
 use Rattle.session_language.specs.Form.{keyword_of}
 use Rattle.session_language.specs.Reading.{Draft, Reading, nothing_read, take_line}
 
@@ -46,6 +46,7 @@ abbrev pub opens : List Piece → Bool
 opens [] = false
 opens (AWord w ∷ ps) = is_session (keyword_of w)
 opens (ASymbol s ∷ ps) = false
+opens (AQuoted bytes ∷ ps) = false
 opens (AStray ∷ ps) = false
 
 -- the first word of the line is `session`

@@ -16,7 +16,9 @@ use Rattle.office_map.specs.declared.entries.RecordEntry.{RecordEntry}
 use Rattle.office_map.specs.PlanValue.{PlanValue, office_named, record_named, record_name_of, is_end, has_end}
 use Rattle.office_map.specs.Consistency.{IsConsistent}
 use Rattle.text_lines.specs.Text.{is_name}
-use Rattle.bottle_values.specs.Values.{Value, Number}
+use Rattle.bottle_values.specs.declared.Value.{Value}
+use Rattle.bottle_values.specs.declared.Value.TheVariants.{Number, Text}
+use Rattle.bottle_values.specs.declared.version.Version.{Version}
 use Rattle.session_meaning.specs.declared.node.Operator.TheVariants as op
 use Rattle.session_programs.specs.declared.rank.Rank.{Rank}
 use Rattle.session_programs.specs.declared.rank.Rank.TheVariants.{Factor, Product, Sum}
@@ -163,18 +165,19 @@ module _ (p : PlanValue) (ok : IsConsistent p) where
       ∙ ap (λ b. if b then Some r else None) h
 
 -- each name of an expression is in its place again
-module _ (s : Scope) (w : Words) (known : ℕ) (ok : ℕ → Bool) (variables : (k : ℕ) → k < known → variable_named s (variable_name w k) ≡ Some k) (records : (r : ℕ) → ok r ≡ true → record_of s (w.record_name r) ≡ Some r) where
-  literal_again : (v : Value) → IsLiteral v → operand_of s (said v) ≡ Constant v
+module _ (v : Version) (s : Scope) (w : Words) (known : ℕ) (ok : ℕ → Bool) (variables : (k : ℕ) → k < known → variable_named s (variable_name w k) ≡ Some k) (records : (r : ℕ) → ok r ≡ true → record_of s (w.record_name r) ≡ Some r) where
+  literal_again : (c : Value) → IsLiteral c → operand_of s (said c) ≡ Constant c
   literal_again (Number (pos n)) h = refl
   literal_again (Number (negsuc n)) h = absurd h
+  literal_again (Text t) h = refl
 
-  pub placed_again : (e : Term) → IsOver known e → term_within ok e ≡ true → placed s (spelled w e) ≡ e
-  placed_again (Constant v) h g = literal_again v h
+  pub placed_again : (e : Term) → IsOver known e → term_within v ok e ≡ true → placed s (spelled w e) ≡ e
+  placed_again (Constant c) h g = literal_again c h
   placed_again (Var k) h g = ap (λ o. Var (unwrap_or o 0)) (variables k h)
   placed_again (ReadOf r) h g = ap (λ o. ReadOf (unwrap_or o 0)) (records r g)
   placed_again (Neg e) h g = ap Neg (placed_again e h g)
   placed_again (Bin o a b) h g =
-      let parts = and_parts (term_within ok a) (term_within ok b) g in
+      let parts = and_parts (term_within v ok a) (term_within v ok b) g in
       ap (λ x. Bin o x (placed s (spelled w b))) (placed_again a h.0 parts.0) ∙ ap (Bin o a) (placed_again b h.1 parts.1)
 
 -- what holds of the signs, and of each leaf, holds of each token
@@ -185,7 +188,7 @@ record IsOfSigns (p : Token → Bool) : Type 0 where
   at_open : p Open ≡ true
   at_close : p Close ≡ true
 
-module _ (p : Token → Bool) (signs : IsOfSigns p) (w : Words) (known : ℕ) (ok : ℕ → Bool) (literals : (v : Value) → p (Leaf (said v)) ≡ true) (variables : (k : ℕ) → k < known → p (Leaf (AVariable (variable_name w k))) ≡ true) (records : (r : ℕ) → ok r ≡ true → p (Leaf (ARecord (w.record_name r))) ≡ true) where
+module _ (p : Token → Bool) (signs : IsOfSigns p) (v : Version) (w : Words) (known : ℕ) (ok : ℕ → Bool) (literals : (c : Value) → p (Leaf (said c)) ≡ true) (variables : (k : ℕ) → k < known → p (Leaf (AVariable (variable_name w k))) ≡ true) (records : (r : ℕ) → ok r ≡ true → p (Leaf (ARecord (w.record_name r))) ≡ true) where
   first : (t : Token) (ts : List Token) → p t ≡ true → list_all p ts ≡ true → list_all p (t ∷ ts) ≡ true
   first t ts h g = ap (λ b. b && list_all p ts) h ∙ g
 
@@ -205,30 +208,32 @@ module _ (p : Token → Bool) (signs : IsOfSigns p) (w : Words) (known : ℕ) (o
   product Product ts h = h
   product Sum ts h = enclosed ts h
 
-  all_tokens : (e : Term) → IsOver known e → term_within ok e ≡ true → list_all p (tokens w e) ≡ true
-  all_tokens (Constant v) h g = first _ [] (literals v) refl
+  all_tokens : (e : Term) → IsOver known e → term_within v ok e ≡ true → list_all p (tokens w e) ≡ true
+  all_tokens (Constant c) h g = first _ [] (literals c) refl
   all_tokens (Var k) h g = first _ [] (variables k h) refl
   all_tokens (ReadOf r) h g = first _ [] (records r g) refl
   all_tokens (Neg e) h g = first Minus _ signs.at_minus (factor (rank_of e) _ (all_tokens e h g))
   all_tokens (Bin op.Times a b) h g =
-      let parts = and_parts (term_within ok a) (term_within ok b) g in
+      let parts = and_parts (term_within v ok a) (term_within v ok b) g in
       both _ _ (product (rank_of a) _ (all_tokens a h.0 parts.0)) (first Times _ signs.at_times (factor (rank_of b) _ (all_tokens b h.1 parts.1)))
   all_tokens (Bin op.Plus a b) h g =
-      let parts = and_parts (term_within ok a) (term_within ok b) g in
+      let parts = and_parts (term_within v ok a) (term_within v ok b) g in
       both _ _ (all_tokens a h.0 parts.0) (first Plus _ signs.at_plus (product (rank_of b) _ (all_tokens b h.1 parts.1)))
   all_tokens (Bin op.Minus a b) h g =
-      let parts = and_parts (term_within ok a) (term_within ok b) g in
+      let parts = and_parts (term_within v ok a) (term_within v ok b) g in
       both _ _ (all_tokens a h.0 parts.0) (first Minus _ signs.at_minus (product (rank_of b) _ (all_tokens b h.1 parts.1)))
 
-module _ (s : Scope) (w : Words) (known : ℕ) (ok : ℕ → Bool) (variables : (k : ℕ) → k < known → variable_named s (variable_name w k) ≡ Some k) (records : (r : ℕ) → ok r ≡ true → record_of s (w.record_name r) ≡ Some r) where
-  literal_knows_variable : (v : Value) → token_variable s (Leaf (said v)) ≡ true
+module _ (v : Version) (s : Scope) (w : Words) (known : ℕ) (ok : ℕ → Bool) (variables : (k : ℕ) → k < known → variable_named s (variable_name w k) ≡ Some k) (records : (r : ℕ) → ok r ≡ true → record_of s (w.record_name r) ≡ Some r) where
+  literal_knows_variable : (c : Value) → token_variable s (Leaf (said c)) ≡ true
   literal_knows_variable (Number z) = refl
+  literal_knows_variable (Text t) = refl
 
-  literal_knows_record : (v : Value) → token_record s (Leaf (said v)) ≡ true
+  literal_knows_record : (c : Value) → token_record s (Leaf (said c)) ≡ true
   literal_knows_record (Number z) = refl
+  literal_knows_record (Text t) = refl
 
-  pub variables_known : (e : Term) → IsOver known e → term_within ok e ≡ true → knows_variables s (tokens w e) ≡ true
-  variables_known = all_tokens (token_variable s) (record { at_plus = refl; at_minus = refl; at_times = refl; at_open = refl; at_close = refl }) w known ok literal_knows_variable (λ k lt. ap is_some (variables k lt)) (λ r h. refl)
+  pub variables_known : (e : Term) → IsOver known e → term_within v ok e ≡ true → knows_variables s (tokens w e) ≡ true
+  variables_known = all_tokens (token_variable s) (record { at_plus = refl; at_minus = refl; at_times = refl; at_open = refl; at_close = refl }) v w known ok literal_knows_variable (λ k lt. ap is_some (variables k lt)) (λ r h. refl)
 
-  pub records_known : (e : Term) → IsOver known e → term_within ok e ≡ true → knows_records s (tokens w e) ≡ true
-  records_known = all_tokens (token_record s) (record { at_plus = refl; at_minus = refl; at_times = refl; at_open = refl; at_close = refl }) w known ok literal_knows_record (λ k lt. refl) (λ r h. ap is_some (records r h))
+  pub records_known : (e : Term) → IsOver known e → term_within v ok e ≡ true → knows_records s (tokens w e) ≡ true
+  records_known = all_tokens (token_record s) (record { at_plus = refl; at_minus = refl; at_times = refl; at_open = refl; at_close = refl }) v w known ok literal_knows_record (λ k lt. refl) (λ r h. ap is_some (records r h))

@@ -16,6 +16,7 @@ use Rattle.text_lines.specs.Text.{is_name, lines, statements, statements_from, s
 use Rattle.session_language.specs.declared.fault.SessionRule.{SessionRule}
 use Rattle.session_language.specs.declared.fault.SessionRule.TheVariants.{UnknownName, TooLong, TooManyGives}
 use Rattle.session_language.specs.declared.fault.SessionRefusal.{SessionRefusal}
+use Rattle.session_meaning.specs.Fitting.{test_fits, command_fits, block_fits}
 use Rattle.session_meaning.specs.Tree.{Test, Command, LetVar, SetTo, GiveOf, Requires, When, Choice, Loop, Block, Nothing, Then}
 use Rattle.session_meaning.specs.ProgramValue.{ProgramValue}
 use Rattle.session_meaning.specs.refinement.TreeOfStatements.{block_from}
@@ -100,7 +101,7 @@ module _ (p : PlanValue) (ok : IsConsistent p) (x : ProgramValue) (good : IsWell
   )
 
   -- the first line of a statement
-  line_read : (named : List ℕ) (outer : List OpenBlock) (n k : ℕ) (cs : List Command) (c : Command) (after : List ℕ) → n ≤ count → IsFirstOver n c → command_within ours c → first_known n c ≤ count → length (first_needs c named) ≤ 16
+  line_read : (named : List ℕ) (outer : List OpenBlock) (n k : ℕ) (cs : List Command) (c : Command) (after : List ℕ) → n ≤ count → IsFirstOver n c → command_within p.version ours c → first_known n c ≤ count → length (first_needs c named) ≤ 16
       → (opens c && nat_le 8 (length outer)) ≡ false
       → GoesOn (so_far named outer n cs) k (line (text_of w c) ++ after) (going p ok x good.declared (first_done (draft p ok x good.declared (first_needs c named) outer (first_known n c) cs) c)) after
   line_read named outer n k cs c after le h g room needs shallow =
@@ -114,12 +115,12 @@ module _ (p : PlanValue) (ok : IsConsistent p) (x : ProgramValue) (good : IsWell
   end_read : (named : List ℕ) (outer : List OpenBlock) (n k : ℕ) (cs body : List Command) (head : Head) (after : List ℕ)
       → GoesOn (so_far named (inside_of cs head ∷ outer) n body) k (line (codes "end") ++ after) (so_far named outer n (cs ++ whole head (block_from body) ∷ [])) after
   end_read named outer n k cs body head after =
-      taken_line (so_far named (inside_of cs head ∷ outer) n body) _ k (codes "end") after (plainly (codes "end") refl) refl (ap (take_formed p (so_far named (inside_of cs head ∷ outer) n body)) end_form)
+      taken_line (so_far named (inside_of cs head ∷ outer) n body) _ k (codes "end") after (plainly (codes "end") refl) refl (ap (take_formed p (so_far named (inside_of cs head ∷ outer) n body)) (end_form p.version))
 
   else_read : (named : List ℕ) (outer : List OpenBlock) (n k : ℕ) (cs body : List Command) (t : Test) (after : List ℕ)
       → GoesOn (so_far named (inside_of cs (IfHead t) ∷ outer) n body) k (line (codes "else") ++ after) (so_far named (inside_of cs (ElseHead t (block_from body)) ∷ outer) n []) after
   else_read named outer n k cs body t after =
-      taken_line (so_far named (inside_of cs (IfHead t) ∷ outer) n body) _ k (codes "else") after (plainly (codes "else") refl) refl (ap (take_formed p (so_far named (inside_of cs (IfHead t) ∷ outer) n body)) else_form)
+      taken_line (so_far named (inside_of cs (IfHead t) ∷ outer) n body) _ k (codes "else") after (plainly (codes "else") refl) refl (ap (take_formed p (so_far named (inside_of cs (IfHead t) ∷ outer) n body)) (else_form p.version))
 
   regrouped : (y z : Reading) (k : ℕ) (bs cs after : List ℕ) → bs ≡ cs → GoesOn y k cs z after → GoesOn y k bs z after
   regrouped y z k bs cs after is g = (g.0, ap (λ ds. read_lines p y (statements_from k (lines ds))) is ∙ g.1)
@@ -133,18 +134,19 @@ module _ (p : PlanValue) (ok : IsConsistent p) (x : ProgramValue) (good : IsWell
   -- all lines of a statement, and of a block
   abbrev IsRead : Command → Type 0
   IsRead c =
-      (named : List ℕ) (outer : List OpenBlock) (n k : ℕ) (cs : List Command) (after : List ℕ) → IsStatementOver (length outer) n c → known_after n c ≤ count → Ours (command_needs c named) → length (command_needs c named) ≤ 16
+      command_fits p.version c ≡ true → (named : List ℕ) (outer : List OpenBlock) (n k : ℕ) (cs : List Command) (after : List ℕ) → IsStatementOver (length outer) n c → known_after n c ≤ count → Ours (command_needs c named) → length (command_needs c named) ≤ 16
       → GoesOn (so_far named outer n cs) k (command_text w c ++ after) (so_far (command_needs c named) outer (known_after n c) (cs ++ c ∷ [])) after
 
   abbrev IsBlockRead : Block → Type 0
   IsBlockRead b =
-      (named : List ℕ) (outer : List OpenBlock) (n k : ℕ) (cs : List Command) (after : List ℕ) → AreStatements (length outer) n b → known_after_block n b ≤ count → Ours (block_needs b named) → length (block_needs b named) ≤ 16
+      block_fits p.version b ≡ true → (named : List ℕ) (outer : List OpenBlock) (n k : ℕ) (cs : List Command) (after : List ℕ) → AreStatements (length outer) n b → known_after_block n b ≤ count → Ours (block_needs b named) → length (block_needs b named) ≤ 16
       → GoesOn (so_far named outer n cs) k (block_text w b ++ after) (so_far (block_needs b named) outer (known_after_block n b) (cs ++ commands_of b)) after
 
   when_read : (t : Test) (b : Block) → IsBlockRead b → IsRead (When t b)
-  when_read t b body named outer n k cs after h top all few =
+  when_read t b body f named outer n k cs after h top all few =
+      let fits_so = and_parts (test_fits p.version t) (block_fits p.version b) f in
       let rs : List ℕ = test_needs t named in
-      let parts = with_command ours (When t b) named all in
+      let parts = with_command p.version ours (When t b) named all f in
       let le : n ≤ count = let g = block_grows n b in omega arith in
       let small : length rs ≤ 16 = let l = block_longer b rs in omega arith in
       let blocks : List OpenBlock = inside_of cs (IfHead t) ∷ outer in
@@ -154,13 +156,13 @@ module _ (p : PlanValue) (ok : IsConsistent p) (x : ProgramValue) (good : IsWell
       (goes_on (so_far named outer n cs) (so_far rs blocks n []) (so_far (block_needs b rs) outer (known_after_block n b) (cs ++ When t b ∷ [])) k (head ++ (block_text w b ++ (last_line ++ after))) (block_text w b ++ (last_line ++ after)) after
       (line_read named outer n k cs (When t b) (block_text w b ++ (last_line ++ after)) le h.1 parts.0 le small (room_for (length outer) h.0)) (λ i.
       goes_on (so_far rs blocks n []) (so_far (block_needs b rs) blocks (known_after_block n b) (commands_of b)) (so_far (block_needs b rs) outer (known_after_block n b) (cs ++ When t b ∷ [])) i (block_text w b ++ (last_line ++ after)) (last_line ++ after) after
-      (body rs blocks n i [] (last_line ++ after) h.2 top all few) (λ j.
+      (body fits_so.1 rs blocks n i [] (last_line ++ after) h.2 top all few) (λ j.
       arrived _ (so_far (block_needs b rs) outer (known_after_block n b) (cs ++ When t (block_from (commands_of b)) ∷ [])) (so_far (block_needs b rs) outer (known_after_block n b) (cs ++ When t b ∷ [])) j (last_line ++ after) after
       (ap (λ d. so_far (block_needs b rs) outer (known_after_block n b) (cs ++ When t d ∷ [])) (block_again b))
       (end_read (block_needs b rs) outer (known_after_block n b) j cs (commands_of b) (IfHead t) after))))
 
   loop_read : (turns : ℕ) (b : Block) → IsBlockRead b → IsRead (Loop turns b)
-  loop_read turns b body named outer n k cs after h top all few =
+  loop_read turns b body f named outer n k cs after h top all few =
       let le : n ≤ count = let g = block_grows n b in omega arith in
       let small : length named ≤ 16 = let l = block_longer b named in omega arith in
       let blocks : List OpenBlock = inside_of cs (RepeatHead turns) ∷ outer in
@@ -170,18 +172,20 @@ module _ (p : PlanValue) (ok : IsConsistent p) (x : ProgramValue) (good : IsWell
       (goes_on (so_far named outer n cs) (so_far named blocks n []) (so_far (block_needs b named) outer (known_after_block n b) (cs ++ Loop turns b ∷ [])) k (head ++ (block_text w b ++ (last_line ++ after))) (block_text w b ++ (last_line ++ after)) after
       (line_read named outer n k cs (Loop turns b) (block_text w b ++ (last_line ++ after)) le h.1 tt le small (room_for (length outer) h.0)) (λ i.
       goes_on (so_far named blocks n []) (so_far (block_needs b named) blocks (known_after_block n b) (commands_of b)) (so_far (block_needs b named) outer (known_after_block n b) (cs ++ Loop turns b ∷ [])) i (block_text w b ++ (last_line ++ after)) (last_line ++ after) after
-      (body named blocks n i [] (last_line ++ after) h.2 top all few) (λ j.
+      (body f named blocks n i [] (last_line ++ after) h.2 top all few) (λ j.
       arrived _ (so_far (block_needs b named) outer (known_after_block n b) (cs ++ Loop turns (block_from (commands_of b)) ∷ [])) (so_far (block_needs b named) outer (known_after_block n b) (cs ++ Loop turns b ∷ [])) j (last_line ++ after) after
       (ap (λ d. so_far (block_needs b named) outer (known_after_block n b) (cs ++ Loop turns d ∷ [])) (block_again b))
       (end_read (block_needs b named) outer (known_after_block n b) j cs (commands_of b) (RepeatHead turns) after))))
 
   choice_read : (t : Test) (a b : Block) → IsBlockRead a → IsBlockRead b → IsRead (Choice t a b)
-  choice_read t a b first second named outer n k cs after h top all few =
+  choice_read t a b first second f named outer n k cs after h top all few =
+      let fits_so = and_parts (test_fits p.version t) (block_fits p.version a && block_fits p.version b) f in
+      let both_fit = and_parts (block_fits p.version a) (block_fits p.version b) fits_so.1 in
       let rs : List ℕ = test_needs t named in
       let ra : List ℕ = block_needs a rs in
       let na : ℕ = known_after_block n a in
       let nb : ℕ = known_after_block na b in
-      let parts = with_command ours (Choice t a b) named all in
+      let parts = with_command p.version ours (Choice t a b) named all f in
       let top_a : na ≤ count = let g = block_grows na b in omega arith in
       let le : n ≤ count = let g = block_grows n a in omega arith in
       let few_a : length ra ≤ 16 = let l = block_longer b ra in omega arith in
@@ -199,17 +203,18 @@ module _ (p : PlanValue) (ok : IsConsistent p) (x : ProgramValue) (good : IsWell
       (goes_on (so_far named outer n cs) (so_far rs blocks n []) end k (head ++ (block_text w a ++ (middle ++ tail))) (block_text w a ++ (middle ++ tail)) after
       (line_read named outer n k cs (Choice t a b) (block_text w a ++ (middle ++ tail)) le h.1 parts.0 le small (room_for (length outer) h.0)) (λ i.
       goes_on (so_far rs blocks n []) (so_far ra blocks na (commands_of a)) end i (block_text w a ++ (middle ++ tail)) (middle ++ tail) after
-      (first rs blocks n i [] (middle ++ tail) h.2 top_a (with_block ours b ra all) few_a) (λ j.
+      (first both_fit.0 rs blocks n i [] (middle ++ tail) h.2 top_a (with_block p.version ours b ra all both_fit.1) few_a) (λ j.
       goes_on (so_far ra blocks na (commands_of a)) (so_far ra turned na []) end j (middle ++ tail) tail after
       (else_read ra outer na j cs (commands_of a) t tail) (λ l.
       goes_on (so_far ra turned na []) (so_far (block_needs b ra) turned nb (commands_of b)) end l tail (last_line ++ after) after
-      (second ra turned na l [] (last_line ++ after) h.3 top all few) (λ m.
+      (second both_fit.1 ra turned na l [] (last_line ++ after) h.3 top all few) (λ m.
       arrived _ (so_far (block_needs b ra) outer nb (cs ++ Choice t (block_from (commands_of a)) (block_from (commands_of b)) ∷ [])) end m (last_line ++ after) after
       (ap (λ d. so_far (block_needs b ra) outer nb (cs ++ Choice t d (block_from (commands_of b)) ∷ [])) (block_again a) ∙ ap (λ d. so_far (block_needs b ra) outer nb (cs ++ Choice t a d ∷ [])) (block_again b))
       (end_read (block_needs b ra) outer nb m cs (commands_of b) (ElseHead t (block_from (commands_of a))) after))))))
 
   then_read : (c : Command) (rest : Block) → IsRead c → IsBlockRead rest → IsBlockRead (Then c rest)
-  then_read c rest one more named outer n k cs after h top all few =
+  then_read c rest one more f named outer n k cs after h top all few =
+      let fits_so = and_parts (command_fits p.version c) (block_fits p.version rest) f in
       let next : ℕ = known_after n c in
       let rs : List ℕ = command_needs c named in
       let room : next ≤ count = let g = block_grows next rest in omega arith in
@@ -217,23 +222,23 @@ module _ (p : PlanValue) (ok : IsConsistent p) (x : ProgramValue) (good : IsWell
       let end : Reading = so_far (block_needs rest rs) outer (known_after_block next rest) (cs ++ c ∷ commands_of rest) in
       regrouped (so_far named outer n cs) end k _ (command_text w c ++ (block_text w rest ++ after)) after (append_assoc (command_text w c) (block_text w rest) after)
       (goes_on (so_far named outer n cs) (so_far rs outer next (cs ++ c ∷ [])) end k (command_text w c ++ (block_text w rest ++ after)) (block_text w rest ++ after) after
-      (one named outer n k cs (block_text w rest ++ after) h.0 room (with_block ours rest rs all) small) (λ i.
+      (one fits_so.0 named outer n k cs (block_text w rest ++ after) h.0 room (with_block p.version ours rest rs all fits_so.1) small) (λ i.
       arrived _ (so_far (block_needs rest rs) outer (known_after_block next rest) ((cs ++ c ∷ []) ++ commands_of rest)) end i (block_text w rest ++ after) after
       (ap (λ ds. so_far (block_needs rest rs) outer (known_after_block next rest) ds) (append_assoc cs (c ∷ []) (commands_of rest)))
-      (more rs outer next i (cs ++ c ∷ []) after h.1 top all few)))
+      (more fits_so.1 rs outer next i (cs ++ c ∷ []) after h.1 top all few)))
 
   mutual
     command_read : (c : Command) → IsRead c
-    command_read (LetVar i e) = λ named outer n k cs after h top all few. line_read named outer n k cs (LetVar i e) after (let g = grows n (LetVar i e) in omega arith) h (with_command ours (LetVar i e) named all).0 top few refl
-    command_read (SetTo r e) = λ named outer n k cs after h top all few. line_read named outer n k cs (SetTo r e) after top h (with_command ours (SetTo r e) named all).0 top few refl
-    command_read (GiveOf e) = λ named outer n k cs after h top all few. line_read named outer n k cs (GiveOf e) after top h (with_command ours (GiveOf e) named all).0 top few refl
-    command_read (Requires t code) = λ named outer n k cs after h top all few. line_read named outer n k cs (Requires t code) after top h (with_command ours (Requires t code) named all).0 top few refl
+    command_read (LetVar i e) = λ f named outer n k cs after h top all few. line_read named outer n k cs (LetVar i e) after (let g = grows n (LetVar i e) in omega arith) h (with_command p.version ours (LetVar i e) named all f).0 top few refl
+    command_read (SetTo r e) = λ f named outer n k cs after h top all few. line_read named outer n k cs (SetTo r e) after top h (with_command p.version ours (SetTo r e) named all f).0 top few refl
+    command_read (GiveOf e) = λ f named outer n k cs after h top all few. line_read named outer n k cs (GiveOf e) after top h (with_command p.version ours (GiveOf e) named all f).0 top few refl
+    command_read (Requires t code) = λ f named outer n k cs after h top all few. line_read named outer n k cs (Requires t code) after top h (with_command p.version ours (Requires t code) named all f).0 top few refl
     command_read (When t b) = when_read t b (block_read b)
     command_read (Choice t a b) = choice_read t a b (block_read a) (block_read b)
     command_read (Loop turns b) = loop_read turns b (block_read b)
 
     block_read : (b : Block) → IsBlockRead b
-    block_read Nothing = λ named outer n k cs after h top all few. (k, ap (λ ds. read_lines p (so_far named outer n ds) (statements_from k (lines after))) (sym (append-nil cs)))
+    block_read Nothing = λ f named outer n k cs after h top all few. (k, ap (λ ds. read_lines p (so_far named outer n ds) (statements_from k (lines after))) (sym (append-nil cs)))
     block_read (Then c rest) = then_read c rest (command_read c) (block_read rest)
 
   -- the program at its end
@@ -271,15 +276,21 @@ module _ (p : PlanValue) (ok : IsConsistent p) (x : ProgramValue) (good : IsWell
 
   end_taken : take_line p (going p ok x good.declared whole_draft) (codes "end") ≡ Ok last
   end_taken =
-      ap (take_formed p (going p ok x good.declared whole_draft)) end_form
+      ap (take_formed p (going p ok x good.declared whole_draft)) (end_form p.version)
       ∙ ap (λ r. (r >>= λ q. Ok (Closed q)) >>= λ e. Ok (with_ended (going p ok x good.declared whole_draft) e)) closes
 
   last_read : (k : ℕ) → read_lines p (going p ok x good.declared whole_draft) (statements_from k (lines (line (codes "end")))) ≡ Ok last
   last_read k = (taken_line (going p ok x good.declared whole_draft) last k (codes "end") [] (plainly (codes "end") refl) refl end_taken).1
 
   module _ (fitting : fits p x ≡ true) where
+    placed : (nat_lt x.office (length p.offices) && list_all ours (needs_of x.body)) ≡ true
+    placed = (and_parts (nat_lt x.office (length p.offices) && list_all ours (needs_of x.body)) (block_fits p.version x.body) fitting).0
+
+    literals : block_fits p.version x.body ≡ true
+    literals = (and_parts (nat_lt x.office (length p.offices) && list_all ours (needs_of x.body)) (block_fits p.version x.body) fitting).1
+
     inside : x.office < length p.offices
-    inside = let h = (and_parts (nat_lt x.office (length p.offices)) _ fitting).0 in grind (arith, nat_tests)
+    inside = let h = (and_parts (nat_lt x.office (length p.offices)) (list_all ours (needs_of x.body)) placed).0 in grind (arith, nat_tests)
 
     abbrev nobody : OfficeEntry
     nobody = record { name = []; address = [] }
@@ -301,7 +312,7 @@ module _ (p : PlanValue) (ok : IsConsistent p) (x : ProgramValue) (good : IsWell
 
     begins : take_line p nothing_read (codes "session " ++ w.office) ≡ Ok (so_far [] [] 0 [])
     begins =
-        ap (take_formed p nothing_read) (session_form w.office is_named)
+        ap (take_formed p nothing_read) (session_form p.version w.office is_named)
         ∙ ap (λ o. ok_or o UnknownName >>= λ office. refuse_if (nat_le 1024 0) TooLong >> Ok (with_open nothing_read (begun office))) named
 
     first_plain : IsPlain (codes "session " ++ w.office)
@@ -312,7 +323,7 @@ module _ (p : PlanValue) (ok : IsConsistent p) (x : ProgramValue) (good : IsWell
 
     all_read : read_lines p nothing_read (statements (text_under p x)) ≡ Ok last
     all_read =
-        let body = block_read x.body [] [] 0 2 [] (line (codes "end")) good.declared.statements (omega (arith, good.declared.all_let)) (and_parts (nat_lt x.office (length p.offices)) _ fitting).1 good.few_records in
+        let body = block_read x.body literals [] [] 0 2 [] (line (codes "end")) good.declared.statements (omega (arith, good.declared.all_let)) (and_parts (nat_lt x.office (length p.offices)) (list_all ours (needs_of x.body)) placed).1 good.few_records in
         let known : so_far (needs_of x.body) [] (known_after_block 0 x.body) (commands_of x.body) ≡ going p ok x good.declared whole_draft = ap (λ n. so_far (needs_of x.body) [] n (commands_of x.body)) good.declared.all_let in
         ap (λ bs. read_lines p nothing_read (statements bs)) (append_assoc (codes "session " ++ w.office) (10 ∷ []) later)
         ∙ ap (read_lines p nothing_read) (first_statement_is 1 (codes "session " ++ w.office) later first_plain refl)

@@ -105,7 +105,7 @@ same_variables d (Loop m b) = refl
 pub record Retold (s : Scope) (w : Words) (c : Command) (later : List (List ℕ)) : Type 0 where
   pub said : Said
   pub spoken : Spoken
-  pub form : form_of (pieces_of (text_of w c)) ≡ Some (Says said)
+  pub form : form_of s.plan.version (pieces_of (text_of w c)) ≡ Some (Says said)
   pub speaks : speak s said ≡ Ok spoken
   pub variables : variables_after s.variables spoken ≡ later
   pub names : (rs : List ℕ) → named_after rs spoken ≡ first_needs c rs
@@ -141,32 +141,32 @@ module _ (p : PlanValue) (ok : IsConsistent p) (x : ProgramValue) (d : IsDeclare
     records : (r : ℕ) → own r ≡ true → record_of (scope n) (w.record_name r) ≡ Some r
     records r h = record_word_found p ok r (scope n) refl h
 
-    pub plain_line : (c : Command) → IsFirstOver n c → command_within own c → first_known n c ≤ length x.variables → IsPlain (text_of w c)
-    plain_line (LetVar k e) h g room = command_plain w n own names record_names (LetVar k e) h g (variable_names k (omega arith))
-    plain_line (SetTo r e) h g room = command_plain w n own names record_names (SetTo r e) h g tt
-    plain_line (GiveOf e) h g room = command_plain w n own names record_names (GiveOf e) h g tt
-    plain_line (Requires t code) h g room = command_plain w n own names record_names (Requires t code) h g tt
-    plain_line (When t b) h g room = command_plain w n own names record_names (When t b) h g tt
-    plain_line (Choice t a b) h g room = command_plain w n own names record_names (Choice t a b) h g tt
-    plain_line (Loop m b) h g room = command_plain w n own names record_names (Loop m b) h g tt
+    pub plain_line : (c : Command) → IsFirstOver n c → command_within p.version own c → first_known n c ≤ length x.variables → IsPlain (text_of w c)
+    plain_line (LetVar k e) h g room = command_plain p.version w n own names record_names (LetVar k e) h g (variable_names k (omega arith))
+    plain_line (SetTo r e) h g room = command_plain p.version w n own names record_names (SetTo r e) h g tt
+    plain_line (GiveOf e) h g room = command_plain p.version w n own names record_names (GiveOf e) h g tt
+    plain_line (Requires t code) h g room = command_plain p.version w n own names record_names (Requires t code) h g tt
+    plain_line (When t b) h g room = command_plain p.version w n own names record_names (When t b) h g tt
+    plain_line (Choice t a b) h g room = command_plain p.version w n own names record_names (Choice t a b) h g tt
+    plain_line (Loop m b) h g room = command_plain p.version w n own names record_names (Loop m b) h g tt
 
-    spells : (e : Term) → IsExpressionOver n e → term_within own e ≡ true → Spells (term_text w e) (tokens w e)
-    spells e h g = term_spelled w n own names record_names e h.0 g
+    spells : (e : Term) → IsExpressionOver n e → term_within p.version own e ≡ true → Spells p.version (term_text w e) (tokens w e)
+    spells e h g = term_spelled p.version w n own names record_names e h.0 g
 
-    same_term : (e : Term) → IsExpressionOver n e → term_within own e ≡ true → placed (scope n) (spelled w e) ≡ e
-    same_term e h g = placed_again (scope n) w n own found records e h.0 g
+    same_term : (e : Term) → IsExpressionOver n e → term_within p.version own e ≡ true → placed (scope n) (spelled w e) ≡ e
+    same_term e h g = placed_again p.version (scope n) w n own found records e h.0 g
 
-    known : (e : Term) → IsExpressionOver n e → term_within own e ≡ true → knows_variables (scope n) (tokens w e) ≡ true
-    known e h g = variables_known (scope n) w n own found records e h.0 g
+    known : (e : Term) → IsExpressionOver n e → term_within p.version own e ≡ true → knows_variables (scope n) (tokens w e) ≡ true
+    known e h g = variables_known p.version (scope n) w n own found records e h.0 g
 
-    read : (e : Term) → IsExpressionOver n e → term_within own e ≡ true → knows_records (scope n) (tokens w e) ≡ true
-    read e h g = records_known (scope n) w n own found records e h.0 g
+    read : (e : Term) → IsExpressionOver n e → term_within p.version own e ≡ true → knows_records (scope n) (tokens w e) ≡ true
+    read e h g = records_known p.version (scope n) w n own found records e h.0 g
 
-    let_retold : (k : ℕ) (e : Term) (later : List (List ℕ)) → IsExpressionOver n e → term_within own e ≡ true → k < length x.variables → (place_of (variable_name w k) later ≡ k) × (with_variable (variable_name w k) (front n) ≡ later) → Retold (scope n) w (LetVar k e) later
+    let_retold : (k : ℕ) (e : Term) (later : List (List ℕ)) → IsExpressionOver n e → term_within p.version own e ≡ true → k < length x.variables → (place_of (variable_name w k) later ≡ k) × (with_variable (variable_name w k) (front n) ≡ later) → Retold (scope n) w (LetVar k e) later
     let_retold k e later h g lt placed_so = record {
       said = Lets (variable_name w k) (phrase w e);
       spoken = SpeaksLet (variable_name w k) e;
-      form = let_form w e (variable_name w k) (term_text w e) (variable_names k lt) (spells e h g);
+      form = let_form p.version w e (variable_name w k) (term_text w e) (variable_names k lt) (spells e h g);
       speaks = spoken_so (scope n) (Lets (variable_name w k) (phrase w e)) (SpeaksLet (variable_name w k) e) (known e h g) (read e h g) (shallow (depth e) h.1) (ap (SpeaksLet (variable_name w k)) (same_term e h g));
       variables = placed_so.1;
       names = λ rs. refl;
@@ -192,7 +192,7 @@ module _ (p : PlanValue) (ok : IsConsistent p) (x : ProgramValue) (d : IsDeclare
             subst Q last (subst (Placed n) m (let_next x.variables d.distinct n le (omega arith)))
 
     abbrev IsTestWithin : Test → Type 0
-    IsTestWithin t = (term_within own t.left ≡ true) × (term_within own t.right ≡ true)
+    IsTestWithin t = (term_within p.version own t.left ≡ true) × (term_within p.version own t.right ≡ true)
 
     -- both sides of a condition
     sides_known : (t : Test) → IsTestOver n t → IsTestWithin t → (knows_variables (scope n) (tokens w t.left) && knows_variables (scope n) (tokens w t.right)) ≡ true
@@ -212,18 +212,18 @@ module _ (p : PlanValue) (ok : IsConsistent p) (x : ProgramValue) (d : IsDeclare
     abbrev question_of : Test → Said
     question_of t = Asks (phrase w t.left) t.comparison (phrase w t.right)
 
-    question_form : (t : Test) → IsTestOver n t → IsTestWithin t → form_of (pieces_of (codes "if " ++ test_text w t)) ≡ Some (Says (question_of t))
-    question_form t h g = if_form w t.left t.right t.comparison (term_text w t.left) (term_text w t.right) (spells t.left h.0 g.0) (spells t.right h.1 g.1)
+    question_form : (t : Test) → IsTestOver n t → IsTestWithin t → form_of p.version (pieces_of (codes "if " ++ test_text w t)) ≡ Some (Says (question_of t))
+    question_form t h g = if_form p.version w t.left t.right t.comparison (term_text w t.left) (term_text w t.right) (spells t.left h.0 g.0) (spells t.right h.1 g.1)
 
     question_speaks : (t : Test) → IsTestOver n t → IsTestWithin t → speak (scope n) (question_of t) ≡ Ok (SpeaksIf t)
     question_speaks t h g = spoken_so (scope n) (question_of t) (SpeaksIf t) (sides_known t h g) (sides_read t h g) (sides_shallow t h) (ap SpeaksIf (same_test t h g))
 
-    pub retold : (c : Command) → IsFirstOver n c → command_within own c → first_known n c ≤ length x.variables → Retold (scope n) w c (front (first_known n c))
+    pub retold : (c : Command) → IsFirstOver n c → command_within p.version own c → first_known n c ≤ length x.variables → Retold (scope n) w c (front (first_known n c))
     retold (LetVar k e) h g room = let_retold k e (front (max n (suc k))) h.1 g (omega arith) (let_placed k h.0 (omega arith))
     retold (SetTo r e) h g room = record {
       said = Sets (w.record_name r) (phrase w e);
       spoken = SpeaksSet r e;
-      form = set_form w e (w.record_name r) (term_text w e) (record_names r g.0) (spells e h g.1);
+      form = set_form p.version w e (w.record_name r) (term_text w e) (record_names r g.0) (spells e h g.1);
       speaks = spoken_so (scope n) (Sets (w.record_name r) (phrase w e)) (SpeaksSet r e) (known e h g.1)
           (and_true (is_some (record_of (scope n) (w.record_name r))) (knows_records (scope n) (tokens w e)) (ap is_some (records r g.0)) (read e h g.1))
           (shallow (depth e) h.1)
@@ -236,7 +236,7 @@ module _ (p : PlanValue) (ok : IsConsistent p) (x : ProgramValue) (d : IsDeclare
     retold (GiveOf e) h g room = record {
       said = Gives (phrase w e);
       spoken = SpeaksGive e;
-      form = give_form w e (term_text w e) (spells e h g);
+      form = give_form p.version w e (term_text w e) (spells e h g);
       speaks = spoken_so (scope n) (Gives (phrase w e)) (SpeaksGive e) (known e h g) (read e h g) (shallow (depth e) h.1) (ap SpeaksGive (same_term e h g));
       variables = refl;
       names = λ rs. refl;
@@ -246,7 +246,7 @@ module _ (p : PlanValue) (ok : IsConsistent p) (x : ProgramValue) (d : IsDeclare
     retold (Requires t code) h g room = record {
       said = Demands (phrase w t.left) t.comparison (phrase w t.right) code;
       spoken = SpeaksDemand t code;
-      form = require_form w t.left t.right t.comparison code (term_text w t.left) (term_text w t.right) h.1 (spells t.left h.0.0 g.0) (spells t.right h.0.1 g.1);
+      form = require_form p.version w t.left t.right t.comparison code (term_text w t.left) (term_text w t.right) h.1 (spells t.left h.0.0 g.0) (spells t.right h.0.1 g.1);
       speaks = spoken_so (scope n) (Demands (phrase w t.left) t.comparison (phrase w t.right) code) (SpeaksDemand t code) (sides_known t h.0 g) (sides_read t h.0 g) (sides_shallow t h.0)
           (ap (λ (u : Test). SpeaksDemand u code) (same_test t h.0 g));
       variables = refl;
@@ -277,7 +277,7 @@ module _ (p : PlanValue) (ok : IsConsistent p) (x : ProgramValue) (d : IsDeclare
     retold (Loop m b) h g room = record {
       said = Repeats m;
       spoken = SpeaksRepeat m;
-      form = repeat_form m h;
+      form = repeat_form p.version m h;
       speaks = refl;
       variables = refl;
       names = λ rs. refl;
@@ -292,7 +292,7 @@ module _ (p : PlanValue) (ok : IsConsistent p) (x : ProgramValue) (d : IsDeclare
   abbrev pub going : Draft → Reading
   going d = record { done = []; open_session = Some d }
 
-  pub line_retaken : (named : List ℕ) (outer : List OpenBlock) (n : ℕ) (cs : List Command) (c : Command) → n ≤ length x.variables → IsFirstOver n c → command_within own c → first_known n c ≤ length x.variables → length x.variables ≤ 32
+  pub line_retaken : (named : List ℕ) (outer : List OpenBlock) (n : ℕ) (cs : List Command) (c : Command) → n ≤ length x.variables → IsFirstOver n c → command_within p.version own c → first_known n c ≤ length x.variables → length x.variables ≤ 32
       → length (first_needs c named) ≤ 16 → (opens c && nat_le 8 (length outer)) ≡ false → take_line p (going (draft named outer n cs)) (text_of w c) ≡ Ok (going (first_done (draft (first_needs c named) outer (first_known n c) cs) c))
   line_retaken named outer n cs c le h g room few needs shallow_here =
       let r : Retold (scope n) w c (front (first_known n c)) = retold n le c h g room in

@@ -14,7 +14,11 @@ use Rattle.session_meaning.specs.declared.node.Comparison.TheVariants.{Equal, No
 use Rattle.session_programs.specs.declared.rank.Rank.{Rank}
 use Rattle.session_programs.specs.declared.rank.Rank.TheVariants.{Factor, Product, Sum}
 use Rattle.session_meaning.specs.Tree.{Term, Constant, Var, ReadOf, Neg, Bin, Test, Command, LetVar, SetTo, GiveOf, Requires, When, Choice, Loop}
-use Rattle.bottle_values.specs.Values.{Value, Number}
+use Rattle.bottle_values.specs.declared.Value.{Value}
+use Rattle.bottle_values.specs.declared.Value.TheVariants.{Number, Text}
+use Rattle.bottle_values.specs.ListLaws.{all_weaker}
+use Rattle.bottle_values.specs.Texts.{is_text_byte, is_text}
+use Rattle.bottle_values.specs.declared.version.Version.{Version}
 use Rattle.session_programs.specs.Text.{Words, literal, variable_name, in_parentheses, factor_text, product_text, rank_of, operator_text, comparison_text, term_text, test_text}
 use Rattle.session_programs.specs.WellFormed.{IsLiteral, IsOver, IsTestOver}
 use Rattle.session_language.proofs.canonical.Lexemes.{number_is_word, name_bytes, word_is_plain}
@@ -83,9 +87,16 @@ number_plain n h = plainly (fmt.decimal n) (word_is_plain (fmt.decimal n) (numbe
 pub name_plain : (w : List ℕ) → is_name w ≡ true → IsPlain w
 name_plain w h = plainly w (word_is_plain w (name_bytes w h).word)
 
+text_byte_is_plain : (b : ℕ) → is_text_byte b ≡ true → is_plain b ≡ true
+text_byte_is_plain b h = grind (h, arith, nat_tests)
+
+text_plain : (t : List ℕ) → is_text t ≡ true → IsPlain t
+text_plain t h = plainly t (all_weaker is_text_byte is_plain text_byte_is_plain t (and_parts _ (list_all is_text_byte t) h).1)
+
 literal_plain : (v : Value) → IsLiteral v → IsPlain (literal v)
 literal_plain (Number (pos n)) h = number_plain n h
 literal_plain (Number (negsuc n)) h = absurd h
+literal_plain (Text t) h = both_plain (34 ∷ []) (t ++ 34 ∷ []) (plainly (34 ∷ []) refl) (both_plain t (34 ∷ []) (text_plain t h) (plainly (34 ∷ []) refl))
 
 comparison_plain : (c : Comparison) → IsPlain (comparison_text c)
 comparison_plain Equal = plainly (comparison_text Equal) refl
@@ -96,35 +107,35 @@ comparison_plain Greater = plainly (comparison_text Greater) refl
 comparison_plain AtLeast = plainly (comparison_text AtLeast) refl
 
 -- each record of the first line of a statement is one of these
-abbrev pub command_within : (ℕ → Bool) → Command → Type 0
-command_within ok (LetVar k e) = term_within ok e ≡ true
-command_within ok (SetTo r e) = (ok r ≡ true) × (term_within ok e ≡ true)
-command_within ok (GiveOf e) = term_within ok e ≡ true
-command_within ok (Requires t code) = (term_within ok t.left ≡ true) × (term_within ok t.right ≡ true)
-command_within ok (When t b) = (term_within ok t.left ≡ true) × (term_within ok t.right ≡ true)
-command_within ok (Choice t a b) = (term_within ok t.left ≡ true) × (term_within ok t.right ≡ true)
-command_within ok (Loop n b) = Unit {0}
+abbrev pub command_within : Version → (ℕ → Bool) → Command → Type 0
+command_within v ok (LetVar k e) = term_within v ok e ≡ true
+command_within v ok (SetTo r e) = (ok r ≡ true) × (term_within v ok e ≡ true)
+command_within v ok (GiveOf e) = term_within v ok e ≡ true
+command_within v ok (Requires t code) = (term_within v ok t.left ≡ true) × (term_within v ok t.right ≡ true)
+command_within v ok (When t b) = (term_within v ok t.left ≡ true) × (term_within v ok t.right ≡ true)
+command_within v ok (Choice t a b) = (term_within v ok t.left ≡ true) × (term_within v ok t.right ≡ true)
+command_within v ok (Loop n b) = Unit {0}
 
-module _ (w : Words) (known : ℕ) (ok : ℕ → Bool) (variables : (k : ℕ) → k < known → is_name (variable_name w k) ≡ true) (records : (r : ℕ) → ok r ≡ true → is_name (w.record_name r) ≡ true) where
-  pub term_plain : (e : Term) → IsOver known e → term_within ok e ≡ true → IsPlain (term_text w e)
-  term_plain (Constant v) h g = literal_plain v h
+module _ (v : Version) (w : Words) (known : ℕ) (ok : ℕ → Bool) (variables : (k : ℕ) → k < known → is_name (variable_name w k) ≡ true) (records : (r : ℕ) → ok r ≡ true → is_name (w.record_name r) ≡ true) where
+  pub term_plain : (e : Term) → IsOver known e → term_within v ok e ≡ true → IsPlain (term_text w e)
+  term_plain (Constant c) h g = literal_plain c h
   term_plain (Var k) h g = name_plain (variable_name w k) (variables k h)
   term_plain (ReadOf r) h g = both_plain (codes "read ") (w.record_name r) (plainly (codes "read ") refl) (name_plain (w.record_name r) (records r g))
   term_plain (Neg e) h g = both_plain (45 ∷ []) _ (plainly (45 ∷ []) refl) (factor_plain (rank_of e) (term_text w e) (term_plain e h g))
   term_plain (Bin op.Times a b) h g =
-      let parts = and_parts (term_within ok a) (term_within ok b) g in
+      let parts = and_parts (term_within v ok a) (term_within v ok b) g in
       both_plain _ _ (product_plain (rank_of a) _ (term_plain a h.0 parts.0)) (both_plain (operator_text op.Times) _ (plainly (operator_text op.Times) refl) (factor_plain (rank_of b) _ (term_plain b h.1 parts.1)))
   term_plain (Bin op.Plus a b) h g =
-      let parts = and_parts (term_within ok a) (term_within ok b) g in
+      let parts = and_parts (term_within v ok a) (term_within v ok b) g in
       both_plain _ _ (term_plain a h.0 parts.0) (both_plain (operator_text op.Plus) _ (plainly (operator_text op.Plus) refl) (product_plain (rank_of b) _ (term_plain b h.1 parts.1)))
   term_plain (Bin op.Minus a b) h g =
-      let parts = and_parts (term_within ok a) (term_within ok b) g in
+      let parts = and_parts (term_within v ok a) (term_within v ok b) g in
       both_plain _ _ (term_plain a h.0 parts.0) (both_plain (operator_text op.Minus) _ (plainly (operator_text op.Minus) refl) (product_plain (rank_of b) _ (term_plain b h.1 parts.1)))
 
-  assigned_plain : (name : List ℕ) (e : Term) → is_name name ≡ true → IsOver known e → term_within ok e ≡ true → IsPlain (name ++ (codes " = " ++ term_text w e))
+  assigned_plain : (name : List ℕ) (e : Term) → is_name name ≡ true → IsOver known e → term_within v ok e ≡ true → IsPlain (name ++ (codes " = " ++ term_text w e))
   assigned_plain name e n h g = both_plain name _ (name_plain name n) (both_plain (codes " = ") (term_text w e) (plainly (codes " = ") refl) (term_plain e h g))
 
-  test_plain : (t : Test) → IsOver known t.left → IsOver known t.right → term_within ok t.left ≡ true → term_within ok t.right ≡ true → IsPlain (test_text w t)
+  test_plain : (t : Test) → IsOver known t.left → IsOver known t.right → term_within v ok t.left ≡ true → term_within v ok t.right ≡ true → IsPlain (test_text w t)
   test_plain t h i g j = both_plain _ _ (term_plain t.left h g) (both_plain _ _ (comparison_plain t.comparison) (term_plain t.right i j))
 
   -- the variable of a `let` is a name too
@@ -137,10 +148,10 @@ module _ (w : Words) (known : ℕ) (ok : ℕ → Bool) (variables : (k : ℕ) �
   LetsName (Choice t a b) = Unit {0}
   LetsName (Loop n b) = Unit {0}
 
-  condition_plain : (t : Test) → IsTestOver known t → (term_within ok t.left ≡ true) × (term_within ok t.right ≡ true) → IsPlain (test_text w t)
+  condition_plain : (t : Test) → IsTestOver known t → (term_within v ok t.left ≡ true) × (term_within v ok t.right ≡ true) → IsPlain (test_text w t)
   condition_plain t h g = test_plain t h.0.0 h.1.0 g.0 g.1
 
-  pub command_plain : (c : Command) → IsFirstOver known c → command_within ok c → LetsName c → IsPlain (text_of w c)
+  pub command_plain : (c : Command) → IsFirstOver known c → command_within v ok c → LetsName c → IsPlain (text_of w c)
   command_plain (LetVar k e) h g n = both_plain (codes "let ") _ (plainly (codes "let ") refl) (assigned_plain (variable_name w k) e n h.1.0 g)
   command_plain (SetTo r e) h g n = both_plain (codes "set ") _ (plainly (codes "set ") refl) (assigned_plain (w.record_name r) e (records r g.0) h.0 g.1)
   command_plain (GiveOf e) h g n = both_plain (codes "give ") _ (plainly (codes "give ") refl) (term_plain e h.0 g)

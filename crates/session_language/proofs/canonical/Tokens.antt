@@ -1,11 +1,12 @@
 -- The canonical tokens of an expression: they spell it, and no tokens that spell it are less deep.
 use Rattle.std.proofs.Common.{◌≤◌, ℕ, suc, List, [], ◌∷◌, ◌++◌, arith}
-use Rattle.bottle_values.specs.Values.{Value, Number}
+use Rattle.bottle_values.specs.declared.Value.{Value}
+use Rattle.bottle_values.specs.declared.Value.TheVariants.{Number, Text}
 use Rattle.session_meaning.specs.declared.node.Operator.TheVariants as op
 use Rattle.session_programs.specs.declared.rank.Rank.{Rank}
 use Rattle.session_programs.specs.declared.rank.Rank.TheVariants.{Factor, Product, Sum}
 use Rattle.session_meaning.specs.Tree.{Term, Constant, Var, ReadOf, Neg, Bin}
-use Rattle.session_language.specs.Spelling.{Operand, ANumber, AVariable, ARecord, Spelled, Plain, Negative, Binary, Token, Leaf, Plus, Minus, Times, Open, Close}
+use Rattle.session_language.specs.Spelling.{Operand, ANumber, AText, AVariable, ARecord, Spelled, Plain, Negative, Binary, Token, Leaf, Plus, Minus, Times, Open, Close}
 use Rattle.session_language.specs.Grammar.{IsFactor, IsProduct, IsExpr, operand, negative, enclosed, one, star, alone, plus, minus}
 use Rattle.session_language.specs.Names.{Scope, placed}
 use Rattle.session_language.specs.Phrase.{Phrase}
@@ -28,6 +29,7 @@ product_tokens Sum ts = enclose ts
 -- a literal as a token
 abbrev pub said : Value → Operand
 said (Number z) = ANumber (magnitude z)
+said (Text t) = AText t
 
 abbrev pub spelled : Words → Term → Spelled
 spelled w (Constant v) = Plain (said v)
@@ -107,6 +109,7 @@ module _ (s : Scope) where
 
   leaf_least : (x : Operand) → factor_depth (rank (Plain x)) (least (Plain x)) ≤ 1
   leaf_least (ANumber n) = omega arith
+  leaf_least (AText t) = omega arith
   leaf_least (AVariable name) = omega arith
   leaf_least (ARecord name) = omega arith
 

@@ -8,10 +8,11 @@ use Rattle.session_language.specs.declared.builder.Level as code_level
 use Rattle.session_language.specs.declared.builder.Sum as code_sum
 use Rattle.session_language.specs.declared.builder.Sum.TheVariants as sums
 use Rattle.session_language.specs.declared.builder.Stage.TheVariants as stages
-use Rattle.session_language.specs.Spelling.{Operand, ANumber, AVariable, ARecord, Token, Leaf, Plus, Minus, Times, Open, Close}
+use Rattle.session_language.specs.Spelling.{Operand, ANumber, AText, AVariable, ARecord, Token, Leaf, Plus, Minus, Times, Open, Close}
 use Rattle.session_meaning.specs.refinement.Postfix.{postfix}
 use Rattle.session_language.specs.Parse.{Part, leaf, leading_minus, in_parentheses, Sum, NoSum, Added, Taken, Level, State, Wants, Has, negated, multiplied, summed, take_operand, take, finished}
-use Rattle.session_language.specs.Names.{Scope, operand_of, node_of, element_of, placed}
+use Rattle.session_language.specs.Names.{Scope, operand_of, placed}
+use Rattle.session_language.specs.refinement.PlacedTokens.{node_of, element_of}
 use Rattle.session_language.specs.refinement.PostfixBuilder.{Build, completed, emit, product_depth, product_end, sum_depth, sum_end, ended}
 
 abbrev pub depth_of : Part → ℕ
@@ -98,6 +99,7 @@ module _ (sc : Scope) where
 
   leaf_nodes : (x : Operand) → postfix (operand_of sc x) ≡ node_of sc x ∷ []
   leaf_nodes (ANumber n) = refl
+  leaf_nodes (AText t) = refl
   leaf_nodes (AVariable name) = refl
   leaf_nodes (ARecord name) = refl
 

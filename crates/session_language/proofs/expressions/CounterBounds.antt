@@ -1,8 +1,7 @@
 -- There is room to count each leading minus that a line can still have.
 use Rattle.std.proofs.Common.{◌≡◌, ◌<◌, ℕ, List, [], ◌∷◌, Option, Some, subst, sym, arith}
 use Rattle.session_meaning.specs.declared.node.Node.{Node}
-use Rattle.session_language.specs.declared.builder.Element.{Element}
-use Rattle.session_language.specs.declared.builder.Element.TheVariants.{Operand, Plus, Minus, Times, Open, Close}
+use Rattle.session_language.specs.refinement.PlacedTokens.{Element, Operand, Plus, Minus, Times, Open, Close}
 use Rattle.session_language.specs.declared.builder.Level.{Level}
 use Rattle.session_language.specs.declared.builder.Stage.{Stage}
 use Rattle.session_language.specs.declared.builder.Stage.TheVariants.{Wants, Has}

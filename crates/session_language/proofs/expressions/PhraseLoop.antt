@@ -5,12 +5,12 @@ use Rattle.std.specs.List.{list_all}
 use Rattle.session_meaning.specs.declared.node.Node.{Node}
 use Rattle.session_language.specs.declared.lexer.Piece as code_piece
 use Rattle.session_language.specs.declared.summary.Summary.{Summary}
-use Rattle.session_language.specs.declared.names.Placed.{Placed}
 use Rattle.session_language.specs.Lexer.{Piece}
-use Rattle.session_language.specs.Spelling.{Token}
+use Rattle.session_language.specs.Spelling.{AText, Token, Leaf}
 use Rattle.session_meaning.specs.refinement.Postfix.{postfix}
 use Rattle.session_language.specs.Parse.{Part, State, take, take_all, and_take, finished, start}
-use Rattle.session_language.specs.Names.{Scope, element_of, placed, token_variable, token_record, knows_variables, knows_records, placed_of}
+use Rattle.session_language.specs.Names.{Scope, placed, token_variable, token_record, knows_variables, knows_records}
+use Rattle.session_language.specs.refinement.PlacedTokens.{Placed, element_of, placed_of}
 use Rattle.session_language.specs.refinement.PostfixBuilder.{Build, emit, ended, fresh_build}
 use Rattle.session_language.specs.Phrase.{Run, run, with_token, stop_at, Phrase, phrase_of, phrase_in, phrase_at, stopped, Reads}
 use Rattle.session_language.proofs.expressions.BuilderRefinesParser.{build, taken_alike, ended_alike, depth_of, ending}
@@ -55,15 +55,15 @@ pub record Going (sc : Scope) (b : Build) (variables records : Bool) (left : Lis
   pub is : b ≡ build sc state
   pub variables_are : variables ≡ knows_variables sc front
   pub records_are : records ≡ knows_records sc front
-  pub so_far : from_run front state (run false left) ≡ all
+  pub so_far : from_run front state (run sc.plan.version false left) ≡ all
 
 start_run : (o : Option Run) → from_run [] start o ≡ phrase_in o
 start_run None = refl
 start_run (Some r) = refl
 
-pub begun : (sc : Scope) (b : Build) (ps : List Piece) → b ≡ fresh_build → Going sc b true true ps (phrase_at ps)
+pub begun : (sc : Scope) (b : Build) (ps : List Piece) → b ≡ fresh_build → Going sc b true true ps (phrase_at sc.plan.version ps)
 unfolding phrase_at
-begun sc b ps e = record { front = []; state = start; is = e; variables_are = refl; records_are = refl; so_far = start_run (run false ps) }
+begun sc b ps e = record { front = []; state = start; is = e; variables_are = refl; records_are = refl; so_far = start_run (run sc.plan.version false ps) }
 
 some_taken : (sc : Scope) (o : Option State) (b : Build) → option_map (build sc) o ≡ Some b → (u : State) × (o ≡ Some u) × (b ≡ build sc u)
 some_taken sc None b e = (cc)
@@ -77,7 +77,7 @@ module _ (sc : Scope) (b : Build) (variables records : Bool) (left : List Piece)
   alike : (t : Token) → emit b (element_of sc t) ≡ option_map (build sc) (take g.state t)
   alike t = ap (λ (x : Build). emit x (element_of sc t)) g.is ∙ taken_alike sc g.state t
 
-  pub one_more : (t : Token) (next : Build) (after : List Piece) → run false left ≡ with_token t (run false after) → emit b (element_of sc t) ≡ Some next
+  pub one_more : (t : Token) (next : Build) (after : List Piece) → run sc.plan.version false left ≡ with_token t (run sc.plan.version false after) → emit b (element_of sc t) ≡ Some next
       → Going sc next (variables && token_variable sc t) (records && token_record sc t) after all
   one_more t next after told e =
       let f = some_taken sc (take g.state t) next (sym (alike t) ∙ e) in
@@ -87,31 +87,48 @@ module _ (sc : Scope) (b : Build) (variables records : Bool) (left : List Piece)
         is = f.2;
         variables_are = ap (λ x. x && token_variable sc t) g.variables_are ∙ sym (all_more (token_variable sc) g.front t);
         records_are = ap (λ x. x && token_record sc t) g.records_are ∙ sym (all_more (token_record sc) g.front t);
-        so_far = sym (run_more g.front g.state f.0 t (run false after) f.1) ∙ ap (from_run g.front g.state) (sym told) ∙ g.so_far;
+        so_far = sym (run_more g.front g.state f.0 t (run sc.plan.version false after) f.1) ∙ ap (from_run g.front g.state) (sym told) ∙ g.so_far;
       }
 
-  pub no_more : (t : Token) (after : List Piece) → run false left ≡ with_token t (run false after) → emit b (element_of sc t) ≡ None → all ≡ None
+  and_true : (a : Bool) → (a && true) ≡ a
+  and_true true = refl
+  and_true false = refl
+
+  -- a text knows its names
+  pub text_taken : (bytes : List ℕ) (next : Build) (after : List Piece) → run sc.plan.version false left ≡ with_token (Leaf (AText bytes)) (run sc.plan.version false after) → emit b (element_of sc (Leaf (AText bytes))) ≡ Some next → Going sc next variables records after all
+  text_taken bytes next after told e =
+      let m = one_more (Leaf (AText bytes)) next after told e in
+      record {
+        front = m.front;
+        state = m.state;
+        is = m.is;
+        variables_are = sym (and_true variables) ∙ m.variables_are;
+        records_are = sym (and_true records) ∙ m.records_are;
+        so_far = m.so_far;
+      }
+
+  pub no_more : (t : Token) (after : List Piece) → run sc.plan.version false left ≡ with_token t (run sc.plan.version false after) → emit b (element_of sc t) ≡ None → all ≡ None
   no_more t after told e =
       let f = none_taken sc (take g.state t) (sym (alike t) ∙ e) in
-      sym g.so_far ∙ ap (from_run g.front g.state) told ∙ run_none g.front g.state t (run false after) f
+      sym g.so_far ∙ ap (from_run g.front g.state) told ∙ run_none g.front g.state t (run sc.plan.version false after) f
 
-  pub wrong : run false left ≡ None → all ≡ None
+  pub wrong : run sc.plan.version false left ≡ None → all ≡ None
   wrong told = sym g.so_far ∙ ap (from_run g.front g.state) told
 
   ends : ended b ≡ option_map (ending sc) (finished (Some g.state))
   ends = ap ended g.is ∙ ended_alike sc g.state
 
-  stops : (rest : List Piece) → run false left ≡ stop_at rest → all ≡ phrase_of g.front rest (finished (Some g.state))
+  stops : (rest : List Piece) → run sc.plan.version false left ≡ stop_at rest → all ≡ phrase_of g.front rest (finished (Some g.state))
   stops rest told = sym g.so_far ∙ ap (from_run g.front g.state) told ∙ ap (λ (ts : List Token). phrase_of ts rest (finished (Some g.state))) (append-nil g.front)
 
-  pub stopped_none : (rest : List Piece) → run false left ≡ stop_at rest → ended b ≡ None → all ≡ None
+  pub stopped_none : (rest : List Piece) → run sc.plan.version false left ≡ stop_at rest → ended b ≡ None → all ≡ None
   stopped_none rest told e = by_end (finished (Some g.state)) (sym ends ∙ e) (stops rest told)
     where
       by_end : (o : Option Part) → option_map (ending sc) o ≡ None → all ≡ phrase_of g.front rest o → all ≡ None
       by_end None h k = k
       by_end (Some x) h k = (cc)
 
-  pub stopped_some : (p : Option code_piece.Piece) (ps : List Piece) (d : ℕ) (nodes : List Node) → run false left ≡ stop_at (stopped p ps) → ended b ≡ Some (d, nodes)
+  pub stopped_some : (p : Option code_piece.Piece) (ps : List Piece) (d : ℕ) (nodes : List Node) → run sc.plan.version false left ≡ stop_at (stopped p ps) → ended b ≡ Some (d, nodes)
       → Reads (Some (record { depth = d; knows_variables = variables; knows_records = records }, p)) sc nodes all ps
   stopped_some p ps d nodes told e = by_end (finished (Some g.state)) (sym ends ∙ e) (stops (stopped p ps) told)
     where

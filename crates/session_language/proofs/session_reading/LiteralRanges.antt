@@ -6,29 +6,35 @@ use Rattle.std.specs.Char.{is_ascii_digit}
 use Rattle.std.proofs.lemmas.Bool.{and_parts}
 use Rattle.std.proofs.lemmas.Bool.Decides.{nat_tests}
 use Rattle.text_lines.specs.Text.{is_name, name_of, number_of, decimal}
+use Rattle.bottle_values.specs.declared.Value.TheVariants.{Text}
+use Rattle.bottle_values.specs.Texts.{is_text}
+use Rattle.bottle_values.specs.Versions.{admits}
+use Rattle.bottle_values.specs.declared.version.Version.{Version}
+use Rattle.bottle_values.specs.declared.version.Version.TheVariants.{One, Two}
 use Rattle.session_language.specs.declared.lexer.Symbol.{Symbol}
 use Rattle.session_language.specs.declared.lexer.Symbol.TheVariants as symbol
-use Rattle.session_language.specs.Lexer.{Piece, AWord, ASymbol, AStray}
-use Rattle.session_language.specs.Spelling.{Operand, ANumber, AVariable, ARecord, Token, Leaf, Plus, Minus, Times, Open, Close}
-use Rattle.session_language.specs.Phrase.{Run, run, is_read, with_token, with_symbol, with_operand, with_record, operand_in, or_variable, expression_symbol}
+use Rattle.session_language.specs.Lexer.{Piece, AWord, ASymbol, AQuoted, AStray}
+use Rattle.session_language.specs.Spelling.{Operand, ANumber, AText, AVariable, ARecord, Token, Leaf, Plus, Minus, Times, Open, Close}
+use Rattle.session_language.specs.Phrase.{Run, run, is_read, with_token, with_symbol, with_operand, with_record, operand_in, or_variable, text_in, expression_symbol}
 use Rattle.session_language.specs.Form.{small_code, else_code, few_turns, count_alone}
 
--- a literal is a number of a text
-abbrev pub operand_fits : Operand → Bool
-operand_fits (ANumber n) = nat_lt n (2 ^ 63)
-operand_fits (AVariable name) = true
-operand_fits (ARecord name) = true
+-- a literal is a number, or a text where there are texts
+abbrev pub operand_fits : (v : Version) → Operand → Bool
+operand_fits v (ANumber n) = nat_lt n (2 ^ 63)
+operand_fits v (AText t) = is_text t && admits v (Text t)
+operand_fits v (AVariable name) = true
+operand_fits v (ARecord name) = true
 
-abbrev pub token_fits : Token → Bool
-token_fits (Leaf x) = operand_fits x
-token_fits Plus = true
-token_fits Minus = true
-token_fits Times = true
-token_fits Open = true
-token_fits Close = true
+abbrev pub token_fits : (v : Version) → Token → Bool
+token_fits v (Leaf x) = operand_fits v x
+token_fits v Plus = true
+token_fits v Minus = true
+token_fits v Times = true
+token_fits v Open = true
+token_fits v Close = true
 
-abbrev pub tokens_fit : List Token → Type 0
-tokens_fit ts = list_all token_fits ts ≡ true
+abbrev pub tokens_fit : (v : Version) → List Token → Type 0
+tokens_fit v ts = list_all (token_fits v) ts ≡ true
 
 -- a number has a value below 2 ^ 63, and a word that is taken for a name is one
 number_by : (b : Bool) (n : ℕ) → ((b ≡ true) → nat_lt n (2 ^ 63) ≡ true) → IfSome (if b then Some n else None) (λ m. nat_lt m (2 ^ 63) ≡ true)
@@ -47,53 +53,63 @@ name_by false w h = tt
 pub name_fits : (w : List ℕ) → IfSome (name_of w) (λ n. is_name n ≡ true)
 name_fits w = name_by (is_name w) w refl
 
-operand_by : (n : Option ℕ) (name : Option (List ℕ)) → IfSome n (λ m. nat_lt m (2 ^ 63) ≡ true) → IfSome (or_variable n name) (λ x. operand_fits x ≡ true)
-operand_by (Some n) name h = h
-operand_by None (Some name) h = refl
-operand_by None None h = tt
+operand_by : (v : Version) (n : Option ℕ) (name : Option (List ℕ)) → IfSome n (λ m. nat_lt m (2 ^ 63) ≡ true) → IfSome (or_variable n name) (λ x. operand_fits v x ≡ true)
+operand_by v (Some n) name h = h
+operand_by v None (Some name) h = refl
+operand_by v None None h = tt
 
-abbrev RunFits : Option Run → Type 0
-RunFits o = IfSome o (λ r. tokens_fit r.tokens)
+text_by : (t : List ℕ) (b : Bool) → is_text t ≡ b → IfSome (if b then Some (AText t) else None) (λ x. operand_fits Two x ≡ true)
+text_by t true h = ap (λ x. x && true) h
+text_by t false h = tt
 
-token_more : (t : Token) (o : Option Run) → token_fits t ≡ true → RunFits o → RunFits (with_token t o)
-token_more t None h g = tt
-token_more t (Some r) h g = ap (λ b. b && list_all token_fits r.tokens) h ∙ g
+text_fits : (v : Version) (bytes : List ℕ) → IfSome (text_in v bytes) (λ x. operand_fits v x ≡ true)
+text_fits One bytes = tt
+text_fits Two bytes = text_by bytes (is_text bytes) refl
 
-operand_more : (x : Option Operand) (here : List Piece) (further : Option Run) → IfSome x (λ y. operand_fits y ≡ true) → RunFits further → RunFits (with_operand x here further)
-operand_more (Some x) here further h g = token_more (Leaf x) further h g
-operand_more None here further h g = refl
+abbrev RunFits : (v : Version) → Option Run → Type 0
+RunFits v o = IfSome o (λ r. tokens_fit v r.tokens)
 
-record_more : (n : Option (List ℕ)) (further : Option Run) → RunFits further → RunFits (with_record n further)
-record_more (Some name) further g = token_more (Leaf (ARecord name)) further refl g
-record_more None further g = tt
+token_more : (v : Version) (t : Token) (o : Option Run) → token_fits v t ≡ true → RunFits v o → RunFits v (with_token t o)
+token_more v t None h g = tt
+token_more v t (Some r) h g = ap (λ b. b && list_all (token_fits v) r.tokens) h ∙ g
 
-symbol_more : (s : Symbol) (here : List Piece) (further : Option Run) → RunFits further → RunFits (with_symbol (expression_symbol s) here further)
-symbol_more symbol.Plus here further g = token_more Plus further refl g
-symbol_more symbol.Minus here further g = token_more Minus further refl g
-symbol_more symbol.Times here further g = token_more Times further refl g
-symbol_more symbol.Open here further g = token_more Open further refl g
-symbol_more symbol.Close here further g = token_more Close further refl g
-symbol_more symbol.Assign here further g = refl
-symbol_more symbol.Equal here further g = refl
-symbol_more symbol.NotEqual here further g = refl
-symbol_more symbol.Less here further g = refl
-symbol_more symbol.AtMost here further g = refl
-symbol_more symbol.Greater here further g = refl
-symbol_more symbol.AtLeast here further g = refl
+operand_more : (v : Version) (x : Option Operand) (here : List Piece) (further : Option Run) → IfSome x (λ y. operand_fits v y ≡ true) → RunFits v further → RunFits v (with_operand x here further)
+operand_more v (Some x) here further h g = token_more v (Leaf x) further h g
+operand_more v None here further h g = refl
 
-word_more : (b : Bool) (w : List ℕ) (ps : List Piece) → RunFits (run true ps) → RunFits (run false ps) → RunFits (if b then run true ps else with_operand (operand_in w) (AWord w ∷ ps) (run false ps))
-word_more true w ps h g = h
-word_more false w ps h g = operand_more (operand_in w) (AWord w ∷ ps) (run false ps) (operand_by (number_of w) (name_of w) (number_fits w)) g
+record_more : (v : Version) (n : Option (List ℕ)) (further : Option Run) → RunFits v further → RunFits v (with_record n further)
+record_more v (Some name) further g = token_more v (Leaf (ARecord name)) further refl g
+record_more v None further g = tt
 
-pub run_fits : (b : Bool) (ps : List Piece) → RunFits (run b ps)
-run_fits false [] = refl
-run_fits true [] = tt
-run_fits false (AWord w ∷ ps) = word_more (is_read w) w ps (run_fits true ps) (run_fits false ps)
-run_fits true (AWord w ∷ ps) = record_more (name_of w) (run false ps) (run_fits false ps)
-run_fits false (ASymbol s ∷ ps) = symbol_more s (ASymbol s ∷ ps) (run false ps) (run_fits false ps)
-run_fits true (ASymbol s ∷ ps) = tt
-run_fits false (AStray ∷ ps) = refl
-run_fits true (AStray ∷ ps) = tt
+symbol_more : (v : Version) (s : Symbol) (here : List Piece) (further : Option Run) → RunFits v further → RunFits v (with_symbol (expression_symbol s) here further)
+symbol_more v symbol.Plus here further g = token_more v Plus further refl g
+symbol_more v symbol.Minus here further g = token_more v Minus further refl g
+symbol_more v symbol.Times here further g = token_more v Times further refl g
+symbol_more v symbol.Open here further g = token_more v Open further refl g
+symbol_more v symbol.Close here further g = token_more v Close further refl g
+symbol_more v symbol.Assign here further g = refl
+symbol_more v symbol.Equal here further g = refl
+symbol_more v symbol.NotEqual here further g = refl
+symbol_more v symbol.Less here further g = refl
+symbol_more v symbol.AtMost here further g = refl
+symbol_more v symbol.Greater here further g = refl
+symbol_more v symbol.AtLeast here further g = refl
+
+word_more : (v : Version) (b : Bool) (w : List ℕ) (ps : List Piece) → RunFits v (run v true ps) → RunFits v (run v false ps) → RunFits v (if b then run v true ps else with_operand (operand_in w) (AWord w ∷ ps) (run v false ps))
+word_more v true w ps h g = h
+word_more v false w ps h g = operand_more v (operand_in w) (AWord w ∷ ps) (run v false ps) (operand_by v (number_of w) (name_of w) (number_fits w)) g
+
+pub run_fits : (v : Version) (b : Bool) (ps : List Piece) → RunFits v (run v b ps)
+run_fits v false [] = refl
+run_fits v true [] = tt
+run_fits v false (AWord w ∷ ps) = word_more v (is_read w) w ps (run_fits v true ps) (run_fits v false ps)
+run_fits v true (AWord w ∷ ps) = record_more v (name_of w) (run v false ps) (run_fits v false ps)
+run_fits v false (ASymbol s ∷ ps) = symbol_more v s (ASymbol s ∷ ps) (run v false ps) (run_fits v false ps)
+run_fits v true (ASymbol s ∷ ps) = tt
+run_fits v false (AQuoted bytes ∷ ps) = operand_more v (text_in v bytes) (AQuoted bytes ∷ ps) (run v false ps) (text_fits v bytes) (run_fits v false ps)
+run_fits v true (AQuoted bytes ∷ ps) = tt
+run_fits v false (AStray ∷ ps) = refl
+run_fits v true (AStray ∷ ps) = tt
 
 -- a code is below 65536
 abbrev CodeFits : Option ℕ → Type 0
@@ -117,8 +133,10 @@ code_fits (AWord w ∷ []) = tt
 code_fits (AWord w ∷ AWord code ∷ []) = code_by (bytes_eq w (codes "else")) (number_of code) (small_fits (number_of code))
 code_fits (AWord w ∷ AWord code ∷ p ∷ ps) = tt
 code_fits (AWord w ∷ ASymbol s ∷ ps) = tt
+code_fits (AWord w ∷ AQuoted bytes ∷ ps) = tt
 code_fits (AWord w ∷ AStray ∷ ps) = tt
 code_fits (ASymbol s ∷ ps) = tt
+code_fits (AQuoted bytes ∷ ps) = tt
 code_fits (AStray ∷ ps) = tt
 
 -- a count of turns is at most 10000
@@ -138,4 +156,5 @@ count_fits [] = tt
 count_fits (AWord w ∷ []) = few_fit (number_of w)
 count_fits (AWord w ∷ p ∷ ps) = tt
 count_fits (ASymbol s ∷ ps) = tt
+count_fits (AQuoted bytes ∷ ps) = tt
 count_fits (AStray ∷ ps) = tt

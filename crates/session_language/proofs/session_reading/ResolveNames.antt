@@ -3,6 +3,7 @@ use Rattle.std.proofs.Common.{◌≡◌, ℕ, min, max, List, ◌∷◌, Bool, t
 use Rattle.std.proofs.lemmas.Bool.Decides.{nat_tests}
 use Rattle.std.specs.Option.{ok_or}
 use Rattle.office_map.specs.PlanText.{◌>>=◌, ◌>>◌, refuse_if}
+use Rattle.bottle_values.specs.declared.version.Version.{Version}
 use Rattle.session_meaning.specs.declared.node.Node.{Node}
 use Rattle.session_meaning.specs.declared.node.Comparison.{Comparison}
 use Rattle.session_language.specs.declared.summary.Summary.{Summary}
@@ -58,12 +59,12 @@ together x y = record { depth = max x.depth y.depth; knows_variables = x.knows_v
 
 -- what a phrase was read as, before these pieces
 abbrev pub Read : Summary → Scope → List Node → List Piece → List Piece → Type 0
-Read x sc nodes ps rest = (e : Phrase) × (phrase_at ps ≡ Some (e, rest)) × Keeps x sc nodes e
+Read x sc nodes ps rest = (e : Phrase) × (phrase_at sc.plan.version ps ≡ Some (e, rest)) × Keeps x sc nodes e
 
 -- the left side of a condition, and its comparison
-module _ (last : Last) (ps ps1 rest1 : List Piece) (s : Symbol) (c : Comparison) where
-  pub left_read : (l : Phrase) → phrase_at ps ≡ Some (l, rest1) → rest1 ≡ ASymbol s ∷ ps1 → comparison_of s ≡ Some c → condition last ps ≡ option_and_then (last l c) (phrase_at ps1)
-  left_read l first front compares = ap (option_and_then (after_left last)) first ∙ ap (λ rest. after_left last (l, rest)) front ∙ ap (λ o. compared last l o ps1) compares
+module _ (v : Version) (last : Last) (ps ps1 rest1 : List Piece) (s : Symbol) (c : Comparison) where
+  pub left_read : (l : Phrase) → phrase_at v ps ≡ Some (l, rest1) → rest1 ≡ ASymbol s ∷ ps1 → comparison_of s ≡ Some c → condition v last ps ≡ option_and_then (last l c) (phrase_at v ps1)
+  left_read l first front compares = ap (option_and_then (after_left v last)) first ∙ ap (λ rest. after_left v last (l, rest)) front ∙ ap (λ o. compared v last l o ps1) compares
 
 -- what is told of two sides together
 module _ (sc : Scope) (l r : Phrase) (x y : Summary) (ls rs : List Node) (kl : Keeps x sc ls l) (kr : Keeps y sc rs r) (judged_ok : judged (together x y) ≡ Ok tt) where
@@ -98,8 +99,8 @@ module _ (sc : Scope) (ps ps1 ps2 rest1 rest2 : List Piece) (s : Symbol) (c : Co
   pub demand_spoken : Read x sc ls ps rest1 → rest1 ≡ ASymbol s ∷ ps1 → comparison_of s ≡ Some c → Read y sc rs ps1 rest2 → rest2 ≡ AWord w ∷ ps2 → else_code (AWord w ∷ ps2) ≡ Some code → judged (together x y) ≡ Ok tt
       → (el er : Term) → el ≡ tree_of ls → er ≡ tree_of rs → spoken_after sc Require ps ≡ Ok (SpeaksDemand (record { left = el; comparison = c; right = er }) code)
   demand_spoken (l, first, kl) front compares (r, second, kr) back coded judged_ok el er is_l is_r =
-      let one : condition demand ps ≡ option_and_then (demand l c) (phrase_at ps1) = left_read demand ps ps1 rest1 s c l first front compares in
-      let two : option_and_then (demand l c) (phrase_at ps1) ≡ option_map (Demands l c r) (else_code rest2) = ap (option_and_then (demand l c)) second in
+      let one : condition sc.plan.version demand ps ≡ option_and_then (demand l c) (phrase_at sc.plan.version ps1) = left_read sc.plan.version demand ps ps1 rest1 s c l first front compares in
+      let two : option_and_then (demand l c) (phrase_at sc.plan.version ps1) ≡ option_map (Demands l c r) (else_code rest2) = ap (option_and_then (demand l c)) second in
       let three : option_map (Demands l c r) (else_code rest2) ≡ Some (Demands l c r code) = ap (λ rest. option_map (Demands l c r) (else_code rest)) back ∙ ap (option_map (Demands l c r)) coded in
       ap (λ o. ok_or o Syntax >>= speak sc) (one ∙ two ∙ three) ∙ demand_told sc l r x y ls rs kl kr judged_ok c el er is_l is_r code
 
@@ -109,8 +110,8 @@ module _ (sc : Scope) (ps ps1 rest1 : List Piece) (s : Symbol) (c : Comparison) 
   alone_asked l None r h = absurd (cc)
   alone_asked l (Some z) r h = ap (option_map (Asks l c)) h
 
-  pub question_spoken : Read x sc ls ps rest1 → rest1 ≡ ASymbol s ∷ ps1 → comparison_of s ≡ Some c → (r : Phrase) → phrase_alone ps1 ≡ Some r → Keeps y sc rs r → judged (together x y) ≡ Ok tt
+  pub question_spoken : Read x sc ls ps rest1 → rest1 ≡ ASymbol s ∷ ps1 → comparison_of s ≡ Some c → (r : Phrase) → phrase_alone sc.plan.version ps1 ≡ Some r → Keeps y sc rs r → judged (together x y) ≡ Ok tt
       → (el er : Term) → el ≡ tree_of ls → er ≡ tree_of rs → spoken_after sc If ps ≡ Ok (SpeaksIf (record { left = el; comparison = c; right = er }))
   question_spoken (l, first, kl) front compares r second kr judged_ok el er is_l is_r =
-      ap (λ o. ok_or o Syntax >>= speak sc) (left_read question ps ps1 rest1 s c l first front compares ∙ alone_asked l (phrase_at ps1) r second)
+      ap (λ o. ok_or o Syntax >>= speak sc) (left_read sc.plan.version question ps ps1 rest1 s c l first front compares ∙ alone_asked l (phrase_at sc.plan.version ps1) r second)
       ∙ question_told sc l r x y ls rs kl kr judged_ok c el er is_l is_r

@@ -25,15 +25,15 @@ by_said : (p : PlanValue) (x : Reading) (d : Draft) (o : Option Said) → x.open
 by_said p x d None h = refl
 by_said p x d (Some said) h = ap (λ s. take_statement p x s said) h
 
-by_keyword : (p : PlanValue) (x : Reading) (d : Draft) (k : Keyword) (ps : List Piece) → IsStatement k → x.open_session ≡ Some d → take_after p x k ps ≡ (ok_or (said_after k ps) Syntax >>= take_statement p x (Some d))
+by_keyword : (p : PlanValue) (x : Reading) (d : Draft) (k : Keyword) (ps : List Piece) → IsStatement k → x.open_session ≡ Some d → take_after p x k ps ≡ (ok_or (said_after p.version k ps) Syntax >>= take_statement p x (Some d))
 by_keyword p x d Session ps is h = absurd is
 by_keyword p x d End ps is h = absurd is
-by_keyword p x d Let ps is h = by_said p x d (said_after Let ps) h
-by_keyword p x d Set ps is h = by_said p x d (said_after Set ps) h
-by_keyword p x d Give ps is h = by_said p x d (said_after Give ps) h
-by_keyword p x d Require ps is h = by_said p x d (said_after Require ps) h
-by_keyword p x d If ps is h = by_said p x d (said_after If ps) h
-by_keyword p x d Repeat ps is h = by_said p x d (said_after Repeat ps) h
+by_keyword p x d Let ps is h = by_said p x d (said_after p.version Let ps) h
+by_keyword p x d Set ps is h = by_said p x d (said_after p.version Set ps) h
+by_keyword p x d Give ps is h = by_said p x d (said_after p.version Give ps) h
+by_keyword p x d Require ps is h = by_said p x d (said_after p.version Require ps) h
+by_keyword p x d If ps is h = by_said p x d (said_after p.version If ps) h
+by_keyword p x d Repeat ps is h = by_said p x d (said_after p.version Repeat ps) h
 by_keyword p x d Else ps is h = absurd is
 by_keyword p x d Other ps is h = refl
 
@@ -42,7 +42,7 @@ regroup p x d None = refl
 regroup p x d (Some said) = refl
 
 statement_taken : (p : PlanValue) (x : Reading) (d : Draft) (k : Keyword) (ps : List Piece) (sc : Scope) → IsStatement k → x.open_session ≡ Some d → sc ≡ scope_in p d → take_after p x k ps ≡ then_added x d (spoken_after sc k ps)
-statement_taken p x d k ps sc is h e = by_keyword p x d k ps is h ∙ regroup p x d (said_after k ps) ∙ ap (λ s. then_added x d (spoken_after s k ps)) (sym e)
+statement_taken p x d k ps sc is h e = by_keyword p x d k ps is h ∙ regroup p x d (said_after p.version k ps) ∙ ap (λ s. then_added x d (spoken_after s k ps)) (sym e)
 
 regrouped : (x : Reading) (d : Draft) (told : Result Spoken SessionRule) → then_added x d told ≡ ((told >>= add d) >>= λ next. Ok (with_open x next))
 regrouped x d (Ok s) = refl
@@ -61,5 +61,5 @@ module _ (p : PlanValue) (x : Reading) (d : Draft) (k : Keyword) (ps : List Piec
 -- a line that begins with a word
 pub line_taken : (p : PlanValue) (x : Reading) (line w : List ℕ) (k : Keyword) (ps : List Piece) (r : Result (Unit {0}) Stop) (after : Reading) → pieces_of line ≡ AWord w ∷ ps → k ≡ keyword_of w → UnlessMemory (λ _. after) Stops r (take_after p x k ps) → UnlessMemory (λ _. after) Stops r (take_line p x line)
 line_taken p x line w k ps r after cut is h =
-    let same : take_after p x k ps ≡ take_line p x line = ap (λ j. take_after p x j ps) is ∙ ap (λ qs. take_formed p x (form_of qs)) (sym cut) in
+    let same : take_after p x k ps ≡ take_line p x line = ap (λ j. take_after p x j ps) is ∙ ap (λ qs. take_formed p x (form_of p.version qs)) (sym cut) in
     subst (λ told. UnlessMemory (λ _. after) Stops r told) same h

@@ -4,8 +4,7 @@ use Rattle.std.specs.Prelude.{ℕ, suc, ◌+◌, ◌<◌, ◌^◌, min, max, Lis
 use Rattle.session_meaning.specs.declared.node.Node.{Node}
 use Rattle.session_meaning.specs.declared.node.Node.TheVariants.{Negate, Apply}
 use Rattle.session_meaning.specs.declared.node.Operator.TheVariants as op
-use Rattle.session_language.specs.declared.builder.Element.{Element}
-use Rattle.session_language.specs.declared.builder.Element.TheVariants.{Operand, Plus, Minus, Times, Open, Close}
+use Rattle.session_language.specs.refinement.PlacedTokens.{Element, Operand, Plus, Minus, Times, Open, Close}
 use Rattle.session_language.specs.declared.builder.Sum.{Sum}
 use Rattle.session_language.specs.declared.builder.Sum.TheVariants.{Nothing, Added, Taken}
 use Rattle.session_language.specs.declared.builder.Level.{Level}
@@ -20,7 +19,7 @@ pub record Build : Type 0 where
   pub nodes : List Node
 
 abbrev pub build_of : Builder → Build
-build_of b = record { outer = reverse b.outer.items; stage = b.stage; nodes = b.nodes.items }
+build_of b = record { outer = reverse b.outer.items; stage = b.stage; nodes = b.nodes }
 
 abbrev pub joined_depth : ℕ → ℕ → ℕ
 joined_depth a b = min 33 (suc (max a b))

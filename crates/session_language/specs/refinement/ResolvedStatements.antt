@@ -36,7 +36,7 @@ seen_spoken (spoken.Repeat turns) = SpeaksRepeat turns
 
 -- the statement after a keyword, with its names in their places
 abbrev pub spoken_after : Scope → Keyword → List Piece → Result Spoken SessionRule
-spoken_after s k ps = ok_or (said_after k ps) Syntax >>= speak s
+spoken_after s k ps = ok_or (said_after s.plan.version k ps) Syntax >>= speak s
 
 -- the first refusal of an expression's names and depth
 abbrev pub judged : Summary → Result (Unit {0}) SessionRule

@@ -2,7 +2,8 @@
 use Rattle.std.specs.Prelude.{ℕ, suc, ℤ, pos, negsuc, List, [], ◌∷◌, length}
 use Rattle.std.specs.Coded.{×_prop, Unit-prop, le_prop}
 use Rattle.std.proofs.Props.{props}
-use Rattle.bottle_values.specs.Values.{Value, Number}
+use Rattle.bottle_values.specs.declared.Value.{Value}
+use Rattle.bottle_values.specs.declared.Value.TheVariants.{Number, Text}
 use Rattle.session_meaning.specs.Tree.{Term, Constant, Var, ReadOf, Neg, Bin, Test, Command, LetVar, SetTo, GiveOf, Requires, When, Choice, Loop, Block, Nothing, Then}
 use Rattle.session_programs.specs.WellFormed.{IsUnsigned, IsLiteral, IsOver, IsExpressionOver, IsTestOver, IsStatementOver, known_after, known_after_block, AreStatements}
 use Rattle.session_meaning.specs.refinement.TreeOfStatements.{block_from}
@@ -15,6 +16,7 @@ unsigned-prop (negsuc n) = Prim.hlevel props
 
 literal-prop : (v : Value) → IsProp (IsLiteral v)
 literal-prop (Number z) = unsigned-prop z
+literal-prop (Text t) = Prim.hlevel props
 
 over-prop : (known : ℕ) (e : Term) → IsProp (IsOver known e)
 over-prop known (Constant v) = literal-prop v

@@ -11,7 +11,7 @@ returns c =
     let second = rw c.in-Some-2.is at c.in_ok-second.ensures in
     question_spoken (scope_of c.args.scope.now) (pieces_of c.args.pieces.rest.now) (pieces_of c.phrase.new.pieces.rest.now) _
     c.in-Some-default-Some-Symbol.symbol c.in-Some.comparison
-    c.in-Some-default-Some-Symbol.first c.in-Some-2.second c.phrase.new.self.nodes.items c.alone.new.builder.nodes.items
+    c.in-Some-default-Some-Symbol.first c.in-Some-2.second c.phrase.new.self.nodes c.alone.new.builder.nodes
     first (search rules) (search rules) second.0 second.1 second.2 (search rules)
     c.in_ok-left.left c.in_ok-right.right c.in_ok-left.ensures c.in_ok-right.ensures
     ∙ sym (ap (λ t. Ok (SpeaksIf t)) c.in_ok-condition.ensures)

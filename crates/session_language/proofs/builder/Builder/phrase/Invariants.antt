@@ -8,7 +8,7 @@ use Rattle.session_language.proofs.builder.Builder.phrase.Given as goal
 
 abbrev pub invariant-loop-token : goal.invariant-loop-token
 invariant-loop-token l =
-    Going (scope_of l.scope) (build_of l.self) l.knows_variables l.knows_records (pieces_of l.pieces.rest.now) (phrase_at (pieces_of l.fn.pieces.rest.now))
+    Going (scope_of l.scope) (build_of l.self) l.knows_variables l.knows_records (pieces_of l.pieces.rest.now) (phrase_at (scope_of l.scope).plan.version (pieces_of l.fn.pieces.rest.now))
     × HasRoomFor (length l.pieces.rest.now) l.self.stage × (length l.pieces.rest.now ≤ length l.fn.pieces.rest.now)
 
 abbrev pub decreases-loop-token : goal.decreases-loop-token

@@ -1,4 +1,4 @@
-use Rattle.std.proofs.Common.{rules, sym}
+use Rattle.std.proofs.Common.{rules, sym, ◌∙◌}
 use Rattle.session_language.proofs.Pieces.{past_blank, at_piece, at_end, word_found}
 use Rattle.session_language.proofs.lexer.Pieces.next.Goals as goal
 
@@ -12,6 +12,10 @@ returns-in-Word-clause-gives c =
 
 pub returns-in-Sign-clause-gives : goal.returns-in-Sign-clause-gives
 returns-in-Sign-clause-gives c = at_piece c.loop-first.self.rest.now c.in-Some.first.now c.in-Some.after.now _ _ _ (search rules) c.in-Sign.ensures.0 (sym (c.in-Sign.ensures.1 c.in-Some.after.now)) c.loop-first.invariant.0
+
+pub returns-in-Quote-clause-gives : goal.returns-in-Quote-clause-gives
+returns-in-Quote-clause-gives c =
+    at_piece c.loop-first.self.rest.now c.in-Some.first.now c.in-Some.after.now _ _ _ (search rules) c.in-Quote.ensures.0 (c.quoted_piece.ensures.gives ∙ sym (c.in-Quote.ensures.1 c.in-Some.after.now)) c.loop-first.invariant.0
 
 pub returns-in-Other-clause-gives : goal.returns-in-Other-clause-gives
 returns-in-Other-clause-gives c = at_piece c.loop-first.self.rest.now c.in-Some.first.now c.in-Some.after.now _ _ _ (search rules) c.in-Other.ensures.0 c.other_piece.ensures.gives c.loop-first.invariant.0

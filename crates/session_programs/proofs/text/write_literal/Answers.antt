@@ -1,5 +1,0 @@
-use Rattle.std.proofs.Common.{rules}
-use Rattle.session_programs.proofs.text.write_literal.Goals as goal
-
-pub returns : goal.returns
-returns c = search rules
