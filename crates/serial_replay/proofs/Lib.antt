@@ -4,3 +4,4 @@ mod StackRoom
 mod StackEvaluation
 mod ReadsInOrder
 mod ValueTables
+mod NumberStack

@@ -1,7 +1,7 @@
 -- Records beside their values.
 use Rattle.std.proofs.Common.{◌≡◌, ℕ, zero, suc, ◌<◌, ◌+◌, List, [], ◌∷◌, ◌++◌, length, take, get_or, refl, ap, ◌∙◌, arith}
 use Rattle.std.specs.List.{zip}
-use Rattle.bottle_values.specs.Values.{Value}
+use Rattle.bottle_values.specs.declared.Value.{Value}
 
 zip_suc : (ns : List ℕ) (vs : List Value) (i n0 : ℕ) (v0 : Value) → i < length ns → length vs ≡ length ns
     → zip (take (suc i) ns) (take (suc i) vs) ≡ zip (take i ns) (take i vs) ++ (get_or ns i n0, get_or vs i v0) ∷ []

@@ -2,7 +2,7 @@
 -- that the one before left. It has no offices that wait, no messages and no moments.
 use Rattle.std.specs.Prelude.{◌≡◌, ℕ, ◌+◌, ◌<◌, List, [], ◌∷◌, ◌++◌, length, count_by, ◌==◌, slice_get, Some}
 use Rattle.std.specs.List.{slice_index_or}
-use Rattle.bottle_values.specs.Values.{Value}
+use Rattle.bottle_values.specs.declared.Value.{Value}
 use Rattle.bottle_values.specs.Operations.{nought}
 use Rattle.bottle_values.specs.Maps.{reads_of, write_all}
 use Rattle.office_map.specs.PlanValue.{PlanValue, start_values}

@@ -1,2 +1,3 @@
 pub mod PostfixEvaluation
 pub mod WalkRefinement
+pub mod NumbersAlone

@@ -23,7 +23,7 @@ pub fn alone(alloc: Global, program: &Program, values: &[Value]) -> Result<Endin
 {
     let reads = reads_of(alloc, program.needs(), values)?;
     let mut environment = begun(alloc, program, &reads)?;
-    let mut below = [Value::from(0); ROOM];
+    let mut below = [0; ROOM];
     match walk_all(&mut environment, &mut below, program.tree()) {
         Ok(()) => Ok(done(reads, environment)),
         Err(Stop::Ended(end)) => Ok(Ending {

@@ -1,7 +1,7 @@
 -- The sessions of an office: those that wait, the current one, and how those ended that finished.
 use Rattle.std.specs.Prelude.{ℕ, ◌+◌, Bool, true, false, not, nat_le, ◌==◌, ◌&&◌, is_some, List, [], ◌∷◌, ◌++◌, length, filter, Option, None, Some, option_map}
 use Rattle.std.specs.List.{list_any}
-use Rattle.bottle_values.specs.Values.{Value}
+use Rattle.bottle_values.specs.declared.Value.{Value}
 use Rattle.bottle_values.specs.Maps.{reads_of}
 use Rattle.session_meaning.specs.declared.ending.Ending.{Ending}
 use Rattle.session_meaning.specs.declared.ending.Outcome.{Outcome}

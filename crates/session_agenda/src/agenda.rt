@@ -2,7 +2,7 @@
 
 ghost use Rattle.std.specs.Prelude.{◌≡◌, ◌<◌, ◌+◌, ◌^◌, ◌↔◌, ℕ, List, Some, None, true, false, length, map, is_some, option_map, unwrap_or, IsSome, OnOk, OnErr, IfOk};
 ghost use Rattle.std.specs.Option.{option_copied};
-ghost use Rattle.bottle_values.specs.Values as bottle;
+ghost use Rattle.bottle_values.specs.declared.Value as bottle;
 ghost use Rattle.session_meaning.specs.ProgramValue.{ProgramValue};
 ghost use Rattle.session_agenda.specs.declared.agenda.Phase.TheVariants as phases;
 ghost use Rattle.session_agenda.specs.Agenda as sessions;

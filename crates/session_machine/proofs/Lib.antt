@@ -8,3 +8,4 @@ mod InstructionCounts
 mod WorkPhases
 mod EndingParts
 mod Counts
+mod NumbersAlone

@@ -2,6 +2,8 @@ pub mod Instructions
 pub mod Session
 pub mod Work
 pub mod NearRecords
+pub mod Workspaces
+pub mod NumbersAlone
 pub mod StateOfCode
 pub mod PhaseOfCode
 pub mod Counting

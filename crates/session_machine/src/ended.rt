@@ -3,9 +3,9 @@
 ghost use Rattle.std.specs.Prelude.{◌≡◌, [], false};
 ghost use Rattle.session_meaning.specs.Meaning.{ending_of};
 ghost use Rattle.session_machine.specs.refinement.Session.{step_of};
-ghost use Rattle.session_machine.specs.refinement.StateOfCode.{environment_of};
+ghost use Rattle.session_machine.specs.refinement.StateOfCode.{space_of};
 
-use crate::environment::Environment;
+use crate::space::{AnySpace, has_given, into_effects, take_writes};
 use crate::spare::Spare;
 use crate::state::State;
 use session_meaning::{End, Ending, Gives, RecordValues};
@@ -22,14 +22,14 @@ pub fn closed(
     reads: RecordValues,
     state: Box<State>,
 ) -> (Ending, Option<Spare>)
-    ensures { result.0 ≡ ending_of reads (step_of end (environment_of state.value.environment)) }
+    ensures { result.0 ≡ ending_of reads (step_of end (space_of state.value.space).environment) }
 {
-    if has_given(end, &state.environment) {
-        let State { environment, .. } = Box::into_inner(state);
-        return (ended(alloc, end, reads, environment), None);
+    if gives(end, &state.space) {
+        let State { space, .. } = Box::into_inner(state);
+        return (ended(alloc, end, reads, space), None);
     }
     let mut state = state;
-    let writes = written(alloc, end, &mut state.environment);
+    let writes = written(alloc, end, &mut state.space);
     let ending = Ending {
         end,
         reads,
@@ -39,40 +39,35 @@ pub fn closed(
     (ending, Some(Spare { state }))
 }
 
-/// Whether the ending of a session that ended like this with this environment has values that it gave.
-fn has_given(end: End, environment: &Environment) -> bool
-    ensures { result ≡ false → [] ≡ (ending_of [] (step_of end (environment_of environment.now))).gives }
+/// Whether the ending of a session that ended like this has values that it gave.
+fn gives(end: End, space: &AnySpace) -> bool
+    ensures { result ≡ false → [] ≡ (ending_of [] (step_of end (space_of space.now).environment)).gives }
 {
     match end {
-        End::Done => !environment.gives.is_empty(),
+        End::Done => has_given(space),
         End::Refused(_) | End::Overflow | End::Mismatch => false,
     }
 }
 
-/// What a session wrote that ended like this with this environment.
-fn written(alloc: Global, end: End, environment: &mut Environment) -> RecordValues
-    ensures { result ≡ (ending_of [] (step_of end (environment_of environment.old))).writes }
+/// What a session wrote that ended like this.
+fn written(alloc: Global, end: End, space: &mut AnySpace) -> RecordValues
+    ensures { result ≡ (ending_of [] (step_of end (space_of space.old).environment)).writes }
 {
     match end {
-        End::Done => environment.records.take_writes(alloc),
+        End::Done => take_writes(space, alloc),
         End::Refused(_) | End::Overflow | End::Mismatch => RecordValues::new(alloc),
     }
 }
 
-/// The ending of a session that ended like this with this environment. It takes no memory.
+/// The ending of a session that ended like this. It takes no memory.
 ///
 /// The room for all that a session may write and give is made as its work begins. So the last instruction makes the
 /// `Ending`, and neither `Work::ending` nor `Work::into_ending` can fail.
-fn ended(alloc: Global, end: End, reads: RecordValues, environment: Environment) -> Ending
-    ensures { result ≡ ending_of reads (step_of end (environment_of environment)) }
+fn ended(alloc: Global, end: End, reads: RecordValues, space: AnySpace) -> Ending
+    ensures { result ≡ ending_of reads (step_of end (space_of space).environment) }
 {
-    let Environment {
-        records,
-        variables: _,
-        gives,
-    } = environment;
     let (writes, gives) = match end {
-        End::Done => (records.into_writes(), Gives::of(gives)),
+        End::Done => into_effects(space),
         _ => (RecordValues::new(alloc), Gives::new(alloc)),
     };
     Ending {

@@ -1,7 +1,7 @@
 //! What work keeps.
 
 use crate::ended::closed;
-use crate::machine::tick_all;
+use crate::machine;
 use crate::progress::Progress;
 use crate::spare::Spare;
 use crate::state::State;
@@ -30,7 +30,7 @@ impl Phase {
         ensures { work_with result self.new ≡ piece code.now n (work_in self.old) }
     {
         match self {
-            Phase::AtWork(_, state) => tick_all(state, code.lines(), n),
+            Phase::AtWork(_, state) => machine::advance(state, code.lines(), n),
             _ => None,
         }
     }

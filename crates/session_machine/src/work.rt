@@ -2,7 +2,7 @@
 
 ghost use Rattle.std.specs.Prelude.{◌≡◌, ◌+◌, ◌↔◌, ℕ, List, IfOk, IsSome, Some};
 ghost use Rattle.std.specs.Option.{option_copied};
-ghost use Rattle.bottle_values.specs.Values as bottle;
+ghost use Rattle.bottle_values.specs.declared.Value as bottle;
 ghost use Rattle.session_meaning.specs.ProgramValue.{ProgramValue};
 ghost use Rattle.session_meaning.specs.Meaning.{alone};
 ghost use Rattle.session_programs.specs.Room.{HasRoom};

@@ -1,7 +1,7 @@
 -- An expression worked out in postfix order, on a stack of values, the last one first.
 use Rattle.std.specs.Prelude.{List, [], ◌∷◌, Result, Ok, Err}
 use Rattle.std.specs.List.{slice_index_or}
-use Rattle.bottle_values.specs.Values.{Value}
+use Rattle.bottle_values.specs.declared.Value.{Value}
 use Rattle.bottle_values.specs.declared.ValueFault.{ValueFault}
 use Rattle.bottle_values.specs.declared.ValueFault.TheVariants.{Overflow}
 use Rattle.session_meaning.specs.declared.node.Node.{Node}

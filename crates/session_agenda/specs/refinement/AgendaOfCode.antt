@@ -1,6 +1,6 @@
 -- The sessions that the code keeps, and what they mean.
 use Rattle.std.specs.Prelude.{◌≡◌, ℕ, List}
-use Rattle.bottle_values.specs.Values.{Value}
+use Rattle.bottle_values.specs.declared.Value.{Value}
 use Rattle.session_meaning.specs.declared.ending.Outcome.{Outcome}
 use Rattle.session_programs.specs.Room.{HasRoom}
 use Rattle.session_programs.specs.refinement.Listing.{CodeValue, code_of}

@@ -1,5 +1,5 @@
 use Rattle.std.proofs.Common.{ℕ, take}
-use Rattle.bottle_values.specs.Values.{Value}
+use Rattle.bottle_values.specs.declared.Value.{Value}
 use Rattle.bottle_values.specs.Maps.{write_all}
 use Rattle.serial_replay.specs.Serial.{ListsValues}
 use Rattle.serial_replay.proofs.replay.write_all.Given as goal
