@@ -1,5 +1,5 @@
 -- One channel changed, and what the office has on all of them.
-use Rattle.std.proofs.Common.{◌≡◌, ◌≢◌, ℕ, ◌<◌, Bool, true, false, cond, List, length, get_or, None, Some, refl, sym, ap, subst, ◌∙◌, ⊎_elim, set}
+use Rattle.std.proofs.Common.{◌≡◌, ◌≢◌, ℕ, ◌<◌, Bool, true, false, IsTrue, cond, List, length, get_or, None, Some, refl, sym, ap, subst, ◌∙◌, ⊎_elim, set}
 use Rattle.std.specs.Prelude.{is_some}
 use Rattle.std.proofs.lemmas.Bool.{eq-eqb, ne_eqb, cases_eq, cases_lt}
 use Rattle.std.proofs.lemmas.List.{get_or-set_same, get_or-set_other, get_or_past, get_or_read}
@@ -7,7 +7,7 @@ use mathlib.Core.Path.{fun_ext}
 use Rattle.bottle_values.specs.Maps.{put}
 use Rattle.bottle_values.specs.declared.version.Version.{Version}
 use Rattle.frame_codec.specs.declared.message.Msg.{Msg}
-use Rattle.frame_codec.specs.Frame.{Fields}
+use Rattle.frame_codec.specs.Frame.{Fields, carries}
 use Rattle.office_map.specs.PlanValue.{PlanValue}
 use Rattle.window_link.specs.declared.arrival.Arrival.{Arrival}
 use Rattle.window_link.specs.declared.arrival.Arrival.TheVariants as arrival
@@ -17,7 +17,7 @@ use Rattle.token_channel.specs.Things.{thing_of, same, hold}
 use Rattle.token_channel.specs.Places.{holds, shares}
 use Rattle.token_channel.specs.Channels.{ChannelState, sent, after_taking, held_after, WhatIsSharedStays}
 use Rattle.neighbour_pairs.specs.Pairs.{queued_to}
-use Rattle.neighbour_pairs.specs.refinement.Slots.{Slot, slot_at, link_in, links_of, slot_holds, slot_sent, slot_taking, IsSlotOf}
+use Rattle.neighbour_pairs.specs.refinement.Slots.{Slot, slot_at, link_in, links_of, slot_holds, slot_carries, slot_sent, slot_taking, IsSlotOf}
 
 put_same : {A : Type 0} (f : ℕ → A) (v u : ℕ) (x : A) → u ≡ v → put f v x u ≡ x
 put_same f v u x e = ap (λ b. cond b x (f u)) (eq-eqb u v e)
@@ -63,6 +63,16 @@ held_here : (plan : PlanValue) (me v : ℕ) (here : Thing → Bool) (c : Channel
 held_here plan me v here c (near, is) = is.held
 
 -- ---- a message is sent
+
+-- what the link to v carries, its slot does
+pub carried_on : (run : ℕ) (version : Version) (me v : ℕ) (slot : Slot) (m : Msg) → IsTrue (carries (link_in run version me v slot).version m) → IsTrue (slot_carries slot m)
+carried_on run version me v None m e = refl
+carried_on run version me v (Some c) m e = e
+
+-- every link carries what has no value
+pub carried_token : (slot : Slot) (m : Msg) → ((version : Version) → IsTrue (carries version m)) → IsTrue (slot_carries slot m)
+carried_token None m e = refl
+carried_token (Some c) m e = e c.link.version
 
 pub slots_sent : (plan : PlanValue) (me : ℕ) (here : ℕ → Thing → Bool) (slots slots' : List Slot) (v : ℕ) (slot : Slot) (m : Msg) → WhatIsSharedStays → v < length slots → slot_holds slot (thing_of m) ≡ true →
     slot_at slots v ≡ slot → slots' ≡ set slots v (slot_sent slot m) → ((t : Thing) → slot_holds (slot_sent slot m) t ≡ hold (slot_holds slot) (thing_of m) false t) →

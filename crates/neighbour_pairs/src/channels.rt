@@ -1,6 +1,6 @@
 //! The channels of an office to its neighbours.
 
-ghost use Rattle.std.specs.Prelude.{◌≡◌, ◌<◌, ℕ, Bool, length, map, true, false, is_some, Some, None, IfOk};
+ghost use Rattle.std.specs.Prelude.{◌≡◌, ◌<◌, ℕ, Bool, length, map, true, false, is_some, Some, None, IfOk, IsTrue};
 ghost use Rattle.std.specs.List.{range_with_len};
 ghost use Rattle.std.specs.Option.{option_copied};
 ghost use Rattle.std.proofs.Math.ListN.{set};
@@ -13,16 +13,15 @@ ghost use Rattle.token_channel.specs.Things.{thing_of, hold};
 ghost use Rattle.token_channel.specs.declared.thing.Thing.{Thing};
 ghost use Rattle.token_channel.specs.Channels.{ChannelState, channel_fault, taken_with};
 ghost use Rattle.neighbour_pairs.specs.Pairs.{queued_to};
-ghost use Rattle.neighbour_pairs.specs.refinement.Slots.{slot_at, slot_holds, slot_used, slot_sent, slot_taking, links_of, slot_at_start, IsSlotOf};
+ghost use Rattle.neighbour_pairs.specs.refinement.Slots.{slot_at, slot_holds, slot_carries, slot_used, slot_sent, slot_taking, links_of, slot_at_start, IsSlotOf};
 
-use arrayvec::ArrayVec;
 use frame_codec::{Frame, Msg};
 use office_map::{OfficeId, Plan};
 use std::alloc::{AllocError, Global};
 use std::marker::Model;
-use token_channel::Channel;
 use token_channel::laws::what_is_shared_stays;
-use window_link::{Arrival, MAX_KEPT};
+use token_channel::{Channel, Messages};
+use window_link::Arrival;
 
 /// A place for each office of the plan, with the channel to it where it is a neighbour.
 ///
@@ -73,6 +72,7 @@ impl Channels {
     /// Sends a message that carries a thing that the channel holds, while there are numbers for it.
     pub fn send(&mut self, v: OfficeId, msg: Msg)
         requires held { slot_holds (slot_at self.old v) (thing_of msg) ≡ true }
+        requires carried { IsTrue (slot_carries (slot_at self.old v) msg) }
         requires room { slot_used (slot_at self.old v) < greatest }
         ensures links { (run me : ℕ) (version : Version) → links_of run version me self.new ≡ queued_to (links_of run version me self.old) v msg }
         ensures slots { (plan : PlanValue) (me : ℕ) (here : ℕ → Thing → Bool) → ((u : ℕ) → IsSlotOf plan me u (here u) (slot_at self.old u)) →
@@ -84,6 +84,7 @@ impl Channels {
 
     fn post(&mut self, v: OfficeId, msg: Msg)
         requires held { slot_holds (slot_at self.old v) (thing_of msg) ≡ true }
+        requires carried { IsTrue (slot_carries (slot_at self.old v) msg) }
         requires room { slot_used (slot_at self.old v) < greatest }
         ensures within { v < length self.old }
         ensures slots { self.new ≡ set self.old v (slot_sent (slot_at self.old v) msg) }
@@ -100,17 +101,12 @@ impl Channels {
     }
 
     /// Takes in a frame that the channel to that office passes: what it was. The messages that are taken with it are in `taken` then.
-    pub fn accept(
-        &mut self,
-        v: OfficeId,
-        frame: &Frame,
-        taken: &mut ArrayVec<Msg, MAX_KEPT>,
-    ) -> Arrival
+    pub fn accept(&mut self, v: OfficeId, frame: &Frame, taken: &mut Messages) -> Arrival
         requires there { is_some (slot_at self.old v) ≡ true }
         requires passes { (c : ChannelState) → slot_at self.old v ≡ Some c → channel_fault c frame.now ≡ None }
         ensures within { v < length self.old }
         ensures arrival { (c : ChannelState) → slot_at self.old v ≡ Some c → result ≡ arrival_at c.link frame.now }
-        ensures messages { (c : ChannelState) → slot_at self.old v ≡ Some c → taken.new.items ≡ taken_with c frame.now }
+        ensures messages { (c : ChannelState) → slot_at self.old v ≡ Some c → taken.new ≡ taken_with c frame.now }
         ensures slots { self.new ≡ set self.old v (slot_taking (slot_at self.old v) frame.now) }
     {
         match &mut self.slots[v.index()] {

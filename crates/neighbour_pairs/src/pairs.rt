@@ -12,10 +12,9 @@ ghost use Rattle.dining_core.specs.refinement.Tables.{diner_of};
 ghost use Rattle.drinking_core.specs.Drinkers as bottles;
 ghost use Rattle.drinking_core.specs.refinement.Bars.{drinker_of};
 ghost use Rattle.neighbour_pairs.specs.Pairs.{Pairs, opened, frame_on, is_thirsty, frame_fault, arrival_of, after_taking, fork_came, bottle_came};
-ghost use Rattle.neighbour_pairs.specs.refinement.PairsOfCode.{pairs_of, IsOf, DoesForkRule, DoesBottleRule, HaveRoom, MayBring, MayAllBring, forks_came, bottles_came};
+ghost use Rattle.neighbour_pairs.specs.refinement.PairsOfCode.{pairs_of, IsOf, DoesForkRule, DoesBottleRule, HaveRoom, HaveValues, MayBring, MayAllBring, forks_came, bottles_came};
 
 use crate::channels::Channels;
-use arrayvec::ArrayVec;
 use bottle_values::Value;
 use dining_core::{MaskedTable, NotNow, Table};
 use drinking_core::{Bar, MaskedBar};
@@ -27,8 +26,8 @@ use token_channel::laws::{
     opens_as_the_plan_starts, what_comes_is_held, what_comes_was_away, what_follows_is_held,
     what_follows_was_away, what_is_shared_stays,
 };
-use token_channel::{Channel, ChannelFault};
-use window_link::{Arrival, LinkFault, MAX_KEPT};
+use token_channel::{Channel, ChannelFault, Messages};
+use window_link::{Arrival, LinkFault};
 
 /// The forks and bottles of an office, and the channels to its neighbours.
 #[derive(Drop)]
@@ -39,7 +38,7 @@ pub struct Pairs {
     bar: MaskedBar,
     channels: Channels,
     /// The messages that were taken with the last frame. It is room that is used again, and no contract sees it.
-    taken: ArrayVec<Msg, MAX_KEPT>,
+    taken: Messages,
 }
 
 impl Model for Pairs {
@@ -71,7 +70,7 @@ impl Pairs {
             table,
             bar,
             channels,
-            taken: ArrayVec::new(),
+            taken: Messages::none(),
         })
     }
 
@@ -203,6 +202,7 @@ impl Pairs {
     /// A record's bottle is sent to the record's other end, with its value.
     pub fn give_bottle(&mut self, r: RecordId) -> Result<(), NotNow>
         requires room { HaveRoom self.old }
+        requires values { HaveValues self.old }
         ensures { DoesBottleRule (is_end self.old.plan r self.old.me) (bottles.GiveBottle r (pairs_of self.old).diner.held) result self.old self.new }
     {
         if !self.plan.has_end(r, self.me) {

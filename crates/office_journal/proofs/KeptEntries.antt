@@ -1,39 +1,83 @@
 -- What a journal keeps of its entries.
-use Rattle.std.proofs.Common.{◌≡◌, ◌≢◌, ℕ, ◌+◌, ◌-◌, ◌<◌, ◌≤◌, min, List, [], ◌∷◌, ◌++◌, map, length, take, drop, get_or, Some, refl, sym, ap, subst, ◌∙◌, arith}
-use Rattle.std.specs.List.{slice_get}
-use Rattle.std.proofs.lemmas.List.{length-map, map_push, take_more, take_min, drop_min, length-take, length-drop, get_or-drop, length_push}
+use Rattle.std.proofs.Common.{◌≡◌, ◌≢◌, ℕ, ◌+◌, ◌-◌, ◌<◌, ◌≤◌, min, List, [], ◌∷◌, ◌++◌, map, length, take, drop, get_or, false, Option, None, Some, refl, sym, ap, subst, ◌∙◌, arith}
+use Rattle.std.specs.Prelude.{slice_get, IfSome}
+use Rattle.std.proofs.lemmas.Bool.{false≢true}
+use Rattle.frame_codec.specs.declared.message.Msg.{Msg}
+use Rattle.journal_pages.specs.Framed.{text_carried, StandsAt}
+use Rattle.std.proofs.lemmas.List.{append-nil, length-append, length-map, map_push, take_more, take_min, drop_min, length-take, length-drop, get_or-drop, length_push}
 use Rattle.std.proofs.lemmas.Option.{slice_get_within, get_or_from_slice_get}
 use Rattle.bottle_values.specs.ListLaws.{at_seam}
 use Rattle.session_meaning.specs.ProgramValue.{ProgramValue}
 use Rattle.journal_pages.specs.Told.{Told}
 use Rattle.journal_pages.specs.Kept.{PagesValue}
-use Rattle.journal_pages.specs.declared.kind.Kind.TheVariants as kind
 use Rattle.journal_pages.proofs.PagedEntries.{get_before}
 use Rattle.office_journal.specs.declared.event.Entry.{Entry}
-use Rattle.office_journal.specs.refinement.PackedEntries.{entry_in, IsPlaced}
-use Rattle.office_journal.specs.refinement.JournalOfCode.{JournalValue, journal_of, ArePlaced, AreKept}
+use Rattle.office_journal.specs.refinement.PackedEntries.{Beside, nothing, entry_in, IsPlaced, IsPlain}
+use Rattle.office_journal.specs.refinement.JournalOfCode.{JournalValue, journal_of, ArePlaced, AreKept, texts_of}
 use Rattle.office_journal.proofs.PackedKinds.{entry_same}
+
+-- ---- more beside
+
+pub record Extends (b b' : Beside) : Type 0 where
+  pub programs : List ProgramValue
+  pub texts : List (List ℕ)
+  pub more_programs : b'.programs ≡ b.programs ++ programs
+  pub more_texts : b'.texts ≡ b.texts ++ texts
+
+pub extends_none : (b : Beside) → Extends b b
+extends_none b = record { programs = []; texts = []; more_programs = sym (append-nil b.programs); more_texts = sym (append-nil b.texts) }
+
+-- an entry before has none of it
+entries_stay : (b b' : Beside) (ts : List Told) → Extends b b' → ArePlaced b ts → map (entry_in b') ts ≡ map (entry_in b) ts
+entries_stay b b' [] more h = refl
+entries_stay b b' (t ∷ ts) more h =
+    ap (λ e. e ∷ map (entry_in b') ts)
+    (entry_same b' b t
+    (λ e. ap (λ l. slice_get l t.place) more.more_programs ∙ get_before b.programs more.programs t.place (h.0.program e))
+    (λ e. ap (λ l. slice_get l t.text) more.more_texts ∙ get_before b.texts more.texts t.text (h.0.text e)))
+    ∙ ap (λ es. entry_in b t ∷ es) (entries_stay b b' ts more h.1)
+
+placed_more : (b b' : Beside) (ts : List Told) → Extends b b' → ArePlaced b ts → ArePlaced b' ts
+placed_more b b' [] more h = tt
+placed_more b b' (t ∷ ts) more h = (
+  record {
+    program = λ e. let at = h.0.program e in omega (arith, at, ap length more.more_programs, length-append b.programs more.programs);
+    text = λ e. let at = h.0.text e in omega (arith, at, ap length more.more_texts, length-append b.texts more.texts);
+  },
+  placed_more b b' ts more h.1,
+)
+
+placed_after : (b : Beside) (ts : List Told) (t : Told) → ArePlaced b ts → IsPlaced b t → ArePlaced b (ts ++ t ∷ [])
+placed_after b [] t h k = (k, tt)
+placed_after b (u ∷ ts) t h k = (h.0, placed_after b ts t h.1 k)
 
 -- ---- one entry more
 
-pub entry_pushed : (programs : List ProgramValue) (ts ts' : List Told) (t : Told) → ts' ≡ ts ++ t ∷ [] → t.kind ≢ kind.Submitted → map (entry_in programs) ts' ≡ map (entry_in programs) ts ++ entry_in [] t ∷ []
-entry_pushed programs ts ts' t is plain =
-    ap (map (entry_in programs)) is ∙ map_push (entry_in programs) ts t ∙ ap (λ x. map (entry_in programs) ts ++ x ∷ []) (entry_same programs [] t (λ e. absurd (plain e)))
+pub entry_pushed : (b b' : Beside) (ts ts' : List Told) (t : Told) (e : Entry) → Extends b b' → ts' ≡ ts ++ t ∷ [] → ArePlaced b ts → entry_in b' t ≡ e → map (entry_in b') ts' ≡ map (entry_in b) ts ++ e ∷ []
+entry_pushed b b' ts ts' t e more is h same =
+    ap (map (entry_in b')) is ∙ map_push (entry_in b') ts t ∙ ap (λ x. map (entry_in b') ts ++ x ∷ []) same ∙ ap (λ l. l ++ e ∷ []) (entries_stay b b' ts more h)
 
-placed_after : (n : ℕ) (ts : List Told) (t : Told) → ArePlaced n ts → IsPlaced n t → ArePlaced n (ts ++ t ∷ [])
-placed_after n [] t h k = (k, tt)
-placed_after n (u ∷ ts) t h k = (h.0, placed_after n ts t h.1 k)
-
-pub kept_push : (programs : List ProgramValue) (ts ts' : List Told) (t : Told) → ts' ≡ ts ++ t ∷ [] → AreKept programs ts → t.kind ≢ kind.Submitted → AreKept programs ts'
-kept_push programs ts ts' t is h plain =
+pub kept_push : (b b' : Beside) (ts ts' : List Told) (t : Told) → Extends b b' → ts' ≡ ts ++ t ∷ [] → AreKept b ts → IsPlaced b' t → length b'.programs ≤ length b.programs + 1 → length b'.texts ≤ length b.texts + 1 → AreKept b' ts'
+kept_push b b' ts ts' t more is h placed programs texts =
     let one : length ts' ≡ length ts + 1 = ap length is ∙ length_push ts t in
-    record { placed = subst (ArePlaced (length programs)) (sym is) (placed_after (length programs) ts t h.placed (λ e. absurd (plain e))); few = omega (arith, one, h.few) }
+    record {
+      placed = subst (ArePlaced b') (sym is) (placed_after b' ts t (placed_more b b' ts more h.placed) placed);
+      few = omega (arith, one, h.few, programs);
+      few_texts = omega (arith, one, h.few_texts, texts);
+    }
 
-pub kept_still : (programs : List ProgramValue) (ts ts' : List Told) → ts' ≡ ts → AreKept programs ts → AreKept programs ts'
-kept_still programs ts ts' is h = subst (AreKept programs) (sym is) h
+-- beside a plain one nothing stands
+pub plain_same : (b : Beside) (t : Told) → IsPlain t → entry_in b t ≡ entry_in nothing t
+plain_same b t plain = entry_same b nothing t (λ e. absurd (plain.no_session e)) (λ e. absurd (false≢true (sym plain.no_text ∙ e)))
 
-pub none_kept : AreKept [] []
-none_kept = record { placed = tt; few = omega arith }
+pub plain_placed : (b : Beside) (t : Told) → IsPlain t → IsPlaced b t
+plain_placed b t plain = record { program = λ e. absurd (plain.no_session e); text = λ e. absurd (false≢true (sym plain.no_text ∙ e)) }
+
+pub kept_still : (b b' : Beside) (ts ts' : List Told) → b' ≡ b → ts' ≡ ts → AreKept b ts → AreKept b' ts'
+kept_still b b' ts ts' same is h = subst (λ (l : List Told). AreKept b' l) (sym is) (subst (λ (x : Beside). AreKept x ts) (sym same) h)
+
+pub none_kept : AreKept nothing []
+none_kept = record { placed = tt; few = omega arith; few_texts = omega arith }
 
 -- ---- one program more
 
@@ -41,38 +85,36 @@ none_kept = record { placed = tt; few = omega arith }
 pub last_program : (xs : List ProgramValue) (x : ProgramValue) (i : ℕ) → i ≡ length xs → slice_get (xs ++ x ∷ []) i ≡ Some x
 last_program xs x i e = ap (slice_get (xs ++ x ∷ [])) e ∙ at_seam xs x []
 
--- it is the program of no entry before
-entries_stay : (programs : List ProgramValue) (x : ProgramValue) (ts : List Told) → ArePlaced (length programs) ts → map (entry_in (programs ++ x ∷ [])) ts ≡ map (entry_in programs) ts
-entries_stay programs x [] h = refl
-entries_stay programs x (t ∷ ts) h =
-    ap (λ e. e ∷ map (entry_in (programs ++ x ∷ [])) ts) (entry_same (programs ++ x ∷ []) programs t (λ e. get_before programs (x ∷ []) t.place (h.0 e))) ∙ ap (λ es. entry_in programs t ∷ es) (entries_stay programs x ts h.1)
+pub program_extends : (programs programs' : List ProgramValue) (texts : List (List ℕ)) (x : ProgramValue) → programs' ≡ programs ++ x ∷ [] → Extends (record { programs = programs; texts = texts }) (record { programs = programs'; texts = texts })
+program_extends programs programs' texts x more = record { programs = x ∷ []; texts = []; more_programs = more; more_texts = sym (append-nil texts) }
 
-placed_more : (n : ℕ) (ts : List Told) → ArePlaced n ts → ArePlaced (n + 1) ts
-placed_more n [] h = tt
-placed_more n (t ∷ ts) h = (λ e. one_more n t.place (h.0 e), placed_more n ts h.1)
+pub session_placed : (b : Beside) (t : Told) → t.has_text ≡ false → t.place < length b.programs → IsPlaced b t
+session_placed b t plain lt = record { program = λ e. lt; text = λ e. absurd (false≢true (sym plain ∙ e)) }
+
+-- ---- one text more
+
+pub text_extends : (programs : List ProgramValue) (texts texts' : List (List ℕ)) (o : Option (List ℕ)) → texts' ≡ texts ++ texts_of o → Extends (record { programs = programs; texts = texts }) (record { programs = programs; texts = texts' })
+text_extends programs texts texts' o more = record { programs = []; texts = texts_of o; more_programs = sym (append-nil programs); more_texts = more }
+
+one_at_most : (o : Option (List ℕ)) → length (texts_of o) ≤ 1
+one_at_most None = omega arith
+one_at_most (Some text) = omega arith
+
+pub text_more : (texts texts' : List (List ℕ)) (o : Option (List ℕ)) → texts' ≡ texts ++ texts_of o → length texts' ≤ length texts + 1
+text_more texts texts' o more = omega (arith, ap length more, length-append texts (texts_of o), one_at_most o)
+
+-- the text that was kept stands at the end
+pub last_text : (texts texts' : List (List ℕ)) (place : ℕ) (m : Option Msg) → place ≡ length texts → texts' ≡ texts ++ texts_of (text_carried m) → StandsAt texts' place m
+last_text texts texts' place m at more = go (text_carried m) more
   where
-    one_more : (n place : ℕ) → place < n → place < n + 1
-    one_more n place lt = omega (arith, lt)
-
--- a session's entry, with its program
-pub session_pushed : (programs programs' : List ProgramValue) (x : ProgramValue) (ts ts' : List Told) (t : Told) (e : Entry) → programs' ≡ programs ++ x ∷ [] → ts' ≡ ts ++ t ∷ [] → AreKept programs ts → entry_in programs' t ≡ e →
-    map (entry_in programs') ts' ≡ map (entry_in programs) ts ++ e ∷ []
-session_pushed programs programs' x ts ts' t e more is h same =
-    ap (map (entry_in programs')) is ∙ map_push (entry_in programs') ts t ∙ ap (λ y. map (entry_in programs') ts ++ y ∷ []) same
-    ∙ ap (λ (l : List ProgramValue). map (entry_in l) ts ++ e ∷ []) more ∙ ap (λ l. l ++ e ∷ []) (entries_stay programs x ts h.placed)
-
-pub session_kept : (programs programs' : List ProgramValue) (x : ProgramValue) (ts ts' : List Told) (t : Told) → programs' ≡ programs ++ x ∷ [] → ts' ≡ ts ++ t ∷ [] → AreKept programs ts → t.place ≡ length programs → AreKept programs' ts'
-session_kept programs programs' x ts ts' t more is h placed =
-    let one : length programs' ≡ length programs + 1 = ap length more ∙ length_push programs x in
-    let longer : length ts' ≡ length ts + 1 = ap length is ∙ length_push ts t in
-    let last : t.place < length programs + 1 = omega (arith, placed) in
-    let all : ArePlaced (length programs + 1) (ts ++ t ∷ []) = placed_after (length programs + 1) ts t (placed_more (length programs) ts h.placed) (λ e. last) in
-    record { placed = subst (λ n. ArePlaced n ts') (sym one) (subst (ArePlaced (length programs + 1)) (sym is) all); few = omega (arith, one, longer, h.few) }
+    go : (o : Option (List ℕ)) → texts' ≡ texts ++ texts_of o → IfSome o (λ text. slice_get texts' place ≡ Some text)
+    go None e = tt
+    go (Some text) e = ap (λ l. slice_get l place) e ∙ ap (slice_get (texts ++ text ∷ [])) at ∙ at_seam texts text []
 
 -- ---- the journal as contracts see it
 
-pub same_length : (pages : PagesValue) (programs : List ProgramValue) (n : ℕ) (j : JournalValue) → journal_of pages programs n ≡ j → length pages.entries ≡ length j.entries
-same_length pages programs n j is = sym (length-map pages.entries (entry_in programs)) ∙ ap (λ (v : JournalValue). length v.entries) is
+pub same_length : (pages : PagesValue) (b : Beside) (n k : ℕ) (j : JournalValue) → journal_of pages b n k ≡ j → length pages.entries ≡ length j.entries
+same_length pages b n k j is = sym (length-map pages.entries (entry_in b)) ∙ ap (λ (v : JournalValue). length v.entries) is
 
 -- ---- a part
 

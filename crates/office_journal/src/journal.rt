@@ -1,33 +1,41 @@
 //! What an office accepted.
 
-ghost use Rattle.std.specs.Prelude.{◌≡◌, ◌≢◌, ◌<◌, ◌≤◌, ◌-◌, ◌↔◌, ◌⊎◌, ◌++◌, ◌∷◌, [], length, take, drop, true, Err, IfOk, IfErr, OnOk, OnErr, nat_le, option_map, List};
+ghost use Rattle.std.specs.Prelude.{◌≡◌, ◌≢◌, ◌<◌, ◌≤◌, ◌-◌, ◌↔◌, ◌⊎◌, ◌++◌, ◌∷◌, [], length, take, drop, true, Err, IfOk, IfErr, OnOk, OnErr, nat_le, option_map, is_some, vec_len, List};
 ghost use Rattle.std.specs.List.{slice_get};
-ghost use Rattle.journal_pages.specs.declared.kind.Kind.TheVariants as kinds;
+ghost use Rattle.std.specs.Vec.{vec_capacity};
+ghost use Rattle.journal_pages.specs.Framed.{text_carried};
 ghost use Rattle.office_journal.specs.Limits.{most_entries};
 ghost use Rattle.office_journal.specs.Shown.{entry_shown};
 ghost use Rattle.office_journal.specs.declared.event.Entry.{Entry};
 ghost use Rattle.office_journal.specs.declared.event.Event.TheVariants as events;
 ghost use Rattle.office_journal.specs.declared.reply.Reply.TheVariants as replies;
 ghost use Rattle.office_journal.specs.declared.reply.Refusal.TheVariants as refusals;
-ghost use Rattle.office_journal.specs.refinement.PackedEntries.{entry_in};
+ghost use Rattle.office_journal.specs.refinement.PackedEntries.{nothing, entry_in, IsPlain};
+ghost use Rattle.office_journal.specs.refinement.JournalOfCode.{texts_of};
+ghost use Rattle.office_journal.specs.Replies.{reply_to};
 
 use crate::event::{Entry, EntryRef};
 use crate::limits::MAX_ENTRIES;
 use crate::packing;
 use crate::reply::Refusal;
+use bottle_values::Text;
+use frame_codec::Frame;
 use journal_pages::{Packed, Pages};
+use office_map::OfficeId;
 use session_programs::Program;
 use std::alloc::{AllocError, Global};
 use std::marker::Model;
+use window_link::Arrival;
 
 /// The entries of an office, the oldest first.
 ///
-/// They are packed, in pages, and the programs of the sessions that were submitted stand beside in order. Readers are shown the entries
-/// that a contract sees.
+/// They are packed, in pages, and beside them stand, in order, the programs of the sessions that were submitted and the texts that
+/// frames carry. Readers are shown the entries that a contract sees.
 #[derive(Drop)]
 pub struct Journal {
     pages: Pages,
     programs: Vec<Program>,
+    texts: Vec<Text>,
 }
 
 impl Model for Journal {
@@ -42,9 +50,9 @@ impl Model for Journal {
 
     ghost coded = { let nodes : Coded Node = Prim.hlevel codes in let marks : Coded Mark = Prim.hlevel (codes, term_code nodes) in Prim.hlevel (codes, block_code marks) };
 
-    ghost view = { λ j. journal_of j.pages j.programs.items (vec_capacity j.programs - vec_len j.programs) };
+    ghost view = { λ j. journal_of j.pages (record { programs = j.programs.items; texts = j.texts.items }) (vec_capacity j.programs - vec_len j.programs) (vec_capacity j.texts - vec_len j.texts) };
 
-    ghost invariant = { λ j. AreKept j.programs.items j.pages.entries };
+    ghost invariant = { λ j. AreKept (record { programs = j.programs.items; texts = j.texts.items }) j.pages.entries };
 }
 
 impl Journal {
@@ -55,6 +63,7 @@ impl Journal {
         Journal {
             pages: Pages::new(alloc),
             programs: Vec::new(alloc),
+            texts: Vec::new(alloc),
         }
     }
 
@@ -70,7 +79,11 @@ impl Journal {
         ensures { option_map entry_shown result ≡ slice_get self.now.entries i }
     {
         match self.pages.get(i) {
-            Some(packed) => Some(packing::shown(packed, self.programs.as_slice())),
+            Some(packed) => Some(packing::shown(
+                packed,
+                self.programs.as_slice(),
+                self.texts.as_slice(),
+            )),
             None => None,
         }
     }
@@ -112,11 +125,24 @@ impl Journal {
         Ok(())
     }
 
-    /// Adds an entry at the end, which has no program.
+    /// Makes room for the text that a frame carries, if it carries one. The entries stay, and so does their room.
+    pub fn make_room_for_text(&mut self, frame: &Frame) -> Result<(), AllocError>
+        ensures text { OnOk result (is_some (text_carried frame.now.msg) ≡ true → 0 < self.new.texts) }
+        ensures room { self.new.room ≡ self.old.room }
+        ensures unchanged { self.new.entries ≡ self.old.entries }
+    {
+        if packing::text_of(frame).is_none() {
+            return Ok(());
+        }
+        self.texts.reserve(1)?;
+        Ok(())
+    }
+
+    /// Adds an entry at the end, beside which nothing stands.
     pub fn push(&mut self, packed: Packed)
         requires room { 0 < self.old.room }
-        requires plain { packed.kind ≢ kinds.Submitted }
-        ensures { self.new.entries ≡ self.old.entries ++ entry_in [] packed ∷ [] }
+        requires plain { IsPlain packed }
+        ensures { self.new.entries ≡ self.old.entries ++ entry_in nothing packed ∷ [] }
     {
         self.pages.push(packed);
     }
@@ -134,6 +160,47 @@ impl Journal {
         let entry = packing::of_session(tag, ticket, place);
         self.programs.push_reserved(program);
         self.pages.push(entry);
+    }
+
+    /// Adds the entry of a frame that was made for that neighbour, of that message.
+    pub fn push_sent(&mut self, tag: u8, v: OfficeId, i: usize, frame: &Frame)
+        requires room { 0 < self.old.room }
+        requires text { is_some (text_carried frame.now.msg) ≡ true → 0 < self.old.texts }
+        requires tag { tag < 16 }
+        requires few { i ≤ 18 }
+        ensures { self.new.entries ≡ self.old.entries ++ record { tag = tag; event = events.Send v i; reply = replies.Frame frame.now } ∷ [] }
+    {
+        // There are no more texts than entries, and pages have few of these.
+        let _ = self.pages.len();
+        let place = self.texts.len() as u32;
+        keep_text(&mut self.texts, frame);
+        let entry = packing::of_frame(tag, v, i, frame, place);
+        self.pages.push(entry);
+    }
+
+    /// Adds the entry of a frame that came.
+    pub fn push_arrival(&mut self, tag: u8, frame: &Frame, arrival: &Arrival)
+        requires room { 0 < self.old.room }
+        requires text { is_some (text_carried frame.now.msg) ≡ true → 0 < self.old.texts }
+        requires tag { tag < 16 }
+        ensures { self.new.entries ≡ self.old.entries ++ record { tag = tag; event = events.Took frame.now; reply = reply_to arrival.now } ∷ [] }
+    {
+        let _ = self.pages.len();
+        let place = self.texts.len() as u32;
+        keep_text(&mut self.texts, frame);
+        let entry = packing::of_arrival(tag, frame, arrival, place);
+        self.pages.push(entry);
+    }
+}
+
+/// Keeps the text that a frame carries, if it carries one.
+fn keep_text(texts: &mut Vec<Text>, frame: &Frame)
+    requires { is_some (text_carried frame.now.msg) ≡ true → vec_len texts.old < vec_capacity texts.old }
+    ensures { texts.new.items ≡ texts.old.items ++ texts_of (text_carried frame.now.msg) }
+{
+    match packing::text_of(frame) {
+        Some(text) => texts.push_reserved(text),
+        None => {}
     }
 }
 

@@ -3,13 +3,13 @@
 //! - A [`Rule`] is what an office does left to itself, an [`Event`] what happens at it, and a [`Reply`] or a [`Refusal`] what it
 //!   answers. Which of them it answers is no matter here: `site_core` says it.
 //! - An [`Entry`] is an event that was accepted, with who handed it in, and the reply. A contract sees a journal as a list of them.
-//! - A [`Journal`] has at most [`MAX_ENTRIES`] entries. It keeps each in 32 bytes, in the pages of `journal_pages`, and the programs of
-//!   the sessions that were submitted beside (`entry_in`, in `specs/refinement/PackedEntries.antt`). [`packing`] makes that form of an
-//!   event. A reader is shown an [`EntryRef`], which borrows the program of a submitted session from the journal (`entry_shown`, in
+//! - A [`Journal`] has at most [`MAX_ENTRIES`] entries. It keeps each in 32 bytes, in the pages of `journal_pages`, and beside them the
+//!   programs of the sessions that were submitted and the texts that frames carry (`entry_in`, in
+//!   `specs/refinement/PackedEntries.antt`). [`packing`] makes that form of an event. A reader is shown an [`EntryRef`], which borrows the program of a submitted session from the journal (`entry_shown`, in
 //!   `specs/Shown.antt`).
 //!
-//! [`Journal::make_room`] takes the memory of an entry before it is made, and [`Journal::make_room_for_program`] that of a program. The
-//! first refuses a full journal as `JournalFull`. The entries stay, whatever is refused.
+//! [`Journal::make_room`] takes the memory of an entry before it is made, [`Journal::make_room_for_program`] that of a program, and
+//! [`Journal::make_room_for_text`] that of a text. The first refuses a full journal as `JournalFull`. The entries stay, whatever is refused.
 #![tactic(auto)]
 
 mod event;

@@ -1,19 +1,20 @@
 //! Which entry a packed one is.
 
-ghost use Rattle.std.specs.Prelude.{◌≡◌, ◌≢◌, ◌<◌, ◌≤◌, List, [], Some, slice_get};
+ghost use Rattle.std.specs.Prelude.{◌≡◌, ◌<◌, ◌≤◌, false, Some, slice_get};
 ghost use Rattle.std.specs.Option.{option_copied};
 ghost use Rattle.session_meaning.specs.ProgramValue.{ProgramValue};
-ghost use Rattle.journal_pages.specs.declared.kind.Kind.TheVariants as kinds;
+ghost use Rattle.journal_pages.specs.Framed.{frame_in, text_as, text_of, text_carried, StandsAt};
 ghost use Rattle.office_journal.specs.Replies.{reply_to};
 ghost use Rattle.office_journal.specs.Shown.{event_shown, entry_shown};
 ghost use Rattle.office_journal.specs.declared.event.Event.TheVariants as events;
 ghost use Rattle.office_journal.specs.declared.reply.Reply.TheVariants as replies;
-ghost use Rattle.office_journal.specs.refinement.PackedEntries.{submitted_from, event_by, reply_by, entry_in, rule_by, IsOfRule, IsOfArrival};
+ghost use Rattle.office_journal.specs.refinement.PackedEntries.{Beside, nothing, submitted_from, event_by, reply_by, entry_in, rule_by, IsPlaced, IsPlain, IsOfRule, IsOfArrival};
 
 use crate::event::{EntryRef, EventRef};
 use crate::reply::Reply;
 use crate::rule::Rule;
-use frame_codec::Frame;
+use bottle_values::{Text, Value};
+use frame_codec::{Frame, Msg};
 use journal_pages::{Kind, Packed};
 use office_map::{OfficeId, RecordId};
 use session_programs::Program;
@@ -22,8 +23,9 @@ use window_link::Arrival;
 /// A session was submitted, and its program has that place.
 pub fn of_session(tag: u8, ticket: u32, place: u32) -> Packed
     requires { tag < 16 }
-    ensures entry { (programs : List ProgramValue) (p : ProgramValue) → slice_get programs place ≡ Some p → entry_in programs result ≡ record { tag = tag; event = events.Submit p; reply = replies.Ticket ticket } }
+    ensures entry { (b : Beside) (p : ProgramValue) → slice_get b.programs place ≡ Some p → entry_in b result ≡ record { tag = tag; event = events.Submit p; reply = replies.Ticket ticket } }
     ensures place { result.place ≡ place }
+    ensures no_text { result.has_text ≡ false }
 {
     Packed::of_session(Kind::Submitted, tag, ticket, place)
 }
@@ -31,8 +33,8 @@ pub fn of_session(tag: u8, ticket: u32, place: u32) -> Packed
 /// A session was withdrawn.
 pub fn of_withdrawal(tag: u8, ticket: u32) -> Packed
     requires { tag < 16 }
-    ensures entry { entry_in [] result ≡ record { tag = tag; event = events.Withdraw ticket; reply = replies.Done } }
-    ensures plain { result.kind ≢ kinds.Submitted }
+    ensures entry { entry_in nothing result ≡ record { tag = tag; event = events.Withdraw ticket; reply = replies.Done } }
+    ensures plain { IsPlain result }
 {
     Packed::of_session(Kind::Withdrew, tag, ticket, 0)
 }
@@ -40,8 +42,8 @@ pub fn of_withdrawal(tag: u8, ticket: u32) -> Packed
 /// A rule was done.
 pub fn of_rule(tag: u8, rule: Rule) -> Packed
     requires { tag < 16 }
-    ensures entry { entry_in [] result ≡ record { tag = tag; event = events.Do rule; reply = replies.Done } }
-    ensures plain { result.kind ≢ kinds.Submitted }
+    ensures entry { entry_in nothing result ≡ record { tag = tag; event = events.Do rule; reply = replies.Done } }
+    ensures plain { IsPlain result }
 {
     match rule {
         Rule::Start => done(Kind::Start, tag, 0, 0),
@@ -62,61 +64,91 @@ pub fn of_rule(tag: u8, rule: Rule) -> Packed
 fn done(kind: Kind, tag: u8, v: u8, which: u16) -> Packed
     requires kind { IsOfRule kind }
     requires tag { tag < 16 }
-    ensures entry { entry_in [] result ≡ record { tag = tag; event = events.Do (rule_by kind v which); reply = replies.Done } }
-    ensures plain { result.kind ≢ kinds.Submitted }
+    ensures entry { entry_in nothing result ≡ record { tag = tag; event = events.Do (rule_by kind v which); reply = replies.Done } }
+    ensures plain { IsPlain result }
 {
     Packed::of_rule(kind, tag, v, which)
 }
 
-/// A frame was made, for that neighbour and of that message.
-pub fn of_frame(tag: u8, v: OfficeId, i: usize, frame: &Frame) -> Packed
+/// A frame was made, for that neighbour and of that message. The text that it carries, if it carries one, has that place.
+pub(crate) fn of_frame(tag: u8, v: OfficeId, i: usize, frame: &Frame, place: u32) -> Packed
     requires tag { tag < 16 }
     requires few { i ≤ 18 }
-    ensures entry { entry_in [] result ≡ record { tag = tag; event = events.Send v i; reply = replies.Frame frame.now } }
-    ensures plain { result.kind ≢ kinds.Submitted }
+    ensures entry { (b : Beside) → StandsAt b.texts place frame.now.msg → entry_in b result ≡ record { tag = tag; event = events.Send v i; reply = replies.Frame frame.now } }
+    ensures placed { (b : Beside) → StandsAt b.texts place frame.now.msg → IsPlaced b result }
 {
-    Packed::of_frame(Kind::Sent, tag, v.number(), i as u8, frame)
+    Packed::of_frame(Kind::Sent, tag, v.number(), i as u8, frame, place)
 }
 
-/// A frame came.
-pub fn of_arrival(tag: u8, frame: &Frame, arrival: &Arrival) -> Packed
+/// A frame came. The text that it carries, if it carries one, has that place.
+pub(crate) fn of_arrival(tag: u8, frame: &Frame, arrival: &Arrival, place: u32) -> Packed
     requires { tag < 16 }
-    ensures entry { entry_in [] result ≡ record { tag = tag; event = events.Took frame.now; reply = reply_to arrival.now } }
-    ensures plain { result.kind ≢ kinds.Submitted }
+    ensures entry { (b : Beside) → StandsAt b.texts place frame.now.msg → entry_in b result ≡ record { tag = tag; event = events.Took frame.now; reply = reply_to arrival.now } }
+    ensures placed { (b : Beside) → StandsAt b.texts place frame.now.msg → IsPlaced b result }
 {
     match arrival {
-        Arrival::Acked => came(Kind::Acked, tag, frame),
-        Arrival::Fresh(_) => came(Kind::Taken, tag, frame),
-        Arrival::Repeat => came(Kind::Repeat, tag, frame),
-        Arrival::Kept => came(Kind::Kept, tag, frame),
-        Arrival::Early => came(Kind::Early, tag, frame),
+        Arrival::Acked => came(Kind::Acked, tag, frame, place),
+        Arrival::Fresh(_) => came(Kind::Taken, tag, frame, place),
+        Arrival::Repeat => came(Kind::Repeat, tag, frame, place),
+        Arrival::Kept => came(Kind::Kept, tag, frame, place),
+        Arrival::Early => came(Kind::Early, tag, frame, place),
     }
 }
 
 /// A frame came, which was of that kind.
-fn came(kind: Kind, tag: u8, frame: &Frame) -> Packed
+fn came(kind: Kind, tag: u8, frame: &Frame, place: u32) -> Packed
     requires kind { IsOfArrival kind }
     requires tag { tag < 16 }
-    ensures entry { entry_in [] result ≡ record { tag = tag; event = events.Took frame.now; reply = reply_by kind result } }
-    ensures plain { result.kind ≢ kinds.Submitted }
+    ensures entry { (b : Beside) → StandsAt b.texts place frame.now.msg → entry_in b result ≡ record { tag = tag; event = events.Took frame.now; reply = reply_by kind b.texts result } }
+    ensures placed { (b : Beside) → StandsAt b.texts place frame.now.msg → IsPlaced b result }
 {
-    Packed::of_frame(kind, tag, 0, 0, frame)
+    Packed::of_frame(kind, tag, 0, 0, frame, place)
 }
 
-/// The entry, with its program of these.
-pub(crate) fn shown<'a>(packed: &Packed, programs: &'a [Program]) -> EntryRef<'a>
-    ensures { entry_shown result ≡ entry_in programs.now packed.now }
+/// The text that a frame carries, if it carries one.
+pub(crate) fn text_of(frame: &Frame) -> Option<Text>
+    ensures { result ≡ text_carried frame.now.msg }
+{
+    match frame.msg() {
+        Some(msg) => text_in(&msg),
+        None => None,
+    }
+}
+
+fn text_in(msg: &Msg) -> Option<Text>
+    ensures { result ≡ text_of msg.now }
+{
+    match msg {
+        Msg::AskFork => None,
+        Msg::Fork => None,
+        Msg::AskBottle(_) => None,
+        Msg::Bottle(_, value) => text_as(value),
+    }
+}
+
+fn text_as(value: &Value) -> Option<Text>
+    ensures { result ≡ text_as value.now }
+{
+    match value {
+        Value::Number(_) => None,
+        Value::Text(text) => Some(*text),
+    }
+}
+
+/// The entry, with its program of these, and its text.
+pub(crate) fn shown<'a>(packed: &Packed, programs: &'a [Program], texts: &[Text]) -> EntryRef<'a>
+    ensures { entry_shown result ≡ entry_in (record { programs = programs.now; texts = texts.now }) packed.now }
 {
     let kind = packed.kind();
     EntryRef {
         tag: packed.tag(),
-        event: event(kind, packed, programs),
-        reply: reply(kind, packed),
+        event: event(kind, packed, programs, texts),
+        reply: reply(kind, packed, texts),
     }
 }
 
-fn event<'a>(kind: Kind, packed: &Packed, programs: &'a [Program]) -> EventRef<'a>
-    ensures { event_shown result ≡ event_by kind programs.now packed.now }
+fn event<'a>(kind: Kind, packed: &Packed, programs: &'a [Program], texts: &[Text]) -> EventRef<'a>
+    ensures { event_shown result ≡ event_by kind (record { programs = programs.now; texts = texts.now }) packed.now }
 {
     match kind {
         Kind::Submitted => submitted(programs, packed.place()),
@@ -136,12 +168,31 @@ fn event<'a>(kind: Kind, packed: &Packed, programs: &'a [Program]) -> EventRef<'
             OfficeId::new(packed.neighbour()),
             usize::from(packed.message()),
         ),
-        Kind::Acked => EventRef::Took(packed.frame()),
-        Kind::Taken => EventRef::Took(packed.frame()),
-        Kind::Repeat => EventRef::Took(packed.frame()),
-        Kind::Kept => EventRef::Took(packed.frame()),
-        Kind::Early => EventRef::Took(packed.frame()),
+        Kind::Acked => EventRef::Took(framed(packed, texts)),
+        Kind::Taken => EventRef::Took(framed(packed, texts)),
+        Kind::Repeat => EventRef::Took(framed(packed, texts)),
+        Kind::Kept => EventRef::Took(framed(packed, texts)),
+        Kind::Early => EventRef::Took(framed(packed, texts)),
     }
+}
+
+/// The frame, with its text of these, if it carries one.
+fn framed(packed: &Packed, texts: &[Text]) -> Frame
+    ensures { result ≡ frame_in texts.now packed.now }
+{
+    if !packed.has_text() {
+        return packed.frame();
+    }
+    match text_at(texts, packed.text()) {
+        Some(text) => packed.frame_with(*text),
+        None => packed.frame(),
+    }
+}
+
+fn text_at(texts: &[Text], place: usize) -> Option<&Text>
+    ensures { option_copied result ≡ slice_get texts.now place }
+{
+    texts.get(place)
 }
 
 /// The session whose program has that place.
@@ -160,8 +211,8 @@ fn program_at(programs: &[Program], place: usize) -> Option<&Program>
     programs.get(place)
 }
 
-fn reply(kind: Kind, packed: &Packed) -> Reply
-    ensures { result ≡ reply_by kind packed.now }
+fn reply(kind: Kind, packed: &Packed, texts: &[Text]) -> Reply
+    ensures { result ≡ reply_by kind texts.now packed.now }
 {
     match kind {
         Kind::Submitted => Reply::Ticket(packed.ticket()),
@@ -177,7 +228,7 @@ fn reply(kind: Kind, packed: &Packed) -> Reply
         Kind::Drink => Reply::Done,
         Kind::Work => Reply::Done,
         Kind::Finish => Reply::Done,
-        Kind::Sent => Reply::Frame(packed.frame()),
+        Kind::Sent => Reply::Frame(framed(packed, texts)),
         Kind::Acked => Reply::Acked,
         Kind::Taken => Reply::Taken,
         Kind::Repeat => Reply::Repeat,

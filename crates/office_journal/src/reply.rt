@@ -1,7 +1,7 @@
 //! What an office answers.
 
 ghost use Rattle.office_journal.specs.RefusalText.{refusal_text};
-ghost use Rattle.std.specs.Prelude.{◌≡◌, Some};
+ghost use Rattle.std.specs.Prelude.{◌≡◌, ◌↔◌, IsTrue, Some};
 ghost use Rattle.office_journal.specs.Replies.{reply_to, frame_told};
 ghost use Rattle.office_journal.specs.declared.reply.Refusal.TheVariants as refusals;
 
@@ -55,6 +55,28 @@ impl Reply {
         match self {
             Reply::Frame(frame) => Some(*frame),
             _ => None,
+        }
+    }
+
+    /// Whether two replies are the same.
+    pub fn equals(&self, other: &Reply) -> bool
+        ensures { IsTrue result ↔ (self.now ≡ other.now) }
+    {
+        match self {
+            Reply::Ticket(ticket) => match other {
+                Reply::Ticket(another) => *ticket == *another,
+                _ => false,
+            },
+            Reply::Done => matches!(other, Reply::Done),
+            Reply::Frame(frame) => match other {
+                Reply::Frame(another) => frame.equals(another),
+                _ => false,
+            },
+            Reply::Acked => matches!(other, Reply::Acked),
+            Reply::Taken => matches!(other, Reply::Taken),
+            Reply::Repeat => matches!(other, Reply::Repeat),
+            Reply::Kept => matches!(other, Reply::Kept),
+            Reply::Early => matches!(other, Reply::Early),
         }
     }
 }

@@ -1,5 +1,6 @@
 pub mod SessionsAreOurs
 pub mod OfficeLimits
+pub mod OfficeValues
 pub mod OfficeSteps
 pub mod FirstRule
 pub mod NoneNext

@@ -7,6 +7,8 @@ use Rattle.short_names.proofs.short_name.ShortName.TheSendSync as short_name
 use Rattle.office_map.proofs.plan.Plan.TheSendSync as plan
 use Rattle.journal_pages.proofs.pages.Pages.TheSendSync as pages
 use Rattle.token_channel.proofs.channel.Channel.TheSendSync as channel
+use Rattle.token_channel.proofs.messages.Messages.TheSendSync as messages
+use Rattle.bottle_values.proofs.text.Text.TheSendSync as text
 use Rattle.dining_core.proofs.table.Table.TheSendSync as table
 use Rattle.drinking_core.proofs.bar.Bar.TheSendSync as bar
 use Rattle.session_meaning.proofs.ending.Outcome.TheSendSync as outcome
@@ -54,13 +56,13 @@ agenda_send : IsSend Agenda.the_row
 agenda_send = search (session_send, phase_send, outcome.the_field_send, spare.the_field_send, sendable, crosses) depth 40
 
 journal_send : IsSend Journal.the_row
-journal_send = search (pages.the_send, program_send, sendable, crosses) depth 40
+journal_send = search (pages.the_send, program_send, text.the_send, sendable, crosses) depth 40
 
 channels_send : IsSend Channels.the_row
 channels_send = search (channel.the_send, sendable, crosses) depth 40
 
 pairs_send : IsSend Pairs.the_row
-pairs_send = search (plan.the_send, office_id.the_send, table.the_send, bar.the_send, channels_send, sendable, crosses) depth 60 fits 20000
+pairs_send = search (plan.the_send, office_id.the_send, table.the_send, bar.the_send, channels_send, messages.the_send, sendable, crosses) depth 60 fits 20000
 
 pub office_send : IsSend Office.the_row
 office_send = search (pairs_send, agenda_send, journal_send, sendable, crosses) depth 40

@@ -94,7 +94,7 @@ after_taking plan me n p f h none =
 loosen : (plan : PlanValue) (me n m : ℕ) (o : Office) → n ≤ m → IsWithin plan me n o → IsWithin plan me m o
 loosen plan me n m o le w = record { numbers = λ v. omega (arith, le, w.numbers v); tickets = omega (arith, le, w.tickets); ours = w.ours }
 
-abbrev Ours : PlanValue → ℕ → List Session → Type 0
+abbrev pub Ours : PlanValue → ℕ → List Session → Type 0
 Ours plan me queue = All (λ (s : Session). is_ours plan me s.program ≡ true) queue
 
 one_ours : (plan : PlanValue) (me : ℕ) (s : Session) → is_ours plan me s.program ≡ true → Ours plan me (s ∷ [])

@@ -1,6 +1,8 @@
 -- The office that the code keeps, at the end of its journal.
 use Rattle.std.proofs.Common.{◌≡◌, ℕ, ◌+◌, ◌≤◌, ◌<◌, ◌⊎◌, inl, inr, Bool, true, false, cond, List, [], ◌∷◌, ◌++◌, length, None, Some, Result, Ok, Err, refl, sym, ap, subst, ◌∙◌, arith}
-use Rattle.std.specs.Prelude.{nat_le, All, IsOk, OnErr}
+use Rattle.std.specs.Prelude.{nat_le, All, IsOk, IsTrue, OnErr}
+use Rattle.bottle_values.specs.Versions.{admits}
+use Rattle.office_map.specs.Consistency.{IsConsistent}
 use Rattle.office_map.specs.PlanValue.{PlanValue, are_neighbours}
 use Rattle.window_link.specs.Windows.{used}
 use Rattle.site_core.specs.Limits.{most_entries}
@@ -22,20 +24,23 @@ use Rattle.session_agenda.specs.Agenda.{Agenda}
 use Rattle.session_agenda.specs.Agenda as agenda
 use Rattle.site_core.specs.Offices.{Office, Answer, done_if, is_ours, frame_on, framed, unless_faulty, with_pairs, answer, opened}
 use Rattle.site_core.specs.Journals.{Site, office_of, noted, after, next_or, step, Steps, Adds, IsLegal, recorded}
-use Rattle.neighbour_pairs.specs.refinement.PairsOfCode.{PairsValue, pairs_of, IsOf, HaveRoom}
+use Rattle.neighbour_pairs.specs.refinement.PairsOfCode.{PairsValue, pairs_of, IsOf, HaveRoom, HaveValues}
 use Rattle.session_agenda.specs.refinement.AgendaOfCode.{AgendaValue, Means}
 use Rattle.site_core.specs.refinement.OfficeOfCode.{office_at, Stands, AreOurs, site_of, IsAtEnd}
 use Rattle.site_core.specs.JournalLaws.{office_noted, legal_noted, office_empty, legal_empty}
+use Rattle.site_core.specs.refinement.OfficeValues.{OfficeFits, Keeps}
 use Rattle.site_core.proofs.OfficeLimits.{within}
+use Rattle.site_core.proofs.OfficeValues.{keeps_submit, keeps_sending, fits_at_start}
 
 stands_by : (p : PairsValue) (v : AgendaValue) (o o' : Office) → o ≡ o' → Stands p v o → Stands p v o'
 stands_by p v o o' e s = subst (Stands p v) e s
 
-pub opens : (p : PairsValue) (v : AgendaValue) (entries : List Entry) (plan : PlanValue) (me : ℕ) → IsOf plan me p → pairs_of p ≡ pairs.opened plan me → Means v agenda.empty → entries ≡ [] → IsAtEnd p v entries
-opens p v entries plan me of is means none =
+pub opens : (p : PairsValue) (v : AgendaValue) (entries : List Entry) (plan : PlanValue) (me : ℕ) → IsConsistent plan → IsOf plan me p → pairs_of p ≡ pairs.opened plan me → Means v agenda.empty → entries ≡ [] → IsAtEnd p v entries
+opens p v entries plan me consistent of is means none =
     let here : Stands p v (office_of (site_of p [])) = stands_by p v (opened p.plan p.me) (office_of (site_of p [])) (sym (office_empty p.plan p.me))
     (is ∙ ap (λ x. pairs.opened x me) (sym of.0) ∙ ap (λ x. pairs.opened p.plan x) (sym of.1), means) in
-    subst (IsAtEnd p v) (sym none) (record { stands = here; legal = legal_empty p.plan p.me })
+    let fits : OfficeFits p.plan.version (office_of (site_of p [])) = subst (OfficeFits p.plan.version) (sym (office_empty p.plan p.me)) (fits_at_start p.plan p.me (subst IsConsistent (sym of.0) consistent)) in
+    subst (IsAtEnd p v) (sym none) (record { stands = here; legal = legal_empty p.plan p.me; fits = fits })
 
 -- no link used more numbers than a journal takes entries
 pub numbers_in_range : (p : PairsValue) (v : AgendaValue) (entries : List Entry) → IsAtEnd p v entries → (u : ℕ) → used ((pairs_of p).link u).sending ≤ most_entries
@@ -51,20 +56,32 @@ have_room p v entries h = λ u. omega (arith, numbers_in_range p v entries h u)
 pub are_ours : (p : PairsValue) (v : AgendaValue) (entries : List Entry) → IsAtEnd p v entries → AreOurs p v
 are_ours p v entries h = subst (All (λ (s : Session). is_ours p.plan p.me s.program ≡ true)) (sym h.stands.1.queue) (within (site_of p entries)).ours
 
+-- what the bottles hold can go on the links
+pub have_values : (p : PairsValue) (v : AgendaValue) (entries : List Entry) → IsAtEnd p v entries → HaveValues p
+have_values p v entries h r x is =
+    let u = (pairs_of p).drinker.peer r in
+    let version = ap (λ (y : Pairs). (y.link u).version) h.stands.0 ∙ (h.fits.pairs.links u).same in
+    subst (λ w. IsTrue (admits w x)) (sym version) (h.fits.pairs.bottles r x (ap (λ (y : Pairs). y.drinker.bottle r) (sym h.stands.0) ∙ is))
+
 -- one entry more, where room was made for it
 pub noted_more : (xs ys zs : List Entry) (x e : Entry) → zs ≡ ys ++ x ∷ [] → ys ≡ xs → x ≡ e → zs ≡ xs ++ e ∷ []
 noted_more xs ys zs x e is same told = is ∙ ap (λ l. l ++ x ∷ []) same ∙ ap (λ y. xs ++ y ∷ []) told
 
+still_fits : (p p' : PairsValue) (entries : List Entry) → p'.plan ≡ p.plan → OfficeFits p.plan.version (office_of (site_of p' entries)) → OfficeFits p'.plan.version (office_of (site_of p' entries))
+still_fits p p' entries same fits = subst (λ (x : PlanValue). OfficeFits x.version (office_of (site_of p' entries))) (sym same) fits
+
 -- an accepted event, and its entry
-pub goes_on : (p p' : PairsValue) (v v' : AgendaValue) (entries entries' : List Entry) (tag : ℕ) (e : Event) (r : Reply) (o : Office) → IsAtEnd p v entries → IsOf p.plan p.me p' →
+pub goes_on : (p p' : PairsValue) (v v' : AgendaValue) (entries entries' : List Entry) (tag : ℕ) (e : Event) (r : Reply) (o : Office) → IsAtEnd p v entries → Keeps p.plan p.me e → IsOf p.plan p.me p' →
     answer p.plan p.me (office_of (site_of p entries)) e ≡ Ok (r, o) → Stands p' v' o → tag < 16 → nat_le most_entries (length entries) ≡ false → entries' ≡ entries ++ record { tag = tag; event = e; reply = r } ∷ [] → IsAtEnd p' v' entries'
-goes_on p p' v v' entries entries' tag e r o h of ok stands lt room grown =
+goes_on p p' v v' entries entries' tag e r o h keeps of ok stands lt room grown =
     let s = site_of p entries in
     let reached : after p.plan p.me (office_of s) e ≡ o = ap (next_or (office_of s)) ok in
     let same : site_of p' entries' ≡ noted s tag e r = ap (λ x. record { plan = x; me = p'.me; entries = entries' }) of.0 ∙ ap (λ x. record { plan = p.plan; me = x; entries = entries' }) of.1 ∙ ap (λ x. record { plan = p.plan; me = p.me; entries = x }) grown in
+    let fits : OfficeFits p.plan.version (after p.plan p.me (office_of s) e) = keeps (office_of s) h.fits (within s).ours in
     record {
       stands = stands_by p' v' o (office_of (site_of p' entries')) (sym (ap office_of same ∙ office_noted s tag e r ∙ reached)) stands;
       legal = subst IsLegal (sym same) (legal_noted s tag e r h.legal (ok ∙ ap (λ x. Ok (r, x)) (sym reached)) lt room);
+      fits = still_fits p p' entries' of.0 (subst (OfficeFits p.plan.version) (sym (ap office_of same ∙ office_noted s tag e r)) fits);
     }
 
 -- what is kept where nothing was accepted
@@ -74,6 +91,7 @@ stays p p' v v' entries entries' h of ep ea ee =
     record {
       stands = stands_by p' v' (office_of (site_of p entries)) (office_of (site_of p' entries')) (sym (ap office_of same)) (ep ∙ h.stands.0, ea (office_of (site_of p entries)).agenda h.stands.1);
       legal = subst IsLegal (sym same) h.legal;
+      fits = still_fits p p' entries' of.0 (subst (OfficeFits p.plan.version) (sym (ap office_of same)) h.fits);
     }
 
 -- ---- replies
@@ -137,14 +155,14 @@ same_office : (p : PairsValue) (o : Office) → pairs_of p ≡ o.pairs → offic
 same_office p o e = ap (λ x. record { pairs = x; agenda = o.agenda }) e
 
 -- an event that a guard decides, and its entry
-pub done_event : (p p' : PairsValue) (v v' : AgendaValue) (entries entries' : List Entry) (tag : ℕ) (e : Event) (guard : Office → Bool) (effect : Office → Office) → ((o : Office) → answer p.plan p.me o e ≡ done_if (guard o) (effect o)) → IsAtEnd p v entries → IsOf p.plan p.me p' →
+pub done_event : (p p' : PairsValue) (v v' : AgendaValue) (entries entries' : List Entry) (tag : ℕ) (e : Event) (guard : Office → Bool) (effect : Office → Office) → ((o : Office) → answer p.plan p.me o e ≡ done_if (guard o) (effect o)) → Keeps p.plan p.me e → IsAtEnd p v entries → IsOf p.plan p.me p' →
     ((a : Agenda) → Means v a → guard (office_at p a) ≡ false → ⊥) → ((a : Agenda) → Means v a → Stands p' v' (effect (office_at p a))) → tag < 16 → (nat_le most_entries (length entries) ≡ true → ⊥) →
     entries' ≡ entries ++ record { tag = tag; event = e; reply = reply.Done } ∷ [] → IsAtEnd p' v' entries'
-done_event p p' v v' entries entries' tag e guard effect answers h of can done lt room grown =
+done_event p p' v v' entries entries' tag e guard effect answers keeps h of can done lt room grown =
     let o = office_of (site_of p entries) in
     let same = same_office p o h.stands.0 in
     let ok : guard o ≡ true = ap guard (sym same) ∙ decided (guard (office_at p o.agenda)) (can o.agenda h.stands.1) in
-    goes_on p p' v v' entries entries' tag e reply.Done (effect o) h of (answers o ∙ ap (λ b. done_if b (effect o)) ok) (subst (λ x. Stands p' v' (effect x)) same (done o.agenda h.stands.1)) lt (not_full _ room) grown
+    goes_on p p' v v' entries entries' tag e reply.Done (effect o) h keeps of (answers o ∙ ap (λ b. done_if b (effect o)) ok) (subst (λ x. Stands p' v' (effect x)) same (done o.agenda h.stands.1)) lt (not_full _ room) grown
 
 -- what the office's definition says of its rules, where it is told of the code's
 pub told_of : {A : Type 0} (p : PairsValue) (v : AgendaValue) (entries : List Entry) (f : Office → A) (x : A) → IsAtEnd p v entries → ((a : Agenda) → Means v a → x ≡ f (office_at p a)) → x ≡ f (office_of (site_of p entries))
@@ -173,7 +191,7 @@ submitted_session p v v' entries entries' tag x ticket full h ours fullness room
     let s = site_of p entries in
     let a = (office_of s).agenda in
     let m = h.stands.1 in
-    goes_on p p v v' entries entries' tag (event.Submit x) (reply.Ticket ticket) (record { pairs = (office_of s).pairs; agenda = agenda.submitted a x }) h (refl, refl)
+    goes_on p p v v' entries entries' tag (event.Submit x) (reply.Ticket ticket) (record { pairs = (office_of s).pairs; agenda = agenda.submitted a x }) h (keeps_submit p.plan p.me x) (refl, refl)
     (submit_answer s x ours (sym (fullness a m) ∙ room) ∙ ap (λ t. Ok (reply.Ticket t, record { pairs = (office_of s).pairs; agenda = agenda.submitted a x })) (sym (tickets a m))) (h.stands.0, done a m) lt (not_full _ journal) grown
 
 send_answer : (s : Site) (v i : ℕ) (f : Fields) → cond (are_neighbours s.plan s.me v) (frame_on ((office_of s).pairs.link v) i) None ≡ Some f → answer s.plan s.me (office_of s) (event.Send v i) ≡ Ok (reply.Frame f, office_of s)
@@ -187,7 +205,7 @@ pub framed_message : (p : PairsValue) (v : AgendaValue) (entries entries' : List
     (nat_le most_entries (length entries) ≡ true → ⊥) → entries' ≡ entries ++ record { tag = tag; event = event.Send to i; reply = reply.Frame f } ∷ [] → IsAtEnd p v entries'
 framed_message p v entries entries' tag to i f h made lt journal grown =
     let s = site_of p entries in
-    goes_on p p v v entries entries' tag (event.Send to i) (reply.Frame f) (office_of s) h (refl, refl)
+    goes_on p p v v entries entries' tag (event.Send to i) (reply.Frame f) (office_of s) h (keeps_sending p.plan p.me to i) (refl, refl)
     (send_answer s to i f (ap (λ (x : Pairs). cond (are_neighbours p.plan p.me to) (frame_on (x.link to) i) None) (sym h.stands.0) ∙ made)) h.stands lt (not_full _ journal) grown
 
 take_answer : (p : PairsValue) (v : AgendaValue) (entries : List Entry) (f : Fields) (a : Arrival) → IsAtEnd p v entries → frame_fault p.plan p.me (pairs_of p) f ≡ None → a ≡ arrival_of (pairs_of p) f →
@@ -204,11 +222,11 @@ taken_steps p p' v entries entries' tag f a r h of none is told journal grown =
     let same : site_of p' entries' ≡ noted s tag (event.Took f) (reply_to a) = ap (λ x. record { plan = x; me = p'.me; entries = entries' }) of.0 ∙ ap (λ x. record { plan = p.plan; me = x; entries = entries' }) of.1 ∙ ap (λ x. record { plan = p.plan; me = p.me; entries = x }) grown in
     subst (λ x. Steps s tag (event.Took f) (Ok x) (site_of p' entries')) (sym told) (accepted s (site_of p' entries') tag (event.Took f) (reply_to a) _ (take_answer p v entries f a h none is) (not_full _ journal) same)
 
-pub taken_frame : (p p' : PairsValue) (v : AgendaValue) (entries entries' : List Entry) (tag : ℕ) (f : Fields) (a : Arrival) → IsAtEnd p v entries → IsOf p.plan p.me p' → frame_fault p.plan p.me (pairs_of p) f ≡ None → a ≡ arrival_of (pairs_of p) f →
+pub taken_frame : (p p' : PairsValue) (v : AgendaValue) (entries entries' : List Entry) (tag : ℕ) (f : Fields) (a : Arrival) → IsAtEnd p v entries → Keeps p.plan p.me (event.Took f) → IsOf p.plan p.me p' → frame_fault p.plan p.me (pairs_of p) f ≡ None → a ≡ arrival_of (pairs_of p) f →
     pairs_of p' ≡ after_taking p.plan p.me (pairs_of p) f → tag < 16 → (nat_le most_entries (length entries) ≡ true → ⊥) → entries' ≡ entries ++ record { tag = tag; event = event.Took f; reply = reply_to a } ∷ [] → IsAtEnd p' v entries'
-taken_frame p p' v entries entries' tag f a h of none is after_is lt journal grown =
+taken_frame p p' v entries entries' tag f a h keeps of none is after_is lt journal grown =
     let o = office_of (site_of p entries) in
-    goes_on p p' v v entries entries' tag (event.Took f) (reply_to a) (with_pairs o (after_taking p.plan p.me o.pairs f)) h of (take_answer p v entries f a h none is) (after_is ∙ ap (λ x. after_taking p.plan p.me x f) h.stands.0, h.stands.1) lt (not_full _ journal) grown
+    goes_on p p' v v entries entries' tag (event.Took f) (reply_to a) (with_pairs o (after_taking p.plan p.me o.pairs f)) h keeps of (take_answer p v entries f a h none is) (after_is ∙ ap (λ x. after_taking p.plan p.me x f) h.stands.0, h.stands.1) lt (not_full _ journal) grown
 
 -- ---- what a step adds
 

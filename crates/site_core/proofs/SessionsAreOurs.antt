@@ -1,6 +1,6 @@
 -- What is known of the sessions of an office.
 use Rattle.std.proofs.Common.{◌≡◌, ℕ, ◌+◌, ◌<◌, Bool, true, List, [], ◌∷◌, ◌++◌, length, take, get_or, None, Some, refl, sym, ap, subst, ◌∙◌, arith}
-use Rattle.std.specs.Prelude.{◌==◌, nat_lt, All}
+use Rattle.std.specs.Prelude.{◌==◌, ◌&&◌, nat_lt, All}
 use Rattle.std.specs.List.{list_all}
 use Rattle.std.proofs.lemmas.Bool.{and_parts, eqb-true}
 use Rattle.std.proofs.lemmas.List.{take_more}
@@ -8,10 +8,11 @@ use Rattle.std.proofs.lemmas.List.Elements.{All-head, All-cons}
 use Rattle.bottle_values.specs.Maps.{reads_of}
 use Rattle.office_map.specs.PlanValue.{PlanValue, is_end}
 use Rattle.session_meaning.specs.ProgramValue.{ProgramValue}
+use Rattle.session_meaning.specs.Fitting.{block_fits}
 use Rattle.session_programs.specs.Program.{fits}
 use Rattle.session_measures.specs.Needs.{needs_of}
 use Rattle.session_agenda.specs.declared.session.Session.{Session}
-use Rattle.bottle_values.specs.Values.{Value}
+use Rattle.bottle_values.specs.declared.Value.{Value}
 use Rattle.session_agenda.specs.Agenda.{Agenda, Current, Idle, Gathering, Working, first_needs, gathering, begun, with_current}
 use Rattle.site_core.specs.Offices.{is_ours}
 
@@ -24,7 +25,8 @@ each f (x ∷ xs) e =
 needed_ends : (p : PlanValue) (me : ℕ) (x : ProgramValue) → is_ours p me x ≡ true → All (λ r. is_end p r me ≡ true) (needs_of x.body)
 needed_ends p me x e =
     let parts : ((x.office == me) ≡ true) × (fits p x ≡ true) = and_parts _ _ e in
-    let fit : (nat_lt x.office (length p.offices) ≡ true) × (list_all (λ r. is_end p r x.office) (needs_of x.body) ≡ true) = and_parts _ _ parts.1 in
+    let near : ((nat_lt x.office (length p.offices) && list_all (λ r. is_end p r x.office) (needs_of x.body)) ≡ true) × (block_fits p.version x.body ≡ true) = and_parts _ (block_fits p.version x.body) parts.1 in
+    let fit : (nat_lt x.office (length p.offices) ≡ true) × (list_all (λ r. is_end p r x.office) (needs_of x.body) ≡ true) = and_parts _ _ near.0 in
     subst (λ o. All (λ r. is_end p r o ≡ true) (needs_of x.body)) (eqb-true x.office me parts.0) (each (λ r. is_end p r x.office) (needs_of x.body) fit.1)
 
 -- what the first waiting session needs is of the office

@@ -1,1 +1,2 @@
+pub mod OfficeValues
 pub mod OfficeOfCode

@@ -23,6 +23,7 @@ use office_journal::{Event, Journal, Refusal, Reply, Rule, packing};
 use office_map::{OfficeId, Plan, RecordId};
 use session_agenda::Agenda;
 use session_meaning::Outcome;
+use session_meaning::laws::values_fit;
 use session_programs::Program;
 use std::alloc::{AllocError, Global};
 use std::marker::Model;
@@ -61,6 +62,8 @@ impl Office {
         ensures number { IfOk result (λ o. o.me ≡ me) }
         ensures empty { IfOk result (λ o. o.entries ≡ []) }
     {
+        // The plan is consistent.
+        let _ = plan.offices();
         let pairs = Pairs::open(alloc, plan, me)?;
         Ok(Office {
             alloc,
@@ -83,6 +86,7 @@ impl Office {
             let enabled = rules::may(&self.pairs, &self.agenda, &rule);
             return Err(rules::unless_guarded(enabled, refusal));
         }
+        values_fit();
         rules::do_rule(self.alloc, &mut self.pairs, &mut self.agenda, &rule)?;
         let entry = packing::of_rule(tag, rule);
         self.journal.push(entry);
@@ -150,8 +154,8 @@ impl Office {
             return Err(Refusal::NotNow);
         };
         self.journal.make_room()?;
-        let entry = packing::of_frame(tag, v, i, &frame);
-        self.journal.push(entry);
+        self.journal.make_room_for_text(&frame)?;
+        self.journal.push_sent(tag, v, i, &frame);
         Ok(Reply::Frame(frame))
     }
 
@@ -169,9 +173,11 @@ impl Office {
             return Err(Refusal::Channel(fault));
         }
         self.journal.make_room()?;
+        self.journal.make_room_for_text(frame)?;
+        // A frame carries what its version can.
+        let _ = frame.msg();
         let arrival = self.pairs.take(frame);
-        let entry = packing::of_arrival(tag, frame, &arrival);
-        self.journal.push(entry);
+        self.journal.push_arrival(tag, frame, &arrival);
         Ok(Reply::to(&arrival))
     }
 

@@ -8,7 +8,7 @@ ghost use Rattle.office_journal.specs.declared.rule.Rule.TheVariants as rules;
 ghost use Rattle.office_journal.specs.declared.reply.Refusal.TheVariants as refusals;
 ghost use Rattle.session_agenda.specs.Agenda as sessions;
 ghost use Rattle.site_core.specs.Offices as offices;
-ghost use Rattle.neighbour_pairs.specs.refinement.PairsOfCode.{pairs_of, IsOf, HaveRoom};
+ghost use Rattle.neighbour_pairs.specs.refinement.PairsOfCode.{pairs_of, IsOf, HaveRoom, HaveValues};
 ghost use Rattle.session_agenda.specs.refinement.AgendaOfCode.{Means};
 ghost use Rattle.site_core.specs.refinement.OfficeOfCode.{office_at, Stands, AreOurs};
 
@@ -73,10 +73,20 @@ fn values_of(alloc: Global, bar: &Bar, needs: &[RecordId]) -> Result<RecordValue
 {
     let mut reads = RecordValues::with_capacity(alloc, needs.len())?;
     for r in needs {
-        let value = bar.value(*r).unwrap_or(Value::from(0));
+        let value = value_of(bar, *r);
         reads.push(*r, value)?;
     }
     Ok(reads)
+}
+
+/// The value of a record's bottle, if that is here.
+fn value_of(bar: &Bar, r: RecordId) -> Value
+    ensures { result ≡ offices.value_in (drinker_of bar.now) r }
+{
+    match bar.value(r) {
+        Some(value) => value,
+        None => Value::from(0),
+    }
 }
 
 /// A piece of the session's work is done.
@@ -118,6 +128,7 @@ pub fn do_rule(
     rule: &Rule,
 ) -> Result<(), Refusal>
     requires room { HaveRoom pairs.old }
+    requires values { HaveValues pairs.old }
     requires ours { AreOurs pairs.old agenda.old }
     ensures office { IsOf pairs.old.plan pairs.old.me pairs.new }
     ensures not_now { (a : sessions.Agenda) → Means agenda.old a → (result ≡ Err refusals.NotNow) ↔ (offices.may pairs.old.plan pairs.old.me (office_at pairs.old a) rule.now ≡ false) }

@@ -1,10 +1,12 @@
 -- The pairs that the code keeps, and what they mean.
-use Rattle.std.specs.Prelude.{◌≡◌, ℕ, ◌<◌, Bool, true, false, ◌&&◌, ◌↔◌, List, [], ◌∷◌, length, Result, IsErr, OnOk, OnErr}
+use Rattle.std.specs.Prelude.{◌≡◌, ℕ, ◌<◌, Bool, true, false, ◌&&◌, ◌↔◌, List, [], ◌∷◌, length, Some, Result, IsTrue, IsErr, OnOk, OnErr}
 use Rattle.window_link.specs.Windows.{used}
 use Rattle.window_link.specs.Limits.{greatest}
 use Rattle.office_map.specs.PlanValue.{PlanValue, neighbours_of, records_of, peer}
 use Rattle.office_map.specs.Consistency.{IsConsistent}
 use Rattle.bottle_values.specs.Lists.{is_among}
+use Rattle.bottle_values.specs.Versions.{admits}
+use Rattle.bottle_values.specs.declared.Value.{Value}
 use Rattle.frame_codec.specs.declared.message.Msg.{Msg}
 use Rattle.frame_codec.specs.declared.message.Msg.TheVariants as msg
 use Rattle.dining_core.specs.Diners.{Diner, ForkRule}
@@ -48,6 +50,10 @@ pub record DoesBottleRule {T E : Type 0} (ours : Bool) (rule : BottleRule) (resu
 -- each link has a number for one message more
 abbrev pub HaveRoom : PairsValue → Type 0
 HaveRoom p = (v : ℕ) → used ((pairs_of p).link v).sending < greatest
+
+-- each bottle's value can go on the link to the record's other end
+abbrev pub HaveValues : PairsValue → Type 0
+HaveValues p = (r : ℕ) (x : Value) → (pairs_of p).drinker.bottle r ≡ Some x → IsTrue (admits ((pairs_of p).link ((pairs_of p).drinker.peer r)).version x)
 
 -- what the message brings is shared with v, and away
 abbrev pub MayBring : Diner → Drinker → ℕ → Msg → Type 0

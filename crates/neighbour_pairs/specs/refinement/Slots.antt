@@ -3,7 +3,7 @@ use Rattle.std.specs.Prelude.{◌≡◌, ℕ, Bool, true, false, if◌then◌els
 use Rattle.std.specs.Option.{option_map_or}
 use Rattle.bottle_values.specs.declared.version.Version.{Version}
 use Rattle.frame_codec.specs.declared.message.Msg.{Msg}
-use Rattle.frame_codec.specs.Frame.{Fields}
+use Rattle.frame_codec.specs.Frame.{Fields, carries}
 use Rattle.office_map.specs.PlanValue.{PlanValue, are_neighbours}
 use Rattle.window_link.specs.Windows.{used}
 use Rattle.window_link.specs.Links.{LinkState, resumed}
@@ -31,6 +31,10 @@ slot_holds slot t = option_map_or (λ (c : ChannelState). holds c.places t) slot
 
 abbrev pub slot_used : Slot → ℕ
 slot_used slot = option_map_or (λ (c : ChannelState). used c.link.sending) slot 0
+
+-- frames of the link in a slot can carry the message
+abbrev pub slot_carries : Slot → Msg → Bool
+slot_carries slot m = option_map_or (λ (c : ChannelState). carries c.link.version m) slot true
 
 abbrev pub slot_sent : Slot → Msg → Slot
 slot_sent slot m = option_map (λ c. sent c m) slot

@@ -1,27 +1,33 @@
 -- The journal that the code keeps.
-use Rattle.std.specs.Prelude.{ℕ, ◌≤◌, List, [], ◌∷◌, length, map}
-use Rattle.session_meaning.specs.ProgramValue.{ProgramValue}
+use Rattle.std.specs.Prelude.{ℕ, ◌≤◌, List, [], ◌∷◌, length, map, Option, None, Some}
 use Rattle.journal_pages.specs.Told.{Told}
 use Rattle.journal_pages.specs.Kept.{PagesValue}
 use Rattle.office_journal.specs.declared.event.Entry.{Entry}
-use Rattle.office_journal.specs.refinement.PackedEntries.{entry_in, IsPlaced}
+use Rattle.office_journal.specs.refinement.PackedEntries.{Beside, entry_in, IsPlaced}
 
--- the entries, how many more there is room for, and for how many more programs
+-- the entries, how many more there is room for, and for how many more programs and texts
 pub record JournalValue : Type 0 where
   pub entries : List Entry
   pub room : ℕ
   pub programs : ℕ
+  pub texts : ℕ
 
--- these packed entries, with these programs, of which there is memory for so many more
-abbrev pub journal_of : PagesValue → List ProgramValue → ℕ → JournalValue
-journal_of pages programs more = record { entries = map (entry_in programs) pages.entries; room = pages.room; programs = more }
+-- these packed entries, with this beside, where there is memory for so many programs more and so many texts
+abbrev pub journal_of : PagesValue → Beside → ℕ → ℕ → JournalValue
+journal_of pages beside programs texts = record { entries = map (entry_in beside) pages.entries; room = pages.room; programs = programs; texts = texts }
 
--- the program of each that has one is among the first so many
-abbrev pub ArePlaced : ℕ → List Told → Type 0
-ArePlaced n [] = Unit {0}
-ArePlaced n (t ∷ ts) = IsPlaced n t × ArePlaced n ts
+-- what each has beside is there
+abbrev pub ArePlaced : Beside → List Told → Type 0
+ArePlaced b [] = Unit {0}
+ArePlaced b (t ∷ ts) = IsPlaced b t × ArePlaced b ts
 
--- each program is that of one entry, so there are no more programs than entries
-pub record AreKept (programs : List ProgramValue) (ts : List Told) : Type 0 where
-  pub placed : ArePlaced (length programs) ts
-  pub few : length programs ≤ length ts
+-- each program is that of one entry, and each text too, so there are no more of them than entries
+pub record AreKept (b : Beside) (ts : List Told) : Type 0 where
+  pub placed : ArePlaced b ts
+  pub few : length b.programs ≤ length ts
+  pub few_texts : length b.texts ≤ length ts
+
+-- the texts that this is
+abbrev pub texts_of : Option (List ℕ) → List (List ℕ)
+texts_of None = []
+texts_of (Some text) = text ∷ []

@@ -1,6 +1,7 @@
 -- Which entry of a journal a packed one is.
-use Rattle.std.specs.Prelude.{◌≡◌, ℕ, ◌<◌, List, Option, None, Some, slice_get}
+use Rattle.std.specs.Prelude.{◌≡◌, ◌≢◌, ℕ, ◌<◌, true, false, List, [], length, Option, None, Some, slice_get}
 use Rattle.session_meaning.specs.ProgramValue.{ProgramValue}
+use Rattle.journal_pages.specs.Framed.{frame_in}
 use Rattle.journal_pages.specs.Told.{Told}
 use Rattle.journal_pages.specs.declared.kind.Kind.{Kind}
 use Rattle.journal_pages.specs.declared.kind.Kind.TheVariants as kind
@@ -11,6 +12,15 @@ use Rattle.office_journal.specs.declared.event.Event.TheVariants as event
 use Rattle.office_journal.specs.declared.event.Entry.{Entry}
 use Rattle.office_journal.specs.declared.reply.Reply.{Reply}
 use Rattle.office_journal.specs.declared.reply.Reply.TheVariants as reply
+
+-- what stands beside the entries of a journal: the programs of sessions, and the texts that frames carry
+pub record Beside : Type 0 where
+  pub programs : List ProgramValue
+  pub texts : List (List ℕ)
+
+-- beside an entry that has neither
+abbrev pub nothing : Beside
+nothing = record { programs = []; texts = [] }
 
 -- the session at that place. Each entry of a journal has its own; the other case is one that no journal has.
 abbrev pub submitted_from : Option ProgramValue → Event
@@ -31,36 +41,42 @@ rule_by kind.Drink v which = rule.Drink
 rule_by kind.Work v which = rule.Work which
 rule_by _ v which = rule.Finish
 
--- what happened, where these are the journal's programs
-abbrev pub event_by : Kind → List ProgramValue → Told → Event
-event_by kind.Submitted programs t = submitted_from (slice_get programs t.place)
-event_by kind.Withdrew programs t = event.Withdraw t.ticket
-event_by kind.Sent programs t = event.Send t.v t.i
-event_by kind.Acked programs t = event.Took t.frame
-event_by kind.Taken programs t = event.Took t.frame
-event_by kind.Repeat programs t = event.Took t.frame
-event_by kind.Kept programs t = event.Took t.frame
-event_by kind.Early programs t = event.Took t.frame
-event_by k programs t = event.Do (rule_by k t.v t.which)
+-- what happened, where this stands beside
+abbrev pub event_by : Kind → Beside → Told → Event
+event_by kind.Submitted b t = submitted_from (slice_get b.programs t.place)
+event_by kind.Withdrew b t = event.Withdraw t.ticket
+event_by kind.Sent b t = event.Send t.v t.i
+event_by kind.Acked b t = event.Took (frame_in b.texts t)
+event_by kind.Taken b t = event.Took (frame_in b.texts t)
+event_by kind.Repeat b t = event.Took (frame_in b.texts t)
+event_by kind.Kept b t = event.Took (frame_in b.texts t)
+event_by kind.Early b t = event.Took (frame_in b.texts t)
+event_by k b t = event.Do (rule_by k t.v t.which)
 
--- what was replied
-abbrev pub reply_by : Kind → Told → Reply
-reply_by kind.Submitted t = reply.Ticket t.ticket
-reply_by kind.Sent t = reply.Frame t.frame
-reply_by kind.Acked t = reply.Acked
-reply_by kind.Taken t = reply.Taken
-reply_by kind.Repeat t = reply.Repeat
-reply_by kind.Kept t = reply.Kept
-reply_by kind.Early t = reply.Early
-reply_by _ t = reply.Done
+-- what was replied, where these texts stand beside
+abbrev pub reply_by : Kind → List (List ℕ) → Told → Reply
+reply_by kind.Submitted texts t = reply.Ticket t.ticket
+reply_by kind.Sent texts t = reply.Frame (frame_in texts t)
+reply_by kind.Acked texts t = reply.Acked
+reply_by kind.Taken texts t = reply.Taken
+reply_by kind.Repeat texts t = reply.Repeat
+reply_by kind.Kept texts t = reply.Kept
+reply_by kind.Early texts t = reply.Early
+reply_by _ texts t = reply.Done
 
 -- the entry
-abbrev pub entry_in : List ProgramValue → Told → Entry
-entry_in programs t = record { tag = t.tag; event = event_by t.kind programs t; reply = reply_by t.kind t }
+abbrev pub entry_in : Beside → Told → Entry
+entry_in b t = record { tag = t.tag; event = event_by t.kind b t; reply = reply_by t.kind b.texts t }
 
--- its program, if it has one, is among the first so many
-abbrev pub IsPlaced : ℕ → Told → Type 0
-IsPlaced n t = t.kind ≡ kind.Submitted → t.place < n
+-- its program stands beside, if it has one, and so does its text
+pub record IsPlaced (b : Beside) (t : Told) : Type 0 where
+  pub program : t.kind ≡ kind.Submitted → t.place < length b.programs
+  pub text : t.has_text ≡ true → t.text < length b.texts
+
+-- it has neither
+pub record IsPlain (t : Told) : Type 0 where
+  pub no_session : t.kind ≢ kind.Submitted
+  pub no_text : t.has_text ≡ false
 
 -- ---- kinds
 

@@ -6,6 +6,7 @@ use Rattle.session_agenda.specs.declared.session.Session.{Session}
 use Rattle.session_agenda.specs.Agenda.{Agenda}
 use Rattle.site_core.specs.Offices.{Office, is_ours}
 use Rattle.neighbour_pairs.specs.refinement.PairsOfCode.{PairsValue, pairs_of}
+use Rattle.site_core.specs.refinement.OfficeValues.{OfficeFits}
 use Rattle.session_agenda.specs.refinement.AgendaOfCode.{AgendaValue, Means}
 
 abbrev pub office_at : PairsValue → Agenda → Office
@@ -23,7 +24,8 @@ AreOurs p v = All (λ (s : Session). is_ours p.plan p.me s.program ≡ true) v.q
 abbrev pub site_of : PairsValue → List Entry → Site
 site_of p entries = record { plan = p.plan; me = p.me; entries = entries }
 
--- what is kept beside the journal is the office at its end
+-- what is kept beside the journal is the office at its end, which has values of its plan's version alone
 pub record IsAtEnd (p : PairsValue) (v : AgendaValue) (entries : List Entry) : Type 0 where
   pub stands : Stands p v (office_of (site_of p entries))
   pub legal : IsLegal (site_of p entries)
+  pub fits : OfficeFits p.plan.version (office_of (site_of p entries))

@@ -10,7 +10,11 @@ use Rattle.token_channel.specs.declared.thing.Thing.TheVariants.{BottleToken}
 use Rattle.neighbour_pairs.specs.Pairs.{held_by, queued_to, after_bottle_rule}
 use Rattle.neighbour_pairs.specs.HeldLaws.{after_ask_bottle, with_held}
 use Rattle.neighbour_pairs.proofs.PairUpdates.{pairs_value, still_pairs, pairs_are}
+use Rattle.neighbour_pairs.proofs.SlotUpdates.{carried_token}
 use Rattle.neighbour_pairs.proofs.pairs.Pairs.ask_bottle.Goals as goal
+
+pub send-requires-clause-carried : goal.send-requires-clause-carried
+send-requires-clause-carried c = carried_token _ (msg.AskBottle c.number.result) (λ version. refl)
 
 pub invariant_of-self-2 : goal.invariant_of-self-2
 invariant_of-self-2 c =

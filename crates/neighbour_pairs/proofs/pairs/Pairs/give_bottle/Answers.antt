@@ -1,8 +1,9 @@
-use Rattle.std.proofs.Common.{◌≡◌, ℕ, false, sym, subst, refl, ap, ◌∙◌, rules}
+use Rattle.std.proofs.Common.{◌≡◌, ℕ, Some, IsTrue, false, sym, subst, refl, ap, ◌∙◌, rules}
+use Rattle.bottle_values.specs.Versions.{admits}
 use Rattle.dining_core.specs.refinement.Tables.{diner_of}
 use Rattle.drinking_core.specs.Drinkers as bottles
 use Rattle.drinking_core.specs.refinement.Bars.{BarValue, drinker_of}
-use Rattle.neighbour_pairs.specs.refinement.PairsOfCode.{PairsValue, pairs_of}
+use Rattle.neighbour_pairs.specs.refinement.PairsOfCode.{PairsValue, pairs_of, HaveValues}
 use Rattle.frame_codec.specs.declared.message.Msg.TheVariants as msg
 use Rattle.neighbour_pairs.specs.refinement.Slots.{links_of}
 use Rattle.token_channel.specs.declared.thing.Thing.{Thing}
@@ -10,7 +11,18 @@ use Rattle.token_channel.specs.declared.thing.Thing.TheVariants.{Bottle}
 use Rattle.neighbour_pairs.specs.Pairs.{held_by, queued_to, bottle_message, after_bottle_rule, sent as sent_links}
 use Rattle.neighbour_pairs.specs.HeldLaws.{after_give_bottle, with_held}
 use Rattle.neighbour_pairs.proofs.PairUpdates.{pairs_value, still_pairs, pairs_are}
+use Rattle.neighbour_pairs.proofs.SlotUpdates.{carried_on}
 use Rattle.neighbour_pairs.proofs.pairs.Pairs.give_bottle.Goals as goal
+
+pub send-requires-clause-carried : goal.send-requires-clause-carried
+send-requires-clause-carried c =
+    let s = c.self.inside in
+    let k = drinker_of s.bar in
+    let v : c.other_end-v.result ≡ k.peer c.args.r = c.other_end-v.ensures.peer ∙ sym (c.self.invariant.peers c.args.r) in
+    let there : k.bottle c.args.r ≡ Some c.in-Some.value = sym (sym c.in-Some.is ∙ c.value.ensures ∙ ap (λ (b : BarValue). (drinker_of b).bottle c.args.r) c.bar.ensures) in
+    let values : HaveValues (pairs_value s.plan s.me s.table s.bar s.channels) = subst HaveValues (sym c.self.view_is) c.requires.values in
+    carried_on s.plan.run s.plan.version s.me c.other_end-v.result _ (msg.Bottle c.number.result c.in-Some.value)
+    (subst (λ w. IsTrue (admits (links_of s.plan.run s.plan.version s.me s.channels w).version c.in-Some.value)) (sym v) (values c.args.r c.in-Some.value there))
 
 pub invariant_of-self-2 : goal.invariant_of-self-2
 invariant_of-self-2 c =

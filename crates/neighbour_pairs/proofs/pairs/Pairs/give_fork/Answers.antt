@@ -1,4 +1,5 @@
 use Rattle.std.proofs.Common.{false, refl, ap, ◌∙◌, rules}
+use Rattle.frame_codec.specs.declared.message.Msg.TheVariants as msg
 use Rattle.dining_core.specs.Diners as forks
 use Rattle.dining_core.specs.refinement.Tables.{diner_of}
 use Rattle.drinking_core.specs.refinement.Bars.{drinker_of}
@@ -6,7 +7,11 @@ use Rattle.neighbour_pairs.specs.refinement.PairsOfCode.{PairsValue, pairs_of}
 use Rattle.neighbour_pairs.specs.Pairs.{held_by, after_fork_rule}
 use Rattle.neighbour_pairs.specs.HeldLaws.{after_give_fork, with_held}
 use Rattle.neighbour_pairs.proofs.PairUpdates.{pairs_value, still_pairs, pairs_are}
+use Rattle.neighbour_pairs.proofs.SlotUpdates.{carried_token}
 use Rattle.neighbour_pairs.proofs.pairs.Pairs.give_fork.Goals as goal
+
+pub send-requires-clause-carried : goal.send-requires-clause-carried
+send-requires-clause-carried c = carried_token _ msg.Fork (λ version. refl)
 
 pub invariant_of-self-2 : goal.invariant_of-self-2
 invariant_of-self-2 c =

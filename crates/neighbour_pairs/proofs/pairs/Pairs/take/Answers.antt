@@ -36,8 +36,8 @@ take_in-requires c =
     let v : c.new-v.result ≡ f.from = c.new-v.ensures ∙ c.from.ensures in
     let none : frame_fault s.plan s.me (pairs_of p) f ≡ None = ap (λ (q : PairsValue). frame_fault q.plan q.me (pairs_of q) f) c.self.view_is ∙ c.requires.passes in
     let laws : Laws = record { comes_away = c.what_comes_was_away.ensures; comes_held = c.what_comes_is_held.ensures; follows_away = c.what_follows_was_away.ensures; follows_held = c.what_follows_is_held.ensures; stays = c.what_is_shared_stays.ensures } in
-    let it = took_in p c.new-v.result f c.accept-arrival.result c.accept-arrival.new.taken.items c.accept-arrival.new.self laws c.self.invariant none v c.accept-arrival.ensures.within c.accept-arrival.ensures.arrival c.accept-arrival.ensures.messages c.accept-arrival.ensures.slots in
-    subst (MayAllBring (diner_of s.table) (drinker_of s.bar) c.new-v.result) (sym c.as_slice.ensures.value) it.may
+    let it = took_in p c.new-v.result f c.accept-arrival.result c.accept-arrival.new.taken c.accept-arrival.new.self laws c.self.invariant none v c.accept-arrival.ensures.within c.accept-arrival.ensures.arrival c.accept-arrival.ensures.messages c.accept-arrival.ensures.slots in
+    subst (MayAllBring (diner_of s.table) (drinker_of s.bar) c.new-v.result) (sym c.as_slice.ensures) it.may
 
 pub invariant_of-self : goal.invariant_of-self
 invariant_of-self c =
@@ -47,8 +47,8 @@ invariant_of-self c =
     let v : c.new-v.result ≡ f.from = c.new-v.ensures ∙ c.from.ensures in
     let none : frame_fault s.plan s.me (pairs_of p) f ≡ None = ap (λ (q : PairsValue). frame_fault q.plan q.me (pairs_of q) f) c.self.view_is ∙ c.requires.passes in
     let laws : Laws = record { comes_away = c.what_comes_was_away.ensures; comes_held = c.what_comes_is_held.ensures; follows_away = c.what_follows_was_away.ensures; follows_held = c.what_follows_is_held.ensures; stays = c.what_is_shared_stays.ensures } in
-    let it = took_in p c.new-v.result f c.accept-arrival.result c.accept-arrival.new.taken.items c.accept-arrival.new.self laws c.self.invariant none v c.accept-arrival.ensures.within c.accept-arrival.ensures.arrival c.accept-arrival.ensures.messages c.accept-arrival.ensures.slots in
-    it.are c.take_in.new.table c.take_in.new.bar (c.take_in.ensures.forks ∙ ap (forks_came (diner_of s.table) c.new-v.result) c.as_slice.ensures.value) (c.take_in.ensures.bottles ∙ ap (bottles_came (drinker_of s.bar)) c.as_slice.ensures.value)
+    let it = took_in p c.new-v.result f c.accept-arrival.result c.accept-arrival.new.taken c.accept-arrival.new.self laws c.self.invariant none v c.accept-arrival.ensures.within c.accept-arrival.ensures.arrival c.accept-arrival.ensures.messages c.accept-arrival.ensures.slots in
+    it.are c.take_in.new.table c.take_in.new.bar (c.take_in.ensures.forks ∙ ap (forks_came (diner_of s.table) c.new-v.result) c.as_slice.ensures) (c.take_in.ensures.bottles ∙ ap (bottles_came (drinker_of s.bar)) c.as_slice.ensures)
 
 pub returns-clause-arrival : goal.returns-clause-arrival
 returns-clause-arrival c =
@@ -58,7 +58,7 @@ returns-clause-arrival c =
     let v : c.new-v.result ≡ f.from = c.new-v.ensures ∙ c.from.ensures in
     let none : frame_fault s.plan s.me (pairs_of p) f ≡ None = ap (λ (q : PairsValue). frame_fault q.plan q.me (pairs_of q) f) c.self.view_is ∙ c.requires.passes in
     let laws : Laws = record { comes_away = c.what_comes_was_away.ensures; comes_held = c.what_comes_is_held.ensures; follows_away = c.what_follows_was_away.ensures; follows_held = c.what_follows_is_held.ensures; stays = c.what_is_shared_stays.ensures } in
-    let it = took_in p c.new-v.result f c.accept-arrival.result c.accept-arrival.new.taken.items c.accept-arrival.new.self laws c.self.invariant none v c.accept-arrival.ensures.within c.accept-arrival.ensures.arrival c.accept-arrival.ensures.messages c.accept-arrival.ensures.slots in
+    let it = took_in p c.new-v.result f c.accept-arrival.result c.accept-arrival.new.taken c.accept-arrival.new.self laws c.self.invariant none v c.accept-arrival.ensures.within c.accept-arrival.ensures.arrival c.accept-arrival.ensures.messages c.accept-arrival.ensures.slots in
     it.told ∙ ap (λ (q : PairsValue). arrival_of (pairs_of q) f) c.self.view_is
 
 pub returns-clause-taken : goal.returns-clause-taken
@@ -69,6 +69,6 @@ returns-clause-taken c =
     let v : c.new-v.result ≡ f.from = c.new-v.ensures ∙ c.from.ensures in
     let none : frame_fault s.plan s.me (pairs_of p) f ≡ None = ap (λ (q : PairsValue). frame_fault q.plan q.me (pairs_of q) f) c.self.view_is ∙ c.requires.passes in
     let laws : Laws = record { comes_away = c.what_comes_was_away.ensures; comes_held = c.what_comes_is_held.ensures; follows_away = c.what_follows_was_away.ensures; follows_held = c.what_follows_is_held.ensures; stays = c.what_is_shared_stays.ensures } in
-    let it = took_in p c.new-v.result f c.accept-arrival.result c.accept-arrival.new.taken.items c.accept-arrival.new.self laws c.self.invariant none v c.accept-arrival.ensures.within c.accept-arrival.ensures.arrival c.accept-arrival.ensures.messages c.accept-arrival.ensures.slots in
-    it.is c.take_in.new.table c.take_in.new.bar (c.take_in.ensures.forks ∙ ap (forks_came (diner_of s.table) c.new-v.result) c.as_slice.ensures.value) (c.take_in.ensures.bottles ∙ ap (bottles_came (drinker_of s.bar)) c.as_slice.ensures.value)
+    let it = took_in p c.new-v.result f c.accept-arrival.result c.accept-arrival.new.taken c.accept-arrival.new.self laws c.self.invariant none v c.accept-arrival.ensures.within c.accept-arrival.ensures.arrival c.accept-arrival.ensures.messages c.accept-arrival.ensures.slots in
+    it.is c.take_in.new.table c.take_in.new.bar (c.take_in.ensures.forks ∙ ap (forks_came (diner_of s.table) c.new-v.result) c.as_slice.ensures) (c.take_in.ensures.bottles ∙ ap (bottles_came (drinker_of s.bar)) c.as_slice.ensures)
     ∙ ap (λ (q : PairsValue). after_taking q.plan q.me (pairs_of q) f) c.self.view_is

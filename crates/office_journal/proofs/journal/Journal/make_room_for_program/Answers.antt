@@ -5,16 +5,16 @@ use Rattle.office_journal.specs.refinement.JournalOfCode.{JournalValue, AreKept}
 use Rattle.office_journal.proofs.journal.Journal.make_room_for_program.Goals as goal
 
 pub invariant_of-self : goal.invariant_of-self
-invariant_of-self c = let s = c.self.inside in subst (λ (ps : List ProgramValue). AreKept ps s.pages.entries) (sym c.reserve.ensures.items) c.self.invariant
+invariant_of-self c = let s = c.self.inside in subst (λ (x : List ProgramValue). AreKept (record { programs = x; texts = s.texts.items }) s.pages.entries) (sym c.reserve.ensures.items) c.self.invariant
 
 pub invariant_of-self-2 : goal.invariant_of-self-2
-invariant_of-self-2 c = let s = c.self.inside in subst (λ (ps : List ProgramValue). AreKept ps s.pages.entries) (sym c.reserve.ensures.items) c.self.invariant
+invariant_of-self-2 c = let s = c.self.inside in subst (λ (x : List ProgramValue). AreKept (record { programs = x; texts = s.texts.items }) s.pages.entries) (sym c.reserve.ensures.items) c.self.invariant
 
 pub returns-in_err-reserve-clause-unchanged : goal.returns-in_err-reserve-clause-unchanged
-returns-in_err-reserve-clause-unchanged c = let s = c.self.inside in ap (λ (ps : List ProgramValue). map (entry_in ps) s.pages.entries) c.reserve.ensures.items ∙ ap (λ (v : JournalValue). v.entries) c.self.view_is
+returns-in_err-reserve-clause-unchanged c = let s = c.self.inside in ap (λ (x : List ProgramValue). map (entry_in (record { programs = x; texts = s.texts.items })) s.pages.entries) c.reserve.ensures.items ∙ ap (λ (v : JournalValue). v.entries) c.self.view_is
 
 pub returns-clause-unchanged : goal.returns-clause-unchanged
-returns-clause-unchanged c = let s = c.self.inside in ap (λ (ps : List ProgramValue). map (entry_in ps) s.pages.entries) c.reserve.ensures.items ∙ ap (λ (v : JournalValue). v.entries) c.self.view_is
+returns-clause-unchanged c = let s = c.self.inside in ap (λ (x : List ProgramValue). map (entry_in (record { programs = x; texts = s.texts.items })) s.pages.entries) c.reserve.ensures.items ∙ ap (λ (v : JournalValue). v.entries) c.self.view_is
 
 pub returns-in_err-reserve-clause-room : goal.returns-in_err-reserve-clause-room
 returns-in_err-reserve-clause-room c = ap (λ (v : JournalValue). v.room) c.self.view_is

@@ -4,7 +4,8 @@ use Rattle.office_journal.specs.declared.reply.Refusal.TheVariants as refusal
 use Rattle.site_core.specs.Offices.{may, act}
 use Rattle.site_core.specs.Journals.{Steps}
 use Rattle.site_core.specs.refinement.OfficeOfCode.{site_of}
-use Rattle.site_core.proofs.OfficeSteps.{have_room, are_ours, no_room_for, done_event, told_of, not_err, err_is, noted_more}
+use Rattle.site_core.proofs.OfficeValues.{keeps_rule}
+use Rattle.site_core.proofs.OfficeSteps.{have_room, have_values, are_ours, no_room_for, done_event, told_of, not_err, err_is, noted_more}
 use Rattle.site_core.proofs.office.Office.act.Goals as goal
 
 pub returns-in-Err : goal.returns-in-Err
@@ -20,12 +21,15 @@ returns-in-Err c =
 pub do_rule-requires-clause-room : goal.do_rule-requires-clause-room
 do_rule-requires-clause-room c = have_room c.self.inside.pairs c.self.inside.agenda c.self.inside.journal.entries c.self.invariant
 
+pub do_rule-requires-clause-values : goal.do_rule-requires-clause-values
+do_rule-requires-clause-values c = have_values c.self.inside.pairs c.self.inside.agenda c.self.inside.journal.entries c.self.invariant
+
 pub do_rule-requires-clause-ours : goal.do_rule-requires-clause-ours
 do_rule-requires-clause-ours c = are_ours c.self.inside.pairs c.self.inside.agenda c.self.inside.journal.entries c.self.invariant
 
 pub invariant_of-self-2 : goal.invariant_of-self-2
 invariant_of-self-2 c =
     let s = c.self.inside in
-    done_event s.pairs c.do_rule.new.pairs s.agenda c.do_rule.new.agenda s.journal.entries c.push.new.self.entries c.args.tag (event.Do c.args.rule) (λ o. may s.pairs.plan s.pairs.me o c.args.rule) (λ o. act s.pairs.me o c.args.rule) (λ o. refl) c.self.invariant c.in_ok-do_rule.ensures.office
+    done_event s.pairs c.do_rule.new.pairs s.agenda c.do_rule.new.agenda s.journal.entries c.push.new.self.entries c.args.tag (event.Do c.args.rule) (λ o. may s.pairs.plan s.pairs.me o c.args.rule) (λ o. act s.pairs.me o c.args.rule) (λ o. refl) (keeps_rule c.values_fit.ensures s.pairs.plan s.pairs.me c.args.rule) c.self.invariant c.in_ok-do_rule.ensures.office
     (λ a m e. not_err _ _ ((c.in_ok-do_rule.ensures.not_now a m).1 e)) c.in_ok-do_rule.ensures.done c.requires (λ e. not_err _ _ (c.in_default.ensures.full.1 e))
     (noted_more _ _ _ _ _ c.push.ensures c.make_room-room.ensures.unchanged c.of_rule-entry.ensures.entry)

@@ -5,6 +5,7 @@ use Rattle.office_journal.specs.declared.reply.Refusal.TheVariants as refusal
 use Rattle.site_core.specs.Offices.{may_withdraw, withdrawn}
 use Rattle.site_core.specs.Journals.{Steps}
 use Rattle.site_core.specs.refinement.OfficeOfCode.{site_of}
+use Rattle.site_core.proofs.OfficeValues.{keeps_withdrawal}
 use Rattle.site_core.proofs.OfficeSteps.{no_room_for, done_event, told_of, not_err, err_is, noted_more}
 use Rattle.site_core.proofs.office.Office.withdraw.Goals as goal
 
@@ -21,6 +22,6 @@ returns-in-Err c =
 pub invariant_of-self-2 : goal.invariant_of-self-2
 invariant_of-self-2 c =
     let s = c.self.inside in
-    done_event s.pairs c.withdraw.new.pairs s.agenda c.withdraw.new.agenda s.journal.entries c.push.new.self.entries c.args.tag (event.Withdraw c.args.ticket) (λ o. may_withdraw o c.args.ticket) (λ o. withdrawn o c.args.ticket) (λ o. refl) c.self.invariant c.in_ok-withdraw.ensures.office
+    done_event s.pairs c.withdraw.new.pairs s.agenda c.withdraw.new.agenda s.journal.entries c.push.new.self.entries c.args.tag (event.Withdraw c.args.ticket) (λ o. may_withdraw o c.args.ticket) (λ o. withdrawn o c.args.ticket) (λ o. refl) (keeps_withdrawal s.pairs.plan s.pairs.me c.args.ticket) c.self.invariant c.in_ok-withdraw.ensures.office
     (λ a m e. false≢true ((c.in_ok-withdraw.ensures.not_now a m).1 e)) c.in_ok-withdraw.ensures.done c.requires (λ e. not_err _ _ (c.in_default.ensures.full.1 e))
     (noted_more _ _ _ _ _ c.push.ensures c.make_room-room.ensures.unchanged c.of_withdrawal-entry.ensures.entry)
