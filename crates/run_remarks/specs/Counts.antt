@@ -1,5 +1,7 @@
 -- How many sessions are named of those that are left, and of which neighbours is told.
-use Rattle.std.specs.Prelude.{ℕ, ◌+◌, ◌-◌, ◌^◌, min, Bool, ◌==◌, ◌&&◌, ◌||◌, nat_lt}
+use Rattle.std.specs.Prelude.{ℕ, ◌+◌, ◌-◌, ◌^◌, min, Bool, false, not, ◌==◌, ◌&&◌, ◌||◌, nat_lt, Option, Some, None}
+use Rattle.bottle_values.specs.declared.version.Version.{Version}
+use Rattle.bottle_values.specs.Versions.{number_of}
 use Rattle.socket_pump.specs.declared.contact.Contact.{Contact}
 
 -- how many sessions are named, and how many more are left
@@ -23,6 +25,11 @@ with_left n c = record { named = min (c.named + n) most_named; more = min (c.mor
 abbrev pub is_unreached : Contact → Bool
 is_unreached c = (c.went == 0) && nat_lt 0 c.lost
 
--- or nothing ever came from that neighbour
-abbrev pub is_unmet : Contact → Bool
-is_unmet c = is_unreached c || (c.heard == 0)
+-- what came last was of the other version
+abbrev pub is_other : Version → Option Version → Bool
+is_other own None = false
+is_other own (Some version) = not (number_of version == number_of own)
+
+-- or nothing ever came from that neighbour, or it speaks another version than this one
+abbrev pub is_unmet : Version → Contact → Bool
+is_unmet own c = is_unreached c || (c.heard == 0) || is_other own c.version

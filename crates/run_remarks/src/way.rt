@@ -1,8 +1,9 @@
-//! The way to a neighbour, and what is said where it was never reached or heard.
+//! The way to a neighbour, and what is said where it was never reached or heard, or speaks another version of frames.
 
 ghost use Rattle.std.specs.Prelude.{◌≡◌, is_some};
-ghost use Rattle.run_remarks.specs.Counts.{is_unreached, is_unmet};
+ghost use Rattle.run_remarks.specs.Counts.{is_unreached, is_other, is_unmet};
 
+use bottle_values::Version;
 use office_map::{OfficeId, Plan};
 use run_words::words::office_name;
 use socket_pump::Contact;
@@ -20,7 +21,7 @@ pub struct Way {
     pub silent: Option<u64>,
 }
 
-/// What is said of a neighbour that an office never reached or never heard.
+/// What is said of a neighbour that an office never reached or never heard, or of which it takes no frame, for its version.
 ///
 /// That a neighbour wasn't reached is said of frames that the system didn't take, and that it wasn't heard of frames
 /// that came. Whether a frame arrived is nobody's to know.
@@ -30,13 +31,15 @@ pub struct Unmet<'a> {
     neighbour: &'a str,
     at: SocketAddr,
     contact: Contact,
+    own: Version,
 }
 
-/// What is said of a neighbour that this office never reached or never heard; nothing of one that it did both.
+/// What is said of a neighbour that this office never reached or never heard, or that speaks another version; else nothing.
 pub fn unmet_by<'a>(plan: &'a Plan, me: OfficeId, way: &Way) -> Option<Unmet<'a>>
-    ensures { is_some result ≡ is_unmet way.now.contact }
+    ensures { is_some result ≡ is_unmet plan.now.version way.now.contact }
 {
-    if !is_unmet(&way.contact) {
+    let own = plan.version();
+    if !is_unmet(own, &way.contact) {
         return None;
     }
     Some(Unmet {
@@ -44,13 +47,24 @@ pub fn unmet_by<'a>(plan: &'a Plan, me: OfficeId, way: &Way) -> Option<Unmet<'a>
         neighbour: office_name(plan, way.to),
         at: way.at,
         contact: way.contact,
+        own,
     })
 }
 
-fn is_unmet(contact: &Contact) -> bool
-    ensures { result ≡ is_unmet contact.now }
+fn is_unmet(own: Version, contact: &Contact) -> bool
+    ensures { result ≡ is_unmet own contact.now }
 {
-    is_unreached(contact) || contact.heard == 0
+    is_unreached(contact) || contact.heard == 0 || is_other(own, contact.version)
+}
+
+/// What came last was of the other version.
+fn is_other(own: Version, version: Option<Version>) -> bool
+    ensures { result ≡ is_other own version }
+{
+    match version {
+        Some(version) => version.number() != own.number(),
+        None => false,
+    }
 }
 
 /// The system took no frame for it, and some were lost.
@@ -67,16 +81,36 @@ impl fmt::Display for Unmet<'_> {
             neighbour,
             at,
             contact,
+            own,
         } = *self;
-        let unreached = is_unreached(&contact);
-        let verb = if unreached { "reached" } else { "heard" };
-        write!(f, "{office} never {verb} {neighbour} at {at}")?;
-        match contact.cause {
-            Some(cause) if unreached => {
-                let error = io::Error::from_raw_os_error(cause);
-                write!(f, ": {error}")
+        if is_unreached(&contact) {
+            write!(f, "{office} never reached {neighbour} at {at}")?;
+            return match contact.cause {
+                Some(cause) => write!(f, ": {}", io::Error::from_raw_os_error(cause)),
+                None => Ok(()),
+            };
+        }
+        match contact.version {
+            Some(version) if contact.heard > 0 => {
+                write_versions(f, office, neighbour, version, own)
             }
-            _ => Ok(()),
+            _ => write!(f, "{office} never heard {neighbour} at {at}"),
         }
     }
+}
+
+/// That a neighbour's plan is of this version, and the office's own of that one.
+fn write_versions<W: fmt::Write>(
+    f: &mut fmt::Formatter<W>,
+    office: &str,
+    neighbour: &str,
+    version: Version,
+    own: Version,
+) -> fmt::Result {
+    let theirs = version.number();
+    let own = own.number();
+    write!(
+        f,
+        "{office} takes no frame of {neighbour}: they are of version {theirs}, its own plan is `plan {own}` (L4 WrongVersion)"
+    )
 }

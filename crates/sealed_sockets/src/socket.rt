@@ -9,13 +9,10 @@ use office_map::OfficeId;
 use office_sockets::{Binds, Socket};
 use sealed_frames::Secret;
 use sealed_wires::SealedWire;
-use socket_pump::{Contact, Wire, WireFailed};
+use socket_pump::{Contact, Contacts, Wire, WireFailed};
 use std::io;
 use std::marker::{Brand, PhantomData};
 use std::net::SocketAddr;
-
-/// The place of a frame's byte that names its sender.
-const SENDER: usize = 8;
 
 /// The secrets of sockets, if they have any, by the office with which each is shared.
 ///
@@ -36,8 +33,8 @@ pub struct SealedSocket<'a, S, K: Secrets> {
     pub wire: SealedWire<'a, S>,
     /// Whether there are secrets.
     pub sealed: bool,
-    /// How many datagrams of each office were opened.
-    pub heard: [u64; 16],
+    /// Of each office, what came in datagrams that were opened.
+    pub heard: Contacts,
     of: PhantomData<K>,
     ghost under: { secrets_if sealed wire.secrets.now ≡ K.secrets },
 }
@@ -51,13 +48,13 @@ impl<'a, S, K: Secrets> SealedSocket<'a, S, K> {
             Some(secrets) => SealedSocket {
                 wire: SealedWire::new(socket, secrets),
                 sealed: true,
-                heard: [0; 16],
+                heard: Contacts::none(),
                 of: PhantomData,
             },
             None => SealedSocket {
                 wire: SealedWire::new(socket, &[]),
                 sealed: false,
-                heard: [0; 16],
+                heard: Contacts::none(),
                 of: PhantomData,
             },
         }
@@ -75,7 +72,7 @@ impl<S: Socket, K: Secrets> Wire for SealedSocket<'_, S, K> {
         }
         match self.wire.receive(buffer) {
             Ok(Some(count)) => {
-                hear(&mut self.heard, &buffer[..count]);
+                self.heard.came(&buffer[..count]);
                 Ok(Some(count))
             }
             Ok(None) => Ok(None),
@@ -107,8 +104,10 @@ impl<S: Socket, K: Secrets> Socket for SealedSocket<'_, S, K> {
         if !self.sealed {
             return contact;
         }
+        let heard = self.heard.of(v);
         Contact {
-            heard: self.heard[v.index()],
+            heard: heard.heard,
+            version: heard.version,
             ..contact
         }
     }
@@ -129,16 +128,6 @@ fn risen(count: u64) -> u64
     ensures { result ≡ risen count }
 {
     count.saturating_add(1)
-}
-
-/// A frame was handed on: the office that it names was heard once more.
-fn hear(heard: &mut [u64; 16], frame: &[u8]) {
-    let Some(byte) = frame.get(SENDER) else {
-        return;
-    };
-    if let Some(count) = heard.get_mut(*byte as usize) {
-        *count = count.saturating_add(1);
-    }
 }
 
 /// What binds sockets under these secrets, where there are any, over what binds those below.

@@ -1,6 +1,7 @@
 -- What is known of the ways to neighbours.
 use Rattle.std.specs.Prelude.{◌≡◌, ℕ, ℤ, ◌<◌, List, get_or, take, Option, Some, None, IsSome, Result, Ok, Err}
 use Rattle.std.specs.declared.net.socket_addr.SocketAddr.{SocketAddr}
+use Rattle.bottle_values.specs.declared.version.Version.{Version}
 use Rattle.frame_codec.specs.Frame.{Fields}
 use Rattle.frame_codec.specs.Spelling.{Spells}
 use Rattle.socket_pump.specs.declared.contact.Contact.{Contact}
@@ -8,7 +9,7 @@ use Rattle.socket_pump.specs.Wires.{risen}
 
 -- nothing is known: nothing went, nothing was lost, nothing came
 abbrev pub no_contact : Contact
-no_contact = record { went = 0; lost = 0; cause = None; heard = 0 }
+no_contact = record { went = 0; lost = 0; cause = None; heard = 0; version = None }
 
 -- what is known of the way to v
 abbrev pub contact_with : List Contact → ℕ → Contact
@@ -35,9 +36,13 @@ CountsTry before v after = (outcome : Result (Unit {0}) (Option ℤ)) × Changes
 abbrev pub IsFrameOf : ℕ → List ℕ → Type 0
 IsFrameOf v bytes = (f : Fields) × Spells bytes f × (f.from ≡ v)
 
--- who sent them was heard once more, and nothing else changed
+-- one was heard once more, now in frames of this version
+abbrev pub heard_in : Version → Contact → Contact
+heard_in version c = record c { heard = risen c.heard; version = Some version }
+
+-- who sent them was heard once more, in the version that they have, and nothing else changed
 abbrev pub Hears : List Contact → List ℕ → List Contact → Type 0
-Hears before bytes after = (v : ℕ) → v < 16 → (IsFrameOf v bytes → contact_with after v ≡ record (contact_with before v) { heard = risen (contact_with before v).heard }) × ((IsFrameOf v bytes → ⊥) → contact_with after v ≡ contact_with before v)
+Hears before bytes after = (v : ℕ) → v < 16 → ((f : Fields) → Spells bytes f → f.from ≡ v → contact_with after v ≡ heard_in f.version (contact_with before v)) × ((IsFrameOf v bytes → ⊥) → contact_with after v ≡ contact_with before v)
 
 -- ---- a wire over UDP
 

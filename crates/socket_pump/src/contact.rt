@@ -1,9 +1,9 @@
 //! What is known of the ways to neighbours.
 
 ghost use Rattle.std.specs.Prelude.{◌≡◌, ◌<◌, ℕ, true};
-ghost use Rattle.socket_pump.specs.Contacts.{no_contact, contact_with, tried, Changes, Hears};
-ghost use Rattle.socket_pump.specs.Wires.{risen};
+ghost use Rattle.socket_pump.specs.Contacts.{no_contact, contact_with, tried, heard_in, Changes, Hears};
 
+use bottle_values::Version;
 use frame_codec::decode;
 use office_map::OfficeId;
 use std::marker::Model;
@@ -23,6 +23,8 @@ pub struct Contact {
     pub cause: Option<i32>,
     /// How many datagrams came that read as a frame of it, of whatever run.
     pub heard: u64,
+    /// The version of the last of those.
+    pub version: Option<Version>,
 }
 
 impl Contact {
@@ -35,6 +37,7 @@ impl Contact {
             lost: 0,
             cause: None,
             heard: 0,
+            version: None,
         }
     }
 
@@ -58,7 +61,7 @@ impl Contact {
 
 /// A contact for each neighbour.
 #[derive(Drop)]
-pub(crate) struct Contacts {
+pub struct Contacts {
     contacts: [Contact; 16],
 }
 
@@ -73,7 +76,7 @@ impl Model for Contacts {
 
 impl Contacts {
     /// None yet.
-    pub(crate) fn none() -> Contacts
+    pub fn none() -> Contacts
         ensures { (v : ℕ) → contact_with result v ≡ no_contact }
     {
         Contacts {
@@ -81,7 +84,8 @@ impl Contacts {
         }
     }
 
-    pub(crate) fn of(&self, v: OfficeId) -> Contact
+    /// That of a neighbour.
+    pub fn of(&self, v: OfficeId) -> Contact
         requires { v < 16 }
         ensures { result ≡ contact_with self.now v }
     {
@@ -97,27 +101,28 @@ impl Contacts {
         self.contacts[v.index()] = contact;
     }
 
-    // It was heard once more.
-    fn hear(&mut self, v: OfficeId)
+    // It was heard once more, in a frame of this version.
+    fn hear(&mut self, v: OfficeId, version: Version)
         requires { v < 16 }
-        ensures { Changes self.old v (record (contact_with self.old v) { heard = risen (contact_with self.old v).heard }) self.new }
+        ensures { Changes self.old v (heard_in version (contact_with self.old v)) self.new }
     {
         let contact = self.of(v);
         let contact = Contact {
             heard: contact.heard.saturating_add(1),
+            version: Some(version),
             ..contact
         };
         self.contacts[v.index()] = contact;
     }
 
-    /// A datagram came.
-    pub(crate) fn came(&mut self, bytes: &[u8])
+    /// A datagram came: whose frame it is, if it reads as one, was heard.
+    pub fn came(&mut self, bytes: &[u8])
         ensures { Hears self.old bytes.now self.new }
     {
         let Ok(frame) = decode(bytes) else { return };
         let from = OfficeId::new(frame.from());
         if from.index() < self.contacts.len() {
-            self.hear(from);
+            self.hear(from, frame.version());
         }
     }
 }

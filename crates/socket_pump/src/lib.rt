@@ -76,7 +76,7 @@ mod senders;
 mod udp;
 mod wire;
 
-pub use crate::contact::Contact;
+pub use crate::contact::{Contact, Contacts};
 pub use crate::last::{LONGEST_RESEND, Lasts, SHORTEST_RESEND};
 pub use crate::pump::{MOST_DATAGRAMS, MOST_RULES, Pump, PumpFault, Turn};
 pub use crate::udp::UdpWire;
