@@ -1,12 +1,12 @@
 -- A serial run that is cut in two.
 use Rattle.std.proofs.Common.{◌≡◌, ℕ, zero, suc, ◌+◌, ◌<◌, true, false, cond, List, [], ◌∷◌, ◌++◌, length, map, Option, None, Some, refl, sym, ap, ap₂, subst, ◌∙◌, arith}
-use Rattle.std.specs.Prelude.{All, IsTrue, slice_get, nat_lt, ◌==◌}
+use Rattle.std.specs.Prelude.{All, IsTrue, slice_get, nat_lt, ◌==◌, ◌&&◌}
 use Rattle.std.specs.List.{list_all, slice_index_or}
 use Rattle.std.specs.Option.{option_map_or}
 use Rattle.std.proofs.lemmas.Bool.{and_parts}
 use Rattle.std.proofs.lemmas.List.Elements.{All-head, All-tail}
 use Rattle.std.proofs.lemmas.Option.{slice_get_within}
-use Rattle.bottle_values.specs.Values.{Value}
+use Rattle.bottle_values.specs.declared.Value.{Value}
 use Rattle.bottle_values.specs.Operations.{nought}
 use Rattle.bottle_values.specs.Maps.{put, reads_of, write_all}
 use Rattle.office_map.specs.PlanValue.{PlanValue, is_end, has_end}
@@ -14,6 +14,7 @@ use Rattle.office_map.specs.declared.entries.RecordEntry.{RecordEntry}
 use Rattle.session_meaning.specs.ProgramValue.{ProgramValue}
 use Rattle.session_meaning.specs.declared.ending.Ending.{Ending}
 use Rattle.session_meaning.specs.declared.ending.Outcome.{Outcome}
+use Rattle.session_meaning.specs.Fitting.{block_fits}
 use Rattle.session_measures.specs.Needs.{needs_of}
 use Rattle.session_meaning.specs.Meaning.{alone}
 use Rattle.session_programs.specs.Program.{fits}
@@ -49,7 +50,10 @@ reads_same p a (r ∷ rs) m k h same =
     ap₂ (λ x xs. (r, x) ∷ xs) (same r (within p r a parts.0)) (reads_same p a rs m k parts.1 same)
 
 ending_same : (p : PlanValue) (x : ProgramValue) (m k : ℕ → Value) → IsTrue (fits p x) → Agree (length p.records) m k → ending_on x m ≡ ending_on x k
-ending_same p x m k h same = ap (alone x) (reads_same p x.office (needs_of x.body) m k (and_parts (nat_lt x.office (length p.offices)) _ h).1 same)
+ending_same p x m k h same =
+    let needs = list_all (λ r. is_end p r x.office) (needs_of x.body) in
+    let ends = (and_parts (nat_lt x.office (length p.offices) && needs) (block_fits p.version x.body) h).0 in
+    ap (alone x) (reads_same p x.office (needs_of x.body) m k (and_parts (nat_lt x.office (length p.offices)) needs ends).1 same)
 
 writes_same : (n : ℕ) (ws : List (ℕ × Value)) (m k : ℕ → Value) → Agree n m k → Agree n (write_all ws m) (write_all ws k)
 writes_same n [] m k same = same

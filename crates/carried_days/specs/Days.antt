@@ -1,6 +1,6 @@
 -- The plan of the next day: the same offices, pairs and records, with the values that a serial run left, and another run number.
 use Rattle.std.specs.Prelude.{◌≡◌, ℕ, suc, ◌<◌, List, [], ◌∷◌, ◌++◌, length, map, All, IsTrue}
-use Rattle.bottle_values.specs.Values.{Value}
+use Rattle.bottle_values.specs.declared.Value.{Value}
 use Rattle.office_map.specs.PlanValue.{PlanValue}
 use Rattle.office_map.specs.declared.entries.RecordEntry.{RecordEntry}
 use Rattle.session_meaning.specs.ProgramValue.{ProgramValue}

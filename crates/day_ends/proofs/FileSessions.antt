@@ -1,17 +1,15 @@
 -- Sessions of a file that haven't finished, one after the other.
 use Rattle.std.proofs.Common.{Bor, ◌≡◌, ℕ, ◌+◌, ◌<◌, ◌≤◌, Bool, true, false, List, [], ◌∷◌, ◌++◌, length, take, get_or, if◌then◌else◌, Option, None, Some, is_none, is_some, Result, Ok, Err, OnOk, refl, sym, ap, subst, ◌∙◌, arith, append_assoc, append-nil, take_all}
-use Rattle.std.specs.Prelude.{All, IsTrue, nat_lt, not, ◌==◌, ◌&&◌, count_by}
-use Rattle.std.specs.List.{flat_map, list_all}
+use Rattle.std.specs.Prelude.{All, IsTrue, not, ◌==◌, count_by}
+use Rattle.std.specs.List.{flat_map}
 use Rattle.std.specs.Option.{option_copied}
-use Rattle.std.proofs.lemmas.Bool.{and_parts}
 use Rattle.std.proofs.lemmas.Bool.Decides.{nat_tests}
 use Rattle.std.proofs.lemmas.List.{take_more}
 use Rattle.std.proofs.lemmas.List.Concat.{flat_map-append}
 use Rattle.std.proofs.lemmas.List.Elements.{All-append, All-get_or, All-nil}
-use Rattle.office_map.specs.PlanValue.{PlanValue, is_end}
+use Rattle.office_map.specs.PlanValue.{PlanValue}
 use Rattle.session_meaning.specs.ProgramValue.{ProgramValue}
 use Rattle.session_meaning.specs.declared.ending.Outcome.{Outcome}
-use Rattle.session_measures.specs.Needs.{needs_of}
 use Rattle.session_programs.specs.Program.{fits, text_under}
 use Rattle.session_language.specs.Reading.{sessions_of}
 use Rattle.frame_world.specs.Worlds.{World}
@@ -20,7 +18,7 @@ use Rattle.day_ends.specs.FileEnds.{is_unfinished, left_after, left_in_file, one
 
 -- the office of a program that fits is the plan's
 pub office_within : (p : PlanValue) (x : ProgramValue) → IsTrue (fits p x) → x.office < length p.offices
-office_within p x h = let lt : nat_lt x.office (length p.offices) ≡ true = (and_parts (nat_lt x.office (length p.offices)) (list_all (λ r. is_end p r x.office) (needs_of x.body)) h).0 in grind (lt, arith, nat_tests)
+office_within p x h = grind (h, arith, nat_tests)
 
 left_append : (w : World) (before xs ys : List ProgramValue) → left_after w before (xs ++ ys) ≡ left_after w before xs ++ left_after w (before ++ xs) ys
 left_append w before [] ys = ap (λ b. left_after w b ys) (sym (append-nil before))

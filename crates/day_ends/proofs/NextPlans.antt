@@ -1,8 +1,9 @@
 -- A plan of the next day, by values in a list.
 use Rattle.std.proofs.Common.{◌≡◌, ℕ, suc, ◌+◌, ◌<◌, List, [], ◌∷◌, length, Ok, refl, sym, ap, ap₂, subst, ◌∙◌, arith}
 use Rattle.std.proofs.lemmas.Option.{get_or_from_slice_get}
-use Rattle.bottle_values.specs.Values.{Value}
+use Rattle.bottle_values.specs.declared.Value.{Value}
 use Rattle.bottle_values.specs.Operations.{nought}
+use Rattle.bottle_values.specs.Versions.{admits}
 use Rattle.office_map.specs.declared.entries.RecordEntry.{RecordEntry}
 use Rattle.office_map.specs.PlanValue.{PlanValue}
 use Rattle.office_map.specs.Precedence.{HasOrder}
@@ -32,7 +33,7 @@ next_of_list p values m text h t =
     let same : next_plan p (value_at values) ≡ next_plan p m = next_same p (value_at values) m agree in
     record {
       written = h.written ∙ ap plan_text same;
-      read = λ version le. h.read version le ∙ ap Ok same;
+      read = λ fit le. h.read (λ r lt. ap (admits p.version) (agree r lt) ∙ fit r lt) le ∙ ap Ok same;
       ordered = subst HasOrder same h.ordered;
       starts = λ r lt. ap (λ q. start_map q r) (sym same) ∙ h.starts r lt ∙ agree r lt;
     }

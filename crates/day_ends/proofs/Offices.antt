@@ -6,7 +6,7 @@ use Rattle.std.proofs.lemmas.Bool.{cases_lt}
 use Rattle.std.proofs.lemmas.Bool.Decides.{nat_tests}
 use Rattle.std.proofs.lemmas.List.Concat.{flat_map-append}
 use Rattle.std.proofs.lemmas.List.Elements.{All-append, All-nil}
-use Rattle.bottle_values.specs.Values.{Value}
+use Rattle.bottle_values.specs.declared.Value.{Value}
 use Rattle.session_programs.specs.Program.{text_under}
 use Rattle.session_language.specs.Reading.{sessions_of}
 use Rattle.serial_replay.specs.Serial.{ListsValues}

@@ -1,7 +1,7 @@
 -- What the offices of a world leave for the next day.
 use Rattle.std.specs.Prelude.{◌≡◌, ◌<◌, ◌≤◌, ℕ, List, length, filter, Ok}
 use Rattle.std.specs.List.{flat_map, range_with_len}
-use Rattle.bottle_values.specs.Values.{Value}
+use Rattle.bottle_values.specs.declared.Value.{Value}
 use Rattle.session_meaning.specs.ProgramValue.{ProgramValue}
 use Rattle.session_language.specs.Limits.{most_sessions, most_text}
 use Rattle.session_language.specs.Reading.{sessions_of}

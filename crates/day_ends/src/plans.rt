@@ -2,7 +2,7 @@
 
 ghost use Rattle.std.specs.Prelude.{◌≡◌, ℕ, IfOk, length};
 ghost use Rattle.std.specs.String.{string_bytes};
-ghost use Rattle.bottle_values.specs.Values as bottle;
+ghost use Rattle.bottle_values.specs.declared.Value as bottle;
 ghost use Rattle.serial_replay.specs.Serial.{ListsValues};
 ghost use Rattle.plan_texts.specs.NextPlans.{IsNextPlan};
 

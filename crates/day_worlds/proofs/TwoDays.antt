@@ -5,9 +5,10 @@ use Rattle.std.specs.List.{list_all}
 use Rattle.std.specs.Option.{option_map_or}
 use Rattle.std.proofs.lemmas.List.{map-append}
 use Rattle.std.proofs.lemmas.List.Elements.{All-weaker}
-use Rattle.bottle_values.specs.Values.{Value}
+use Rattle.bottle_values.specs.declared.Value.{Value}
 use Rattle.office_map.specs.declared.entries.RecordEntry.{RecordEntry}
 use Rattle.office_map.specs.PlanValue.{PlanValue, has_end, is_end}
+use Rattle.session_meaning.specs.Fitting.{block_fits}
 use Rattle.session_measures.specs.Needs.{needs_of}
 use Rattle.session_meaning.specs.ProgramValue.{ProgramValue}
 use Rattle.session_meaning.specs.declared.ending.Ending.{Ending}
@@ -53,7 +54,7 @@ same_ends p m a [] = refl
 same_ends p m a (r ∷ rs) = ap₂ (λ x y. x && y) (same_end m 0 p.records r a) (same_ends p m a rs)
 
 same_fits : (p : PlanValue) (m : ℕ → Value) (x : ProgramValue) → fits (next_plan p m) x ≡ fits p x
-same_fits p m x = ap (λ b. nat_lt x.office (length p.offices) && b) (same_ends p m x.office (needs_of x.body))
+same_fits p m x = ap (λ b. (nat_lt x.office (length p.offices) && b) && block_fits p.version x.body) (same_ends p m x.office (needs_of x.body))
 
 -- ---- endings
 

@@ -140,7 +140,7 @@ module _ (p : PlanValue) (d : List ProgramValue) where
   taken_behind x y l h few = go (says_something l) h
     where
       go : (b : Bool) → (if b then take_line p x l else Ok x) ≡ Ok y → Follows d x y (if b then take_line p (behind d x) l else Ok (behind d x))
-      go true k = by_form x y (form_of (pieces_of l)) k few
+      go true k = by_form x y (form_of p.version (pieces_of l)) k few
       go false k = let same : x ≡ y = same_ok x y k in (ap (λ z. Ok (behind d z)) same, omega (arith, ap begun_in same))
 
   all_behind : (ls : List (List ℕ)) (x y : Reading) → read_all x ls ≡ Ok y → Few y → Follows d x y (read_all (behind d x) ls)

@@ -1,11 +1,11 @@
 -- The plan that carries values on is consistent as the plan is.
-use Rattle.std.proofs.Common.{◌≡◌, ℕ, zero, suc, ◌+◌, ◌<◌, List, [], ◌∷◌, ◌++◌, length, get_or, cond, refl, sym, ap, ◌∙◌, subst, arith}
+use Rattle.std.proofs.Common.{◌≡◌, ℕ, zero, suc, ◌+◌, ◌<◌, List, [], ◌∷◌, ◌++◌, length, get_or, Bool, cond, refl, sym, ap, ◌∙◌, subst, arith}
 use Rattle.std.specs.Prelude.{All, IsTrue}
 use Rattle.std.specs.List.{count_by}
 use Rattle.std.proofs.lemmas.List.Elements.{All-nil, All-cons, All-head, All-tail}
 use Rattle.std.proofs.lemmas.List.Sums.{sum_by-cons}
-use Rattle.bottle_values.specs.Values.{Value}
-use Rattle.bottle_values.specs.Operations.{is_value}
+use Rattle.bottle_values.specs.declared.Value.{Value}
+use Rattle.bottle_values.specs.Versions.{admits}
 use Rattle.office_map.specs.declared.entries.RecordEntry.{RecordEntry}
 use Rattle.office_map.specs.PlanValue.{PlanValue, are_neighbours, lies_between}
 use Rattle.office_map.specs.Precedence.{HasOrder}
@@ -43,8 +43,19 @@ with_more m r (x ∷ xs) ys =
     let there : suc r + length xs ≡ r + length (x ∷ xs) = omega arith in
     ap (λ l. record x { value = m r } ∷ l) (with_more m (suc r) xs ys ∙ ap (λ k. with_values m (suc r) xs ++ with_values m k ys) there)
 
-pub consistent_with : (p : PlanValue) (run : ℕ) (m : ℕ → Value) → IsConsistent p → IsConsistent (carried p run m)
-consistent_with p run m ok = record {
+-- what holds of all values that are carried on holds of the values of the records
+pub each_with : (test : Value → Bool) (m : ℕ → Value) (from : ℕ) (xs : List RecordEntry) → ((r : ℕ) → r < length xs → IsTrue (test (m (from + r)))) → All (λ (x : RecordEntry). IsTrue (test x.value)) (with_values m from xs)
+each_with test m from [] h = All-nil (λ (x : RecordEntry). IsTrue (test x.value))
+each_with test m from (x ∷ xs) h =
+    let P : RecordEntry → Type 0 = λ y. IsTrue (test y.value) in
+    let here : from + 0 ≡ from = omega arith in
+    let first : IsTrue (test (m from)) = subst (λ (k : ℕ). IsTrue (test (m k))) here (h 0 (omega arith)) in
+    let rest : (r : ℕ) → r < length xs → IsTrue (test (m (suc from + r))) =
+    λ r lt. let there : from + suc r ≡ suc from + r = omega arith in subst (λ (k : ℕ). IsTrue (test (m k))) there (h (suc r) (omega (arith, lt))) in
+    All-cons P (record x { value = m from }) (with_values m (suc from) xs) first (each_with test m (suc from) xs rest)
+
+pub consistent_with : (p : PlanValue) (run : ℕ) (m : ℕ → Value) → IsConsistent p → ((r : ℕ) → r < length p.records → IsTrue (admits p.version (m r))) → IsConsistent (carried p run m)
+consistent_with p run m ok fit = record {
   offices_fit = ok.offices_fit;
   offices_are_named = ok.offices_are_named;
   office_names = ok.office_names;
@@ -57,18 +68,8 @@ consistent_with p run m ok = record {
   record_names = λ i j d lt short same. ok.record_names i j d lt (omega (arith, short, length_with m 0 p.records)) (sym (name_with m 0 p.records i d) ∙ same ∙ name_with m 0 p.records j d);
   records_have_pairs = all_with (λ (r : RecordEntry). IsTrue (are_neighbours p r.first r.second)) (λ x v h. h) m 0 p.records ok.records_have_pairs;
   records_fit = λ a b. omega (arith, count_with a b m 0 p.records, ok.records_fit a b);
+  values_are_admitted = each_with (admits p.version) m 0 p.records (λ r lt. let on : 0 + r ≡ r = omega arith in ap (λ k. admits p.version (m k)) on ∙ fit r lt);
 }
 
 pub ordered_with : (p : PlanValue) (run : ℕ) (m : ℕ → Value) → HasOrder p → HasOrder (carried p run m)
 ordered_with p run m h = record { order = h.order; is = record { once = h.is.once; earlier = h.is.earlier } }
-
--- where all values are numbers of 64 bits
-pub values_with : (m : ℕ → Value) (from : ℕ) (xs : List RecordEntry) → ((r : ℕ) → r < length xs → IsTrue (is_value (m (from + r)))) → All (λ (x : RecordEntry). IsTrue (is_value x.value)) (with_values m from xs)
-values_with m from [] h = All-nil (λ (x : RecordEntry). IsTrue (is_value x.value))
-values_with m from (x ∷ xs) h =
-    let P : RecordEntry → Type 0 = λ y. IsTrue (is_value y.value) in
-    let here : from + 0 ≡ from = omega arith in
-    let first : IsTrue (is_value (m from)) = subst (λ (k : ℕ). IsTrue (is_value (m k))) here (h 0 (omega arith)) in
-    let rest : (r : ℕ) → r < length xs → IsTrue (is_value (m (suc from + r))) =
-    λ r lt. let there : from + suc r ≡ suc from + r = omega arith in subst (λ (k : ℕ). IsTrue (is_value (m k))) there (h (suc r) (omega (arith, lt))) in
-    All-cons P (record x { value = m from }) (with_values m (suc from) xs) first (values_with m (suc from) xs rest)

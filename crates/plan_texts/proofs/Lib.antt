@@ -1,4 +1,5 @@
 mod Places
+mod PlanLines
 mod ValueWords
 mod LinesRead
 mod Names
@@ -8,4 +9,5 @@ mod RecordsRead
 mod TextsRead
 mod CarriedPlans
 mod NextPlansRead
+mod LeftValues
 mod WrittenLines

@@ -1,5 +1,5 @@
 -- Lines of words are read one after the other.
-use Rattle.std.proofs.Common.{◌≡◌, ℕ, ◌+◌, List, [], ◌∷◌, ◌++◌, true, false, not, ◌==◌, Ok, Some, if◌then◌else◌, refl, sym, ap, ◌∙◌, arith, append_assoc}
+use Rattle.std.proofs.Common.{◌≡◌, ℕ, ◌+◌, List, [], ◌∷◌, ◌++◌, true, false, not, ◌==◌, Ok, Some, if◌then◌else◌, refl, sym, ap, ◌∙◌, subst, arith, append_assoc}
 use Rattle.std.proofs.lemmas.List.{append-nil}
 use Rattle.std.specs.List.{list_all, flat_map}
 use Rattle.std.specs.Option.{ok_or}
@@ -7,13 +7,13 @@ use Rattle.std.proofs.lemmas.Bool.{and_parts}
 use Rattle.std.proofs.lemmas.Bool.Decides.{nat_tests}
 use Rattle.office_map.specs.declared.fault.PlanRule.TheVariants.{Line}
 use Rattle.office_map.specs.PlanValue.{PlanValue}
-use Rattle.office_map.specs.PlanText.{◌>>=◌, Declaration, and_then, declaration_of, declare, at_line, read_line, read_lines}
+use Rattle.office_map.specs.PlanText.{◌>>=◌, Declaration, and_then, value_under, declaration_of, declare, at_line, read_line, read_lines}
 use Rattle.text_lines.specs.Text.{is_blank, is_name_byte, lines, says_something, statements_from}
 use Rattle.session_language.proofs.canonical.Lexemes.{IsWord}
 use Rattle.session_language.proofs.canonical.TextLines.{plainly, first_statement_is}
-use Rattle.run_words.specs.Words.{is_word, line_of_words}
-use Rattle.run_words.proofs.LinesOfWords.{line_of, lines_are_cut}
+use Rattle.run_words.specs.Words.{line_of_words}
 use Rattle.plan_texts.specs.WrittenPlans.{ended}
+use Rattle.plan_texts.proofs.PlanLines.{AreCut, line_is_plain, line_is_cut}
 
 first_says : (w rest : List ℕ) → IsWord w → says_something (w ++ rest) ≡ true
 first_says [] rest h = let some = h.some in absurd (omega (arith, some))
@@ -28,11 +28,11 @@ line_says w [] h = ap says_something (sym (append-nil w)) ∙ first_says w [] h
 line_says w (v ∷ ws) h = first_says w (32 ∷ line_of_words (v ∷ ws)) h
 
 -- a line of words is the first statement
-pub statement_is : (n : ℕ) (w : List ℕ) (ws : List (List ℕ)) (rest : List ℕ) → IsWord w → list_all is_word (w ∷ ws) ≡ true
+pub statement_is : (n : ℕ) (w : List ℕ) (ws : List (List ℕ)) (rest : List ℕ) → IsWord w → AreCut (w ∷ ws)
     → statements_from n (lines (ended (w ∷ ws) ++ rest)) ≡ (n, line_of_words (w ∷ ws)) ∷ statements_from (n + 1) (lines rest)
 statement_is n w ws rest h good =
     ap (λ t. statements_from n (lines t)) (append_assoc (line_of_words (w ∷ ws)) (10 ∷ []) rest)
-    ∙ first_statement_is n (line_of_words (w ∷ ws)) rest (plainly (line_of_words (w ∷ ws)) (line_of (w ∷ ws) good).plain) (line_says w ws h)
+    ∙ first_statement_is n (line_of_words (w ∷ ws)) rest (plainly (line_of_words (w ∷ ws)) (line_is_plain (w ∷ ws) good)) (line_says w ws h)
 
 -- the words of a line declare something, and with it a plan becomes another
 pub record Reads (p : PlanValue) (ws : List (List ℕ)) (q : PlanValue) : Type 0 where
@@ -40,15 +40,15 @@ pub record Reads (p : PlanValue) (ws : List (List ℕ)) (q : PlanValue) : Type 0
   pub others : List (List ℕ)
   pub is : ws ≡ keyword ∷ others
   pub word : IsWord keyword
-  pub good : list_all is_word ws ≡ true
+  pub good : AreCut ws
   pub declaration : Declaration
-  pub declares : declaration_of ws ≡ Some declaration
+  pub declares : declaration_of (value_under p.version) ws ≡ Some declaration
   pub accepted : declare p declaration ≡ Ok q
 
 line_read : (p : PlanValue) (n : ℕ) (ws : List (List ℕ)) (q : PlanValue) → Reads p ws q → read_line p (n, line_of_words ws) ≡ Ok q
 unfolding read_line
 line_read p n ws q r =
-    ap (λ o. at_line n (ok_or (and_then o declaration_of) Line >>= declare p)) (lines_are_cut ws r.good)
+    ap (λ o. at_line n (ok_or (and_then o (declaration_of (value_under p.version))) Line >>= declare p)) (line_is_cut ws r.good)
     ∙ ap (λ o. at_line n (ok_or o Line >>= declare p)) r.declares
     ∙ ap (at_line n) r.accepted
 
@@ -56,7 +56,7 @@ first_read : (p : PlanValue) (n : ℕ) (ws : List (List ℕ)) (q : PlanValue) (r
     → read_lines p (statements_from n (lines (ended ws ++ rest))) ≡ read_lines q (statements_from (n + 1) (lines rest))
 first_read p n ws q rest r =
     ap (λ l. read_lines p (statements_from n (lines (ended l ++ rest)))) r.is
-    ∙ ap (read_lines p) (statement_is n r.keyword r.others rest r.word (ap (list_all is_word) (sym r.is) ∙ r.good))
+    ∙ ap (read_lines p) (statement_is n r.keyword r.others rest r.word (subst AreCut r.is r.good))
     ∙ ap (λ l. read_line p (n, line_of_words l) >>= λ s. read_lines s (statements_from (n + 1) (lines rest))) (sym r.is)
     ∙ ap (λ s. s >>= λ t. read_lines t (statements_from (n + 1) (lines rest))) (line_read p n ws q r)
 

@@ -9,10 +9,19 @@ use Rattle.office_map.specs.declared.entries.PairEntry.{PairEntry}
 use Rattle.office_map.specs.PlanValue.{PlanValue, office_named, joins, are_neighbours}
 use Rattle.office_map.specs.Consistency.{IsConsistent}
 use Rattle.session_reports.specs.Names.{office_name}
-use Rattle.run_words.proofs.NamesAndNumbers.{office_name_again}
+use Rattle.run_words.proofs.NamesAndNumbers.{office_name_again, name_of_office, office_word}
+use Rattle.plan_texts.proofs.PlanLines.{IsCut, cut_name}
 use Rattle.plan_texts.proofs.Places.{same_bytes, other_bytes}
 
 module _ (p : PlanValue) (ok : IsConsistent p) where
+  -- the name of an office is cut from a line
+  pub cut_office : (i : ℕ) → i < length p.offices → IsCut (office_name p i)
+  cut_office i lt = cut_name (office_name p i) (office_word p ok i lt) (name_of_office p ok i lt)
+
+  pub cut_end : (t : Bool) (i j : ℕ) → i < length p.offices → j < length p.offices → IsCut (office_name p (if t then i else j))
+  cut_end true i j a b = cut_office i a
+  cut_end false i j a b = cut_office j b
+
   pub names_differ : (i j : ℕ) → i < length p.offices → j < length p.offices → i ≢ j → office_name p i ≢ office_name p j
   names_differ i j a b apart same =
       let both : Some i ≡ Some j = sym (office_name_again p ok i a) ∙ ap (office_named p) same ∙ office_name_again p ok j b in

@@ -5,7 +5,7 @@ use Rattle.bottle_values.specs.Operations.{is_value}
 use Rattle.carried_days.specs.Days.{CarriedStartsWith}
 use Rattle.carried_days.specs.RunNumbers.{run_after}
 use Rattle.plan_texts.specs.NextPlans.{next_plan, NextPlansAreRead}
-use Rattle.plan_texts.proofs.CarriedPlans.{consistent_with, ordered_with, values_with}
+use Rattle.plan_texts.proofs.CarriedPlans.{consistent_with, ordered_with, each_with}
 use Rattle.plan_texts.proofs.TextsRead.{texts_are_read}
 
 pub next_plans_read : CarriedStartsWith → NextPlansAreRead
@@ -14,12 +14,11 @@ next_plans_read starts p m accepted values =
     let each : (r : ℕ) → r < length p.records → IsTrue (is_value (m (0 + r))) = λ r lt. (let on : 0 + r ≡ r = omega arith in ap (λ k. is_value (m k)) on ∙ values r lt) in
     record {
       written = refl;
-      read = λ first short. texts_are_read (next_plan p m) (record {
-        consistent = consistent_with p run m accepted.consistent;
+      read = λ admitted short. texts_are_read (next_plan p m) (record {
+        consistent = consistent_with p run m accepted.consistent admitted;
         two_offices = accepted.two_offices;
-        version = first;
         run = omega arith;
-        values = values_with m 0 p.records each;
+        values = each_with is_value m 0 p.records each;
         short = short;
       });
       ordered = ordered_with p run m accepted.no_ring;

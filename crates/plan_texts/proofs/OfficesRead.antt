@@ -14,6 +14,7 @@ use Rattle.office_map.specs.declared.fault.PlanRule.TheVariants.{NameTwice, Limi
 use Rattle.office_map.specs.Address.{is_address, is_address_byte, is_socket}
 use Rattle.office_map.specs.PlanValue.{PlanValue, office_named, with_office, no_address}
 use Rattle.office_map.specs.PlanText.{◌>>◌, refuse_if, AnOffice, office_of, is_address_taken}
+use Rattle.office_map.specs.PlanWordLaws.{address_is_no_text}
 use Rattle.office_map.specs.Consistency.{IsConsistent}
 use Rattle.text_lines.specs.Text.{is_name}
 use Rattle.session_language.proofs.canonical.Lexemes.{name_bytes, name_again}
@@ -21,6 +22,7 @@ use Rattle.run_words.specs.Words.{is_visible, is_word}
 use Rattle.run_words.proofs.NamesAndNumbers.{is_a_word}
 use Rattle.plan_texts.specs.WrittenPlans.{office_words}
 use Rattle.plan_texts.proofs.Places.{middle, before_it, new_name, other_bytes, not_at_least}
+use Rattle.plan_texts.proofs.PlanLines.{cut_word, cut_name}
 use Rattle.plan_texts.proofs.LinesRead.{Reads, AreRead, all_added}
 
 -- ---- words
@@ -78,7 +80,7 @@ module _ (p : PlanValue) (ok : IsConsistent p) where
         others = x.name ∷ x.address ∷ [];
         is = refl;
         word = record { some = omega arith; bytes = refl };
-        good = ap₂ (λ a b. a && (b && true)) (name_word x.name named) (address_word x.address address);
+        good = (cut_word (codes "office") refl refl, (cut_name x.name (name_word x.name named) (name_again x.name named), (cut_word x.address (address_word x.address address) (address_is_no_text x.address (ap is_some (ap (λ b. if b then Some x.address else None) address))), tt)));
         declaration = AnOffice x.name x.address;
         declares = ap₂ (λ n a. office_of n a) (name_again x.name named) (ap (λ b. if b then Some x.address else None) address);
         accepted = office_done (with_office (so_far pre) x) (is_some (office_named (so_far pre) x.name)) (is_address_taken (so_far pre) x.address) (nat_le 16 (length pre)) (ap is_some new) (free pre x apart) room;

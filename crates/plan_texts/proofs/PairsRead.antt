@@ -13,11 +13,11 @@ use Rattle.office_map.specs.PlanText.{◌>>=◌, ◌>>◌, refuse_if, APair, pai
 use Rattle.office_map.specs.Consistency.{IsConsistent}
 use Rattle.text_lines.specs.Text.{name_of}
 use Rattle.session_reports.specs.Names.{office_name}
-use Rattle.run_words.specs.Words.{is_word}
-use Rattle.run_words.proofs.NamesAndNumbers.{office_name_again, name_of_office, office_word}
+use Rattle.run_words.proofs.NamesAndNumbers.{office_name_again, name_of_office}
 use Rattle.plan_texts.specs.WrittenPlans.{pair_words}
 use Rattle.plan_texts.proofs.Places.{middle, before_it}
-use Rattle.plan_texts.proofs.Names.{end_told, end_is_one}
+use Rattle.plan_texts.proofs.PlanLines.{cut_word}
+use Rattle.plan_texts.proofs.Names.{cut_office, cut_end, end_told, end_is_one}
 use Rattle.plan_texts.proofs.LinesRead.{Reads, AreRead, all_added}
 
 two_done : (q : PlanValue) (s j : Bool) → s ≡ false → j ≡ false → (refuse_if s SelfPair >> (refuse_if j PairTwice >> Ok q)) ≡ Ok q
@@ -47,13 +47,12 @@ module _ (p : PlanValue) (ok : IsConsistent p) where
       let a = office_name p x.first in
       let b = office_name p x.second in
       let e = office_name p (fork_end x) in
-      let end_good : is_word e ≡ true = (by_end x.fork_at_first x.first x.second (office_word p ok x.first ends.0) (office_word p ok x.second ends.1)) in
       record {
         keyword = codes "pair";
         others = a ∷ b ∷ codes "fork" ∷ e ∷ [];
         is = refl;
         word = record { some = omega arith; bytes = refl };
-        good = three (is_word a) (is_word b) (is_word e) (office_word p ok x.first ends.0) (office_word p ok x.second ends.1) end_good;
+        good = (cut_word (codes "pair") refl refl, (cut_office p ok x.first ends.0, (cut_office p ok x.second ends.1, (cut_word (codes "fork") refl refl, (cut_end p ok x.fork_at_first x.first x.second ends.0 ends.1, tt)))));
         declaration = APair a b x.fork_at_first;
         declares =
             ap (λ t. if t then pair_of (name_of a) (name_of b) (bytes_eq e a) else None) (end_is_one p ok x.first x.second x.fork_at_first)
@@ -62,16 +61,6 @@ module _ (p : PlanValue) (ok : IsConsistent p) where
         accepted = pair_done (office_named p a) (office_named p b) (λ u v. u == v) (λ u v. are_neighbours (so_far pre) u v) (λ u v. with_pair (so_far pre) (record { first = u; second = v; fork_at_first = x.fork_at_first })) x.first x.second
             (office_name_again p ok x.first ends.0) (office_name_again p ok x.second ends.1) (false_from_ne_true (x.first == x.second) (λ s. apart (eqb-true x.first x.second s))) (list_any_none (joins x.first x.second) pre fresh);
       }
-    where
-      by_end : (t : Bool) (i j : ℕ) → is_word (office_name p i) ≡ true → is_word (office_name p j) ≡ true → is_word (office_name p (if t then i else j)) ≡ true
-      by_end true i j h g = h
-      by_end false i j h g = g
-
-      three : (u v w : Bool) → u ≡ true → v ≡ true → w ≡ true → (u && (v && (w && true))) ≡ true
-      three true true true h g f = refl
-      three true true false h g f = f
-      three true false w h g f = g
-      three false v w h g f = h
 
   are_read : (pre xs : List PairEntry) → pre ++ xs ≡ p.pairs → AreRead (pair_words p) with_pair (so_far pre) xs
   are_read pre [] whole = tt

@@ -8,21 +8,22 @@ use Rattle.std.specs.Str.{bytes_eq}
 use Rattle.std.proofs.lemmas.Bool.{and_from, eq-eqb, or_left}
 use Rattle.bottle_values.specs.Operations.{is_value}
 use Rattle.bottle_values.specs.Printed.{value_text}
+use Rattle.bottle_values.specs.Versions.{admits}
 use Rattle.office_map.specs.declared.entries.RecordEntry.{RecordEntry}
 use Rattle.office_map.specs.declared.fault.PlanRule.TheVariants.{UnknownName, NameTwice, Limit}
 use Rattle.office_map.specs.NeighbourLaws.{neighbours_apart}
 use Rattle.office_map.specs.PlanValue.{PlanValue, office_named, record_named, are_neighbours, lies_between, records_between, start_end, with_record}
-use Rattle.office_map.specs.PlanText.{◌>>=◌, ◌>>◌, refuse_if, ARecord, record_of, value_of}
+use Rattle.office_map.specs.PlanText.{◌>>=◌, ◌>>◌, refuse_if, ARecord, record_of, value_under}
 use Rattle.office_map.specs.Consistency.{IsConsistent}
 use Rattle.text_lines.specs.Text.{is_name, name_of}
 use Rattle.session_language.proofs.canonical.Lexemes.{name_again}
 use Rattle.session_reports.specs.Names.{office_name}
-use Rattle.run_words.specs.Words.{is_word}
-use Rattle.run_words.proofs.NamesAndNumbers.{office_name_again, name_of_office, office_word}
+use Rattle.run_words.proofs.NamesAndNumbers.{office_name_again, name_of_office}
 use Rattle.plan_texts.specs.WrittenPlans.{record_words}
 use Rattle.plan_texts.proofs.Places.{middle, new_name, counted, not_at_least}
-use Rattle.plan_texts.proofs.Names.{end_told, end_is_one, neighbours_are_offices}
-use Rattle.plan_texts.proofs.ValueWords.{value_again, value_word}
+use Rattle.plan_texts.proofs.PlanLines.{cut_word, cut_name}
+use Rattle.plan_texts.proofs.Names.{cut_office, cut_end, end_told, end_is_one, neighbours_are_offices}
+use Rattle.plan_texts.proofs.ValueWords.{value_again, cut_value}
 use Rattle.plan_texts.proofs.OfficesRead.{name_word}
 use Rattle.plan_texts.proofs.LinesRead.{Reads, AreRead, all_added}
 
@@ -47,10 +48,12 @@ module _ (p : PlanValue) (ok : IsConsistent p) (values : All (λ (r : RecordEntr
   one_record pre x xs whole =
       let Named : RecordEntry → Type 0 = λ r. IsTrue (is_name r.name) in
       let HasValue : RecordEntry → Type 0 = λ r. IsTrue (is_value r.value) in
+      let Admitted : RecordEntry → Type 0 = λ r. IsTrue (admits p.version r.value) in
       let Near : RecordEntry → Type 0 = λ r. IsTrue (are_neighbours p r.first r.second) in
       let Differ : RecordEntry → RecordEntry → Type 0 = λ a b. a.name ≢ b.name in
       let named : is_name x.name ≡ true = middle Named pre x xs (subst (All Named) (sym whole) ok.records_are_named) in
       let value : is_value x.value ≡ true = middle HasValue pre x xs (subst (All HasValue) (sym whole) values) in
+      let admitted : admits p.version x.value ≡ true = middle Admitted pre x xs (subst (All Admitted) (sym whole) ok.values_are_admitted) in
       let near : are_neighbours p x.first x.second ≡ true = middle Near pre x xs (subst (All Near) (sym whole) ok.records_have_pairs) in
       let new = new_name (λ (r : RecordEntry). r.name) pre x xs (subst (AllPairs Differ) (sym whole) ok.record_names) in
       let ends = neighbours_are_offices p x.first x.second ok near in
@@ -63,37 +66,24 @@ module _ (p : PlanValue) (ok : IsConsistent p) (values : All (λ (r : RecordEntr
       let b = office_name p x.second in
       let e = office_name p (start_end x) in
       let v = value_text x.value in
-      let end_good : is_word e ≡ true = by_end x.starts_at_first x.first x.second (office_word p ok x.first ends.0) (office_word p ok x.second ends.1) in
       record {
         keyword = codes "record";
         others = x.name ∷ a ∷ b ∷ v ∷ codes "at" ∷ e ∷ [];
         is = refl;
         word = record { some = omega arith; bytes = refl };
-        good = five (is_word x.name) (is_word a) (is_word b) (is_word v) (is_word e) (name_word x.name named) (office_word p ok x.first ends.0) (office_word p ok x.second ends.1) (value_word x.value value) end_good;
+        good = (cut_word (codes "record") refl refl, (cut_name x.name (name_word x.name named) (name_again x.name named), (cut_office p ok x.first ends.0, (cut_office p ok x.second ends.1, (cut_value x.value value, (cut_word (codes "at") refl refl, (cut_end p ok x.starts_at_first x.first x.second ends.0 ends.1, tt)))))));
         declaration = ARecord x.name a b x.value x.starts_at_first;
         declares =
-            ap (λ t. if t then record_of (name_of x.name) (name_of a) (name_of b) (value_of v) (bytes_eq e a) else None) (end_is_one p ok x.first x.second x.starts_at_first)
-            ∙ ap (λ t. record_of (name_of x.name) (name_of a) (name_of b) (value_of v) t) (end_told p ok x.first x.second ends.0 ends.1 apart x.starts_at_first)
-            ∙ ap (λ o. record_of o (name_of a) (name_of b) (value_of v) x.starts_at_first) (name_again x.name named)
-            ∙ ap (λ o. record_of (Some x.name) o (name_of b) (value_of v) x.starts_at_first) (name_of_office p ok x.first ends.0)
-            ∙ ap (λ o. record_of (Some x.name) (Some a) o (value_of v) x.starts_at_first) (name_of_office p ok x.second ends.1)
-            ∙ ap (λ o. record_of (Some x.name) (Some a) (Some b) o x.starts_at_first) (value_again x.value value);
+            ap (λ t. if t then record_of (name_of x.name) (name_of a) (name_of b) (value_under p.version v) (bytes_eq e a) else None) (end_is_one p ok x.first x.second x.starts_at_first)
+            ∙ ap (λ t. record_of (name_of x.name) (name_of a) (name_of b) (value_under p.version v) t) (end_told p ok x.first x.second ends.0 ends.1 apart x.starts_at_first)
+            ∙ ap (λ o. record_of o (name_of a) (name_of b) (value_under p.version v) x.starts_at_first) (name_again x.name named)
+            ∙ ap (λ o. record_of (Some x.name) o (name_of b) (value_under p.version v) x.starts_at_first) (name_of_office p ok x.first ends.0)
+            ∙ ap (λ o. record_of (Some x.name) (Some a) o (value_under p.version v) x.starts_at_first) (name_of_office p ok x.second ends.1)
+            ∙ ap (λ o. record_of (Some x.name) (Some a) (Some b) o x.starts_at_first) (value_again p.version x.value value admitted);
         accepted = record_done (office_named p a) (office_named p b) (λ u w. not (are_neighbours p u w)) (is_some (record_named (so_far pre) x.name)) (λ u w. nat_le 8 (records_between (so_far pre) u w))
             (λ u w. with_record (so_far pre) (record { name = x.name; first = u; second = w; value = x.value; starts_at_first = x.starts_at_first })) x.first x.second
             (office_name_again p ok x.first ends.0) (office_name_again p ok x.second ends.1) (ap not near) (ap is_some new) room;
       }
-    where
-      by_end : (t : Bool) (i j : ℕ) → is_word (office_name p i) ≡ true → is_word (office_name p j) ≡ true → is_word (office_name p (if t then i else j)) ≡ true
-      by_end true i j h g = h
-      by_end false i j h g = g
-
-      five : (n a b v e : Bool) → n ≡ true → a ≡ true → b ≡ true → v ≡ true → e ≡ true → (n && (a && (b && (v && (e && true))))) ≡ true
-      five false a b v e f g h i j = f
-      five true false b v e f g h i j = g
-      five true true false v e f g h i j = h
-      five true true true false e f g h i j = i
-      five true true true true false f g h i j = j
-      five true true true true true f g h i j = refl
 
   are_read : (pre xs : List RecordEntry) → pre ++ xs ≡ p.records → AreRead (record_words p) with_record (so_far pre) xs
   are_read pre [] whole = tt

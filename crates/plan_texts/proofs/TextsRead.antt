@@ -1,23 +1,26 @@
 -- The text of a plan means that plan.
-use Rattle.std.proofs.Common.{◌≡◌, ℕ, ◌+◌, ◌^◌, ◌<◌, List, [], ◌∷◌, ◌++◌, length, Bool, true, false, ◌&&◌, nat_lt, Result, Ok, Some, None, if◌then◌else◌, codes, refl, sym, ap, ◌∙◌, arith, lit<}
+use Rattle.std.proofs.Common.{◌≡◌, ℕ, ◌+◌, ◌^◌, ◌<◌, List, [], ◌∷◌, ◌++◌, length, Bool, true, false, nat_lt, Result, Ok, Option, Some, None, is_some, if◌then◌else◌, codes, refl, sym, ap, ◌∙◌, arith, lit<}
 use Rattle.std.proofs.lemmas.List.{append-nil}
-use Rattle.std.specs.List.{list_all}
 use Rattle.std.specs.Option.{ok_or}
 use Rattle.std.specs.Fmt.{decimal}
 use Rattle.std.proofs.lemmas.Bool.Decides.{nat_tests}
 use Rattle.std.proofs.lemmas.Fmt.{decimal_digit}
-use Rattle.bottle_values.specs.declared.version.Version.TheVariants.{One}
+use Rattle.bottle_values.specs.Versions.{number_of}
+use Rattle.bottle_values.specs.declared.version.Version.{Version}
+use Rattle.bottle_values.specs.declared.version.Version.TheVariants.{One, Two}
 use Rattle.office_map.specs.declared.fault.PlanRule.TheVariants.{Header, Limit}
 use Rattle.office_map.specs.declared.fault.PlanRefusal.{PlanRefusal}
 use Rattle.office_map.specs.Limits.{most_text}
 use Rattle.office_map.specs.PlanValue.{PlanValue, with_office, with_pair, with_record}
-use Rattle.office_map.specs.PlanText.{◌>>=◌, ◌>>◌, refuse_if, and_then, small_number, run_of, at_line, read_header, read_lines, read_statements, plan_of}
+use Rattle.office_map.specs.PlanText.{◌>>=◌, ◌>>◌, refuse_if, and_then, small_number, version_of, with_run, header_of, empty_plan, at_line, read_header, read_lines, read_statements, plan_of}
+use Rattle.office_map.specs.PlanWordLaws.{number_is_no_text}
+use Rattle.text_lines.specs.Text as text
 use Rattle.text_lines.specs.Text.{lines, statements, statements_from}
 use Rattle.session_language.proofs.canonical.Lexemes.{number_again}
-use Rattle.run_words.specs.Words.{is_word, line_of_words}
-use Rattle.run_words.proofs.LinesOfWords.{lines_are_cut}
+use Rattle.run_words.specs.Words.{line_of_words}
 use Rattle.run_words.proofs.NamesAndNumbers.{number_word}
 use Rattle.plan_texts.specs.WrittenPlans.{header_words, office_words, pair_words, record_words, office_lines, pair_lines, record_lines, ended, plan_text, IsWritable, PlanTextsAreRead}
+use Rattle.plan_texts.proofs.PlanLines.{IsCut, AreCut, cut_word, line_is_cut}
 use Rattle.plan_texts.proofs.LinesRead.{statement_is, section_read}
 use Rattle.plan_texts.proofs.OfficesRead.{offices_read, offices_added}
 use Rattle.plan_texts.proofs.PairsRead.{pairs_read, pairs_added}
@@ -26,26 +29,30 @@ use Rattle.plan_texts.proofs.RecordsRead.{records_read, records_added}
 abbrev too_much : PlanRefusal
 too_much = record { rule = Limit; line = 0 }
 
-abbrev empty : ℕ → PlanValue
-empty run = record { version = One; run = run; offices = []; pairs = []; records = [] }
+-- a version that is written is told again
+told_again : (v : Version) → version_of (decimal (number_of v)) ≡ Some v
+told_again One = let one : decimal 1 ≡ codes "1" = decimal_digit 1 (lit< tt) in ap version_of one
+told_again Two = let two : decimal 2 ≡ codes "2" = decimal_digit 2 (lit< tt) in ap version_of two
 
--- the words of the first line of version 1
-abbrev first_words : ℕ → List (List ℕ)
-first_words run = codes "plan" ∷ codes "1" ∷ codes "run" ∷ decimal run ∷ []
+low : (v : Version) → number_of v < 2 ^ 63
+low One = lit< tt
+low Two = lit< tt
 
-header_is : (run : ℕ) → header_words One run ≡ first_words run
-header_is run = let one : decimal 1 ≡ codes "1" = decimal_digit 1 (lit< tt) in ap (λ w. codes "plan" ∷ w ∷ codes "run" ∷ decimal run ∷ []) one
+cut_number : (n : ℕ) → n < 2 ^ 63 → IsCut (decimal n)
+cut_number n h = cut_word (decimal n) (number_word n h) (number_is_no_text (decimal n) (ap is_some (number_again n h)))
 
-header_good : (run : ℕ) → run < 2 ^ 32 → list_all is_word (first_words run) ≡ true
-header_good run small = ap (λ b. b && true) (number_word run (omega arith))
+header_good : (v : Version) (run : ℕ) → run < 2 ^ 32 → AreCut (header_words v run)
+header_good v run small = (cut_word (codes "plan") refl refl, (cut_number (number_of v) (low v), (cut_word (codes "run") refl refl, (cut_number run (omega arith), tt))))
 
-header_read : (run n : ℕ) → run < 2 ^ 32 → read_header (n, line_of_words (first_words run)) ≡ Ok (empty run)
+header_read : (v : Version) (run n : ℕ) → version_of (decimal (number_of v)) ≡ Some v → run < 2 ^ 32 → read_header (n, line_of_words (header_words v run)) ≡ Ok (empty_plan v run)
 unfolding read_header
-header_read run n small =
+header_read v run n told small =
     let fits : nat_lt run (2 ^ 32) ≡ true = grind (arith, nat_tests) in
-    ap (λ o. at_line n (ok_or (and_then o run_of) Header >>= λ k. Ok (empty k))) (lines_are_cut (first_words run) (header_good run small))
-    ∙ ap (λ o. at_line n (ok_or (small_number o) Header >>= λ k. Ok (empty k))) (number_again run (omega arith))
-    ∙ ap (λ b. at_line n (ok_or (if b then Some run else None) Header >>= λ k. Ok (empty k))) fits
+    let then_plan : Option (Version × ℕ) → Result PlanValue PlanRefusal = λ o. at_line n (ok_or o Header >>= λ h. Ok (empty_plan h.0 h.1)) in
+    ap (λ o. then_plan (and_then o header_of)) (line_is_cut (header_words v run) (header_good v run small))
+    ∙ ap (λ o. then_plan (with_run o (small_number (text.number_of (decimal run))))) told
+    ∙ ap (λ o. then_plan (with_run (Some v) (small_number o))) (number_again run (omega arith))
+    ∙ ap (λ b. then_plan (with_run (Some v) (if b then Some run else None))) fits
 
 whole : (b : Bool) (r : Result PlanValue PlanRefusal) (p : PlanValue) (e f : PlanRefusal) → b ≡ false → r ≡ Ok p → nat_lt (length p.offices) 2 ≡ false
     → (refuse_if b e >> (r >>= λ q. refuse_if (nat_lt (length q.offices) 2) f >> Ok q)) ≡ Ok p
@@ -87,18 +94,16 @@ module _ (p : PlanValue) (w : IsWritable p) where
       let pairs = pairs_then offices.0 (record_lines p p.records) in
       offices.1 ∙ pairs.1 ∙ records_last pairs.0
 
-  statements_are : statements (plan_text p) ≡ (1, line_of_words (first_words p.run)) ∷ statements_from 2 (lines (office_lines p.offices ++ (pair_lines p p.pairs ++ record_lines p p.records)))
+  statements_are : statements (plan_text p) ≡ (1, line_of_words (header_words p.version p.run)) ∷ statements_from 2 (lines (office_lines p.offices ++ (pair_lines p p.pairs ++ record_lines p p.records)))
   unfolding plan_text
   statements_are =
-      ap (λ ws. statements (ended ws ++ (office_lines p.offices ++ (pair_lines p p.pairs ++ record_lines p p.records)))) (ap (λ v. header_words v p.run) w.version ∙ header_is p.run)
-      ∙ statement_is 1 (codes "plan") (codes "1" ∷ codes "run" ∷ decimal p.run ∷ []) (office_lines p.offices ++ (pair_lines p p.pairs ++ record_lines p p.records)) (record { some = omega arith; bytes = refl }) (header_good p.run w.run)
+      statement_is 1 (codes "plan") (decimal (number_of p.version) ∷ codes "run" ∷ decimal p.run ∷ []) (office_lines p.offices ++ (pair_lines p p.pairs ++ record_lines p p.records)) (record { some = omega arith; bytes = refl }) (header_good p.version p.run w.run)
 
   statements_read : read_statements (statements (plan_text p)) ≡ Ok p
   statements_read =
       let rest = statements_from 2 (lines (office_lines p.offices ++ (pair_lines p p.pairs ++ record_lines p p.records))) in
       ap read_statements statements_are
-      ∙ ap (λ r. r >>= λ q. read_lines q rest) (header_read p.run 1 w.run)
-      ∙ ap (λ v. read_lines (record { version = v; run = p.run; offices = []; pairs = []; records = [] }) rest) (sym w.version)
+      ∙ ap (λ r. r >>= λ q. read_lines q rest) (header_read p.version p.run 1 (told_again p.version) w.run)
       ∙ lines_read 2
 
   pub text_read : plan_of (plan_text p) ≡ Ok p

@@ -1,5 +1,5 @@
 -- The word of a value is read as that value.
-use Rattle.std.proofs.Common.{◌≡◌, ℕ, suc, ◌+◌, ◌/◌, ◌%◌, ◌^◌, ◌<◌, ◌≤◌, ◌⊎◌, ◌&&◌, List, [], ◌∷◌, ◌++◌, length, Bool, true, false, nat_lt, Some, None, option_map, if◌then◌else◌, codes, refl, sym, ap, ap₂, ◌∙◌, arith, lit<, lit≤, ⊎_elim}
+use Rattle.std.proofs.Common.{◌≡◌, ℕ, suc, ◌+◌, ◌/◌, ◌%◌, ◌^◌, ◌<◌, ◌≤◌, ◌⊎◌, ◌&&◌, List, [], ◌∷◌, ◌++◌, length, Bool, true, false, nat_lt, Some, None, is_some, option_map, if◌then◌else◌, codes, refl, sym, ap, ap₂, ◌∙◌, arith, lit<, lit≤, ⊎_elim}
 use Rattle.std.specs.Prelude.{ℤ, pos, negsuc, neg_ℤ, ◌==◌}
 use Rattle.std.specs.List.{list_all}
 use Rattle.std.specs.Str.{bytes_eq}
@@ -8,14 +8,20 @@ use Rattle.std.proofs.lemmas.Bool.{and_parts, cases_lt}
 use Rattle.std.proofs.lemmas.Bool.Decides.{nat_tests}
 use Rattle.std.proofs.lemmas.Fmt.{decimal_digit, decimal_step}
 use Rattle.std.proofs.lemmas.Slice.Eq.{bytes_eq-Decides}
-use Rattle.bottle_values.specs.Values.{Value, Number}
+use Rattle.bottle_values.specs.declared.Value.{Value}
+use Rattle.bottle_values.specs.declared.Value.TheVariants.{Number, Text}
 use Rattle.bottle_values.specs.Operations.{is_value}
 use Rattle.bottle_values.specs.Printed.{value_text}
-use Rattle.office_map.specs.PlanText.{negative_of, integer_of, value_of}
+use Rattle.bottle_values.specs.Versions.{admits}
+use Rattle.bottle_values.specs.declared.version.Version.{Version}
+use Rattle.bottle_values.specs.declared.version.Version.TheVariants.{One, Two}
+use Rattle.office_map.specs.PlanText.{negative_of, integer_of, text_of, number_or_text, value_under}
+use Rattle.office_map.specs.PlanWordLaws.{begins_text, number_is_no_text, text_again}
 use Rattle.text_lines.specs.Text.{number_of, is_name_byte}
 use Rattle.run_words.specs.Words.{is_visible, is_word}
 use Rattle.run_words.proofs.NamesAndNumbers.{number_word}
 use Rattle.session_language.proofs.canonical.Lexemes.{IsWord, number_is_word, number_again}
+use Rattle.plan_texts.proofs.PlanLines.{IsCut, cut_word, cut_text}
 
 -- a word that doesn't begin with a sign
 unsigned : (w : List ℕ) → IsWord w → integer_of w ≡ option_map pos (number_of w)
@@ -117,8 +123,11 @@ number_again_signed (pos n) h =
     unsigned (decimal n) (number_is_word n small) ∙ ap (option_map pos) (number_again n small)
 number_again_signed (negsuc n) h = negative n (grind (arith, nat_tests))
 
-pub value_again : (v : Value) → is_value v ≡ true → value_of (value_text v) ≡ Some v
-value_again (Number z) h = ap (option_map Number) (number_again_signed z h)
+pub value_again : (version : Version) (v : Value) → is_value v ≡ true → admits version v ≡ true → value_under version (value_text v) ≡ Some v
+value_again One (Number z) h a = ap (option_map Number) (number_again_signed z h)
+value_again One (Text t) h a = absurd cc
+value_again Two (Number z) h a = ap (λ o. number_or_text o (text_of (signed_decimal z))) (number_again_signed z h)
+value_again Two (Text t) h a = text_again t h
 
 -- and it is a word
 signed_word : (z : ℤ) → is_value (Number z) ≡ true → is_word (signed_decimal z) ≡ true
@@ -136,5 +145,10 @@ signed_word (negsuc n) h = behind_sign (decimal (suc n)) (at_most (suc n) (grind
         (λ high. let last : k ≡ 9223372036854775808 = omega arith in ap (λ j. list_all is_visible (decimal j)) last ∙ ap (list_all is_visible) nine_19)
         (cases_lt k (2 ^ 63))
 
-pub value_word : (v : Value) → is_value v ≡ true → is_word (value_text v) ≡ true
-value_word (Number z) h = signed_word z h
+signed_begins : (z : ℤ) → is_value (Number z) ≡ true → begins_text (signed_decimal z) ≡ false
+signed_begins (pos n) h = number_is_no_text (decimal n) (ap is_some (number_again n (grind (arith, nat_tests))))
+signed_begins (negsuc n) h = refl
+
+pub cut_value : (v : Value) → is_value v ≡ true → IsCut (value_text v)
+cut_value (Number z) h = cut_word (signed_decimal z) (signed_word z h) (signed_begins z h)
+cut_value (Text t) h = cut_text t h

@@ -1,3 +1,4 @@
 pub mod WrittenPlans
 pub mod NextPlans
+pub mod LeftValues
 pub mod refinement

@@ -1,8 +1,8 @@
 -- The plan of the next day, as a text.
-use Rattle.std.specs.Prelude.{◌≡◌, ℕ, ◌<◌, ◌≤◌, List, length, true, Ok}
-use Rattle.bottle_values.specs.Values.{Value}
+use Rattle.std.specs.Prelude.{◌≡◌, ℕ, ◌<◌, ◌≤◌, List, length, IsTrue, true, Ok}
+use Rattle.bottle_values.specs.declared.Value.{Value}
 use Rattle.bottle_values.specs.Operations.{is_value}
-use Rattle.bottle_values.specs.declared.version.Version.TheVariants.{One}
+use Rattle.bottle_values.specs.Versions.{admits}
 use Rattle.office_map.specs.Consistency.{IsAccepted}
 use Rattle.office_map.specs.Limits.{most_text}
 use Rattle.office_map.specs.PlanValue.{PlanValue}
@@ -17,10 +17,14 @@ use Rattle.plan_texts.specs.WrittenPlans.{plan_text}
 abbrev pub next_plan : PlanValue → (ℕ → Value) → PlanValue
 next_plan p m = carried p (run_after p.run 1) m
 
+-- the values of the plan's records can be those of a run of its version
+abbrev pub AreAdmitted : PlanValue → (ℕ → Value) → Type 0
+AreAdmitted p m = (r : ℕ) → r < length p.records → IsTrue (admits p.version (m r))
+
 -- What a text of the next day's plan means: that plan, which has no ring, and which starts with these values.
 pub record IsNextPlan (p : PlanValue) (m : ℕ → Value) (text : List ℕ) : Type 0 where
   pub written : text ≡ plan_text (next_plan p m)
-  pub read : p.version ≡ One → length text ≤ most_text → plan_of text ≡ Ok (next_plan p m)
+  pub read : AreAdmitted p m → length text ≤ most_text → plan_of text ≡ Ok (next_plan p m)
   pub ordered : HasOrder (next_plan p m)
   pub starts : (r : ℕ) → r < length p.records → start_map (next_plan p m) r ≡ m r
 

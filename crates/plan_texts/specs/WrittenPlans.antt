@@ -6,7 +6,6 @@ use Rattle.bottle_values.specs.Printed.{value_text}
 use Rattle.bottle_values.specs.Operations.{is_value}
 use Rattle.bottle_values.specs.Versions.{number_of}
 use Rattle.bottle_values.specs.declared.version.Version.{Version}
-use Rattle.bottle_values.specs.declared.version.Version.TheVariants.{One}
 use Rattle.office_map.specs.declared.entries.OfficeEntry.{OfficeEntry}
 use Rattle.office_map.specs.declared.entries.PairEntry.{PairEntry}
 use Rattle.office_map.specs.declared.entries.RecordEntry.{RecordEntry}
@@ -51,11 +50,10 @@ record_lines p = flat_map (λ r. ended (record_words p r))
 unfoldable pub plan_text : PlanValue → List ℕ
 plan_text p = ended (header_words p.version p.run) ++ (office_lines p.offices ++ (pair_lines p p.pairs ++ record_lines p p.records))
 
--- a plan that a text can mean: it is of version 1, its numbers fit, and the text isn't too long
+-- a plan that a text can mean: its numbers and texts fit, and the text isn't too long
 pub record IsWritable (p : PlanValue) : Type 0 where
   pub consistent : IsConsistent p
   pub two_offices : 2 ≤ length p.offices
-  pub version : p.version ≡ One
   pub run : p.run < 2 ^ 32
   pub values : All (λ (r : RecordEntry). IsTrue (is_value r.value)) p.records
   pub short : length (plan_text p) ≤ most_text

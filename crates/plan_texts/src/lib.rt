@@ -4,7 +4,7 @@
 //! - [`next_plan`] writes the plan of the next day (`specs/NextPlans.antt`): the same offices, pairs and records in the order of
 //!   their lines, the next run number, and the values that are carried on. It has no ring, and starts with these values.
 //!
-//! Not said: that the text of so large a plan is short enough to be read; how plans of version 2 are written.
+//! Not said: that the text of so large a plan is short enough to be read.
 #![tactic(auto)]
 
 pub mod laws;

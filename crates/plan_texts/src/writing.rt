@@ -133,11 +133,20 @@ fn add_record_line(
     write!(text, " at {end}\n")
 }
 
-/// A value's number is added.
+/// A value is added: a number in decimal, or a text between two `"`.
 fn add_value(text: &mut String, value: Value) -> Result<(), AllocError>
     ensures text { OnOk result (string_bytes text.new ≡ string_bytes text.old ++ value_text value) }
     ensures value { OnOk result (IsTrue (is_value value)) }
 {
-    let mut buffer = Buffer::new();
-    text.push_str(buffer.format(value.number()))
+    match value {
+        Value::Number(number) => {
+            let mut buffer = Buffer::new();
+            text.push_str(buffer.format(number))
+        }
+        Value::Text(held) => {
+            // Its bytes are those of a text.
+            let _ = held.as_bytes();
+            write!(text, "{held}")
+        }
+    }
 }

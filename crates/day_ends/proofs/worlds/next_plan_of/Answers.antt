@@ -2,7 +2,7 @@ use Rattle.std.proofs.Common.{List, length, ap, sym, subst, ◌∙◌}
 use Rattle.std.specs.String.{string_bytes}
 use Rattle.std.proofs.lemmas.Result.{IfOk-weaker}
 use Rattle.office_map.specs.PlanValue.{PlanValue}
-use Rattle.bottle_values.specs.Values.{Value}
+use Rattle.bottle_values.specs.declared.Value.{Value}
 use Rattle.serial_replay.specs.Serial.{ListsValues}
 use Rattle.plan_texts.specs.NextPlans.{IsNextPlan}
 use Rattle.day_ends.specs.DayEnds.{end_map}
