@@ -18,6 +18,7 @@
 
 pub mod events;
 mod plan;
+mod plan_values;
 mod ring;
 mod script;
 pub mod shown;

@@ -1,14 +1,16 @@
 //! What is said of a refused plan.
 
+use crate::plan_values::{say_faulty_text, say_no_value, say_text_in, version_of};
 use crate::shown::{
     Lines, Quoted, Text, line_at, say_expected, say_no_name, say_other_text, say_unreadable,
     say_word, word_at,
 };
+use bottle_values::Version;
 use office_map::limits::{FEWEST_OFFICES, MOST_OFFICES, MOST_PAIR_RECORDS, TEXT_LIMIT};
-use office_map::{PlanRefusal, PlanRule};
+use office_map::{PlanRefusal, PlanRule, plan_words};
 use std::alloc::{AllocError, Global};
 use std::fmt;
-use text_lines::{is_name, is_same_word, words};
+use text_lines::{is_name, is_same_word};
 
 const OFFICE: &str = "`office NAME ADDRESS`";
 
@@ -39,7 +41,7 @@ fn say_line(
     line: &[u8],
     rule: PlanRule,
 ) -> Result<(), AllocError> {
-    let words = words(around.alloc, line)?;
+    let words = plan_words(around.alloc, line)?;
     say_words(said, around, line, &words, rule)
 }
 
@@ -51,8 +53,8 @@ fn say_words(
     rule: PlanRule,
 ) -> Result<(), AllocError> {
     match rule {
-        PlanRule::Header => say_header(said, line),
-        PlanRule::Line => say_form(said, line, words),
+        PlanRule::Header => say_header(said, line, words),
+        PlanRule::Line => say_form(said, around, line, words),
         PlanRule::NameTwice => say_twice(said, around, words),
         PlanRule::UnknownName => say_unknown(said, around, words),
         PlanRule::SelfPair => say_word(
@@ -80,21 +82,41 @@ fn say_text(said: &mut String, text: &[u8], rule: PlanRule) -> Result<(), AllocE
     )
 }
 
-fn say_header(said: &mut String, line: &[u8]) -> Result<(), AllocError> {
+fn say_header(said: &mut String, line: &[u8], words: &[&[u8]]) -> Result<(), AllocError> {
     if say_unreadable(said, line)? {
         return Ok(());
     }
-    say_word(
+    let mut version = "1";
+    if words.len() == 4 && is_same_word(words[0], b"plan") && is_same_word(words[2], b"run") {
+        version = match words[1] {
+            b"1" => "1",
+            b"2" => "2",
+            other => {
+                return say_word(
+                    said,
+                    "the version of a plan is `1`, or `2` where values may be texts, and not ",
+                    other,
+                    "",
+                );
+            }
+        };
+    }
+    let found = Quoted(line);
+    write!(
         said,
-        "the first line has to be `plan 1 run N`, with N from 0 to 4294967295, and not ",
-        line,
-        "",
+        "the first line has to be `plan {version} run N`, with N from 0 to 4294967295, and not {found}"
     )
 }
 
 /// The first thing that doesn't fit the form of a line.
-fn say_form(said: &mut String, line: &[u8], words: &[&[u8]]) -> Result<(), AllocError> {
-    if say_unreadable(said, line)? {
+fn say_form(
+    said: &mut String,
+    around: &Around<'_>,
+    line: &[u8],
+    words: &[&[u8]],
+) -> Result<(), AllocError> {
+    let version = version_of(around.alloc, around.text)?;
+    if say_unreadable(said, line)? || say_faulty_text(said, line, version)? {
         return Ok(());
     }
     let word = word_at(words, 0);
@@ -103,7 +125,7 @@ fn say_form(said: &mut String, line: &[u8], words: &[&[u8]]) -> Result<(), Alloc
     } else if is_same_word(word, b"pair") {
         say_pair(said, line, words)
     } else if is_same_word(word, b"record") {
-        say_record(said, line, words)
+        say_record(said, line, words, version)
     } else if is_same_word(word, b"plan") {
         said.push_str("`plan` stands on the first line alone")
     } else {
@@ -147,8 +169,16 @@ fn say_pair(said: &mut String, line: &[u8], words: &[&[u8]]) -> Result<(), Alloc
     say_end(said, words[4], words[1], words[2])
 }
 
-fn say_record(said: &mut String, line: &[u8], words: &[&[u8]]) -> Result<(), AllocError> {
+fn say_record(
+    said: &mut String,
+    line: &[u8],
+    words: &[&[u8]],
+    version: Version,
+) -> Result<(), AllocError> {
     if words.len() != 7 || words[5] != b"at".as_slice() {
+        if say_text_in(said, words, version)? {
+            return Ok(());
+        }
         say_expected(said, line, RECORD)?;
         return said.push_str("; E, where the record starts, is A or B");
     }
@@ -160,12 +190,7 @@ fn say_record(said: &mut String, line: &[u8], words: &[&[u8]]) -> Result<(), All
     if words[6] != words[2] && words[6] != words[3] {
         return say_end(said, words[6], words[2], words[3]);
     }
-    say_word(
-        said,
-        "",
-        words[4],
-        " is no value: a whole number in digits alone, after a `-` if it is less than 0, from -9223372036854775808 to 9223372036854775807",
-    )
+    say_no_value(said, words[4], version)
 }
 
 /// That an end is neither of the two.
@@ -231,7 +256,7 @@ impl Around<'_> {
             let Some(line) = lines.next() else {
                 break;
             };
-            if declared.is_by(&words(self.alloc, line)?) {
+            if declared.is_by(&plan_words(self.alloc, line)?) {
                 return Ok(Some(i as u64 + 1));
             }
         }

@@ -1,5 +1,6 @@
 //! Lines and words, as people are shown them.
 
+use bottle_values::{MAX_TEXT, is_text_byte};
 use office_map::{OfficeId, Plan};
 use std::alloc::AllocError;
 use std::fmt;
@@ -74,8 +75,8 @@ pub fn say_word(
     write!(said, "{before}{word}{after}")
 }
 
-/// Adds what no line that says something may have, if it has it: a byte order mark, a comment after other words, or a byte
-/// that is neither a tab nor printable ASCII. The answer is whether it has.
+/// Adds what no line that says something may have, if it has it: a byte order mark, a comment after other words and outside
+/// texts, or a byte that is neither a tab nor printable ASCII. The answer is whether it has.
 pub fn say_unreadable(said: &mut String, line: &[u8]) -> Result<bool, AllocError> {
     if let Some(mark) = byte_order_mark(line) {
         write!(
@@ -84,10 +85,12 @@ pub fn say_unreadable(said: &mut String, line: &[u8]) -> Result<bool, AllocError
         )?;
         return Ok(true);
     }
+    let mut is_in_text = false;
     for (i, b) in line.iter().enumerate() {
         let byte = *b;
         let column = i + 1;
-        if byte == b'#' {
+        is_in_text ^= byte == b'"';
+        if byte == b'#' && !is_in_text {
             write!(
                 said,
                 "the `#` in column {column} begins no comment: a comment stands on a line of its own"
@@ -101,6 +104,31 @@ pub fn say_unreadable(said: &mut String, line: &[u8]) -> Result<bool, AllocError
                 "neither a tab nor printable ASCII"
             };
             write!(said, "byte {byte:02X} in column {column} is {what}")?;
+            return Ok(true);
+        }
+    }
+    Ok(false)
+}
+
+/// Adds why what stands between two quotation marks, the first of them in this column, is no text, if it is none: how many bytes
+/// it has, or which of them may not stand in one. The answer is whether it is none.
+pub fn say_text_bytes(said: &mut String, bytes: &[u8], column: usize) -> Result<bool, AllocError> {
+    let count = bytes.len();
+    if count > MAX_TEXT {
+        write!(
+            said,
+            "the text in column {column} has {count} bytes, and may have {MAX_TEXT}"
+        )?;
+        return Ok(true);
+    }
+    for (i, b) in bytes.iter().enumerate() {
+        let byte = *b;
+        if !is_text_byte(byte) {
+            let at = column.saturating_add(i).saturating_add(1);
+            write!(
+                said,
+                "byte {byte:02X} in column {at} may not stand in a text, which has spaces and printable ASCII alone"
+            )?;
             return Ok(true);
         }
     }

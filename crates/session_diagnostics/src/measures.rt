@@ -150,6 +150,7 @@ fn is_node(piece: Piece<'_>) -> bool {
             Symbol::Assign | Symbol::Open | Symbol::Close => false,
             _ => true,
         },
+        Piece::Quoted(_) => true,
         Piece::Stray => false,
     }
 }

@@ -2,9 +2,10 @@
 
 use crate::measures::measures_of;
 use crate::place::{Block, Place, first_word, keyword_in, second_word};
+use bottle_values::Version;
 use diagnostics::shown::{
     Quoted, Text, say_alike, say_expected, say_no_name, say_no_office, say_other_text,
-    say_unreadable, say_word, word_at,
+    say_text_bytes, say_unreadable, say_word, word_at,
 };
 use office_map::{Plan, RecordId};
 use session_language::keyword::Keyword;
@@ -62,7 +63,7 @@ fn say_syntax(said: &mut String, place: &Place<'_>) -> Result<(), AllocError> {
     if place.begun == 0 && keyword != Keyword::Session {
         return say_outside(said, line);
     }
-    if say_stray(said, line)? {
+    if say_stray(said, line, place.plan.version())? {
         return Ok(());
     }
     match keyword {
@@ -130,8 +131,8 @@ fn say_outside(said: &mut String, line: &[u8]) -> Result<(), AllocError> {
     say_other_text(said, Text::Sessions, line)
 }
 
-/// Adds which symbol of a line the language hasn't, if there is one.
-fn say_stray(said: &mut String, line: &[u8]) -> Result<bool, AllocError> {
+/// Adds which symbol of a line the language hasn't, or what is wrong with a text, whichever comes first, if there is one.
+fn say_stray(said: &mut String, line: &[u8], version: Version) -> Result<bool, AllocError> {
     let mut pieces = Pieces { rest: line };
     for _ in 0..line.len() {
         match pieces.next() {
@@ -139,13 +140,15 @@ fn say_stray(said: &mut String, line: &[u8]) -> Result<bool, AllocError> {
             Some(Piece::Stray) => {
                 let column = line.len().saturating_sub(pieces.rest.len());
                 let stray = line.get(column.saturating_sub(1)).copied().unwrap_or(b' ');
-                let symbol = Quoted(&[stray]);
-                let hint = hint_of(stray);
-                write!(
-                    said,
-                    "{symbol} in column {column} is no symbol of the language, which has = == != < <= > >= + - * ( ){hint}"
-                )?;
+                say_symbol(said, stray, column, version)?;
                 return Ok(true);
+            }
+            Some(Piece::Quoted(bytes)) => {
+                let after = line.len().saturating_sub(pieces.rest.len());
+                let column = after.saturating_sub(bytes.len()).saturating_sub(1);
+                if say_quoted(said, bytes, column, version)? {
+                    return Ok(true);
+                }
             }
             Some(_) => {}
         }
@@ -153,13 +156,52 @@ fn say_stray(said: &mut String, line: &[u8]) -> Result<bool, AllocError> {
     Ok(false)
 }
 
+/// Of a byte of a line that begins nothing.
+fn say_symbol(
+    said: &mut String,
+    stray: u8,
+    column: usize,
+    version: Version,
+) -> Result<(), AllocError> {
+    if stray == b'"' && version == Version::Two {
+        return write!(said, "the `\"` in column {column} has no closing `\"`");
+    }
+    let symbol = Quoted(&[stray]);
+    let hint = hint_of(stray, version);
+    write!(
+        said,
+        "{symbol} in column {column} is no symbol of the language, which has = == != < <= > >= + - * ( ){hint}"
+    )
+}
+
+/// Of what stands between two quotation marks, if it is no text, or none is allowed.
+fn say_quoted(
+    said: &mut String,
+    bytes: &[u8],
+    column: usize,
+    version: Version,
+) -> Result<bool, AllocError> {
+    if version == Version::One {
+        say_symbol(said, b'"', column, version)?;
+        return Ok(true);
+    }
+    say_text_bytes(said, bytes, column)
+}
+
 /// What to write in place of a symbol of other languages.
-fn hint_of(stray: u8) -> &'static str {
+fn hint_of(stray: u8, version: Version) -> &'static str {
     match stray {
         b'/' | b'%' => "; it does not divide",
         b';' => "; a statement ends with its line",
         b',' | b'.' => "; a number is digits alone",
-        b'"' | b'\'' => "; a value is a whole number, and a name has no quotes",
+        b'"' => { "; a value is a whole number, and a text needs `plan 2 run N` as the first line" }
+        b'\'' => {
+            if version == Version::One {
+                "; a value is a whole number, and a name has no quotes"
+            } else {
+                "; a text stands between two `\"`, and a name has no quotes"
+            }
+        }
         b'&' | b'|' => "; a condition is one comparison",
         b'!' => "; not to be equal is `!=`",
         b'{' | b'}' | b':' => "; a block begins with its line, and ends with `end`",
@@ -220,7 +262,7 @@ fn say_given(said: &mut String, line: &[u8], form: &str) -> Result<(), AllocErro
 /// Of a line with a condition.
 fn say_compared(said: &mut String, line: &[u8], form: &str) -> Result<(), AllocError> {
     for (wrong, right) in [("=>", ">="), ("=<", "<="), ("<>", "!=")] {
-        if line.windows(2).any(|two| two == wrong.as_bytes()) {
+        if has_outside_texts(line, wrong.as_bytes()) {
             write!(said, "`{wrong}` is written `{right}`: ")?;
             return say_expected(said, line, form);
         }
@@ -230,6 +272,19 @@ fn say_compared(said: &mut String, line: &[u8], form: &str) -> Result<(), AllocE
         return say_expected(said, line, form);
     }
     say_form(said, line, form)
+}
+
+/// Whether two bytes stand one after the other in a line, and in none of its texts.
+fn has_outside_texts(line: &[u8], two: &[u8]) -> bool {
+    let mut is_inside = false;
+    for pair in line.windows(2) {
+        if pair.first() == Some(&b'"') {
+            is_inside = !is_inside;
+        } else if !is_inside && pair == two {
+            return true;
+        }
+    }
+    false
 }
 
 /// Whether a line has a comparison, or else a `=`.
