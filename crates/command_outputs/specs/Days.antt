@@ -1,6 +1,6 @@
 -- What a day leaves, as files.
 use Rattle.std.specs.Prelude.{ℕ, Bool, true, false, ◌||◌, List, [], ◌∷◌, Option, Some, None, is_some}
-use Rattle.bottle_values.specs.Values.{Value}
+use Rattle.bottle_values.specs.declared.Value.{Value}
 use Rattle.office_map.specs.PlanValue.{PlanValue}
 use Rattle.frame_world.specs.Worlds.{World}
 use Rattle.plan_texts.specs.NextPlans.{IsNextPlan}

@@ -3,7 +3,7 @@
 ghost use Rattle.std.specs.Prelude.{◌≡◌, ◌≤◌, ◌∷◌, [], ℕ, All, IfErr, IsOkAnd, IsTrue, OnOk, is_some, length, map, true};
 ghost use Rattle.std.specs.Option.{option_copied};
 ghost use Rattle.std.specs.String.{string_bytes};
-ghost use Rattle.bottle_values.specs.Values as bottle;
+ghost use Rattle.bottle_values.specs.declared.Value as bottle;
 ghost use Rattle.serial_replay.specs.Serial.{ListsValues};
 ghost use Rattle.session_language.specs.Limits.{most_sessions};
 ghost use Rattle.session_programs.specs.Program.{fits};

@@ -3,6 +3,7 @@ pub mod Faults
 pub mod Reported
 pub mod Running
 pub mod Storing
+pub mod StoreRefusals
 pub mod OfServing
 pub mod OfSeals
 pub mod JournalTexts

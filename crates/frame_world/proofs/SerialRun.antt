@@ -3,7 +3,7 @@ use Rattle.std.proofs.Common.{◌≡◌, ℕ, zero, suc, ◌<◌, true, cond, Li
 use Rattle.std.specs.Prelude.{get_or, ◌==◌, All, Contains}
 use Rattle.std.proofs.lemmas.Bool.{eqb-true, eq-eqb, cases_eq, or_cases, or_left, or_right}
 use Rattle.std.proofs.lemmas.List.Elements.{All-head, All-tail}
-use Rattle.bottle_values.specs.Values.{Value}
+use Rattle.bottle_values.specs.declared.Value.{Value}
 use Rattle.bottle_values.specs.Lists.{is_among}
 use Rattle.bottle_values.specs.Maps.{put, reads_of, write_all}
 use Rattle.bottle_values.specs.MapLaws.{put_other}

@@ -4,7 +4,7 @@ use Rattle.std.specs.Prelude.{◌==◌, ◌&&◌, ◌||◌, not, is_some, unwrap
 use Rattle.std.specs.List.{list_all}
 use Rattle.std.proofs.lemmas.Bool.{and_parts, eqb-true, eq-eqb, or_left, or_right}
 use Rattle.std.proofs.lemmas.List.Elements.{All-head, All-tail, All-cons, All-append, All-filter}
-use Rattle.bottle_values.specs.Values.{Value}
+use Rattle.bottle_values.specs.declared.Value.{Value}
 use Rattle.bottle_values.specs.Operations.{nought}
 use Rattle.bottle_values.specs.Lists.{is_among}
 use Rattle.bottle_values.specs.Maps.{reads_of}
@@ -15,6 +15,7 @@ use Rattle.frame_codec.specs.Frame.{Fields}
 use Rattle.office_map.specs.PlanValue.{PlanValue, is_end, has_ends, peer, records_of}
 use Rattle.office_map.specs.NeighbourLaws.{peer_is, among_records}
 use Rattle.session_meaning.specs.ProgramValue.{ProgramValue}
+use Rattle.session_meaning.specs.Fitting.{block_fits}
 use Rattle.session_measures.specs.Needs.{needs_of}
 use Rattle.session_programs.specs.Program.{fits}
 use Rattle.window_link.specs.declared.arrival.Arrival.{Arrival}
@@ -86,8 +87,10 @@ agree_reads f g (x ∷ xs) h =
 pub needs_are_ours : (plan : PlanValue) (a : ℕ) (p : ProgramValue) (r : ℕ) → is_ours plan a p ≡ true → is_among (needs_of p.body) r ≡ true → is_end plan r a ≡ true
 needs_are_ours plan a p r ours among =
     let parts : ((p.office == a) ≡ true) × (fits plan p ≡ true) = and_parts (p.office == a) (fits plan p) ours in
-    let fit : (nat_lt p.office (length plan.offices) ≡ true) × (list_all (λ r. is_end plan r p.office) (needs_of p.body) ≡ true) = and_parts _ _ parts.1 in
-    ap (is_end plan r) (sym (eqb-true p.office a parts.0)) ∙ all_at (λ q. is_end plan q p.office) (needs_of p.body) r fit.1 among
+    let is_placed : Bool = nat_lt p.office (length plan.offices) && list_all (λ q. is_end plan q p.office) (needs_of p.body) in
+    let placed = (and_parts is_placed (block_fits plan.version p.body) parts.1).0 in
+    let ends = (and_parts (nat_lt p.office (length plan.offices)) (list_all (λ q. is_end plan q p.office) (needs_of p.body)) placed).1 in
+    ap (is_end plan r) (sym (eqb-true p.office a parts.0)) ∙ all_at (λ q. is_end plan q p.office) (needs_of p.body) r ends among
 
 -- ---- a bar that changed
 

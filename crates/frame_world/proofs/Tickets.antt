@@ -4,7 +4,7 @@ use Rattle.std.specs.Prelude.{◌==◌, get_or, All, AllPairs, filter, slice_get
 use Rattle.std.proofs.lemmas.Bool.{cases_eq, eq-eqb, ne_eqb}
 use Rattle.std.proofs.lemmas.List.{map-append, length-append}
 use Rattle.std.proofs.lemmas.List.Elements.{All-nil, All-cons, All-head, All-tail, All-append, All-weaker, All-filter, filter-append}
-use Rattle.bottle_values.specs.Values.{Value}
+use Rattle.bottle_values.specs.declared.Value.{Value}
 use Rattle.bottle_values.specs.Maps.{put}
 use Rattle.bottle_values.specs.ListLaws.{get_left}
 use Rattle.bottle_values.specs.MapLaws.{put_at, put_other, put_cases}

@@ -1,7 +1,7 @@
 -- What holds of every world that a list of events leads to, good events or refused.
 use Rattle.std.specs.Prelude.{◌≡◌, ◌≢◌, ◌<◌, ◌≤◌, ℕ, Bool, true, false, ◌&&◌, List, [], ◌∷◌, ◌++◌, length, map, slice_get, Some, Result, Ok, Err, All}
 use Rattle.std.specs.List.{list_all}
-use Rattle.bottle_values.specs.Values.{Value}
+use Rattle.bottle_values.specs.declared.Value.{Value}
 use Rattle.bottle_values.specs.Lists.{num}
 use Rattle.bottle_values.specs.Maps.{reads_of}
 use Rattle.frame_codec.specs.Frame.{Fields, IsFrame}

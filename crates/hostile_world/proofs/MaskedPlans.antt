@@ -5,7 +5,8 @@ use Rattle.std.specs.Option.{option_map_or}
 use Rattle.std.proofs.lemmas.List.Elements.{All-nil, All-filter}
 use Rattle.std.proofs.lemmas.List.Kept.{AllPairs-filter}
 use mathlib.Core.Path.{fun_ext}
-use Rattle.bottle_values.specs.Values.{Value}
+use Rattle.bottle_values.specs.declared.Value.{Value}
+use Rattle.bottle_values.specs.Versions.{admits}
 use Rattle.office_map.specs.declared.entries.PairEntry.{PairEntry}
 use Rattle.office_map.specs.declared.entries.RecordEntry.{RecordEntry}
 use Rattle.office_map.specs.PlanValue.{PlanValue, joins, are_neighbours, fork_end, fork_starts_at}
@@ -43,6 +44,7 @@ consistent_there h p c = record {
   record_names = λ i j d lt within. absurd (omega (arith, within));
   records_have_pairs = All-nil (λ (r : RecordEntry). IsTrue (are_neighbours (table_plan h p) r.first r.second));
   records_fit = λ a b. omega arith;
+  values_are_admitted = All-nil (λ (r : RecordEntry). IsTrue (admits p.version r.value));
 }
 
 -- ---- where forks start

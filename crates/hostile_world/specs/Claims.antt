@@ -1,7 +1,7 @@
 -- What holds between offices that keep to the rules, whatever frames others make up.
 use Rattle.std.specs.Prelude.{◌≡◌, ℕ, ◌≤◌, Bool, true, ◌&&◌, false, List, [], ◌∷◌, ◌++◌, filter, slice_get, All}
 use Rattle.std.specs.Option.{option_map_or}
-use Rattle.bottle_values.specs.Values.{Value}
+use Rattle.bottle_values.specs.declared.Value.{Value}
 use Rattle.office_map.specs.declared.entries.RecordEntry.{RecordEntry}
 use Rattle.office_map.specs.PlanValue.{PlanValue}
 use Rattle.office_map.specs.Consistency.{IsConsistent}

@@ -14,7 +14,7 @@ use crate::given::GivenJournal;
 use crate::stop::Stop;
 use frame_codec::Frame;
 use office_map::{OfficeId, Plan};
-use site_core::{Entry, EntryRef, Event, Office, Refusal, Reply};
+use site_core::{Entry, EntryRef, Event, Office, Refusal};
 use std::alloc::{AllocError, Global};
 use std::marker::Model;
 
@@ -165,16 +165,10 @@ pub fn gives(office: &mut Office, tag: u8, entry: &Entry) -> Result<bool, AllocE
     ensures kept { IfOk result (λ _. (more : List Entry) × (office.new ≡ record { plan = office.old.plan; me = office.old.me; entries = office.old.entries ++ more })) }
 {
     match office.step(tag, &entry.event) {
-        Ok(reply) => Ok(is_same(&reply, &entry.reply)),
+        Ok(reply) => Ok(reply.equals(&entry.reply)),
         Err(Refusal::Memory) => Err(AllocError),
         Err(_) => Ok(false),
     }
-}
-
-fn is_same(a: &Reply, b: &Reply) -> bool
-    ensures { IsTrue result ↔ (a.now ≡ b.now) }
-{
-    a == b
 }
 
 /// The frame that an event takes, if it does.

@@ -124,7 +124,10 @@ fn told_at(replays: &[Replay], sent: SentAt) -> Option<Frame>
 fn is_frame(made: &Option<Frame>, frame: &Frame) -> bool
     ensures { IsTrue result ↔ (made.now ≡ Some frame.now) }
 {
-    *made == Some(*frame)
+    match made {
+        Some(made) => made.equals(frame),
+        None => false,
+    }
 }
 
 /// Each field of a frame is in the format's range.

@@ -25,7 +25,7 @@
 //!     };
 //!     desk.meet(worker, &mut client);
 //!     match desk.outcome(rt, &mut client, ticket) {
-//!         Ok(Some(outcome)) => Some(outcome.ending.gives.as_slice().len()),
+//!         Ok(Some(outcome)) => Some(outcome.ending.gives.len()),
 //!         _ => None,
 //!     }
 //! }

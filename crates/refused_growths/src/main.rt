@@ -176,7 +176,9 @@ fn tell_outcome(rt: &HostRuntime, outcome: &Outcome) -> Result<(), Fault> {
     println!(rt; "outcome {office}.{ticket} {end:?}")?;
     tell_values(rt, "reads", &outcome.ending.reads)?;
     tell_values(rt, "writes", &outcome.ending.writes)?;
-    for value in outcome.ending.gives.as_slice() {
+    let gives = &outcome.ending.gives;
+    for i in 0..gives.len() {
+        let value = gives.get(i);
         println!(rt; "gives {value}")?;
     }
     Ok(())

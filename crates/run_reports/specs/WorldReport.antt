@@ -1,7 +1,7 @@
 -- The report of a world: what is printed of the sessions and the records of all offices.
 use Rattle.std.specs.Prelude.{ℕ, List, ◌++◌, get_or}
 use Rattle.std.specs.List.{flat_map}
-use Rattle.bottle_values.specs.Values.{Value}
+use Rattle.bottle_values.specs.declared.Value.{Value}
 use Rattle.bottle_values.specs.Operations.{nought}
 use Rattle.frame_world.specs.Worlds.{World}
 use Rattle.frame_world.specs.Ways.{bottles_of}

@@ -2,7 +2,7 @@
 use Rattle.std.proofs.Common.{◌≡◌, ◌+◌, ◌<◌, ℕ, zero, suc, List, ◌++◌, length, refl, ap, ◌∙◌, arith}
 use Rattle.std.specs.List.{flat_map, range_with_len}
 use Rattle.std.proofs.lemmas.Option.{get_or_from_slice_get}
-use Rattle.bottle_values.specs.Values.{Value}
+use Rattle.bottle_values.specs.declared.Value.{Value}
 use Rattle.bottle_values.specs.Operations.{nought}
 use Rattle.office_map.specs.PlanValue.{PlanValue}
 use Rattle.session_meaning.specs.declared.ending.Outcome.{Outcome}

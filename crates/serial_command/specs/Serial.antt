@@ -1,7 +1,7 @@
 -- What the command `serial` prints.
 use Rattle.std.specs.Prelude.{◌≡◌, ℕ, List, length, Option, Ok}
 use Rattle.std.specs.Io.KnownBytes.{Appends}
-use Rattle.bottle_values.specs.Values.{Value}
+use Rattle.bottle_values.specs.declared.Value.{Value}
 use Rattle.office_map.specs.PlanValue.{PlanValue}
 use Rattle.command_inputs.specs.Plans.{IsAcceptedAs, PlanAndSessions}
 use Rattle.session_meaning.specs.ProgramValue.{ProgramValue}

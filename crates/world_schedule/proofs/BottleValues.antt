@@ -5,7 +5,7 @@ use Rattle.std.specs.Option.{option_map_or}
 use Rattle.std.proofs.lemmas.Bool.{eq-eqb, and_from, or_left, or_right}
 use Rattle.std.proofs.lemmas.List.{get_or_read}
 use Rattle.std.proofs.lemmas.List.Elements.{All-contains, All-cons, All-nil}
-use Rattle.bottle_values.specs.Values.{Value}
+use Rattle.bottle_values.specs.declared.Value.{Value}
 use Rattle.frame_codec.specs.Frame.{Fields}
 use Rattle.office_map.specs.declared.entries.RecordEntry.{RecordEntry}
 use Rattle.office_map.specs.PlanValue.{PlanValue, are_neighbours, ends_of, is_end, has_end, has_ends, lies_between, peer}

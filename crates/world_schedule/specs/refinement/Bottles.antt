@@ -1,6 +1,6 @@
 -- The bottles of a record between two offices.
 use Rattle.std.specs.Prelude.{◌≡◌, ℕ, true, List, ◌++◌}
-use Rattle.bottle_values.specs.Values.{Value}
+use Rattle.bottle_values.specs.declared.Value.{Value}
 use Rattle.office_map.specs.PlanValue.{are_neighbours, is_end, peer}
 use Rattle.site_core.specs.Journals.{Site, office_of}
 use Rattle.frame_world.specs.Ways.{untaken, bottles_in, listed}

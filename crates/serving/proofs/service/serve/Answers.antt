@@ -1,7 +1,8 @@
-use Rattle.std.proofs.Common.{rules, ◌≡◌, ℕ, List, length, take, Option, refl, sym, ap, subst}
+use Rattle.std.proofs.Common.{rules, ◌≡◌, ℕ, List, length, take, Option, refl, sym, ap, subst, ◌∙◌}
 use Rattle.std.specs.Prelude.{IfSome}
 use Rattle.std.specs.Result.{result_err}
 use Rattle.office_journal.specs.declared.event.Entry.{Entry}
+use Rattle.site_core.specs.Journals.{Site}
 use Rattle.locked_office.specs.Calls.{Key, DeskPass}
 use Rattle.durable_turns.specs.Letting.{LetsOut}
 use Rattle.socket_pump.specs.Last.{last_of}
@@ -24,7 +25,7 @@ start-requires-clause-text g c =
     let me = c.args.me in
     let kept = c.args.kept in
     let stood = g.T.Store.stood c.args.store.now.store in
-    let seen : c.in_ok-desk.pass.seen ≡ kept.site.entries = search rules in
+    let seen : c.in_ok-desk.pass.seen ≡ kept.site.entries = ap (λ (x : DeskPass). x.seen) c.in_ok-desk.ensures.pass ∙ ap (λ (s : Site). s.entries) c.into_office-office.ensures.site in
     let size : c.bytes-bytes.result ≡ kept.bytes = search rules in
     subst (λ (n : ℕ). IfSome stood (λ text. (length text ≡ n) × HasText p me text c.in_ok-desk.pass.seen)) (sym size) (subst (λ (l : List Entry). IfSome stood (λ text. (length text ≡ kept.bytes) × HasText p me text l)) (sym seen) c.requires.text)
 
@@ -40,7 +41,7 @@ returns-clause-serves g c =
     let first : Standing = standing c.in_ok-desk.pass a (last_of c.args.station.now.pump.lasts) in
     let key : k ≡ (p, me) = search rules in
     let tag : c.in_ok-desk.pass.tag ≡ 0 = ap (λ (x : DeskPass). x.tag) c.in_ok-desk.ensures.pass in
-    let seen : c.in_ok-desk.pass.seen ≡ kept.site.entries = search rules in
+    let seen : c.in_ok-desk.pass.seen ≡ kept.site.entries = ap (λ (x : DeskPass). x.seen) c.in_ok-desk.ensures.pass ∙ ap (λ (s : Site). s.entries) c.into_office-office.ensures.site in
     let fault : result_err c.start.result ≡ c.err-fault.result = sym c.err-fault.ensures.value in
     let ready : c.deref.result.now ≡ ready_as c.args.form (tickets_of kept.site) = search rules in
     let input : g.I.Read.remaining c.new-incoming.result.input ≡ g.I.Read.remaining c.args.input = ap g.I.Read.remaining c.new-incoming.ensures.input in

@@ -1,6 +1,6 @@
 use Rattle.std.proofs.Common.{subst}
 use Rattle.std.specs.Prelude.{Contains, IfSome}
-use Rattle.bottle_values.specs.Values.{Value}
+use Rattle.bottle_values.specs.declared.Value.{Value}
 use Rattle.frame_world.specs.Headline.{HasSerialValues}
 use Rattle.world_schedule.specs.refinement.Bottles.{bottles_at}
 use Rattle.world_schedule.specs.refinement.WorldOfCode.{frames_in}
