@@ -5,6 +5,7 @@ ghost use Rattle.locked_office.specs.Calls.{tag_of};
 ghost use Rattle.journal_texts.specs.Written.{journal_text};
 ghost use Rattle.durable_turns.specs.Letting.{StoreHas};
 
+use bottle_values::Value;
 use durable_turns::{Mail, TurnFault};
 use journal_stores::{MemoryStore, Store};
 use journal_texts::{add_header, read_journal, text, whole_lines};
@@ -222,8 +223,15 @@ fn value_after<R: Wait>(rt: &R, side: &mut Side) -> Option<i64> {
             .writes
             .as_slice()
             .first()
-            .map(|w| w.1.number()),
+            .and_then(|w| number_in(&w.1)),
         _ => None,
+    }
+}
+
+fn number_in(value: &Value) -> Option<i64> {
+    match value {
+        Value::Number(number) => Some(*number),
+        Value::Text(_) => None,
     }
 }
 

@@ -38,6 +38,13 @@ const READS_ALL: &str = "session a\ngive read x + read y + read z\nend\n";
 
 const GIVES: &str = "session a\ngive 1\nend\n";
 
+/// The two offices under version 2: each of the records is a text.
+const TEXTS: &str =
+    "plan 2 run 42\noffice a -\noffice b -\npair a b fork a\nrecord x a b \"no\" at a\nrecord y a b \"hi\" at b\n";
+
+/// A session that joins them.
+const JOIN: &str = "session a\nset x = read x + read y\ngive read y\nend\n";
+
 /// What asks for the second record, and what brings it.
 const ASK: &str = "445001010000002a000100000000000000010000000000000000030001";
 
@@ -53,14 +60,25 @@ const ASK_Z: &str = "445001010000002a000100000000000000030000000000000000030002"
 /// A count alone, of 1.
 const COUNT: &str = "445001020000002a010000000000000000000000000000000001";
 
+/// The frames of version 02: what asks for the second record, what brings it, and what would bring a text that differs in its
+/// last byte.
+const ASK_2: &str = "445002010000002a000100000000000000010000000000000000030001";
+
+const BRING_HI: &str = "445002010000002a01000000000000000001000000000000000104000102026869";
+
+const BRING_HH: &str = "445002010000002a01000000000000000001000000000000000104000102026868";
+
 /// The frames, by the names that journals have for them here.
-static FRAMES: [(&str, &str); 6] = [
+static FRAMES: [(&str, &str); 9] = [
     ("ask", ASK),
     ("bring", BRING),
     ("ask_x", ASK_X),
     ("ask_y", ASK_Y),
     ("ask_z", ASK_Z),
     ("count", COUNT),
+    ("ask_2", ASK_2),
+    ("bring_hi", BRING_HI),
+    ("bring_hh", BRING_HH),
 ];
 
 /// The first office's journal of a session that moves an amount: of each entry the event, and the reply where it isn't `Done`.
@@ -84,7 +102,7 @@ type Row = (
     &'static str,
 );
 
-static ROWS: [Row; 25] = [
+static ROWS: [Row; 30] = [
     (PAIR, MOVE, MOVES, GIVES_IT, true, MOVED),
     // The second journal lacks all, or the first one what it sent: the other office stands.
     (PAIR, MOVE, MOVES, "", true, "unwoven a 7"),
@@ -245,6 +263,49 @@ static ROWS: [Row; 25] = [
         "took bring taken",
         true,
         "unwoven a 1",
+    ),
+    // A text is brought.
+    (
+        TEXTS,
+        JOIN,
+        "submit 1; start; hungry; eat; askbottle 1; send 1 1 ask_2; took bring_hi taken; drink; leave; work 100; finish",
+        "took ask_2 taken; givebottle 1; send 0 1 bring_hi",
+        true,
+        MOVED,
+    ),
+    // One byte of it is another: where it is taken, and where it is sent.
+    (
+        TEXTS,
+        JOIN,
+        "submit 1; start; hungry; eat; askbottle 1; send 1 1 ask_2; took bring_hh taken; drink; leave; work 100; finish",
+        "took ask_2 taken; givebottle 1; send 0 1 bring_hi",
+        true,
+        "unwoven a 7",
+    ),
+    (
+        TEXTS,
+        JOIN,
+        "submit 1; start; hungry; eat; askbottle 1; send 1 1 ask_2",
+        "took ask_2 taken; givebottle 1; send 0 1 bring_hh",
+        true,
+        "unwoven b 3",
+    ),
+    // Frames of version 01: one is sent, and one is taken.
+    (
+        TEXTS,
+        JOIN,
+        "submit 1; start; hungry; eat; askbottle 1; send 1 1 ask",
+        "",
+        true,
+        "unwoven a 6",
+    ),
+    (
+        TEXTS,
+        JOIN,
+        "submit 1; start; hungry; eat; askbottle 1; send 1 1 ask_2",
+        "took ask taken",
+        true,
+        "unwoven b 1",
     ),
 ];
 

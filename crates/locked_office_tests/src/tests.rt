@@ -530,7 +530,9 @@ fn has_moved(outcome: &Option<Outcome>) -> bool {
         && ending.end == End::Done
         && are(&ending.reads, 100, 0)
         && are(&ending.writes, 70, 30)
-        && ending.gives.as_slice() == [Value::from(70), Value::from(30)].as_slice()
+        && ending.gives.len() == 2
+        && ending.gives.get(0) == Value::from(70)
+        && ending.gives.get(1) == Value::from(30)
 }
 
 /// Whether the first two records have these values.

@@ -1,5 +1,5 @@
-use bottle_values::Value;
-use office_map::Plan;
+use bottle_values::{Text, Value};
+use office_map::{Plan, RecordId};
 use plan_texts::next_plan;
 use std::alloc::Global;
 use std::process::Abort;
@@ -57,4 +57,26 @@ fn pairs_keep_their_order(rt: HostRuntime) -> Result<(), Fail> {
         "plan 1 run 0\noffice c -\noffice a -\noffice b -\npair b c fork b\npair a c fork c\npair b a fork b\n",
         "plan 1 run 1\noffice c -\noffice a -\noffice b -\npair b c fork b\npair a c fork c\npair b a fork b\n",
     )
+}
+
+// A plan of version 2 is written as one, with texts between two `"`.
+#[test]
+fn texts_are_carried_on(rt: HostRuntime) -> Result<(), Fail> {
+    let plan =
+        "plan 2 run 7\noffice a -\noffice b -\npair a b fork a\nrecord x a b \"\" at a\nrecord y b a 5 at b\nrecord z a b \"old\" at b\n";
+    let plan = Plan::read(rt.alloc(), plan.as_bytes())?;
+    assert!(rt; plan.records() == 3);
+    let values = [
+        Value::Text(Text::of(b"two words # at a").expect(&rt, "a text")),
+        Value::from(-5),
+        plan.start_value(RecordId::new(0)),
+    ];
+    let text = next_plan(rt.alloc(), &plan, &values)?;
+    assert_eq!(rt;
+        text.as_str(),
+        "plan 2 run 8\noffice a -\noffice b -\npair a b fork a\nrecord x a b \"two words # at a\" at a\nrecord y b a -5 at b\nrecord z a b \"\" at b\n"
+    );
+    let next = Plan::read(rt.alloc(), text.as_bytes())?;
+    assert!(rt; next.records() == 3 && next.start_value(RecordId::new(0)) == values[0]);
+    Ok(())
 }

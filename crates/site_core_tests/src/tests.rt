@@ -16,6 +16,7 @@ mod refusal_order;
 mod rows;
 mod rule_rows;
 mod shown;
+mod texts;
 
 /// Two offices, and two records of theirs.
 const PAIR: &str =

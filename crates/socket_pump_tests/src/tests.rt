@@ -143,8 +143,15 @@ fn value_after<R: Wait>(rt: &R, side: &mut Side, ticket: u32) -> Option<i64> {
             .writes
             .as_slice()
             .first()
-            .map(|w| w.1.number()),
+            .and_then(|w| number_in(&w.1)),
         _ => None,
+    }
+}
+
+fn number_in(value: &Value) -> Option<i64> {
+    match value {
+        Value::Number(number) => Some(*number),
+        Value::Text(_) => None,
     }
 }
 

@@ -394,8 +394,9 @@ fn describe_ending(text: &mut String, outcome: &Outcome) -> Result<(), AllocErro
     text.push_str(" writes")?;
     describe_values(text, &outcome.ending.writes)?;
     text.push_str(" gives")?;
-    for value in outcome.ending.gives.as_slice() {
-        write!(text, " {}", value)?;
+    let gives = &outcome.ending.gives;
+    for i in 0..gives.len() {
+        write!(text, " {}", gives.get(i))?;
     }
     text.push_str("; ")
 }

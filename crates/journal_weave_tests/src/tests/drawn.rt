@@ -4,6 +4,7 @@ ghost use Rattle.std.specs.Prelude.{◌≡◌, length, IsTrue, IfOk};
 ghost use Rattle.journal_weave.specs.Given.{entries_in};
 ghost use Rattle.journal_weave.specs.WorldRecords.{AreRecordOf};
 
+use bottle_values::Version;
 use frame_world::{WorldEvent, WorldRefusal};
 use journal_weave::{GivenJournal, weave};
 use office_map::{OfficeId, Plan};
@@ -43,6 +44,22 @@ fn journals_of_drawn_worlds_weave(rt: HostRuntime) -> Result<(), Fail> {
     Ok(())
 }
 
+/// So do those of a drawn world whose records are texts.
+#[test]
+fn journals_with_texts_of_a_drawn_world_weave(rt: HostRuntime) -> Result<(), Fail> {
+    let course = Course {
+        offices: 3,
+        seed: 770,
+        events: 4_000,
+    };
+    let text = texts_plan(rt.alloc(), course.offices)?;
+    let told = under_plan(rt.alloc(), text.as_bytes(), course)?;
+    assert!(rt; told.entries > 1000);
+    assert_eq!(rt; told.accepted, told.entries);
+    assert_eq!(rt; told.same, told.entries);
+    Ok(())
+}
+
 /// What is drawn.
 #[derive(Clone, Copy)]
 pub struct Course {
@@ -63,40 +80,51 @@ fn under_plan(alloc: Global, text: &[u8], course: Course) -> Result<Remade, Fail
 
 /// A ring of pairs with a record each.
 pub fn plan_text(alloc: Global, offices: u8) -> Result<String, AllocError> {
-    let mut text = String::new(alloc);
+    plan_of(alloc, "plan 1 run 7\n", "100", offices)
+}
+
+/// The ring under version 2, where each record is a text.
+fn texts_plan(alloc: Global, offices: u8) -> Result<String, AllocError> {
+    plan_of(alloc, "plan 2 run 7\n", "\"\"", offices)
+}
+
+fn plan_of(alloc: Global, header: &str, value: &str, offices: u8) -> Result<String, AllocError> {
+    let mut text = String::from_str(alloc, header)?;
     office_lines(&mut text, offices)?;
-    ring_lines(&mut text, offices)?;
+    ring_lines(&mut text, value, offices)?;
     Ok(text)
 }
 
 fn office_lines(text: &mut String, offices: u8) -> Result<(), AllocError> {
-    text.push_str("plan 1 run 7\n")?;
     for a in 0..offices {
         write!(text, "office o{a} -\n")?;
     }
     Ok(())
 }
 
-fn ring_lines(text: &mut String, offices: u8) -> Result<(), AllocError> {
+fn ring_lines(text: &mut String, value: &str, offices: u8) -> Result<(), AllocError> {
     for b in 1..offices {
-        pair_lines(text, b.saturating_sub(1), b)?;
+        pair_lines(text, value, b.saturating_sub(1), b)?;
     }
     if offices > 2 {
-        pair_lines(text, 0, offices.saturating_sub(1))?;
+        pair_lines(text, value, 0, offices.saturating_sub(1))?;
     }
     Ok(())
 }
 
-fn pair_lines(text: &mut String, a: u8, b: u8) -> Result<(), AllocError> {
+fn pair_lines(text: &mut String, value: &str, a: u8, b: u8) -> Result<(), AllocError> {
     write!(text, "pair o{a} o{b} fork o{a}\n")?;
-    write!(text, "record r{a}x{b} o{a} o{b} 100 at o{b}\n")
+    write!(text, "record r{a}x{b} o{a} o{b} {value} at o{b}\n")
 }
 
-/// A session of each office, which adds to its first record.
-fn sessions_text(alloc: Global, offices: u8) -> Result<String, AllocError> {
+/// A session of each office: where records are numbers it adds to its first record, and else it joins to it, or puts a text there.
+fn sessions_text(alloc: Global, version: Version, offices: u8) -> Result<String, AllocError> {
     let mut text = String::new(alloc);
     for at in 0..offices {
-        add_session(&mut text, at)?;
+        match version {
+            Version::One => add_session(&mut text, at)?,
+            Version::Two => add_text_session(&mut text, at)?,
+        }
     }
     Ok(text)
 }
@@ -106,6 +134,17 @@ fn add_session(text: &mut String, at: u8) -> Result<(), AllocError> {
     let second = first.saturating_add(1);
     write!(text, "session o{at}\nset r{first}x{second} = ")?;
     write!(text, "read r{first}x{second} + {at}\n")?;
+    write!(text, "give read r{first}x{second}\nend\n")
+}
+
+fn add_text_session(text: &mut String, at: u8) -> Result<(), AllocError> {
+    let first = at.saturating_sub(1);
+    let second = first.saturating_add(1);
+    write!(text, "session o{at}\nset r{first}x{second} = ")?;
+    if at % 2 == 0 {
+        write!(text, "read r{first}x{second} + ")?;
+    }
+    write!(text, "\"o{at}\"\n")?;
     write!(text, "give read r{first}x{second}\nend\n")
 }
 
@@ -135,7 +174,7 @@ pub fn happens_in(alloc: Global, world: &mut World, course: Course) -> Result<()
 }
 
 fn programs_of(alloc: Global, plan: &Plan, offices: u8) -> Result<Vec<Program>, Fail> {
-    let sessions = sessions_text(alloc, offices)?;
+    let sessions = sessions_text(alloc, plan.version(), offices)?;
     programs_in(alloc, sessions.as_bytes(), plan)
 }
 

@@ -24,7 +24,7 @@ fn given<R: Wait>(rt: &R, alloc: Global, office: Office, program: &Program) -> O
     };
     desk.meet(worker, &mut client);
     match desk.outcome(rt, &mut client, ticket) {
-        Ok(Some(outcome)) => Some(outcome.ending.gives.as_slice().len()),
+        Ok(Some(outcome)) => Some(outcome.ending.gives.len()),
         _ => None,
     }
 }

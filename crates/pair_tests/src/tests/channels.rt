@@ -34,7 +34,7 @@ fn ends(rt: &impl Abort, alloc: Global, text: &str) -> Result<(Channel, Channel)
 fn arrival(taken: Result<Taken, ChannelFault>) -> Result<Arrival, ChannelFault> {
     Ok(match taken? {
         Taken::Acked => Arrival::Acked,
-        Taken::Fresh(messages) => match messages.first() {
+        Taken::Fresh(messages) => match messages.as_slice().first() {
             Some(msg) => Arrival::Fresh(*msg),
             None => Arrival::Acked,
         },
@@ -46,7 +46,7 @@ fn arrival(taken: Result<Taken, ChannelFault>) -> Result<Arrival, ChannelFault> 
 
 // One thing goes over, in a frame that arrives at once.
 fn goes(rt: &impl Abort, from: &mut Channel, to: &mut Channel, msg: Msg) {
-    assert!(rt; from.holds(Thing::of(msg)));
+    assert!(rt; from.holds(Thing::of(msg)) && from.carries(&msg));
     assert_eq!(rt; from.send(msg), Ok(()));
     let waiting = from.waiting().len();
     assert!(rt; 0 < waiting && waiting <= 4, "{waiting} wait");
@@ -115,6 +115,7 @@ fn what_was_kept_is_thrown_out(rt: HostRuntime) -> Result<(), Fail> {
 fn what_was_kept_follows(rt: HostRuntime) -> Result<(), Fail> {
     let (mut a, _) = ends(&rt, rt.alloc(), TWO_RECORDS)?;
     for (number, msg) in [(3, Msg::AskBottle(0)), (2, bottle(1, 7))] {
+        assert!(rt; msg.is_carried(Version::One));
         comes(
             &rt,
             &mut a,
@@ -239,6 +240,7 @@ fn acts(
     // A copy, since the borrow checker takes a message that was passed for lent.
     let queued = msg;
     if end.holds(Thing::of(msg)) {
+        assert!(rt; end.carries(&queued));
         assert_eq!(rt; end.send(queued), Ok(()));
     }
     let i = draws.below(4);

@@ -1,9 +1,8 @@
 ghost use Rattle.std.specs.Prelude.{◌<◌};
 ghost use Rattle.frame_codec.specs.Limits.{sequence_space};
 
-use bottle_values::Version;
-use frame_codec::{Frame, Msg};
-use std::alloc::{AllocError, Global};
+use bottle_values::{Text, Value, Version};
+use frame_codec::{Frame, Msg, decode};
 use std::process::Abort;
 use std::test::Fail;
 use window_link::{Arrival, Link, LinkFault, Waiting};
@@ -26,33 +25,29 @@ fn the_greatest_number_is_the_last(rt: HostRuntime) {
 }
 
 #[test]
-fn eighteen_messages_wait(rt: HostRuntime) -> Result<(), Fail> {
+fn eighteen_messages_wait(rt: HostRuntime) {
     let mut link = Link::open(42, 0, 1, Version::One);
     for bottle in 0..30 {
         if link.has_room() {
             assert_eq!(rt; link.queue(Msg::AskBottle(bottle)), Ok(()));
         }
     }
-    let mut asked = Vec::new(rt.alloc());
-    for bottle in 0..18 {
-        asked.push(Msg::AskBottle(bottle))?;
-    }
-    assert_eq!(rt; listed(rt.alloc(), link.waiting())?, asked);
-    Ok(())
+    eighteen_wait(&rt, link.waiting(), 0);
 }
 
-// The messages that wait, the oldest first.
-fn listed(alloc: Global, waiting: &Waiting) -> Result<Vec<Msg>, AllocError> {
-    let mut messages = Vec::new(alloc);
+// Eighteen messages wait, the oldest of which asks for this bottle, and each next one for the next.
+fn eighteen_wait(rt: &impl Abort, waiting: &Waiting, first: u16) {
+    let mut bottle = first;
     for i in 0..waiting.len() {
-        messages.push(waiting.message(i))?;
+        assert_eq!(rt; waiting.message(i), Msg::AskBottle(bottle));
+        bottle = bottle.wrapping_add(1);
     }
-    Ok(messages)
+    assert_eq!(rt; waiting.len(), 18);
 }
 
 // Messages go on round the places: those that are left, and those that came since, are told in order.
 #[test]
-fn messages_wait_in_order_round_the_ring(rt: HostRuntime) -> Result<(), Fail> {
+fn messages_wait_in_order_round_the_ring(rt: HostRuntime) {
     let mut link = Link::open(42, 0, 1, Version::One);
     for bottle in 0..18 {
         if link.has_room() {
@@ -60,17 +55,12 @@ fn messages_wait_in_order_round_the_ring(rt: HostRuntime) -> Result<(), Fail> {
         }
     }
     for acked in 0..60 {
-        let mut asked = Vec::new(rt.alloc());
-        for bottle in acked..acked + 18 {
-            asked.push(Msg::AskBottle(bottle))?;
-        }
-        assert_eq!(rt; listed(rt.alloc(), link.waiting())?, asked);
+        eighteen_wait(&rt, link.waiting(), acked);
         let ack = Frame::ack(Version::One, 42, 1, 0, u64::from(acked) + 1);
         assert_eq!(rt; link.arrive(&ack), Ok(Arrival::Acked));
         assert!(rt; link.has_room());
         assert_eq!(rt; link.queue(Msg::AskBottle(acked + 18)), Ok(()));
     }
-    Ok(())
 }
 
 // What the frame is to the link, and then how many messages it took, has acknowledged, and lets wait.
@@ -143,6 +133,43 @@ fn the_other_version_is_refused(rt: HostRuntime) {
     }
 }
 
+// A bottle with "hi", from 1 to 0.
+const HI: [u8; 33] =
+    *b"\x44\x50\x02\x01\x00\x00\x00\x2a\x01\x00\x00\x00\x00\x00\x00\x00\x00\x01\x00\x00\x00\x00\x00\x00\x00\x01\x04\x00\x01\x02\x02\x68\x69";
+
+// A link of version 01 refuses a frame with a text, and none can be queued on it.
+#[test]
+fn texts_go_on_links_of_version_02(rt: HostRuntime) {
+    let Some(text) = Text::of(b"hi") else {
+        panic!(rt; "no text")
+    };
+    let msg = Msg::Bottle(1, Value::Text(text));
+    let Ok(frame) = decode(&HI) else {
+        panic!(rt; "no frame")
+    };
+    let mut one = Link::open(42, 0, 1, Version::One);
+    assert!(rt; !one.carries(&msg));
+    assert_eq!(rt; one.queue(Msg::AskFork), Ok(()));
+    comes(
+        &rt,
+        &mut one,
+        frame,
+        Err(LinkFault::WrongVersion),
+        (0, 0, 1),
+    );
+    let mut two = Link::open(42, 0, 1, Version::Two);
+    assert!(rt; two.carries(&msg));
+    assert_eq!(rt; two.queue(Msg::AskFork), Ok(()));
+    comes(&rt, &mut two, frame, Ok(Arrival::Fresh(msg)), (1, 1, 0));
+    assert!(rt; two.has_room() && two.carries(&msg));
+    assert_eq!(rt; two.queue(msg), Ok(()));
+    assert!(rt; two.waiting().len() == 1);
+    assert_eq!(rt;
+        two.frame(1),
+        Frame::data(Version::Two, 42, 0, 1, 2, 1, msg)
+    );
+}
+
 #[test]
 fn counts_are_used_in_every_frame(rt: HostRuntime) {
     let mut link = with_two_waiting(&rt);
@@ -162,6 +189,7 @@ fn brings(rt: &impl Abort, link: &mut Link, number: u64, msg: Msg, arrival: Arri
     requires first { 0 < number }
     requires last { number < sequence_space }
 {
+    assert!(rt; msg.is_carried(Version::One));
     let frame = Frame::data(Version::One, 42, 1, 0, number, 0, msg);
     comes(rt, link, frame, Ok(arrival), (taken, 0, 0));
 }

@@ -1,3 +1,4 @@
+use bottle_values::Version;
 use office_map::{OfficeId, Plan};
 use run_remarks::{Remarks, Way, unmet_by};
 use session_language::read_sessions;
@@ -25,6 +26,7 @@ fn contact(went: u64, lost: u64, cause: Option<i32>, heard: u64) -> Contact {
         lost,
         cause,
         heard,
+        version: None,
     }
 }
 
@@ -168,13 +170,14 @@ fn neighbours_that_were_never_met_are_told(rt: HostRuntime) -> Result<(), Fail> 
 }
 
 /// What is said of a neighbour, by what is known of the way to it.
-static SAID: [(Contact, &str); 5] = [
+static SAID: [(Contact, &str); 6] = [
     (
         Contact {
             went: 0,
             lost: 1,
             cause: Some(111),
             heard: 4,
+            version: Some(Version::One),
         },
         "a never reached b at 127.0.0.1:4001: Connection refused (os error 111)",
     ),
@@ -184,6 +187,7 @@ static SAID: [(Contact, &str); 5] = [
             lost: 1,
             cause: None,
             heard: 0,
+            version: None,
         },
         "a never reached b at 127.0.0.1:4001",
     ),
@@ -193,6 +197,7 @@ static SAID: [(Contact, &str); 5] = [
             lost: 1,
             cause: Some(111),
             heard: 0,
+            version: None,
         },
         "a never heard b at 127.0.0.1:4001",
     ),
@@ -202,6 +207,7 @@ static SAID: [(Contact, &str); 5] = [
             lost: 0,
             cause: None,
             heard: 0,
+            version: None,
         },
         "a never heard b at 127.0.0.1:4001",
     ),
@@ -211,8 +217,19 @@ static SAID: [(Contact, &str); 5] = [
             lost: 1,
             cause: Some(111),
             heard: 1,
+            version: Some(Version::One),
         },
         "",
+    ),
+    (
+        Contact {
+            went: 1,
+            lost: 0,
+            cause: None,
+            heard: 3,
+            version: Some(Version::Two),
+        },
+        "a takes no frame of b: they are of version 2, its own plan is `plan 1` (L4 WrongVersion)",
     ),
 ];
 

@@ -10,6 +10,7 @@ mod blocks;
 mod caller;
 mod limits;
 mod refusals;
+mod texts;
 
 /// Three offices; `x` and `y` are of `a` and `b`, `w` is of `b` and `c`.
 const PLAN: &str =
@@ -55,7 +56,7 @@ fn is_printed_as(
     source: &str,
     canonical: &str,
 ) -> Result<(), Fail> {
-    let printed = texts(alloc, source)?;
+    let printed = canonical_texts(alloc, source)?;
     assert_eq!(rt; printed.as_str(), canonical, "of {source:?}");
     Ok(())
 }
@@ -63,7 +64,7 @@ fn is_printed_as(
 #[test]
 fn sessions_stand_in_order(rt: HostRuntime) -> Result<(), Fail> {
     let text = "session b\nend\nsession a\ngive 1\nend\n\nsession b\ngive 2\nend\n";
-    let printed = texts(rt.alloc(), text)?;
+    let printed = canonical_texts(rt.alloc(), text)?;
     let expected = "session b\nend\nsession a\ngive 1\nend\nsession b\ngive 2\nend\n";
     assert_eq!(rt; printed.as_str(), expected);
     Ok(())
@@ -139,12 +140,12 @@ fn fits(alloc: Global, text: &str, plan: &Plan, other: &Plan) -> Result<String, 
 }
 
 /// The canonical texts of a text's sessions, one after another.
-fn texts(alloc: Global, text: &str) -> Result<String, Fail> {
+fn canonical_texts(alloc: Global, text: &str) -> Result<String, Fail> {
     let plan = Plan::read(alloc, PLAN.as_bytes())?;
-    texts_under(alloc, &plan, text)
+    canonical_texts_under(alloc, &plan, text)
 }
 
-fn texts_under(alloc: Global, plan: &Plan, text: &str) -> Result<String, Fail> {
+fn canonical_texts_under(alloc: Global, plan: &Plan, text: &str) -> Result<String, Fail> {
     let programs = read_sessions(alloc, text.as_bytes(), plan)?;
     Ok(printed(alloc, plan, &programs)?)
 }

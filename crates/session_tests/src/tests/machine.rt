@@ -1,7 +1,7 @@
 //! Sessions in pieces of 1, 2 and 1,000, with lengths and endings worked out by hand. Each begins in the memory that the one
-//! before it left.
+//! before it left, be that of numbers alone or of texts too.
 
-use bottle_values::Value;
+use bottle_values::{Text, Value};
 use office_map::{Plan, RecordId};
 use session_language::{LangFault, SessionRefusal, read_sessions};
 use session_machine::{Code, Progress, Spare, Work};
@@ -19,8 +19,19 @@ mod walk;
 const PLAN: &str =
     "plan 1 run 42\noffice a -\noffice b -\npair a b fork a\nrecord x a b 100 at a\nrecord y a b 0 at b\n";
 
+/// The same offices and records, where y holds a text.
+const PLAN_OF_TEXTS: &str =
+    "plan 2 run 42\noffice a -\noffice b -\npair a b fork a\nrecord x a b 100 at a\nrecord y a b \"no\" at b\n";
+
 /// More than the longest session.
 const MOST_PIECES: u32 = 100_000;
+
+/// The memory that work left for other work, and what y holds as a session begins.
+#[derive(Drop)]
+struct Kept {
+    spare: Option<Spare>,
+    y: Value,
+}
 
 /// Sessions, each with its length where x is 100 and y is 0, and how it ends.
 static SESSIONS: [(&str, u32, &str); 11] = [
@@ -74,6 +85,114 @@ static SESSIONS: [(&str, u32, &str); 11] = [
         "session a\nrepeat 2\nif 1 == 1\ngive 5\nrequire 1 == 2 else 7\nend\nend\nend\n",
         11,
         "refused 7 reads writes gives",
+    ),
+];
+
+/// Sessions with texts, each with its length where x is 100 and y is "no", and how it ends.
+static TEXTS: [(&str, u32, &str); 20] = [
+    (
+        "session a\ngive \"hi\"\nend\n",
+        3,
+        "done reads writes gives \"hi\"",
+    ),
+    (
+        "session a\nrequire read y == \"no\" else 3\nset y = read y + \"-yes\"\ngive read y\nend\n",
+        11,
+        "done reads 1=\"no\" writes 1=\"no-yes\" gives \"no-yes\"",
+    ),
+    (
+        "session a\nset x = read y + read x\nend\n",
+        3,
+        "mismatch reads 0=100 1=\"no\" writes gives",
+    ),
+    // No text stands in it; one is read.
+    (
+        "session a\nlet v = read y\nset x = v + v\ngive read x\ngive v\nend\n",
+        11,
+        "done reads 0=100 1=\"no\" writes 0=\"nono\" gives \"nono\" \"no\"",
+    ),
+    // None is read; one stands in it, and mostly it has numbers.
+    (
+        "session a\nset x = read x + 1\nlet v = \"\"\nlet w = v + \"\"\nset y = w\ngive read x\nend\n",
+        15,
+        "done reads 0=100 1=\"no\" writes 0=101 1=\"\" gives 101",
+    ),
+    (
+        "session a\nif \"1\" == 1\ngive 1\nelse\ngive \"other\"\nend\nend\n",
+        7,
+        "done reads writes gives \"other\"",
+    ),
+    (
+        "session a\nrequire \"1\" != 1 else 9\nrequire 1 != \"1\" else 8\nrequire \"b\" != \"a\" else 7\nrequire \"ab\" == \"a\" + \"b\" else 6\nend\n",
+        19,
+        "done reads writes gives",
+    ),
+    (
+        "session a\nrequire \"ab\" == \"ba\" else 6\nend\n",
+        4,
+        "refused 6 reads writes gives",
+    ),
+    (
+        "session a\ngive 1\nrequire \"a\" < \"b\" else 6\nend\n",
+        5,
+        "mismatch reads writes gives",
+    ),
+    (
+        "session a\nset x = 1\nif 2 >= \"2\"\ngive 1\nend\nend\n",
+        5,
+        "mismatch reads 0=100 writes gives",
+    ),
+    (
+        "session a\ngive -\"a\"\nend\n",
+        2,
+        "mismatch reads writes gives",
+    ),
+    (
+        "session a\ngive \"a\" - \"a\"\nend\n",
+        3,
+        "mismatch reads writes gives",
+    ),
+    (
+        "session a\ngive 2 * \"a\"\nend\n",
+        3,
+        "mismatch reads writes gives",
+    ),
+    (
+        "session a\ngive 2 + \"a\" * 3\nend\n",
+        4,
+        "mismatch reads writes gives",
+    ),
+    // 64 bytes, and one more
+    (
+        "session a\ngive \"0123456789012345678901234567890123456789012345678901234567890123\" + \"\"\nend\n",
+        5,
+        "done reads writes gives \"0123456789012345678901234567890123456789012345678901234567890123\"",
+    ),
+    (
+        "session a\nset x = \"0123456789012345678901234567890123456789012345678901234567890123\"\ngive read x + \" \"\nend\n",
+        5,
+        "overflow reads 0=100 writes gives",
+    ),
+    (
+        "session a\nlet v = \"\"\nrepeat 3\nlet v = v + \"ab\"\nend\ngive v\nend\n",
+        21,
+        "done reads writes gives \"ababab\"",
+    ),
+    (
+        "session a\nlet v = \"a\"\nrepeat 7\nlet v = v + v\nend\ngive v\nend\n",
+        36,
+        "overflow reads writes gives",
+    ),
+    // An overflow and a mismatch in one line: the left operand comes first.
+    (
+        "session a\ngive (9223372036854775807 + 1) - \"a\"\nend\n",
+        3,
+        "overflow reads writes gives",
+    ),
+    (
+        "session a\ngive -\"a\" + (9223372036854775807 + 1)\nend\n",
+        2,
+        "mismatch reads writes gives",
     ),
 ];
 
@@ -236,16 +355,55 @@ fn sessions_end_at_their_lengths(rt: HostRuntime) -> Result<(), Fail> {
     Ok(())
 }
 
+#[test]
+fn sessions_with_texts_end_at_their_lengths(rt: HostRuntime) -> Result<(), Fail> {
+    let plan = Plan::read(rt.alloc(), PLAN_OF_TEXTS.as_bytes())?;
+    texts_end(&rt, rt.alloc(), &plan)?;
+    Ok(())
+}
+
+/// Twice each, in the memory of work with texts and, the second time, of work that had numbers alone.
+fn texts_end(rt: &impl Abort, alloc: Global, plan: &Plan) -> Result<(), AllocError> {
+    let mut kept = Kept {
+        spare: None,
+        y: no(),
+    };
+    for (text, length, ending) in &TEXTS {
+        ends(rt, alloc, plan, &mut kept, text, *length, ending)?;
+        ends(
+            rt,
+            alloc,
+            plan,
+            &mut kept,
+            "session a\nend\n",
+            1,
+            "done reads writes gives",
+        )?;
+        ends(rt, alloc, plan, &mut kept, text, *length, ending)?;
+    }
+    Ok(())
+}
+
+fn no() -> Value {
+    match Text::of("no".as_bytes()) {
+        Some(text) => Value::Text(text),
+        None => Value::Number(0),
+    }
+}
+
 fn all_end(rt: &impl Abort, alloc: Global, plan: &Plan) -> Result<(), AllocError> {
-    let mut spare = None;
+    let mut kept = Kept {
+        spare: None,
+        y: Value::Number(0),
+    };
     for (text, length, ending) in &SESSIONS {
-        ends(rt, alloc, plan, &mut spare, text, *length, ending)?;
+        ends(rt, alloc, plan, &mut kept, text, *length, ending)?;
     }
     for limit in &LIMITS {
-        limit_ends(rt, alloc, plan, &mut spare, limit)?;
+        limit_ends(rt, alloc, plan, &mut kept, limit)?;
     }
     for turns in &TURNS {
-        turns_end(rt, alloc, &mut spare, *turns)?;
+        turns_end(rt, alloc, &mut kept, *turns)?;
     }
     Ok(())
 }
@@ -254,24 +412,24 @@ fn limit_ends(
     rt: &impl Abort,
     alloc: Global,
     plan: &Plan,
-    spare: &mut Option<Spare>,
+    kept: &mut Kept,
     limit: &Limit,
 ) -> Result<(), AllocError> {
     let (before, opening, count, within, after, length, ending) = limit;
     let text = nested(alloc, before, opening, *count, within, after)?;
-    ends(rt, alloc, plan, spare, text.as_str(), *length, ending)
+    ends(rt, alloc, plan, kept, text.as_str(), *length, ending)
 }
 
 fn ends(
     rt: &impl Abort,
     alloc: Global,
     plan: &Plan,
-    spare: &mut Option<Spare>,
+    kept: &mut Kept,
     text: &str,
     length: u32,
     ending: &str,
 ) -> Result<(), AllocError> {
-    let found = run_text(alloc, plan, spare, text)?;
+    let found = run_text(alloc, plan, kept, text)?;
     let expected = described(alloc, length, ending)?;
     assert_eq!(rt; found.as_str(), expected.as_str(), "of {text}");
     Ok(())
@@ -280,10 +438,10 @@ fn ends(
 fn turns_end(
     rt: &impl Abort,
     alloc: Global,
-    spare: &mut Option<Spare>,
+    kept: &mut Kept,
     turns: u16,
 ) -> Result<(), AllocError> {
-    let found = run_turns(alloc, spare, turns)?;
+    let found = run_turns(alloc, kept, turns)?;
     let length = u32::from(turns) + 2;
     let expected = described(alloc, length, "done reads writes gives")?;
     assert_eq!(rt; found.as_str(), expected.as_str(), "of {turns} turns");
@@ -331,14 +489,14 @@ fn described(alloc: Global, length: u32, ending: &str) -> Result<String, AllocEr
 fn run_text(
     alloc: Global,
     plan: &Plan,
-    spare: &mut Option<Spare>,
+    kept: &mut Kept,
     sessions: &str,
 ) -> Result<String, AllocError> {
     let mut text = String::new(alloc);
     match read_sessions(alloc, sessions.as_bytes(), plan) {
         Ok(programs) => {
             for program in &programs {
-                run_program(&mut text, alloc, spare, program)?;
+                run_program(&mut text, alloc, kept, program)?;
             }
         }
         Err(LangFault::Refused(SessionRefusal { rule, line })) => write!(text, "{line} {rule:?}")?,
@@ -351,20 +509,20 @@ fn run_text(
 fn run_program(
     text: &mut String,
     alloc: Global,
-    spare: &mut Option<Spare>,
+    kept: &mut Kept,
     program: &Program,
 ) -> Result<(), AllocError> {
     let program = program.with_code(alloc)?;
     let copy = program.copy()?;
     let code = Code::of(alloc, &copy)?;
     let code = code.copy(alloc)?;
-    run(text, alloc, spare, &code, copy.needs())
+    run(text, alloc, kept, &code, copy.needs())
 }
 
-fn run_turns(alloc: Global, spare: &mut Option<Spare>, turns: u16) -> Result<String, AllocError> {
+fn run_turns(alloc: Global, kept: &mut Kept, turns: u16) -> Result<String, AllocError> {
     let code = Code::of_statements(alloc, 0, &[Statement::Repeat(turns, Vec::new(alloc))])?;
     let mut text = String::new(alloc);
-    run(&mut text, alloc, spare, &code, &[])?;
+    run(&mut text, alloc, kept, &code, &[])?;
     Ok(text)
 }
 
@@ -372,12 +530,12 @@ fn run_turns(alloc: Global, spare: &mut Option<Spare>, turns: u16) -> Result<Str
 fn run(
     text: &mut String,
     alloc: Global,
-    spare: &mut Option<Spare>,
+    kept: &mut Kept,
     code: &Code,
     needs: &[RecordId],
 ) -> Result<(), AllocError> {
     for n in [1, 2, 1000] {
-        run_in_pieces(text, alloc, spare, code, needs, n)?;
+        run_in_pieces(text, alloc, kept, code, needs, n)?;
     }
     Ok(())
 }
@@ -385,14 +543,14 @@ fn run(
 fn run_in_pieces(
     text: &mut String,
     alloc: Global,
-    spare: &mut Option<Spare>,
+    kept: &mut Kept,
     code: &Code,
     needs: &[RecordId],
     n: u32,
 ) -> Result<(), AllocError> {
-    let mut work = begun(alloc, spare.take(), code, needs)?;
+    let mut work = begun(alloc, kept, code, needs)?;
     if runs_to_end(text, &mut work, code, n)? {
-        *spare = work.take_spare();
+        kept.spare = work.take_spare();
         describe_work(text, code, work)
     } else {
         Ok(())
@@ -401,20 +559,24 @@ fn run_in_pieces(
 
 fn begun(
     alloc: Global,
-    spare: Option<Spare>,
+    kept: &mut Kept,
     code: &Code,
     needs: &[RecordId],
 ) -> Result<Work, AllocError> {
-    let reads = first_values(alloc, needs)?;
-    Work::begin_in(alloc, spare, code, reads)
+    let reads = first_values(alloc, kept.y, needs)?;
+    Work::begin_in(alloc, kept.spare.take(), code, reads)
 }
 
-/// The values of records as they are at first: 100 of x and 0 of y.
-fn first_values(alloc: Global, needs: &[RecordId]) -> Result<RecordValues, AllocError> {
+/// The values of records as they are at first: 100 of x, and this of y.
+fn first_values(alloc: Global, y: Value, needs: &[RecordId]) -> Result<RecordValues, AllocError> {
     let mut reads = RecordValues::new(alloc);
     for id in needs {
-        let number = if id.number() == 0 { 100 } else { 0 };
-        reads.push(*id, Value::from(number))?;
+        let value = if id.number() == 0 {
+            Value::Number(100)
+        } else {
+            y
+        };
+        reads.push(*id, value)?;
     }
     Ok(reads)
 }
@@ -471,8 +633,8 @@ fn describe(text: &mut String, ending: &Ending) -> Result<(), AllocError> {
     text.push_str(" writes")?;
     describe_values(text, ending.writes.as_slice())?;
     text.push_str(" gives")?;
-    for value in ending.gives.as_slice() {
-        write!(text, " {}", value)?;
+    for i in 0..ending.gives.len() {
+        write!(text, " {}", ending.gives.get(i))?;
     }
     text.push_str("; ")
 }

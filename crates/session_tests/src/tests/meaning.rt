@@ -51,5 +51,6 @@ fn is_as_typed(outcome: &Outcome) -> bool {
         && ending.end == End::Refused(7)
         && ending.reads.as_slice() == [(RecordId::new(3), Value::from(-1))].as_slice()
         && ending.writes.as_slice() == [(RecordId::new(4), Value::from(2))].as_slice()
-        && ending.gives.as_slice() == [Value::from(5)].as_slice()
+        && ending.gives.len() == 1
+        && ending.gives.get(0) == Value::from(5)
 }

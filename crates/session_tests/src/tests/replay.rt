@@ -2,7 +2,7 @@ use bottle_values::Value;
 use office_map::{Plan, RecordId};
 use serial_replay::{Replay, serial};
 use session_language::read_sessions;
-use session_meaning::{End, Ending, Outcome};
+use session_meaning::{End, Ending, Gives, Outcome};
 use std::alloc::{AllocError, Global};
 use std::fmt::Write;
 use std::test::Fail;
@@ -132,7 +132,7 @@ fn describe_ending(text: &mut String, plan: &Plan, ending: &Ending) -> Result<()
     text.push_str(" writes")?;
     describe_records(text, plan, ending.writes.as_slice())?;
     text.push_str(" gives")?;
-    describe_values(text, ending.gives.as_slice())?;
+    describe_gives(text, &ending.gives)?;
     text.push('\n')
 }
 
@@ -152,12 +152,12 @@ fn describe_records(
     Ok(())
 }
 
-fn describe_values(text: &mut String, values: &[Value]) -> Result<(), AllocError> {
-    if values.is_empty() {
+fn describe_gives(text: &mut String, gives: &Gives) -> Result<(), AllocError> {
+    if gives.len() == 0 {
         return text.push_str(" -");
     }
-    for value in values {
-        write!(text, " {}", value)?;
+    for i in 0..gives.len() {
+        write!(text, " {}", gives.get(i))?;
     }
     Ok(())
 }

@@ -53,5 +53,5 @@ fn run(office: &mut Office, other: &mut Office, program: &Program) -> Result<(),
 fn has_given(office: &Office) -> bool {
     office
         .outcome(1)
-        .is_some_and(|outcome| outcome.ending.gives.as_slice().len() == 2)
+        .is_some_and(|outcome| outcome.ending.gives.len() == 2)
 }

@@ -1,7 +1,6 @@
 //! How sessions end, as a text.
 
-use bottle_values::Value;
-use session_meaning::{Outcome, RecordValues};
+use session_meaning::{Gives, Outcome, RecordValues};
 use std::alloc::AllocError;
 use std::fmt::Write;
 
@@ -21,7 +20,7 @@ fn describe_one(text: &mut String, outcome: &Outcome) -> Result<(), AllocError> 
     text.push_str(" writes")?;
     tell_values(text, &outcome.ending.writes)?;
     text.push_str(" gives")?;
-    tell_gives(text, outcome.ending.gives.as_slice())?;
+    tell_gives(text, &outcome.ending.gives)?;
     text.push_str("; ")
 }
 
@@ -32,9 +31,9 @@ fn tell_values(text: &mut String, values: &RecordValues) -> Result<(), AllocErro
     Ok(())
 }
 
-fn tell_gives(text: &mut String, gives: &[Value]) -> Result<(), AllocError> {
-    for value in gives {
-        write!(text, " {}", value)?;
+fn tell_gives(text: &mut String, gives: &Gives) -> Result<(), AllocError> {
+    for i in 0..gives.len() {
+        write!(text, " {}", gives.get(i))?;
     }
     Ok(())
 }

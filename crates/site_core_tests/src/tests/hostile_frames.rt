@@ -3,6 +3,7 @@
 
 use super::rows::{Step, What, take_steps, tell};
 use super::{A, MOVE, PAIR, offices, programs};
+use bottle_values::Value;
 use office_map::{OfficeId, RecordId};
 use session_programs::Program;
 use site_core::{Office, Reply};
@@ -13,7 +14,7 @@ use std::test::Fail;
 const B: usize = 1;
 
 /// The session of the first office has asked for the second record's bottle, which the second office has.
-static ASKS: [Step; 6] = [
+pub static ASKS: [Step; 6] = [
     Step(What::Submit, A, 0),
     Step(What::Start, A, 0),
     Step(What::Hungry, A, 0),
@@ -23,7 +24,7 @@ static ASKS: [Step; 6] = [
 ];
 
 /// And that one gives it.
-static GIVES: [Step; 3] = [
+pub static GIVES: [Step; 3] = [
     Step(What::Deliver, 0, 1),
     Step(What::GiveBottle, B, 1),
     Step(What::Send, B, 1),
@@ -59,8 +60,8 @@ struct Standing {
     entries: usize,
     taken: Option<u64>,
     waiting: Option<(u64, usize)>,
-    first: Option<i64>,
-    second: Option<i64>,
+    first: Option<Value>,
+    second: Option<Value>,
 }
 
 fn standing_of(office: &Office) -> Standing {
@@ -73,15 +74,12 @@ fn standing_of(office: &Office) -> Standing {
     }
 }
 
-fn held(office: &Office, r: u16) -> Option<i64> {
-    match office.held_value(RecordId::new(r)) {
-        Some(value) => Some(value.number()),
-        None => None,
-    }
+fn held(office: &Office, r: u16) -> Option<Value> {
+    office.held_value(RecordId::new(r))
 }
 
 /// What the office answers to these bytes. Where it refuses them it is as it was.
-fn receives(text: &mut String, office: &mut Office, bytes: &[u8]) -> Result<(), Fail> {
+pub fn receives(text: &mut String, office: &mut Office, bytes: &[u8]) -> Result<(), Fail> {
     let before = standing_of(office);
     let reply = office.receive(0, bytes);
     if reply.is_err() && standing_of(office) != before {
@@ -91,7 +89,7 @@ fn receives(text: &mut String, office: &mut Office, bytes: &[u8]) -> Result<(), 
 }
 
 /// The offices take these steps, and then those.
-fn go_on(
+pub fn go_on(
     alloc: Global,
     offices: &mut Vec<Office>,
     programs: &[Program],
@@ -229,7 +227,7 @@ fn an_altered_value_is_not_seen(rt: HostRuntime) -> Result<(), Fail> {
     let programs = programs(rt.alloc(), PAIR, MOVE)?;
     let mut offices = offices(rt.alloc(), PAIR)?;
     let value = value_after(rt.alloc(), &mut offices, &programs)?;
-    assert_eq!(rt; value, Some(255));
+    assert_eq!(rt; value, Some(Value::from(255)));
     Ok(())
 }
 
@@ -237,7 +235,7 @@ fn value_after(
     alloc: Global,
     offices: &mut Vec<Office>,
     programs: &[Program],
-) -> Result<Option<i64>, Fail> {
+) -> Result<Option<Value>, Fail> {
     go_on(alloc, offices, programs, &ASKS, &GIVES)?;
     let mut bytes = ANSWER;
     bytes[36] ^= 0xff;
@@ -247,7 +245,7 @@ fn value_after(
     }
 }
 
-fn value_taken(office: &mut Office, bytes: &[u8]) -> Option<i64> {
+fn value_taken(office: &mut Office, bytes: &[u8]) -> Option<Value> {
     match office.receive(0, bytes) {
         Ok(Reply::Taken) => held(office, 1),
         _ => None,

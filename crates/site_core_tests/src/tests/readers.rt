@@ -1,7 +1,7 @@
 //! What can be asked of an office, and a fork that can't come.
 
 use super::{A, PAIR, act, hand_in, offices, take};
-use bottle_values::Version;
+use bottle_values::{Value, Version};
 use frame_codec::{Frame, Msg};
 use office_map::{OfficeId, RecordId};
 use site_core::{Event, Journal, Office, Refusal, Reply, Rule};
@@ -54,16 +54,14 @@ fn tell_of_links<R: Abort>(rt: &R, office: &Office) {
 }
 
 fn tell_of_records<R: Abort>(rt: &R, office: &Office) {
-    assert_eq!(rt; held(office, 0), Some(100));
+    assert_eq!(rt; held(office, 0), Some(Value::from(100)));
     assert_eq!(rt; held(office, 1), None);
     assert_eq!(rt; office.enabled(Rule::Start), false);
     assert_eq!(rt; office.plan().offices(), 2);
 }
 
-fn held(office: &Office, r: u16) -> Option<i64> {
-    office
-        .held_value(RecordId::new(r))
-        .map(|value| value.number())
+fn held(office: &Office, r: u16) -> Option<Value> {
+    office.held_value(RecordId::new(r))
 }
 
 fn tell_of_journal<R: Abort>(rt: &R, office: &Office) {
@@ -87,14 +85,13 @@ fn give_a_bottle<R: Abort>(rt: &R, office: &mut Office) {
     assert_eq!(rt; take(office, 7, token), Ok(Reply::Taken));
     let give = Rule::GiveBottle(RecordId::new(0));
     assert_eq!(rt; act(office, 7, give), Ok(Reply::Done));
-    assert_eq!(rt; leaves(office, 0), Some((2, 100)));
+    assert_eq!(rt; leaves(office, 0), Some((2, Value::from(100))));
     assert_eq!(rt; leaves(office, 1), None);
 }
 
 /// The number of the message that brings the bottle, and its value.
-fn leaves(office: &Office, r: u16) -> Option<(u64, i64)> {
-    let (number, value) = office.waiting_value(RecordId::new(r))?;
-    Some((number, value.number()))
+fn leaves(office: &Office, r: u16) -> Option<(u64, Value)> {
+    office.waiting_value(RecordId::new(r))
 }
 
 /// A fork is kept though the office has it; by its turn it would be a breach, and is thrown out.

@@ -235,7 +235,7 @@ fn offices_do_as_the_rows_say(rt: HostRuntime) -> Result<(), Fail> {
 }
 
 /// What the offices of the plan answer to these steps, and how their sessions end.
-fn played(alloc: Global, plan: &str, sessions: &str, steps: &[Step]) -> Result<String, Fail> {
+pub fn played(alloc: Global, plan: &str, sessions: &str, steps: &[Step]) -> Result<String, Fail> {
     let programs = programs(alloc, plan, sessions)?;
     let mut text = String::new(alloc);
     play(alloc, &mut text, plan, &programs, steps)?;

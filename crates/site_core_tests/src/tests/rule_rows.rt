@@ -662,7 +662,7 @@ fn comes(office: &Office, v: u8, msg: Msg) -> Option<Event> {
     let (first, many) = office.waiting(OfficeId::new(v))?;
     let count = first.saturating_sub(1).saturating_add(many as u64);
     let number = office.taken(OfficeId::new(v))?.saturating_add(1);
-    if number > MAX_NUMBER || count > MAX_NUMBER {
+    if number > MAX_NUMBER || count > MAX_NUMBER || !msg.is_carried(Version::One) {
         return None;
     }
     Some(Event::Took(Frame::data(Version::One, 42, v, A, number, count, msg)))

@@ -217,7 +217,10 @@ fn changed(
     assert!(rt; 0 < number && number <= MAX_NUMBER);
     assert!(rt; count <= MAX_NUMBER);
     Ok(match msg {
-        Some(msg) => Frame::data(version, run, from, to, number, count, msg),
+        Some(msg) => {
+            assert!(rt; msg.is_carried(version));
+            Frame::data(version, run, from, to, number, count, msg)
+        }
         None => Frame::ack(version, run, from, to, count),
     })
 }

@@ -129,6 +129,17 @@ fn the_first_fault_is_told(rt: HostRuntime) {
     }
 }
 
+/// The same lines under version 2 have the same faults.
+#[test]
+fn version_2_has_the_faults_of_version_1(rt: HostRuntime) {
+    for (text, more, expected) in &TEXTS {
+        if let Some((before, after)) = text.split_once("plan 1 run") {
+            let text = format!(in rt.alloc(); "{before}plan 2 run{after}").expect(&rt, "memory");
+            is_told(&rt, rt.alloc(), text.as_str(), more, expected);
+        }
+    }
+}
+
 #[test]
 fn faults_are_printed_with_code_and_line(rt: HostRuntime) -> Result<(), Fail> {
     let rule = PlanRule::NameTwice;

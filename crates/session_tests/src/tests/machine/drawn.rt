@@ -1,8 +1,8 @@
 //! Two thousand drawn sessions, each in pieces of drawn sizes, beside a walk of its tree.
 
-use super::PLAN;
 use super::draws::{Draws, session};
 use super::walk::{Doing, Walk};
+use super::{PLAN, PLAN_OF_TEXTS};
 use bottle_values::Value;
 use office_map::{Plan, RecordId};
 use session_language::read_sessions;
@@ -28,6 +28,8 @@ struct Seen {
     refused: u32,
     /// Overflows by the statement, at an operator and at a minus.
     overflows: [u32; 10],
+    /// Mismatches by the statement.
+    mismatches: [u32; 5],
     /// Sessions by the most blocks that were open at once.
     deepest: [u32; 9],
 }
@@ -40,6 +42,25 @@ fn drawn_sessions_end_as_their_walk(rt: HostRuntime) -> Result<(), Fail> {
         drawn_session_agrees(&rt, rt.alloc(), &plan, &mut seen, seed)?;
     }
     seen.each_way(&rt);
+    Ok(())
+}
+
+/// The same with texts among the values, under a plan that has them.
+#[test]
+fn drawn_sessions_with_texts_end_as_their_walk(rt: HostRuntime) -> Result<(), Fail> {
+    let plan = Plan::read(rt.alloc(), PLAN_OF_TEXTS.as_bytes())?;
+    let mut seen = Seen::nothing();
+    for seed in 0..SESSIONS {
+        let mut draws = Draws::with_texts(seed);
+        let text = session(rt.alloc(), &mut draws, seed % 4 * 2 + 1)?;
+        text_agrees(&rt, rt.alloc(), &plan, &mut draws, &mut seen, text.as_str())?;
+    }
+    seen.each_way(&rt);
+    assert!(&rt;
+        seen.mismatches.iter().all(|count| *count > 0),
+        "{:?}",
+        seen.mismatches
+    );
     Ok(())
 }
 
@@ -110,8 +131,8 @@ fn drawn_reads(
 ) -> Result<RecordValues, AllocError> {
     let mut reads = RecordValues::new(alloc);
     for id in program.needs() {
-        let number = draws.number();
-        reads.push(*id, Value::from(number))?;
+        let value = draws.value(id.number());
+        reads.push(*id, value)?;
     }
     Ok(reads)
 }
@@ -161,7 +182,8 @@ fn is_ending(
     assert_eq!(rt; ending.end, end, "of seed {seed}");
     assert_eq!(rt; ending.reads.as_slice(), reads.as_slice(), "of seed {seed}");
     writes_as(rt, alloc, ending, seed, walk)?;
-    gives_as(rt, alloc, ending, seed, walk)
+    gives_as(rt, ending, seed, walk);
+    Ok(())
 }
 
 fn writes_as(
@@ -186,35 +208,28 @@ fn walk_writes(alloc: Global, end: End, walk: &Walk) -> Result<Vec<(RecordId, Va
     if end == End::Done {
         for kept in &walk.kept {
             if kept.is_set {
-                let number = kept.number;
-                writes.push((kept.id, Value::from(number)))?;
+                writes.push((kept.id, kept.value))?;
             }
         }
     }
     Ok(writes)
 }
 
-fn gives_as(
-    rt: &impl Abort,
-    alloc: Global,
-    ending: &Ending,
-    seed: u32,
-    walk: &Walk,
-) -> Result<(), AllocError> {
-    let gives = walk_gives(alloc, ending.end, walk)?;
-    assert_eq!(rt; ending.gives.as_slice(), gives.as_slice(), "of seed {seed}");
-    Ok(())
-}
-
-/// What the walk gives where it ends so.
-fn walk_gives(alloc: Global, end: End, walk: &Walk) -> Result<Vec<Value>, AllocError> {
-    let mut gives = Vec::new(alloc);
-    if end == End::Done {
-        for number in &walk.given {
-            gives.push(Value::from(*number))?;
-        }
+/// It gave what the walk gave, if that came to its end.
+fn gives_as(rt: &impl Abort, ending: &Ending, seed: u32, walk: &Walk) {
+    let many = if ending.end == End::Done {
+        walk.given.len()
+    } else {
+        0
+    };
+    assert_eq!(rt; ending.gives.len(), many, "of seed {seed}");
+    for i in 0..ending.gives.len() {
+        assert_eq!(rt;
+            Some(&ending.gives.get(i)),
+            walk.given.get(i),
+            "of seed {seed}"
+        );
     }
-    Ok(gives)
 }
 
 impl Seen {
@@ -223,6 +238,7 @@ impl Seen {
             done: 0,
             refused: 0,
             overflows: [0; 10],
+            mismatches: [0; 5],
             deepest: [0; 9],
         }
     }
@@ -257,8 +273,7 @@ impl Seen {
                 let place = 2 * statement + usize::from(walk.at_minus);
                 one_more(&mut self.overflows, place);
             }
-            // Values are numbers here.
-            End::Mismatch => {}
+            End::Mismatch => one_more(&mut self.mismatches, statement),
         }
         one_more(&mut self.deepest, walk.deepest as usize);
     }

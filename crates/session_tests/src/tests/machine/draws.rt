@@ -2,6 +2,7 @@
 
 ghost use Rattle.std.specs.Prelude.{◌<◌};
 
+use bottle_values::{Text, Value};
 use rand_core::utils::NextWord;
 use rand_pcg::Pcg32;
 use std::alloc::{AllocError, Global};
@@ -26,10 +27,15 @@ static COMPARISONS: [&str; 6] = ["==", "!=", "<", "<=", ">", ">="];
 
 static OPERATORS: [&str; 3] = ["+", "-", "*"];
 
-/// Numbers that are drawn from a seed.
+/// What texts are cut from.
+static LETTERS: &str = "ab #if end read x 0123456789 repeat 9 give 1 else 2 + 3 < 4 - ()";
+
+/// Numbers, or values, that are drawn from a seed.
 #[derive(Drop)]
 pub struct Draws {
     pub seed: u32,
+    /// Whether there are texts among them.
+    has_texts: bool,
     words: Pcg32,
 }
 
@@ -37,7 +43,16 @@ impl Draws {
     pub fn from_seed(seed: u32) -> Draws {
         Draws {
             seed,
+            has_texts: false,
             words: Pcg32::new(u64::from(seed), 54),
+        }
+    }
+
+    pub fn with_texts(seed: u32) -> Draws {
+        Draws {
+            seed,
+            has_texts: true,
+            words: Pcg32::new(u64::from(seed), 55),
         }
     }
 
@@ -57,6 +72,32 @@ impl Draws {
             3 => -(1 << 62),
             n => i64::from(n) - 12,
         }
+    }
+
+    /// Mostly a short text, now and then an empty one or one of 64 bytes.
+    fn text(&mut self) -> Text {
+        let letters = LETTERS.as_bytes();
+        let len = match self.below(16) {
+            0 => 0,
+            1 => letters.len(),
+            2 => 40,
+            n => n as usize - 2,
+        };
+        Text::of(letters.split_at(len.min(letters.len())).0).unwrap_or(Text::empty())
+    }
+
+    /// What a record holds. Where there are texts, those of odd number mostly hold one, and the others mostly don't.
+    pub fn value(&mut self, record: u16) -> Value {
+        if self.has_texts && self.is_text(record % 2 == 1) {
+            Value::Text(self.text())
+        } else {
+            Value::Number(self.number())
+        }
+    }
+
+    /// Mostly the same, and now and then the other.
+    fn is_text(&mut self, mostly: bool) -> bool {
+        if self.below(32) == 0 { !mostly } else { mostly }
     }
 }
 
@@ -128,16 +169,17 @@ impl Sketch {
     }
 
     fn sets(&mut self, draws: &mut Draws) -> Result<(), AllocError> {
-        let record = RECORDS[draws.below(2) as usize];
+        let place = draws.below(2);
+        let record = RECORDS[place as usize];
         write!(self.text, "set {record} = ")?;
-        self.expression(draws)?;
+        self.expression(draws, place == 1)?;
         self.text.push('\n')
     }
 
     fn lets(&mut self, draws: &mut Draws) -> Result<(), AllocError> {
         let place = draws.below(VARIABLES).min(self.variables);
         write!(self.text, "let v{place} = ")?;
-        self.expression(draws)?;
+        self.expression(draws, place >= 2)?;
         if place == self.variables {
             self.variables = self.variables.saturating_add(1);
         }
@@ -151,7 +193,8 @@ impl Sketch {
         }
         self.gives = gives;
         self.text.push_str("give ")?;
-        self.expression(draws)?;
+        let of_texts = draws.has_texts && draws.below(2) == 0;
+        self.expression(draws, of_texts)?;
         self.text.push('\n')
     }
 
@@ -202,18 +245,45 @@ impl Sketch {
     }
 
     fn condition(&mut self, draws: &mut Draws) -> Result<(), AllocError> {
-        self.expression(draws)?;
-        let comparison = COMPARISONS[draws.below(6) as usize];
+        let of_texts = draws.has_texts && draws.below(2) == 0;
+        self.expression(draws, of_texts)?;
+        let comparison = if of_texts {
+            COMPARISONS[draws.below(2) as usize]
+        } else {
+            COMPARISONS[draws.below(6) as usize]
+        };
         write!(self.text, " {comparison} ")?;
-        self.expression(draws)
+        self.expression(draws, of_texts)
     }
 
-    fn expression(&mut self, draws: &mut Draws) -> Result<(), AllocError> {
+    /// An expression that mostly is of texts, or of numbers. Where there are no texts it always is of numbers.
+    fn expression(&mut self, draws: &mut Draws, of_texts: bool) -> Result<(), AllocError> {
+        if draws.has_texts && draws.is_text(of_texts) {
+            return self.joined(draws);
+        }
         for _ in 0..draws.below(3) {
             self.factor(draws)?;
             self.operator(draws)?;
         }
         self.factor(draws)
+    }
+
+    /// One text, or two that are joined.
+    fn joined(&mut self, draws: &mut Draws) -> Result<(), AllocError> {
+        if draws.below(2) == 0 {
+            self.text_operand(draws)?;
+            self.text.push_str(" + ")?;
+        }
+        self.text_operand(draws)
+    }
+
+    fn text_operand(&mut self, draws: &mut Draws) -> Result<(), AllocError> {
+        let place = draws.below(VARIABLES);
+        match draws.below(4) {
+            0 => self.text.push_str("read y"),
+            1 if 2 <= place && place < self.variables => write!(self.text, "v{place}"),
+            _ => write!(self.text, "{}", Value::Text(draws.text())),
+        }
     }
 
     fn operator(&mut self, draws: &mut Draws) -> Result<(), AllocError> {
@@ -239,11 +309,19 @@ impl Sketch {
     }
 
     fn operand(&mut self, draws: &mut Draws) -> Result<(), AllocError> {
+        // Where there are texts, the later variables and the second record are theirs.
+        let (records, variables) = if draws.has_texts {
+            (1, 2)
+        } else {
+            (2, VARIABLES)
+        };
         match draws.below(5) {
-            0 => self.text.push_str("read x"),
-            1 => self.text.push_str("read y"),
+            n if n < 2 => {
+                let record = RECORDS[(n % records) as usize];
+                write!(self.text, "read {record}")
+            }
             2 | 3 => {
-                let place = draws.below(VARIABLES).min(self.variables.saturating_sub(1));
+                let place = draws.below(variables).min(self.variables.saturating_sub(1));
                 write!(self.text, "v{place}")
             }
             _ => {

@@ -1,6 +1,7 @@
-//! A plain walk over a program's tree, that counts what it does. It shares nothing with the machine, and adds and
-//! multiplies in wider numbers.
+//! A plain walk over a program's tree, that counts what it does. It shares nothing with the machine: it adds and multiplies
+//! in wider numbers, and joins texts byte by byte.
 
+use bottle_values::{Text, Value};
 use office_map::RecordId;
 use session_meaning::{
     Comparison, Condition, End, Expression, Node, Operator, RecordValues, Statement,
@@ -11,7 +12,7 @@ use std::alloc::{AllocError, AllocFailed, Global};
 #[derive(Clone, Copy)]
 pub struct Kept {
     pub id: RecordId,
-    pub number: i64,
+    pub value: Value,
     pub is_set: bool,
 }
 
@@ -21,8 +22,8 @@ pub struct Kept {
 pub struct Walk {
     alloc: Global,
     pub kept: Vec<Kept>,
-    variables: Vec<i64>,
-    pub given: Vec<i64>,
+    variables: Vec<Value>,
+    pub given: Vec<Value>,
     pub count: u32,
     /// Blocks that are open, and the most that ever were.
     pub open: u32,
@@ -65,17 +66,16 @@ impl Walk {
     pub fn of(alloc: Global, variables: usize, reads: &RecordValues) -> Result<Walk, AllocError> {
         let mut kept = Vec::new(alloc);
         for (id, value) in reads.as_slice() {
-            let number = value.number();
             kept.push(Kept {
                 id: *id,
-                number,
+                value: *value,
                 is_set: false,
             })?;
         }
         Ok(Walk {
             alloc,
             kept,
-            variables: vec![in alloc; 0i64; variables]?,
+            variables: vec![in alloc; Value::Number(0); variables]?,
             given: Vec::new(alloc),
             count: 0,
             open: 0,
@@ -154,22 +154,22 @@ impl Walk {
     }
 
     fn lets(&mut self, place: u8, e: &Expression) -> Result<(), Halt> {
-        let number = self.uses(Doing::Let, e)?;
+        let value = self.uses(Doing::Let, e)?;
         if let Some(variable) = self.variables.get_mut(usize::from(place)) {
-            *variable = number;
+            *variable = value;
         }
         Ok(())
     }
 
     fn sets(&mut self, id: RecordId, e: &Expression) -> Result<(), Halt> {
-        let number = self.uses(Doing::Set, e)?;
-        self.set(id, number);
+        let value = self.uses(Doing::Set, e)?;
+        self.set(id, &value);
         Ok(())
     }
 
     fn gives(&mut self, e: &Expression) -> Result<(), Halt> {
-        let number = self.uses(Doing::Give, e)?;
-        self.given.push(number)?;
+        let value = self.uses(Doing::Give, e)?;
+        self.given.push(value)?;
         Ok(())
     }
 
@@ -182,11 +182,11 @@ impl Walk {
     }
 
     /// The value that a statement uses.
-    fn uses(&mut self, doing: Doing, e: &Expression) -> Result<i64, Halt> {
+    fn uses(&mut self, doing: Doing, e: &Expression) -> Result<Value, Halt> {
         self.doing = doing;
-        let number = self.value(e)?;
+        let value = self.value(e)?;
         self.counts();
-        Ok(number)
+        Ok(value)
     }
 
     /// Whether a statement's condition holds.
@@ -197,75 +197,116 @@ impl Walk {
         Ok(holds)
     }
 
-    fn set(&mut self, id: RecordId, number: i64) {
+    fn set(&mut self, id: RecordId, value: &Value) {
         for kept in self.kept.iter_mut() {
             if kept.id.number() == id.number() {
-                kept.number = number;
+                kept.value = *value;
                 kept.is_set = true;
             }
         }
     }
 
-    fn number_of(&self, id: RecordId) -> i64 {
-        let mut number = 0;
+    fn value_of(&self, id: RecordId) -> Value {
+        let mut value = Value::Number(0);
         for kept in &self.kept {
             if kept.id.number() == id.number() {
-                number = kept.number;
+                value = kept.value;
             }
         }
-        number
+        value
     }
 
     fn holds(&mut self, c: &Condition) -> Result<bool, Halt> {
         let left = self.value(&c.left)?;
         let right = self.value(&c.right)?;
         self.counts();
-        Ok(match c.comparison {
-            Comparison::Equal => left == right,
-            Comparison::NotEqual => left != right,
-            Comparison::Less => left < right,
-            Comparison::AtMost => left <= right,
-            Comparison::Greater => right < left,
-            Comparison::AtLeast => right <= left,
-        })
+        match compared(c.comparison, left, right) {
+            Some(holds) => Ok(holds),
+            None => Err(Halt::Ended(End::Mismatch)),
+        }
     }
 
-    /// What a node makes of the numbers before it.
-    fn result(&self, node: &Node, numbers: &mut Vec<i64>) -> i128 {
+    /// What a node makes of the values before it.
+    fn result(&self, node: &Node, values: &mut Vec<Value>) -> Result<Value, Halt> {
         match *node {
-            Node::Literal(value) => i128::from(value.number()),
+            Node::Literal(value) => Ok(value),
             Node::Variable(place) => {
-                let number = self.variables.get(usize::from(place)).copied();
-                i128::from(number.unwrap_or(0))
+                let value = self.variables.get(usize::from(place)).copied();
+                Ok(value.unwrap_or(Value::Number(0)))
             }
-            Node::Read(id) => i128::from(self.number_of(id)),
-            Node::Negate => 0i128.wrapping_sub(last(numbers)),
+            Node::Read(id) => Ok(self.value_of(id)),
+            Node::Negate => match last(values) {
+                Value::Number(number) => fitting(0i128.wrapping_sub(i128::from(number))),
+                Value::Text(_) => Err(Halt::Ended(End::Mismatch)),
+            },
             Node::Apply(operator) => {
-                let right = last(numbers);
-                let left = last(numbers);
-                applied(operator, left, right)
+                let right = last(values);
+                let left = last(values);
+                self.applied(operator, left, right)
             }
         }
     }
 
-    fn value(&mut self, e: &Expression) -> Result<i64, Halt> {
-        let mut numbers: Vec<i64> = Vec::new(self.alloc);
+    fn applied(&self, operator: Operator, left: Value, right: Value) -> Result<Value, Halt> {
+        match left {
+            Value::Number(left) => to_number(operator, left, right),
+            Value::Text(left) if operator == Operator::Plus => self.to_text(&left, right),
+            Value::Text(_) => Err(Halt::Ended(End::Mismatch)),
+        }
+    }
+
+    /// A text with what is joined to it.
+    fn to_text(&self, left: &Text, right: Value) -> Result<Value, Halt> {
+        match right {
+            Value::Text(right) => self.joined(left, &right),
+            Value::Number(_) => Err(Halt::Ended(End::Mismatch)),
+        }
+    }
+
+    /// Two texts, byte by byte.
+    fn joined(&self, left: &Text, right: &Text) -> Result<Value, Halt> {
+        let mut bytes: Vec<u8> = Vec::new(self.alloc);
+        for byte in left.as_bytes() {
+            bytes.push(*byte)?;
+        }
+        for byte in right.as_bytes() {
+            bytes.push(*byte)?;
+        }
+        match Text::of(&bytes) {
+            Some(text) => Ok(Value::Text(text)),
+            None => Err(Halt::Ended(End::Overflow)),
+        }
+    }
+
+    fn value(&mut self, e: &Expression) -> Result<Value, Halt> {
+        let mut values: Vec<Value> = Vec::new(self.alloc);
         let nodes = e.nodes();
         for i in 0..nodes.len() {
             let node = nodes.node(i);
             self.counts();
-            let number = self.result(&node, &mut numbers);
             self.at_minus = matches!(&node, Node::Negate);
-            let Ok(number) = i64::try_from(number) else {
-                return Err(Halt::Ended(End::Overflow));
-            };
-            numbers.push(number)?;
+            let value = self.result(&node, &mut values)?;
+            values.push(value)?;
         }
-        Ok(numbers.pop().unwrap_or(0))
+        Ok(values.pop().unwrap_or(Value::Number(0)))
     }
 }
 
-fn applied(operator: Operator, left: i128, right: i128) -> i128 {
+fn to_number(operator: Operator, left: i64, right: Value) -> Result<Value, Halt> {
+    match right {
+        Value::Number(right) => fitting(combined(operator, i128::from(left), i128::from(right))),
+        Value::Text(_) => Err(Halt::Ended(End::Mismatch)),
+    }
+}
+
+fn fitting(number: i128) -> Result<Value, Halt> {
+    match i64::try_from(number) {
+        Ok(number) => Ok(Value::Number(number)),
+        Err(_) => Err(Halt::Ended(End::Overflow)),
+    }
+}
+
+fn combined(operator: Operator, left: i128, right: i128) -> i128 {
     match operator {
         Operator::Plus => left.wrapping_add(right),
         Operator::Minus => left.wrapping_sub(right),
@@ -273,6 +314,46 @@ fn applied(operator: Operator, left: i128, right: i128) -> i128 {
     }
 }
 
-fn last(numbers: &mut Vec<i64>) -> i128 {
-    i128::from(numbers.pop().unwrap_or(0))
+/// Whether two values compare so, or nothing where they can't.
+fn compared(comparison: Comparison, left: Value, right: Value) -> Option<bool> {
+    match comparison {
+        Comparison::Equal => Some(are_same(left, right)),
+        Comparison::NotEqual => Some(!are_same(left, right)),
+        Comparison::Less => before(left, right),
+        Comparison::AtMost => Some(!before(right, left)?),
+        Comparison::Greater => before(right, left),
+        Comparison::AtLeast => Some(!before(left, right)?),
+    }
+}
+
+fn are_same(left: Value, right: Value) -> bool {
+    match left {
+        Value::Number(left) => is_number(right, left),
+        Value::Text(left) => is_text(right, &left),
+    }
+}
+
+fn is_number(value: Value, number: i64) -> bool {
+    match value {
+        Value::Number(other) => other == number,
+        Value::Text(_) => false,
+    }
+}
+
+fn is_text(value: Value, text: &Text) -> bool {
+    match value {
+        Value::Number(_) => false,
+        Value::Text(other) => other.as_bytes() == text.as_bytes(),
+    }
+}
+
+fn before(left: Value, right: Value) -> Option<bool> {
+    match (left, right) {
+        (Value::Number(left), Value::Number(right)) => Some(left < right),
+        _ => None,
+    }
+}
+
+fn last(values: &mut Vec<Value>) -> Value {
+    values.pop().unwrap_or(Value::Number(0))
 }
