@@ -71,8 +71,8 @@ def write(path, text):
     return path
 
 
-def listed(text):
-    return {} if text == "-" else {name: int(value) for name, value in (it.split("=") for it in text.split())}
+def listed(text, meant=int):
+    return {} if text == "-" else {name: meant(value) for name, value in (it.split("=") for it in text.split())}
 
 
 def audited(program, plan, journals):

@@ -12,7 +12,7 @@ SCENARIOS = os.path.join(TOP, "scenarios")
 # How many scenarios and refused texts there are at least: fewer means that they weren't found.
 LEAST_SCENARIOS, LEAST_REFUSALS = 40, 200
 # The words that run a text of each kind, under the name `text`.
-KINDS = {"plans": "serial text sessions", "sessions": "serial plan text", "scripts": "sim plan sessions text", "journals": "audit plan text"}
+KINDS = {"plans": "serial text sessions", "sessions": "serial plan text", "texts": "serial plan text", "scripts": "sim plan sessions text", "journals": "audit plan text"}
 ESCAPES = {b"t": b"\t", b"r": b"\r"}
 
 # Two offices that share two records, and sessions of theirs on both.
@@ -101,7 +101,27 @@ def scenario(check, folder):
         compare(check, name, os.path.join(folder, "transcript"), ran)
         for file in sorted(it for it in has if it.endswith(".journal")):
             compare(check, f"{name}: {file}", os.path.join(folder, file), ran, check.bytes_of(os.path.join(left, file)))
+    again(check, name, folder, has, plan, sessions)
     return 1
+
+
+def again(check, name, folder, has, plan, sessions):
+    """The same under a plan of version 2: what is printed differs in the bytes of frames alone."""
+    text = read(plan)
+    if not re.search(rb"(?m)^plan 1 ", text):
+        return
+    check.files({"plan": re.sub(rb"(?m)^plan 1 ", b"plan 2 ", text, count=1)})
+    runs = {"report": ["serial", "plan", sessions], "transcript": ["sim", "plan", sessions, os.path.join(folder, "script")]}
+    for file in sorted(has & set(runs)):
+        wanted = re.sub(rb"(?m)^(frame \d+ )(\w+)$", lambda it: it[1] + second(it[2]), read(os.path.join(folder, file)))
+        ran = check.run(runs[file])
+        wrong = differs(f"{os.path.relpath(os.path.join(folder, file), TOP)}, under version 2", wanted, ran.out)
+        check.say(f"{name}: {file} under version 2", wrong or (None if (ran.status, ran.err) == (0, b"") else f"{ran}"))
+
+
+def second(frame):
+    """The digits of a frame of version 01 as one of version 02: its version, and where it has a value the form of a number before that."""
+    return frame[:4] + b"02" + frame[6:58] + (b"01" + frame[58:] if len(frame) == 74 else b"")
 
 
 def text_of(lines):

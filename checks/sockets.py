@@ -90,6 +90,7 @@ def runs(check):
     answered(check)
     broken(check)
     two_processes(check)
+    two_versions(check)
     two_terminals(check)
 
 
@@ -308,6 +309,25 @@ def two_processes(check):
     for office, out in (("a", MOVED + b"unfinished 0\n"), ("b", b"unfinished 0\n")):
         check.wants(f"run: two processes: {office}", ended(running[office]), 0, out, b"")
     check.wants("run: two processes: an audit", check.run("audit shared.txt b.told a.told"), 0, MOVED + b"unfinished 0\n" + VALUES, b"")
+
+
+def two_versions(check):
+    """Two offices whose plans have one run and other versions: neither takes anything of the other, and both say why. Under version 2
+    both do, texts too."""
+    plan, texts = at_ports(SHARED, free_ports(2)), b'session a\nset y = read y + ", b"\ngive read x\nend\n'
+    two = plan.replace(b"plan 1", b"plan 2").replace(b"b 0 at b", b'b "a" at b')
+    check.files({"shared.txt": plan, "two.txt": two, "both.txt": b"session a\ngive read y\nend\nsession b\ngive read x\nend\n", "texts.txt": texts})
+    running = {it: started(check, f"run {file} {it} both.txt --turns {FEWER_TURNS} --journal {it}.apart") for it, file in (("b", "two.txt"), ("a", "shared.txt"))}
+    for office, other, record, own, theirs in (("a", "b", "y", 1, 2), ("b", "a", "x", 2, 1)):
+        waits = rf"\Adrink: {office}\.1 waits for {record} from {other}[^\n]*\n"
+        refuses = rf"drink: {office} takes no frame of {other}: they are of version {theirs}, its own plan is `plan {own}` \(L4 WrongVersion\)\n\Z"
+        check.wants(f"run: two versions: {office}", ended(running[office]), 1, b"unfinished 1\n", waits + refuses)
+        check.equal(f"run: two versions: what {office} was not told", check.bytes_of(f"{office}.apart").count(b" took "), 0)
+    running = {it: started(check, f"run two.txt {it} texts.txt --turns {FEWER_TURNS} --journal {it}.texts") for it in "ba"}
+    done = b'a.1 done reads x=100 y="a" writes y="a, b" gives 100\n'
+    for office, out in (("a", done + b"unfinished 0\n"), ("b", b"unfinished 0\n")):
+        check.wants(f"run: version 2: {office}", ended(running[office]), 0, out, b"")
+    check.wants("run: version 2: an audit", check.run("audit two.txt b.texts a.texts"), 0, done + b'unfinished 0\nvalue x 100\nvalue y "a, b"\n', b"")
 
 
 def two_terminals(check):
