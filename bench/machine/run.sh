@@ -1,13 +1,14 @@
 #!/bin/sh
 # Counts the instructions of the processor that compiling a session, beginning work on it, working on it in pieces of 256
 # and walking its tree take: what a run with 100 of them has more than one without. The sessions are at the limits: loops
-# over a sum of two and over one of 32, a loop that reads the last of 16 records, and 64 gives. Needs rt and valgrind.
+# over a sum of two and over one of 32, a loop that reads the last of 16 records, 64 gives, and a loop that joins two texts of
+# 32 bytes. Needs rt and valgrind.
 #
 #   sh bench/machine/run.sh
 set -eu
 here=$(cd "$(dirname "$0")" && pwd)
 top=$here/../..
-uses="session_machine serial_replay session_language session_programs session_meaning office_map bottle_values"
+uses="session_machine serial_replay session_language session_programs session_measures session_meaning office_map bottle_values"
 . "$top/bench/shared/crate.sh"
 rounds=100
 
@@ -28,3 +29,4 @@ row sums 7
 row deep 67
 row reads 39
 row gives 130
+row texts 11
