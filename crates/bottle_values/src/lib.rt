@@ -19,7 +19,7 @@
 //! element, and every proof goes element by element; a lemma says that the two are one.
 #![tactic(auto)]
 
-ghost use Rattle.std.specs.Prelude.{◌≡◌, ℤ, IsTrue, Some, ◌↔◌};
+ghost use Rattle.std.specs.Prelude.{◌≡◌, ℤ, IsTrue, false, Some, IfSome, IfNone, ◌↔◌};
 ghost use Rattle.std.specs.Int.{w64, from_be_bytes};
 ghost use Rattle.bottle_values.specs.declared.Value.TheVariants as kind;
 ghost use Rattle.bottle_values.specs.Values.{number_in, is_number};
@@ -135,6 +135,17 @@ impl Value {
         match (self, other) {
             (Value::Number(a), Value::Number(b)) => Ok(a <= b),
             _ => Err(ValueFault::Mismatch),
+        }
+    }
+
+    /// The number, if the value is one.
+    pub fn number(&self) -> Option<i64>
+        ensures some { IfSome result (λ number. self.now ≡ kind.Number number) }
+        ensures none { IfNone result (is_number self.now ≡ false) }
+    {
+        match *self {
+            Value::Number(number) => Some(number),
+            Value::Text(_) => None,
         }
     }
 
