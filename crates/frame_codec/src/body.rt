@@ -1,13 +1,13 @@
 //! What follows a header: a message, whose value is spelled as its version says.
 
-ghost use Rattle.std.specs.Prelude.{◌≡◌, ◌≤◌, ◌+◌, ◌∷◌, ◌++◌, length, drop, IfOk, IsTrue};
+ghost use Rattle.std.specs.Prelude.{◌≡◌, ℕ, ◌≤◌, ◌+◌, ◌∷◌, ◌++◌, length, drop, Some, IfOk, IfErr, IsTrue};
 ghost use Rattle.std.specs.Result.{result_err};
-ghost use Rattle.bottle_values.specs.Operations.{is_value};
 ghost use Rattle.bottle_values.specs.Versions.{admits};
-ghost use Rattle.bottle_values.specs.declared.version.Version.TheVariants as version;
-ghost use Rattle.frame_codec.specs.Frame.{IsMsg, carries};
+ghost use Rattle.frame_codec.specs.Frame.{carries};
 ghost use Rattle.frame_codec.specs.Spelling.{message, value_bytes};
+ghost use Rattle.frame_codec.specs.declared.body.Form.TheVariants as forms;
 ghost use Rattle.frame_codec.specs.refinement.DecodedParts.{message_fault, number_fault, text_fault, value_fault};
+ghost use Rattle.frame_codec.specs.refinement.DecodedParts.{IsNumberOf, fault_left, form_fault, message_of, text_byte_fault, value_of};
 
 use crate::fault::FrameFault;
 use crate::message::{ASK_BOTTLE, ASK_FORK, BOTTLE, FORK, Msg};
@@ -19,19 +19,40 @@ const NUMBER: u8 = 1;
 
 const TEXT: u8 = 2;
 
-/// The message that these bytes spell in that version, all of them.
-pub fn read_message(version: Version, bytes: &[u8]) -> Result<Msg, FrameFault>
-    ensures fault { result_err result ≡ message_fault version bytes.now }
-    ensures spelled { IfOk result (λ msg. bytes.now ≡ message version msg) }
-    ensures range { IfOk result IsMsg }
-    ensures carried { IfOk result (λ msg. IsTrue (carries version msg)) }
+/// A message as it is found in its bytes: a text, and whether its bytes may stand in one, is still to be read there.
+///
+/// So it is small, and handed on at no cost; a message has the room of a text.
+#[derive(Clone, Copy)]
+pub enum Part {
+    AskFork,
+    Fork,
+    AskBottle(u16),
+    Bottle(u16, Form),
+}
+
+/// A value as it is found there.
+#[derive(Clone, Copy)]
+pub enum Form {
+    Number(i64),
+    Text,
+}
+
+/// Where the bytes of a message have those of its text.
+pub const TEXT_START: usize = 5;
+
+/// The message that these bytes spell in that version, all of them, but for what a text may be.
+pub fn read_message(version: Version, bytes: &[u8]) -> Result<Part, FrameFault>
+    ensures fault { IfErr result (λ fault. message_fault version bytes.now ≡ Some fault) }
+    ensures left { IfOk result (λ part. message_fault version bytes.now ≡ fault_left part bytes.now) }
+    ensures spelled { IfOk result (λ part. bytes.now ≡ message version (message_of part bytes.now)) }
+    ensures carried { IfOk result (λ part. IsTrue (carries version (message_of part bytes.now))) }
 {
     match bytes {
-        [ASK_FORK] => Ok(Msg::AskFork),
-        [FORK] => Ok(Msg::Fork),
-        [ASK_BOTTLE, high, low] => Ok(Msg::AskBottle(u16::from_be_bytes([*high, *low]))),
+        [ASK_FORK] => Ok(Part::AskFork),
+        [FORK] => Ok(Part::Fork),
+        [ASK_BOTTLE, high, low] => Ok(Part::AskBottle(u16::from_be_bytes([*high, *low]))),
         [BOTTLE, high, low, value @ ..] => match read_value(version, value) {
-            Ok(value) => Ok(Msg::Bottle(u16::from_be_bytes([*high, *low]), value)),
+            Ok(form) => Ok(Part::Bottle(u16::from_be_bytes([*high, *low]), form)),
             Err(fault) => Err(fault),
         },
         [] | [ASK_FORK..=BOTTLE, ..] => Err(FrameFault::Length),
@@ -39,12 +60,12 @@ pub fn read_message(version: Version, bytes: &[u8]) -> Result<Msg, FrameFault>
     }
 }
 
-// The value that these bytes spell in that version, all of them.
-fn read_value(version: Version, bytes: &[u8]) -> Result<Value, FrameFault>
-    ensures fault { result_err result ≡ value_fault version bytes.now }
-    ensures spelled { IfOk result (λ value. bytes.now ≡ value_bytes version value) }
-    ensures range { IfOk result (λ value. IsTrue (is_value value)) }
-    ensures admitted { IfOk result (λ value. IsTrue (admits version value)) }
+// The value that these bytes spell in that version, all of them, but for what a text may be.
+fn read_value(version: Version, bytes: &[u8]) -> Result<Form, FrameFault>
+    ensures fault { IfErr result (λ fault. value_fault version bytes.now ≡ Some fault) }
+    ensures left { IfOk result (λ form. value_fault version bytes.now ≡ form_fault form bytes.now) }
+    ensures spelled { IfOk result (λ form. bytes.now ≡ value_bytes version (value_of form bytes.now)) }
+    ensures admitted { IfOk result (λ form. IsTrue (admits version (value_of form bytes.now))) }
 {
     match version {
         Version::One => read_number(bytes),
@@ -58,23 +79,22 @@ fn read_value(version: Version, bytes: &[u8]) -> Result<Value, FrameFault>
 }
 
 // The number that has these bytes, all of them.
-fn read_number(bytes: &[u8]) -> Result<Value, FrameFault>
+fn read_number(bytes: &[u8]) -> Result<Form, FrameFault>
     ensures fault { result_err result ≡ number_fault bytes.now }
-    ensures spelled { IfOk result (λ value. bytes.now ≡ value_bytes version.One value) }
-    ensures range { IfOk result (λ value. IsTrue (is_value value)) }
-    ensures number { IfOk result (λ value. IsTrue (admits version.One value)) }
+    ensures number { IfOk result (IsNumberOf bytes.now) }
 {
     let Ok(number) = <[u8; 8]>::try_from(bytes) else {
         return Err(FrameFault::Length);
     };
-    Ok(Value::of_bytes(number))
+    Ok(Form::Number(i64::from_be_bytes(number)))
 }
 
-// The text of that length that these bytes are, all of them.
-fn read_text(size: u8, bytes: &[u8]) -> Result<Value, FrameFault>
-    ensures fault { result_err result ≡ text_fault size bytes.now }
-    ensures spelled { IfOk result (λ value. 2 ∷ size ∷ bytes.now ≡ value_bytes version.Two value) }
-    ensures range { IfOk result (λ value. IsTrue (is_value value)) }
+// Whether these bytes have the length of a text that is told to have that one.
+fn read_text(size: u8, bytes: &[u8]) -> Result<Form, FrameFault>
+    ensures fault { IfErr result (λ fault. text_fault size bytes.now ≡ Some fault) }
+    ensures left { IfOk result (λ form. text_fault size bytes.now ≡ text_byte_fault bytes.now) }
+    ensures text { IfOk result (λ form. form ≡ forms.Text) }
+    ensures length { IfOk result (λ form. ◌≡◌ {A = ℕ} size (length bytes.now)) }
 {
     if size as usize > MAX_TEXT {
         return Err(FrameFault::ValueForm);
@@ -82,10 +102,7 @@ fn read_text(size: u8, bytes: &[u8]) -> Result<Value, FrameFault>
     if bytes.len() != size as usize {
         return Err(FrameFault::Length);
     }
-    match Text::of(bytes) {
-        Some(text) => Ok(Value::Text(text)),
-        None => Err(FrameFault::TextByte),
-    }
+    Ok(Form::Text)
 }
 
 /// Writes the message to the front of `out`, as that version spells it, and returns how many bytes it has.

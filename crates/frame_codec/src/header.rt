@@ -1,11 +1,13 @@
 //! The 26 bytes that each frame begins with, in either version of the format.
 
-ghost use Rattle.std.specs.Prelude.{◌≡◌, ◌≢◌, ◌≤◌, ◌++◌, length, drop, IfOk, IfSome, IfNone};
+ghost use Rattle.std.specs.Prelude.{◌≡◌, ◌≢◌, ◌<◌, ◌≤◌, ◌++◌, length, drop, IsTrue, IfOk, IfSome, IfNone};
 ghost use Rattle.std.specs.Result.{result_err};
 ghost use Rattle.bottle_values.specs.Versions.{number_of};
-ghost use Rattle.frame_codec.specs.Frame.{IsFrame};
+ghost use Rattle.frame_codec.specs.Frame.{IsFrame, carries};
 ghost use Rattle.frame_codec.specs.Header.{ack_kind, data_kind, header, header_fault, kind_of};
-ghost use Rattle.frame_codec.specs.refinement.DecodedParts.{BeginsWith, code_of, is_numbered_by};
+ghost use Rattle.frame_codec.specs.Limits.{sequence_space};
+ghost use Rattle.frame_codec.specs.declared.header.Kind.TheVariants as kinds;
+ghost use Rattle.frame_codec.specs.refinement.DecodedParts.{BeginsWith, code_of, framed, is_numbered_by};
 
 use crate::fault::FrameFault;
 use crate::frame::{Frame, MAX_NUMBER};
@@ -78,6 +80,24 @@ pub struct Header {
 }
 
 impl Header {
+    /// The frame with this header and that message.
+    pub fn data(self, msg: Msg) -> Frame
+        requires number { IsTrue (is_numbered_by kinds.Data self.number) }
+        requires count { self.count < sequence_space }
+        requires carried { IsTrue (carries self.version msg) }
+        ensures { result ≡ framed self msg }
+    {
+        Frame::data(
+            self.version,
+            self.run,
+            self.from,
+            self.to,
+            self.number,
+            self.count,
+            msg,
+        )
+    }
+
     /// The header of a frame.
     #[tactic(auto, unfolding(crate::specs::Header::header_fault))]
     pub fn read(bytes: &[u8]) -> Result<Header, FrameFault>

@@ -5,15 +5,18 @@ ghost use Rattle.std.specs.Result.{result_err};
 ghost use Rattle.frame_codec.specs.Frame.{Fields};
 ghost use Rattle.frame_codec.specs.Spelling.{Spells, first_fault, spelling};
 
-use crate::body::{read_message, write_message};
+use crate::body::{Form, Part, TEXT_START, read_message, write_message};
 use crate::fault::FrameFault;
 use crate::frame::Frame;
 use crate::header::{HEADER_LENGTH, Header, Kind, write_header};
+use crate::message::Msg;
+use bottle_values::{Text, Value};
 
 /// The length of the longest frame that the format has, a bottle with a text of 64 bytes.
 pub const MAX_LENGTH: usize = 95;
 
 /// The frame that these bytes spell, all of them, or the first fault that applies.
+#[inline(always)]
 #[tactic(auto, unfolding(crate::specs::Spelling::first_fault, crate::specs::Spelling::spelling, crate::specs::Header::header_fault))]
 pub fn decode(bytes: &[u8]) -> Result<Frame, FrameFault>
     // What is read is spelled so.
@@ -27,24 +30,33 @@ pub fn decode(bytes: &[u8]) -> Result<Frame, FrameFault>
 {
     let header = Header::read(bytes)?;
     let body = &bytes[HEADER_LENGTH..];
-    match header.kind {
-        Kind::Ack if body.is_empty() => Ok(Frame::ack(
-            header.version,
-            header.run,
-            header.from,
-            header.to,
-            header.count,
-        )),
-        Kind::Ack => Err(FrameFault::Length),
-        Kind::Data => Ok(Frame::data(
-            header.version,
-            header.run,
-            header.from,
-            header.to,
-            header.number,
-            header.count,
-            read_message(header.version, body)?,
-        )),
+    // A frame is copied wherever ways meet, and it is large: so each way makes its own and returns it.
+    let part = match header.kind {
+        Kind::Ack if body.is_empty() => {
+            return Ok(Frame::ack(
+                header.version,
+                header.run,
+                header.from,
+                header.to,
+                header.count,
+            ));
+        }
+        Kind::Ack => return Err(FrameFault::Length),
+        Kind::Data => read_message(header.version, body)?,
+    };
+    match part {
+        Part::AskFork => return Ok(header.data(Msg::AskFork)),
+        Part::Fork => return Ok(header.data(Msg::Fork)),
+        Part::AskBottle(bottle) => return Ok(header.data(Msg::AskBottle(bottle))),
+        Part::Bottle(bottle, form) => match form {
+            Form::Number(number) => {
+                return Ok(header.data(Msg::Bottle(bottle, Value::Number(number))));
+            }
+            Form::Text => match Text::of(&body[TEXT_START..]) {
+                Some(text) => return Ok(header.data(Msg::Bottle(bottle, Value::Text(text)))),
+                None => return Err(FrameFault::TextByte),
+            },
+        },
     }
 }
 

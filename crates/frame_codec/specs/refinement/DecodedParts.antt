@@ -1,9 +1,18 @@
 -- What the code holds between reading a header and making the frame.
-use Rattle.std.specs.Prelude.{◌≡◌, ℕ, ◌<◌, ◌≤◌, ◌^◌, Bool, IsTrue, ◌+◌, not, ◌&&◌, ◌==◌, nat_lt, nat_le, if◌then◌else◌, List, [], ◌∷◌, length, take, Option, Some, None}
+use Rattle.std.specs.Prelude.{◌≡◌, ℕ, ◌<◌, ◌≤◌, ◌^◌, Bool, false, IsTrue, not, ◌&&◌, ◌==◌, nat_lt, nat_le, if◌then◌else◌, List, [], ◌∷◌, length, take, drop, Option, Some, None}
 use Rattle.std.specs.List.{list_all}
-use Rattle.bottle_values.specs.Texts.{is_text_byte, longest_text}
+use Rattle.bottle_values.specs.Bytes.{bytes_of}
+use Rattle.bottle_values.specs.Texts.{is_text, is_text_byte, longest_text}
+use Rattle.bottle_values.specs.declared.Value.{Value}
+use Rattle.bottle_values.specs.declared.Value.TheVariants as kind
 use Rattle.bottle_values.specs.declared.version.Version.{Version}
 use Rattle.bottle_values.specs.declared.version.Version.TheVariants.{One, Two}
+use Rattle.frame_codec.specs.declared.body.Form.{Form}
+use Rattle.frame_codec.specs.declared.body.Form.TheVariants as forms
+use Rattle.frame_codec.specs.declared.body.Part.{Part}
+use Rattle.frame_codec.specs.declared.body.Part.TheVariants as parts
+use Rattle.frame_codec.specs.declared.message.Msg.{Msg}
+use Rattle.frame_codec.specs.declared.message.Msg.TheVariants.{AskFork, Fork, AskBottle, Bottle}
 use Rattle.frame_codec.specs.declared.header.Kind.{Kind}
 use Rattle.frame_codec.specs.declared.header.Kind.TheVariants.{Data, Ack}
 use Rattle.frame_codec.specs.declared.header.Header.{Header}
@@ -21,6 +30,28 @@ code_of Ack = ack_kind
 abbrev pub fields_of : Header → Fields
 fields_of h =
     record { version = h.version; run = h.run; from = h.from; to = h.to; number = h.number; count = h.count; msg = None }
+
+-- the frame with that header and message
+abbrev pub framed : Header → Msg → Fields
+framed h m =
+    record { version = h.version; run = h.run; from = h.from; to = h.to; number = h.number; count = h.count; msg = Some m }
+
+-- the value that was found in its bytes; a text stands behind its form and length
+abbrev pub value_of : Form → List ℕ → Value
+value_of (forms.Number z) bytes = kind.Number z
+value_of forms.Text bytes = kind.Text (drop 2 bytes)
+
+-- the message that was found in its bytes; a value stands behind the tag and the record's number
+abbrev pub message_of : Part → List ℕ → Msg
+message_of parts.AskFork bytes = AskFork
+message_of parts.Fork bytes = Fork
+message_of (parts.AskBottle bottle) bytes = AskBottle bottle
+message_of (parts.Bottle bottle form) bytes = Bottle bottle (value_of form (drop 3 bytes))
+
+-- a number was found, and these are its bytes
+abbrev pub IsNumberOf : List ℕ → Form → Type 0
+IsNumberOf bytes (forms.Number z) = bytes ≡ bytes_of z
+IsNumberOf bytes forms.Text = IsTrue false
 
 -- whether a frame of that kind may have the number
 abbrev pub is_numbered_by : Kind → ℕ → Bool
@@ -48,6 +79,22 @@ abbrev pub text_fault : ℕ → List ℕ → Option FrameFault
 text_fault size bytes =
     if not (nat_le size longest_text) then Some ValueForm else if not (length bytes == size) then Some Length
     else if list_all is_text_byte bytes then None else Some TextByte
+
+-- of a text's bytes, whose length is right
+abbrev pub text_byte_fault : List ℕ → Option FrameFault
+text_byte_fault bytes = if is_text bytes then None else Some TextByte
+
+-- the fault that bytes can still have where a value was found in them
+abbrev pub form_fault : Form → List ℕ → Option FrameFault
+form_fault (forms.Number z) bytes = None
+form_fault forms.Text bytes = text_byte_fault (drop 2 bytes)
+
+-- where a message was found in them
+abbrev pub fault_left : Part → List ℕ → Option FrameFault
+fault_left parts.AskFork bytes = None
+fault_left parts.Fork bytes = None
+fault_left (parts.AskBottle bottle) bytes = None
+fault_left (parts.Bottle bottle form) bytes = form_fault form (drop 3 bytes)
 
 -- of what follows the form of a text
 abbrev pub sized_fault : List ℕ → Option FrameFault
