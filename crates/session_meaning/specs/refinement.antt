@@ -3,6 +3,7 @@ pub mod PostfixSplit
 pub mod TreeOfStatements
 pub mod RowLaws
 pub mod KeptNode
+pub mod NodeParts
 pub mod TextBytes
 pub mod ExpressionNodes
 pub mod KeptGives

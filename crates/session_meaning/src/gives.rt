@@ -77,6 +77,18 @@ impl Gives {
         Ok(())
     }
 
+    /// Adds a number at the end, without room for a text. Where memory runs out the list is as it was.
+    pub fn push_number(&mut self, number: i64) -> Result<(), AllocError>
+        ensures pushed { OnOk result (self.new ≡ self.old ++ Number number ∷ []) }
+        ensures unchanged { OnErr result (self.new ≡ self.old) }
+    {
+        match &mut self.kept {
+            Kept::Numbers(kept) => kept.push(number)?,
+            Kept::Values(kept) => kept.push(Value::Number(number))?,
+        }
+        Ok(())
+    }
+
     /// How many there are.
     pub fn len(&self) -> usize
         ensures { result ≡ length self.now }

@@ -1,9 +1,11 @@
 //! A node as an expression keeps it.
 
-ghost use Rattle.std.specs.Prelude.{◌≡◌};
+ghost use Rattle.std.specs.Prelude.{◌≡◌, ℕ, List, Some};
 ghost use Rattle.session_meaning.specs.refinement.KeptNode.{node_of, text_in};
+ghost use Rattle.session_meaning.specs.refinement.NodeParts.{IsPart};
 
 use crate::node::{Node, Operator};
+use crate::part::Part;
 use bottle_values::{Text, Value};
 use office_map::RecordId;
 
@@ -34,6 +36,21 @@ impl Kept {
             Kept::Read(id) => Node::Read(id),
             Kept::Negate => Node::Negate,
             Kept::Apply(operator) => Node::Apply(operator),
+        }
+    }
+
+    /// What it is, but for a text's bytes, whatever bytes are beside it.
+    #[inline(always)]
+    pub(crate) fn part(self) -> Part
+        ensures { (bytes : List ℕ) → IsPart (Some (node_of bytes self)) result }
+    {
+        match self {
+            Kept::Number(number) => Part::Number(number),
+            Kept::Text(_, _) => Part::Text,
+            Kept::Variable(place) => Part::Variable(place),
+            Kept::Read(id) => Part::Read(id),
+            Kept::Negate => Part::Negate,
+            Kept::Apply(operator) => Part::Apply(operator),
         }
     }
 }

@@ -8,7 +8,8 @@
 //! - A running session has a [`WorkingCopy`] of its records and its [`Variables`]; their calls, [`Operator::apply`] and
 //!   [`Comparison::holds`] are those of `specs/Meaning.antt`.
 //! - [`laws`]: a session writes only what it was given, tells what it read, and takes as many steps as its length.
-//! - Expressions are kept in postfix order (`specs/refinement/Postfix.antt`), and their [`Nodes`] are told one at a time;
+//! - Expressions are kept in postfix order (`specs/refinement/Postfix.antt`), and their [`Nodes`] are told one at a time, or
+//!   what each is but for a text's bytes ([`Part`]);
 //!   [`operands`] takes them apart.
 //!
 //! It stands below the language: what a session does alone and how long that takes needs a tree and no text. So what
@@ -27,6 +28,7 @@ mod node;
 mod node_list;
 mod nodes;
 pub mod operands;
+mod part;
 mod slots;
 mod tree;
 mod variables;
@@ -38,6 +40,7 @@ pub use crate::gives::Gives;
 pub use crate::node::{Comparison, Node, Operator};
 pub use crate::node_list::NodeList;
 pub use crate::nodes::Nodes;
+pub use crate::part::Part;
 pub use crate::tree::{Condition, Statement};
 pub use crate::variables::Variables;
 pub use crate::working_copy::WorkingCopy;

@@ -2,10 +2,12 @@
 
 ghost use Rattle.std.specs.Prelude.{◌≡◌, ◌∷◌, [], ◌++◌, ◌<◌, ◌≤◌, ◌+◌, ◌^◌, length, map, take, drop, slice_get, Some, false, IfSome, IfNone};
 ghost use Rattle.session_meaning.specs.refinement.KeptNode.{node_of};
+ghost use Rattle.session_meaning.specs.refinement.NodeParts.{IsPart};
 ghost use Rattle.session_meaning.specs.refinement.TextBytes.{nodes_bytes};
 
 use crate::kept::Kept;
 use crate::node::Node;
+use crate::part::Part;
 use std::marker::Model;
 
 /// The nodes of an expression, or some of them that follow one another, each operator after its operands. Contracts see
@@ -58,6 +60,15 @@ impl<'a> Nodes<'a> {
     {
         let kept = self.kept;
         kept[i].node(self.bytes)
+    }
+
+    /// What the node after so many others is, but for a text's bytes.
+    pub fn part(&self, i: usize) -> Part
+        requires { i < length self.now }
+        ensures { IsPart (slice_get self.now i) result }
+    {
+        let kept = self.kept;
+        kept[i].part()
     }
 
     /// The last node, and those before it.

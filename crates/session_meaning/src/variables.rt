@@ -20,8 +20,10 @@ impl Model for Variables {
 }
 
 impl Variables {
-    ghost use Rattle.std.specs.Prelude.{◌≡◌, [], IfOk, OnOk, OnErr, replicate, slice_set};
+    ghost use Rattle.std.specs.Prelude.{◌≡◌, [], IfOk, OnOk, OnErr, IfSome, IfNone, replicate, slice_set, false};
     ghost use Rattle.std.specs.List.{slice_index_or};
+    ghost use Rattle.bottle_values.specs.declared.Value.TheVariants.{Number};
+    ghost use Rattle.bottle_values.specs.Values.{is_number};
     ghost use Rattle.bottle_values.specs.Operations.{nought};
 
     /// So many variables, each 0.
@@ -52,6 +54,19 @@ impl Variables {
             self.values[place]
         } else {
             Value::from(0)
+        }
+    }
+
+    /// The number of a variable, if its value is one.
+    pub fn number(&self, place: u8) -> Option<i64>
+        ensures some { IfSome result (λ number. slice_index_or self.now place nought ≡ Number number) }
+        ensures none { IfNone result (is_number (slice_index_or self.now place nought) ≡ false) }
+    {
+        let place = place as usize;
+        if place < self.values.len() {
+            self.values[place].number()
+        } else {
+            Some(0)
         }
     }
 

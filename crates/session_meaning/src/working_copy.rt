@@ -38,7 +38,9 @@ impl Model for WorkingCopy {
 }
 
 impl WorkingCopy {
-    ghost use Rattle.std.specs.Prelude.{◌≡◌, ◌==◌, ℕ, [], Some, IfOk, OnOk, OnErr, map, position};
+    ghost use Rattle.std.specs.Prelude.{◌≡◌, ◌==◌, ℕ, [], Some, false, IfOk, OnOk, OnErr, IfSome, IfNone, map, position};
+    ghost use Rattle.bottle_values.specs.declared.Value.TheVariants.{Number};
+    ghost use Rattle.bottle_values.specs.Values.{is_number};
     ghost use Rattle.session_meaning.specs.Meaning.{slot_of, value_in, set_in, writes_of};
 
     /// The copy as the session begins.
@@ -101,6 +103,17 @@ impl WorkingCopy {
         value_of(&self.slots, self.is_sorted, id)
     }
 
+    /// The number of a record, if its value is one.
+    pub fn number(&self, id: RecordId) -> Option<i64>
+        ensures some { IfSome result (λ number. value_in self.now id ≡ Number number) }
+        ensures none { IfNone result (is_number (value_in self.now id) ≡ false) }
+    {
+        match self.place(id) {
+            Some(place) => self.number_at(place),
+            None => Some(0),
+        }
+    }
+
     /// Where a record's first slot is, if it has one. It stays there when records are set.
     pub fn place(&self, id: RecordId) -> Option<usize>
         ensures { result ≡ position (λ s. s.r == id) self.now }
@@ -114,6 +127,16 @@ impl WorkingCopy {
         ensures { (id : ℕ) → position (λ s. s.r == id) self.now ≡ Some place → result ≡ value_in self.now id }
     {
         self.slots[place].value
+    }
+
+    /// The number of the record whose place this is, if its value is one.
+    pub fn number_at(&self, place: usize) -> Option<i64>
+        requires { (id : ℕ) × (position (λ s. s.r == id) self.now ≡ Some place) }
+        ensures some { (id : ℕ) → position (λ s. s.r == id) self.now ≡ Some place → IfSome result (λ number. value_in self.now id ≡ Number number) }
+        ensures none { (id : ℕ) → position (λ s. s.r == id) self.now ≡ Some place → IfNone result (is_number (value_in self.now id) ≡ false) }
+    {
+        let slot = &self.slots[place];
+        slot.value.number()
     }
 
     /// Sets a record, if it is there.
