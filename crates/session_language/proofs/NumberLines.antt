@@ -1,18 +1,18 @@
 -- Lines under a plan of version 1 are lines of numbers alone.
-use Rattle.std.proofs.Common.{◌≡◌, ◌≤◌, ◌+◌, ◌⊎◌, inl, inr, ℕ, zero, suc, List, [], ◌∷◌, ◌++◌, length, take, drop, Bool, true, false, ◌||◌, nat_lt, Option, Some, None, if◌then◌else◌, codes, refl, sym, ap, ◌∙◌, subst, arith, length-drop}
-use Rattle.std.specs.List.{list_any, prefix_len}
+use Rattle.std.proofs.Common.{◌≡◌, ◌⊎◌, inl, inr, ℕ, zero, suc, List, [], ◌∷◌, ◌++◌, length, take, drop, Bool, true, false, ◌||◌, nat_lt, Option, Some, None, if◌then◌else◌, codes, refl, sym, ap, ◌∙◌, subst, arith}
+use Rattle.std.specs.List.{list_any}
 use Rattle.std.proofs.lemmas.Bool.{both_ways}
 use Rattle.std.proofs.lemmas.Bool.Decides.{nat_tests}
 use Rattle.bottle_values.specs.declared.version.Version.TheVariants.{One}
 use Rattle.text_lines.specs.Text.{is_blank, is_name_byte}
 use Rattle.session_language.specs.declared.lexer.Symbol.{Symbol}
-use Rattle.session_language.specs.Lexer.{Piece, AWord, ASymbol, AQuoted, AStray, word_len, long_symbol, two_bytes, one_byte, begins_equals, symbol_at, is_quote, quoted_len, quoted_at, piece_at, pieces_in, pieces_of}
+use Rattle.session_language.specs.Lexer.{Piece, AWord, ASymbol, AQuoted, AStray, word_len, long_symbol, two_bytes, begins_equals, symbol_at, is_quote, quoted_len, quoted_at, piece_at, pieces_in, pieces_of}
 use Rattle.session_language.specs.Spelling.{Token}
-use Rattle.session_language.specs.LineGrammar.{AreTokens, nothing, number, variable, value_of, text, sign, IsPhrase, IsForm, opens, lets, sets, gives, demands, asks, repeats, otherwise, closes}
+use Rattle.session_language.specs.LineGrammar.{AreTokens, nothing, number, variable, value_of, text, sign, IsForm, opens, lets, sets, gives, demands, asks, repeats, otherwise, closes}
 use Rattle.session_language.specs.Form.{Form, form_of}
 use Rattle.session_language.specs.Reading.{take_formed}
 use Rattle.session_language.specs.NumberLines.{number_piece_at, number_pieces_in, number_pieces_of, NumbersMeanTheSame}
-use Rattle.session_language.proofs.Pieces.{piece_shorter, enough, quoted_by, no_word_by}
+use Rattle.session_language.proofs.Pieces.{quoted_by, no_word_by}
 use Rattle.session_language.proofs.LineGrammar.{by_grammar}
 
 -- a piece that no form has, where there are no texts

@@ -4,7 +4,6 @@ use Rattle.std.specs.List.{list_any, list_all}
 use Rattle.std.proofs.lemmas.Bool.{and_parts}
 use Rattle.std.proofs.lemmas.Bool.Decides.{nat_tests}
 use Rattle.bottle_values.specs.Texts.{is_text_byte, is_text}
-use Rattle.bottle_values.specs.Printed.{quoted}
 use Rattle.session_language.specs.Lexer.{Piece, AQuoted, AStray, is_quote, quoted_len, quoted_at}
 
 -- none of these bytes is a quotation mark

@@ -1,7 +1,7 @@
 -- The literals of a session that is open are of the plan's version, after each line.
-use Rattle.std.proofs.Common.{◌≡◌, ℕ, List, [], ◌∷◌, ◌++◌, Bool, true, false, ◌&&◌, IfOk, Ok, refl, ap, ◌∙◌}
+use Rattle.std.proofs.Common.{◌≡◌, ℕ, List, [], ◌∷◌, ◌++◌, Bool, true, false, ◌&&◌, IfOk, refl, ap, ◌∙◌}
 use Rattle.bottle_values.specs.declared.version.Version.{Version}
-use Rattle.session_meaning.specs.Tree.{Command, LetVar, SetTo, GiveOf, Requires, Block}
+use Rattle.session_meaning.specs.Tree.{Command, LetVar, SetTo, GiveOf, Requires}
 use Rattle.session_meaning.specs.Fitting.{term_fits, test_fits, command_fits, block_fits}
 use Rattle.session_meaning.specs.refinement.TreeOfStatements.{block_from}
 use Rattle.session_language.specs.Reading.{Head, IfHead, ElseHead, RepeatHead, OpenBlock, Draft, Spoken, SpeaksLet, SpeaksSet, SpeaksGive, SpeaksDemand, SpeaksIf, SpeaksRepeat, place_of, with_variable, with_line, with_names, turned, whole, with_end, begun}

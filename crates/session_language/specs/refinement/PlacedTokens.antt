@@ -1,5 +1,5 @@
 -- Tokens with their names in their places, and those of the code.
-use Rattle.std.specs.Prelude.{ℕ, pos, Bool, unwrap_or}
+use Rattle.std.specs.Prelude.{pos, Bool, unwrap_or}
 use Rattle.bottle_values.specs.declared.Value.TheVariants.{Number, Text}
 use Rattle.session_meaning.specs.declared.node.Node.{Node}
 use Rattle.session_meaning.specs.declared.node.Node.TheVariants.{Literal, Variable, Read}
