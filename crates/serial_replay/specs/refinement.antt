@@ -1,3 +1,2 @@
 pub mod PostfixEvaluation
 pub mod WalkRefinement
-pub mod NumbersAlone
