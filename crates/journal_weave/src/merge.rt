@@ -147,12 +147,12 @@ impl Merge {
     ) -> Result<Option<WorldEvent>, AllocError>
         ensures { IfOk result (λ found. (frames : List Fields) → Knows ⟦<FrameKey as Ord>⟧.cmp replays.now self.now.sent frames → IsFound frames a (event_shown event.now) found) }
     {
-        match *event {
+        match event {
             EventRef::Submit(program) => Ok(Some(WorldEvent::Submit(a, program.copy()?))),
-            EventRef::Do(rule) => Ok(Some(WorldEvent::Do(a, rule))),
-            EventRef::Send(v, i) => Ok(Some(WorldEvent::Send(a, v, i))),
-            EventRef::Took(frame) => Ok(self.arrival_of(a, &frame, replays)),
-            EventRef::Withdraw(ticket) => Ok(Some(WorldEvent::Withdraw(a, ticket))),
+            EventRef::Do(rule) => Ok(Some(WorldEvent::Do(a, *rule))),
+            EventRef::Send(v, i) => Ok(Some(WorldEvent::Send(a, *v, *i))),
+            EventRef::Took(frame) => Ok(self.arrival_of(a, frame, replays)),
+            EventRef::Withdraw(ticket) => Ok(Some(WorldEvent::Withdraw(a, *ticket))),
         }
     }
 

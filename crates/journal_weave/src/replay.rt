@@ -6,6 +6,7 @@ ghost use Rattle.office_map.specs.PlanValue.{PlanValue};
 ghost use Rattle.office_journal.specs.Shown.{entry_shown};
 ghost use Rattle.office_journal.specs.declared.event.Entry.{Entry};
 ghost use Rattle.office_journal.specs.declared.event.Event.TheVariants as events;
+ghost use Rattle.frame_world.specs.Sent.{told_in};
 ghost use Rattle.site_core.specs.Journals.{noted};
 ghost use Rattle.journal_weave.specs.Following.{GivesAs};
 ghost use Rattle.journal_weave.specs.Replays.{given, IsReplay};
@@ -111,6 +112,13 @@ impl Replay {
         ensures { option_map entry_shown result ≡ slice_get self.now.site.entries i }
     {
         self.office.journal().get(i)
+    }
+
+    /// The frame that the entry at this place, from 0, tells in its reply, if it is there and tells one.
+    pub(crate) fn frame_told(&self, i: usize) -> Option<Frame>
+        ensures { result ≡ told_in self.now.site.entries i }
+    {
+        self.office.journal().frame_told(i)
     }
 
     /// Where it doesn't follow its journal, if that is somewhere.

@@ -115,10 +115,7 @@ fn told_at(replays: &[Replay], sent: SentAt) -> Option<Frame>
     if a >= replays.len() {
         return None;
     }
-    let Some(entry) = replays[a].entry(sent.entry as usize) else {
-        return None;
-    };
-    entry.reply.frame_told()
+    replays[a].frame_told(sent.entry as usize)
 }
 
 fn is_frame(made: &Option<Frame>, frame: &Frame) -> bool

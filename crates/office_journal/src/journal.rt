@@ -2,6 +2,7 @@
 
 ghost use Rattle.std.specs.Prelude.{◌≡◌, ◌≢◌, ◌<◌, ◌≤◌, ◌-◌, ◌↔◌, ◌⊎◌, ◌++◌, ◌∷◌, [], length, take, drop, true, Err, IfOk, IfErr, OnOk, OnErr, nat_le, option_map, is_some, vec_len, List};
 ghost use Rattle.std.specs.List.{slice_get};
+ghost use Rattle.std.specs.Option.{option_and_then};
 ghost use Rattle.std.specs.Vec.{vec_capacity};
 ghost use Rattle.journal_pages.specs.Framed.{text_carried};
 ghost use Rattle.office_journal.specs.Limits.{most_entries};
@@ -12,7 +13,7 @@ ghost use Rattle.office_journal.specs.declared.reply.Reply.TheVariants as replie
 ghost use Rattle.office_journal.specs.declared.reply.Refusal.TheVariants as refusals;
 ghost use Rattle.office_journal.specs.refinement.PackedEntries.{nothing, entry_in, IsPlain};
 ghost use Rattle.office_journal.specs.refinement.JournalOfCode.{texts_of};
-ghost use Rattle.office_journal.specs.Replies.{reply_to};
+ghost use Rattle.office_journal.specs.Replies.{frame_told, reply_to};
 
 use crate::event::{Entry, EntryRef};
 use crate::limits::MAX_ENTRIES;
@@ -86,6 +87,14 @@ impl Journal {
             )),
             None => None,
         }
+    }
+
+    /// The frame that the entry at this place, from 0, tells in its reply, if it is there and tells one.
+    pub fn frame_told(&self, i: usize) -> Option<Frame>
+        ensures { result ≡ option_and_then (λ entry. frame_told entry.reply) (slice_get self.now.entries i) }
+    {
+        let packed = self.pages.get(i)?;
+        packing::frame_told(packed, self.texts.as_slice())
     }
 
     /// Copies of the first so many entries from this place on, from 0; of fewer where the journal ends before. Where there is

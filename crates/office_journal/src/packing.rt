@@ -4,7 +4,7 @@ ghost use Rattle.std.specs.Prelude.{◌≡◌, ◌<◌, ◌≤◌, false, Some, 
 ghost use Rattle.std.specs.Option.{option_copied};
 ghost use Rattle.session_meaning.specs.ProgramValue.{ProgramValue};
 ghost use Rattle.journal_pages.specs.Framed.{frame_in, text_as, text_of, text_carried, StandsAt};
-ghost use Rattle.office_journal.specs.Replies.{reply_to};
+ghost use Rattle.office_journal.specs.Replies.{frame_told, reply_to};
 ghost use Rattle.office_journal.specs.Shown.{event_shown, entry_shown};
 ghost use Rattle.office_journal.specs.declared.event.Event.TheVariants as events;
 ghost use Rattle.office_journal.specs.declared.reply.Reply.TheVariants as replies;
@@ -132,6 +132,16 @@ fn text_as(value: &Value) -> Option<Text>
     match value {
         Value::Number(_) => None,
         Value::Text(text) => Some(*text),
+    }
+}
+
+/// The frame that the entry tells, if it tells one.
+pub(crate) fn frame_told(packed: &Packed, texts: &[Text]) -> Option<Frame>
+    ensures { result ≡ frame_told (reply_by packed.now.kind texts.now packed.now) }
+{
+    match packed.kind() {
+        Kind::Sent => Some(framed(packed, texts)),
+        _ => None,
     }
 }
 
