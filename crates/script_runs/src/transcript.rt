@@ -31,7 +31,7 @@ use run_reports::telling::{out_of_memory, tell_world, write_on};
 use run_words::replies::add_reply;
 use run_words::words::add_number;
 use session_programs::Program;
-use site_core::Reply;
+use site_core::{Reply, Rule};
 use std::alloc::{AllocError, Global};
 use std::io::Write;
 use world_schedule::{Resting, World};
@@ -130,6 +130,9 @@ fn tell_event<W: Write>(
 
 /// An event happens in the world, where its session is there, and its line is added. An answer isn't handed on: its words are
 /// written where it is given.
+///
+/// Each kind of event has a function of its own. An answer has room for the longest frame, and where several kinds stand in one
+/// function, that makes the rooms of all their answers ready before each event.
 fn add_event(
     text: &mut String,
     form: Form,
@@ -145,34 +148,117 @@ fn add_event(
             let Some(program) = nth(programs, n) else {
                 return Ok(());
             };
-            let answer = world.submit(program.office(), program);
-            add_answer(text, form, world.frames(), &answer)
+            add_submit(text, form, world, program)
         }
-        ScriptEvent::Withdraw(office, ticket) => {
-            let answer = world.withdraw(office, ticket);
-            add_answer(text, form, world.frames(), &answer)
-        }
-        ScriptEvent::Do(office, rule) => {
-            let answer = world.act(office, &rule);
-            add_answer(text, form, world.frames(), &answer)
-        }
-        ScriptEvent::Send(office, neighbour, i) => {
-            let answer = world.send(office, neighbour, i);
-            add_answer(text, form, world.frames(), &answer)
-        }
-        ScriptEvent::Deliver(k) => {
-            let answer = world.deliver(k);
-            add_answer(text, form, world.frames(), &answer)
-        }
-        ScriptEvent::Advance(office, n) => {
-            let said = advance(world, office, n);
-            add_said(text, form, world.frames(), &said)
-        }
-        ScriptEvent::Settle(n) => {
-            let said = settle(world, n);
-            add_said(text, form, world.frames(), &said)
-        }
+        ScriptEvent::Withdraw(office, ticket) => add_withdraw(text, form, world, office, ticket),
+        ScriptEvent::Do(office, rule) => add_do(text, form, world, office, rule),
+        ScriptEvent::Send(office, neighbour, i) => add_send(
+            text, form, world, office, neighbour, i,
+        ),
+        ScriptEvent::Deliver(k) => add_deliver(text, form, world, k),
+        ScriptEvent::Advance(office, n) => add_advance(text, form, world, office, n),
+        ScriptEvent::Settle(n) => add_settle(text, form, world, n),
     }
+}
+
+/// A session is submitted.
+#[inline(never)]
+fn add_submit(
+    text: &mut String,
+    form: Form,
+    world: &mut World,
+    program: &Program,
+) -> Result<(), AllocError>
+    ensures line { OnOk result (string_bytes text.new ≡ string_bytes text.old ++ flat_map (told_line form) (all_told world.old (scripts.Happens (events.Submit program.now.office program.now) ∷ []))) }
+    ensures world { OnOk result (world.new ≡ run_of world.old (scripts.Happens (events.Submit program.now.office program.now) ∷ [])) }
+{
+    let answer = world.submit(program.office(), program);
+    add_answer(text, form, world.frames(), &answer)
+}
+
+/// A session is withdrawn.
+#[inline(never)]
+fn add_withdraw(
+    text: &mut String,
+    form: Form,
+    world: &mut World,
+    office: OfficeId,
+    ticket: u32,
+) -> Result<(), AllocError>
+    ensures line { OnOk result (string_bytes text.new ≡ string_bytes text.old ++ flat_map (told_line form) (all_told world.old (scripts.Happens (events.Withdraw office ticket) ∷ []))) }
+    ensures world { OnOk result (world.new ≡ run_of world.old (scripts.Happens (events.Withdraw office ticket) ∷ [])) }
+{
+    let answer = world.withdraw(office, ticket);
+    add_answer(text, form, world.frames(), &answer)
+}
+
+/// An office does a rule.
+#[inline(never)]
+fn add_do(
+    text: &mut String,
+    form: Form,
+    world: &mut World,
+    office: OfficeId,
+    rule: Rule,
+) -> Result<(), AllocError>
+    ensures line { OnOk result (string_bytes text.new ≡ string_bytes text.old ++ flat_map (told_line form) (all_told world.old (scripts.Happens (events.Do office rule) ∷ []))) }
+    ensures world { OnOk result (world.new ≡ run_of world.old (scripts.Happens (events.Do office rule) ∷ [])) }
+{
+    let answer = world.act(office, &rule);
+    add_answer(text, form, world.frames(), &answer)
+}
+
+/// An office makes a frame.
+#[inline(never)]
+fn add_send(
+    text: &mut String,
+    form: Form,
+    world: &mut World,
+    office: OfficeId,
+    neighbour: OfficeId,
+    i: usize,
+) -> Result<(), AllocError>
+    ensures line { OnOk result (string_bytes text.new ≡ string_bytes text.old ++ flat_map (told_line form) (all_told world.old (scripts.Happens (events.Send office neighbour i) ∷ []))) }
+    ensures world { OnOk result (world.new ≡ run_of world.old (scripts.Happens (events.Send office neighbour i) ∷ [])) }
+{
+    let answer = world.send(office, neighbour, i);
+    add_answer(text, form, world.frames(), &answer)
+}
+
+/// A frame comes.
+#[inline(never)]
+fn add_deliver(text: &mut String, form: Form, world: &mut World, k: usize) -> Result<(), AllocError>
+    ensures line { OnOk result (string_bytes text.new ≡ string_bytes text.old ++ flat_map (told_line form) (all_told world.old (scripts.Happens (events.Deliver k) ∷ []))) }
+    ensures world { OnOk result (world.new ≡ run_of world.old (scripts.Happens (events.Deliver k) ∷ [])) }
+{
+    let answer = world.deliver(k);
+    add_answer(text, form, world.frames(), &answer)
+}
+
+/// An office goes on, left to itself.
+#[inline(never)]
+fn add_advance(
+    text: &mut String,
+    form: Form,
+    world: &mut World,
+    office: OfficeId,
+    n: u16,
+) -> Result<(), AllocError>
+    ensures line { OnOk result (string_bytes text.new ≡ string_bytes text.old ++ flat_map (told_line form) (all_told world.old (scripts.Advances office n ∷ []))) }
+    ensures world { OnOk result (world.new ≡ run_of world.old (scripts.Advances office n ∷ [])) }
+{
+    let said = advance(world, office, n);
+    add_said(text, form, world.frames(), &said)
+}
+
+/// The world goes on, left to itself.
+#[inline(never)]
+fn add_settle(text: &mut String, form: Form, world: &mut World, n: u32) -> Result<(), AllocError>
+    ensures line { OnOk result (string_bytes text.new ≡ string_bytes text.old ++ flat_map (told_line form) (all_told world.old (scripts.Settles n ∷ []))) }
+    ensures world { OnOk result (world.new ≡ run_of world.old (scripts.Settles n ∷ [])) }
+{
+    let said = settle(world, n);
+    add_said(text, form, world.frames(), &said)
 }
 
 /// An office does so many rules at most, left to itself.

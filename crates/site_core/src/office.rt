@@ -30,6 +30,9 @@ use std::marker::Model;
 use token_channel::waiting_bottle;
 
 /// An office of a plan: its pairs, its sessions, and all that it accepted.
+///
+/// The calls of its events are inlined: an answer has room for the longest frame, so it is made where it is told, and never
+/// copied.
 #[derive(Drop)]
 pub struct Office {
     alloc: Global,
@@ -77,6 +80,7 @@ impl Office {
     ///
     /// # Errors
     /// `NotNow` where its guard is false, then `JournalFull`, then `Memory`. Nothing changed.
+    #[inline(always)]
     pub fn act(&mut self, tag: u8, rule: Rule) -> Result<Reply, Refusal>
         requires { tag < 16 }
         ensures { Steps self.old tag (events.Do rule) result self.new }
@@ -104,6 +108,7 @@ impl Office {
     ///
     /// # Errors
     /// `NotOurs`, then `QueueFull`, then `JournalFull`, then `Memory`. Nothing changed.
+    #[inline(always)]
     pub fn submit(&mut self, tag: u8, program: &Program) -> Result<Reply, Refusal>
         requires { tag < 16 }
         ensures { Steps self.old tag (events.Submit program.now) result self.new }
@@ -127,6 +132,7 @@ impl Office {
     /// # Errors
     /// `NotNow` where no session with that ticket waits, and the current one isn't that or drinks; then `JournalFull`, then
     /// `Memory`. Nothing changed.
+    #[inline(always)]
     pub fn withdraw(&mut self, tag: u8, ticket: u32) -> Result<Reply, Refusal>
         requires { tag < 16 }
         ensures { Steps self.old tag (events.Withdraw ticket) result self.new }
@@ -146,6 +152,7 @@ impl Office {
     ///
     /// # Errors
     /// `NotNow` where there is no such neighbour or message, then `JournalFull`, then `Memory`. Nothing changed.
+    #[inline(always)]
     pub fn send(&mut self, tag: u8, v: OfficeId, i: usize) -> Result<Reply, Refusal>
         requires { tag < 16 }
         ensures { Steps self.old tag (events.Send v i) result self.new }
@@ -164,6 +171,7 @@ impl Office {
     /// # Errors
     /// What the channel to its sender refuses, or `Stranger` where that is no neighbour; then `JournalFull`, then
     /// `Memory`. Nothing changed.
+    #[inline(always)]
     pub fn take(&mut self, tag: u8, frame: &Frame) -> Result<Reply, Refusal>
         requires { tag < 16 }
         ensures { Steps self.old tag (events.Took frame.now) result self.new }

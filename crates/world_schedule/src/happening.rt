@@ -1,4 +1,4 @@
-//! An event that is handed to one of the offices.
+//! An event that is handed to one of the offices: inlined, as an office's own calls are, so that no answer is copied.
 
 ghost use Rattle.std.specs.Prelude.{◌≡◌, ◌<◌, ◌++◌, ◌∷◌, [], List, Err, length, map, get_or, is_ok, nat_le, vec_len, All, IfOk, OnOk, OnErr, if◌then◌else◌};
 ghost use Rattle.std.specs.Vec.{vec_capacity};
@@ -25,6 +25,7 @@ use session_programs::Program;
 use site_core::{Journal, MAX_ENTRIES, Office, Reply, Rule};
 
 /// A session is submitted at an office.
+#[inline(always)]
 pub(crate) fn submit(
     offices: &mut Vec<Office>,
     at: OfficeId,
@@ -39,6 +40,7 @@ pub(crate) fn submit(
 }
 
 /// A session is withdrawn at an office.
+#[inline(always)]
 pub(crate) fn withdraw(
     offices: &mut Vec<Office>,
     at: OfficeId,
@@ -53,6 +55,7 @@ pub(crate) fn withdraw(
 }
 
 /// An office does a rule.
+#[inline(always)]
 pub(crate) fn act(
     offices: &mut Vec<Office>,
     at: OfficeId,
@@ -71,6 +74,7 @@ pub(crate) fn act(
 /// Room is made before an office takes a step, for its frame or its place in the finishing list, so a refusal for want
 /// of memory leaves the world as it was. Where there is none, the office is asked what it would refuse, and that is
 /// told: `Memory` stands only in place of an acceptance.
+#[inline(always)]
 pub(crate) fn finish(
     offices: &mut Vec<Office>,
     finished: &mut Vec<Finished>,
@@ -138,6 +142,7 @@ pub(crate) fn mark_of(outcome: &Outcome) -> Finished
 }
 
 /// An office makes a frame, and which entry tells it is kept.
+#[inline(always)]
 pub(crate) fn send(
     offices: &mut Vec<Office>,
     sent: &mut Vec<SentAt>,
@@ -211,10 +216,7 @@ fn keep(sent: &mut Vec<SentAt>, office: OfficeId, entry: u32, reply: &Reply)
 pub(crate) fn frame_told(office: &Office, entry: u32) -> Option<Frame>
     ensures { result ≡ told_in office.now.entries entry }
 {
-    let Some(entry) = office.journal().get(entry as usize) else {
-        return None;
-    };
-    entry.reply.frame_told()
+    office.journal().frame_told(entry as usize)
 }
 
 /// Each field of a frame is in the format's range.
@@ -226,6 +228,7 @@ fn is_in_range(frame: &Frame)
 }
 
 /// A frame comes to its addressee.
+#[inline(always)]
 pub(crate) fn deliver(offices: &mut Vec<Office>, frame: &Frame) -> Result<Reply, WorldRefusal>
     ensures { Hands offices.old.items frame.now.to (events.Took frame.now) result offices.new.items }
 {
@@ -237,6 +240,7 @@ pub(crate) fn deliver(offices: &mut Vec<Office>, frame: &Frame) -> Result<Reply,
 }
 
 /// What a world tells of an office's answer.
+#[inline(always)]
 fn passed_on(answer: Result<Reply, site_core::Refusal>) -> Result<Reply, WorldRefusal>
     ensures { result ≡ passed_on answer }
 {

@@ -152,6 +152,7 @@ impl World {
     ///
     /// # Errors
     /// As [`World::apply`].
+    #[inline(always)]
     pub fn submit(&mut self, at: OfficeId, program: &Program) -> Result<Reply, WorldRefusal>
         ensures { Applies self.old (events.Submit at program.now) result self.new }
     {
@@ -162,6 +163,7 @@ impl World {
     ///
     /// # Errors
     /// As [`World::apply`].
+    #[inline(always)]
     pub fn withdraw(&mut self, at: OfficeId, ticket: u32) -> Result<Reply, WorldRefusal>
         ensures { Applies self.old (events.Withdraw at ticket) result self.new }
     {
@@ -172,6 +174,7 @@ impl World {
     ///
     /// # Errors
     /// As [`World::apply`].
+    #[inline(always)]
     pub fn act(&mut self, at: OfficeId, rule: &Rule) -> Result<Reply, WorldRefusal>
         ensures { Applies self.old (events.Do at rule.now) result self.new }
     {
@@ -188,6 +191,7 @@ impl World {
     ///
     /// # Errors
     /// As [`World::apply`].
+    #[inline(always)]
     pub fn send(&mut self, from: OfficeId, to: OfficeId, i: usize) -> Result<Reply, WorldRefusal>
         ensures { Applies self.old (events.Send from to i) result self.new }
     {
@@ -198,6 +202,7 @@ impl World {
     ///
     /// # Errors
     /// As [`World::apply`].
+    #[inline(always)]
     pub fn deliver(&mut self, k: usize) -> Result<Reply, WorldRefusal>
         ensures { Applies self.old (events.Deliver k) result self.new }
     {
