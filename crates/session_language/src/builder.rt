@@ -3,7 +3,7 @@
 ghost use Rattle.std.specs.Prelude.{◌≡◌, ◌+◌, ◌<◌, ◌≤◌, ◌^◌, ◌++◌, ◌∷◌, ◌&&◌, [], IfOk, OnOk, min, max, suc, length, option_map, replicate, if◌then◌else◌, Some, None, true};
 ghost use Rattle.session_language.specs.refinement.PostfixBuilder.{build_of, fresh_build, ended, emit, emit_wanting, emit_having, after_sign, joined_depth, sum_depth, sum_end, completed, HasRoom};
 ghost use Rattle.session_language.specs.refinement.PlacedTokens.{Operand, seen_element};
-ghost use Rattle.session_meaning.specs.declared.node.Node.TheVariants.{Literal};
+ghost use Rattle.session_meaning.specs.declared.node.Node.TheVariants.{Literal, Negate};
 ghost use Rattle.bottle_values.specs.declared.Value.TheVariants as values;
 ghost use Rattle.bottle_values.specs.Texts.{is_text};
 ghost use Rattle.session_meaning.specs.refinement.Postfix.{IsPostfix, tree_of};
@@ -18,8 +18,8 @@ use crate::limits::PAST_DEPTH;
 use crate::scope::Scope;
 use crate::summary::Summary;
 use crate::token::Next;
-use bottle_values::{Text, Value};
-use session_meaning::{Expression, Node, NodeList, Operator};
+use bottle_values::Text;
+use session_meaning::{Expression, NodeList, Operator};
 use std::alloc::{AllocError, Global};
 use text_lines::Guesses;
 
@@ -89,7 +89,7 @@ impl Builder {
         let mut knows_variables = true;
         let mut knows_records = true;
         loop {
-            let token = match pieces.next_token(scope.plan.version()) {
+            let token = match pieces.next_token(scope.plan) {
                 Next::Token(token) => token,
                 Next::Text(bytes) => {
                     if !self.take_text(bytes)? {
@@ -169,8 +169,7 @@ impl Builder {
         let Stage::Wants(level) = self.stage else {
             return Ok(false);
         };
-        let text = kept_text(bytes);
-        self.nodes.push(Node::Literal(Value::Text(text)))?;
+        self.nodes.push_text(kept_text(bytes))?;
         self.complete(level, 1)?;
         Ok(true)
     }
@@ -181,7 +180,7 @@ impl Builder {
     {
         match element {
             Element::Operand(leaf) => {
-                self.nodes.push(leaf.node())?;
+                leaf.push_to(&mut self.nodes)?;
                 self.complete(level, 1)?;
                 Ok(true)
             }
@@ -242,7 +241,7 @@ impl Builder {
         match level.product {
             None => self.stage = Stage::Has(level.sum, negated),
             Some(left) => {
-                self.nodes.push(Node::Apply(Operator::Times))?;
+                self.nodes.push_operator(Operator::Times)?;
                 self.stage = Stage::Has(level.sum, joined_depth(left, negated));
             }
         }
@@ -318,22 +317,23 @@ fn sum_depth(sum: Sum, depth: u8) -> u8
 }
 
 fn push_negations(nodes: &mut NodeList, count: usize) -> Result<(), AllocError>
-    ensures { OnOk result (nodes.new ≡ nodes.old ++ replicate count Node.Negate) }
+    ensures { OnOk result (nodes.new ≡ nodes.old ++ replicate count Negate) }
 {
     for _ in 0..count {
-        nodes.push(Node::Negate)?;
+        nodes.push_negate()?;
     }
     Ok(())
 }
 
 /// Writes the operator of a sum whose right operand is complete.
+#[inline(always)]
 fn push_sum(nodes: &mut NodeList, sum: Sum) -> Result<(), AllocError>
     ensures { OnOk result (nodes.new ≡ nodes.old ++ sum_end sum) }
 {
     match sum {
         Sum::Nothing => {}
-        Sum::Added(_) => nodes.push(Node::Apply(Operator::Plus))?,
-        Sum::Taken(_) => nodes.push(Node::Apply(Operator::Minus))?,
+        Sum::Added(_) => nodes.push_operator(Operator::Plus)?,
+        Sum::Taken(_) => nodes.push_operator(Operator::Minus)?,
     }
     Ok(())
 }

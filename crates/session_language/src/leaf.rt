@@ -1,12 +1,12 @@
 //! Operands whose names are in their places.
 
-ghost use Rattle.std.specs.Prelude.{◌≡◌};
+ghost use Rattle.std.specs.Prelude.{◌≡◌, ◌∷◌, [], ◌++◌, OnOk};
 ghost use Rattle.session_language.specs.refinement.PlacedTokens.{leaf_node};
 
 use crate::number::Number;
-use bottle_values::Value;
 use office_map::RecordId;
-use session_meaning::Node;
+use session_meaning::NodeList;
+use std::alloc::AllocError;
 
 /// An operand but for texts, whose name is in its place. It is a node without the room of a text.
 #[derive(Clone, Copy)]
@@ -17,15 +17,15 @@ pub enum Leaf {
 }
 
 impl Leaf {
-    /// The node that it is in an expression.
+    /// Adds the node that it is in an expression.
     #[inline(always)]
-    pub(crate) fn node(self) -> Node
-        ensures { result ≡ leaf_node self }
+    pub(crate) fn push_to(self, nodes: &mut NodeList) -> Result<(), AllocError>
+        ensures { OnOk result (nodes.new ≡ nodes.old ++ leaf_node self ∷ []) }
     {
         match self {
-            Leaf::Number(n) => Node::Literal(Value::Number(n.value as i64)),
-            Leaf::Variable(place) => Node::Variable(place),
-            Leaf::Read(record) => Node::Read(record),
+            Leaf::Number(n) => nodes.push_number(n.value as i64),
+            Leaf::Variable(place) => nodes.push_variable(place),
+            Leaf::Read(record) => nodes.push_read(record),
         }
     }
 }

@@ -2,11 +2,12 @@
 
 ghost use Rattle.std.specs.Prelude.{◌≡◌, ◌∷◌, [], ◌≤◌, ◌<◌, length, MatchOption, OnSome, false, true};
 ghost use Rattle.text_lines.specs.Text.{is_name_byte};
-ghost use Rattle.session_language.specs.Lexer.{seen, Begins, one_byte, two_bytes, long_symbol, quoted_at, piece_at, pieces_of, word_len, begins_equals, is_quote, AWord, AQuoted};
+ghost use Rattle.bottle_values.specs.declared.version.Version.{Version};
+ghost use Rattle.session_language.specs.Lexer.{seen, Begins, one_byte, two_bytes, long_symbol, quoted_at, symbol_or_stray, piece_at, pieces_of, word_len, begins_equals, is_quote, AWord, AQuoted};
 ghost use Rattle.session_language.specs.Phrase.{run, Tells, IsShorter};
 
 use crate::token::{Next, Operand, Token, expression_symbol, is_read, is_text_in, operand_in};
-use bottle_values::Version;
+use office_map::Plan;
 use text_lines::{place_of, short_name};
 
 /// A symbol of the language.
@@ -72,26 +73,53 @@ impl<'a> Pieces<'a> {
                     self.rest = rest;
                     return Some(piece);
                 }
-                Start::Other => {
-                    let (piece, rest) = other_piece(*first, after);
-                    self.rest = rest;
-                    return Some(piece);
-                }
+                Start::Other => return Some(self.other_piece(*first, after)),
             }
         }
         None
     }
 
-    /// The next token of an expression of a session under a plan of this version, or where it stops.
-    pub(crate) fn next_token(&mut self, version: Version) -> Next<'a>
-        ensures gives { Tells version result (run version false (pieces_of self.old.rest.now)) (pieces_of self.new.rest.now) }
+    /// Takes the piece that begins with a byte of no word, and with no quotation mark.
+    #[inline(always)]
+    fn other_piece(&mut self, first: u8, after: &'a [u8]) -> Piece<'a>
+        requires no_word { is_name_byte first ≡ false }
+        requires no_quote { is_quote first ≡ false }
+        ensures gives { (seen result, self.new.rest.now) ≡ piece_at first after.entry.now }
+        ensures shorter { length self.new.rest.now ≤ length after.entry.now }
+    {
+        match self.other_symbol(first, after) {
+            Some(symbol) => Piece::Symbol(symbol),
+            None => Piece::Stray,
+        }
+    }
+
+    /// Takes that piece, and tells its symbol, or none of a stray byte. It stands apart, and a symbol takes no room: so the
+    /// other pieces are taken without the room of this one.
+    #[inline(never)]
+    fn other_symbol(&mut self, first: u8, after: &'a [u8]) -> Option<Symbol>
+        requires no_word { is_name_byte first ≡ false }
+        requires no_quote { is_quote first ≡ false }
+        ensures gives { (symbol_or_stray result, self.new.rest.now) ≡ piece_at first after.entry.now }
+        ensures shorter { length self.new.rest.now ≤ length after.entry.now }
+    {
+        if let Some(symbol) = long_symbol(first, after) {
+            self.rest = after.split_at(1).1;
+            return Some(symbol);
+        }
+        self.rest = after;
+        one_byte(first)
+    }
+
+    /// The next token of an expression of a session under a plan, or where it stops.
+    pub(crate) fn next_token(&mut self, plan: &Plan) -> Next<'a>
+        ensures gives { Tells plan.now.version result (run plan.now.version false (pieces_of self.old.rest.now)) (pieces_of self.new.rest.now) }
         ensures shorter { IsShorter result (length self.old.rest.now) (length self.new.rest.now) }
     {
         match self.next() {
             None => Next::Stop(None),
             Some(Piece::Word(word)) => self.after_word(word),
             Some(Piece::Quoted(bytes)) => {
-                if is_text_in(version, bytes) {
+                if is_text_in(plan.version(), bytes) {
                     Next::Text(bytes)
                 } else {
                     Next::Stop(Some(Piece::Quoted(bytes)))
@@ -145,6 +173,7 @@ enum Start {
     Other,
 }
 
+#[inline(always)]
 fn start_of(b: u8) -> Start
     ensures { Begins result b }
 {
@@ -162,7 +191,7 @@ fn start_of(b: u8) -> Start
 }
 
 /// The piece that begins with a quotation mark.
-#[inline(never)]
+#[inline(always)]
 fn quoted_piece<'a>(after: &'a [u8]) -> (Piece<'a>, &'a [u8])
     ensures gives { (seen result.0, result.1.now) ≡ quoted_at after.now }
     ensures shorter { length result.1.now ≤ length after.now }
@@ -173,23 +202,6 @@ fn quoted_piece<'a>(after: &'a [u8]) -> (Piece<'a>, &'a [u8])
         (Piece::Quoted(bytes), rest.split_at(1).1)
     } else {
         (Piece::Stray, after)
-    }
-}
-
-/// The piece that begins with a byte of no word, and with no quotation mark.
-#[inline(never)]
-fn other_piece<'a>(first: u8, after: &'a [u8]) -> (Piece<'a>, &'a [u8])
-    requires no_word { is_name_byte first ≡ false }
-    requires no_quote { is_quote first ≡ false }
-    ensures gives { (seen result.0, result.1.now) ≡ piece_at first after.now }
-    ensures shorter { length result.1.now ≤ length after.now }
-{
-    if let Some(symbol) = long_symbol(first, after) {
-        return (Piece::Symbol(symbol), after.split_at(1).1);
-    }
-    match one_byte(first) {
-        Some(symbol) => (Piece::Symbol(symbol), after),
-        None => (Piece::Stray, after),
     }
 }
 

@@ -1,5 +1,5 @@
 -- Bytes that come behind those of texts change none of them.
-use Rattle.std.proofs.Common.{◌≡◌, ℕ, zero, suc, ◌+◌, ◌≤◌, ◌<◌, List, [], ◌∷◌, ◌++◌, length, map, take, drop, refl, sym, ap, ◌∙◌, arith}
+use Rattle.std.proofs.Common.{◌≡◌, ℕ, zero, suc, ◌+◌, ◌≤◌, List, [], ◌∷◌, ◌++◌, length, map, take, drop, refl, ap, ◌∙◌, arith}
 use Rattle.std.specs.Prelude.{All, IsTrue, if◌then◌else◌}
 use Rattle.std.specs.List.{slice_index_or}
 use Rattle.std.proofs.Math.Seq.{drop-append_seam}
@@ -9,7 +9,6 @@ use Rattle.bottle_values.specs.declared.Value.TheVariants as bottle
 use Rattle.bottle_values.specs.Texts.{is_text}
 use Rattle.session_meaning.specs.declared.kept.Kept.{Kept}
 use Rattle.session_meaning.specs.declared.kept.Kept.TheVariants as kept
-use Rattle.session_meaning.specs.declared.node.Node.{Node}
 use Rattle.session_meaning.specs.declared.node.Node.TheVariants.{Literal}
 use Rattle.session_meaning.specs.refinement.KeptNode.{node_of, text_or_none, IsWithin}
 use Rattle.session_meaning.specs.refinement.TextBytes.{node_bytes, nodes_bytes}

@@ -11,14 +11,17 @@ use office_map::RecordId;
 
 /// A node as it is kept: a literal as its number, or as the place and the length of its text among bytes that stand
 /// beside the nodes, whatever room a value takes.
+///
+/// A text comes last, where `Part` has it second: if both numbered their kinds alike, what is compiled would keep the one's
+/// number for the other's, and jump twice for each node where now it jumps once.
 #[derive(Clone, Copy)]
 pub(crate) enum Kept {
     Number(i64),
-    Text(u32, u8),
     Variable(u8),
     Read(RecordId),
     Negate,
     Apply(Operator),
+    Text(u32, u8),
 }
 
 impl Kept {

@@ -2,13 +2,14 @@
 
 ghost use Rattle.std.specs.Prelude.{◌≡◌, ℕ, List, ◌∷◌, [], ◌++◌, OnOk, OnErr, IfOk, IfSome, map};
 ghost use Rattle.session_meaning.specs.refinement.KeptNode.{node_of, IsWithin};
-ghost use Rattle.session_meaning.specs.declared.node.Node.TheVariants.{Literal};
+ghost use Rattle.session_meaning.specs.declared.node.Node.TheVariants.{Literal, Variable, Read, Negate, Apply};
 ghost use Rattle.bottle_values.specs.declared.Value.TheVariants as bottle;
 
 use crate::kept::Kept;
-use crate::node::Node;
+use crate::node::Operator;
 use crate::nodes::Nodes;
-use bottle_values::{Text, Value};
+use bottle_values::Text;
+use office_map::RecordId;
 use std::alloc::{AllocError, Global};
 use std::marker::Model;
 
@@ -50,31 +51,53 @@ impl NodeList {
         self.bytes.clear();
     }
 
-    /// Adds a node at the end. Where memory runs out the list is as it was.
-    pub fn push(&mut self, node: Node) -> Result<(), AllocError>
-        ensures pushed { OnOk result (self.new ≡ self.old ++ node ∷ []) }
+    /// Adds a number at the end. Where memory runs out the list is as it was.
+    #[inline(always)]
+    pub fn push_number(&mut self, number: i64) -> Result<(), AllocError>
+        ensures pushed { OnOk result (self.new ≡ self.old ++ Literal (bottle.Number number) ∷ []) }
         ensures unchanged { OnErr result (self.new ≡ self.old) }
     {
-        match node {
-            Node::Literal(value) => self.push_value(value),
-            Node::Variable(place) => self.keep(Kept::Variable(place)),
-            Node::Read(id) => self.keep(Kept::Read(id)),
-            Node::Negate => self.keep(Kept::Negate),
-            Node::Apply(operator) => self.keep(Kept::Apply(operator)),
-        }
+        self.keep(Kept::Number(number))
     }
 
-    fn push_value(&mut self, value: Value) -> Result<(), AllocError>
-        ensures pushed { OnOk result (self.new ≡ self.old ++ Literal value ∷ []) }
+    /// Adds a variable at the end, by its place. Where memory runs out the list is as it was.
+    #[inline(always)]
+    pub fn push_variable(&mut self, place: u8) -> Result<(), AllocError>
+        ensures pushed { OnOk result (self.new ≡ self.old ++ Variable place ∷ []) }
         ensures unchanged { OnErr result (self.new ≡ self.old) }
     {
-        match value {
-            Value::Number(number) => self.keep(Kept::Number(number)),
-            Value::Text(text) => self.push_text(text),
-        }
+        self.keep(Kept::Variable(place))
+    }
+
+    /// Adds a record that is read at the end. Where memory runs out the list is as it was.
+    #[inline(always)]
+    pub fn push_read(&mut self, id: RecordId) -> Result<(), AllocError>
+        ensures pushed { OnOk result (self.new ≡ self.old ++ Read id ∷ []) }
+        ensures unchanged { OnErr result (self.new ≡ self.old) }
+    {
+        self.keep(Kept::Read(id))
+    }
+
+    /// Adds a minus before an operand at the end. Where memory runs out the list is as it was.
+    #[inline(always)]
+    pub fn push_negate(&mut self) -> Result<(), AllocError>
+        ensures pushed { OnOk result (self.new ≡ self.old ++ Negate ∷ []) }
+        ensures unchanged { OnErr result (self.new ≡ self.old) }
+    {
+        self.keep(Kept::Negate)
+    }
+
+    /// Adds an operator at the end. Where memory runs out the list is as it was.
+    #[inline(always)]
+    pub fn push_operator(&mut self, operator: Operator) -> Result<(), AllocError>
+        ensures pushed { OnOk result (self.new ≡ self.old ++ Apply operator ∷ []) }
+        ensures unchanged { OnErr result (self.new ≡ self.old) }
+    {
+        self.keep(Kept::Apply(operator))
     }
 
     /// Adds a node that needs no bytes.
+    #[inline(always)]
     fn keep(&mut self, kept: Kept) -> Result<(), AllocError>
         requires same { (bytes : List ℕ) → node_of bytes kept ≡ node_of [] kept }
         requires within { IsWithin 0 kept }
@@ -85,8 +108,8 @@ impl NodeList {
         Ok(())
     }
 
-    /// Adds a text. There is memory for four gigabytes of texts.
-    fn push_text(&mut self, text: Text) -> Result<(), AllocError>
+    /// Adds a text at the end. Where memory runs out the list is as it was; there is some for four gigabytes of texts.
+    pub fn push_text(&mut self, text: Text) -> Result<(), AllocError>
         ensures pushed { OnOk result (self.new ≡ self.old ++ Literal (bottle.Text text) ∷ []) }
         ensures unchanged { OnErr result (self.new ≡ self.old) }
     {

@@ -4,7 +4,7 @@ ghost use Rattle.std.specs.Prelude.{◌≡◌, ◌≤◌, OnOk, IfSome, MatchOpt
 ghost use Rattle.session_measures.specs.Needs.{with_record, term_needs, nodes_needs};
 
 use office_map::RecordId;
-use session_meaning::{Expression, Node, Nodes};
+use session_meaning::{Expression, Nodes, Part};
 use std::alloc::AllocError;
 
 /// Adds the records that an expression reads to a list in order, each unless it is there. Where memory runs out, some
@@ -20,7 +20,7 @@ fn add_nodes(needs: &mut Vec<RecordId>, nodes: &Nodes<'_>) -> Result<(), AllocEr
     ensures { OnOk result (needs.new.items ≡ nodes_needs nodes.now needs.old.items) }
 {
     for i in 0..nodes.len() {
-        if let Node::Read(id) = nodes.node(i) {
+        if let Part::Read(id) = nodes.part(i) {
             add_record(needs, id)?;
         }
     }

@@ -1,7 +1,7 @@
 //! How long a session is, and how many bytes its canonical text has where each office and record has a name of 16: exact up
 //! to the limit, and one past it beyond. Each expression is summed in one pass over its nodes.
 
-ghost use Rattle.std.specs.Prelude.{◌≡◌, ◌≤◌, ◌++◌, ◌∷◌, [], IfOk, List, min, ◌+◌, length};
+ghost use Rattle.std.specs.Prelude.{◌≡◌, ◌<◌, ◌≤◌, ◌++◌, ◌∷◌, [], IfOk, List, Some, min, ◌+◌, length, slice_get};
 ghost use Rattle.std.specs.Fmt.{decimal};
 ghost use Rattle.bottle_values.specs.Printed.{quoted};
 ghost use Rattle.session_meaning.specs.refinement.TreeOfStatements.{test_of, command_of, block_of};
@@ -9,13 +9,15 @@ ghost use Rattle.session_programs.specs.Limits.{past_bytes};
 ghost use Rattle.session_programs.specs.Program.{are_too_long};
 ghost use Rattle.session_programs.specs.WellFormed.{IsDeclared};
 ghost use Rattle.session_meaning.specs.Tree.{Term, Bin};
+ghost use Rattle.session_meaning.specs.declared.node.Node.TheVariants.{Literal};
+ghost use Rattle.bottle_values.specs.declared.Value.TheVariants as values;
 ghost use Rattle.session_meaning.specs.refinement.Postfix.{push_node, push_nodes};
 ghost use Rattle.session_programs.specs.Text.{Words, wide_words, literal, variable_name, rank_of, term_text, test_text, command_text, block_text, session_text};
 ghost use Rattle.session_sizes.specs.refinement.TextSizes.{ranks_of, bytes_of, around_factor, around_product, around_both};
 
 use crate::limits::{MOST_BYTES, MOST_COST, MOST_STATEMENTS, PAST_BYTES, SHORT_EXTENT};
 use bottle_values::{Text, Value};
-use session_meaning::{Condition, Expression, Node, Nodes, Operator, Statement};
+use session_meaning::{Condition, Expression, Node, Nodes, Operator, Part, Statement};
 use session_measures::measures::block_measures;
 use session_programs::{Rank, comparison_text, magnitude};
 use std::alloc::{AllocError, Global};
@@ -143,28 +145,31 @@ fn nodes_size(
     ranks.clear();
     let mut size = 0;
     for i in 0..nodes.len() {
-        size = with_node(ranks, size, variables, nodes.node(i))?;
+        size = with_node(ranks, size, variables, nodes, i)?;
     }
     Ok(size)
 }
 
-/// The bytes of all that waits once one more node has come, and the ranks with it.
+/// The bytes of all that waits once the node at this place has come, and the ranks with it.
 fn with_node(
     ranks: &mut Vec<Rank>,
     size: u32,
     variables: &[ShortName],
-    node: Node,
+    nodes: &Nodes<'_>,
+    i: usize,
 ) -> Result<u32, AllocError>
+    requires at { i < length nodes.now }
     requires size { size ≤ past_bytes }
-    ensures { (st : List Term) → ranks.old.items ≡ ranks_of st → size ≡ min past_bytes (bytes_of (wide_words variables.now) st) →
+    ensures { (st : List Term) (node : Node) → slice_get nodes.now i ≡ Some node → ranks.old.items ≡ ranks_of st → size ≡ min past_bytes (bytes_of (wide_words variables.now) st) →
         IfOk result (λ n. (ranks.new.items ≡ ranks_of (push_node node st)) × (n ≡ min past_bytes (bytes_of (wide_words variables.now) (push_node node st)))) }
 {
-    match node {
-        Node::Literal(value) => with_leaf(ranks, size, literal_size(value)),
-        Node::Variable(place) => with_leaf(ranks, size, name_size(variables, place)),
-        Node::Read(_) => with_leaf(ranks, size, 21),
-        Node::Negate => with_sign(ranks, size),
-        Node::Apply(operator) => with_operator(ranks, size, operator),
+    match nodes.part(i) {
+        Part::Number(number) => with_leaf(ranks, size, number_size(number)),
+        Part::Text => with_leaf(ranks, size, size_of_text(nodes, i)),
+        Part::Variable(place) => with_leaf(ranks, size, name_size(variables, place)),
+        Part::Read(_) => with_leaf(ranks, size, 21),
+        Part::Negate => with_sign(ranks, size),
+        Part::Apply(operator) => with_operator(ranks, size, operator),
     }
 }
 
@@ -268,15 +273,35 @@ fn sum(a: u32, b: u32) -> u32
     (a + b).min(PAST_BYTES)
 }
 
+/// How many bytes the text after so many nodes has. It stands apart, so that no other node is sized with room for a text.
+#[inline(never)]
+fn size_of_text(nodes: &Nodes<'_>, i: usize) -> u32
+    requires { i < length nodes.now }
+    ensures count { (value : Value) → slice_get nodes.now i ≡ Some (Literal value) → result ≡ length (literal value) }
+    ensures few { result ≤ 66 }
+{
+    match nodes.node(i) {
+        Node::Literal(value) => literal_size(value),
+        Node::Variable(_) | Node::Read(_) | Node::Negate | Node::Apply(_) => 0,
+    }
+}
+
 /// How many bytes a literal has, a text with both its quotation marks.
 fn literal_size(value: Value) -> u32
     ensures count { result ≡ length (literal value) }
     ensures few { result ≤ 66 }
 {
     match value {
-        Value::Number(number) => digits(magnitude(number)),
+        Value::Number(number) => number_size(number),
         Value::Text(text) => text_size(text),
     }
+}
+
+fn number_size(number: i64) -> u32
+    ensures count { result ≡ length (literal (values.Number number)) }
+    ensures few { result ≤ 66 }
+{
+    digits(magnitude(number))
 }
 
 #[tactic(auto, using(crate::proofs::SizeStep::quoted_bytes, crate::proofs::SizeStep::few_bytes))]

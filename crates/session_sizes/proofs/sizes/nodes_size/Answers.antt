@@ -1,4 +1,6 @@
-use Rattle.std.proofs.Common.{[], take}
+use Rattle.std.proofs.Common.{◌<◌, [], take, length, get_or, rules}
+use Rattle.std.proofs.lemmas.Option.{slice_get-get_or}
+use Rattle.session_meaning.specs.declared.node.Node.TheVariants.{Negate}
 use Rattle.session_meaning.specs.refinement.Postfix.{push_nodes}
 use Rattle.session_programs.specs.Text.{wide_words}
 use Rattle.session_sizes.proofs.SizeStep.{one_more}
@@ -6,5 +8,9 @@ use Rattle.session_sizes.proofs.sizes.nodes_size.Goals as goal
 
 pub loop-i-preserved : goal.loop-i-preserved
 loop-i-preserved c =
-    let h = c.in_ok-size.ensures (push_nodes (take c.loop-i.i c.args.nodes.now) []) c.loop-i.invariant.1.0 c.loop-i.invariant.1.1 in
-    one_more (wide_words c.args.variables.now) c.args.nodes.now c.loop-i.i c.in_ok-size.size c.node.result c.with_node.new.ranks.items c.node.ensures.node h.0 h.1
+    let ns = c.args.nodes.now in
+    let i = c.loop-i.i in
+    let within : i < length ns = search rules in
+    let at = slice_get-get_or ns i Negate within in
+    let h = c.in_ok-size.ensures (push_nodes (take i ns) []) (get_or ns i Negate) at c.loop-i.invariant.1.0 c.loop-i.invariant.1.1 in
+    one_more (wide_words c.args.variables.now) ns i c.in_ok-size.size (get_or ns i Negate) c.with_node.new.ranks.items at h.0 h.1
