@@ -1,6 +1,6 @@
 -- One frame more in the map of frames that were sent, and what is looked up there.
 use Rattle.std.proofs.Common.{◌≡◌, ℕ, zero, suc, ◌+◌, ◌<◌, ◌≤◌, Bool, true, false, cond, List, [], ◌∷◌, ◌++◌, length, map, get_or, Option, None, Some, refl, sym, ap, ◌∙◌, subst, arith, ⊎_elim}
-use Rattle.std.specs.Prelude.{IsTrue, ◌↔◌, slice_get}
+use Rattle.std.specs.Prelude.{IsTrue, ◌↔◌, slice_get, option_to_list}
 use Rattle.std.specs.BTreeMap.{get}
 use Rattle.std.specs.Option.{option_and_then}
 use Rattle.std.specs.Ordering.{is_eq}
@@ -11,10 +11,13 @@ use Rattle.std.proofs.lemmas.Option.{slice_get-get_or, slice_get_past}
 use Rattle.std.proofs.lemmas.List.Elements.{All-nil, All-cons, All-append}
 use Rattle.frame_codec.specs.Frame.{Fields, IsFrame}
 use Rattle.office_journal.specs.declared.event.Entry.{Entry}
+use Rattle.office_journal.specs.declared.reply.Reply.{Reply}
+use Rattle.office_journal.specs.declared.reply.Reply.TheVariants as reply
+use Rattle.office_journal.specs.Replies.{frame_told}
 use Rattle.frame_codec.specs.SpellingLaws.{same_version}
 use Rattle.frame_world.specs.declared.sent.SentAt.{SentAt}
 use Rattle.frame_world.specs.Sent.{entry_tells, told_in}
-use Rattle.frame_world.specs.Worlds.{World}
+use Rattle.frame_world.specs.Worlds.{World, frames_of}
 use Rattle.frame_world.specs.Headline.{NumbersTellMessages}
 use Rattle.journal_weave.specs.declared.key.FrameKey.{FrameKey}
 use Rattle.journal_weave.specs.declared.sent.SentFrames.{SentFrames}
@@ -101,3 +104,8 @@ pub are_one : (w : World) → NumbersTellMessages w → AreOne w.frames
 are_one w law j k f g at there e =
     let same : f.msg ≡ g.msg = law j k f g at there (ap (λ (x : FrameKey). x.from) e) (ap (λ (x : FrameKey). x.to) e) (ap (λ (x : FrameKey). x.number) e) in
     ap (λ m. record f { msg = m }) same ∙ same_but f g e
+
+-- the frame that a reply tells, as a list
+pub listed_told : (r : Reply) → option_to_list (frame_told r) ≡ frames_of r
+listed_told (reply.Frame f) = refl
+listed_told _ = refl

@@ -1,14 +1,12 @@
 //! Merging of what offices gave.
 
-ghost use Rattle.std.specs.Prelude.{◌≡◌, ◌+◌, ◌<◌, ◌≤◌, ◌^◌, ◌++◌, ◌∷◌, [], ℕ, List, Some, length, sum, get_or, set, slice_get, IfOk, IfSome, IfNone, OnOk};
+ghost use Rattle.std.specs.Prelude.{◌≡◌, ◌+◌, ◌<◌, ◌≤◌, ◌^◌, ◌++◌, ◌∷◌, [], ℕ, List, Some, length, sum, get_or, set, slice_get, IfOk, IfSome, IfNone, OnOk, option_to_list};
 ghost use Rattle.office_map.specs.PlanValue.{PlanValue};
 ghost use Rattle.frame_codec.specs.Frame.{Fields};
-ghost use Rattle.office_journal.specs.Shown.{event_shown};
+ghost use Rattle.office_journal.specs.Shown.{IsPart};
 ghost use Rattle.office_journal.specs.declared.event.Entry.{Entry};
 ghost use Rattle.office_journal.specs.declared.event.Event.TheVariants as events;
 ghost use Rattle.frame_world.specs.declared.event.WorldEvent.{WorldEvent};
-ghost use Rattle.frame_world.specs.Worlds.{frames_of};
-ghost use Rattle.office_journal.specs.Replies.{frame_told};
 ghost use Rattle.journal_weave.specs.Replays.{given};
 ghost use Rattle.journal_weave.specs.ReplayValue.{ReplayValue};
 ghost use Rattle.journal_weave.specs.refinement.Merging.{Knows, told_by, IsFound, GoesNext, AddsEvent, IsMerged, IsStuck, IsWithin, StuckAt};
@@ -19,7 +17,7 @@ use crate::sent::SentFrames;
 use frame_codec::Frame;
 use frame_world::{SentAt, WorldEvent};
 use office_map::OfficeId;
-use site_core::{EventRef, Reply};
+use site_core::EventPart;
 use std::alloc::{AllocError, Global};
 
 /// How far a schedule of beginnings of journals is. It is told event by event ([`Merge::next`]), and kept by whoever asks.
@@ -128,32 +126,49 @@ impl Merge {
         if at >= given {
             return Ok(None);
         }
-        let Some(entry) = replay.entry(at) else {
+        let Some(part) = replay.event_part(at) else {
             return Ok(None);
         };
-        let Some(event) = self.event_of(a, &entry.event, replays)? else {
+        let Some(event) = self.event_of(a, &part, replay, at, replays)? else {
             return Ok(None);
         };
-        self.push(a, &entry.reply)?;
+        let frame = replay.frame_told(at);
+        self.push(a, &frame)?;
         Ok(Some(event))
     }
 
-    /// The world's event that is this event of the office, if its frame is there for it.
+    /// The world's event that is that of the entry at this place of the office, if its frame is there for it.
     fn event_of(
         &self,
         a: OfficeId,
-        event: &EventRef<'_>,
+        part: &EventPart<'_>,
+        replay: &Replay,
+        at: usize,
         replays: &[Replay],
     ) -> Result<Option<WorldEvent>, AllocError>
-        ensures { IfOk result (λ found. (frames : List Fields) → Knows ⟦<FrameKey as Ord>⟧.cmp replays.now self.now.sent frames → IsFound frames a (event_shown event.now) found) }
+        ensures { IfOk result (λ found. (entry : Entry) → slice_get replay.now.site.entries at ≡ Some entry → IsPart part.now entry.event → (frames : List Fields) → Knows ⟦<FrameKey as Ord>⟧.cmp replays.now self.now.sent frames → IsFound frames a entry.event found) }
     {
-        match event {
-            EventRef::Submit(program) => Ok(Some(WorldEvent::Submit(a, program.copy()?))),
-            EventRef::Do(rule) => Ok(Some(WorldEvent::Do(a, *rule))),
-            EventRef::Send(v, i) => Ok(Some(WorldEvent::Send(a, *v, *i))),
-            EventRef::Took(frame) => Ok(self.arrival_of(a, frame, replays)),
-            EventRef::Withdraw(ticket) => Ok(Some(WorldEvent::Withdraw(a, *ticket))),
+        match part {
+            EventPart::Submit(program) => Ok(Some(WorldEvent::Submit(a, program.copy()?))),
+            EventPart::Do(rule) => Ok(Some(WorldEvent::Do(a, *rule))),
+            EventPart::Send(v, i) => Ok(Some(WorldEvent::Send(a, *v, *i))),
+            EventPart::Took => Ok(self.arrival_at(a, replay, at, replays)),
+            EventPart::Withdraw(ticket) => Ok(Some(WorldEvent::Withdraw(a, *ticket))),
         }
+    }
+
+    /// The event that the frame of that entry comes to the office.
+    fn arrival_at(
+        &self,
+        a: OfficeId,
+        replay: &Replay,
+        at: usize,
+        replays: &[Replay],
+    ) -> Option<WorldEvent>
+        ensures { (entry : Entry) (frame : Fields) → slice_get replay.now.site.entries at ≡ Some entry → entry.event ≡ events.Took frame → (frames : List Fields) → Knows ⟦<FrameKey as Ord>⟧.cmp replays.now self.now.sent frames → IsFound frames a entry.event result }
+    {
+        let frame = replay.frame_taken(at)?;
+        self.arrival_of(a, &frame, replays)
     }
 
     /// The event that the frame comes to the office.
@@ -167,17 +182,17 @@ impl Merge {
         Some(WorldEvent::Deliver(k))
     }
 
-    /// The office has an entry more, which has that reply.
-    fn push(&mut self, a: OfficeId, reply: &Reply) -> Result<(), AllocError>
+    /// The office has an entry more, which tells that frame, if it tells one.
+    fn push(&mut self, a: OfficeId, frame: &Option<Frame>) -> Result<(), AllocError>
         requires office { a < length self.old.at.items }
         requires next { get_or self.old.at.items a 0 + 1 < 2 ^ 32 }
         ensures at { OnOk result (self.new.at.items ≡ set self.old.at.items a (get_or self.old.at.items a 0 + 1)) }
-        ensures sent { OnOk result ((rs : List ReplayValue) → told_by rs (record { office = a; entry = get_or self.old.at.items a 0 }) ≡ frame_told reply.now → (frames : List Fields) → Knows ⟦<FrameKey as Ord>⟧.cmp rs self.old.sent frames → Knows ⟦<FrameKey as Ord>⟧.cmp rs self.new.sent (frames ++ frames_of reply.now)) }
+        ensures sent { OnOk result ((rs : List ReplayValue) → told_by rs (record { office = a; entry = get_or self.old.at.items a 0 }) ≡ frame.now → (frames : List Fields) → Knows ⟦<FrameKey as Ord>⟧.cmp rs self.old.sent frames → Knows ⟦<FrameKey as Ord>⟧.cmp rs self.new.sent (frames ++ option_to_list frame.now)) }
         ensures turn { self.new.turn ≡ self.old.turn }
         ensures size { length self.new.at.items ≡ length self.old.at.items }
     {
         let entry = self.at[a.index()];
-        self.sent.add_of(a, entry, reply)?;
+        self.sent.add_of(a, entry, frame)?;
         self.at[a.index()] += 1;
         Ok(())
     }

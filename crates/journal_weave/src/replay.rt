@@ -1,9 +1,10 @@
 //! An office that follows its journal.
 
-ghost use Rattle.std.specs.Prelude.{◌≡◌, ◌<◌, ◌^◌, ◌++◌, ◌∷◌, [], ℕ, List, Bool, true, false, None, is_some, length, slice_get, IfOk, IfSome, IfNone, OnOk, IsTrue, ◌↔◌, option_map};
+ghost use Rattle.std.specs.Prelude.{◌≡◌, ◌<◌, ◌^◌, ◌++◌, ◌∷◌, [], ℕ, List, Bool, true, false, Some, None, MatchOption, is_some, length, slice_get, IfOk, IfSome, IfNone, OnOk, IsTrue, ◌↔◌, option_map};
+ghost use Rattle.std.specs.Option.{option_and_then};
 ghost use Rattle.frame_codec.specs.Frame.{Fields};
 ghost use Rattle.office_map.specs.PlanValue.{PlanValue};
-ghost use Rattle.office_journal.specs.Shown.{entry_shown};
+ghost use Rattle.office_journal.specs.Shown.{entry_shown, frame_taken, IsPart};
 ghost use Rattle.office_journal.specs.declared.event.Entry.{Entry};
 ghost use Rattle.office_journal.specs.declared.event.Event.TheVariants as events;
 ghost use Rattle.frame_world.specs.Sent.{told_in};
@@ -15,7 +16,7 @@ use crate::given::GivenJournal;
 use crate::stop::Stop;
 use frame_codec::Frame;
 use office_map::{OfficeId, Plan};
-use site_core::{Entry, EntryRef, Event, Office, Refusal};
+use site_core::{Entry, EntryRef, Event, EventPart, Office, Refusal};
 use std::alloc::{AllocError, Global};
 use std::marker::Model;
 
@@ -112,6 +113,20 @@ impl Replay {
         ensures { option_map entry_shown result ≡ slice_get self.now.site.entries i }
     {
         self.office.journal().get(i)
+    }
+
+    /// What the event of that entry is but for the frame that came, if the entry is there.
+    pub(crate) fn event_part(&self, i: usize) -> Option<EventPart<'_>>
+        ensures { MatchOption result (slice_get self.now.site.entries i ≡ None) (λ part. (entry : Entry) × (slice_get self.now.site.entries i ≡ Some entry) × IsPart part entry.event) }
+    {
+        self.office.journal().event_part(i)
+    }
+
+    /// The frame that came by the entry at this place, from 0, if it is there and one came.
+    pub(crate) fn frame_taken(&self, i: usize) -> Option<Frame>
+        ensures { result ≡ option_and_then (λ entry. frame_taken entry.event) (slice_get self.now.site.entries i) }
+    {
+        self.office.journal().frame_taken(i)
     }
 
     /// The frame that the entry at this place, from 0, tells in its reply, if it is there and tells one.

@@ -1,9 +1,7 @@
 //! The frames of a schedule.
 
-ghost use Rattle.std.specs.Prelude.{◌≡◌, ◌↔◌, ◌++◌, ◌∷◌, [], List, Some, IsTrue, OnOk, IfSome, IfNone};
+ghost use Rattle.std.specs.Prelude.{◌≡◌, ◌↔◌, ◌++◌, ◌∷◌, [], List, Some, IsTrue, OnOk, IfSome, IfNone, option_to_list};
 ghost use Rattle.frame_codec.specs.Frame.{Fields, IsFrame};
-ghost use Rattle.frame_world.specs.Worlds.{frames_of};
-ghost use Rattle.office_journal.specs.Replies.{frame_told};
 ghost use Rattle.journal_weave.specs.ReplayValue.{ReplayValue};
 ghost use Rattle.journal_weave.specs.refinement.Merging.{Knows, WasSent, WasNotSent, AreOne, number_in, told_by};
 
@@ -12,7 +10,6 @@ use crate::replay::Replay;
 use frame_codec::Frame;
 use frame_world::SentAt;
 use office_map::OfficeId;
-use site_core::Reply;
 use std::alloc::{AllocError, Global};
 use std::collections::BTreeMap;
 
@@ -41,18 +38,18 @@ impl SentFrames {
         }
     }
 
-    /// The frame that the reply of an office's entry is, if it is one.
+    /// The frame that an office's entry tells, if it tells one.
     pub(crate) fn add_of(
         &mut self,
         office: OfficeId,
         entry: u32,
-        reply: &Reply,
+        frame: &Option<Frame>,
     ) -> Result<(), AllocError>
-        ensures { OnOk result ((rs : List ReplayValue) → told_by rs (record { office = office; entry = entry }) ≡ frame_told reply.now → (frames : List Fields) → Knows ⟦<FrameKey as Ord>⟧.cmp rs self.old frames → Knows ⟦<FrameKey as Ord>⟧.cmp rs self.new (frames ++ frames_of reply.now)) }
+        ensures { OnOk result ((rs : List ReplayValue) → told_by rs (record { office = office; entry = entry }) ≡ frame.now → (frames : List Fields) → Knows ⟦<FrameKey as Ord>⟧.cmp rs self.old frames → Knows ⟦<FrameKey as Ord>⟧.cmp rs self.new (frames ++ option_to_list frame.now)) }
     {
-        match reply {
-            Reply::Frame(frame) => self.add(office, entry, frame),
-            _ => Ok(()),
+        match frame {
+            Some(frame) => self.add(office, entry, frame),
+            None => Ok(()),
         }
     }
 

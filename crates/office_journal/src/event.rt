@@ -75,6 +75,21 @@ impl EventRef<'_> {
     }
 }
 
+/// What an event is, but for the frame that came: who needs that asks for it, so that nobody else has room for it.
+#[derive(Clone, Copy)]
+pub enum EventPart<'a> {
+    /// A session is submitted.
+    Submit(&'a Program),
+    /// A rule is done.
+    Do(Rule),
+    /// A frame is made for a neighbour: of the i-th message that waits for it, from 1, or with 0 of the count alone.
+    Send(OfficeId, usize),
+    /// A frame comes.
+    Took,
+    /// The session with that ticket is withdrawn.
+    Withdraw(u32),
+}
+
 /// An entry as a journal shows it. A journal keeps its entries in another form, and makes this of one that is asked for.
 #[derive(Clone, Copy)]
 pub struct EntryRef<'a> {

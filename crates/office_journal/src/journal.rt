@@ -1,12 +1,12 @@
 //! What an office accepted.
 
-ghost use Rattle.std.specs.Prelude.{◌≡◌, ◌≢◌, ◌<◌, ◌≤◌, ◌-◌, ◌↔◌, ◌⊎◌, ◌++◌, ◌∷◌, [], length, take, drop, true, Err, IfOk, IfErr, OnOk, OnErr, nat_le, option_map, is_some, vec_len, List};
+ghost use Rattle.std.specs.Prelude.{◌≡◌, ◌≢◌, ◌<◌, ◌≤◌, ◌-◌, ◌↔◌, ◌⊎◌, ◌++◌, ◌∷◌, [], length, take, drop, true, Err, IfOk, IfErr, OnOk, OnErr, nat_le, option_map, is_some, vec_len, List, Some, None, MatchOption};
 ghost use Rattle.std.specs.List.{slice_get};
 ghost use Rattle.std.specs.Option.{option_and_then};
 ghost use Rattle.std.specs.Vec.{vec_capacity};
 ghost use Rattle.journal_pages.specs.Framed.{text_carried};
 ghost use Rattle.office_journal.specs.Limits.{most_entries};
-ghost use Rattle.office_journal.specs.Shown.{entry_shown};
+ghost use Rattle.office_journal.specs.Shown.{entry_shown, frame_taken, IsPart};
 ghost use Rattle.office_journal.specs.declared.event.Entry.{Entry};
 ghost use Rattle.office_journal.specs.declared.event.Event.TheVariants as events;
 ghost use Rattle.office_journal.specs.declared.reply.Reply.TheVariants as replies;
@@ -15,7 +15,7 @@ ghost use Rattle.office_journal.specs.refinement.PackedEntries.{nothing, entry_i
 ghost use Rattle.office_journal.specs.refinement.JournalOfCode.{texts_of};
 ghost use Rattle.office_journal.specs.Replies.{frame_told, reply_to};
 
-use crate::event::{Entry, EntryRef};
+use crate::event::{Entry, EntryRef, EventPart};
 use crate::limits::MAX_ENTRIES;
 use crate::packing;
 use crate::reply::Refusal;
@@ -95,6 +95,22 @@ impl Journal {
     {
         let packed = self.pages.get(i)?;
         packing::frame_told(packed, self.texts.as_slice())
+    }
+
+    /// What the event of the entry at this place, from 0, is but for the frame that came, if the entry is there.
+    pub fn event_part(&self, i: usize) -> Option<EventPart<'_>>
+        ensures { MatchOption result (slice_get self.now.entries i ≡ None) (λ part. (entry : Entry) × (slice_get self.now.entries i ≡ Some entry) × IsPart part entry.event) }
+    {
+        let packed = self.pages.get(i)?;
+        Some(packing::event_part(packed, self.programs.as_slice()))
+    }
+
+    /// The frame that came by the entry at this place, from 0, if it is there and one came.
+    pub fn frame_taken(&self, i: usize) -> Option<Frame>
+        ensures { result ≡ option_and_then (λ entry. frame_taken entry.event) (slice_get self.now.entries i) }
+    {
+        let packed = self.pages.get(i)?;
+        packing::frame_taken(packed, self.texts.as_slice())
     }
 
     /// Copies of the first so many entries from this place on, from 0; of fewer where the journal ends before. Where there is

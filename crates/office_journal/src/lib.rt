@@ -6,7 +6,8 @@
 //! - A [`Journal`] has at most [`MAX_ENTRIES`] entries. It keeps each in 32 bytes, in the pages of `journal_pages`, and beside them the
 //!   programs of the sessions that were submitted and the texts that frames carry (`entry_in`, in
 //!   `specs/refinement/PackedEntries.antt`). [`packing`] makes that form of an event. A reader is shown an [`EntryRef`], which borrows the program of a submitted session from the journal (`entry_shown`, in
-//!   `specs/Shown.antt`).
+//!   `specs/Shown.antt`). Who goes over many entries asks for what it needs of one: an [`EventPart`], the frame that came, the frame
+//!   that is told. An entry has room for two frames, which would be made ready for each.
 //!
 //! [`Journal::make_room`] takes the memory of an entry before it is made, [`Journal::make_room_for_program`] that of a program, and
 //! [`Journal::make_room_for_text`] that of a text. The first refuses a full journal as `JournalFull`. The entries stay, whatever is refused.
@@ -19,7 +20,7 @@ pub mod packing;
 mod reply;
 mod rule;
 
-pub use crate::event::{Entry, EntryRef, Event, EventRef};
+pub use crate::event::{Entry, EntryRef, Event, EventPart, EventRef};
 pub use crate::journal::Journal;
 pub use crate::limits::MAX_ENTRIES;
 pub use crate::reply::{Refusal, Reply};

@@ -1,16 +1,16 @@
 //! Which entry a packed one is.
 
-ghost use Rattle.std.specs.Prelude.{◌≡◌, ◌<◌, ◌≤◌, false, Some, slice_get};
+ghost use Rattle.std.specs.Prelude.{◌≡◌, ◌<◌, ◌≤◌, false, Some, slice_get, List, ℕ};
 ghost use Rattle.std.specs.Option.{option_copied};
 ghost use Rattle.session_meaning.specs.ProgramValue.{ProgramValue};
 ghost use Rattle.journal_pages.specs.Framed.{frame_in, text_as, text_of, text_carried, StandsAt};
 ghost use Rattle.office_journal.specs.Replies.{frame_told, reply_to};
-ghost use Rattle.office_journal.specs.Shown.{event_shown, entry_shown};
+ghost use Rattle.office_journal.specs.Shown.{event_shown, entry_shown, frame_taken, IsPart};
 ghost use Rattle.office_journal.specs.declared.event.Event.TheVariants as events;
 ghost use Rattle.office_journal.specs.declared.reply.Reply.TheVariants as replies;
 ghost use Rattle.office_journal.specs.refinement.PackedEntries.{Beside, nothing, submitted_from, event_by, reply_by, entry_in, rule_by, IsPlaced, IsPlain, IsOfRule, IsOfArrival};
 
-use crate::event::{EntryRef, EventRef};
+use crate::event::{EntryRef, EventPart, EventRef};
 use crate::reply::Reply;
 use crate::rule::Rule;
 use bottle_values::{Text, Value};
@@ -142,6 +142,67 @@ pub(crate) fn frame_told(packed: &Packed, texts: &[Text]) -> Option<Frame>
     match packed.kind() {
         Kind::Sent => Some(framed(packed, texts)),
         _ => None,
+    }
+}
+
+/// The frame that came by the entry, if one did.
+pub(crate) fn frame_taken(packed: &Packed, texts: &[Text]) -> Option<Frame>
+    ensures { (programs : List ProgramValue) → result ≡ frame_taken (event_by packed.now.kind (record { programs = programs; texts = texts.now }) packed.now) }
+{
+    match packed.kind() {
+        Kind::Acked => Some(framed(packed, texts)),
+        Kind::Taken => Some(framed(packed, texts)),
+        Kind::Repeat => Some(framed(packed, texts)),
+        Kind::Kept => Some(framed(packed, texts)),
+        Kind::Early => Some(framed(packed, texts)),
+        _ => None,
+    }
+}
+
+/// What happened but for the frame that came, with its program of these.
+pub(crate) fn event_part<'a>(packed: &Packed, programs: &'a [Program]) -> EventPart<'a>
+    ensures { (texts : List (List ℕ)) → IsPart result (event_by packed.now.kind (record { programs = programs.now; texts = texts }) packed.now) }
+{
+    let kind = packed.kind();
+    part(kind, packed, programs)
+}
+
+fn part<'a>(kind: Kind, packed: &Packed, programs: &'a [Program]) -> EventPart<'a>
+    ensures { (texts : List (List ℕ)) → IsPart result (event_by kind (record { programs = programs.now; texts = texts }) packed.now) }
+{
+    match kind {
+        Kind::Submitted => submitted_part(programs, packed.place()),
+        Kind::Withdrew => EventPart::Withdraw(packed.ticket()),
+        Kind::Start => EventPart::Do(Rule::Start),
+        Kind::Hungry => EventPart::Do(Rule::Hungry),
+        Kind::AskFork => EventPart::Do(Rule::AskFork(OfficeId::new(packed.neighbour()))),
+        Kind::GiveFork => EventPart::Do(Rule::GiveFork(OfficeId::new(packed.neighbour()))),
+        Kind::Eat => EventPart::Do(Rule::Eat),
+        Kind::Leave => EventPart::Do(Rule::Leave),
+        Kind::AskBottle => EventPart::Do(Rule::AskBottle(RecordId::new(packed.which()))),
+        Kind::GiveBottle => EventPart::Do(Rule::GiveBottle(RecordId::new(packed.which()))),
+        Kind::Drink => EventPart::Do(Rule::Drink),
+        Kind::Work => EventPart::Do(Rule::Work(packed.which())),
+        Kind::Finish => EventPart::Do(Rule::Finish),
+        Kind::Sent => EventPart::Send(
+            OfficeId::new(packed.neighbour()),
+            usize::from(packed.message()),
+        ),
+        Kind::Acked => EventPart::Took,
+        Kind::Taken => EventPart::Took,
+        Kind::Repeat => EventPart::Took,
+        Kind::Kept => EventPart::Took,
+        Kind::Early => EventPart::Took,
+    }
+}
+
+/// The session whose program has that place.
+fn submitted_part(programs: &[Program], place: u32) -> EventPart<'_>
+    ensures { IsPart result (submitted_from (slice_get programs.now place)) }
+{
+    match program_at(programs, place as usize) {
+        Some(program) => EventPart::Submit(program),
+        None => EventPart::Withdraw(0),
     }
 }
 

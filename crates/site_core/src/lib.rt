@@ -60,6 +60,7 @@ mod rules;
 pub use crate::limits::USUAL_PIECE;
 pub use crate::office::Office;
 pub use office_journal::{
-    ENTRY_BYTES, Entry, EntryRef, Event, EventRef, Journal, MAX_ENTRIES, Refusal, Reply, Rule,
+    ENTRY_BYTES, Entry, EntryRef, Event, EventPart, EventRef, Journal, MAX_ENTRIES, Refusal, Reply,
+    Rule,
 };
 pub use session_agenda::{LONGEST_PIECE, MAX_UNFINISHED, Session};

@@ -1,14 +1,11 @@
-use Rattle.std.proofs.Common.{◌≡◌, List, ◌++◌, sym, subst}
-use Rattle.std.specs.Prelude.{OnOk}
+use Rattle.std.proofs.Common.{◌≡◌, List, ◌++◌, Option, sym, subst}
+use Rattle.std.specs.Prelude.{OnOk, option_to_list}
 use Rattle.frame_codec.specs.Frame.{Fields}
-use Rattle.office_journal.specs.declared.reply.Reply.{Reply}
-use Rattle.frame_world.specs.Worlds.{frames_of}
-use Rattle.office_journal.specs.Replies.{frame_told}
 use Rattle.journal_weave.specs.contracts.key.FrameKeyOrd.TheImpl.{cmp-value}
 use Rattle.journal_weave.specs.ReplayValue.{ReplayValue}
 use Rattle.journal_weave.specs.refinement.Merging.{Knows, told_by}
 use Rattle.journal_weave.proofs.sent.SentFrames.add_of.Goals as goal
 
-pub returns-in-Frame : goal.returns-in-Frame
-returns-in-Frame c =
-    subst (λ (q : Reply). OnOk c.add.result ((rs : List ReplayValue) → told_by rs (record { office = c.args.office; entry = c.args.entry }) ≡ frame_told q → (frames : List Fields) → Knows cmp-value.it rs c.args.self.now frames → Knows cmp-value.it rs c.add.new.self (frames ++ frames_of q))) (sym c.in-Frame.is) c.add.ensures
+pub returns-in-Some : goal.returns-in-Some
+returns-in-Some c =
+    subst (λ (q : Option Fields). OnOk c.add.result ((rs : List ReplayValue) → told_by rs (record { office = c.args.office; entry = c.args.entry }) ≡ q → (frames : List Fields) → Knows cmp-value.it rs c.args.self.now frames → Knows cmp-value.it rs c.add.new.self (frames ++ option_to_list q))) (sym c.in-Some.is) c.add.ensures
