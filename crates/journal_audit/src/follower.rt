@@ -24,6 +24,8 @@ impl Entries for Follower {
         Ok(Follower { replay })
     }
 
+    // Where the entry is made it is lent at once, and not copied.
+    #[inline(always)]
     fn add(&mut self, entry: Entry) -> Result<(), AllocError> {
         self.replay.add(&entry)
     }

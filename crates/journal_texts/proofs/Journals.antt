@@ -6,11 +6,10 @@ use Rattle.text_lines.specs.Text.{statements}
 use Rattle.office_journal.specs.declared.event.Entry.{Entry}
 use Rattle.journal_texts.specs.declared.fault.JournalRule.{JournalRule}
 use Rattle.journal_texts.specs.declared.fault.JournalRule.TheVariants.{Journal}
-use Rattle.journal_texts.specs.declared.line.Told.{Told}
-use Rattle.journal_texts.specs.declared.line.Told.TheVariants as told
+use Rattle.journal_texts.specs.refinement.ReadLines as told
 use Rattle.journal_texts.specs.Lines.{Said, said_of, IsEntry, HasNoFrame}
 use Rattle.journal_texts.specs.JournalText.{header_of, AreSaid, AreEntries, HaveEntries, IsJournal, IsFirstFault, RefusesLines, RefusesJournal}
-use Rattle.journal_texts.specs.refinement.ReadLines.{Means, Reads, Adds}
+use Rattle.journal_texts.specs.refinement.ReadLines.{Means, Reads, Adds, Told}
 
 -- one line more
 

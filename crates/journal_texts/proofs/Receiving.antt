@@ -1,5 +1,5 @@
 -- What is told of a journal, line by line.
-use Rattle.std.proofs.Common.{◌≡◌, ◌≤◌, ◌<◌, ◌+◌, ℕ, List, [], ◌∷◌, ◌++◌, length, Bool, true, false, Option, Some, None, Result, Ok, Err, refl, sym, ap, subst, ◌∙◌, arith, length-append, inr}
+use Rattle.std.proofs.Common.{◌≡◌, ◌≤◌, ◌<◌, ◌+◌, ℕ, List, [], ◌∷◌, length, Bool, true, false, Option, Some, None, Result, Ok, Err, refl, sym, ap, subst, ◌∙◌, arith, length-append, inr}
 use Rattle.std.specs.Prelude.{IfOk, IfErr}
 use Rattle.office_map.specs.PlanValue.{PlanValue}
 use Rattle.office_map.specs.PlanText.{and_then}
@@ -9,12 +9,11 @@ use Rattle.journal_texts.specs.declared.fault.JournalRule.{JournalRule}
 use Rattle.journal_texts.specs.declared.fault.JournalFault.{JournalFault}
 use Rattle.journal_texts.specs.declared.fault.JournalFault.TheVariants as fault
 use Rattle.journal_texts.specs.declared.journal_text.JournalText.{JournalText}
-use Rattle.journal_texts.specs.declared.line.Told.{Told}
-use Rattle.journal_texts.specs.declared.line.Told.TheVariants as told
+use Rattle.journal_texts.specs.refinement.ReadLines as told
 use Rattle.journal_texts.specs.Lines.{said_by}
 use Rattle.journal_texts.specs.JournalText.{header_of, IsJournal, IsFirstFault, RefusesLines, IsFaultOf}
 use Rattle.journal_texts.specs.Receiving.{IsReadAs}
-use Rattle.journal_texts.specs.refinement.ReadLines.{Reads, Adds, GoOn, AreTold, IsLineFault}
+use Rattle.journal_texts.specs.refinement.ReadLines.{Reads, Adds, GoOn, AreTold, IsLineFault, Told}
 use Rattle.journal_texts.proofs.ReadLines.{said_is}
 use Rattle.journal_texts.proofs.Journals.{Walked, none_read, further, all_read, is_faulty, is_journal}
 
@@ -52,20 +51,6 @@ told_all p all rest whole left goes_on holds none so = record { entries = so.ent
 pub told_fault : (p : PlanValue) (all rest after : List (ℕ × List ℕ)) (number : ℕ) (line : List ℕ) (words : Option (List (List ℕ))) (whole left : ℕ) (goes_on : Bool) (holds : List Entry → Bool → Type 0) → rest ≡ (number, line) ∷ after
     → words ≡ plain_words line → Reads (and_then words (said_by p)) None → ToldSoFar p all rest whole left goes_on holds → IsFirstFault p all number
 told_fault p all rest after number line words whole left goes_on holds first split reads so = is_faulty p all rest after number line so.entries goes_on first (subst (λ s. Reads s None) (said_is p line words split) reads) so.walked
-
--- ---- one line more, by what it says
-
-module _ (xs : List Entry) (holds holds' : List Entry → Bool → Type 0) where
-  -- after a line whose digits spell no frame nothing is told
-  pub goes_past : (ends : Bool) (t : Told) → ends ≡ false → holds xs ends → GoOn ends xs t false holds
-  goes_past ends (told.AnEntry x) is h = subst (λ b. GoOn b xs (told.AnEntry x) false holds) (sym is) (xs, (refl, refl), subst (holds xs) is h)
-  goes_past ends told.NoFrame is h = subst (λ b. GoOn b xs told.NoFrame false holds) (sym is) (xs, (refl, refl), subst (holds xs) is h)
-
-  pub adds_entry : (ends : Bool) (x : Entry) → ends ≡ true → holds' (xs ++ x ∷ []) true → GoOn ends xs (told.AnEntry x) true holds'
-  adds_entry ends x is h = subst (λ b. GoOn b xs (told.AnEntry x) true holds') (sym is) (xs ++ x ∷ [], (refl, refl), h)
-
-  pub ends_there : (ends : Bool) → ends ≡ true → holds' xs false → GoOn ends xs told.NoFrame false holds'
-  ends_there ends is h = subst (λ b. GoOn b xs told.NoFrame false holds') (sym is) (xs, (refl, refl), h)
 
 -- ---- the whole text
 

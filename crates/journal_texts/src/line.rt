@@ -1,13 +1,21 @@
-//! A line of a journal after the first.
+//! A line of a journal after the first: what it says is told at once.
+//!
+//! `goes_on` is whether the journal goes on, which it does up to the first line whose digits spell no frame; the lines after that are
+//! read too, so that their faults are told. Each function answers whether it goes on after the line, or None where the line says
+//! nothing.
+//!
+//! Each kind of line makes its entry in a function of its own, and nobody hands it up: an entry has room for two frames, which would be
+//! made ready, and copied, for each kind.
 
-ghost use Rattle.std.specs.Prelude.{◌≡◌, Some, None, Ok, ◌&&◌, if◌then◌else◌, IfOk};
+ghost use Rattle.std.specs.Prelude.{◌≡◌, Some, None, Ok, Option, ◌&&◌, if◌then◌else◌, IfOk};
 ghost use Rattle.std.specs.Str.{bytes_eq};
 ghost use Rattle.office_map.specs.PlanText.{and_then};
 ghost use Rattle.run_words.specs.Digits.{bytes_in};
-ghost use Rattle.journal_texts.specs.Lines.{said_by, said_after, tag_of, took_line, do_line, send_line, submit_line, withdraw_line, done_by, withdrawn_by, took_by, submitted_by, sent_by, program_in, one_program, is_done};
-ghost use Rattle.journal_texts.specs.declared.line.Told.TheVariants as tolds;
-ghost use Rattle.journal_texts.specs.refinement.ReadLines.{Reads};
+ghost use Rattle.journal_texts.specs.Lines.{Said, said_by, said_after, tag_of, took_line, do_line, send_line, submit_line, withdraw_line, done_by, withdrawn_by, took_by, submitted_by, sent_by, program_in, one_program, is_done};
+ghost use Rattle.journal_texts.specs.refinement.ReadLines.{Reads, Tells};
+ghost use Rattle.journal_texts.specs.refinement.ReadLines as tolds;
 
+use crate::entries::Entries;
 use marked_lines::Words;
 use office_map::{OfficeId, Plan};
 use run_words::digits::{FrameWord, bytes, frame_word};
@@ -23,24 +31,15 @@ use text_lines::number;
 /// Tags are below.
 const TAGS: u64 = 16;
 
-/// What is read of a line that says something.
-///
-/// An entry holds a frame, so there is none for a line whose digits spell no frame. Who reads the journal is told that
-/// there is one, and the lines after it are looked at, so that their faults are told.
-#[derive(Drop)]
-pub(crate) enum Told {
-    AnEntry(Entry),
-    /// The digits of its frame spell none.
-    NoFrame,
-}
-
-/// What a line says, if it says something: one with these words, or one that isn't plain.
-pub(crate) fn read_line(
+/// What a line says: one with these words, or one that isn't plain.
+pub(crate) fn tell_line<E: Entries>(
     alloc: Global,
     plan: &Plan,
+    told: &mut E,
+    goes_on: bool,
     line: Option<Words<'_>>,
-) -> Result<Option<Told>, AllocError>
-    ensures { IfOk result (Reads (and_then line.entry (said_by plan.now))) }
+) -> Result<Option<bool>, AllocError>
+    ensures { IfOk result (Tells (and_then line.entry (said_by plan.now)) goes_on (E.holds told.old) (E.holds told.new)) }
 {
     let Some(words) = line else {
         return Ok(None);
@@ -51,7 +50,7 @@ pub(crate) fn read_line(
     };
     match tag(first) {
         None => Ok(None),
-        Some(tag) => told_after(alloc, plan, tag, &mut words),
+        Some(tag) => tell_after(alloc, plan, told, goes_on, tag, &mut words),
     }
 }
 
@@ -63,87 +62,141 @@ fn tag(word: &[u8]) -> Option<u8>
 }
 
 /// What the words after a tag say.
-fn told_after(
+fn tell_after<E: Entries>(
     alloc: Global,
     plan: &Plan,
+    told: &mut E,
+    goes_on: bool,
     tag: u8,
     words: &mut Words<'_>,
-) -> Result<Option<Told>, AllocError>
-    ensures { IfOk result (Reads (said_after plan.now tag words.old)) }
+) -> Result<Option<bool>, AllocError>
+    ensures { IfOk result (Tells (said_after plan.now tag words.old) goes_on (E.holds told.old) (E.holds told.new)) }
 {
     let Some(keyword) = words.next() else {
         return Ok(None);
     };
     if is(keyword, "took") {
-        return Ok(took_line(tag, words));
+        return took_line(told, goes_on, tag, words);
     }
     if is(keyword, "do") {
-        return Ok(do_line(plan, tag, words));
+        return do_line(plan, told, goes_on, tag, words);
     }
     if is(keyword, "send") {
-        return Ok(send_line(plan, tag, words));
+        return send_line(plan, told, goes_on, tag, words);
     }
     if is(keyword, "submit") {
-        return submit_line(alloc, plan, tag, words);
+        return submit_line(alloc, plan, told, goes_on, tag, words);
     }
     if is(keyword, "withdraw") {
-        return Ok(withdraw_line(tag, words));
+        return withdraw_line(told, goes_on, tag, words);
     }
     Ok(None)
 }
 
 /// A frame that came.
-fn took_line(tag: u8, words: &mut Words<'_>) -> Option<Told>
-    ensures { Reads (took_line tag words.old) result }
+#[inline(never)]
+fn took_line<E: Entries>(
+    told: &mut E,
+    goes_on: bool,
+    tag: u8,
+    words: &mut Words<'_>,
+) -> Result<Option<bool>, AllocError>
+    ensures { IfOk result (Tells (took_line tag words.old) goes_on (E.holds told.old) (E.holds told.new)) }
 {
-    let word = words.next()?;
-    let sign = words.next()?;
-    let what = words.next()?;
+    let Some(word) = words.next() else {
+        return Ok(None);
+    };
+    let Some(sign) = words.next() else {
+        return Ok(None);
+    };
+    let Some(what) = words.next() else {
+        return Ok(None);
+    };
     if words.next().is_some() || !is(sign, "=") {
-        return None;
+        return Ok(None);
     }
-    came(tag, word, arrival_named(what))
+    came(told, goes_on, tag, word, arrival_named(what))
 }
 
 /// A rule that was done, of a word or of two.
-fn do_line(plan: &Plan, tag: u8, words: &mut Words<'_>) -> Option<Told>
-    ensures { Reads (do_line plan.now tag words.old) result }
+#[inline(never)]
+fn do_line<E: Entries>(
+    plan: &Plan,
+    told: &mut E,
+    goes_on: bool,
+    tag: u8,
+    words: &mut Words<'_>,
+) -> Result<Option<bool>, AllocError>
+    ensures { IfOk result (Tells (do_line plan.now tag words.old) goes_on (E.holds told.old) (E.holds told.new)) }
 {
-    let name = words.next()?;
-    let a = words.next()?;
-    let b = words.next()?;
+    let Some(name) = words.next() else {
+        return Ok(None);
+    };
+    let Some(a) = words.next() else {
+        return Ok(None);
+    };
+    let Some(b) = words.next() else {
+        return Ok(None);
+    };
     let Some(c) = words.next() else {
-        return done(tag, rule_named(name), is_done(a, b));
+        return done(told, goes_on, tag, rule_named(name), is_done(a, b));
     };
     match words.next() {
-        Some(_) => None,
-        None => done(tag, rule_with(plan, name, a), is_done(b, c)),
+        Some(_) => Ok(None),
+        None => done(told, goes_on, tag, rule_with(plan, name, a), is_done(b, c)),
     }
 }
 
 /// A frame that was made.
-fn send_line(plan: &Plan, tag: u8, words: &mut Words<'_>) -> Option<Told>
-    ensures { Reads (send_line plan.now tag words.old) result }
+#[inline(never)]
+fn send_line<E: Entries>(
+    plan: &Plan,
+    told: &mut E,
+    goes_on: bool,
+    tag: u8,
+    words: &mut Words<'_>,
+) -> Result<Option<bool>, AllocError>
+    ensures { IfOk result (Tells (send_line plan.now tag words.old) goes_on (E.holds told.old) (E.holds told.new)) }
 {
-    let neighbour = words.next()?;
-    let i = words.next()?;
-    let sign = words.next()?;
-    let answer = words.next()?;
-    let word = words.next()?;
+    let Some(neighbour) = words.next() else {
+        return Ok(None);
+    };
+    let Some(i) = words.next() else {
+        return Ok(None);
+    };
+    let Some(sign) = words.next() else {
+        return Ok(None);
+    };
+    let Some(answer) = words.next() else {
+        return Ok(None);
+    };
+    let Some(word) = words.next() else {
+        return Ok(None);
+    };
     if words.next().is_some() || !are(sign, "=", answer, "frame") {
-        return None;
+        return Ok(None);
     }
-    made(tag, office_by(plan, neighbour), number(i), word)
+    made(
+        told,
+        goes_on,
+        tag,
+        office_by(plan, neighbour),
+        number(i),
+        word,
+    )
 }
 
 /// A session that was submitted.
-fn submit_line(
+#[inline(never)]
+fn submit_line<E: Entries>(
     alloc: Global,
     plan: &Plan,
+    told: &mut E,
+    goes_on: bool,
     tag: u8,
     words: &mut Words<'_>,
-) -> Result<Option<Told>, AllocError>
-    ensures { IfOk result (Reads (submit_line plan.now tag words.old)) }
+) -> Result<Option<bool>, AllocError>
+    ensures { IfOk result (Tells (submit_line plan.now tag words.old) goes_on (E.holds told.old) (E.holds told.new)) }
 {
     let Some(word) = words.next() else {
         return Ok(None);
@@ -160,20 +213,40 @@ fn submit_line(
     if words.next().is_some() || !are(sign, "=", answer, "ticket") {
         return Ok(None);
     }
-    submitted(alloc, plan, tag, word, great_count_by(u32::MAX, ticket))
+    submitted(
+        alloc,
+        plan,
+        told,
+        goes_on,
+        tag,
+        word,
+        great_count_by(u32::MAX, ticket),
+    )
 }
 
 /// A session that was withdrawn.
-fn withdraw_line(tag: u8, words: &mut Words<'_>) -> Option<Told>
-    ensures { Reads (withdraw_line tag words.old) result }
+#[inline(never)]
+fn withdraw_line<E: Entries>(
+    told: &mut E,
+    goes_on: bool,
+    tag: u8,
+    words: &mut Words<'_>,
+) -> Result<Option<bool>, AllocError>
+    ensures { IfOk result (Tells (withdraw_line tag words.old) goes_on (E.holds told.old) (E.holds told.new)) }
 {
-    let ticket = words.next()?;
-    let sign = words.next()?;
-    let answer = words.next()?;
+    let Some(ticket) = words.next() else {
+        return Ok(None);
+    };
+    let Some(sign) = words.next() else {
+        return Ok(None);
+    };
+    let Some(answer) = words.next() else {
+        return Ok(None);
+    };
     if words.next().is_some() || !is_done(sign, answer) {
-        return None;
+        return Ok(None);
     }
-    withdrawn(tag, great_count_by(u32::MAX, ticket))
+    withdrawn(told, goes_on, tag, great_count_by(u32::MAX, ticket))
 }
 
 fn is_done(sign: &[u8], answer: &[u8]) -> bool
@@ -190,50 +263,122 @@ pub(crate) fn are(a: &[u8], text: &str, b: &[u8], other: &str) -> bool
 }
 
 /// A frame came.
-#[tactic(auto, using(crate::proofs::ReadLines::came_frame, crate::proofs::ReadLines::came_no_frame, crate::proofs::ReadLines::came_no_digits, crate::proofs::ReadLines::came_as_nothing))]
-fn came(tag: u8, word: &[u8], reply: Option<Reply>) -> Option<Told>
-    ensures { Reads (took_by tag (bytes_in word.now) reply) result }
+#[inline(always)]
+fn came<E: Entries>(
+    told: &mut E,
+    goes_on: bool,
+    tag: u8,
+    word: &[u8],
+    reply: Option<Reply>,
+) -> Result<Option<bool>, AllocError>
+    ensures { IfOk result (Tells (took_by tag (bytes_in word.now) reply) goes_on (E.holds told.old) (E.holds told.new)) }
 {
-    let reply = reply?;
+    let Some(reply) = reply else {
+        return Ok(None);
+    };
     match frame_word(word) {
-        FrameWord::Spelled(frame) => entry(tag, Event::Took(frame), reply),
-        FrameWord::NoFrame => Some(Told::NoFrame),
-        FrameWord::NoDigits => None,
+        FrameWord::Spelled(frame) => tell(
+            told,
+            goes_on,
+            Entry {
+                tag,
+                event: Event::Took(frame),
+                reply,
+            },
+        ),
+        FrameWord::NoFrame => Ok(end(told, goes_on)),
+        FrameWord::NoDigits => Ok(None),
     }
 }
 
 /// A rule was done, where the line says so.
-fn done(tag: u8, rule: Option<Rule>, is_done: bool) -> Option<Told>
-    ensures { Reads (if is_done then done_by tag rule else None) result }
+#[inline(always)]
+fn done<E: Entries>(
+    told: &mut E,
+    goes_on: bool,
+    tag: u8,
+    rule: Option<Rule>,
+    is_done: bool,
+) -> Result<Option<bool>, AllocError>
+    ensures { IfOk result (Tells (if is_done then done_by tag rule else None) goes_on (E.holds told.old) (E.holds told.new)) }
 {
     if !is_done {
-        return None;
+        return Ok(None);
     }
-    entry(tag, Event::Do(rule?), Reply::Done)
+    let Some(rule) = rule else {
+        return Ok(None);
+    };
+    tell(
+        told,
+        goes_on,
+        Entry {
+            tag,
+            event: Event::Do(rule),
+            reply: Reply::Done,
+        },
+    )
 }
 
 /// A session was withdrawn.
-fn withdrawn(tag: u8, ticket: Option<u32>) -> Option<Told>
-    ensures { Reads (withdrawn_by tag ticket) result }
+#[inline(always)]
+fn withdrawn<E: Entries>(
+    told: &mut E,
+    goes_on: bool,
+    tag: u8,
+    ticket: Option<u32>,
+) -> Result<Option<bool>, AllocError>
+    ensures { IfOk result (Tells (withdrawn_by tag ticket) goes_on (E.holds told.old) (E.holds told.new)) }
 {
-    entry(tag, Event::Withdraw(ticket?), Reply::Done)
+    let Some(ticket) = ticket else {
+        return Ok(None);
+    };
+    tell(
+        told,
+        goes_on,
+        Entry {
+            tag,
+            event: Event::Withdraw(ticket),
+            reply: Reply::Done,
+        },
+    )
 }
 
-fn entry(tag: u8, event: Event, reply: Reply) -> Option<Told>
-    ensures { result ≡ Some (tolds.AnEntry (record { tag = tag; event = event; reply = reply })) }
+/// An entry is told, where the journal goes on. Whether it does after that.
+#[inline(always)]
+fn tell<E: Entries>(told: &mut E, goes_on: bool, entry: Entry) -> Result<Option<bool>, AllocError>
+    ensures { IfOk result (λ more. (said : Option Said) → Reads said (Some (tolds.AnEntry entry)) → Tells said goes_on (E.holds told.old) (E.holds told.new) more) }
 {
-    Some(Told::AnEntry(Entry { tag, event, reply }))
+    if !goes_on {
+        return Ok(Some(false));
+    }
+    told.add(entry)?;
+    Ok(Some(true))
+}
+
+/// The digits of a frame spell none: the journal goes on no more.
+#[inline(always)]
+fn end<E: Entries>(told: &mut E, goes_on: bool) -> Option<bool>
+    ensures { (said : Option Said) → Reads said (Some tolds.NoFrame) → Tells said goes_on (E.holds told.old) (E.holds told.new) result }
+{
+    if !goes_on {
+        return Some(false);
+    }
+    told.end();
+    Some(false)
 }
 
 /// A session was submitted.
-fn submitted(
+#[inline(always)]
+fn submitted<E: Entries>(
     alloc: Global,
     plan: &Plan,
+    told: &mut E,
+    goes_on: bool,
     tag: u8,
     word: &[u8],
     ticket: Option<u32>,
-) -> Result<Option<Told>, AllocError>
-    ensures { IfOk result (Reads (submitted_by tag (program_in plan.now word.now) ticket)) }
+) -> Result<Option<bool>, AllocError>
+    ensures { IfOk result (Tells (submitted_by tag (program_in plan.now word.now) ticket) goes_on (E.holds told.old) (E.holds told.new)) }
 {
     let Some(ticket) = ticket else {
         return Ok(None);
@@ -241,7 +386,15 @@ fn submitted(
     let Some(program) = program_in(alloc, plan, word)? else {
         return Ok(None);
     };
-    Ok(entry(tag, Event::Submit(program), Reply::Ticket(ticket)))
+    tell(
+        told,
+        goes_on,
+        Entry {
+            tag,
+            event: Event::Submit(program),
+            reply: Reply::Ticket(ticket),
+        },
+    )
 }
 
 /// The program whose text's digits a word is.
@@ -271,19 +424,34 @@ fn one_program(programs: Vec<Program>) -> Option<Program>
 }
 
 /// A frame was made.
-#[tactic(auto, using(crate::proofs::ReadLines::made_frame, crate::proofs::ReadLines::made_no_frame, crate::proofs::ReadLines::made_no_digits))]
-fn made(tag: u8, neighbour: Option<OfficeId>, i: Option<u64>, word: &[u8]) -> Option<Told>
-    ensures { Reads (sent_by tag neighbour i (bytes_in word.now)) result }
+#[inline(always)]
+fn made<E: Entries>(
+    told: &mut E,
+    goes_on: bool,
+    tag: u8,
+    neighbour: Option<OfficeId>,
+    i: Option<u64>,
+    word: &[u8],
+) -> Result<Option<bool>, AllocError>
+    ensures { IfOk result (Tells (sent_by tag neighbour i (bytes_in word.now)) goes_on (E.holds told.old) (E.holds told.new)) }
 {
-    let neighbour = neighbour?;
-    let i = i?;
+    let Some(neighbour) = neighbour else {
+        return Ok(None);
+    };
+    let Some(i) = i else {
+        return Ok(None);
+    };
     match frame_word(word) {
-        FrameWord::Spelled(frame) => entry(
-            tag,
-            Event::Send(neighbour, i as usize),
-            Reply::Frame(frame),
+        FrameWord::Spelled(frame) => tell(
+            told,
+            goes_on,
+            Entry {
+                tag,
+                event: Event::Send(neighbour, i as usize),
+                reply: Reply::Frame(frame),
+            },
         ),
-        FrameWord::NoFrame => Some(Told::NoFrame),
-        FrameWord::NoDigits => None,
+        FrameWord::NoFrame => Ok(end(told, goes_on)),
+        FrameWord::NoDigits => Ok(None),
     }
 }

@@ -12,7 +12,7 @@ use crate::entries::Entries;
 use crate::fault::{JournalFault, JournalRule, refused};
 use crate::header::header;
 use crate::journal_text::JournalText;
-use crate::line::{Told, read_line};
+use crate::line::tell_line;
 use marked_lines::next_words;
 use office_map::{OfficeId, Plan};
 use std::alloc::{AllocError, Global};
@@ -71,30 +71,10 @@ fn told_of<E: Entries>(
     let mut told = E::begin(alloc, plan, office)?;
     let mut goes_on = true;
     while let Some((line, _statement, words)) = next_words(&mut left) {
-        match read_line(alloc, plan, words)? {
-            Some(what) => goes_on = tell_one(&mut told, goes_on, what)?,
+        match tell_line::<E>(alloc, plan, &mut told, goes_on, words)? {
+            Some(more) => goes_on = more,
             None => return Err(refused(JournalRule::Journal, line)),
         }
     }
     Ok(told)
-}
-
-/// What one line more says is told, where the journal goes on. Whether it does after that.
-#[tactic(auto, using(crate::proofs::Receiving::goes_past, crate::proofs::Receiving::adds_entry, crate::proofs::Receiving::ends_there))]
-fn tell_one<E: Entries>(told: &mut E, goes_on: bool, what: Told) -> Result<bool, AllocError>
-    ensures { IfOk result (λ more. (plan : PlanValue) (office : ℕ) (entries : List Entry) → E.holds told.old plan office entries goes_on → GoOn goes_on entries what more (E.holds told.new plan office)) }
-{
-    if !goes_on {
-        return Ok(false);
-    }
-    match what {
-        Told::AnEntry(entry) => {
-            told.add(entry)?;
-            Ok(true)
-        }
-        Told::NoFrame => {
-            told.end();
-            Ok(false)
-        }
-    }
 }

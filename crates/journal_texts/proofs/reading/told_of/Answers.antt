@@ -1,8 +1,8 @@
-use Rattle.std.proofs.Common.{None, length, refl, sym, subst}
+use Rattle.std.proofs.Common.{Some, None, length, refl, sym, subst}
 use Rattle.office_map.specs.PlanText.{and_then}
 use Rattle.text_lines.specs.Text.{lines, statements_from}
 use Rattle.journal_texts.specs.Lines.{said_by}
-use Rattle.journal_texts.specs.refinement.ReadLines.{Reads, IsLineFault}
+use Rattle.journal_texts.specs.refinement.ReadLines.{Reads, Tells, IsLineFault}
 use Rattle.journal_texts.proofs.Receiving.{told_none, told_more, told_fault}
 use Rattle.journal_texts.proofs.reading.told_of.Goals as goal
 
@@ -16,11 +16,13 @@ pub loop-line-preserved : goal.loop-line-preserved
 loop-line-preserved g c =
     let p = c.args.plan.now in
     let all = statements_from c.args.statements.number (lines c.args.statements.rest.now) in
+    let said = and_then c.in-Some.words (said_by p) in
+    let tells : Tells said c.loop-line.goes_on (g.E.Entries.holds c.loop-line.told) (g.E.Entries.holds c.tell_line.new.told) (Some c.in-Some-2.more) =
+    subst (Tells said c.loop-line.goes_on (g.E.Entries.holds c.loop-line.told) (g.E.Entries.holds c.tell_line.new.told)) c.in-Some-2.is c.in_ok-more.ensures in
     record {
       fits = c.in-Some.ensures.fits;
-      told = told_more p all _ _ c.in-Some.line c.in-Some._statement.now c.in-Some.words c.in-Some-2.what _ _ _ c.loop-line.goes_on c.in_ok-goes_on-in-Some-2.goes_on _ _ c.in-Some.ensures.gives
-          c.in-Some.ensures.words (subst (Reads (and_then c.in-Some.words (said_by p))) c.in-Some-2.is c.in_ok-what.ensures)
-          (λ xs held. c.in_ok-goes_on-in-Some-2.ensures p c.args.office xs held) c.in-Some.ensures.shorter c.loop-line.invariant.told;
+      told = told_more p all _ _ c.in-Some.line c.in-Some._statement.now c.in-Some.words tells.0 _ _ _ c.loop-line.goes_on c.in-Some-2.more _ _ c.in-Some.ensures.gives c.in-Some.ensures.words tells.1
+          (λ xs held. tells.2 p c.args.office xs held) c.in-Some.ensures.shorter c.loop-line.invariant.told;
     }
 
 -- the line that says nothing
@@ -28,6 +30,8 @@ pub returns-in-None-clause-fault : goal.returns-in-None-clause-fault
 returns-in-None-clause-fault g c =
     let p = c.args.plan.now in
     let all = statements_from c.args.statements.number (lines c.args.statements.rest.now) in
-    let reads : Reads (and_then c.in-Some.words (said_by p)) None = subst (Reads (and_then c.in-Some.words (said_by p))) c.in-None.is c.in_ok-what.ensures in
+    let said = and_then c.in-Some.words (said_by p) in
+    let reads : Reads said None =
+    subst (Tells said c.loop-line.goes_on (g.E.Entries.holds c.loop-line.told) (g.E.Entries.holds c.tell_line.new.told)) c.in-None.is c.in_ok-more.ensures in
     subst (IsLineFault p all) (sym c.refused.ensures)
     (refl, told_fault p all _ _ c.in-Some.line c.in-Some._statement.now c.in-Some.words _ _ c.loop-line.goes_on _ c.in-Some.ensures.gives c.in-Some.ensures.words reads c.loop-line.invariant.told)
