@@ -2,8 +2,8 @@
 
 An edit that changes one function's body, and no contract, is refused or not by that function's proof alone: every other proof rests
 on contracts. So edits of distinct bodies are put into one copy of the crate, and one check of these functions tells of each of them.
-An edit counts as refused only where an error stands in its own function's proof, or one of that function's own goals isn't
-proved. Every other edit, whatever the reason, is left to rt, which tries it by itself.
+An edit counts as refused only where an error that isn't for a missing name stands in its own function's proof, or one of that
+function's own goals isn't proved. Every other edit, whatever the reason, is left to rt, which tries it by itself.
 """
 import os, re, shutil, subprocess, tempfile
 
@@ -103,7 +103,9 @@ def reasons(crate, functions, texts, said):
         path, _, name = function.replace("::", "/").rpartition("/")
         # Functions that call one another have one proof, in which the name of a goal begins with its function's.
         places = rf"{path}/{name}/\w+\.antt:\d+:\d+: error: ", rf"{path}/\+\w+/\w+\.antt:\d+:\d+: error: `{name}-"
-        own = [it for place in places for it in re.findall(rf"^\./proofs/{place}.*$", said, re.M) if not NAMES.search(it)]
+        # A record that lacks a field is named in one line, and the field in the next.
+        told = (it for place in places for it in re.findall(rf"^\./proofs/{place}.*(?:\n  has no field.*)?$", said, re.M))
+        own = [it for it in told if not NAMES.search(it)]
         own += [goals[function]] if function in goals else []
         if own or re.match(r"no proof: .*`search` did not prove `", verdict[1]):
             found[edit] = own[0] if own else verdict[0]
