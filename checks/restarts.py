@@ -391,10 +391,11 @@ def as_the_manual_says(check):
         file.write(plan)
     start = lambda block, turns: subprocess.Popen(["/bin/sh", "-c", f"exec {block} --turns {turns}"], cwd=room, stdout=subprocess.PIPE, stderr=subprocess.PIPE)
     (one, told), (other, theirs), (again, retold) = given
-    first, neighbour = start(one, 100_000), start(other, FEWER_TURNS)
+    # The first may be killed before its neighbour has what it asked for: that asks again, of the one that was started again.
+    first, neighbour = start(one, 100_000), start(other, 2 * FEWER_TURNS)
     lines = b"".join(line_of(first) for _ in told.splitlines())
     first.kill()
     check.wants(f"docs/manual.md: {one}", ended(first), -signal.SIGKILL, b"", b"")
     check.equal(f"docs/manual.md: {one}: what it told", lines, told.encode())
-    check.wants(f"docs/manual.md: {again}", ended(start(again, 5)), 0, retold.encode(), b"")
+    check.wants(f"docs/manual.md: {again}", ended(start(again, 2 * FEWER_TURNS)), 0, retold.encode(), b"")
     check.wants(f"docs/manual.md: {other}", ended(neighbour), 0, theirs.encode(), b"")
