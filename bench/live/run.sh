@@ -8,7 +8,7 @@
 set -eu
 here=$(cd "$(dirname "$0")" && pwd)
 top=$here/../..
-uses="live_runs office_runs office_stations socket_pump locked_office own_lock site_core session_language session_programs office_map"
+uses="office_runs office_stations socket_pump locked_office own_lock site_core session_language session_programs office_map"
 . "$top/bench/shared/crate.sh"
 built=$work/crates/$program/out/$program
 

@@ -8,7 +8,7 @@
 set -eu
 here=$(cd "$(dirname "$0")" && pwd)
 top=$here/../..
-uses="session_machine serial_replay session_language session_programs session_measures session_meaning office_map bottle_values"
+uses="session_machine serial_replay session_language session_programs session_meaning office_map bottle_values"
 . "$top/bench/shared/crate.sh"
 rounds=100
 

@@ -7,7 +7,7 @@
 set -eu
 here=$(cd "$(dirname "$0")" && pwd)
 top=$here/../..
-uses="sealed_frames"
+uses="datagram_seals"
 . "$top/bench/shared/crate.sh"
 
 # The microseconds of the processor for each call of a run with these words.

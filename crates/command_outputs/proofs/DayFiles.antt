@@ -6,8 +6,8 @@ use Rattle.session_meaning.specs.ProgramValue.{ProgramValue}
 use Rattle.session_programs.specs.Program.{fits}
 use Rattle.frame_world.specs.Worlds.{World}
 use Rattle.frame_world.specs.WorldLaws.{seated}
-use Rattle.journal_audit.specs.Findings.{IsRecordedBy}
-use Rattle.output_files.specs.Written.{KeepsFiles}
+use Rattle.day_audits.specs.audit.Findings.{IsRecordedBy}
+use Rattle.host_files.specs.outputs.Written.{KeepsFiles}
 use Rattle.command_outputs.specs.Journals.{File}
 
 -- what holds of a text that was made holds of the file

@@ -2,7 +2,7 @@
 use Rattle.std.proofs.Common.{◌≡◌, ◌+◌, ◌<◌, ℕ, List, [], ◌∷◌, ◌++◌, length, map, take, get_or, Option, None, Some, Result, Ok, IfOk, OnOk, sym, subst, ap, ◌∙◌, append_assoc, arith}
 use Rattle.std.proofs.lemmas.List.{append-nil, map_more}
 use Rattle.std.proofs.lemmas.List.FromFn.{map-range_with_len_more}
-use Rattle.output_files.specs.Written.{AddsFiles, KeepsFiles}
+use Rattle.host_files.specs.outputs.Written.{AddsFiles, KeepsFiles}
 use Rattle.office_map.specs.PlanValue.{PlanValue}
 use Rattle.command_outputs.specs.Journals.{File, file_name, files_of}
 

@@ -1,3 +1,4 @@
 pub mod JournalFiles
 pub mod Obstacles
 mod DayFiles
+mod secrets_lemmas

@@ -3,12 +3,12 @@ use Rattle.std.specs.Prelude.{ℕ, Bool, true, false, ◌||◌, List, [], ◌∷
 use Rattle.bottle_values.specs.declared.Value.{Value}
 use Rattle.office_map.specs.PlanValue.{PlanValue}
 use Rattle.frame_world.specs.Worlds.{World}
-use Rattle.plan_texts.specs.NextPlans.{IsNextPlan}
+use Rattle.day_audits.specs.plans.NextPlans.{IsNextPlan}
 use Rattle.session_meaning.specs.ProgramValue.{ProgramValue}
-use Rattle.day_ends.specs.DayEnds.{end_map, IsLeftText}
-use Rattle.day_ends.specs.FileEnds.{IsLeftOfFile}
-use Rattle.journal_audit.specs.Findings.{IsRecordedBy}
-use Rattle.output_files.specs.Written.{AddsFiles, KeepsFiles}
+use Rattle.day_audits.specs.ends.DayEnds.{end_map, IsLeftText}
+use Rattle.day_audits.specs.ends.FileEnds.{IsLeftOfFile}
+use Rattle.day_audits.specs.audit.Findings.{IsRecordedBy}
+use Rattle.host_files.specs.outputs.Written.{AddsFiles, KeepsFiles}
 use Rattle.command_outputs.specs.Journals.{File}
 
 -- where a word names a file for it, a text is written to that of which P holds; where none does, nothing is

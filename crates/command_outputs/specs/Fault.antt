@@ -1,9 +1,9 @@
 -- What a fault says.
 use Rattle.std.specs.Prelude.{◌≡◌, ◌⊎◌, ℕ, List, Contains, Option, Some, None}
 use Rattle.std.specs.String.{string_bytes}
-use Rattle.command_inputs.specs.declared.input.Input.{Input}
-use Rattle.command_inputs.specs.declared.input.Input.TheVariants as inputs
-use Rattle.command_inputs.specs.Fault.{IsAtInput, IsOneOf, input_at}
+use Rattle.serial_command.specs.declared.reading.input.Input.{Input}
+use Rattle.serial_command.specs.declared.reading.input.Input.TheVariants as inputs
+use Rattle.serial_command.specs.reading.Fault.{IsAtInput, IsOneOf, input_at}
 use Rattle.command_outputs.specs.declared.fault.Why.{Why}
 use Rattle.command_outputs.specs.declared.fault.Why.TheVariants.{Script, Journal, Twice}
 use Rattle.command_outputs.specs.declared.fault.Obstacle.{Obstacle}

@@ -2,10 +2,10 @@
 use Rattle.std.specs.Prelude.{ℕ, List, ◌∷◌, ◌++◌, length, map, codes, Option, Some, None}
 use Rattle.std.specs.List.{range_with_len}
 use Rattle.office_map.specs.PlanValue.{PlanValue}
-use Rattle.run_words.specs.Words.{office_name}
+use Rattle.journal_texts.specs.wording.Words.{office_name}
 use Rattle.frame_world.specs.Worlds.{World, site_at}
 use Rattle.journal_texts.specs.Written.{journal_text}
-use Rattle.output_files.specs.Written.{AddsFiles, KeepsFiles}
+use Rattle.host_files.specs.outputs.Written.{AddsFiles, KeepsFiles}
 
 -- the name and the text of a file
 abbrev pub File : Type 0

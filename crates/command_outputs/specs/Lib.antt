@@ -2,3 +2,4 @@ pub mod Fault
 pub mod Journals
 pub mod Places
 pub mod Days
+pub mod secrets

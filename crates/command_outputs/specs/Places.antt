@@ -1,7 +1,7 @@
 -- Which files may take the journals of a run, and why others may not.
 use Rattle.std.specs.Prelude.{◌≡◌, ◌≢◌, ◌⊎◌, ◌<◌, ℕ, List, length, take, Bool, true, false, Option, Some}
 use Rattle.std.specs.Str.{bytes_eq}
-use Rattle.input_texts.specs.Words.{is_dash}
+use Rattle.host_files.specs.inputs.Words.{is_dash}
 use Rattle.office_map.specs.PlanValue.{PlanValue}
 use Rattle.journal_texts.specs.Written.{header_line}
 use Rattle.command_outputs.specs.Journals.{file_name}

@@ -3,16 +3,16 @@
 ghost use Rattle.std.specs.Prelude.{◌≡◌, ◌<◌, ◌≤◌, ◌∷◌, [], get_or, length, map, IfErr, IfOk, Ok, OnOk};
 ghost use Rattle.std.specs.Option.{option_copied};
 ghost use Rattle.std.specs.String.{string_bytes};
-ghost use Rattle.output_files.specs.Written.{AddsFiles, KeepsFiles};
+ghost use Rattle.host_files.specs.outputs.Written.{AddsFiles, KeepsFiles};
 ghost use Rattle.command_outputs.specs.Fault.{IsWriteFault};
 ghost use Rattle.command_outputs.specs.Journals.{WritesFiles, file_name, files_of, files_of_world, text_at};
 
 use crate::fault::Fault;
-use input_texts::failure_kind;
+use host_files::inputs::failure_kind;
+use host_files::outputs::Targets;
 use journal_texts::text;
+use journal_texts::wording::words::office_name;
 use office_map::{OfficeId, Plan};
-use output_files::Targets;
-use run_words::words::office_name;
 use std::alloc::{AllocError, Global};
 use std::io::ErrorKind;
 use world_schedule::World;

@@ -8,8 +8,9 @@
 //!   the fault says why it may not (clauses `fault`, `specs/Places.antt`). A file that is an input may take none.
 //! - [`stores::Stores`] is what opens the store in which an office keeps its journal while it runs, and [`clients::Clients`] has what is
 //!   asked of one that serves.
+//! - [`secrets`] reads the file in which an office has its secrets.
 //! - [`Fault`] is why a command fails, and its text what people are told. [`Fault::input`] says which input is at fault, if one is;
-//!   what is said of an input's text comes from `command_inputs`.
+//!   what is said of an input's text comes from `serial_command::reading`.
 #![tactic(auto)]
 
 pub mod clients;
@@ -18,6 +19,7 @@ pub mod fault;
 pub mod journal_files;
 pub mod output;
 pub mod places;
+pub mod secrets;
 pub mod stores;
 
 pub use fault::Fault;

@@ -5,7 +5,7 @@ ghost use Rattle.std.specs.Io.KnownBytes.{Appends};
 ghost use Rattle.command_outputs.specs.Fault.{IsWriteFault};
 
 use crate::fault::Fault;
-use input_texts::failure_kind;
+use host_files::inputs::failure_kind;
 use std::io::Write;
 
 /// The whole text goes out.
@@ -13,7 +13,7 @@ pub fn write_whole<W: Write>(out: &mut W, text: &str) -> Result<(), Fault>
     ensures written { OnOk result (Appends (W.contents out.old) (W.contents out.new) text.now) }
     ensures fault { IfErr result IsWriteFault }
 {
-    match output_files::write_whole(out, text.as_bytes()) {
+    match host_files::outputs::write_whole(out, text.as_bytes()) {
         Ok(()) => Ok(()),
         Err(error) => Err(Fault::WriteFailed(failure_kind(&error))),
     }

@@ -10,10 +10,10 @@ ghost use Rattle.command_outputs.specs.declared.fault.Obstacle.TheVariants as ob
 
 use crate::fault::{Fault, Obstacle};
 use crate::journal_files::file_name;
-use input_texts::{InputFault, Sources, beginning, failure_kind};
+use host_files::inputs::{InputFault, Sources, beginning, failure_kind};
+use host_files::outputs::Targets;
 use journal_texts::add_header;
 use office_map::{OfficeId, Plan};
-use output_files::Targets;
 use std::alloc::{AllocError, Global};
 
 /// Where a file is named for the journal of this office, it may take that.

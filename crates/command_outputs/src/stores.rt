@@ -17,7 +17,7 @@ pub trait Found: Drop {
         ensures { result.now ≡ had self.now };
 }
 
-/// What opens stores, as `output_files::Targets` is what files are written to.
+/// What opens stores, as `host_files::outputs::Targets` is what files are written to.
 pub trait Stores {
     type Found: Found;
 

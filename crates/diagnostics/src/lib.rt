@@ -5,15 +5,13 @@
 //! were accepted. [`of_ring`] answers one for offices that precede one another in a ring, with the line of a pair whose fork
 //! may be turned.
 //!
-//! [`shown`] and [`events`] lend what is said of lines, words and events in any text; what is said of sessions and of journals
-//! stands in `session_diagnostics` and `journal_diagnostics`.
+//! [`shown`] and [`events`] lend what is said of lines, words and events in any text; [`sessions`] has what is said of sessions, and
+//! `drink_commands::diagnosed`, where a journal's reader is known, what is said of journals.
 //!
 //! Nothing is decided here, and no clause speaks of a sentence: tests pin them. What is proved is that nothing but memory
 //! stops a function.
 //!
-//! The sentences have a crate of their own, with no wrong bodies. They look again at lines that a reader has refused.
-//! Those of journals stand in `journal_diagnostics` above it: a crate of sentences takes minutes to prove, and a
-//! journal's reader stands higher than the others.
+//! The sentences have a crate of their own, with no wrong bodies: they look again at lines that a reader has refused.
 #![tactic(auto)]
 
 pub mod events;
@@ -21,6 +19,7 @@ mod plan;
 mod plan_values;
 mod ring;
 mod script;
+pub mod sessions;
 pub mod shown;
 
 pub use plan::of_plan;

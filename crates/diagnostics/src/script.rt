@@ -84,7 +84,7 @@ fn say_other(said: &mut String, line: &[u8], word: &[u8]) -> Result<(), AllocErr
         said,
         "",
         word,
-        " begins no line of a script; these are `submit N`, `withdraw OFFICE T`, `do OFFICE RULE`, `advance OFFICE N`, `settle N`, `send OFFICE NEIGHBOUR I` and `deliver K`",
+        " begins no line of a script; these are `submit N`, `withdraw OFFICE T`, `do OFFICE RULE`, `advance OFFICE N`, `settle`, `settle N`, `send OFFICE NEIGHBOUR I` and `deliver K`",
     )?;
     say_other_text(said, Text::Script, line)
 }
@@ -155,7 +155,7 @@ fn say_withdraw(
 
 fn say_settle(said: &mut String, refused: Refused<'_>, words: &[&[u8]]) -> Result<(), AllocError> {
     if words.len() != 2 {
-        return say_expected(said, refused.line, "`settle N`");
+        return say_expected(said, refused.line, "`settle` or `settle N`");
     }
     let word = Quoted(words[1]);
     let most = refused.limits.steps;

@@ -8,3 +8,4 @@ mod EatersForks
 mod CleanForks
 mod Standstill
 mod MaskUpdates
+mod masks_lemmas

@@ -3,8 +3,8 @@ use Rattle.std.proofs.Common.{◌≡◌, ℕ, ◌<◌, Bool, true, false, cond, 
 use Rattle.std.specs.Prelude.{◌==◌, ◌&&◌, is_some}
 use Rattle.std.specs.List.{list_all}
 use Rattle.std.proofs.lemmas.Bool.{eqb-true, cases_Bool, or_cases, and_parts, not-true, not-false}
-use Rattle.bit_masks.specs.Sets.{is_in16, IsLeast}
-use Rattle.bit_masks.specs.declared.mask16.Mask16.{Mask16}
+use Rattle.dining_core.specs.masks.Sets.{is_in16, IsLeast}
+use Rattle.dining_core.specs.declared.masks.mask16.Mask16.{Mask16}
 use Rattle.bottle_values.specs.Maps.{put}
 use Rattle.bottle_values.specs.Lists.{is_among}
 use Rattle.bottle_values.specs.ListLaws.{one_fails}

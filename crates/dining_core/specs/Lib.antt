@@ -4,3 +4,4 @@ pub mod WayLaws
 pub mod Standstill
 pub mod FaultText
 pub mod refinement
+pub mod masks

@@ -3,11 +3,11 @@
 ghost use Rattle.std.specs.Prelude.{◌≡◌, Some};
 ghost use Rattle.dining_core.specs.FaultText.{not_now_text};
 
-use std::error::Error;
 use std::fmt;
+use thiserror::Error;
 
 /// The rule's guard is false. Nothing changed.
-#[derive(Clone, Copy, Debug, PartialEq, Eq)]
+#[derive(Clone, Copy, Debug, PartialEq, Eq, Error)]
 pub struct NotNow;
 
 impl NotNow {
@@ -27,5 +27,3 @@ impl fmt::Display for NotNow {
         f.write_str(fault.text())
     }
 }
-
-impl Error for NotNow {}

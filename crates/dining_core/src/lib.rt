@@ -9,6 +9,8 @@
 //!   eating turns it, which puts the eater last. Where all stand still (`specs/Standstill.antt`) and an office is
 //!   thirsty, one that is thirsty eats.
 //!
+//! - [`masks`] are sets of small numbers, each a bit of one word: of offices here, and of records in `drinking_core`.
+//!
 //! No call takes memory but [`Table::open`]. It stands on `office_map` and `bottle_values`.
 //!
 //! An office precedes a neighbour when it has their fork clean, or the neighbour has it dirty, or it is on the way to
@@ -24,6 +26,7 @@
 mod fault;
 pub mod laws;
 mod masked_table;
+pub mod masks;
 mod phase;
 mod places;
 mod shared_fork;

@@ -2,16 +2,16 @@
 
 ghost use Rattle.std.specs.Prelude.{◌≡◌, ◌<◌, ℕ, length, IfOk, true, false, ◌&&◌};
 ghost use Rattle.std.specs.List.{list_all};
-ghost use Rattle.bit_masks.specs.Sets.{is_in16, IsLeast};
+ghost use Rattle.dining_core.specs.masks.Sets.{is_in16, IsLeast};
 ghost use Rattle.bottle_values.specs.Lists.{is_among};
 ghost use Rattle.dining_core.specs.Diners.{BecomeHungry, AskFork, GiveFork, Eat, Leave, may, with_token, with_fork, diner_at_start};
 ghost use Rattle.dining_core.specs.refinement.Tables.{DoesRule, diner_of};
 ghost use Rattle.dining_core.specs.refinement.Masks.{Tells};
 
 use crate::fault::NotNow;
+use crate::masks::Mask16;
 use crate::phase::Phase;
 use crate::table::Table;
-use bit_masks::Mask16;
 use office_map::{OfficeId, Plan};
 use std::alloc::{AllocError, Global};
 use std::marker::Model;

@@ -1,19 +1,19 @@
 -- What a fault says of the texts of a command's words, those that are known.
 use Rattle.std.proofs.Common.{◌≡◌, ◌⊎◌, ℕ, zero, suc, List, [], ◌∷◌, take, Contains, Option, Some, Ok, refl, sym, subst, arith, inl, inr}
-use Rattle.input_texts.specs.Words.{HasText, HaveTexts, Unread, unread}
+use Rattle.host_files.specs.inputs.Words.{HasText, HaveTexts, Unread, unread}
 use Rattle.office_map.specs.PlanValue.{PlanValue}
 use Rattle.session_meaning.specs.ProgramValue.{ProgramValue}
 use Rattle.session_language.specs.Reading.{sessions_of}
-use Rattle.script_runs.specs.Script.{Act, IsScript}
-use Rattle.command_inputs.specs.declared.input.Input.{Input}
-use Rattle.command_inputs.specs.declared.input.Input.TheVariants as inputs
-use Rattle.command_inputs.specs.declared.fault.TextFault.{TextFault}
-use Rattle.command_inputs.specs.declared.fault.TextFault.TheVariants as unfit
-use Rattle.command_inputs.specs.Fault.{IsAtInput, IsOneOf}
+use Rattle.simulation.specs.scripts.Script.{Act, IsScript}
+use Rattle.serial_command.specs.declared.reading.input.Input.{Input}
+use Rattle.serial_command.specs.declared.reading.input.Input.TheVariants as inputs
+use Rattle.serial_command.specs.declared.reading.fault.TextFault.{TextFault}
+use Rattle.serial_command.specs.declared.reading.fault.TextFault.TheVariants as unfit
+use Rattle.serial_command.specs.reading.Fault.{IsAtInput, IsOneOf}
 use Rattle.command_outputs.specs.declared.fault.Fault.{Fault}
 use Rattle.command_outputs.specs.declared.fault.Fault.TheVariants.{Memory, Text, Refused, NoSuchOffice, NoAddress, NoJournal, NoPlace, NoRun, CutShort, WriteFailed, FileFailed, NoStore, StoreFailed, OtherSessions, NoSecrets}
 use Rattle.command_outputs.specs.Fault.{IsAmong, IsFaultAt, IsWriteFault, refused_input}
-use Rattle.command_inputs.specs.Plans.{IsAcceptedAs}
+use Rattle.serial_command.specs.reading.Plans.{IsAcceptedAs}
 use Rattle.drink_commands.specs.Texts.{Accepts, IsJudgedOr, Judges, Known, Refuses, nothing}
 
 weaker_text : (input : Input) (P Q : TextFault → Type 0) (f : TextFault) → ((why : TextFault) → P why → Q why) → IsAtInput input P f → IsAtInput input Q f

@@ -6,7 +6,7 @@ use Rattle.std.proofs.lemmas.List.{length-map}
 use Rattle.std.proofs.lemmas.List.FromFn.{length-range_with_len}
 use Rattle.office_map.specs.PlanValue.{PlanValue}
 use Rattle.locked_office.specs.Calls.{Key}
-use Rattle.report_forms.specs.declared.forms.Form.{Form}
+use Rattle.session_reports.specs.declared.form.forms.Form.{Form}
 use Rattle.office_runs.specs.Runs.{HasJournals, TellsJournals, key_of, text_of}
 use Rattle.office_runs.specs.declared.report.Ran.{Ran}
 

@@ -2,25 +2,25 @@
 use Rattle.std.proofs.Common.{◌≡◌, ◌⊎◌, ◌+◌, ◌-◌, ◌<◌, ◌≤◌, ℕ, zero, suc, List, [], ◌∷◌, ◌++◌, length, take, Contains, Option, None, Some, Bool, true, false, if◌then◌else◌, refl, sym, subst, ap, ◌∙◌, append_assoc, arith, inl, inr}
 use Rattle.std.specs.Prelude.{IfNone, IfSome, is_some}
 use Rattle.std.proofs.lemmas.List.{append-nil}
-use Rattle.input_texts.specs.Words.{HaveTexts, Unread, unread}
+use Rattle.host_files.specs.inputs.Words.{HaveTexts, Unread, unread}
 use Rattle.office_map.specs.PlanValue.{PlanValue}
 use Rattle.frame_world.specs.Worlds.{World}
 use Rattle.command_outputs.specs.Journals.{File}
 use Rattle.journal_weave.specs.declared.given.GivenJournal.{GivenJournal}
-use Rattle.journal_audit.specs.Gathering.{AreGathered, AreJournals, Lacks}
-use Rattle.journal_audit.specs.Gathered.{Gathered}
-use Rattle.journal_audit.specs.Following.{Gathers, TellsOf}
-use Rattle.report_forms.specs.declared.forms.Form.{Form}
-use Rattle.journal_audit.specs.Findings.{TellsWoven, TellsUnwoven}
-use Rattle.command_inputs.specs.declared.input.Input.{Input}
-use Rattle.command_inputs.specs.declared.input.Input.TheVariants as inputs
+use Rattle.day_audits.specs.audit.Gathering.{AreGathered, AreJournals, Lacks}
+use Rattle.day_audits.specs.audit.Gathered.{Gathered}
+use Rattle.day_audits.specs.audit.Following.{Gathers, TellsOf}
+use Rattle.session_reports.specs.declared.form.forms.Form.{Form}
+use Rattle.day_audits.specs.audit.Findings.{TellsWoven, TellsUnwoven}
+use Rattle.serial_command.specs.declared.reading.input.Input.{Input}
+use Rattle.serial_command.specs.declared.reading.input.Input.TheVariants as inputs
 use Rattle.command_outputs.specs.declared.fault.Fault.{Fault}
 use Rattle.command_outputs.specs.declared.fault.Fault.TheVariants.{Memory, Text, Refused, NoSuchOffice, NoAddress, NoJournal, NoPlace, NoRun, CutShort, WriteFailed, FileFailed, NoStore, StoreFailed, OtherSessions, NoSecrets}
 use Rattle.drink_commands.specs.Audit.{Tells, IsJudgedAudit, JudgesJournals, RefusesJournal, SaysAfter, IsLacking, journal_inputs}
 use Rattle.command_outputs.specs.Fault.{IsAmong, IsFaultAt, IsNoJournal}
 use Rattle.drink_commands.specs.Texts.{Refuses, nothing}
 use Rattle.drink_commands.specs.refinement.Journals.{GathersFirst, IsNamed, RefusesOne, SaysAudit, SaysFrom, SaysJournals, SaysOne, TakesAll, TakesOne, TellsAudit, WritesFound}
-use Rattle.journal_audit.specs.GatheringLaws.{none_gathered}
+use Rattle.day_audits.specs.audit.GatheringLaws.{none_gathered}
 use Rattle.drink_commands.proofs.Faults.{RefusesWord, TakesPlan, among, among_more, weaker}
 
 -- ---- lists

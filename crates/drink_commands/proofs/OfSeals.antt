@@ -6,7 +6,7 @@ use Rattle.session_meaning.specs.ProgramValue.{ProgramValue}
 use Rattle.locked_office.specs.Calls.{Key}
 use Rattle.socket_pump.specs.Wires.{Account}
 use Rattle.office_stations.specs.Rounds.{Standing}
-use Rattle.report_forms.specs.declared.forms.Form.{Form}
+use Rattle.session_reports.specs.declared.form.forms.Form.{Form}
 use Rattle.office_runs.specs.Runs.{TellsCourse}
 use Rattle.office_runs.specs.declared.report.Ran.{Ran}
 use Rattle.stored_runs.specs.Keeping.{Keeping}
@@ -15,7 +15,7 @@ use Rattle.stored_runs.specs.declared.ended.Ended.{Ended}
 use Rattle.stored_runs.specs.declared.fault.StoredFault.{StoredFault}
 use Rattle.serving.specs.Serving.{Serves}
 use Rattle.serving.specs.declared.served.Served.{Served}
-use Rattle.sealed_sockets.specs.Sealed.{IsToldUnder}
+use Rattle.datagram_seals.specs.sockets.Sealed.{IsToldUnder}
 use Rattle.drink_commands.specs.Sealed.{AreSecrets, IsUnderSeals}
 use Rattle.drink_commands.specs.Stored.{IsKept, WentOn}
 use Rattle.drink_commands.specs.Served.{HasServed, IsFoundIn}

@@ -1,26 +1,26 @@
 -- What a fault of `serve` says, and what it leaves; and that what was written is what the text means.
 use Rattle.std.proofs.Common.{◌≡◌, ◌⊎◌, ℕ, zero, suc, Bool, List, [], ◌∷◌, take, Option, Some, None, refl, sym, subst, arith, inl, inr}
-use Rattle.input_texts.specs.Words.{HaveTexts, StandFor, Unread, unread}
+use Rattle.host_files.specs.inputs.Words.{HaveTexts, StandFor, Unread, unread}
 use Rattle.office_map.specs.PlanValue.{PlanValue, office_named}
 use Rattle.socket_pump.specs.Wires.{Account}
 use Rattle.stored_runs.specs.declared.fault.KeptFault.{KeptFault}
 use Rattle.stored_runs.specs.declared.fault.StoredFault.TheVariants as stored
-use Rattle.secret_files.specs.declared.fault.SecretsFault.{SecretsFault}
+use Rattle.command_outputs.specs.declared.secrets.fault.SecretsFault.{SecretsFault}
 use Rattle.serving.specs.declared.fault.ServeFault.{ServeFault}
 use Rattle.serving.specs.declared.fault.ServeFault.TheVariants as serve
 use Rattle.serving.specs.declared.served.Served.{Served}
-use Rattle.command_inputs.specs.declared.input.Input.{Input}
-use Rattle.command_inputs.specs.declared.input.Input.TheVariants as inputs
-use Rattle.command_inputs.specs.declared.fault.TextFault.{TextFault}
-use Rattle.command_inputs.specs.declared.fault.TextFault.TheVariants as unfit
-use Rattle.command_inputs.specs.Fault.{IsAtInput}
-use Rattle.command_inputs.specs.Plans.{IsAcceptedAs}
+use Rattle.serial_command.specs.declared.reading.input.Input.{Input}
+use Rattle.serial_command.specs.declared.reading.input.Input.TheVariants as inputs
+use Rattle.serial_command.specs.declared.reading.fault.TextFault.{TextFault}
+use Rattle.serial_command.specs.declared.reading.fault.TextFault.TheVariants as unfit
+use Rattle.serial_command.specs.reading.Fault.{IsAtInput}
+use Rattle.serial_command.specs.reading.Plans.{IsAcceptedAs}
 use Rattle.command_outputs.specs.declared.fault.Obstacle.{Obstacle}
 use Rattle.command_outputs.specs.declared.fault.Fault.{Fault}
 use Rattle.command_outputs.specs.declared.fault.Fault.TheVariants.{Memory, Text, Refused, NoSuchOffice, NoAddress, NoJournal, NoPlace, NoRun, CutShort, WriteFailed, FileFailed, NoStore, StoreFailed, OtherSessions, NoSecrets}
 use Rattle.command_outputs.specs.Fault.{IsAmong, IsFaultAt, IsOfStoredRun, IsPlaceFault}
 use Rattle.drink_commands.specs.Run.{IsOfOffice, IsReached, SaysOf}
-use Rattle.report_forms.specs.declared.forms.Form.{Form}
+use Rattle.session_reports.specs.declared.form.forms.Form.{Form}
 use Rattle.drink_commands.specs.Served.{HasServed, IsCutOff, IsJudgedServed, IsNotFoundIn, IsOfService, IsServeEnd, JudgesServed, LeavesServed, RefusesFound, WritesServed}
 use Rattle.drink_commands.specs.Sealed.{IsSecretsFault}
 use Rattle.drink_commands.specs.Stored.{IsStoreFault, IsUnbegun, LeavesStored}

@@ -1,12 +1,12 @@
 -- A text of which only so much was read as shows that it is too long means what the whole text means.
 use Rattle.std.proofs.Common.{◌≡◌, ◌≤◌, ℕ, List, length, Option, subst, arith, inl, inr}
-use Rattle.input_texts.specs.Words.{HasText, IsReadUpTo, Unread}
+use Rattle.host_files.specs.inputs.Words.{HasText, IsReadUpTo, Unread}
 use Rattle.office_map.specs.PlanValue.{PlanValue}
 use Rattle.session_meaning.specs.ProgramValue.{ProgramValue}
-use Rattle.script_runs.specs.Limits as scripts
-use Rattle.script_runs.specs.declared.fault.ScriptRefusal.{ScriptRefusal}
-use Rattle.script_runs.specs.Script.{Act, IsScript, RefusesScript}
-use Rattle.command_inputs.specs.Texts.{WasRead}
+use Rattle.simulation.specs.scripts.Limits as scripts
+use Rattle.simulation.specs.declared.scripts.fault.ScriptRefusal.{ScriptRefusal}
+use Rattle.simulation.specs.scripts.Script.{Act, IsScript, RefusesScript}
+use Rattle.serial_command.specs.reading.Texts.{WasRead}
 
 pub same_text : (limit : ℕ) (text read : List ℕ) → length read ≤ limit → IsReadUpTo limit text read → read ≡ text
 same_text limit text read short (inl e) = e

@@ -3,17 +3,17 @@ use Rattle.std.proofs.Common.{◌≡◌, ℕ, Bool, List, [], ◌∷◌, length,
 use Rattle.std.specs.List.{range_with_len}
 use Rattle.std.specs.String.{string_bytes}
 use Rattle.std.specs.Io.KnownBytes.{Appends}
-use Rattle.input_texts.specs.Words.{HasText, HaveTexts, StandFor, Unread, unread}
+use Rattle.host_files.specs.inputs.Words.{HasText, HaveTexts, StandFor, Unread, unread}
 use Rattle.office_map.specs.PlanValue.{PlanValue, office_named}
 use Rattle.session_meaning.specs.ProgramValue.{ProgramValue}
-use Rattle.report_forms.specs.declared.forms.Form.{Form}
+use Rattle.session_reports.specs.declared.form.forms.Form.{Form}
 use Rattle.frame_world.specs.Worlds.{World, opening}
-use Rattle.script_runs.specs.Script.{Act}
-use Rattle.script_runs.specs.Runs.{run_of}
-use Rattle.script_runs.specs.Transcript.{transcript, IsSerialRun}
-use Rattle.random_runs.specs.Runs.{Tells}
+use Rattle.simulation.specs.scripts.Script.{Act}
+use Rattle.simulation.specs.scripts.Runs.{run_of}
+use Rattle.simulation.specs.scripts.Transcript.{transcript, IsSerialRun}
+use Rattle.simulation.specs.random.Runs.{Tells}
 use Rattle.drink_commands.specs.Random.{TellsRun}
-use Rattle.report_forms.specs.declared.forms.Form.{Form}
+use Rattle.session_reports.specs.declared.form.forms.Form.{Form}
 use Rattle.office_runs.specs.Runs.{TellsCourse, TellsJournals}
 use Rattle.office_runs.specs.declared.report.Ran.{Ran}
 use Rattle.command_outputs.specs.Days.{WritesEndOf}

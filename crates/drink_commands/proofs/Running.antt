@@ -2,13 +2,13 @@
 use Rattle.std.proofs.Common.{Bor, is_some, ◌≡◌, ◌⊎◌, ◌≤◌, ℕ, zero, suc, List, [], ◌∷◌, take, Option, Some, None, Result, Ok, Err, refl, sym, subst, arith, inl, inr, IfErr, IfOk, OnOk}
 use Rattle.std.specs.Option.{option_copied}
 use Rattle.std.specs.String.{string_bytes}
-use Rattle.input_texts.specs.Words.{HaveTexts, Unread, unread}
+use Rattle.host_files.specs.inputs.Words.{HaveTexts, Unread, unread}
 use Rattle.office_map.specs.PlanValue.{PlanValue, office_named}
 use Rattle.office_stations.specs.declared.fault.RunFault.{RunFault}
-use Rattle.command_inputs.specs.declared.input.Input.{Input}
-use Rattle.command_inputs.specs.declared.input.Input.TheVariants as inputs
+use Rattle.serial_command.specs.declared.reading.input.Input.{Input}
+use Rattle.serial_command.specs.declared.reading.input.Input.TheVariants as inputs
 use Rattle.command_outputs.specs.declared.fault.Obstacle.{Obstacle}
-use Rattle.secret_files.specs.declared.fault.SecretsFault.{SecretsFault}
+use Rattle.command_outputs.specs.declared.secrets.fault.SecretsFault.{SecretsFault}
 use Rattle.command_outputs.specs.declared.fault.Fault.{Fault}
 use Rattle.command_outputs.specs.declared.fault.Fault.TheVariants.{Memory, Text, Refused, NoSuchOffice, NoAddress, NoJournal, NoPlace, NoRun, CutShort, WriteFailed, FileFailed, NoStore, StoreFailed, OtherSessions, NoSecrets}
 use Rattle.command_outputs.specs.Fault.{IsAmong, IsFaultAt, IsOfRun, IsPlaceFault}

@@ -1,9 +1,9 @@
 -- What is said of the texts of a serial run is what the command's faults say.
 use Rattle.std.proofs.Common.{◌≡◌, ℕ, List, [], ◌∷◌, take, Option, Some, refl, subst, inl, inr}
 use Rattle.office_map.specs.PlanValue.{PlanValue}
-use Rattle.command_inputs.specs.declared.fault.TextFault.{TextFault}
-use Rattle.command_inputs.specs.declared.input.Input.{Input}
-use Rattle.command_inputs.specs.declared.input.Input.TheVariants as inputs
+use Rattle.serial_command.specs.declared.reading.fault.TextFault.{TextFault}
+use Rattle.serial_command.specs.declared.reading.input.Input.{Input}
+use Rattle.serial_command.specs.declared.reading.input.Input.TheVariants as inputs
 use Rattle.command_outputs.specs.Fault.{IsAmong, IsWriteFault}
 use Rattle.command_outputs.specs.declared.fault.Fault.{Fault}
 use Rattle.command_outputs.specs.declared.fault.Fault.TheVariants.{Text}

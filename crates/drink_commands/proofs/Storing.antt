@@ -1,25 +1,25 @@
 -- What a fault of `run` with a store says, and what it leaves; and that what was written is what the texts mean.
 use Rattle.std.proofs.Common.{◌≡◌, ◌⊎◌, ℕ, Bool, List, [], ◌∷◌, Option, Some, None, Ok, sym, subst, inl, inr}
-use Rattle.input_texts.specs.Words.{HasText, StandFor, Unread, unread}
+use Rattle.host_files.specs.inputs.Words.{HasText, StandFor, Unread, unread}
 use Rattle.office_map.specs.PlanValue.{PlanValue, office_named}
 use Rattle.session_meaning.specs.ProgramValue.{ProgramValue}
 use Rattle.session_language.specs.Reading.{sessions_of}
 use Rattle.socket_pump.specs.Wires.{Account}
-use Rattle.report_forms.specs.declared.forms.Form.{Form}
+use Rattle.session_reports.specs.declared.form.forms.Form.{Form}
 use Rattle.stored_runs.specs.declared.ended.Ended.{Ended}
 use Rattle.stored_runs.specs.declared.fault.KeptFault.{KeptFault}
 use Rattle.stored_runs.specs.declared.fault.StoredFault.{StoredFault}
 use Rattle.stored_runs.specs.declared.fault.StoredFault.TheVariants as ended
-use Rattle.command_inputs.specs.declared.input.Input.TheVariants as inputs
+use Rattle.serial_command.specs.declared.reading.input.Input.TheVariants as inputs
 use Rattle.command_outputs.specs.declared.fault.Obstacle.{Obstacle}
-use Rattle.secret_files.specs.declared.fault.SecretsFault.{SecretsFault}
+use Rattle.command_outputs.specs.declared.secrets.fault.SecretsFault.{SecretsFault}
 use Rattle.drink_commands.specs.Sealed.{IsSecretsFault}
 use Rattle.command_outputs.specs.declared.fault.StoreRefusal.{StoreRefusal}
 use Rattle.command_outputs.specs.declared.fault.StoreRefusal.TheVariants as refusal
 use Rattle.command_outputs.specs.declared.fault.Fault.{Fault}
 use Rattle.command_outputs.specs.declared.fault.Fault.TheVariants.{Memory, Text, Refused, NoSuchOffice, NoAddress, NoJournal, NoPlace, NoRun, CutShort, WriteFailed, FileFailed, NoStore, StoreFailed, OtherSessions, NoSecrets}
 use Rattle.command_outputs.specs.Fault.{IsAmong, IsOfStoredRun, IsPlaceFault}
-use Rattle.command_inputs.specs.Plans.{IsAcceptedAs}
+use Rattle.serial_command.specs.reading.Plans.{IsAcceptedAs}
 use Rattle.drink_commands.specs.Run.{IsNoOffice, IsReached, IsUnreached, SaysOf}
 use Rattle.drink_commands.specs.Stored.{IsEnd, IsEndedBy, IsJudgedStored, IsNotHeld, IsRefusal, IsStoreFault, IsUnbegun, LeavesStored, RefusesStore, WentOn, WritesStored}
 use Rattle.drink_commands.specs.Texts.{Known, NoOther, nothing}

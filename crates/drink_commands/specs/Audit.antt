@@ -2,25 +2,25 @@
 use Rattle.std.specs.Prelude.{◌≡◌, ◌⊎◌, ◌-◌, ◌<◌, ℕ, zero, suc, List, [], ◌∷◌, length, take, Option}
 use Rattle.std.specs.String.{string_bytes}
 use Rattle.std.specs.Io.KnownBytes.{Appends}
-use Rattle.input_texts.specs.Words.{HaveFirstTexts}
+use Rattle.host_files.specs.inputs.Words.{HaveFirstTexts}
 use Rattle.office_map.specs.PlanValue.{PlanValue}
-use Rattle.run_words.specs.Words.{office_name}
-use Rattle.report_forms.specs.declared.forms.Form.{Form}
+use Rattle.journal_texts.specs.wording.Words.{office_name}
+use Rattle.session_reports.specs.declared.form.forms.Form.{Form}
 use Rattle.journal_texts.specs.declared.fault.JournalFault.TheVariants as journal
 use Rattle.frame_world.specs.Worlds.{World}
-use Rattle.output_files.specs.Written.{KeepsFiles}
+use Rattle.host_files.specs.outputs.Written.{KeepsFiles}
 use Rattle.command_outputs.specs.Days.{WritesEnd}
 use Rattle.command_outputs.specs.Journals.{File}
 use Rattle.journal_weave.specs.declared.given.GivenJournal.{GivenJournal}
-use Rattle.journal_audit.specs.Gathering.{AreGathered, AreJournals, IsRefusedAt, Lacks}
-use Rattle.journal_audit.specs.Findings.{TellsWoven, TellsUnwoven}
-use Rattle.journal_audit.specs.declared.fault.GatherFault.{GatherFault}
-use Rattle.journal_audit.specs.declared.fault.GatherFault.TheVariants as gather
-use Rattle.command_inputs.specs.Plans.{IsAcceptedAs}
+use Rattle.day_audits.specs.audit.Gathering.{AreGathered, AreJournals, IsRefusedAt, Lacks}
+use Rattle.day_audits.specs.audit.Findings.{TellsWoven, TellsUnwoven}
+use Rattle.day_audits.specs.declared.audit.fault.GatherFault.{GatherFault}
+use Rattle.day_audits.specs.declared.audit.fault.GatherFault.TheVariants as gather
+use Rattle.serial_command.specs.reading.Plans.{IsAcceptedAs}
 use Rattle.command_outputs.specs.Fault.{IsAmong, IsFaultAt, IsNoJournal}
 use Rattle.drink_commands.specs.Texts.{Refuses, nothing}
-use Rattle.command_inputs.specs.declared.input.Input.{Input}
-use Rattle.command_inputs.specs.declared.input.Input.TheVariants as inputs
+use Rattle.serial_command.specs.declared.reading.input.Input.{Input}
+use Rattle.serial_command.specs.declared.reading.input.Input.TheVariants as inputs
 use Rattle.command_outputs.specs.declared.fault.Why.TheVariants.{Journal, Twice}
 use Rattle.command_outputs.specs.declared.fault.Fault.{Fault}
 use Rattle.command_outputs.specs.declared.fault.Fault.TheVariants.{NoJournal, Refused}

@@ -2,9 +2,9 @@
 use Rattle.std.specs.Prelude.{ℕ}
 use Rattle.office_map.specs.Limits as plans
 use Rattle.session_language.specs.Limits as sessions
-use Rattle.script_runs.specs.Limits as scripts
-use Rattle.command_inputs.specs.declared.input.Input.{Input}
-use Rattle.command_inputs.specs.declared.input.Input.TheVariants.{Plan, Sessions, Script, Journal}
+use Rattle.simulation.specs.scripts.Limits as scripts
+use Rattle.serial_command.specs.declared.reading.input.Input.{Input}
+use Rattle.serial_command.specs.declared.reading.input.Input.TheVariants.{Plan, Sessions, Script, Journal}
 
 -- the longest text of a journal, in bytes
 abbrev pub most_journal : ℕ

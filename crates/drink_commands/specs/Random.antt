@@ -1,12 +1,12 @@
 -- What the command `random` writes.
 use Rattle.std.specs.Prelude.{ℕ, List, Option}
 use Rattle.std.specs.Io.KnownBytes.{Appends}
-use Rattle.report_forms.specs.declared.forms.Form.{Form}
+use Rattle.session_reports.specs.declared.form.forms.Form.{Form}
 use Rattle.frame_world.specs.Worlds.{World}
-use Rattle.random_runs.specs.Runs.{Tells}
+use Rattle.simulation.specs.random.Runs.{Tells}
 use Rattle.command_outputs.specs.Days.{WritesEndOf}
 use Rattle.command_outputs.specs.Journals.{File}
-use Rattle.command_inputs.specs.Plans.{PlanAndSessions}
+use Rattle.serial_command.specs.reading.Plans.{PlanAndSessions}
 
 -- The two texts mean a plan and sessions under it, and the report, in that form, of a run of these with this loss, whichever was drawn, was
 -- written after what the writer held; and then what its world leaves for the next day, where words name files for it.

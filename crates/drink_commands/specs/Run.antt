@@ -3,22 +3,22 @@ use Rattle.std.specs.Prelude.{◌≡◌, ◌⊎◌, ◌<◌, ◌||◌, ℕ, Bool
 use Rattle.std.specs.List.{range_with_len}
 use Rattle.std.specs.String.{string_bytes}
 use Rattle.std.specs.Io.KnownBytes.{Appends}
-use Rattle.input_texts.specs.Words.{HaveFirstTexts, StandFor}
+use Rattle.host_files.specs.inputs.Words.{HaveFirstTexts, StandFor}
 use Rattle.office_map.specs.PlanValue.{PlanValue, office_named, office_name_of}
 use Rattle.session_meaning.specs.ProgramValue.{ProgramValue}
 use Rattle.socket_pump.specs.Wires.{Account}
 use Rattle.office_stations.specs.Addresses.{is_without}
-use Rattle.report_forms.specs.declared.forms.Form.{Form}
+use Rattle.session_reports.specs.declared.form.forms.Form.{Form}
 use Rattle.office_runs.specs.Runs.{TellsCourse, TellsJournals}
 use Rattle.office_runs.specs.declared.report.Ran.{Ran}
 use Rattle.office_stations.specs.declared.fault.RunFault.{RunFault}
 use Rattle.command_outputs.specs.Days.{WritesDay, is_day_named}
 use Rattle.command_outputs.specs.Journals.{File, WritesFiles, files_of}
 use Rattle.command_outputs.specs.Places.{AreFree, IsFree, IsIn, IsObstacle}
-use Rattle.command_inputs.specs.Plans.{IsAcceptedAs, PlanAndSessions}
+use Rattle.serial_command.specs.reading.Plans.{IsAcceptedAs, PlanAndSessions}
 use Rattle.command_outputs.specs.Fault.{IsAmong, IsFaultAt, IsOfRun}
 use Rattle.drink_commands.specs.Texts.{Judges, Refuses, nothing}
-use Rattle.command_inputs.specs.declared.input.Input.TheVariants as inputs
+use Rattle.serial_command.specs.declared.reading.input.Input.TheVariants as inputs
 use Rattle.command_outputs.specs.declared.fault.Obstacle.{Obstacle}
 use Rattle.command_outputs.specs.declared.fault.Fault.{Fault}
 use Rattle.command_outputs.specs.declared.fault.Fault.TheVariants.{Memory, NoSuchOffice, NoAddress, NoPlace, CutShort, WriteFailed, FileFailed}

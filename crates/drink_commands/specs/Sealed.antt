@@ -2,9 +2,9 @@
 use Rattle.std.specs.Prelude.{◌≡◌, ℕ, List, Option, Some, None, Ok}
 use Rattle.office_map.specs.PlanValue.{PlanValue}
 use Rattle.socket_pump.specs.Wires.{Account}
-use Rattle.secret_texts.specs.SecretText.{secrets_of}
-use Rattle.secret_files.specs.declared.fault.SecretsFault.{SecretsFault}
-use Rattle.sealed_sockets.specs.Sealed.{IsToldUnder}
+use Rattle.datagram_seals.specs.texts.SecretText.{secrets_of}
+use Rattle.command_outputs.specs.declared.secrets.fault.SecretsFault.{SecretsFault}
+use Rattle.datagram_seals.specs.sockets.Sealed.{IsToldUnder}
 use Rattle.command_outputs.specs.declared.fault.Fault.{Fault}
 use Rattle.command_outputs.specs.declared.fault.Fault.TheVariants.{NoSecrets}
 

@@ -1,12 +1,12 @@
 -- What the command `serial` writes.
 use Rattle.std.specs.Prelude.{ℕ, List, Option}
 use Rattle.std.specs.Io.KnownBytes.{Appends}
-use Rattle.report_forms.specs.declared.forms.Form.{Form}
+use Rattle.session_reports.specs.declared.form.forms.Form.{Form}
 use Rattle.serial_replay.specs.Serial.{map_of, start_map}
 use Rattle.serial_command.specs.Serial.{serial_report}
 use Rattle.command_outputs.specs.Days.{WritesNextPlan}
 use Rattle.command_outputs.specs.Journals.{File}
-use Rattle.command_inputs.specs.Plans.{PlanAndSessions}
+use Rattle.serial_command.specs.reading.Plans.{PlanAndSessions}
 
 -- The two texts mean a plan and sessions under it, and the report of their serial run, in that form, was written after what the writer held. Where a
 -- word names a file for it, the plan of the next day was written to that, which starts with the values that they leave.

@@ -1,6 +1,6 @@
 -- What `serve` writes, what its faults say, and what they leave.
 use Rattle.std.specs.Prelude.{◌≡◌, ◌⊎◌, ℕ, Bool, List, [], ◌∷◌, codes, take, Option, Some, None}
-use Rattle.input_texts.specs.Words.{HaveFirstTexts, StandFor}
+use Rattle.host_files.specs.inputs.Words.{HaveFirstTexts, StandFor}
 use Rattle.office_map.specs.PlanValue.{PlanValue, office_named}
 use Rattle.socket_pump.specs.Wires.{Account}
 use Rattle.stored_runs.specs.Keeping.{IsFound, IsNotFound, Keeping}
@@ -10,10 +10,10 @@ use Rattle.serving.specs.declared.fault.ServeFault.{ServeFault}
 use Rattle.serving.specs.declared.fault.ServeFault.TheVariants.{Run, InputFailed}
 use Rattle.serving.specs.declared.served.Served.{Served}
 use Rattle.serving.specs.Serving.{Serves}
-use Rattle.report_forms.specs.declared.forms.Form.{Form}
-use Rattle.command_inputs.specs.declared.input.Input.TheVariants as inputs
-use Rattle.command_inputs.specs.declared.fault.TextFault.TheVariants.{ReadFailed}
-use Rattle.command_inputs.specs.Plans.{IsAcceptedAs}
+use Rattle.session_reports.specs.declared.form.forms.Form.{Form}
+use Rattle.serial_command.specs.declared.reading.input.Input.TheVariants as inputs
+use Rattle.serial_command.specs.declared.reading.fault.TextFault.TheVariants.{ReadFailed}
+use Rattle.serial_command.specs.reading.Plans.{IsAcceptedAs}
 use Rattle.command_outputs.specs.Places.{IsOther}
 use Rattle.command_outputs.specs.Fault.{IsAmong, IsFaultAt, IsOfStoredRun}
 use Rattle.command_outputs.specs.declared.fault.Obstacle.{Obstacle}

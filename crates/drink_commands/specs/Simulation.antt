@@ -1,14 +1,14 @@
 -- What the command `sim` writes.
 use Rattle.std.specs.Prelude.{ℕ, List, Option}
 use Rattle.std.specs.Io.KnownBytes.{Appends}
-use Rattle.report_forms.specs.declared.forms.Form.{Form}
+use Rattle.session_reports.specs.declared.form.forms.Form.{Form}
 use Rattle.frame_world.specs.Worlds.{World, opening}
-use Rattle.script_runs.specs.Script.{Act, IsScript}
-use Rattle.script_runs.specs.Runs.{run_of}
-use Rattle.script_runs.specs.Transcript.{transcript, IsSerialRun}
+use Rattle.simulation.specs.scripts.Script.{Act, IsScript}
+use Rattle.simulation.specs.scripts.Runs.{run_of}
+use Rattle.simulation.specs.scripts.Transcript.{transcript, IsSerialRun}
 use Rattle.command_outputs.specs.Days.{WritesEnd}
 use Rattle.command_outputs.specs.Journals.{File, WritesFiles, files_of_world}
-use Rattle.command_inputs.specs.Plans.{PlanAndSessions}
+use Rattle.serial_command.specs.reading.Plans.{PlanAndSessions}
 
 -- Where a word names a folder for them, the journals of all offices of a world were written to a file each; and then what it leaves for
 -- the next day, where words name files for that.

@@ -1,14 +1,14 @@
 -- What `run` writes with a store, and what its faults say.
 use Rattle.std.specs.Prelude.{◌≡◌, ◌⊎◌, ◌≤◌, ℕ, Bool, List, [], ◌∷◌, true, false, length, Option, Some, None, Ok}
 use Rattle.std.specs.String.{string_bytes}
-use Rattle.input_texts.specs.Words.{StandFor}
+use Rattle.host_files.specs.inputs.Words.{StandFor}
 use Rattle.office_map.specs.PlanValue.{PlanValue, office_named}
 use Rattle.session_meaning.specs.ProgramValue.{ProgramValue}
 use Rattle.session_language.specs.Reading.{sessions_of}
 use Rattle.socket_pump.specs.Wires.{Account}
 use Rattle.office_stations.specs.declared.opening.OpeningFault.{OpeningFault}
 use Rattle.stored_runs.specs.Keeping.{IsFound, IsNotKept, Keeping, LeavesFrom}
-use Rattle.report_forms.specs.declared.forms.Form.{Form}
+use Rattle.session_reports.specs.declared.form.forms.Form.{Form}
 use Rattle.stored_runs.specs.Runs.{GoesOn}
 use Rattle.stored_runs.specs.declared.ended.Ended.{Ended}
 use Rattle.stored_runs.specs.declared.fault.KeptFault.{KeptFault}
@@ -16,7 +16,7 @@ use Rattle.stored_runs.specs.declared.fault.KeptFault.TheVariants as kept
 use Rattle.stored_runs.specs.declared.fault.StoredFault.{StoredFault}
 use Rattle.stored_runs.specs.declared.fault.StoredFault.TheVariants as ended
 use Rattle.command_outputs.specs.Places.{IsOther}
-use Rattle.command_inputs.specs.Plans.{IsAcceptedAs}
+use Rattle.serial_command.specs.reading.Plans.{IsAcceptedAs}
 use Rattle.command_outputs.specs.Fault.{IsOfStoredRun}
 use Rattle.drink_commands.specs.Run.{IsJudgedOffice, NamedOffice, status_with}
 use Rattle.command_outputs.specs.declared.fault.Obstacle.{Obstacle}

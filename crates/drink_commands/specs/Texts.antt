@@ -1,16 +1,16 @@
 -- What the texts of a command's inputs mean, and what a fault says of them. They are judged in the order of the words, each
 -- under what those before it mean.
 use Rattle.std.specs.Prelude.{◌≡◌, ◌⊎◌, List, [], ◌∷◌, ℕ, take, Option, Some, None, Ok}
-use Rattle.input_texts.specs.Words.{HaveFirstTexts}
+use Rattle.host_files.specs.inputs.Words.{HaveFirstTexts}
 use Rattle.office_map.specs.PlanValue.{PlanValue}
 use Rattle.session_meaning.specs.ProgramValue.{ProgramValue}
 use Rattle.session_language.specs.Reading.{sessions_of}
-use Rattle.script_runs.specs.Script.{Act, IsScript, RefusesScript}
-use Rattle.command_inputs.specs.Plans.{IsAcceptedAs}
-use Rattle.command_inputs.specs.Texts.{RefusesText}
+use Rattle.simulation.specs.scripts.Script.{Act, IsScript, RefusesScript}
+use Rattle.serial_command.specs.reading.Plans.{IsAcceptedAs}
+use Rattle.serial_command.specs.reading.Texts.{RefusesText}
 use Rattle.command_outputs.specs.Fault.{IsAmong, IsFaultAt}
-use Rattle.command_inputs.specs.declared.input.Input.{Input}
-use Rattle.command_inputs.specs.declared.input.Input.TheVariants as inputs
+use Rattle.serial_command.specs.declared.reading.input.Input.{Input}
+use Rattle.serial_command.specs.declared.reading.input.Input.TheVariants as inputs
 use Rattle.command_outputs.specs.declared.fault.Why.TheVariants.{Script}
 use Rattle.command_outputs.specs.declared.fault.Fault.{Fault}
 use Rattle.command_outputs.specs.declared.fault.Fault.TheVariants.{Text, Refused}

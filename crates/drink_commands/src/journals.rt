@@ -1,23 +1,23 @@
 //! The journals of a plan's offices, as their texts are read and judged one after another.
 
 ghost use Rattle.std.specs.Prelude.{◌≡◌, ◌+◌, ◌<◌, ◌^◌, All, IfErr, IfOk, IsSome, List, OnOk, ℕ, length, map};
-ghost use Rattle.input_texts.specs.Words.{HasText, HaveTexts, Unread};
-ghost use Rattle.journal_audit.specs.Following.{Gathers};
-ghost use Rattle.journal_audit.specs.declared.fault.GatherFault.TheVariants as gather;
+ghost use Rattle.host_files.specs.inputs.Words.{HasText, HaveTexts, Unread};
+ghost use Rattle.day_audits.specs.audit.Following.{Gathers};
+ghost use Rattle.day_audits.specs.declared.audit.fault.GatherFault.TheVariants as gather;
 ghost use Rattle.drink_commands.specs.Audit.{IsToldAs, journal_inputs};
 ghost use Rattle.command_outputs.specs.Fault.{IsAmong, IsFaultAt};
 ghost use Rattle.drink_commands.specs.refinement.Journals.{GathersFirst, IsNamed, SaysFrom, SaysJournals, SaysOne, TakesAll, TakesOne};
 
+use crate::diagnosed::of_journal;
 use crate::limits::MOST_JOURNAL;
-use command_inputs::{Input, TextFault, at_line, lines_above, text};
 use command_outputs::Fault;
 use command_outputs::fault::Why;
-use input_texts::{Sources, StandardInput};
-use journal_audit::{GatherFault, Journals};
-use journal_diagnostics::of_journal;
+use day_audits::audit::{GatherFault, Journals};
+use host_files::inputs::{Sources, StandardInput};
+use journal_texts::wording::words::office_name;
 use journal_texts::{JournalFault, JournalRefusal, JournalRule};
 use office_map::{OfficeId, Plan};
-use run_words::words::office_name;
+use serial_command::reading::{Input, TextFault, at_line, lines_above, text};
 use std::alloc::{AllocError, Global};
 use std::io::ErrorKind;
 

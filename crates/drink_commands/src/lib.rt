@@ -16,12 +16,13 @@
 //!   `stored_runs` promises (clause `runs`). Its faults say what the texts are, as those of `run` (clause `judged`), and what the store has
 //!   that isn't gone on from; then nothing is written, and the store is as it was (clause `leaves`).
 //! - [`commands::live::run`] is `drink live`, with the same clauses, of all offices.
-//! - [`scripts::read_events`] and [`journals::read_journals`] read scripts and journals, which one command each takes.
+//! - [`scripts::read_events`] and [`journals::read_journals`] read scripts and journals, which one command each takes; [`diagnosed`] has
+//!   what people are told of a journal that is refused.
 //!
-//! Plans and sessions are read in `command_inputs`, and where outputs go is in `command_outputs`, with the fault of a command. What is
-//! printed, and which events a script means, is in `run_reports` and `script_runs`, which runs may be drawn in `random_runs`, what is
-//! told of offices that run in `office_runs`, `live_runs` and `stored_runs`, what a fault says of the texts in `specs/Texts.antt`, and
-//! which texts words stand for in `input_texts`.
+//! Plans and sessions are read in `serial_command::reading`, and where outputs go is in `command_outputs`, with the fault of a command. What is
+//! printed, and which events a script means, is in `world_schedule::reports` and `simulation::scripts`, which runs may be drawn in `simulation::random`, what is
+//! told of offices that run in `office_runs` and `stored_runs`, what a fault says of the texts in `specs/Texts.antt`, and
+//! which texts words stand for in `host_files::inputs`.
 //!
 //! The commands are a library: a wrong body in a program costs the gate half as much again as one in a library, since a
 //! program's edits are checked with all that it links. A command gets what words name, and no readers: one function
@@ -39,6 +40,7 @@
 #![tactic(auto)]
 
 pub mod commands;
+pub mod diagnosed;
 pub mod journals;
 pub mod limits;
 pub mod scripts;

@@ -3,7 +3,7 @@
 ghost use Rattle.std.specs.Prelude.{◌≡◌};
 ghost use Rattle.drink_commands.specs.Limits.{limit_of};
 
-use command_inputs::Input;
+use serial_command::reading::Input;
 
 /// The longest text of a journal, in bytes.
 pub(crate) const MOST_JOURNAL: usize = u32::MAX as usize;
@@ -15,7 +15,7 @@ pub fn limit(input: Input) -> usize
     match input {
         Input::Plan => office_map::limits::TEXT_LIMIT,
         Input::Sessions => session_language::limits::TEXT_LIMIT,
-        Input::Script => script_runs::MAX_BYTES,
+        Input::Script => simulation::scripts::MAX_BYTES,
         Input::Journal(_) => MOST_JOURNAL,
     }
 }

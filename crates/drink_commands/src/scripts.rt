@@ -1,22 +1,22 @@
 //! The script that an input means, as its text is read and judged.
 
 ghost use Rattle.std.specs.Prelude.{◌≡◌, IfErr, IfOk, List, Some, ℕ};
-ghost use Rattle.input_texts.specs.Words.{HasText, Unread};
-ghost use Rattle.script_runs.specs.Script.{IsScript, acts_with};
+ghost use Rattle.host_files.specs.inputs.Words.{HasText, Unread};
+ghost use Rattle.simulation.specs.scripts.Script.{IsScript, acts_with};
 ghost use Rattle.command_outputs.specs.Fault.{IsFaultAt};
 ghost use Rattle.drink_commands.specs.Texts.{Refuses, nothing};
 
 use crate::limits::limit;
-use command_inputs::{Input, at_line, lines_above, text};
 use command_outputs::Fault;
 use command_outputs::fault::Why;
 use diagnostics::{ScriptLimits, of_script};
-use input_texts::{Sources, StandardInput};
+use host_files::inputs::{Sources, StandardInput};
 use office_map::Plan;
-use script_runs::{
+use serial_command::reading::{Input, at_line, lines_above, text};
+use session_programs::Program;
+use simulation::scripts::{
     MAX_BYTES, MAX_RULES, MAX_STEPS, ScriptEvent, ScriptFault, ScriptRefusal, script,
 };
-use session_programs::Program;
 use site_core::LONGEST_PIECE;
 use std::alloc::{AllocError, Global};
 

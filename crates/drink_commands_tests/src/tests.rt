@@ -1,34 +1,20 @@
-use command_inputs::TextFault;
-use command_outputs::{Fault, fault};
-use drink_commands::commands::serial;
-use input_texts::Sources;
-use office_map as plans;
-use output_files::InMemory;
-use report_forms::Form;
+use host_files::inputs::Sources;
 use session_language as sessions;
 use std::alloc::{AllocError, Global};
 use std::io;
 use std::io::{ErrorKind, Read};
 use std::process::Abort;
-use std::test::Fail;
 
 mod audits;
 mod clients;
 mod days;
 mod devices;
-mod ear;
-mod exits;
-mod journals;
-mod places;
 mod random;
 mod running;
 mod scripts;
 mod sealed;
-mod served;
-mod shell;
 mod shelves;
 mod sockets;
-mod stored;
 
 pub fn strings(alloc: Global, words: &[&str]) -> Result<Vec<String>, AllocError> {
     let mut strings = Vec::new(alloc);
@@ -167,124 +153,4 @@ impl Read for Reading<'_> {
         let most = self.step.min(buf.len());
         self.text.read(&mut buf[..most])
     }
-}
-
-/// What `serial` answers, and what it writes.
-fn ran(alloc: Global, plan: &str, sessions: &str) -> (Result<u8, Fault>, Vec<u8>) {
-    let mut out = Vec::new(alloc);
-    let memory = Memory::new(plan, sessions, "");
-    let result = serial::run(
-        alloc,
-        Form::Plain,
-        &memory,
-        "p",
-        "s",
-        None,
-        &mut InMemory::new(alloc),
-        &mut out,
-    );
-    (result, out)
-}
-
-/// That `serial` prints this.
-fn prints(rt: &(impl Abort + AllocGlobal), memory: &Memory<'_>, printed: &str) {
-    let mut out = Vec::new(rt.alloc());
-    let result = serial::run(
-        rt.alloc(),
-        Form::Plain,
-        memory,
-        "p",
-        "s",
-        None,
-        &mut InMemory::new(rt.alloc()),
-        &mut out,
-    );
-    assert_eq!(rt; result, Ok(0));
-    assert_eq!(rt; out.as_slice(), printed.as_bytes());
-}
-
-/// Why the text of an input is refused.
-#[derive(Debug, Drop, PartialEq, Eq)]
-pub enum Why {
-    Plan(plans::PlanRefusal),
-    Ring,
-    Sessions(sessions::SessionRefusal),
-    Given(fault::Why),
-}
-
-/// Why the text of an input is refused, where it is.
-pub fn reason(answer: Result<u8, Fault>) -> Option<Why> {
-    match answer {
-        Err(Fault::Text(TextFault::Plan(refusal, _))) => Some(Why::Plan(refusal)),
-        Err(Fault::Text(TextFault::Ring(_, _))) => Some(Why::Ring),
-        Err(Fault::Text(TextFault::Sessions(refusal, _))) => Some(Why::Sessions(refusal)),
-        Err(Fault::Refused(why, _)) => Some(Why::Given(why)),
-        _ => None,
-    }
-}
-
-/// That these texts are refused so, and nothing is written.
-fn refused(rt: &(impl Abort + AllocGlobal), plan: &str, sessions: &str, expected: Why) {
-    let (result, out) = ran(rt.alloc(), plan, sessions);
-    assert_eq!(rt; reason(result), Some(expected));
-    assert_eq!(rt; out.len(), 0);
-}
-
-#[test]
-fn refuses_texts_and_writes_nothing(rt: HostRuntime) {
-    let no_record = Why::Sessions(sessions::SessionRefusal {
-        rule: sessions::SessionRule::UnknownRecord,
-        line: 2,
-    });
-    refused(&rt, PLAN, "session a\ngive read z\nend\n", no_record);
-    let no_name = Why::Sessions(sessions::SessionRefusal {
-        rule: sessions::SessionRule::UnknownName,
-        line: 2,
-    });
-    refused(&rt, PLAN, "session a\ngive v\nlet v = 1\nend\n", no_name);
-    let no_header = Why::Plan(plans::PlanRefusal {
-        rule: plans::PlanRule::Header,
-        line: 1,
-    });
-    refused(&rt, "office a -\n", "session a\ngive v\nend\n", no_header);
-}
-
-/// `front`, a line of a comment, in all as long as this.
-fn stretched(alloc: Global, front: &str, length: usize) -> Result<String, Fail> {
-    let mut text = String::from_str(alloc, front)?;
-    text.push('#')?;
-    for _ in 0..length {
-        if text.len() < length {
-            text.push('-')?;
-        }
-    }
-    Ok(text)
-}
-
-#[test]
-fn reads_the_longest_texts(rt: HostRuntime) -> Result<(), Fail> {
-    let alloc = rt.alloc();
-    let plan = stretched(alloc, PLAN, 262_144)?;
-    let sessions = stretched(alloc, MOVE, 1_048_576)?;
-    let memory = Memory::new(plan.as_str(), sessions.as_str(), "");
-    prints(&rt, &memory, MOVED);
-    Ok(())
-}
-
-#[test]
-fn refuses_a_byte_more(rt: HostRuntime) -> Result<(), Fail> {
-    let alloc = rt.alloc();
-    let plan = stretched(alloc, PLAN, 262_145)?;
-    let limit = Why::Plan(plans::PlanRefusal {
-        rule: plans::PlanRule::Limit,
-        line: 0,
-    });
-    refused(&rt, plan.as_str(), MOVE, limit);
-    let long = stretched(alloc, MOVE, 1_048_577)?;
-    let too_long = Why::Sessions(sessions::SessionRefusal {
-        rule: sessions::SessionRule::TooLong,
-        line: 0,
-    });
-    refused(&rt, PLAN, long.as_str(), too_long);
-    Ok(())
 }

@@ -1,6 +1,6 @@
 -- That what was asked for was done.
 use Rattle.std.proofs.Common.{◌≡◌, ℕ, List, Option, None, Some, Result, Ok, Err, IfOk, refl, subst, arith}
-use Rattle.output_files.specs.Written.{KeepsFiles}
+use Rattle.host_files.specs.outputs.Written.{KeepsFiles}
 use Rattle.command_outputs.specs.Journals.{File}
 use Rattle.command_outputs.specs.declared.fault.Fault.{Fault}
 use Rattle.drink_program.specs.Status.{status_of}

@@ -1,11 +1,11 @@
 -- What a command line's request asks of the inputs, and what is done.
 use Rattle.std.specs.Prelude.{◌≡◌, ◌≤◌, List, [], ◌∷◌, codes, ℕ, Bool, Option, length, map, get_or}
 use Rattle.std.specs.Option.{option_copied}
-use Rattle.output_files.specs.Written.{KeepsFiles}
-use Rattle.input_texts.specs.Words.{StandFor}
+use Rattle.host_files.specs.outputs.Written.{KeepsFiles}
+use Rattle.host_files.specs.inputs.Words.{StandFor}
 use Rattle.office_map.specs.PlanValue.{PlanValue}
 use Rattle.socket_pump.specs.Wires.{Account}
-use Rattle.report_forms.specs.Forms.{form_of}
+use Rattle.session_reports.specs.form.Forms.{form_of}
 use Rattle.drink_commands.specs.Serial.{ReportsDay}
 use Rattle.drink_commands.specs.Simulation.{Simulates}
 use Rattle.drink_commands.specs.Random.{TellsRun}
@@ -16,8 +16,8 @@ use Rattle.drink_commands.specs.Audit.{Audits, IsJudgedAudit, journal_inputs}
 use Rattle.command_outputs.specs.Journals.{File}
 use Rattle.command_outputs.specs.Fault.{IsOfRun}
 use Rattle.drink_commands.specs.Texts.{IsJudged, IsJudgedOr}
-use Rattle.command_inputs.specs.declared.input.Input.{Input}
-use Rattle.command_inputs.specs.declared.input.Input.TheVariants as inputs
+use Rattle.serial_command.specs.declared.reading.input.Input.{Input}
+use Rattle.serial_command.specs.declared.reading.input.Input.TheVariants as inputs
 use Rattle.command_outputs.specs.declared.fault.Fault.{Fault}
 use Rattle.command_words.specs.declared.command_line.Request.{Request}
 use Rattle.command_words.specs.declared.command_line.Request.TheVariants.{Serial, Sim, Random, Run, RunStored, Serve, Live, Audit}

@@ -1,7 +1,7 @@
 //! How far a run of offices is, for people.
 
+use office_stations::remarks::Unmet;
 use office_stations::{Progress, Watch};
-use run_remarks::Unmet;
 use serving::{Monitor, Status};
 use std::alloc::{AllocError, Global};
 use std::fs::OpenOptions;

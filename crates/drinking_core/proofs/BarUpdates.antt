@@ -3,7 +3,7 @@ use Rattle.std.proofs.Common.{◌≡◌, ℕ, zero, suc, ◌<◌, Bool, true, fa
 use Rattle.std.proofs.lemmas.Bool.{eq-eqb, ne_eqb, cases_eq}
 use Rattle.std.proofs.lemmas.List.{get_or-set_same, get_or-set_other, length-set}
 use mathlib.Core.Path.{fun_ext}
-use Rattle.bit_masks.specs.declared.mask128.Mask128.{Mask128}
+use Rattle.dining_core.specs.declared.masks.mask128.Mask128.{Mask128}
 use Rattle.bottle_values.specs.declared.Value.{Value}
 use Rattle.bottle_values.specs.Maps.{put}
 use Rattle.drinking_core.specs.declared.phase.Phase.{Phase}

@@ -4,8 +4,8 @@ use Rattle.std.specs.Prelude.{◌==◌, ◌&&◌, ◌||◌, All, nat_lt, find, i
 use Rattle.std.specs.List.{list_any}
 use Rattle.std.proofs.lemmas.Bool.{eq-eqb, ne_eqb, eqb-true, cases_eq, cases_lt, cases_Bool, or_cases, lt-ltb, le-ltb}
 use Rattle.std.proofs.lemmas.List.Elements.{All-head, All-tail}
-use Rattle.bit_masks.specs.Sets.{is_in128, IsLeast}
-use Rattle.bit_masks.specs.declared.mask128.Mask128.{Mask128}
+use Rattle.dining_core.specs.masks.Sets.{is_in128, IsLeast}
+use Rattle.dining_core.specs.declared.masks.mask128.Mask128.{Mask128}
 use Rattle.bottle_values.specs.Maps.{put}
 use Rattle.bottle_values.specs.Lists.{is_among}
 use Rattle.bottle_values.specs.declared.Value.{Value}

@@ -8,7 +8,7 @@ use Rattle.std.proofs.lemmas.List.Elements.{All-head, All-tail}
 use Rattle.std.proofs.lemmas.List.{get_or_past}
 use Rattle.std.proofs.lemmas.List.FromFn.{length-map-range_with_len, get_or-map-range_with_len}
 use mathlib.Core.Path.{fun_ext}
-use Rattle.bit_masks.specs.declared.mask128.Mask128.{Mask128}
+use Rattle.dining_core.specs.declared.masks.mask128.Mask128.{Mask128}
 use Rattle.office_map.specs.declared.entries.RecordEntry.{RecordEntry}
 use Rattle.office_map.specs.PlanValue.{PlanValue, start_end, records_of, other_end}
 use Rattle.drinking_core.specs.declared.phase.Phase.TheVariants.{Tranquil}

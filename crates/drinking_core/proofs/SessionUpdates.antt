@@ -5,8 +5,8 @@ use Rattle.std.specs.List.{list_all}
 use Rattle.std.proofs.lemmas.Bool.{eq-eqb, ne_eqb, cases_eq, cases_lt, and_from, not-true, not-false}
 use Rattle.std.proofs.lemmas.List.{get_or-set_same, get_or-set_other, get_or_past, length-set, set_past}
 use mathlib.Core.Path.{fun_ext}
-use Rattle.bit_masks.specs.Sets.{is_in128, IsLeast}
-use Rattle.bit_masks.specs.declared.mask128.Mask128.{Mask128}
+use Rattle.dining_core.specs.masks.Sets.{is_in128, IsLeast}
+use Rattle.dining_core.specs.declared.masks.mask128.Mask128.{Mask128}
 use Rattle.bottle_values.specs.declared.Value.{Value}
 use Rattle.bottle_values.specs.Maps.{put, write_all}
 use Rattle.drinking_core.specs.declared.phase.Phase.TheVariants.{Tranquil, Thirsty}

@@ -2,7 +2,7 @@
 
 ghost use Rattle.std.specs.Prelude.{◌≡◌, ◌<◌, ◌≤◌, ℕ, length, find, IfOk, All, true, false};
 ghost use Rattle.std.specs.Option.{ForSome, option_copied};
-ghost use Rattle.bit_masks.specs.Sets.{is_in128};
+ghost use Rattle.dining_core.specs.masks.Sets.{is_in128};
 ghost use Rattle.bottle_values.specs.Lists.{is_among};
 ghost use Rattle.dining_core.specs.refinement.Tables.{diner_of};
 ghost use Rattle.drinking_core.specs.Drinkers.{Start, AskBottle, GiveBottle, Drink, Finish, Withdraw, may, with_token, with_bottle, holds, opened};
@@ -10,8 +10,8 @@ ghost use Rattle.drinking_core.specs.refinement.Bars.{DoesRule, drinker_of};
 ghost use Rattle.drinking_core.specs.refinement.Masks.{record_at, Tells};
 
 use crate::bar::Bar;
-use bit_masks::Mask128;
 use bottle_values::Value;
+use dining_core::masks::Mask128;
 use dining_core::{NotNow, Table};
 use office_map::{OfficeId, Plan, RecordId};
 use std::alloc::{AllocError, Global};

@@ -9,8 +9,8 @@ ghost use Rattle.drinking_core.specs.refinement.Masks.{Tells};
 ghost use Rattle.office_map.specs.PlanValue.{peer};
 
 use crate::shared_bottle::SharedBottle;
-use bit_masks::Mask128;
 use bottle_values::Value;
+use dining_core::masks::Mask128;
 use office_map::{OfficeId, Plan, RecordId};
 use std::alloc::{AllocError, Global};
 

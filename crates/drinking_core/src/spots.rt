@@ -2,10 +2,10 @@
 
 ghost use Rattle.std.specs.Prelude.{◌≡◌, ◌<◌, ◌≤◌, ℕ, length, IfOk, All, AllPairs, ◌==◌};
 ghost use Rattle.std.specs.List.{list_any};
-ghost use Rattle.bit_masks.specs.Sets.{is_in128};
+ghost use Rattle.dining_core.specs.masks.Sets.{is_in128};
 ghost use Rattle.drinking_core.specs.refinement.Masks.{spot_in, bit_in, AreSpots};
 
-use bit_masks::Mask128;
+use dining_core::masks::Mask128;
 use office_map::RecordId;
 use std::alloc::{AllocError, Global};
 

@@ -3,11 +3,11 @@
 ghost use Rattle.std.specs.Prelude.{◌≡◌, Some};
 ghost use Rattle.frame_codec.specs.FaultText.{fault_text};
 
-use std::error::Error;
 use std::fmt;
+use thiserror::Error;
 
 /// Why bytes are no frame: the first of these that applies, in this order.
-#[derive(Clone, Copy, Debug, PartialEq, Eq)]
+#[derive(Clone, Copy, Debug, PartialEq, Eq, Error)]
 pub enum FrameFault {
     /// Fewer than 26 bytes.
     Short,
@@ -59,5 +59,3 @@ impl fmt::Display for FrameFault {
         f.write_str(fault.text())
     }
 }
-
-impl Error for FrameFault {}

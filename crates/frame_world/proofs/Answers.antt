@@ -22,7 +22,7 @@ use Rattle.office_journal.specs.declared.reply.Refusal.TheVariants as refused
 use Rattle.site_core.specs.Replies.{reply_to}
 use Rattle.site_core.specs.Pairs.{Pairs, is_thirsty, after_fork_rule, after_bottle_rule, frame_fault, arrival_of, arrived, after_frame, follows, as_arrival, after_taking}
 use Rattle.site_core.specs.Agenda.{Idle, is_full, submitted, first_needs, writes_of, is_waiting, is_gathering, without_waiting, with_current}
-use Rattle.neighbour_pairs.specs.PairLaws.{through_taking}
+use Rattle.site_core.specs.neighbours.PairLaws.{through_taking}
 use Rattle.site_core.specs.Offices.{Office, Answer, may, act, is_ours, submit, do_rule, framed, frame_on, send, unless_faulty, with_pairs, may_withdraw, withdrawn, withdraw, done_if, answer}
 
 -- what an event is to an office's pairs: nothing, a row of the forks or of the bottles, or a frame's own message, after

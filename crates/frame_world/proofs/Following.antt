@@ -62,7 +62,7 @@ frame_moves plan pairs f l h =
     record { linked = c.linked; honest = c.honest; tables = forks_follow.frame_is_taken plan pairs f.to f c; bars = bottles_follow.frame_is_taken plan pairs f.to f c }
 
 -- what follows is kept of the next number
-kept_there : (breach : Msg → Bool) (x : Option Msg) (m : Msg) → unless_breach breach x ≡ Some m → x ≡ Some m
+pub kept_there : (breach : Msg → Bool) (x : Option Msg) (m : Msg) → unless_breach breach x ≡ Some m → x ≡ Some m
 kept_there breach None m e = absurd cc
 kept_there breach (Some n) m e = go (breach n) e
   where
@@ -178,7 +178,7 @@ withdrawal_arrives : (pairs : ℕ → Pairs) (a : ℕ) (waiting : Bool) → Arri
 withdrawal_arrives pairs a true = tt
 withdrawal_arrives pairs a false = tt
 
-arrived : (plan : PlanValue) (s s' : State) (i : IsAccepted plan s s') → ((k : ℕ) (f : Fields) → slice_get s.frames k ≡ Some f → IsHonest (pairs_in s) f) → Arrived (pairs_in s) i.place (step_of (s.office i.place) i.event)
+pub arrived : (plan : PlanValue) (s s' : State) (i : IsAccepted plan s s') → ((k : ℕ) (f : Fields) → slice_get s.frames k ≡ Some f → IsHonest (pairs_in s) f) → Arrived (pairs_in s) i.place (step_of (s.office i.place) i.event)
 arrived plan s s' i honest = by i.event i.comes
   where
     by : (e : office.Event) → MayCome s.frames i.place e → Arrived (pairs_in s) i.place (step_of (s.office i.place) e)

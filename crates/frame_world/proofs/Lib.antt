@@ -17,7 +17,10 @@ pub mod SerialRun
 pub mod SerialSessions
 mod RisingTickets
 pub mod Tickets
+mod work
+mod StrictOrder
 pub mod HeadlineLaws
 mod Standstill
 mod StepsTaken
 mod FrameBytes
+mod hostile_lemmas

@@ -9,7 +9,7 @@ use Rattle.bottle_values.specs.Maps.{put, reads_of, write_all}
 use Rattle.bottle_values.specs.MapLaws.{put_other}
 use Rattle.session_meaning.specs.declared.ending.Outcome.{Outcome}
 use Rattle.session_meaning.specs.ProgramValue.{ProgramValue}
-use Rattle.session_measures.specs.Needs.{needs_of}
+use Rattle.session_programs.specs.measures.Needs.{needs_of}
 use Rattle.session_meaning.specs.Laws.{WritesWhatItHas}
 use Rattle.serial_replay.specs.Serial.{ending_on, map_after, map_of, ticket_of, outcomes_after}
 

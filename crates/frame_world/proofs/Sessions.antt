@@ -16,7 +16,7 @@ use Rattle.office_map.specs.PlanValue.{PlanValue, is_end, has_ends, peer, record
 use Rattle.office_map.specs.NeighbourLaws.{peer_is, among_records}
 use Rattle.session_meaning.specs.ProgramValue.{ProgramValue}
 use Rattle.session_meaning.specs.Fitting.{block_fits}
-use Rattle.session_measures.specs.Needs.{needs_of}
+use Rattle.session_programs.specs.measures.Needs.{needs_of}
 use Rattle.session_programs.specs.Program.{fits}
 use Rattle.window_link.specs.declared.arrival.Arrival.{Arrival}
 use Rattle.window_link.specs.declared.arrival.Arrival.TheVariants as arrival
@@ -26,7 +26,7 @@ use Rattle.drinking_core.specs.declared.phase.Phase.{Phase}
 use Rattle.drinking_core.specs.declared.phase.Phase.TheVariants.{Tranquil, Thirsty, Drinking}
 use Rattle.drinking_core.specs.Drinkers.{Drinker, is_drinking, is_thirsty, holds, is_served}
 use Rattle.drinking_core.specs.Drinkers as bottles
-use Rattle.session_agenda.specs.declared.session.Session.{Session}
+use Rattle.site_core.specs.declared.agendas.session.Session.{Session}
 use Rattle.office_journal.specs.declared.rule.Rule.{Rule}
 use Rattle.office_journal.specs.declared.rule.Rule.TheVariants as rule
 use Rattle.office_journal.specs.declared.event.Event as office
@@ -35,7 +35,7 @@ use Rattle.office_journal.specs.declared.reply.Reply.{Reply}
 use Rattle.site_core.specs.Pairs.{Pairs, held, frame_fault, arrival_of, drinker_after, after_frame, follows, as_arrival, after_kept, after_taking}
 use Rattle.site_core.specs.Agenda.{Current, Idle, Gathering, Working, is_working, first_needs, started, begun, worked, writes_of}
 use Rattle.site_core.specs.Offices.{Office, opened, may, act, is_ours, value_in, answer}
-use Rattle.neighbour_pairs.specs.PairLaws.{passed, same_records, through_taking}
+use Rattle.site_core.specs.neighbours.PairLaws.{passed, same_records, through_taking}
 use Rattle.site_core.specs.WithdrawalLaws.{either_withdrawn}
 use Rattle.frame_world.specs.Headline.{HasItsBottles}
 use Rattle.frame_world.proofs.Answers.{was_submitted, was_done, was_sent, was_taken, was_withdrawn}

@@ -24,7 +24,7 @@ use Rattle.drinking_core.specs.Drinkers as bottles
 use Rattle.drinking_core.specs.Drinkers.{Drinker}
 use Rattle.drinking_core.specs.Worlds as bars
 use Rattle.drinking_core.specs.Standstill as bars_rest
-use Rattle.session_agenda.specs.declared.session.Session.{Session}
+use Rattle.site_core.specs.declared.agendas.session.Session.{Session}
 use Rattle.office_journal.specs.declared.rule.Rule.{Rule}
 use Rattle.office_journal.specs.declared.rule.Rule.TheVariants as rule
 use Rattle.site_core.specs.Limits.{usual_piece}

@@ -32,7 +32,7 @@ use Rattle.frame_world.specs.Ways.{pairs_at}
 use Rattle.frame_world.specs.Headline.{Always, FramesAreTaken, is_fault}
 use Rattle.frame_world.specs.Standstill.{taken_of, IsNextMessage, place_of, HasRoom, IsSentAndTaken, RulesAreDone, MessagesAreTaken}
 use Rattle.frame_world.specs.WorldStates.{IsSeated, state_of}
-use Rattle.frame_world.specs.WorldLaws.{seated}
+use Rattle.frame_world.specs.WorldLaws.{seated, as_seated}
 use Rattle.frame_world.proofs.Following.{Follows, follows}
 
 clash : (b : Bool) → b ≡ true → b ≡ false → ⊥
@@ -50,9 +50,6 @@ handed_ok w a e r o inside ans room =
     ap (λ b. cond b (told w a e (step s 0 e)) (Err refusal.NoOffice, w)) inside
     ∙ ap (λ x. told w a e (recorded s 0 e x)) ans
     ∙ ap (λ b. told w a e (cond b (Err refused.JournalFull, s) (Ok r, noted s 0 e r))) room
-
-as_seated : (plan : PlanValue) (w : World) (a : ℕ) (e : office.Event) → IsSeated plan w → answer (site_at w a).plan (site_at w a).me (office_at w a) e ≡ answer plan a (office_at w a) e
-as_seated plan w a e s = ap (λ p. answer p (site_at w a).me (office_at w a) e) (s.plans a) ∙ ap (λ m. answer plan m (office_at w a) e) (s.numbers a)
 
 pub rules_are_done : Always RulesAreDone
 rules_are_done plan es c a rule m room =

@@ -13,7 +13,7 @@ use Rattle.session_meaning.specs.declared.ending.Ending.{Ending}
 use Rattle.session_meaning.specs.declared.ending.Outcome.{Outcome}
 use Rattle.session_meaning.specs.ProgramValue.{ProgramValue}
 use Rattle.session_machine.specs.Pieces.{ending_after}
-use Rattle.session_agenda.specs.declared.session.Session.{Session}
+use Rattle.site_core.specs.declared.agendas.session.Session.{Session}
 use Rattle.office_journal.specs.declared.rule.Rule.{Rule}
 use Rattle.office_journal.specs.declared.rule.Rule.TheVariants as rule
 use Rattle.office_journal.specs.declared.event.Event as office
@@ -28,7 +28,7 @@ use Rattle.site_core.specs.Submitted.{submitted_by, submitted_in}
 use Rattle.site_core.specs.JournalLaws.{submitted_more}
 use Rattle.site_core.specs.Tickets.{SessionsGoInOrder}
 use Rattle.frame_world.specs.declared.event.WorldEvent.{WorldEvent}
-use Rattle.frame_world.specs.Worlds.{World, Finished, opening, run_of, ended_as, ended, finished_by, site_at}
+use Rattle.frame_world.specs.Worlds.{World, Finished, opening, run_of, ended_as, ended, finished_by, site_at, office_at}
 use Rattle.frame_world.specs.Headline.{Always, outcomes}
 use Rattle.frame_world.specs.Tickets.{IsBelow, submitted_as, session_of, HaveTheirTickets, TicketsRise, TellsEachOffice}
 use Rattle.frame_world.specs.WorldStates.{State, state_of, starting, entry_of, IsAccepted}
@@ -292,6 +292,10 @@ tickets_at_start plan = record { each = λ a. record { count = refl; hand = All-
 
 have_tickets : (plan : PlanValue) (es : List WorldEvent) → HasTickets (state_of (run_of (opening plan) es))
 have_tickets plan es = through plan HasTickets (tickets_at_start plan) (λ s s'. tickets_on plan s s') es
+
+-- an office has answered as many tickets as it has sessions submitted
+pub tickets_count : (plan : PlanValue) (es : List WorldEvent) (a : ℕ) → (office_at (run_of (opening plan) es) a).agenda.tickets ≡ length (submitted_in (site_at (run_of (opening plan) es) a).entries)
+tickets_count plan es a = ((have_tickets plan es).each a).count
 
 -- ---- the laws
 

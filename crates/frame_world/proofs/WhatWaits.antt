@@ -28,8 +28,8 @@ use Rattle.dining_core.specs.Diners as forks
 use Rattle.drinking_core.specs.Drinkers.{Drinker, BottleRule, holds}
 use Rattle.drinking_core.specs.Drinkers as bottles
 use Rattle.site_core.specs.Pairs.{Pairs, opened, held, queued_to, sent, bottle_message, after_fork_rule, after_bottle_rule, frame_fault, arrival_of, arrived, after_frame, follows, as_arrival}
-use Rattle.neighbour_pairs.specs.HeldLaws.{held_at_start, with_held, IsFrom, after_ask_fork, after_give_fork, after_ask_bottle, after_give_bottle, after_message, like_started, like_drinking, like_finished, like_diner, like_withdrawn}
-use Rattle.neighbour_pairs.specs.PairLaws.{passed, same_records}
+use Rattle.site_core.specs.neighbours.HeldLaws.{held_at_start, with_held, IsFrom, after_ask_fork, after_give_fork, after_ask_bottle, after_give_bottle, after_message, like_started, like_drinking, like_finished, like_diner, like_withdrawn}
+use Rattle.site_core.specs.neighbours.PairLaws.{passed, same_records}
 use Rattle.frame_world.proofs.Answers.{PairStep, Stays, ByFork, ByBottle, ByFrame, ByKept, pair_after, all_after, MayStep, through_all}
 use Rattle.frame_world.proofs.Links.{queued_link}
 use Rattle.frame_world.proofs.OneLink.{Arrives, Brings, BringsNone, arrives, brought}
@@ -50,7 +50,7 @@ quiet_apart plan a p p' e held_is h u t = omega (arith, h u t, ap num (held_is u
 
 -- ---- a thing that is held goes
 
-lost : (h : ℕ → Thing → Bool) (v : ℕ) (x : Thing) → h v x ≡ true → (u : ℕ) (t : Thing) → num (with_held h v x false u t) + num ((u == v) && same t x) ≤ num (h u t)
+pub lost : (h : ℕ → Thing → Bool) (v : ℕ) (x : Thing) → h v x ≡ true → (u : ℕ) (t : Thing) → num (with_held h v x false u t) + num ((u == v) && same t x) ≤ num (h u t)
 lost h v x e u t = go (u == v) refl
   where
     here : u ≡ v → (c : Bool) → same t x ≡ c → num (cond c false (h v t)) + num c ≤ num (h u t)
@@ -126,7 +126,7 @@ fork_apart plan a p forks.Eat may h = quiet_apart plan a p (after_fork_rule p fo
 fork_apart plan a p (forks.Leave thirsty) may h = quiet_apart plan a p (after_fork_rule p (forks.Leave thirsty)) refl (like_diner p.diner (forks.act p.diner (forks.Leave thirsty)) p.drinker refl refl) h
 
 -- what is here of a record is here for its other end
-for_its_end : (d : Drinker) (r : ℕ) (b : Bool) → b ≡ true → ((d.peer r == d.peer r) && b) ≡ true
+pub for_its_end : (d : Drinker) (r : ℕ) (b : Bool) → b ≡ true → ((d.peer r == d.peer r) && b) ≡ true
 for_its_end d r b e = ap (λ x. x && b) (eq-eqb (d.peer r) (d.peer r) refl) ∙ e
 
 bottle_apart : (plan : PlanValue) (a : ℕ) (p : Pairs) (rule : BottleRule) → bottles.may p.drinker rule ≡ true → AreApart plan a p → AreApart plan a (after_bottle_rule p rule)
@@ -156,7 +156,7 @@ unbroken None false e = refl
 unbroken (Some fault) b e = absurd cc
 
 -- what is fresh of a frame that isn't refused is shared, and doesn't wait once the count is used
-fresh_is_apart : (shared held : Thing → Bool) (l : LinkState) (f : Fields) (m : Msg) → fault_among shared held l f ≡ None → arrival_at l f ≡ arrival.Fresh m →
+pub fresh_is_apart : (shared held : Thing → Bool) (l : LinkState) (f : Fields) (m : Msg) → fault_among shared held l f ≡ None → arrival_at l f ≡ arrival.Fresh m →
     (shared (thing_of m) ≡ true) × (waits (thing_of m) (left_by l f.count) ≡ false)
 fresh_is_apart shared held l f m fine fresh = of (arrives l.receiving f.number f.msg)
   where
@@ -169,7 +169,7 @@ fresh_is_apart shared held l f m fine fresh = of (arrives l.receiving f.number f
     of (BringsNone nothing stays) = let none : Some m ≡ None = ap brought (sym fresh) ∙ nothing in absurd cc
 
 -- a message is of what its two offices share
-from_its_end : (plan : PlanValue) (a v : ℕ) (p : Pairs) (m : Msg) → ((r : ℕ) → p.drinker.peer r ≡ peer plan a r) → is_shared plan a v (thing_of m) ≡ true → IsFrom p.drinker.peer v m
+pub from_its_end : (plan : PlanValue) (a v : ℕ) (p : Pairs) (m : Msg) → ((r : ℕ) → p.drinker.peer r ≡ peer plan a r) → is_shared plan a v (thing_of m) ≡ true → IsFrom p.drinker.peer v m
 from_its_end plan a v p msg.AskFork peers e = tt
 from_its_end plan a v p msg.Fork peers e = tt
 from_its_end plan a v p (msg.AskBottle r) peers e = peers r ∙ peer_is plan r a v e
@@ -214,7 +214,7 @@ kept_apart plan a v p (Some m) e h =
 
 -- ---- any step
 
-peer_stays : (p : Pairs) (step : PairStep) → (pair_after p step).drinker.peer ≡ p.drinker.peer
+pub peer_stays : (p : Pairs) (step : PairStep) → (pair_after p step).drinker.peer ≡ p.drinker.peer
 peer_stays p Stays = refl
 peer_stays p (ByFork rule) = refl
 peer_stays p (ByBottle (bottles.Start session)) = (like_started p.drinker session).peer

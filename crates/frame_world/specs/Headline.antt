@@ -11,7 +11,7 @@ use Rattle.office_map.specs.Consistency.{IsConsistent, IsAccepted}
 use Rattle.session_meaning.specs.declared.ending.Ending.{Ending}
 use Rattle.session_meaning.specs.declared.ending.Outcome.{Outcome}
 use Rattle.session_meaning.specs.ProgramValue.{ProgramValue}
-use Rattle.session_measures.specs.Needs.{needs_of}
+use Rattle.session_programs.specs.measures.Needs.{needs_of}
 use Rattle.serial_replay.specs.Serial.{start_map, map_of, outcomes_of}
 use Rattle.window_link.specs.Windows.{used}
 use Rattle.token_channel.specs.declared.thing.Thing.{Thing}
@@ -19,7 +19,7 @@ use Rattle.token_channel.specs.Ends.{is_shared}
 use Rattle.dining_core.specs.Diners.{is_eating}
 use Rattle.dining_core.specs.Worlds.{HasNoRing}
 use Rattle.drinking_core.specs.Drinkers.{is_drinking, holds}
-use Rattle.session_agenda.specs.declared.session.Session.{Session}
+use Rattle.site_core.specs.declared.agendas.session.Session.{Session}
 use Rattle.office_journal.specs.declared.event.Event.TheVariants as event
 use Rattle.office_journal.specs.declared.event.Entry.{Entry}
 use Rattle.office_journal.specs.declared.reply.Reply.{Reply}

@@ -5,9 +5,15 @@ pub mod WorldStates
 pub mod WorldLaws
 pub mod Ways
 pub mod Headline
+pub mod Strict
 pub mod Tickets
+pub mod EveryWorld
 pub mod TicketLaws
 pub mod Waiting
 pub mod Standstill
+pub mod WorkLeft
+pub mod Termination
+pub mod RequestsFollow
 pub mod RefusalText
 pub mod refinement
+pub mod hostile

@@ -1,7 +1,7 @@
 -- The tickets of the finished sessions. An office's tickets number the sessions that were submitted there, from 1.
 use Rattle.std.specs.Prelude.{◌≡◌, ◌<◌, ◌==◌, ℕ, zero, suc, List, filter, slice_get, Option, None, Some, All, AllPairs}
 use Rattle.session_meaning.specs.declared.ending.Outcome.{Outcome}
-use Rattle.session_agenda.specs.declared.session.Session.{Session}
+use Rattle.site_core.specs.declared.agendas.session.Session.{Session}
 use Rattle.office_journal.specs.declared.event.Entry.{Entry}
 use Rattle.site_core.specs.Submitted.{submitted_in}
 use Rattle.frame_world.specs.Worlds.{World, Finished, site_at, office_at}

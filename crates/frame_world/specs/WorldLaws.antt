@@ -23,7 +23,7 @@ use Rattle.site_core.specs.JournalLaws.{office_noted, office_empty}
 use Rattle.frame_world.specs.declared.event.WorldEvent.{WorldEvent}
 use Rattle.frame_world.specs.declared.event.WorldEvent.TheVariants as happening
 use Rattle.frame_world.specs.declared.refusal.WorldRefusal.TheVariants as refusal
-use Rattle.frame_world.specs.WorldStates.{State, state_of, starting, MayCome, entry_of, IsAccepted, IsSeated, Left}
+use Rattle.frame_world.specs.WorldStates.{State, state_of, starting, MayCome, entry_of, after_reply, IsAccepted, IsSeated, Left}
 use Rattle.frame_world.specs.Worlds.{World, silent, opening, site_at, office_at, frames_of, finished_by, told, handed, delivered, happens, run_of}
 
 -- ---- at the start
@@ -69,27 +69,20 @@ put_kept_as g f a x y e j = at (j == a)
 left_as_it_was : (plan : PlanValue) (w w' : World) → IsSeated plan w → w' ≡ w → Left plan w w'
 left_as_it_was plan w w' h e = record { seated = subst (IsSeated plan) (sym e) h; led = inl (ap state_of e) }
 
-accepted : (plan : PlanValue) (w : World) (a : ℕ) (e : office.Event) (r : Reply) (o : Office) → IsSeated plan w → MayCome w.frames a e → nat_lt a (length w.sites) ≡ true →
-    answer (site_at w a).plan (site_at w a).me (office_at w a) e ≡ Ok (r, o) → Left plan w (told w a e (Ok r, noted (site_at w a) 0 e r)).1
-accepted plan w a e r o h come inside ans = record {
-  seated = record {
-    planned = h.planned;
-    size = length-set w.sites a new ∙ h.size;
-    plans = λ x. ap (λ (s : Site). s.plan) (sites x) ∙ put_kept_as (λ (s : Site). s.plan) (site_at w) a new plan (h.plans a) x ∙ const (x == a) (h.plans x);
-    numbers = λ x. ap (λ (s : Site). s.me) (sites x) ∙ numbered x;
-  };
-  led = inr (record {
-    place = a;
-    event = e;
-    reply = r;
-    new = o;
-    inside = ap (nat_lt a) (sym h.size) ∙ inside;
-    comes = come;
-    answered = ap (λ p. answer p a (office_at w a) e) (sym (h.plans a)) ∙ ap (λ m. answer (site_at w a).plan m (office_at w a) e) (sym (h.numbers a)) ∙ ans;
-    led = ap (λ f. made f (λ x. (site_at w' x).entries)) (fun_ext (λ x. ap office_of (sites x) ∙ put_kept_as office_of (site_at w) a new o there x))
-        ∙ ap (made (put (office_at w) a o)) (fun_ext (λ x. ap (λ (s : Site). s.entries) (sites x) ∙ put_kept_as (λ (s : Site). s.entries) (site_at w) a new ((site_at w a).entries ++ entry_of e r ∷ []) refl x));
-  });
-}
+-- what an office answers is by the plan and its number
+pub as_seated : (plan : PlanValue) (w : World) (a : ℕ) (e : office.Event) → IsSeated plan w → answer (site_at w a).plan (site_at w a).me (office_at w a) e ≡ answer plan a (office_at w a) e
+as_seated plan w a e s = ap (λ p. answer p (site_at w a).me (office_at w a) e) (s.plans a) ∙ ap (λ m. answer plan m (office_at w a) e) (s.numbers a)
+
+-- the sites after an accepted event
+told_sites : (w : World) (a : ℕ) (e : office.Event) (r : Reply) → nat_lt a (length w.sites) ≡ true → (x : ℕ) → site_at (told w a e (Ok r, noted (site_at w a) 0 e r)).1 x ≡ put (site_at w) a (noted (site_at w a) 0 e r) x
+told_sites w a e r inside = site_set w (told w a e (Ok r, noted (site_at w a) 0 e r)).1 a (noted (site_at w a) 0 e r) refl refl (ltb-true a (length w.sites) inside)
+
+-- and all of the world
+pub told_state : (w : World) (a : ℕ) (e : office.Event) (r : Reply) (o : Office) → nat_lt a (length w.sites) ≡ true → answer (site_at w a).plan (site_at w a).me (office_at w a) e ≡ Ok (r, o) →
+    state_of (told w a e (Ok r, noted (site_at w a) 0 e r)).1 ≡ after_reply (state_of w) a e r o
+told_state w a e r o inside ans =
+    ap (λ f. made f (λ x. (site_at w' x).entries)) (fun_ext (λ x. ap office_of (sites x) ∙ put_kept_as office_of (site_at w) a new o there x))
+    ∙ ap (made (put (office_at w) a o)) (fun_ext (λ x. ap (λ (s : Site). s.entries) (sites x) ∙ put_kept_as (λ (s : Site). s.entries) (site_at w) a new ((site_at w a).entries ++ entry_of e r ∷ []) refl x))
   where
     new : Site
     new = noted (site_at w a) 0 e r
@@ -98,7 +91,42 @@ accepted plan w a e r o h come inside ans = record {
     w' = (told w a e (Ok r, new)).1
 
     sites : (x : ℕ) → site_at w' x ≡ put (site_at w) a new x
-    sites = site_set w w' a new refl refl (ltb-true a (length w.sites) inside)
+    sites = told_sites w a e r inside
+
+    there : office_of new ≡ o
+    there = office_noted (site_at w a) 0 e r ∙ ap (next_or (office_at w a)) ans
+
+    made : (ℕ → Office) → (ℕ → List Entry) → State
+    made f j = record { office = f; journal = j; frames = w.frames ++ frames_of r; finished = w.finished ++ finished_by a (office_at w a).agenda.current e }
+
+-- an event that is accepted there, with its reply
+abbrev pub accepted_as : (plan : PlanValue) (w : World) (a : ℕ) (e : office.Event) (r : Reply) (o : Office) → IsSeated plan w → MayCome w.frames a e → nat_lt a (length w.sites) ≡ true →
+    answer (site_at w a).plan (site_at w a).me (office_at w a) e ≡ Ok (r, o) → IsAccepted plan (state_of w) (state_of (told w a e (Ok r, noted (site_at w a) 0 e r)).1)
+accepted_as plan w a e r o h come inside ans = record {
+  place = a;
+  event = e;
+  reply = r;
+  new = o;
+  inside = ap (nat_lt a) (sym h.size) ∙ inside;
+  comes = come;
+  answered = sym (as_seated plan w a e h) ∙ ans;
+  led = told_state w a e r o inside ans;
+}
+
+accepted : (plan : PlanValue) (w : World) (a : ℕ) (e : office.Event) (r : Reply) (o : Office) → IsSeated plan w → MayCome w.frames a e → nat_lt a (length w.sites) ≡ true →
+    answer (site_at w a).plan (site_at w a).me (office_at w a) e ≡ Ok (r, o) → Left plan w (told w a e (Ok r, noted (site_at w a) 0 e r)).1
+accepted plan w a e r o h come inside ans = record {
+  seated = record {
+    planned = h.planned;
+    size = length-set w.sites a new ∙ h.size;
+    plans = λ x. ap (λ (s : Site). s.plan) (told_sites w a e r inside x) ∙ put_kept_as (λ (s : Site). s.plan) (site_at w) a new plan (h.plans a) x ∙ const (x == a) (h.plans x);
+    numbers = λ x. ap (λ (s : Site). s.me) (told_sites w a e r inside x) ∙ numbered x;
+  };
+  led = inr (accepted_as plan w a e r o h come inside ans);
+}
+  where
+    new : Site
+    new = noted (site_at w a) 0 e r
 
     const : (b : Bool) → {y : PlanValue} → y ≡ plan → cond b plan y ≡ plan
     const true e = refl
@@ -106,12 +134,6 @@ accepted plan w a e r o h come inside ans = record {
 
     numbered : (x : ℕ) → (put (site_at w) a new x).me ≡ x
     numbered x = ⊎_elim (λ is. ap (λ (s : Site). s.me) (put_at (site_at w) a new x is) ∙ h.numbers a ∙ sym is) (λ ne. ap (λ (s : Site). s.me) (put_other (site_at w) a new x ne) ∙ h.numbers x) (cases_eq x a)
-
-    there : office_of new ≡ o
-    there = office_noted (site_at w a) 0 e r ∙ ap (next_or (office_at w a)) ans
-
-    made : (ℕ → Office) → (ℕ → List Entry) → State
-    made f j = record { office = f; journal = j; frames = w.frames ++ frames_of r; finished = w.finished ++ finished_by a (office_at w a).agenda.current e }
 
 pub handed_leaves : (plan : PlanValue) (w : World) (a : ℕ) (e : office.Event) → IsSeated plan w → MayCome w.frames a e → Left plan w (handed w a e).1
 handed_leaves plan w a e h come = by_place (nat_lt a (length w.sites)) refl

@@ -1,8 +1,11 @@
 //! The headline, over definitions: what holds of every world that a list of events leads to.
 
 ghost use Rattle.frame_world.specs.Headline.{Always, HasSerialSessions, HasSerialValues, HasOnePlaceEach, NeighboursEatApart, EatersHaveTheirForks, DrinkersHaveTheirBottles, FramesAreTaken, NoneIsEarly, CountsAreTimely, NumbersTellMessages, PrecedenceHasNoRing, FramesInRangeGoByBytes};
+ghost use Rattle.frame_world.specs.Strict.{IsStrict};
 ghost use Rattle.frame_world.specs.Tickets.{HaveTheirTickets, TicketsRise, TellsEachOffice};
 ghost use Rattle.frame_world.specs.Standstill.{NeverStuck, RulesAreDone, MessagesAreTaken};
+ghost use Rattle.frame_world.specs.RequestsFollow.{RequestsFollow, RequestsFindTheirThings};
+ghost use Rattle.frame_world.specs.Termination.{StepsUseUpWork, EveryRunEnds, WhoGoesOnFinishes};
 ghost use Rattle.frame_world.specs.Waiting.{EachIsHeldOrWaits, FewMessagesWait, NoFrameIsFarAhead};
 ghost use Rattle.frame_world.specs.refinement.PartsLaws.{PartsLaws};
 
@@ -10,6 +13,7 @@ use dining_core::laws as tables;
 use drinking_core::laws as bars;
 use frame_codec::laws::each_spelling_is_of_one_frame;
 use session_meaning::laws::writes_what_it_has;
+use session_programs::measures::laws::ends_within_its_cost;
 use site_core::laws::{links_only_grow, none_next_is_at_rest, sessions_go_in_order};
 use token_channel::laws::{opens_as_the_plan_starts, what_comes_was_away, what_follows_was_away};
 
@@ -19,6 +23,12 @@ pub fn sessions_are_serial()
 {
     parts_hold();
 }
+
+/// The serial order is strict: what has finished when a session is submitted comes before it. Whatever happens, the
+/// finishing order only grows at its end.
+pub fn order_is_strict()
+    ensures { Always IsStrict }
+{}
 
 /// Each finished session has the ticket that was answered when it was submitted.
 pub fn finished_have_their_tickets()
@@ -165,6 +175,49 @@ pub fn messages_are_taken()
     ensures { Always MessagesAreTaken }
 {
     sent_frames_are_taken();
+}
+
+/// A request token never overtakes its thing: where both are on the way to an office, the thing comes first.
+pub fn requests_follow()
+    ensures { Always RequestsFollow }
+{
+    tables::each_has_one_place();
+    bars::each_has_one_place();
+    bars::peers_stay();
+}
+
+/// A request that an office takes finds there what it asks for.
+pub fn requests_find_their_things()
+    ensures { Always RequestsFindTheirThings }
+{
+    tables::each_has_one_place();
+    bars::each_has_one_place();
+    bars::peers_stay();
+}
+
+/// Each step lowers the work that is left, and nothing but a submitted session raises it.
+pub fn steps_use_up_work()
+    ensures { Always StepsUseUpWork }
+{
+    parts_hold();
+    tables::each_has_one_place();
+    bars::each_has_one_place();
+    ends_within_its_cost();
+}
+
+/// In whatever order rules are done and frames come, from each world at most so many steps are made as its work left tells,
+/// until a session is submitted.
+pub fn every_run_ends()
+    ensures { EveryRunEnds }
+{
+    steps_use_up_work();
+}
+
+/// Whoever goes on making steps, and submits nothing more, finishes every session.
+pub fn who_goes_on_finishes()
+    ensures { Always WhoGoesOnFinishes }
+{
+    steps_use_up_work();
 }
 
 /// What the parts promise by themselves.

@@ -3,29 +3,36 @@
 //! sessions run alone, one after another in finishing order, from the plan's values; and each record has one bottle,
 //! which carries that serial run's value.
 //!
-//! There is no code here but the events' type, their refusals, and where a frame is told; what runs such a world keeps to
-//! `happens`.
+//! There is no code here but the events' type, their refusals, and where a frame is told: what runs such a world
+//! (`world_schedule`) keeps to `happens`.
 //!
 //! - `specs/Worlds.antt`: the offices with their journals, all frames that were ever sent, the finished sessions; what an
 //!   event answers and leaves. An event is an office's own (`site_core`), or a frame of the list that comes to its
 //!   addressee, any of them, at any time, as often as it likes. A frame that never comes is lost.
 //! - `specs/Ways.antt`: what is on the way from one office to another, at how many places a thing is, and all bottles of
 //!   a record; the tables (`dining_core`) and the bars (`drinking_core`) that the offices are.
-//! - `specs/Headline.antt`: what holds of every world; [`laws`] has it proved. `specs/Tickets.antt`: which tickets the
-//!   finished sessions have. `specs/Sent.antt`: which entry of which office tells a frame. `specs/Waiting.antt`: how much
+//! - `specs/Headline.antt`: what holds of every world; [`laws`] has it proved. `specs/Strict.antt`: that the serial order
+//!   keeps to the order in time. `specs/Tickets.antt`: which tickets the finished sessions have. `specs/EveryWorld.antt`:
+//!   all of it in one record. `specs/Sent.antt`: which entry of which office tells a frame. `specs/Waiting.antt`: how much
 //!   waits at an office, and how far ahead of its addressee a frame is. `specs/Standstill.antt`: what a world does next, left to itself, and that it can be done.
+//!   `specs/RequestsFollow.antt`: that a request token goes behind its thing. `specs/WorkLeft.antt`: how much there is still
+//!   to do in a world, as a number. `specs/Termination.antt`: that every run ends.
+//! - [`hostile`]: the same world where some offices keep to no rule, and what holds between those that do.
 //!
 //! How it is proved: what happens to an office is, to tables and bars, an event of theirs or nothing
 //! (`proofs/TablesFollow.antt`, `proofs/BarsFollow.antt`), which needs of the links that each frame says the truth, and
 //! that what is kept was sent (`proofs/Links.antt`). A frame that comes is a step for its own message, and then one for
 //! each kept message (`ByKept` of `proofs/Answers.antt`): what each step leaves, the whole event leaves. So the laws of
 //! tables and bars hold of the offices (`proofs/Following.antt`), and with them the serial run is an invariant of few
-//! lines (`proofs/SerialSessions.antt`). Tickets are looked at beside it (`proofs/Tickets.antt`): what an office has in
+//! lines (`proofs/SerialSessions.antt`). The finishing order only grows at its end, and a ticket that is answered is new, so
+//! that order is strict (`proofs/StrictOrder.antt`). Tickets are looked at beside it (`proofs/Tickets.antt`): what an office has in
 //! hand came by its journal, and what it finishes it tells last. Above the links a frame is looked at once more: that it
 //! isn't refused (`proofs/SentFrames.antt`), and that its bytes say the same as it (`proofs/FrameBytes.antt`). What waits
 //! is looked at office by office, with no need of the others (`proofs/WhatWaits.antt`, `proofs/FewWait.antt`); so no frame
 //! comes too early (`proofs/NoneEarly.antt`). Where no rule may be done and nothing is on the way, the laws of tables and
-//! bars leave no office thirsty, so none has a session left (`proofs/Standstill.antt`).
+//! bars leave no office thirsty, so none has a session left (`proofs/Standstill.antt`). What a step takes of an office's work
+//! (`proofs/work/OfficeSteps.antt`, `proofs/work/OfficeSessions.antt`) and of the pairs' (`proofs/work/PairMoves.antt`) is looked at apart, and
+//! put together once (`proofs/work/WorkGoesDown.antt`).
 //!
 //! A world is its offices' journals, all frames, and the finishing list. An office's state is the end of its journal,
 //! so an event of the world is one step of an office that stands already, and no rule stands twice. Of what waits at
@@ -62,13 +69,30 @@
 //! withdrawn changes none of this: its office is tranquil then; if it was hungry it stays so, gets its forks, eats and
 //! leaves, as it would have.
 //!
-//! Not said: that a session finishes, that a hungry office eats, or that anything is ever done, arrives or is
+//! Why every run ends. A number tells what there is still to do in a world: of sessions, of forks, of bottles.
+//!
+//! - Sessions. One that waits has its instructions before it and six rules; the current one, and the meal that it needs,
+//!   what is left of them. Each rule of these takes one at least.
+//! - Forks. One that is dirty is given once, and comes; then it is clean until its office has eaten. A request for it is
+//!   sent once, and comes. Who eats makes all its forks dirty again: so that is paid for by the rule that eats.
+//! - Bottles. As long as no session begins or ends at its two ends, and their fork stays, a bottle is given twice at most:
+//!   the office without the fork gives it to the other, who keeps it where it needs it, or gives it back and doesn't ask.
+//!   What a session or a fork lets happen of this again is paid for where the session begins or ends, and the fork goes
+//!   or comes.
+//!
+//! So each step takes one at least, whichever it is and in whatever order, and only a submitted session adds something.
+//! Links keep the order of what is sent: no request token overtakes its thing, or two hungry offices could hand one to and
+//! fro for ever while the fork is on its way.
+//!
+//! Not said: that a step is ever made, so that a session finishes or a hungry office eats at any time; that one session
+//! finishes while others are submitted for ever; that anything is ever done, arrives or is
 //! acknowledged; how often offices are turned; anything of frames that no office of this plan and run made; that what
 //! is kept is taken, and not thrown out at its turn; that a count is the newest when its frame comes; that a frame of
-//! the definitions is in the format's ranges, which holds of each world that a caller has (`World::is_serial`).
+//! the definitions is in the format's ranges, which holds of each world that a caller has (`World::headline`).
 #![tactic(auto)]
 
 mod event;
+pub mod hostile;
 pub mod laws;
 mod next_step;
 mod refusal;

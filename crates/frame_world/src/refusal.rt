@@ -3,11 +3,11 @@
 ghost use Rattle.std.specs.Prelude.{◌≡◌, Some};
 ghost use Rattle.frame_world.specs.RefusalText.{refusal_text};
 
-use std::error::Error;
 use std::fmt;
+use thiserror::Error;
 
 /// Why an event is refused. A refused event leaves the world as it was.
-#[derive(Clone, Copy, Debug, PartialEq, Eq)]
+#[derive(Clone, Copy, Debug, PartialEq, Eq, Error)]
 pub enum WorldRefusal {
     /// So many frames weren't sent.
     NoFrame,
@@ -38,5 +38,3 @@ impl fmt::Display for WorldRefusal {
         f.write_str(fault.text())
     }
 }
-
-impl Error for WorldRefusal {}

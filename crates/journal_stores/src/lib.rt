@@ -14,7 +14,7 @@
 //! - [`MemoryStore`] tells all. It may fail at a call, and then has a beginning of what was to be appended.
 //!
 //! Not said: how long an append takes, that one ever succeeds; and of a file of `std`, that bytes were written and
-//! synced, that the rest was cut off, and that another process is refused. Tests and `checks/stores` show these.
+//! synced, that the rest was cut off, and that another process is refused. Tests and `tests/system/disks.py` show these.
 #![tactic(auto)]
 
 mod file;

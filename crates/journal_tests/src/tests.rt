@@ -1,4 +1,3 @@
 mod audit;
-mod restarts;
 mod stores;
 mod texts;

@@ -17,7 +17,7 @@ use Rattle.window_link.specs.declared.arrival.Arrival.{Arrival}
 use Rattle.window_link.specs.Links.{LinkState, ack_frame_of, frame_of}
 use Rattle.token_channel.specs.declared.fault.ChannelFault.{ChannelFault}
 use Rattle.drinking_core.specs.Drinkers as bottles
-use Rattle.session_agenda.specs.declared.session.Session.{Session}
+use Rattle.site_core.specs.declared.agendas.session.Session.{Session}
 use Rattle.office_journal.specs.declared.rule.Rule.{Rule}
 use Rattle.office_journal.specs.declared.rule.Rule.TheVariants as rule
 use Rattle.office_journal.specs.declared.event.Event.{Event}
@@ -36,7 +36,7 @@ use Rattle.site_core.specs.Journals.{Site, office_of, noted, after, AreAccepted,
 use Rattle.site_core.specs.JournalLaws.{office_noted, office_empty}
 use Rattle.site_core.proofs.OfficeLimits.{within}
 use Rattle.site_core.proofs.SessionsInOrder.{in_order}
-use Rattle.run_words.specs.Rules.{IsRuleOf}
+use Rattle.journal_texts.specs.wording.Rules.{IsRuleOf}
 
 -- what an accepted event is, and its reply
 abbrev pub IsEventOf : PlanValue → Event → Reply → Type 0

@@ -8,3 +8,4 @@ mod WrittenSoFar
 mod OneJournal
 mod WholeLines
 mod TornTexts
+pub mod wording_lemmas

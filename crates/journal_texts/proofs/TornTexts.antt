@@ -10,8 +10,8 @@ use Rattle.office_map.specs.PlanValue.{PlanValue}
 use Rattle.office_map.specs.Consistency.{IsConsistent}
 use Rattle.text_lines.specs.Text.{is_plain}
 use Rattle.office_journal.specs.declared.event.Entry.{Entry}
-use Rattle.run_words.specs.Words.{line_of_words}
-use Rattle.run_words.proofs.LinesOfWords.{line_of}
+use Rattle.journal_texts.specs.wording.Words.{line_of_words}
+use Rattle.journal_texts.proofs.wording_lemmas.LinesOfWords.{line_of}
 use Rattle.journal_texts.specs.Written.{header_words, header_line, entry_words, entry_line, lines_of, journal_text}
 use Rattle.journal_texts.specs.Growing.{has_end, IsCutAfterLines, IsBeginning, TornTextsBegin}
 use Rattle.journal_texts.specs.refinement.WrittenValues.{EntryReadsBack}

@@ -9,10 +9,10 @@ use Rattle.office_journal.specs.declared.event.Entry.{Entry}
 use Rattle.office_journal.specs.declared.reply.Reply.{Reply}
 use Rattle.office_journal.specs.declared.reply.Reply.TheVariants as reply
 use Rattle.session_programs.specs.Program.{text_under}
-use Rattle.run_words.specs.Words.{office_name, line_of_words}
-use Rattle.run_words.specs.Replies.{reply_words}
-use Rattle.run_words.specs.Rules.{rule_words}
-use Rattle.run_words.specs.Digits.{digits_of, frame_digits}
+use Rattle.journal_texts.specs.wording.Words.{office_name, line_of_words}
+use Rattle.journal_texts.specs.wording.Replies.{reply_words}
+use Rattle.journal_texts.specs.wording.Rules.{rule_words}
+use Rattle.journal_texts.specs.wording.Digits.{digits_of, frame_digits}
 use Rattle.journal_texts.specs.Written.{event_words, entry_words, entry_line}
 
 joined : (a : List ℕ) (ws : List (List ℕ)) (v : List ℕ) (vs : List (List ℕ)) → line_of_words ((a ∷ ws) ++ v ∷ vs) ≡ line_of_words (a ∷ ws) ++ 32 ∷ line_of_words (v ∷ vs)

@@ -29,14 +29,14 @@ use Rattle.office_journal.specs.declared.event.Entry.{Entry}
 use Rattle.office_journal.specs.declared.reply.Reply.{Reply}
 use Rattle.office_journal.specs.declared.reply.Reply.TheVariants as reply
 use Rattle.site_core.specs.Replies.{reply_to}
-use Rattle.run_words.specs.Words.{office_name, is_word, line_of_words}
-use Rattle.run_words.specs.Replies.{reply_words, ReplyReadsBack}
-use Rattle.run_words.specs.Rules.{rule_of, rule_words}
-use Rattle.run_words.specs.Digits.{digits_of, frame_digits, bytes_in}
-use Rattle.run_words.proofs.LinesOfWords.{line_of, lines_are_cut}
-use Rattle.run_words.proofs.DigitWords.{frame_size, digits_are_a_word}
-use Rattle.run_words.proofs.NamesAndNumbers.{number_word, count_again, name_of_office, office_name_again, office_word, office_again}
-use Rattle.run_words.proofs.RuleWords.{rules_read_back}
+use Rattle.journal_texts.specs.wording.Words.{office_name, is_word, line_of_words}
+use Rattle.journal_texts.specs.wording.Replies.{reply_words, ReplyReadsBack}
+use Rattle.journal_texts.specs.wording.Rules.{rule_of, rule_words}
+use Rattle.journal_texts.specs.wording.Digits.{digits_of, frame_digits, bytes_in}
+use Rattle.journal_texts.proofs.wording_lemmas.LinesOfWords.{line_of, lines_are_cut}
+use Rattle.journal_texts.proofs.wording_lemmas.DigitWords.{frame_size, digits_are_a_word}
+use Rattle.journal_texts.proofs.wording_lemmas.NamesAndNumbers.{number_word, count_again, name_of_office, office_name_again, office_word, office_again}
+use Rattle.journal_texts.proofs.wording_lemmas.RuleWords.{rules_read_back}
 use Rattle.journal_texts.specs.declared.fault.JournalRule.TheVariants.{JournalHeader}
 use Rattle.journal_texts.specs.Lines.{Said, Whole, Made, Came, tag_of, program_in, one_program, do_line, done_by, withdrawn_by, submitted_by, sent_by, took_by, said_after, tagged, said_by, said_of, IsEntry}
 use Rattle.journal_texts.specs.JournalText.{run_and_name, header_said, office_of_header, header_of, HaveEntries, IsJournal}

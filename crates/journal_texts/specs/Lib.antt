@@ -6,3 +6,4 @@ pub mod Receiving
 pub mod Written
 pub mod Growing
 pub mod refinement
+pub mod wording

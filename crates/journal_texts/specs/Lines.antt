@@ -14,10 +14,10 @@ use Rattle.office_journal.specs.declared.event.Event.TheVariants as event
 use Rattle.office_journal.specs.declared.event.Entry.{Entry}
 use Rattle.office_journal.specs.declared.reply.Reply.{Reply}
 use Rattle.office_journal.specs.declared.reply.Reply.TheVariants as reply
-use Rattle.run_words.specs.Words.{office_by, count_by}
-use Rattle.run_words.specs.Replies.{arrival_named}
-use Rattle.run_words.specs.Rules.{rule_named, rule_with}
-use Rattle.run_words.specs.Digits.{bytes_in}
+use Rattle.journal_texts.specs.wording.Words.{office_by, count_by}
+use Rattle.journal_texts.specs.wording.Replies.{arrival_named}
+use Rattle.journal_texts.specs.wording.Rules.{rule_named, rule_with}
+use Rattle.journal_texts.specs.wording.Digits.{bytes_in}
 use Rattle.journal_texts.specs.Limits.{tags, last_ticket}
 
 -- An entry; or one of a frame that was made for a neighbour, or that came, with the frame as the bytes that stand in the line.

@@ -7,10 +7,10 @@ use Rattle.session_programs.specs.Program.{text_under}
 use Rattle.office_journal.specs.declared.event.Event.{Event}
 use Rattle.office_journal.specs.declared.event.Event.TheVariants as event
 use Rattle.office_journal.specs.declared.event.Entry.{Entry}
-use Rattle.run_words.specs.Words.{office_name, line_of_words}
-use Rattle.run_words.specs.Rules.{rule_words}
-use Rattle.run_words.specs.Replies.{reply_words}
-use Rattle.run_words.specs.Digits.{digits_of, frame_digits}
+use Rattle.journal_texts.specs.wording.Words.{office_name, line_of_words}
+use Rattle.journal_texts.specs.wording.Rules.{rule_words}
+use Rattle.journal_texts.specs.wording.Replies.{reply_words}
+use Rattle.journal_texts.specs.wording.Digits.{digits_of, frame_digits}
 
 abbrev pub header_words : PlanValue → ℕ → List (List ℕ)
 header_words p office = codes "journal" ∷ codes "1" ∷ codes "run" ∷ decimal p.run ∷ codes "office" ∷ office_name p office ∷ []

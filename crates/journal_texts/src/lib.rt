@@ -10,7 +10,9 @@
 //! - Both speak of one relation, `IsJournal` of `specs/JournalText.antt`, and [`laws`] says that a text is one journal at most, and
 //!   none where it has a fault. So what was written is read as what it was written for.
 //!
-//! What a line says is in `specs/Lines.antt`, how it is written in `specs/Written.antt`; the words are those of `run_words`.
+//! - [`wording`]: the words of offices, records, rules, replies and frames, which scripts share with journals.
+//!
+//! What a line says is in `specs/Lines.antt`, how it is written in `specs/Written.antt`.
 //!
 //! Journals are read and written above the office, since it has no need of texts. One relation says what a journal's
 //! text is, and reading and writing both speak of it: so that what is written reads back needs no law beside the one
@@ -29,6 +31,7 @@ pub mod laws;
 mod line;
 mod reading;
 mod torn;
+pub mod wording;
 mod writing;
 
 pub use crate::entries::Entries;

@@ -10,22 +10,22 @@
 ghost use Rattle.std.specs.Prelude.{◌≡◌, Some, None, Ok, Option, ◌&&◌, if◌then◌else◌, IfOk};
 ghost use Rattle.std.specs.Str.{bytes_eq};
 ghost use Rattle.office_map.specs.PlanText.{and_then};
-ghost use Rattle.run_words.specs.Digits.{bytes_in};
+ghost use Rattle.journal_texts.specs.wording.Digits.{bytes_in};
 ghost use Rattle.journal_texts.specs.Lines.{Said, said_by, said_after, tag_of, took_line, do_line, send_line, submit_line, withdraw_line, done_by, withdrawn_by, took_by, submitted_by, sent_by, program_in, one_program, is_done};
 ghost use Rattle.journal_texts.specs.refinement.ReadLines.{Reads, Tells};
 ghost use Rattle.journal_texts.specs.refinement.ReadLines as tolds;
 
 use crate::entries::Entries;
-use marked_lines::Words;
+use crate::wording::digits::{FrameWord, bytes, frame_word};
+use crate::wording::replies::arrival_named;
+use crate::wording::rules::{rule_named, rule_with};
+use crate::wording::words::{great_count_by, is, office_by};
 use office_map::{OfficeId, Plan};
-use run_words::digits::{FrameWord, bytes, frame_word};
-use run_words::replies::arrival_named;
-use run_words::rules::{rule_named, rule_with};
-use run_words::words::{great_count_by, is, office_by};
 use session_language::{LangFault, read_sessions};
 use session_programs::Program;
 use site_core::{Entry, Event, Reply, Rule};
 use std::alloc::{AllocError, Global};
+use text_lines::marked::Words;
 use text_lines::number;
 
 /// Tags are below.

@@ -13,10 +13,10 @@ use crate::fault::{JournalFault, JournalRule, refused};
 use crate::header::header;
 use crate::journal_text::JournalText;
 use crate::line::tell_line;
-use marked_lines::next_words;
 use office_map::{OfficeId, Plan};
 use std::alloc::{AllocError, Global};
 use text_lines::Statements;
+use text_lines::marked::next_words;
 
 /// The journal that a text is under a plan.
 ///

@@ -3,7 +3,7 @@ use Rattle.std.proofs.Common.{◌≡◌, ℕ, Bool, true, false, cond, List, [],
 use Rattle.std.specs.Prelude.{◌==◌, All, filter, unwrap_or}
 use Rattle.std.proofs.lemmas.List.Elements.{All-head, All-tail, All-filter}
 use Rattle.session_meaning.specs.declared.ending.Outcome.{Outcome}
-use Rattle.session_agenda.specs.declared.session.Session.{Session}
+use Rattle.site_core.specs.declared.agendas.session.Session.{Session}
 use Rattle.frame_world.specs.Worlds.{World, Finished}
 use Rattle.frame_world.specs.Headline.{outcomes}
 use Rattle.frame_world.specs.Tickets.{submitted_as, session_of, HasItsTicket, HaveTheirTickets}

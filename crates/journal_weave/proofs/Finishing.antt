@@ -7,8 +7,8 @@ use Rattle.session_meaning.specs.declared.ending.Ending.{Ending}
 use Rattle.session_machine.specs.Pieces.{ending_after}
 use Rattle.drinking_core.specs.Drinkers.{is_drinking}
 use Rattle.office_map.specs.PlanValue.{PlanValue}
-use Rattle.session_agenda.specs.declared.session.Session.{Session}
-use Rattle.session_agenda.specs.Agenda.{Current, Idle, Gathering, Working, writes_of}
+use Rattle.site_core.specs.declared.agendas.session.Session.{Session}
+use Rattle.site_core.specs.agendas.Agenda.{Current, Idle, Gathering, Working, writes_of}
 use Rattle.office_journal.specs.declared.reply.Reply.{Reply}
 use Rattle.office_journal.specs.declared.reply.Refusal.{Refusal}
 use Rattle.office_journal.specs.declared.reply.Refusal.TheVariants as refusal

@@ -1,20 +1,15 @@
 -- An office that follows its journal, entry by entry.
-use Rattle.std.proofs.Common.{◌≡◌, ℕ, zero, suc, ◌+◌, ◌<◌, ◌≤◌, Bool, true, false, cond, nat_le, List, [], ◌∷◌, ◌++◌, length, map, take, Option, None, Some, Result, Ok, Err, refl, sym, ap, subst, ◌∙◌, arith, ⊎_elim, length-append}
+use Rattle.std.proofs.Common.{◌≡◌, ℕ, zero, suc, ◌+◌, ◌<◌, ◌≤◌, Bool, true, false, List, [], ◌∷◌, ◌++◌, length, map, take, Option, None, Some, refl, sym, ap, subst, ◌∙◌, arith, length-append}
 use Rattle.std.specs.Prelude.{slice_get, IfSome, IfNone, is_some}
 use Rattle.std.proofs.lemmas.List.{map-append, take-append-le, append-nil}
 use Rattle.std.proofs.Math.Seq.{take-length}
 use Rattle.bottle_values.specs.ListLaws.{at_seam}
 use Rattle.frame_codec.specs.Frame.{Fields}
 use Rattle.office_map.specs.PlanValue.{PlanValue}
-use Rattle.office_journal.specs.declared.event.Event.{Event}
 use Rattle.office_journal.specs.declared.event.Event.TheVariants as event
 use Rattle.office_journal.specs.declared.event.Entry.{Entry}
-use Rattle.office_journal.specs.declared.reply.Reply.{Reply}
-use Rattle.office_journal.specs.declared.reply.Refusal.{Refusal}
 use Rattle.office_journal.specs.declared.reply.Refusal.TheVariants as refusal
-use Rattle.site_core.specs.Limits.{most_entries}
-use Rattle.site_core.specs.Offices.{Office, Answer, answer}
-use Rattle.site_core.specs.Journals.{Site, office_of, noted, recorded, Steps}
+use Rattle.site_core.specs.Journals.{Site, noted}
 use Rattle.journal_weave.specs.declared.stop.Stop.{Stop}
 use Rattle.journal_weave.specs.Weaving.{untagged}
 use Rattle.journal_weave.specs.Following.{site_of, Gives, Follows, IsLimit}
@@ -170,21 +165,6 @@ broken_off plan a xs s (Some stop) some h = record {
 }
 
 -- ---- one entry, whatever became of it
-
--- what a step leaves: the journal goes on, or is as it was
-pub kept_step : (tag : ℕ) (s s' : Site) (e : Event) (result : Result Reply Refusal) → Steps s tag e result s' → (more : List Entry) × (s' ≡ record { plan = s.plan; me = s.me; entries = s.entries ++ more })
-kept_step tag s s' e result steps = ⊎_elim (λ h. as_it_was h.1) (λ h. by_answer (answer s.plan s.me (office_of s) e) h.1) steps
-  where
-    as_it_was : s' ≡ s → (more : List Entry) × (s' ≡ record { plan = s.plan; me = s.me; entries = s.entries ++ more })
-    as_it_was h = ([], h ∙ ap (λ l. record { plan = s.plan; me = s.me; entries = l }) (sym (append-nil s.entries)))
-
-    by_room : (x : Reply × Office) (full : Bool) → s' ≡ (cond {A = Result Reply Refusal × Site} full (Err refusal.JournalFull, s) (Ok x.0, noted s tag e x.0)).1 → (more : List Entry) × (s' ≡ record { plan = s.plan; me = s.me; entries = s.entries ++ more })
-    by_room x true h = as_it_was h
-    by_room x false h = (record { tag = tag; event = e; reply = x.0 } ∷ [], h)
-
-    by_answer : (x : Answer) → s' ≡ (recorded s tag e x).1 → (more : List Entry) × (s' ≡ record { plan = s.plan; me = s.me; entries = s.entries ++ more })
-    by_answer (Ok x) h = by_room x (nat_le most_entries (length s.entries)) h
-    by_answer (Err r) h = as_it_was h
 
 pub gave : (plan : PlanValue) (a : ℕ) (xs : List Entry) (x : Entry) (s s' : Site) (o : Option Stop) → is_some o ≡ false → Gives s x × (s' ≡ noted s 0 x.event x.reply) → IsReplay plan a xs true (record { site = s; stop = o })
     → IsReplay plan a (xs ++ x ∷ []) true (record { site = s'; stop = o })

@@ -2,18 +2,15 @@
 use Rattle.std.specs.Prelude.{◌≡◌, ℕ, ◌<◌, ◌≤◌, List, length, map, take, slice_get, Some, Ok}
 use Rattle.office_map.specs.PlanValue.{PlanValue}
 use Rattle.office_journal.specs.declared.event.Entry.{Entry}
-use Rattle.site_core.specs.Journals.{Site, noted, step}
+use Rattle.site_core.specs.Journals.{Site}
+use Rattle.site_core.specs.Reopening.{GivesAs}
 use Rattle.journal_weave.specs.Weaving.{untagged}
 
 -- the office that accepted these entries
 abbrev pub site_of : PlanValue → ℕ → List Entry → Site
 site_of plan a entries = record { plan = plan; me = a; entries = map untagged entries }
 
--- the office accepts the event of an entry under this tag, with the entry's reply
-abbrev pub GivesAs : ℕ → Site → Entry → Type 0
-GivesAs tag s x = step s tag x.event ≡ (Ok x.reply, noted s tag x.event x.reply)
-
--- it does so under the tag of a world's events
+-- the office accepts the event of an entry under the tag of a world's events, with the entry's reply
 abbrev pub Gives : Site → Entry → Type 0
 Gives s x = GivesAs 0 s x
 

@@ -85,6 +85,6 @@ mod weaving;
 
 pub use crate::fault::WeaveFault;
 pub use crate::given::GivenJournal;
-pub use crate::replay::{Replay, gives};
+pub use crate::replay::Replay;
 pub use crate::stop::Stop;
 pub use crate::weaving::{Record, weave, woven};

@@ -8,15 +8,13 @@ ghost use Rattle.office_journal.specs.Shown.{entry_shown, frame_taken, IsPart};
 ghost use Rattle.office_journal.specs.declared.event.Entry.{Entry};
 ghost use Rattle.office_journal.specs.declared.event.Event.TheVariants as events;
 ghost use Rattle.frame_world.specs.Sent.{told_in};
-ghost use Rattle.site_core.specs.Journals.{noted};
-ghost use Rattle.journal_weave.specs.Following.{GivesAs};
 ghost use Rattle.journal_weave.specs.Replays.{given, IsReplay};
 
 use crate::given::GivenJournal;
 use crate::stop::Stop;
 use frame_codec::Frame;
 use office_map::{OfficeId, Plan};
-use site_core::{Entry, EntryRef, Event, EventPart, Office, Refusal};
+use site_core::{Entry, EntryRef, Event, EventPart, Office, gives};
 use std::alloc::{AllocError, Global};
 use std::marker::Model;
 
@@ -178,20 +176,6 @@ fn follow(replay: &mut Replay, entries: &[Entry]) -> Result<(), AllocError>
         replay.add(entry)?;
     }
     Ok(())
-}
-
-/// Whether an office accepts an entry's event under this tag, with the entry's reply. If so it has taken that step.
-pub fn gives(office: &mut Office, tag: u8, entry: &Entry) -> Result<bool, AllocError>
-    requires { tag < 16 }
-    ensures given { IfOk result (λ b. b ≡ true → GivesAs tag office.old entry.now × (office.new ≡ noted office.old tag entry.now.event entry.now.reply)) }
-    ensures other { IfOk result (λ b. b ≡ false → GivesAs tag office.old entry.now → ⊥) }
-    ensures kept { IfOk result (λ _. (more : List Entry) × (office.new ≡ record { plan = office.old.plan; me = office.old.me; entries = office.old.entries ++ more })) }
-{
-    match office.step(tag, &entry.event) {
-        Ok(reply) => Ok(reply.equals(&entry.reply)),
-        Err(Refusal::Memory) => Err(AllocError),
-        Err(_) => Ok(false),
-    }
 }
 
 /// The frame that an event takes, if it does.

@@ -1,23 +1,16 @@
 //! Journals, typed by hand, and the schedules that are woven from them, or the entry that is named.
 
 use frame_codec::{Frame, decode};
-use frame_world::WorldEvent;
-use journal_weave::{GivenJournal, WeaveFault, weave};
-use office_map::{OfficeId, Plan, RecordId};
-use session_language::read_sessions;
+use journal_weave::GivenJournal;
+use office_map::{OfficeId, RecordId};
 use session_programs::Program;
 use site_core::{Entry, Event, Reply, Rule};
-use std::alloc::{AllocError, Global};
+use std::alloc::Global;
 use std::fmt::Write;
 use std::process::Abort;
 use std::test::Fail;
 
 mod caller;
-mod drawn;
-mod found_again;
-mod long;
-mod named;
-mod searched;
 
 /// Two offices, and two records of theirs.
 const PAIR: &str =
@@ -309,74 +302,11 @@ static ROWS: [Row; 30] = [
     ),
 ];
 
-#[test]
-fn journals_weave_as_the_rows_say(rt: HostRuntime) -> Result<(), Fail> {
-    for (i, row) in ROWS.iter().enumerate() {
-        row_weaves(&rt, rt.alloc(), i, row)?;
-    }
-    Ok(())
-}
-
-fn row_weaves(rt: &impl Abort, alloc: Global, i: usize, row: &Row) -> Result<(), Fail> {
-    let told = row_told(alloc, row)?;
-    assert_eq!(rt; told.as_str(), row.5, "row {i}");
-    Ok(())
-}
-
-/// What is answered of a row's journals.
-fn row_told(alloc: Global, row: &Row) -> Result<String, Fail> {
-    let plan = Plan::read(alloc, row.0.as_bytes())?;
-    let programs = read_sessions(alloc, row.1.as_bytes(), &plan)?;
-    row_told_of(alloc, &plan, &programs, row)
-}
-
-fn row_told_of(
-    alloc: Global,
-    plan: &Plan,
-    programs: &[Program],
-    row: &Row,
-) -> Result<String, Fail> {
-    let journals = both(alloc, programs, row)?;
-    answer(alloc, plan, &journals)
-}
-
 fn both(alloc: Global, programs: &[Program], row: &Row) -> Result<Vec<GivenJournal>, Fail> {
     let mut journals = Vec::new(alloc);
     add_journal(alloc, &mut journals, programs, row.2, true)?;
     add_journal(alloc, &mut journals, programs, row.3, row.4)?;
     Ok(journals)
-}
-
-/// What is answered of these journals, by the names of the offices; nothing where there isn't one for each office.
-fn answer(alloc: Global, plan: &Plan, journals: &[GivenJournal]) -> Result<String, Fail> {
-    if journals.len() != plan.offices() {
-        return Ok(String::new(alloc));
-    }
-    match weave(alloc, plan, journals) {
-        Ok(events) => Ok(told_of(alloc, &events)?),
-        Err(fault) => unwoven(alloc, fault),
-    }
-}
-
-fn unwoven(alloc: Global, fault: WeaveFault) -> Result<String, Fail> {
-    match fault {
-        WeaveFault::Unwoven { office, entry } => Ok(left(alloc, office, entry)?),
-        WeaveFault::Memory => Err(Fail::from("out of memory")),
-    }
-}
-
-/// The words for an office that is named.
-fn left(alloc: Global, office: OfficeId, entry: usize) -> Result<String, AllocError> {
-    format!(in alloc; "unwoven {} {entry}", letter(office))
-}
-
-fn letter(office: OfficeId) -> char {
-    match office.number() {
-        0 => 'a',
-        1 => 'b',
-        2 => 'c',
-        _ => '?',
-    }
 }
 
 /// A journal of lines.
@@ -498,57 +428,4 @@ fn frame_of(alloc: Global, name: &str) -> Result<Frame, Fail> {
 fn spelled(alloc: Global, digits: &str) -> Result<Frame, Fail> {
     let bytes = hex::decode(alloc, digits.as_bytes())?;
     decode(&bytes).map_err(|_| Fail::from("no frame"))
-}
-
-/// The events, in the words of scripts.
-fn told_of(alloc: Global, events: &[WorldEvent]) -> Result<String, AllocError> {
-    let mut text = String::new(alloc);
-    tell_all(&mut text, events)?;
-    Ok(text)
-}
-
-fn tell_all(text: &mut String, events: &[WorldEvent]) -> Result<(), AllocError> {
-    for (i, event) in events.iter().enumerate() {
-        text.push_str(if i > 0 { "; " } else { "" })?;
-        tell(text, event)?;
-    }
-    Ok(())
-}
-
-fn tell(text: &mut String, event: &WorldEvent) -> Result<(), AllocError> {
-    match event {
-        WorldEvent::Submit(at, _) => write!(text, "{} submit", letter(*at)),
-        WorldEvent::Withdraw(at, ticket) => write!(text, "{} withdraw {ticket}", letter(*at)),
-        WorldEvent::Do(at, rule) => tell_rule(text, *at, rule),
-        WorldEvent::Send(at, to, i) => write!(text, "{} send {} {i}", letter(*at), letter(*to)),
-        WorldEvent::Deliver(k) => write!(text, "deliver {k}"),
-    }
-}
-
-fn tell_rule(text: &mut String, at: OfficeId, rule: &Rule) -> Result<(), AllocError> {
-    write!(text, "{} ", letter(at))?;
-    match rule {
-        Rule::Start => text.push_str("start"),
-        Rule::Hungry => text.push_str("hungry"),
-        Rule::Eat => text.push_str("eat"),
-        Rule::Leave => text.push_str("leave"),
-        Rule::Drink => text.push_str("drink"),
-        Rule::Finish => text.push_str("finish"),
-        Rule::AskBottle(r) => write!(text, "askbottle {}", r.number()),
-        Rule::GiveBottle(r) => write!(text, "givebottle {}", r.number()),
-        Rule::Work(n) => write!(text, "work {n}"),
-        Rule::AskFork(v) => write!(text, "askfork {}", letter(*v)),
-        Rule::GiveFork(v) => write!(text, "givefork {}", letter(*v)),
-    }
-}
-
-#[test]
-fn the_fault_says_which_entry(rt: HostRuntime) -> Result<(), Fail> {
-    let fault = WeaveFault::Unwoven {
-        office: OfficeId::new(1),
-        entry: 7,
-    };
-    let text = format!(in rt.alloc(); "{fault}")?;
-    assert_eq!(rt; text.as_str(), "no schedule has entry 7 of office 1");
-    Ok(())
 }

@@ -3,14 +3,14 @@ use Rattle.std.proofs.Common.{◌≡◌, ◌≢◌, ℕ, ◌+◌, ◌-◌, ◌<�
 use Rattle.std.specs.Prelude.{slice_get, IfSome}
 use Rattle.std.proofs.lemmas.Bool.{false≢true}
 use Rattle.frame_codec.specs.declared.message.Msg.{Msg}
-use Rattle.journal_pages.specs.Framed.{text_carried, StandsAt}
+use Rattle.office_journal.specs.pages.Framed.{text_carried, StandsAt}
 use Rattle.std.proofs.lemmas.List.{append-nil, length-append, length-map, map_push, take_more, take_min, drop_min, length-take, length-drop, get_or-drop, length_push}
 use Rattle.std.proofs.lemmas.Option.{slice_get_within, get_or_from_slice_get}
 use Rattle.bottle_values.specs.ListLaws.{at_seam}
 use Rattle.session_meaning.specs.ProgramValue.{ProgramValue}
-use Rattle.journal_pages.specs.Told.{Told}
-use Rattle.journal_pages.specs.Kept.{PagesValue}
-use Rattle.journal_pages.proofs.PagedEntries.{get_before}
+use Rattle.office_journal.specs.pages.Told.{Told}
+use Rattle.office_journal.specs.pages.Kept.{PagesValue}
+use Rattle.office_journal.proofs.pages_lemmas.PagedEntries.{get_before}
 use Rattle.office_journal.specs.declared.event.Entry.{Entry}
 use Rattle.office_journal.specs.refinement.PackedEntries.{Beside, nothing, entry_in, IsPlaced, IsPlain}
 use Rattle.office_journal.specs.refinement.JournalOfCode.{JournalValue, journal_of, ArePlaced, AreKept, texts_of}

@@ -3,12 +3,12 @@ use Rattle.std.proofs.Common.{◌≡◌, ◌≢◌, ℕ, ◌<◌, Bool, true, fa
 use Rattle.std.specs.Prelude.{slice_get, is_some, IfSome}
 use Rattle.std.proofs.lemmas.Option.{slice_get_within}
 use Rattle.frame_codec.specs.declared.message.Msg.{Msg}
-use Rattle.journal_pages.specs.Framed.{framed, frame_in, text_carried, StandsAt}
+use Rattle.office_journal.specs.pages.Framed.{framed, frame_in, text_carried, StandsAt}
 use Rattle.frame_codec.specs.Frame.{Fields}
 use Rattle.session_meaning.specs.ProgramValue.{ProgramValue}
-use Rattle.journal_pages.specs.Told.{Told}
-use Rattle.journal_pages.specs.declared.kind.Kind.{Kind}
-use Rattle.journal_pages.specs.declared.kind.Kind.TheVariants as kind
+use Rattle.office_journal.specs.pages.Told.{Told}
+use Rattle.office_journal.specs.declared.pages.kind.Kind.{Kind}
+use Rattle.office_journal.specs.declared.pages.kind.Kind.TheVariants as kind
 use Rattle.office_journal.specs.declared.event.Event.{Event}
 use Rattle.office_journal.specs.declared.event.Event.TheVariants as event
 use Rattle.office_journal.specs.declared.event.Entry.{Entry}

@@ -3,3 +3,4 @@ pub mod Replies
 pub mod RefusalText
 pub mod Shown
 pub mod refinement
+pub mod pages

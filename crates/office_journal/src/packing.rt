@@ -3,7 +3,7 @@
 ghost use Rattle.std.specs.Prelude.{◌≡◌, ◌<◌, ◌≤◌, false, Some, slice_get, List, ℕ};
 ghost use Rattle.std.specs.Option.{option_copied};
 ghost use Rattle.session_meaning.specs.ProgramValue.{ProgramValue};
-ghost use Rattle.journal_pages.specs.Framed.{frame_in, text_as, text_of, text_carried, StandsAt};
+ghost use Rattle.office_journal.specs.pages.Framed.{frame_in, text_as, text_of, text_carried, StandsAt};
 ghost use Rattle.office_journal.specs.Replies.{frame_told, reply_to};
 ghost use Rattle.office_journal.specs.Shown.{event_shown, entry_shown, frame_taken, IsPart};
 ghost use Rattle.office_journal.specs.declared.event.Event.TheVariants as events;
@@ -11,11 +11,11 @@ ghost use Rattle.office_journal.specs.declared.reply.Reply.TheVariants as replie
 ghost use Rattle.office_journal.specs.refinement.PackedEntries.{Beside, nothing, submitted_from, event_by, reply_by, entry_in, rule_by, IsPlaced, IsPlain, IsOfRule, IsOfArrival};
 
 use crate::event::{EntryRef, EventPart, EventRef};
+use crate::pages::{Kind, Packed};
 use crate::reply::Reply;
 use crate::rule::Rule;
 use bottle_values::{Text, Value};
 use frame_codec::{Frame, Msg};
-use journal_pages::{Kind, Packed};
 use office_map::{OfficeId, RecordId};
 use session_programs::Program;
 use window_link::Arrival;

@@ -8,8 +8,8 @@ ghost use Rattle.office_journal.specs.declared.reply.Refusal.TheVariants as refu
 use dining_core::NotNow;
 use frame_codec::{Frame, FrameFault};
 use std::alloc::{AllocError, AllocFailed};
-use std::error::Error;
 use std::fmt;
+use thiserror::Error;
 use token_channel::ChannelFault;
 use window_link::Arrival;
 
@@ -82,7 +82,7 @@ impl Reply {
 }
 
 /// Why an event is refused. A refused event leaves the office as it was, and makes no entry.
-#[derive(Clone, Copy, Debug, PartialEq, Eq)]
+#[derive(Clone, Copy, Debug, PartialEq, Eq, Error)]
 pub enum Refusal {
     /// The bytes that came are no frame.
     Frame(FrameFault),
@@ -125,8 +125,6 @@ impl fmt::Display for Refusal {
         f.write_str(fault.text())
     }
 }
-
-impl Error for Refusal {}
 
 impl From<AllocError> for Refusal {
     ghost from_gives = { λ _ e. e ≡ refusals.Memory };

@@ -4,7 +4,7 @@ use Rattle.std.specs.List.{All, position}
 use Rattle.std.specs.Str.{bytes_eq}
 use Rattle.std.proofs.lemmas.Bool.{both_ways, false_from_ne_true}
 use Rattle.std.proofs.lemmas.Slice.Eq.{bytes_eq-Decides}
-use Rattle.short_names.specs.Names.{is_short, short_of}
+use Rattle.text_lines.specs.short.Names.{is_short, short_of}
 use Rattle.text_lines.specs.Text.{is_name}
 use Rattle.text_lines.specs.TextLaws.{name_is_short}
 use Rattle.office_map.specs.PlanValue.{PlanValue, office_named, record_named}

@@ -35,7 +35,7 @@
 //! A value is a number or, under version 2, a text between two `"`. The words of a line are cut alike under both versions
 //! ([`plan_words`]), and a text that isn't of version 2 is read as one of numbers alone ([`laws::numbers_mean_the_same`]).
 //!
-//! It stands on `text_lines`, for lines, words, names and numbers, on `short_names`, for names that are
+//! It stands on `text_lines`, for lines, words, names and numbers, on `text_lines::short`, for names that are
 //! kept, on `bottle_values`, for values, versions and what an answer is unless memory runs out, and on `thiserror`, for the
 //! messages of its faults. Definitions:
 //!

@@ -1,4 +1,3 @@
-mod LegalBeginnings
 mod Parts
 mod Kept
 mod Restarts

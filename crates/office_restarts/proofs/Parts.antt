@@ -13,7 +13,7 @@ use Rattle.site_core.specs.Offices.{Office, answer, opened}
 use Rattle.site_core.specs.Journals.{Site, office_of, run_of, after, noted, recorded}
 use Rattle.journal_weave.specs.Weaving.{untagged}
 use Rattle.journal_weave.specs.Following.{site_of, Gives}
-use Rattle.office_restarts.specs.Reopening.{site_with}
+use Rattle.site_core.specs.Reopening.{site_with}
 
 -- ---- tags are of no account
 

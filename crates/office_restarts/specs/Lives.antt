@@ -13,7 +13,7 @@ use Rattle.site_core.specs.Journals.{Site, step}
 use Rattle.frame_world.specs.declared.event.WorldEvent.{WorldEvent}
 use Rattle.frame_world.specs.declared.event.WorldEvent.TheVariants as happening
 use Rattle.frame_world.specs.Worlds.{frames_of}
-use Rattle.office_restarts.specs.Reopening.{site_with}
+use Rattle.site_core.specs.Reopening.{site_with}
 
 -- the journal that each office has, how many of its first entries stand in its store, and the frames that left, the first first
 pub record Lives : Type 0 where

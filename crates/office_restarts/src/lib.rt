@@ -1,8 +1,6 @@
-//! Offices that are lost and opened again from their journals.
+//! Offices that are lost and opened again from their journals, as laws: there is no code here. One is opened by
+//! `site_core::reopened`.
 //!
-//! - [`reopened`] makes the office of which entries are the journal: it goes on where they end, with the same counts of its
-//!   links, the same bottles and forks, and the same sessions. Where no office has that journal, it names the entry.
-//! - `specs/Reopening.antt`: which entries are no journal.
 //! - `specs/Lives.antt`: histories of offices that keep their journals in stores, are lost with what doesn't stand there, and are
 //!   opened again; where no frame leaves before its entry stands.
 //! - `specs/Restarts.antt`, [`laws`]: after each such history the journals are those of one world in which no office was ever
@@ -15,13 +13,8 @@
 //! with an office is told by what stood, and perhaps more: a start may find entries whose append was never answered.
 //!
 //! Not said: anything of a store that breaks the premise, where neighbours take numbers that are used twice for
-//! repeats, and an audit alone shows it; anything of entries ahead of the store; that the entries which are handed to
-//! [`reopened`] are those of a store. `Memory` may stand in place of each answer.
+//! repeats, and an audit alone shows it; anything of entries ahead of the store; that the entries of which an office is
+//! opened are those of its store.
 #![tactic(auto)]
 
-mod fault;
 pub mod laws;
-mod reopening;
-
-pub use crate::fault::ReopenFault;
-pub use crate::reopening::reopened;

@@ -3,3 +3,4 @@ pub mod Dealing
 pub mod Ends
 pub mod Telling
 pub mod Writers
+pub mod live_lemmas

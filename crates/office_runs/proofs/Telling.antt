@@ -9,8 +9,8 @@ use Rattle.office_map.specs.PlanValue.{PlanValue}
 use Rattle.session_meaning.specs.ProgramValue.{ProgramValue}
 use Rattle.own_lock.specs.Entries.{tagged}
 use Rattle.locked_office.specs.Calls.{Key, DeskPass, Looks, office_with, tag_of}
-use Rattle.report_forms.specs.Forms.{outcome_as}
-use Rattle.report_forms.specs.declared.forms.Form.{Form}
+use Rattle.session_reports.specs.form.Forms.{outcome_as}
+use Rattle.session_reports.specs.declared.form.forms.Form.{Form}
 use Rattle.socket_pump.specs.Wires.{Account}
 use Rattle.office_stations.specs.declared.fault.RunFault.{RunFault}
 use Rattle.office_runs.specs.declared.report.Ran.{Ran}

@@ -1,3 +1,4 @@
 pub mod Runs
 pub mod Threads
 pub mod refinement
+pub mod live

@@ -7,8 +7,8 @@ use Rattle.session_meaning.specs.ProgramValue.{ProgramValue}
 use Rattle.session_meaning.specs.declared.ending.Outcome.{Outcome}
 use Rattle.site_core.specs.Journals.{Site, IsLegal}
 use Rattle.locked_office.specs.Calls.{Key, DeskPass, Looks, office_with}
-use Rattle.report_forms.specs.Forms.{outcome_as, unfinished_as}
-use Rattle.report_forms.specs.declared.forms.Form.{Form}
+use Rattle.session_reports.specs.form.Forms.{outcome_as, unfinished_as}
+use Rattle.session_reports.specs.declared.form.forms.Form.{Form}
 use Rattle.journal_texts.specs.JournalText.{IsJournal}
 use Rattle.journal_texts.specs.Written.{journal_text}
 use Rattle.socket_pump.specs.Wires.{Account}

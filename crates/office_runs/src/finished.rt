@@ -4,7 +4,7 @@ ghost use Rattle.std.specs.Prelude.{◌≡◌, ◌<◌, ◌++◌, false, length,
 ghost use Rattle.std.specs.List.{flat_map};
 ghost use Rattle.own_lock.specs.Passes.{IsOf};
 ghost use Rattle.locked_office.specs.Calls.{Stays, Looks, office_with};
-ghost use Rattle.report_forms.specs.Forms.{outcome_as};
+ghost use Rattle.session_reports.specs.form.Forms.{outcome_as};
 ghost use Rattle.office_stations.specs.Sessions.{finished_of};
 ghost use Rattle.office_runs.specs.refinement.Reports.{AddsJournal};
 
@@ -12,7 +12,7 @@ use crate::report::Report;
 use locked_office::Desk;
 use office_map::Plan;
 use own_lock::Pass;
-use report_forms::Form;
+use session_reports::form::Form;
 use site_core::Office;
 use std::alloc::AllocError;
 use std::sync::Wait;

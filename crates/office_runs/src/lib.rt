@@ -5,7 +5,7 @@
 //! - [`threads::open_office`]: an office with who turns it ([`threads::Worker::work`]) and who submits its sessions
 //!   ([`threads::Client::submit`]), and [`starting`] starts a thread for each, of which the end is known to be such (`specs/Threads.antt`).
 //!   When both have ended, [`met::add_office`] tells what came of it, and whose the entries of its journal are (clause `told`). All offices of a plan run so
-//!   in `live_runs`.
+//!   in `office_runs::live`.
 //!
 //! An office at its socket, its rounds and what both need of a network are in `office_stations`.
 //!
@@ -30,6 +30,7 @@
 #![tactic(auto)]
 
 mod finished;
+pub mod live;
 pub mod met;
 pub mod opened;
 pub mod report;

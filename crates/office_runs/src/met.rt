@@ -16,7 +16,7 @@ use crate::report::Report;
 use locked_office::Desk;
 use office_map::Plan;
 use own_lock::Pass;
-use report_forms::Form;
+use session_reports::form::Form;
 use site_core::Office;
 use std::alloc::AllocError;
 use std::sync::Wait;

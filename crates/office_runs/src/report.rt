@@ -3,16 +3,16 @@
 ghost use Rattle.std.specs.Prelude.{◌≡◌, ◌<◌, ◌++◌, [], length, map, IfOk, OnOk};
 ghost use Rattle.std.specs.List.{flat_map};
 ghost use Rattle.std.specs.String.{string_bytes};
-ghost use Rattle.report_forms.specs.Forms.{outcome_as, unfinished_as};
+ghost use Rattle.session_reports.specs.form.Forms.{outcome_as, unfinished_as};
 ghost use Rattle.office_stations.specs.Sessions.{finished_of};
 ghost use Rattle.office_runs.specs.Runs.{IsQuiet};
 ghost use Rattle.office_runs.specs.refinement.Reports.{AddsJournal, none_told};
 
 use office_map::Plan;
 use office_stations::RunFault;
-use report_forms::Form;
-use report_forms::report::{add_outcomes, add_unfinished};
-use run_remarks::{Remarks, Way};
+use office_stations::remarks::{Remarks, Way};
+use session_reports::form::Form;
+use session_reports::form::report::{add_outcomes, add_unfinished};
 use site_core::Office;
 use std::alloc::{AllocError, Global};
 use std::marker::Model;

@@ -17,14 +17,14 @@ use crate::opened::{only, open_desk};
 use crate::report::{Ran, Report, with_unfinished};
 use locked_office::Desk;
 use office_map::{OfficeId, Plan};
+use office_stations::remarks::Way;
 use office_stations::{
     Around, Binds, Gate, OpeningFault, RunFault, Shared, Socket, Station, Watch, at_address,
     count_of, submit_some,
 };
 use own_lock::Pass;
-use report_forms::Form;
-use run_remarks::Way;
 use session_programs::Program;
+use session_reports::form::Form;
 use site_core::Office;
 use std::alloc::{AllocError, Global};
 use std::rt::Clock;

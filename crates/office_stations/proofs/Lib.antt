@@ -1,1 +1,2 @@
 pub mod Rounds
+mod remarks_lemmas

@@ -11,7 +11,7 @@ use Rattle.office_stations.specs.declared.fault.RunFault.{RunFault}
 use Rattle.office_stations.specs.declared.fault.RunFault.TheVariants.{WireFailed}
 use Rattle.office_stations.specs.declared.pace.TimedTurn.{TimedTurn}
 use Rattle.office_stations.specs.Rounds.{of_office, run_fault, Takes, TakesAll, Refuses, Lacks, Fills, StopsFilling, Turns, BreaksOff}
-use Rattle.office_sockets.specs.Waits.{failed}
+use Rattle.socket_pump.specs.sockets.Waits.{failed}
 use Rattle.office_stations.specs.refinement.Standings.{standing, Answered, PassedOver}
 
 -- ---- sessions that are taken

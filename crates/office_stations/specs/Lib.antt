@@ -4,3 +4,4 @@ pub mod Sessions
 pub mod Rounds
 pub mod Waits
 pub mod refinement
+pub mod remarks

@@ -13,7 +13,7 @@ use Rattle.socket_pump.specs.declared.pump.PumpFault.{PumpFault}
 use Rattle.socket_pump.specs.declared.pump.PumpFault.TheVariants as pump
 use Rattle.socket_pump.specs.Wires.{Account}
 use Rattle.socket_pump.specs.Turns.{Times, Turned, Stage}
-use Rattle.office_sockets.specs.Waits.{failed}
+use Rattle.socket_pump.specs.sockets.Waits.{failed}
 use Rattle.office_stations.specs.declared.fault.RunFault.{RunFault}
 use Rattle.office_stations.specs.declared.fault.RunFault.TheVariants.{Memory, WireFailed, JournalFull}
 use Rattle.office_stations.specs.declared.pace.TimedTurn.{TimedTurn}

@@ -2,10 +2,10 @@
 
 ghost use Rattle.std.specs.Prelude.{◌<◌};
 
+use crate::remarks::Way;
 use office_map::OfficeId;
-use office_sockets::Socket;
-use run_remarks::Way;
 use socket_pump::Turn;
+use socket_pump::sockets::Socket;
 use std::alloc::{AllocError, Global};
 use std::net::SocketAddr;
 

@@ -5,10 +5,11 @@
 //!   its neighbours, [`Hearing`] and [`Ways`], may be handed from thread to thread.
 //! - [`submit_some`] submits the sessions of a list that are the office's, as it takes them. So a run is rounds of sessions and turns
 //!   (`specs/Rounds.antt`), of which those count that [`TimedTurn`] says.
-//! - [`Binds`], [`Socket`], [`Wakes`]: what is needed of a network, from `office_sockets`.
+//! - [`Binds`], [`Socket`], [`Wakes`]: what is needed of a network, from `socket_pump::sockets`.
 //! - [`Gate`]: is called before each turn, so that a test can hold an office.
 //! - [`Watch`]: is told once a second how far a run is, and of neighbours that were never reached or heard; [`Shared`] is what
 //!   several offices know of that. Who submits an office's sessions sleeps there in the office's [`Room`], while it takes no more.
+//! - [`remarks`]: what people are told of sessions that are left, and of neighbours that were never reached or heard.
 //!
 //! How often a turn comes, and that a datagram arrives, is no promise.
 //!
@@ -23,6 +24,7 @@ mod gate;
 mod hearing;
 mod opening;
 mod pace;
+pub mod remarks;
 mod room;
 mod sessions;
 mod shared;
@@ -42,4 +44,4 @@ pub use crate::sessions::{count_finished, count_of};
 pub use crate::shared::Shared;
 pub use crate::station::{Station, at_address};
 pub use crate::watch::{Progress, Quiet, Watch};
-pub use office_sockets::{Binds, Socket, UdpSocket, UdpSockets, Waits, Wakes};
+pub use socket_pump::sockets::{Binds, Socket, UdpSocket, UdpSockets, Waits, Wakes};

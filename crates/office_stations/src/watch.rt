@@ -1,6 +1,6 @@
 //! How far a run is, for people.
 
-use run_remarks::Unmet;
+use crate::remarks::Unmet;
 
 /// How many of a run's sessions finished, of how many, and how many datagrams came, went and were refused.
 #[derive(Clone, Copy, PartialEq, Eq)]

@@ -212,44 +212,6 @@ fn last(lock: &OwnLock<Log>, passes: &mut Vec<Pass<Log>>) -> Option<Pass<Log>>
 }
 
 // One adds 5 and the other 6, and they meet.
-fn add_in_turn<R: Wait + Abort>(
-    rt: &R,
-    lock: OwnLock<Log>,
-    mut a: Pass<Log>,
-    mut b: Pass<Log>,
-) -> Result<Option<Log>, AllocError>
-    requires a { IsOf lock a × (a.holds ≡ false) }
-    requires b { IsOf lock b × (b.holds ≡ false) }
-{
-    let held = lock.take(rt, &mut a);
-    assert_eq!(rt; held.get().entries.len(), 0);
-    add_held(&lock, &mut a, held, 5)?;
-    let held = lock.take(rt, &mut b);
-    assert_eq!(rt;
-        held.get().entries.as_slice(),
-        [Entry { tag: 0, number: 5 }].as_slice()
-    );
-    add_held(&lock, &mut b, held, 6)?;
-    lock.meet(b, &mut a);
-    Ok(lock.close(a))
-}
-
-#[test]
-fn a_pass_learns_what_others_added(rt: HostRuntime) -> Result<(), Fail> {
-    let (lock, mut passes) = OwnLock::open(rt.alloc(), Log::new(rt.alloc(), 7), 2)?;
-    let b = last(&lock, &mut passes).ok_or("two")?;
-    let a = last(&lock, &mut passes).ok_or("two")?;
-    assert!(rt; passes.is_empty());
-    assert_eq!(rt; (a.tag(), b.tag()), (0, 1));
-    let log = add_in_turn(&rt, lock, a, b)?.ok_or("free")?;
-    assert_eq!(rt; log.owner, 7);
-    assert_eq!(rt;
-        log.entries.as_slice(),
-        [Entry { tag: 0, number: 5 }, Entry { tag: 1, number: 6 }].as_slice()
-    );
-    Ok(())
-}
-
 // While one holds the state the other finds it taken, at a try and at the end.
 fn find_taken<R: Abort>(rt: &R, lock: OwnLock<Log>, mut a: Pass<Log>, mut b: Pass<Log>)
     requires a { IsOf lock a × (a.holds ≡ false) }

@@ -1,4 +1,3 @@
-mod bottles;
 mod channels;
 mod forks;
 mod frames;

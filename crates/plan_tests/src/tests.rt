@@ -1,4 +1,2 @@
-mod masks;
-mod names;
 mod plans;
 mod values;

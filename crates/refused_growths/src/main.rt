@@ -1,6 +1,6 @@
-//! One session of two offices, by each call that takes memory; one that lacks it is made again, once what was there before it was
-//! compared with what is there after it. It tells which call that was, what each answers, and what is there at the end.
-//! `checks/growths.sh` refuses each allocation in turn.
+//! One session of two offices, by each call that takes memory, and an office whose journal begins a page. A call that lacks memory is
+//! made again, once what was there before it was compared with what is there after it. It tells which call that was, what each
+//! answers, and what is there at the end. `tests/system/growths.sh` refuses each allocation in turn.
 #![tactic(auto)]
 
 ghost use Rattle.std.specs.Prelude.{◌≡◌, ◌≤◌, false, length, All, IsTrue, IfOk, IfSome};
@@ -31,6 +31,9 @@ const PAIR: &str =
 /// A session that moves 30 from one record to the other.
 const MOVE: &str =
     "session a\nlet v = read x\nset x = v - 30\nset y = read y + 30\ngive read x\ngive read y\nend\n";
+
+/// How many entries a page of a journal has.
+const PAGE: usize = 256;
 
 /// Why the program ends early.
 #[derive(Debug, Drop, Error)]
@@ -101,6 +104,7 @@ fn rows(
     events: &[WorldEvent],
 ) -> Result<(), Fault> {
     at_offices(rt, plan, events)?;
+    at_a_page(rt, plan)?;
     at_desk(rt, plan, program)?;
     in_world(rt, plan, events)
 }
@@ -341,6 +345,42 @@ fn tell_offices(rt: &HostRuntime, offices: &[Office]) -> Result<(), Fault> {
         tell_outcomes(rt, office.outcomes())?;
     }
     Ok(())
+}
+
+// ---- a full page
+
+/// The first office has as many entries as one page, and makes one more.
+fn at_a_page(rt: &HostRuntime, plan: &Plan) -> Result<(), Fault> {
+    if plan.offices() == 0 {
+        return Err(Fault::Row);
+    }
+    let mut office = Office::open(rt.alloc(), plan, OfficeId::new(0))?;
+    let event = Event::Send(OfficeId::new(1), 0);
+    fill_a_page(rt, &mut office, &event)?;
+    past_a_page(rt, &mut office, &event)
+}
+
+fn fill_a_page(rt: &HostRuntime, office: &mut Office, event: &Event) -> Result<(), Fault> {
+    for _ in 0..PAGE {
+        let _ = stepped(rt, office, event)?;
+    }
+    let entries = office.journal().len();
+    println!(rt; "page {entries}")?;
+    Ok(())
+}
+
+/// The next entry takes a page of its own: where that is refused the office is as before, and the event is handed in again.
+fn past_a_page(rt: &HostRuntime, office: &mut Office, event: &Event) -> Result<(), Fault> {
+    let before = counts(office);
+    let mut reply = office.step(0, event);
+    if reply == Err(Refusal::Memory) {
+        refused(rt, "Office::step of entry 257")?;
+        if counts(office) != before {
+            return Err(Fault::Changed("Office::step of entry 257"));
+        }
+        reply = office.step(0, event);
+    }
+    tell(rt, "page", office.journal().len(), &reply)
 }
 
 // ---- a desk

@@ -1,4 +1,2 @@
 mod drawn;
 mod remarks;
-mod serve_words;
-mod words;

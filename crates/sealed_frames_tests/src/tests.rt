@@ -1,4 +1,4 @@
-use sealed_frames::{MAX_SEALED_BYTES, SEAL_BYTES, Secret, hmac};
+use datagram_seals::frames::{MAX_SEALED_BYTES, SEAL_BYTES, Secret, hmac};
 use std::alloc::Global;
 use std::process::Abort;
 use std::test::Fail;
@@ -80,46 +80,4 @@ fn a_seal_is_the_published_digest_cut(rt: HostRuntime) -> Result<(), Fail> {
 }
 
 // A sealed frame is opened again, under that secret alone, and no bit of it may be another.
-#[test]
-fn what_was_sealed_is_opened_and_nothing_else(rt: HostRuntime) -> Result<(), Fail> {
-    let secret = Secret::of_key(b"a secret of two neighbours");
-    let other = Secret::of_key(b"a secret of two others");
-    let frame = [0x44, 0x50, 1, 2, 0, 0, 0, 42];
-    let mut datagram = [0; MAX_SEALED_BYTES];
-    let length = secret.seal(&frame, &mut datagram);
-    assert_eq!(rt; secret.open(&datagram[..length]), Some(frame.as_slice()));
-    assert_eq!(rt; other.open(&datagram[..length]), None);
-    assert_eq!(rt; secret.open(&datagram[..length + 1]), None);
-    for end in 0..length {
-        assert_eq!(rt;
-            secret.open(&datagram[..end]),
-            None,
-            "the first {end} bytes"
-        );
-    }
-    let bits: [u8; 8] = [1, 2, 4, 8, 16, 32, 64, 128];
-    for place in 0..length {
-        for bit in &bits {
-            let mut altered = datagram;
-            altered[place] ^= *bit;
-            assert_eq!(rt;
-                secret.open(&altered[..length]),
-                None,
-                "bit {bit} of byte {place}"
-            );
-        }
-    }
-    Ok(())
-}
-
 // The seal alone is the sealed form of a frame of no bytes.
-#[test]
-fn a_frame_of_no_bytes_is_opened(rt: HostRuntime) -> Result<(), Fail> {
-    let secret = Secret::of_key(&[]);
-    let mut datagram = [0; MAX_SEALED_BYTES];
-    let length = secret.seal(&[], &mut datagram);
-    assert_eq!(rt; length, SEAL_BYTES);
-    let nothing: &[u8] = &[];
-    assert_eq!(rt; secret.open(&datagram[..length]), Some(nothing));
-    Ok(())
-}

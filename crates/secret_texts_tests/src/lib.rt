@@ -1,4 +1,4 @@
-//! Tests of `secret_texts`: which texts are refused, with which line, and what an office has by a text.
+//! Tests of `datagram_seals::texts`: which texts are refused, with which line, and what an office has by a text.
 #![tactic(auto)]
 
 #[cfg(test)]

@@ -1,6 +1,6 @@
+use datagram_seals::frames::Secret;
+use datagram_seals::texts::{SecretFault, read};
 use office_map::{OfficeId, Plan};
-use sealed_frames::{MAX_SEALED_BYTES, Secret};
-use secret_texts::{SecretFault, SecretRefusal, read};
 use std::alloc::Global;
 use std::process::Abort;
 use std::test::Fail;
@@ -169,55 +169,4 @@ fn told_of(rt: &impl Abort, alloc: Global, office: u8, text: &str) -> Result<Str
 }
 
 // Of the neighbours that lack a secret the one of the least number is told.
-#[test]
-fn the_first_neighbour_without_a_secret_is_told(rt: HostRuntime) -> Result<(), Fail> {
-    let alloc = rt.alloc();
-    let plan = Plan::read(alloc, PLAN.as_bytes())?;
-    assert!(rt; 1 < plan.offices());
-    let told = read(alloc, &plan, OfficeId::new(1), b"");
-    let told = told.map(|secrets| secrets.len());
-    let first = SecretRefusal::NoSecret(OfficeId::new(0));
-    assert_eq!(rt; told, Err(SecretFault::Refused(first)));
-    let told = read(
-        alloc,
-        &plan,
-        OfficeId::new(1),
-        b"secret a b 000102030405060708090a0b0c0d0e0f",
-    );
-    let told = told.map(|secrets| secrets.len());
-    let second = SecretRefusal::NoSecret(OfficeId::new(2));
-    assert_eq!(rt; told, Err(SecretFault::Refused(second)));
-    Ok(())
-}
-
 // The secret is that of the key's bytes, the same at both ends of a pair; with others, and with itself, an office has none.
-#[test]
-fn neighbours_open_each_others_frames(rt: HostRuntime) -> Result<(), Fail> {
-    let alloc = rt.alloc();
-    let plan = Plan::read(alloc, PLAN.as_bytes())?;
-    assert!(rt; 1 < plan.offices());
-    let text =
-        b"secret b c 11111111111111111111111111111111\nsecret b a 00ff0102030405060708090a0b0c0d0e80\n";
-    let ours = read(alloc, &plan, OfficeId::new(0), text)?;
-    let theirs = read(alloc, &plan, OfficeId::new(1), text)?;
-    let known = Secret::of_key(&[0, 255, 1, 2, 3, 4, 5, 6, 7, 8, 9, 10, 11, 12, 13, 14, 128]);
-    assert_eq!(rt; ours.len(), 3);
-    assert!(rt; matches!(ours[0], None));
-    assert!(rt; matches!(ours[2], None));
-    assert_eq!(rt; theirs.len(), 3);
-    assert!(rt; matches!(theirs[1], None));
-    assert!(rt; opens(&known, ours[1].as_ref()));
-    assert!(rt; opens(&known, theirs[0].as_ref()));
-    assert!(rt; !opens(&known, theirs[2].as_ref()));
-    Ok(())
-}
-
-/// Whether a secret opens what the other seals.
-fn opens(sealing: &Secret, opening: Option<&Secret>) -> bool {
-    let mut datagram = [0; MAX_SEALED_BYTES];
-    let length = sealing.seal(b"a frame", &mut datagram);
-    match opening {
-        Some(secret) => secret.open(&datagram[..length]) == Some(b"a frame".as_slice()),
-        None => false,
-    }
-}

@@ -1,16 +1,16 @@
 -- What a fault says of the texts of a plan and of sessions, those that are known.
 use Rattle.std.proofs.Common.{◌≡◌, ℕ, zero, suc, List, [], ◌∷◌, take, Contains, Option, Some, None, Ok, refl, sym, subst, arith, inl, inr}
-use Rattle.input_texts.specs.Words.{HasText, HaveTexts, StandFor, Unread, unread}
+use Rattle.host_files.specs.inputs.Words.{HasText, HaveTexts, StandFor, Unread, unread}
 use Rattle.office_map.specs.PlanValue.{PlanValue}
 use Rattle.session_meaning.specs.ProgramValue.{ProgramValue}
 use Rattle.session_language.specs.Reading.{sessions_of}
-use Rattle.command_inputs.specs.Fault.{IsAtInput, IsOneOf}
-use Rattle.command_inputs.specs.Plans.{IsAcceptedAs}
-use Rattle.command_inputs.specs.Texts.{RefusesText}
-use Rattle.command_inputs.specs.declared.fault.TextFault.{TextFault}
-use Rattle.command_inputs.specs.declared.fault.TextFault.TheVariants.{Memory, ReadFailed, Plan, Ring, Sessions}
-use Rattle.command_inputs.specs.declared.input.Input.{Input}
-use Rattle.command_inputs.specs.declared.input.Input.TheVariants as inputs
+use Rattle.serial_command.specs.reading.Fault.{IsAtInput, IsOneOf}
+use Rattle.serial_command.specs.reading.Plans.{IsAcceptedAs}
+use Rattle.serial_command.specs.reading.Texts.{RefusesText}
+use Rattle.serial_command.specs.declared.reading.fault.TextFault.{TextFault}
+use Rattle.serial_command.specs.declared.reading.fault.TextFault.TheVariants.{Memory, ReadFailed, Plan, Ring, Sessions}
+use Rattle.serial_command.specs.declared.reading.input.Input.{Input}
+use Rattle.serial_command.specs.declared.reading.input.Input.TheVariants as inputs
 use Rattle.serial_command.specs.Texts.{Accepts, AcceptsEach, HaveAcceptedTexts, IsJudged, Judges}
 
 weaker : (input : Input) (P Q : TextFault → Type 0) (f : TextFault) → ((f : TextFault) → P f → Q f) → IsAtInput input P f → IsAtInput input Q f

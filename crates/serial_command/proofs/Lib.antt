@@ -1,2 +1,3 @@
 mod Faults
 mod Rows
+pub mod reading_lemmas

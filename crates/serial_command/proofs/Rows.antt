@@ -8,8 +8,8 @@ use Rattle.office_map.specs.PlanValue.{PlanValue}
 use Rattle.session_meaning.specs.declared.ending.Outcome.{Outcome}
 use Rattle.serial_replay.specs.Serial.{ListsValues}
 use Rattle.session_reports.specs.Report.{value_at}
-use Rattle.report_forms.specs.declared.forms.Form.{Form}
-use Rattle.report_forms.specs.Forms.{outcome_as, report_as, value_as, values_as}
+use Rattle.session_reports.specs.declared.form.forms.Form.{Form}
+use Rattle.session_reports.specs.form.Forms.{outcome_as, report_as, value_as, values_as}
 
 same_rows : (f g : ℕ → List ℕ) (a n : ℕ) → ((r : ℕ) → r < a + n → f r ≡ g r) → flat_map f (range_with_len a n) ≡ flat_map g (range_with_len a n)
 same_rows f g a zero h = refl

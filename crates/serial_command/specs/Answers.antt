@@ -6,9 +6,9 @@ use Rattle.clap.specs.declared.error.kind.ErrorKind.TheVariants.{DisplayHelp, Di
 use Rattle.command_words.specs.CommandLine.{Asks, faults_of}
 use Rattle.command_words.specs.declared.command_line.Request.{Request}
 use Rattle.command_words.specs.declared.command_line.Request.TheVariants.{Serial}
-use Rattle.input_texts.specs.Words.{StandFor}
-use Rattle.report_forms.specs.declared.forms.Form.{Form}
-use Rattle.report_forms.specs.Forms.{form_of}
+use Rattle.host_files.specs.inputs.Words.{StandFor}
+use Rattle.session_reports.specs.declared.form.forms.Form.{Form}
+use Rattle.session_reports.specs.form.Forms.{form_of}
 use Rattle.serial_command.specs.Serial.{Reports}
 
 -- the report was written, in that form, of the plan and the sessions that these words stand for

@@ -1,3 +1,4 @@
 pub mod Answers
 pub mod Serial
 pub mod Texts
+pub mod reading

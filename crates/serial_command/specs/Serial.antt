@@ -3,12 +3,12 @@ use Rattle.std.specs.Prelude.{◌≡◌, ℕ, List, length, Option, Ok}
 use Rattle.std.specs.Io.KnownBytes.{Appends}
 use Rattle.bottle_values.specs.declared.Value.{Value}
 use Rattle.office_map.specs.PlanValue.{PlanValue}
-use Rattle.command_inputs.specs.Plans.{IsAcceptedAs, PlanAndSessions}
+use Rattle.serial_command.specs.reading.Plans.{IsAcceptedAs, PlanAndSessions}
 use Rattle.session_meaning.specs.ProgramValue.{ProgramValue}
 use Rattle.session_language.specs.Reading.{sessions_of}
 use Rattle.serial_replay.specs.Serial.{ListsValues, outcomes_of, map_of, start_map}
-use Rattle.report_forms.specs.declared.forms.Form.{Form}
-use Rattle.report_forms.specs.Forms.{report_as}
+use Rattle.session_reports.specs.declared.form.forms.Form.{Form}
+use Rattle.session_reports.specs.form.Forms.{report_as}
 
 -- the report of the programs' serial run from the plan's values, in that form
 abbrev pub serial_report : Form → PlanValue → List ProgramValue → List ℕ

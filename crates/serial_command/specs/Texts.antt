@@ -1,16 +1,16 @@
 -- What a fault says of the texts of a plan and of sessions. They are judged in the order of the words, each under what those
 -- before it mean.
 use Rattle.std.specs.Prelude.{◌≡◌, ◌⊎◌, List, [], ◌∷◌, ℕ, take, Option, Some, None, Ok}
-use Rattle.input_texts.specs.Words.{HaveFirstTexts}
+use Rattle.host_files.specs.inputs.Words.{HaveFirstTexts}
 use Rattle.office_map.specs.PlanValue.{PlanValue}
 use Rattle.session_meaning.specs.ProgramValue.{ProgramValue}
 use Rattle.session_language.specs.Reading.{sessions_of}
-use Rattle.command_inputs.specs.Fault.{IsAtInput, IsOneOf}
-use Rattle.command_inputs.specs.Plans.{IsAcceptedAs}
-use Rattle.command_inputs.specs.Texts.{RefusesText}
-use Rattle.command_inputs.specs.declared.fault.TextFault.{TextFault}
-use Rattle.command_inputs.specs.declared.input.Input.{Input}
-use Rattle.command_inputs.specs.declared.input.Input.TheVariants as inputs
+use Rattle.serial_command.specs.reading.Fault.{IsAtInput, IsOneOf}
+use Rattle.serial_command.specs.reading.Plans.{IsAcceptedAs}
+use Rattle.serial_command.specs.reading.Texts.{RefusesText}
+use Rattle.serial_command.specs.declared.reading.fault.TextFault.{TextFault}
+use Rattle.serial_command.specs.declared.reading.input.Input.{Input}
+use Rattle.serial_command.specs.declared.reading.input.Input.TheVariants as inputs
 
 -- the text of this input is accepted under this plan, if one is known, and then that one is
 abbrev pub Accepts : Option PlanValue → Input → List ℕ → Option PlanValue → Type 0

@@ -4,19 +4,19 @@ ghost use Rattle.std.specs.Prelude.{◌≡◌, ◌≤◌, ◌⊎◌, [], ◌∷�
 ghost use Rattle.std.specs.Io.KnownBytes.{Appends};
 ghost use Rattle.std.specs.String.{string_bytes};
 ghost use Rattle.clap.specs.Values.{kind_of};
-ghost use Rattle.report_forms.specs.Forms.{form_of};
+ghost use Rattle.session_reports.specs.form.Forms.{form_of};
 ghost use Rattle.serial_command.specs.Answers.{IsAnswered, IsDone, IsReported, IsShown};
 ghost use Rattle.serial_command.specs.Texts.{HaveAcceptedTexts};
 
 use crate::exit::{DONE, Exit, FAILED, MISUSED};
+use crate::reading::causes::{WRITE_FAILED, write_cause};
+use crate::reading::{Input, TextFault};
 use crate::serial;
 use clap::error::ErrorKind;
-use command_inputs::causes::{WRITE_FAILED, write_cause};
-use command_inputs::{Input, TextFault};
 use command_words::command_line::{Request, command_line, help};
-use input_texts::{Devices, Sources, failure_kind};
-use output_files::write_whole;
-use report_forms::Form;
+use host_files::inputs::{Devices, Sources, failure_kind};
+use host_files::outputs::write_whole;
+use session_reports::form::Form;
 use std::alloc::{AllocError, Global};
 use std::fmt::Display;
 use std::io;

@@ -1,16 +1,16 @@
 //! A plan, and sessions under it.
 
 ghost use Rattle.std.specs.Prelude.{◌≡◌, ◌≤◌, ◌∷◌, [], All, IfErr, IfOk, IsTrue, List, Ok, length, true, ℕ};
-ghost use Rattle.input_texts.specs.Words.{StandFor};
+ghost use Rattle.host_files.specs.inputs.Words.{StandFor};
 ghost use Rattle.session_language.specs.Limits.{most_sessions};
 ghost use Rattle.session_programs.specs.Program.{fits};
 ghost use Rattle.session_language.specs.Reading.{sessions_of};
-ghost use Rattle.command_inputs.specs.Fault.{IsOneOf};
-ghost use Rattle.command_inputs.specs.Plans.{IsAcceptedAs};
+ghost use Rattle.serial_command.specs.reading.Fault.{IsOneOf};
+ghost use Rattle.serial_command.specs.reading.Plans.{IsAcceptedAs};
 ghost use Rattle.serial_command.specs.Texts.{HaveAcceptedTexts, IsJudged};
 
-use command_inputs::{Input, TextFault, read_plan, read_programs};
-use input_texts::{Sources, StandardInput};
+use crate::reading::{Input, TextFault, read_plan, read_programs};
+use host_files::inputs::{Sources, StandardInput};
 use office_map::Plan;
 use session_programs::Program;
 use std::alloc::Global;

@@ -2,23 +2,23 @@
 
 ghost use Rattle.std.specs.Prelude.{◌≡◌, ◌≤◌, [], ◌∷◌, All, IfErr, IfOk, IsTrue, List, length, true, ℕ};
 ghost use Rattle.std.specs.String.{string_bytes};
-ghost use Rattle.input_texts.specs.Words.{StandFor};
+ghost use Rattle.host_files.specs.inputs.Words.{StandFor};
 ghost use Rattle.session_language.specs.Limits.{most_sessions};
 ghost use Rattle.session_programs.specs.Program.{fits};
-ghost use Rattle.command_inputs.specs.Fault.{IsOneOf};
+ghost use Rattle.serial_command.specs.reading.Fault.{IsOneOf};
 ghost use Rattle.serial_replay.specs.Serial.{ListsValues, map_of, start_map};
 ghost use Rattle.serial_command.specs.Serial.{IsEndOf, serial_report};
 ghost use Rattle.serial_command.specs.Texts.{HaveAcceptedTexts, IsJudged};
 
 use crate::inputs::{Inputs, read_inputs};
+use crate::reading::{Input, TextFault};
 use bottle_values::Value;
-use command_inputs::{Input, TextFault};
-use input_texts::Sources;
+use host_files::inputs::Sources;
 use office_map::Plan;
-use report_forms::Form;
-use report_forms::report::report;
 use serial_replay::replay;
 use serial_replay::replay::Replay;
+use session_reports::form::Form;
+use session_reports::form::report::report;
 use std::alloc::{AllocError, Global};
 
 /// The end of a serial run.

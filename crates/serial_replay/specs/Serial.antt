@@ -9,7 +9,7 @@ use Rattle.office_map.specs.PlanValue.{PlanValue, start_values}
 use Rattle.session_meaning.specs.declared.ending.Ending.{Ending}
 use Rattle.session_meaning.specs.declared.ending.Outcome.{Outcome}
 use Rattle.session_meaning.specs.ProgramValue.{ProgramValue}
-use Rattle.session_measures.specs.Needs.{needs_of}
+use Rattle.session_programs.specs.measures.Needs.{needs_of}
 use Rattle.session_meaning.specs.Meaning.{alone}
 
 -- how a session ends where these are the records' values

@@ -1,7 +1,7 @@
 //! One session alone.
 
 ghost use Rattle.std.specs.Prelude.{◌≡◌, IfOk, length, zip};
-ghost use Rattle.session_measures.specs.Needs.{needs_of};
+ghost use Rattle.session_programs.specs.measures.Needs.{needs_of};
 ghost use Rattle.session_meaning.specs.Meaning.{alone, begun, ending_of, Goes};
 ghost use Rattle.serial_replay.specs.refinement.WalkRefinement as walk;
 

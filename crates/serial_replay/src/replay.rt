@@ -18,7 +18,7 @@ ghost use Rattle.std.specs.Prelude.{
 ghost use Rattle.std.proofs.Math.ListN.{set};
 ghost use Rattle.bottle_values.specs.Maps.{put, write_all};
 ghost use Rattle.bottle_values.specs.declared.Value as bottle;
-ghost use Rattle.session_measures.specs.Needs.{needs_of};
+ghost use Rattle.session_programs.specs.measures.Needs.{needs_of};
 ghost use Rattle.session_programs.specs.Program.{fits};
 ghost use Rattle.serial_replay.specs.Serial.{
   outcomes_of,

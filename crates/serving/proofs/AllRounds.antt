@@ -3,8 +3,8 @@ use Rattle.std.proofs.Common.{◌≡◌, ℕ, List, [], ◌∷◌, ◌++◌, len
 use Rattle.std.specs.List.{flat_map}
 use Rattle.session_meaning.specs.declared.ending.Outcome.{Outcome}
 use Rattle.locked_office.specs.Calls.{Key, DeskPass}
-use Rattle.request_streams.specs.declared.asked.Asked.{Asked}
-use Rattle.office_answers.specs.Said.{Said}
+use Rattle.session_streams.specs.declared.requests.asked.Asked.{Asked}
+use Rattle.serving.specs.answers.Said.{Said}
 use Rattle.serving.specs.Rounds.{AnswersAll, Made, finished_at}
 use Rattle.serving.specs.ServingLaws.{AreAnswered, EachIsAnsweredOnce, OutcomesAreToldOnce}
 

@@ -16,13 +16,13 @@ use Rattle.locked_office.specs.refinement.Holding.{Holds, GivesBack}
 use Rattle.locked_office.proofs.Giving.{Grew, grew_none, grew_by, adds_only, key_stays, did, still}
 use Rattle.socket_pump.specs.ChainLaws.{does_begins}
 use Rattle.stored_runs.proofs.Outcomes.{both}
-use Rattle.request_streams.specs.declared.asked.Asked.{Asked}
-use Rattle.request_streams.specs.declared.asked.Asked.TheVariants as ask
-use Rattle.office_answers.specs.declared.lack.Lack.{Lack}
-use Rattle.office_answers.specs.declared.lack.Lack.TheVariants.{JournalFull, Memory}
-use Rattle.office_answers.specs.Said.{Said, said_as}
-use Rattle.office_answers.specs.Answers.{Answered, Answers, IsFull, Lacks, SaysTicket, Submits}
-use Rattle.report_forms.specs.declared.forms.Form.{Form}
+use Rattle.session_streams.specs.declared.requests.asked.Asked.{Asked}
+use Rattle.session_streams.specs.declared.requests.asked.Asked.TheVariants as ask
+use Rattle.serving.specs.declared.answers.lack.Lack.{Lack}
+use Rattle.serving.specs.declared.answers.lack.Lack.TheVariants.{JournalFull, Memory}
+use Rattle.serving.specs.answers.Said.{Said, said_as}
+use Rattle.serving.specs.answers.Answers.{Answered, Answers, IsFull, Lacks, SaysTicket, Submits}
+use Rattle.session_reports.specs.declared.form.forms.Form.{Form}
 use Rattle.serving.specs.Rounds.{AnswersAll, AnswersNoMore, AnswersSome, AnswersFirst, StopsAnswering}
 use Rattle.serving.specs.refinement.Asking.{Asks}
 

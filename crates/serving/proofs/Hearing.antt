@@ -5,9 +5,9 @@ use Rattle.std.specs.Io.KnownBytes.{Consumes, IsAtEnd, Keeps}
 use Rattle.std.proofs.KnownBytes.{Consumes-kept, Consumes-nil, Consumes-trans}
 use mathlib.Core.List.{IsPrefix}
 use Rattle.office_map.specs.PlanValue.{PlanValue}
-use Rattle.request_streams.specs.declared.asked.Asked.{Asked}
-use Rattle.request_streams.specs.Bytes.{Taking, at_end, nothing_taken, taken}
-use Rattle.request_streams.specs.RequestLaws.{PartsAreOne}
+use Rattle.session_streams.specs.declared.requests.asked.Asked.{Asked}
+use Rattle.session_streams.specs.requests.Bytes.{Taking, at_end, nothing_taken, taken}
+use Rattle.session_streams.specs.requests.RequestLaws.{PartsAreOne}
 use Rattle.serving.specs.Serving.{IsRead, asked_so}
 use Rattle.serving.specs.refinement.Hearing.{Comes, Hears, Heard}
 

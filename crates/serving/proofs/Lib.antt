@@ -4,3 +4,4 @@ mod Rounding
 mod Untold
 mod Whole
 mod AllRounds
+mod answers_lemmas

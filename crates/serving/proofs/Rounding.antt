@@ -9,21 +9,21 @@ use Rattle.std.proofs.lemmas.List.Concat.{flat_map-append}
 use mathlib.Core.List.{IsPrefix}
 use Rattle.session_meaning.specs.declared.ending.Outcome.{Outcome}
 use Rattle.office_journal.specs.declared.event.Entry.{Entry}
-use Rattle.session_agenda.specs.Agenda.{unfinished}
+use Rattle.site_core.specs.agendas.Agenda.{unfinished}
 use Rattle.site_core.specs.Journals.{office_of, IsLegal}
 use Rattle.locked_office.specs.Calls.{Key, DeskPass, office_with}
-use Rattle.report_forms.specs.Forms.{outcome_as}
-use Rattle.report_forms.specs.declared.forms.Form.{Form}
+use Rattle.session_reports.specs.form.Forms.{outcome_as}
+use Rattle.session_reports.specs.declared.form.forms.Form.{Form}
 use Rattle.socket_pump.specs.Wires.{Account}
 use Rattle.office_stations.specs.declared.pace.TimedTurn.{TimedTurn}
 use Rattle.office_stations.specs.Rounds.{Standing, Turns, with_pass}
 use Rattle.office_stations.specs.Sessions.{finished_of}
 use Rattle.stored_runs.specs.declared.fault.StoredFault.TheVariants as stored
 use Rattle.stored_runs.proofs.Outcomes.{both, first_same, first_begin, finished_on}
-use Rattle.request_streams.specs.declared.asked.Asked.{Asked}
-use Rattle.request_streams.specs.Bytes.{Taking, nothing_taken}
-use Rattle.request_streams.specs.RequestLaws.{PartsAreOne}
-use Rattle.office_answers.specs.Said.{Said, said_as}
+use Rattle.session_streams.specs.declared.requests.asked.Asked.{Asked}
+use Rattle.session_streams.specs.requests.Bytes.{Taking, nothing_taken}
+use Rattle.session_streams.specs.requests.RequestLaws.{PartsAreOne}
+use Rattle.serving.specs.answers.Said.{Said, said_as}
 use Rattle.serving.specs.declared.fault.ServeFault.{ServeFault}
 use Rattle.serving.specs.declared.fault.ServeFault.TheVariants.{Run, InputFailed}
 use Rattle.serving.specs.Rounds.{AnswersAll, AnswersSome, CutOff, Made, Round, Rounds, round_text}

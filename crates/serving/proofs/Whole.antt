@@ -3,11 +3,11 @@ use Rattle.std.proofs.Common.{◌≡◌, ℕ, ◌≤◌, Bool, List, ◌++◌, l
 use Rattle.std.specs.Io.KnownBytes.{Appends}
 use Rattle.std.proofs.KnownBytes.{Appends-trans}
 use mathlib.Core.List.{IsPrefix}
-use Rattle.session_agenda.specs.Agenda.{unfinished}
+use Rattle.site_core.specs.agendas.Agenda.{unfinished}
 use Rattle.site_core.specs.Journals.{office_of}
 use Rattle.locked_office.specs.Calls.{Key, DeskPass, Looks, office_with}
 use Rattle.socket_pump.specs.Wires.{Account}
-use Rattle.durable_turns.specs.Letting.{LetsOut}
+use Rattle.stored_runs.specs.durable.Letting.{LetsOut}
 use Rattle.office_stations.specs.Rounds.{Standing}
 use Rattle.office_journal.specs.declared.event.Entry.{Entry}
 use Rattle.stored_runs.specs.declared.fault.StoredFault.TheVariants as stored
@@ -16,9 +16,9 @@ use Rattle.stored_runs.specs.Runs.{HasStanding}
 use Rattle.stored_runs.proofs.Outcomes.{first_same}
 use Rattle.stored_runs.proofs.Growing.{looks_begin, within_on, lets_out_on}
 use Rattle.stored_runs.proofs.Begun.{standing_on}
-use Rattle.office_answers.specs.Said.{ready_as}
-use Rattle.report_forms.specs.declared.forms.Form.{Form}
-use Rattle.office_answers.specs.Answers.{tickets_of}
+use Rattle.serving.specs.answers.Said.{ready_as}
+use Rattle.session_reports.specs.declared.form.forms.Form.{Form}
+use Rattle.serving.specs.answers.Answers.{tickets_of}
 use Rattle.serving.specs.declared.fault.ServeFault.{ServeFault}
 use Rattle.serving.specs.declared.fault.ServeFault.TheVariants.{Run, InputFailed}
 use Rattle.serving.specs.declared.served.Served.{Served}

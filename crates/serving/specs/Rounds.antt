@@ -6,15 +6,15 @@ use Rattle.office_map.specs.PlanValue.{PlanValue}
 use Rattle.session_meaning.specs.declared.ending.Outcome.{Outcome}
 use Rattle.office_journal.specs.declared.event.Entry.{Entry}
 use Rattle.locked_office.specs.Calls.{Key, DeskPass, Does, office_with}
-use Rattle.report_forms.specs.Forms.{outcome_as}
-use Rattle.report_forms.specs.declared.forms.Form.{Form}
-use Rattle.office_answers.specs.declared.lack.Lack.{Lack}
+use Rattle.session_reports.specs.form.Forms.{outcome_as}
+use Rattle.session_reports.specs.declared.form.forms.Form.{Form}
+use Rattle.serving.specs.declared.answers.lack.Lack.{Lack}
 use Rattle.office_stations.specs.declared.pace.TimedTurn.{TimedTurn}
 use Rattle.office_stations.specs.Rounds.{Standing, Turns, with_pass}
 use Rattle.office_stations.specs.Sessions.{finished_of}
-use Rattle.request_streams.specs.declared.asked.Asked.{Asked}
-use Rattle.office_answers.specs.Said.{Said, said_as}
-use Rattle.office_answers.specs.Answers.{Answers, IsFull, Lacks}
+use Rattle.session_streams.specs.declared.requests.asked.Asked.{Asked}
+use Rattle.serving.specs.answers.Said.{Said, said_as}
+use Rattle.serving.specs.answers.Answers.{Answers, IsFull, Lacks}
 
 -- ---- what is asked
 

@@ -6,20 +6,20 @@ use mathlib.Core.List.{IsPrefix}
 use Rattle.office_map.specs.PlanValue.{PlanValue}
 use Rattle.office_journal.specs.declared.event.Entry.{Entry}
 use Rattle.site_core.specs.Journals.{office_of, IsLegal}
-use Rattle.session_agenda.specs.Agenda.{unfinished}
+use Rattle.site_core.specs.agendas.Agenda.{unfinished}
 use Rattle.locked_office.specs.Calls.{Key, DeskPass, office_with}
 use Rattle.socket_pump.specs.Wires.{Account}
-use Rattle.durable_turns.specs.Letting.{LetsOut}
+use Rattle.stored_runs.specs.durable.Letting.{LetsOut}
 use Rattle.office_stations.specs.Rounds.{Standing}
-use Rattle.report_forms.specs.Forms.{unfinished_as}
-use Rattle.report_forms.specs.declared.forms.Form.{Form}
+use Rattle.session_reports.specs.form.Forms.{unfinished_as}
+use Rattle.session_reports.specs.declared.form.forms.Form.{Form}
 use Rattle.stored_runs.specs.declared.fault.StoredFault.TheVariants as stored
 use Rattle.stored_runs.specs.Keeping.{Keeping}
 use Rattle.stored_runs.specs.Runs.{HasStanding, IsFaultOf}
-use Rattle.request_streams.specs.declared.asked.Asked.{Asked}
-use Rattle.request_streams.specs.Bytes.{nothing_taken, taken, asked_by}
-use Rattle.office_answers.specs.Said.{Said, said_as, ready_as}
-use Rattle.office_answers.specs.Answers.{tickets_of}
+use Rattle.session_streams.specs.declared.requests.asked.Asked.{Asked}
+use Rattle.session_streams.specs.requests.Bytes.{nothing_taken, taken, asked_by}
+use Rattle.serving.specs.answers.Said.{Said, said_as, ready_as}
+use Rattle.serving.specs.answers.Answers.{tickets_of}
 use Rattle.serving.specs.declared.fault.ServeFault.{ServeFault}
 use Rattle.serving.specs.declared.fault.ServeFault.TheVariants.{Run, InputFailed}
 use Rattle.serving.specs.declared.served.Served.{Served}

@@ -3,7 +3,7 @@ use Rattle.std.specs.Prelude.{◌≡◌, ℕ, Bool, List, ◌++◌, length}
 use Rattle.std.specs.List.{flat_map}
 use Rattle.locked_office.specs.Calls.{Key}
 use Rattle.office_stations.specs.Rounds.{Standing}
-use Rattle.request_streams.specs.declared.asked.Asked.{Asked}
+use Rattle.session_streams.specs.declared.requests.asked.Asked.{Asked}
 use Rattle.serving.specs.Rounds.{Made, Rounds, finished_at}
 
 -- of what waited and of what came since the first was answered, in that order, by a line for each; and the others are left

@@ -1,15 +1,15 @@
 //! What comes in from a client, as it comes.
 
 ghost use Rattle.std.specs.Prelude.{◌≡◌, false, IfErr, OnOk};
-ghost use Rattle.request_streams.specs.Bytes.{nothing_taken};
-ghost use Rattle.request_streams.specs.refinement.{taking_of};
+ghost use Rattle.session_streams.specs.requests.Bytes.{nothing_taken};
+ghost use Rattle.session_streams.specs.requests.refinement.{taking_of};
 ghost use Rattle.serving.specs.refinement.Hearing.{Hears, IsOfHearing};
 
 use crate::fault::ServeFault;
-use input_texts::failure_kind;
+use host_files::inputs::failure_kind;
 use office_map::{OfficeId, Plan};
 use office_stations::RunFault;
-use request_streams::{Asked, Intake};
+use session_streams::requests::{Asked, Intake};
 use std::alloc::Global;
 use std::collections::VecDeque;
 use std::io::{ErrorKind, Read};

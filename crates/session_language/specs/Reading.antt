@@ -12,8 +12,8 @@ use Rattle.session_meaning.specs.Tree.{Term, Test, Command, LetVar, SetTo, GiveO
 use Rattle.session_meaning.specs.refinement.TreeOfStatements.{block_from}
 use Rattle.session_meaning.specs.ProgramValue.{ProgramValue}
 use Rattle.session_language.specs.Names.{Scope, placed, record_of, knows_variables, knows_records}
-use Rattle.session_measures.specs.Needs.{with_record, term_needs, test_needs}
-use Rattle.session_measures.specs.Measures.{block_gives}
+use Rattle.session_programs.specs.measures.Needs.{with_record, term_needs, test_needs}
+use Rattle.session_programs.specs.measures.Measures.{block_gives}
 use Rattle.session_programs.specs.Program.{is_too_long}
 use Rattle.session_language.specs.declared.keyword.Keyword.{Keyword}
 use Rattle.session_language.specs.Lexer.{Piece, pieces_of}

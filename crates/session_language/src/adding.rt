@@ -14,7 +14,7 @@ use crate::parts::{Head, Parts};
 use crate::spoken::Spoken;
 use office_map::RecordId;
 use session_meaning::Statement;
-use session_measures::needs::{add_reads, add_record};
+use session_programs::measures::needs::{add_reads, add_record};
 use std::alloc::{AllocError, Global};
 use text_lines::{ShortName, place_of_name};
 

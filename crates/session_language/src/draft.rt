@@ -14,9 +14,9 @@ use crate::parts::Parts;
 use crate::scope::Scope;
 use crate::spoken::{Spoken, speak};
 use office_map::{OfficeId, Plan};
-use session_measures::measures::block_measures;
 use session_programs::Program;
-use session_sizes::are_too_long;
+use session_programs::measures::measures::block_measures;
+use session_programs::sizes::are_too_long;
 use std::alloc::Global;
 
 /// A session that is open, after each of its lines.

@@ -3,7 +3,7 @@
 pub use session_programs::limits::{
     CODES_END, MOST_BLOCKS, MOST_DEPTH, MOST_GIVES, MOST_RECORDS, MOST_TURNS, MOST_VARIABLES,
 };
-pub use session_sizes::limits::{MOST_BYTES, MOST_COST, MOST_STATEMENTS};
+pub use session_programs::sizes::limits::{MOST_BYTES, MOST_COST, MOST_STATEMENTS};
 
 /// The longest text of sessions, in bytes.
 pub const TEXT_LIMIT: usize = 1_048_576;

@@ -15,8 +15,8 @@
 //!   which take nine times the room. Which it is is seen once, as the work begins.
 //!
 //! An office that gives each of its sessions some instructions at a time can stop between any two of them, and that
-//! changes nothing. What a session keeps, its working copy of the records and its variables, is a type of
-//! `session_meaning`, as for `serial_replay`; neither crate knows the other, and both end as `alone` says.
+//! changes nothing. Its working copy of the records is that of `session_meaning`, and so are the variables of work on `Mixed`
+//! values, as for `serial_replay`; neither crate knows the other, and both end as `alone` says.
 //!
 //! Not said: how long an instruction takes on a machine, and anything of a step with the code of another program (where
 //! the work began with no text, a text of such code is 0). The law asks for room (`HasRoom`), which `Code::of` tells of

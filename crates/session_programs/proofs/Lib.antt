@@ -5,3 +5,5 @@ pub mod CodeStands
 pub mod EmittedCodeStands
 pub mod ClosedCode
 pub mod ProgramsHaveRoom
+pub mod measures_lemmas
+pub mod sizes_lemmas

@@ -4,3 +4,5 @@ pub mod Program
 pub mod WellFormed
 pub mod Room
 pub mod refinement
+pub mod measures
+pub mod sizes

@@ -5,8 +5,8 @@ use Rattle.office_map.specs.PlanValue.{PlanValue, is_end, office_name_of, record
 use Rattle.session_meaning.specs.ProgramValue.{ProgramValue}
 use Rattle.session_meaning.specs.Tree.{Block}
 use Rattle.session_meaning.specs.Fitting.{block_fits}
-use Rattle.session_measures.specs.Needs.{needs_of}
-use Rattle.session_measures.specs.Measures.{block_statements, block_cost}
+use Rattle.session_programs.specs.measures.Needs.{needs_of}
+use Rattle.session_programs.specs.measures.Measures.{block_statements, block_cost}
 use Rattle.session_programs.specs.Limits.{most_statements, most_cost, most_bytes}
 use Rattle.session_programs.specs.Text.{Words, session_text, wide_words}
 

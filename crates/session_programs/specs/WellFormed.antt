@@ -9,8 +9,8 @@ use Rattle.session_programs.specs.declared.rank.Rank.{Rank}
 use Rattle.session_programs.specs.declared.rank.Rank.TheVariants.{Factor, Product, Sum}
 use Rattle.session_meaning.specs.Tree.{Term, Constant, Var, ReadOf, Neg, Bin, Test, Command, LetVar, SetTo, GiveOf, Requires, When, Choice, Loop, Block, Nothing, Then}
 use Rattle.session_meaning.specs.ProgramValue.{ProgramValue}
-use Rattle.session_measures.specs.Needs.{needs_of}
-use Rattle.session_measures.specs.Measures.{block_gives}
+use Rattle.session_programs.specs.measures.Needs.{needs_of}
+use Rattle.session_programs.specs.measures.Measures.{block_gives}
 use Rattle.session_programs.specs.Text.{rank_of}
 use Rattle.session_programs.specs.Program.{is_too_long}
 use Rattle.session_programs.specs.Limits.{most_depth, most_blocks, most_turns, codes_end, most_records, most_variables, most_gives}

@@ -6,7 +6,8 @@
 //!   and its records, and texts where it has such, and `text` is its canonical text under such a plan (`text_under`, in `specs/Program.antt`; clause
 //!   `canonical`).
 //! - The limits are in `specs/Limits.antt` (the code has its own, [`limits`]). Whether a session keeps those of its length, its
-//!   statements, its cost and its bytes of text, is looked at in `session_sizes`, above.
+//!   statements, its cost and its bytes of text, is looked at in [`sizes`].
+//! - [`measures`]: what a session costs, gives and needs, without running it.
 //! - [`Code`] is the flat code of a session: lines that each say what to do and which line comes next. One line is one count of a
 //!   session's length (`length_on`, in `session_meaning`'s `specs/Length.antt`). [`Program::with_code`] and [`with_codes`] put
 //!   it beside a program, for as often as the program is submitted; [`Code::of`] takes it from there, or makes it. Which code a
@@ -23,9 +24,11 @@ mod constant;
 mod instruction;
 pub mod limits;
 mod listing;
+pub mod measures;
 mod program;
 mod rank;
 mod register;
+pub mod sizes;
 mod text;
 mod words;
 

@@ -1,2 +1,4 @@
 pub mod Names
 pub mod Report
+pub mod json
+pub mod form

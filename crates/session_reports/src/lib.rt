@@ -6,10 +6,14 @@
 //! - [`names::office_name`] and [`names::record_name`] are a plan's names, which the lines have, and [`numbers::add_number`] adds a
 //!   number's digits.
 //!
+//! - [`json`] has the same as JSON, an object a line, and [`form`] that of the two for which a command line asks.
+//!
 //! The lines are those of `specs/Report.antt`, with the names of `specs/Names.antt`; one record more is one line more
 //! ([`laws::rows_are_added`]). They are of plans, of outcomes and of values: an office isn't asked.
 #![tactic(auto)]
 
+pub mod form;
+pub mod json;
 pub mod laws;
 pub mod names;
 pub mod numbers;

@@ -3,3 +3,4 @@ mod LinesRead
 mod TextsHeard
 mod FaultsHeard
 mod LinesClose
+mod requests_lemmas

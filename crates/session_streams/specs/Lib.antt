@@ -1,3 +1,4 @@
 pub mod Streams
 pub mod StreamLaws
 pub mod refinement
+pub mod requests

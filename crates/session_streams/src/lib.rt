@@ -7,11 +7,14 @@
 //!   [`laws::first_faults_are_told`]). What is heard of a session doesn't hang on what came before it
 //!   ([`laws::sessions_stand_alone`]).
 //!
+//! [`requests`]: what a client asks of an office that serves, out of bytes that come as they come, over this reader.
+//!
 //! It stands on `session_language`, whose reader it is over. Not said: how long a line may be, which is the caller's to
 //! bound. After want of memory nobody reads on.
 #![tactic(auto)]
 
 pub mod laws;
+pub mod requests;
 mod stream;
 
 pub use crate::stream::{Heard, SessionReader, begins_session};

@@ -1,6 +1,4 @@
 mod language;
 mod machine;
-mod meaning;
 mod replay;
 mod requests;
-mod streams;

@@ -7,6 +7,9 @@ pub mod NoneNext
 pub mod SessionsInOrder
 pub mod WithdrawnSessions
 pub mod OfficeCrosses
+pub mod OutcomesStay
+mod LegalBeginnings
 mod LinksGrow
 mod WantOfRoom
 mod BytesComing
+pub mod neighbours_lemmas

@@ -21,12 +21,12 @@ use Rattle.office_journal.specs.declared.event.Event.TheVariants as event
 use Rattle.office_journal.specs.declared.event.Entry.{Entry}
 use Rattle.office_journal.specs.declared.reply.Reply.TheVariants as reply
 use Rattle.office_journal.specs.declared.reply.Refusal.TheVariants as refusal
-use Rattle.neighbour_pairs.specs.Pairs.{Pairs, queued_to, sent, bottle_sends, frame_fault, after_frame, follows, after_kept, after_taking}
-use Rattle.session_agenda.specs.Agenda.{is_full, submitted}
+use Rattle.site_core.specs.neighbours.Pairs.{Pairs, queued_to, sent, bottle_sends, frame_fault, after_frame, follows, after_kept, after_taking}
+use Rattle.site_core.specs.agendas.Agenda.{is_full, submitted}
 use Rattle.site_core.specs.Offices.{Office, Answer, may, act, is_ours, framed, frame_on, unless_faulty, opened}
 use Rattle.site_core.specs.Journals.{next_or, after, run_of, office_of}
 use Rattle.site_core.specs.Growing.{Grows, LinksOnlyGrow}
-use Rattle.neighbour_pairs.specs.PairLaws.{through_taking}
+use Rattle.site_core.specs.neighbours.PairLaws.{through_taking}
 use Rattle.site_core.specs.WithdrawalLaws.{either_withdrawn, after_withdrawal}
 
 same : (l : LinkState) → Grows l l

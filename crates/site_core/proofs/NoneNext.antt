@@ -9,9 +9,9 @@ use Rattle.office_journal.specs.declared.rule.Rule.{Rule}
 use Rattle.office_journal.specs.declared.rule.Rule.TheVariants as rule
 use Rattle.dining_core.specs.Diners as forks
 use Rattle.drinking_core.specs.Drinkers as bottles
-use Rattle.session_agenda.specs.Limits.{longest_piece}
+use Rattle.site_core.specs.agendas.Limits.{longest_piece}
 use Rattle.site_core.specs.Limits.{usual_piece}
-use Rattle.session_agenda.specs.Agenda.{is_working, ending_of}
+use Rattle.site_core.specs.agendas.Agenda.{is_working, ending_of}
 use Rattle.site_core.specs.Offices.{Office, may}
 use Rattle.site_core.specs.RuleOrder.{next_rule, IsAtRest, NoneNextIsAtRest}
 use Rattle.site_core.proofs.FirstRule.{skipped, none_before, none_after}

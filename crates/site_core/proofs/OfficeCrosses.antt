@@ -3,9 +3,9 @@ use denote.Param.Send.{IsSend, IsSync, sendable}
 use Rattle.std.proofs.Crossing.{crosses}
 use Rattle.office_map.proofs.ids.OfficeId.TheSendSync as office_id
 use Rattle.office_map.proofs.ids.RecordId.TheSendSync as record_id
-use Rattle.short_names.proofs.short_name.ShortName.TheSendSync as short_name
+use Rattle.text_lines.proofs.short.short_name.ShortName.TheSendSync as short_name
 use Rattle.office_map.proofs.plan.Plan.TheSendSync as plan
-use Rattle.journal_pages.proofs.pages.Pages.TheSendSync as pages
+use Rattle.office_journal.proofs.pages.pages.Pages.TheSendSync as pages
 use Rattle.token_channel.proofs.channel.Channel.TheSendSync as channel
 use Rattle.token_channel.proofs.messages.Messages.TheSendSync as messages
 use Rattle.bottle_values.proofs.text.Text.TheSendSync as text
@@ -21,13 +21,13 @@ use Rattle.session_programs.specs.contracts.program.Said as Said
 use Rattle.session_programs.proofs.code.Code.TheSendSync as code
 use Rattle.session_machine.proofs.spare.Spare.TheSendSync as spare
 use Rattle.session_machine.proofs.work.Work.TheSendSync as work
-use Rattle.session_agenda.specs.contracts.session.Session as Session
-use Rattle.session_agenda.specs.contracts.agenda.Phase as Phase
-use Rattle.session_agenda.specs.contracts.agenda.Agenda as Agenda
+use Rattle.site_core.specs.contracts.agendas.session.Session as Session
+use Rattle.site_core.specs.contracts.agendas.agenda.Phase as Phase
+use Rattle.site_core.specs.contracts.agendas.agenda.Agenda as Agenda
 use Rattle.office_journal.specs.contracts.journal.Journal as Journal
 use Rattle.site_core.specs.contracts.office.Office as Office
-use Rattle.neighbour_pairs.specs.contracts.channels.Channels as Channels
-use Rattle.neighbour_pairs.specs.contracts.pairs.Pairs as Pairs
+use Rattle.site_core.specs.contracts.neighbours.channels.Channels as Channels
+use Rattle.site_core.specs.contracts.neighbours.pairs.Pairs as Pairs
 
 statement_send : IsSend Statement.the_row
 statement_send = search (send-Statement, condition.the_send, expression.the_send, record_id.the_send, sendable, crosses) depth 40

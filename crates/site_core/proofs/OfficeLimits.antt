@@ -18,7 +18,7 @@ use Rattle.window_link.specs.Links.{LinkState, fault_of, is_own, is_of_version, 
 use Rattle.token_channel.specs.Channels.{link_fault_or, link_then}
 use Rattle.dining_core.specs.Diners as forks
 use Rattle.drinking_core.specs.Drinkers as bottles
-use Rattle.session_agenda.specs.declared.session.Session.{Session}
+use Rattle.site_core.specs.declared.agendas.session.Session.{Session}
 use Rattle.office_journal.specs.declared.rule.Rule.{Rule}
 use Rattle.office_journal.specs.declared.rule.Rule.TheVariants as rule
 use Rattle.office_journal.specs.declared.event.Event.{Event}
@@ -27,13 +27,13 @@ use Rattle.office_journal.specs.declared.event.Entry.{Entry}
 use Rattle.office_journal.specs.declared.reply.Reply.TheVariants as reply
 use Rattle.office_journal.specs.declared.reply.Refusal.TheVariants as refusal
 use Rattle.token_channel.specs.declared.fault.ChannelFault.{ChannelFault}
-use Rattle.neighbour_pairs.specs.Pairs.{Pairs, sent, fork_sends, bottle_sends, frame_fault}
-use Rattle.neighbour_pairs.specs.Pairs as pairs
-use Rattle.session_agenda.specs.Agenda.{Agenda, submitted, started}
-use Rattle.session_agenda.specs.Agenda as agenda
+use Rattle.site_core.specs.neighbours.Pairs.{Pairs, sent, fork_sends, bottle_sends, frame_fault}
+use Rattle.site_core.specs.neighbours.Pairs as pairs
+use Rattle.site_core.specs.agendas.Agenda.{Agenda, submitted, started}
+use Rattle.site_core.specs.agendas.Agenda as agenda
 use Rattle.site_core.specs.Offices.{Office, may, act, withdrawn, is_ours, submit, framed, frame_on, unless_faulty, opened}
 use Rattle.site_core.specs.Journals.{Site, next_or, after, run_of, office_of}
-use Rattle.neighbour_pairs.specs.PairLaws.{passed, through_taking}
+use Rattle.site_core.specs.neighbours.PairLaws.{passed, through_taking}
 use Rattle.site_core.specs.WithdrawalLaws.{either_withdrawn, after_withdrawal}
 
 -- ---- limits

@@ -9,7 +9,7 @@ use Rattle.site_core.specs.Limits.{most_entries}
 use Rattle.office_journal.specs.declared.event.Event.{Event}
 use Rattle.office_journal.specs.declared.event.Event.TheVariants as event
 use Rattle.office_journal.specs.declared.event.Entry.{Entry}
-use Rattle.session_agenda.specs.declared.session.Session.{Session}
+use Rattle.site_core.specs.declared.agendas.session.Session.{Session}
 use Rattle.office_journal.specs.declared.reply.Reply.{Reply}
 use Rattle.office_journal.specs.declared.reply.Reply.TheVariants as reply
 use Rattle.office_journal.specs.declared.reply.Refusal.{Refusal}
@@ -18,14 +18,14 @@ use Rattle.frame_codec.specs.Frame.{Fields}
 use Rattle.session_meaning.specs.ProgramValue.{ProgramValue}
 use Rattle.window_link.specs.declared.arrival.Arrival.{Arrival}
 use Rattle.office_journal.specs.Replies.{reply_to}
-use Rattle.neighbour_pairs.specs.Pairs.{Pairs, frame_fault, arrival_of, after_taking}
-use Rattle.neighbour_pairs.specs.Pairs as pairs
-use Rattle.session_agenda.specs.Agenda.{Agenda}
-use Rattle.session_agenda.specs.Agenda as agenda
+use Rattle.site_core.specs.neighbours.Pairs.{Pairs, frame_fault, arrival_of, after_taking}
+use Rattle.site_core.specs.neighbours.Pairs as pairs
+use Rattle.site_core.specs.agendas.Agenda.{Agenda}
+use Rattle.site_core.specs.agendas.Agenda as agenda
 use Rattle.site_core.specs.Offices.{Office, Answer, done_if, is_ours, frame_on, framed, unless_faulty, with_pairs, answer, opened}
 use Rattle.site_core.specs.Journals.{Site, office_of, noted, after, next_or, step, Steps, Adds, IsLegal, recorded}
-use Rattle.neighbour_pairs.specs.refinement.PairsOfCode.{PairsValue, pairs_of, IsOf, HaveRoom, HaveValues}
-use Rattle.session_agenda.specs.refinement.AgendaOfCode.{AgendaValue, Means}
+use Rattle.site_core.specs.neighbours.refinement.PairsOfCode.{PairsValue, pairs_of, IsOf, HaveRoom, HaveValues}
+use Rattle.site_core.specs.agendas.refinement.AgendaOfCode.{AgendaValue, Means}
 use Rattle.site_core.specs.refinement.OfficeOfCode.{office_at, Stands, AreOurs, site_of, IsAtEnd}
 use Rattle.site_core.specs.JournalLaws.{office_noted, legal_noted, office_empty, legal_empty}
 use Rattle.site_core.specs.refinement.OfficeValues.{OfficeFits, Keeps}

@@ -36,17 +36,17 @@ use Rattle.session_meaning.specs.Length.{length_on}
 use Rattle.session_meaning.specs.Meaning.{alone}
 use Rattle.session_meaning.specs.Fitting.{block_fits, RecordsFit}
 use Rattle.session_meaning.specs.Laws.{ValuesFit}
-use Rattle.session_measures.specs.Needs.{needs_of}
+use Rattle.session_programs.specs.measures.Needs.{needs_of}
 use Rattle.session_programs.specs.Program.{fits}
 use Rattle.dining_core.specs.Diners as forks
 use Rattle.drinking_core.specs.Drinkers.{Drinker, value_after, start_bottle}
 use Rattle.drinking_core.specs.Drinkers as bottles
-use Rattle.neighbour_pairs.specs.Pairs.{Pairs, held, sent, fork_sends, bottle_sends, frame_fault, drinker_after, arrived, arrival_of, follows, as_arrival, after_fork_rule, after_bottle_rule}
-use Rattle.neighbour_pairs.specs.Pairs as pairs
-use Rattle.neighbour_pairs.specs.PairLaws.{passed, through_taking}
-use Rattle.session_agenda.specs.declared.session.Session.{Session}
-use Rattle.session_agenda.specs.Agenda.{Agenda, Current, Idle, Gathering, Working, started, begun, worked, writes_of, submitted}
-use Rattle.session_agenda.specs.Agenda as agenda
+use Rattle.site_core.specs.neighbours.Pairs.{Pairs, held, sent, fork_sends, bottle_sends, frame_fault, drinker_after, arrived, arrival_of, follows, as_arrival, after_fork_rule, after_bottle_rule}
+use Rattle.site_core.specs.neighbours.Pairs as pairs
+use Rattle.site_core.specs.neighbours.PairLaws.{passed, through_taking}
+use Rattle.site_core.specs.declared.agendas.session.Session.{Session}
+use Rattle.site_core.specs.agendas.Agenda.{Agenda, Current, Idle, Gathering, Working, started, begun, worked, writes_of, submitted}
+use Rattle.site_core.specs.agendas.Agenda as agenda
 use Rattle.office_journal.specs.declared.rule.Rule.{Rule}
 use Rattle.office_journal.specs.declared.rule.Rule.TheVariants as rule
 use Rattle.office_journal.specs.declared.event.Event.TheVariants as event

@@ -10,10 +10,10 @@ use Rattle.office_map.specs.PlanValue.{PlanValue, is_end}
 use Rattle.session_meaning.specs.ProgramValue.{ProgramValue}
 use Rattle.session_meaning.specs.Fitting.{block_fits}
 use Rattle.session_programs.specs.Program.{fits}
-use Rattle.session_measures.specs.Needs.{needs_of}
-use Rattle.session_agenda.specs.declared.session.Session.{Session}
+use Rattle.session_programs.specs.measures.Needs.{needs_of}
+use Rattle.site_core.specs.declared.agendas.session.Session.{Session}
 use Rattle.bottle_values.specs.declared.Value.{Value}
-use Rattle.session_agenda.specs.Agenda.{Agenda, Current, Idle, Gathering, Working, first_needs, gathering, begun, with_current}
+use Rattle.site_core.specs.agendas.Agenda.{Agenda, Current, Idle, Gathering, Working, first_needs, gathering, begun, with_current}
 use Rattle.site_core.specs.Offices.{is_ours}
 
 each : (f : ℕ → Bool) (xs : List ℕ) → list_all f xs ≡ true → All (λ r. f r ≡ true) xs

@@ -26,7 +26,7 @@ use Rattle.window_link.specs.declared.arrival.Arrival.TheVariants as arrival
 use Rattle.token_channel.specs.declared.fault.ChannelFault.{ChannelFault}
 use Rattle.drinking_core.specs.Drinkers.{Drinker}
 use Rattle.drinking_core.specs.Drinkers as bottles
-use Rattle.session_agenda.specs.declared.session.Session.{Session}
+use Rattle.site_core.specs.declared.agendas.session.Session.{Session}
 use Rattle.office_journal.specs.declared.rule.Rule.{Rule}
 use Rattle.office_journal.specs.declared.rule.Rule.TheVariants as rule
 use Rattle.office_journal.specs.declared.event.Event.{Event}
@@ -34,14 +34,14 @@ use Rattle.office_journal.specs.declared.event.Event.TheVariants as event
 use Rattle.office_journal.specs.declared.event.Entry.{Entry}
 use Rattle.office_journal.specs.declared.reply.Reply.TheVariants as reply
 use Rattle.office_journal.specs.declared.reply.Refusal.TheVariants as refusal
-use Rattle.neighbour_pairs.specs.Pairs.{Pairs, bottle_came, drinker_after, frame_fault, after_taking}
-use Rattle.session_agenda.specs.Agenda.{Agenda, Current, Idle, Gathering, Working, submitted, without_waiting, started, first_needs, begun, worked, writes_of, outcome_of, outcome_as, with_current}
-use Rattle.session_agenda.specs.Agenda as agenda
+use Rattle.site_core.specs.neighbours.Pairs.{Pairs, bottle_came, drinker_after, frame_fault, after_taking}
+use Rattle.site_core.specs.agendas.Agenda.{Agenda, Current, Idle, Gathering, Working, submitted, without_waiting, started, first_needs, begun, worked, writes_of, outcome_of, outcome_as, with_current}
+use Rattle.site_core.specs.agendas.Agenda as agenda
 use Rattle.site_core.specs.Offices.{Office, may, act, withdrawn, is_ours, submit, framed, frame_on, unless_faulty, opened}
 use Rattle.site_core.specs.Journals.{next_or, after, run_of, office_of}
 use Rattle.site_core.specs.Readers.{outcome_with}
 use Rattle.site_core.specs.Tickets.{current_tickets, Rise, GoInOrder, SessionsGoInOrder}
-use Rattle.neighbour_pairs.specs.PairLaws.{through_taking}
+use Rattle.site_core.specs.neighbours.PairLaws.{through_taking}
 use Rattle.site_core.specs.WithdrawalLaws.{either_withdrawn, after_withdrawal}
 
 abbrev tickets_of : List Session → List ℕ

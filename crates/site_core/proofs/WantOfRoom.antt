@@ -13,8 +13,8 @@ use Rattle.office_journal.specs.declared.reply.Reply.TheVariants as reply
 use Rattle.office_journal.specs.declared.reply.Refusal.{Refusal}
 use Rattle.office_journal.specs.declared.reply.Refusal.TheVariants as refusal
 use Rattle.site_core.specs.Limits.{most_entries}
-use Rattle.neighbour_pairs.specs.Pairs.{frame_fault}
-use Rattle.session_agenda.specs.Agenda.{is_full, submitted}
+use Rattle.site_core.specs.neighbours.Pairs.{frame_fault}
+use Rattle.site_core.specs.agendas.Agenda.{is_full, submitted}
 use Rattle.site_core.specs.Offices.{Office, Answer, may, act, may_withdraw, withdrawn, done_if, is_ours, framed, frame_on, unless_faulty, answer}
 use Rattle.site_core.specs.Journals.{Site, office_of, noted, recorded, FullAtTheLimit}
 use Rattle.site_core.specs.RuleOrder.{rules_in_order}

@@ -12,7 +12,7 @@ use Rattle.session_meaning.specs.declared.ending.Outcome.{Outcome}
 use Rattle.session_machine.specs.Pieces.{ending_after}
 use Rattle.drinking_core.specs.Drinkers as bottles
 use Rattle.token_channel.specs.declared.fault.ChannelFault.{ChannelFault}
-use Rattle.session_agenda.specs.declared.session.Session.{Session}
+use Rattle.site_core.specs.declared.agendas.session.Session.{Session}
 use Rattle.office_journal.specs.declared.rule.Rule.{Rule}
 use Rattle.office_journal.specs.declared.rule.Rule.TheVariants as rule
 use Rattle.office_journal.specs.declared.event.Event.{Event}
@@ -20,9 +20,9 @@ use Rattle.office_journal.specs.declared.event.Event.TheVariants as event
 use Rattle.office_journal.specs.declared.event.Entry.{Entry}
 use Rattle.office_journal.specs.declared.reply.Reply.TheVariants as reply
 use Rattle.office_journal.specs.declared.reply.Refusal.TheVariants as refusal
-use Rattle.neighbour_pairs.specs.Pairs.{frame_fault}
-use Rattle.session_agenda.specs.Agenda.{Agenda, Current, Idle, Gathering, Working, submitted, is_waiting, is_gathering, started, begun, worked, outcome_of, outcome_as, with_current}
-use Rattle.session_agenda.specs.Agenda as agenda
+use Rattle.site_core.specs.neighbours.Pairs.{frame_fault}
+use Rattle.site_core.specs.agendas.Agenda.{Agenda, Current, Idle, Gathering, Working, submitted, is_waiting, is_gathering, started, begun, worked, outcome_of, outcome_as, with_current}
+use Rattle.site_core.specs.agendas.Agenda as agenda
 use Rattle.site_core.specs.Offices.{Office, may, act, may_withdraw, withdrawn, done_if, is_ours, framed, frame_on, unless_faulty, opened}
 use Rattle.site_core.specs.Journals.{next_or, after, run_of, office_of}
 use Rattle.site_core.specs.Readers.{outcome_with}

@@ -1,5 +1,5 @@
-pub use Rattle.neighbour_pairs.specs.Pairs
-pub use Rattle.session_agenda.specs.Agenda
+pub use Rattle.site_core.specs.neighbours.Pairs
+pub use Rattle.site_core.specs.agendas.Agenda
 pub use Rattle.office_journal.specs.Replies
 pub use Rattle.office_journal.specs.RefusalText
 pub use Rattle.office_journal.specs.Shown
@@ -14,4 +14,8 @@ pub mod RulesInTurn
 pub mod Readers
 pub mod Tickets
 pub mod Growing
+pub mod Reopening
+pub mod ReopeningLaws
 pub mod refinement
+pub mod neighbours
+pub mod agendas

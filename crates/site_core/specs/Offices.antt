@@ -19,11 +19,11 @@ use Rattle.office_journal.specs.declared.reply.Reply.TheVariants as reply
 use Rattle.office_journal.specs.declared.reply.Refusal.{Refusal}
 use Rattle.office_journal.specs.declared.reply.Refusal.TheVariants as refusal
 use Rattle.office_journal.specs.Replies.{reply_to}
-pub use Rattle.neighbour_pairs.specs.Pairs.{frame_on}
-use Rattle.neighbour_pairs.specs.Pairs.{Pairs, is_thirsty, after_fork_rule, after_bottle_rule, frame_fault, arrival_of, after_taking}
-use Rattle.neighbour_pairs.specs.Pairs as pairs
-use Rattle.session_agenda.specs.Agenda.{Agenda, Idle, is_full, submitted, is_waiting, is_gathering, without_waiting, first_needs, started, begun, may_work, worked, writes_of, with_current, finished}
-use Rattle.session_agenda.specs.Agenda as agenda
+pub use Rattle.site_core.specs.neighbours.Pairs.{frame_on}
+use Rattle.site_core.specs.neighbours.Pairs.{Pairs, is_thirsty, after_fork_rule, after_bottle_rule, frame_fault, arrival_of, after_taking}
+use Rattle.site_core.specs.neighbours.Pairs as pairs
+use Rattle.site_core.specs.agendas.Agenda.{Agenda, Idle, is_full, submitted, is_waiting, is_gathering, without_waiting, first_needs, started, begun, may_work, worked, writes_of, with_current, finished}
+use Rattle.site_core.specs.agendas.Agenda as agenda
 
 -- what it shares with its neighbours, and its sessions
 pub record Office : Type 0 where

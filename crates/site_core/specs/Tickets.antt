@@ -2,10 +2,10 @@
 use Rattle.std.specs.Prelude.{◌≡◌, ℕ, ◌<◌, ◌≤◌, true, false, List, [], ◌∷◌, ◌++◌, map, None}
 use Rattle.office_map.specs.PlanValue.{PlanValue}
 use Rattle.session_meaning.specs.declared.ending.Outcome.{Outcome}
-use Rattle.session_agenda.specs.declared.session.Session.{Session}
+use Rattle.site_core.specs.declared.agendas.session.Session.{Session}
 use Rattle.office_journal.specs.declared.event.Event.TheVariants.{Withdraw}
 use Rattle.office_journal.specs.declared.event.Entry.{Entry}
-use Rattle.session_agenda.specs.Agenda.{Agenda, Current, Idle, Gathering, Working}
+use Rattle.site_core.specs.agendas.Agenda.{Agenda, Current, Idle, Gathering, Working}
 use Rattle.site_core.specs.Offices.{Office, may_withdraw}
 use Rattle.site_core.specs.Journals.{Site, office_of}
 use Rattle.site_core.specs.Readers.{outcome_with}

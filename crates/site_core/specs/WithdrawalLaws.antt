@@ -2,8 +2,8 @@
 use Rattle.std.proofs.Common.{◌≡◌, ℕ, Bool, true, false}
 use Rattle.std.proofs.lemmas.Bool.{cond_both}
 use Rattle.drinking_core.specs.Drinkers as bottles
-use Rattle.neighbour_pairs.specs.Pairs.{after_bottle_rule}
-use Rattle.session_agenda.specs.Agenda.{Idle, is_waiting, without_waiting, with_current}
+use Rattle.site_core.specs.neighbours.Pairs.{after_bottle_rule}
+use Rattle.site_core.specs.agendas.Agenda.{Idle, is_waiting, without_waiting, with_current}
 use Rattle.site_core.specs.Offices.{Office, may_withdraw, withdrawn, withdraw, done_if}
 use Rattle.site_core.specs.Journals.{next_or}
 

@@ -1,2 +1,3 @@
 pub mod OfficeValues
 pub mod OfficeOfCode
+pub mod Giving

@@ -4,17 +4,17 @@ ghost use Rattle.std.specs.Prelude.{◌≡◌, ◌++◌, map, find, [], ◌∷�
 ghost use Rattle.office_map.specs.PlanValue.{records_of, neighbours_of};
 ghost use Rattle.office_journal.specs.declared.rule.Rule.TheVariants as rules;
 ghost use Rattle.site_core.specs.Limits.{usual_piece};
-ghost use Rattle.session_agenda.specs.Agenda as sessions;
+ghost use Rattle.site_core.specs.agendas.Agenda as sessions;
 ghost use Rattle.site_core.specs.Offices as offices;
 ghost use Rattle.site_core.specs.RuleOrder.{rules_in_order};
-ghost use Rattle.session_agenda.specs.refinement.AgendaOfCode.{Means};
+ghost use Rattle.site_core.specs.agendas.refinement.AgendaOfCode.{Means};
 ghost use Rattle.site_core.specs.refinement.OfficeOfCode.{office_at};
 
+use crate::agendas::Agenda;
 use crate::limits::USUAL_PIECE;
+use crate::neighbours::Pairs;
 use crate::rules::may;
-use neighbour_pairs::Pairs;
 use office_journal::Rule;
-use session_agenda::Agenda;
 
 /// The first rule that may be done, in the order in which an office looks at them.
 pub fn next_rule(pairs: &Pairs, agenda: &Agenda) -> Option<Rule>

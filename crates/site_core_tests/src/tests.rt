@@ -14,8 +14,6 @@ mod queue;
 mod readers;
 mod refusal_order;
 mod rows;
-mod rule_rows;
-mod shown;
 mod texts;
 
 /// Two offices, and two records of theirs.

@@ -7,3 +7,4 @@ pub mod Speaking
 pub mod Counting
 pub mod Turning
 pub mod Empty
+pub mod memory_lemmas

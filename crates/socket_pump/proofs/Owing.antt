@@ -10,7 +10,7 @@ use Rattle.office_journal.specs.declared.reply.Refusal.{Refusal}
 use Rattle.office_journal.specs.declared.reply.Refusal.TheVariants as refusal
 use Rattle.site_core.specs.Pairs.{frame_fault}
 use Rattle.site_core.specs.Offices.{answer, unless_faulty}
-use Rattle.neighbour_pairs.specs.PairLaws.{passed}
+use Rattle.site_core.specs.neighbours.PairLaws.{passed}
 use Rattle.site_core.specs.Journals.{Site, office_of, recorded, OrMemory, Receives}
 use Rattle.locked_office.specs.declared.advance.Stopped.{Stopped}
 use Rattle.locked_office.specs.Calls.{Key, DeskPass, office_with}

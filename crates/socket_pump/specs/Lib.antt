@@ -5,3 +5,5 @@ pub mod Chains
 pub mod ChainLaws
 pub mod Turns
 pub mod refinement
+pub mod sockets
+pub mod memory

@@ -36,7 +36,7 @@
 //! ```
 //!
 //! - [`Wire`]: where datagrams come from and go to. [`UdpWire`] is a UDP socket, which tells of each neighbour what is known of the
-//!   way there ([`Contact`]); `memory_wires` has one in memory, for tests.
+//!   way there ([`Contact`]); `socket_pump::memory` has one in memory, for tests.
 //! - [`Pump::turn`]: datagrams that came, at most 32, and after each that was taken the rules that come next, at most 64; the rules
 //!   that come next then, as many; then each message that waits and is due,
 //!   where one that isn't answered is due ever more seldom, from each 50 milliseconds to each 5 seconds (`specs/Last.antt`);
@@ -71,13 +71,16 @@
 
 mod contact;
 mod last;
+pub mod memory;
 mod pump;
 mod senders;
+pub mod sockets;
 mod udp;
 mod wire;
 
 pub use crate::contact::{Contact, Contacts};
 pub use crate::last::{LONGEST_RESEND, Lasts, SHORTEST_RESEND};
+pub use crate::memory::FaultWire;
 pub use crate::pump::{MOST_DATAGRAMS, MOST_RULES, Pump, PumpFault, Turn};
 pub use crate::udp::UdpWire;
 pub use crate::wire::{Wire, WireFailed};

@@ -2,14 +2,13 @@ ghost use Rattle.std.specs.Prelude.{◌≡◌, false, IfOk, IfSome};
 ghost use Rattle.own_lock.specs.Passes.{IsOf, AreIdle};
 
 use bottle_values::Value;
-use frame_codec::decode;
 use locked_office::Desk;
-use memory_wires::{FaultWire, MemoryWire};
 use office_map::{OfficeId, Plan};
 use own_lock::Pass;
 use session_language::read_sessions;
 use session_programs::Program;
 use site_core::{Office, Reply};
+use socket_pump::memory::{FaultWire, MemoryWire};
 use socket_pump::{Pump, PumpFault, Turn, Wire};
 use std::alloc::Global;
 use std::process::Abort;
@@ -18,9 +17,6 @@ use std::test::Fail;
 
 mod caller;
 mod failing_wires;
-mod follows;
-mod full_journal;
-mod resends;
 mod sockets;
 
 /// Two offices, and two records of theirs.
@@ -172,17 +168,6 @@ fn carry(
     Ok(())
 }
 
-/// A turn that took and refused so many frames, did so many rules and sent so many datagrams.
-fn did(counts: [u32; 4]) -> Result<Turn, PumpFault> {
-    let [taken, refused, rules, sent] = counts;
-    Ok(Turn {
-        taken,
-        refused,
-        rules,
-        sent,
-    })
-}
-
 /// Both offices, with a wire each, which fails at a call; what one sends comes to the other.
 #[derive(Drop)]
 struct Both {
@@ -196,10 +181,6 @@ struct Both {
 
 /// More calls than any wire here gets.
 const NEVER: u64 = u64::MAX;
-
-fn open_both(alloc: Global) -> Result<Box<Both>, Fail> {
-    open_both_of(alloc, PAIR)
-}
 
 /// The first two offices of the plan.
 fn open_both_of(alloc: Global, plan: &str) -> Result<Box<Both>, Fail> {
@@ -225,21 +206,6 @@ fn linked(alloc: Global, a: Box<Side>, b: Box<Side>, calls_a: u64, calls_b: u64)
 }
 
 impl Both {
-    fn turn_a<R: Wait>(&mut self, rt: &R, now: u64) -> Result<Turn, PumpFault> {
-        turn(rt, &mut self.a, &mut self.wire_a, now)
-    }
-
-    fn turn_b<R: Wait>(&mut self, rt: &R, now: u64) -> Result<Turn, PumpFault> {
-        turn(rt, &mut self.b, &mut self.wire_b, now)
-    }
-
-    fn turn_of<R: Wait>(&mut self, rt: &R, who: Who, now: u64) -> Result<Turn, PumpFault> {
-        match who {
-            Who::A => self.turn_a(rt, now),
-            Who::B => self.turn_b(rt, now),
-        }
-    }
-
     /// What went out comes to the other.
     fn carry(&mut self) -> Result<(), Fail> {
         carry(
@@ -268,67 +234,6 @@ enum Who {
     B,
 }
 
-/// Whose turn it is, at what time, what it does, and whether what went out then comes to the other.
-struct Turned(Who, u64, [u32; 4], bool);
-
-static FETCHES: [Turned; 3] = [
-    Turned(Who::A, 0, [0, 0, 4, 1], true),
-    Turned(Who::B, 0, [1, 0, 1, 1], true),
-    Turned(Who::A, 0, [1, 0, 4, 1], true),
-];
-
-static RESTS: [Turned; 3] = [
-    Turned(Who::B, 0, [1, 0, 0, 0], false),
-    Turned(Who::A, 1000, [0, 0, 0, 0], false),
-    Turned(Who::B, 1000, [0, 0, 0, 0], false),
-];
-
-fn take_turns<R: Wait + Abort>(rt: &R, both: &mut Both, turns: &[Turned]) -> Result<(), Fail> {
-    for (i, Turned(who, now, counts, comes)) in turns.iter().enumerate() {
-        assert_eq!(rt; both.turn_of(rt, *who, *now), did(*counts), "turn {i}");
-        if *comes {
-            both.carry()?;
-        }
-    }
-    Ok(())
-}
-
-/// A session fetches a bottle: what is queued in a turn goes out in it; who sent a message and gets none gets a count, and who
-/// sent a count gets nothing.
-#[test]
-fn a_session_crosses(rt: HostRuntime) -> Result<(), Fail> {
-    let programs = programs(rt.alloc())?;
-    let mut both = open_both(rt.alloc())?;
-    crosses(&rt, &mut both, &programs)
-}
-
-fn crosses<R: Wait + Abort>(rt: &R, both: &mut Both, programs: &[Program]) -> Result<(), Fail> {
-    let Some(program) = programs.get(0) else {
-        return Err(Fail::from("a session"));
-    };
-    assert_eq!(rt; submit(rt, &mut both.a, program), Some(1));
-    take_turns(rt, both, &FETCHES)?;
-    assert_eq!(rt; value_after(rt, &mut both.a, 1), Some(70));
-    take_turns(rt, both, &RESTS)
-}
-
-/// Of 33 datagrams one stays for the next turn.
-#[test]
-fn the_last_datagram_stays(rt: HostRuntime) -> Result<(), Fail> {
-    let mut both = open_both(rt.alloc())?;
-    stays(&rt, &mut both)
-}
-
-fn stays<R: Wait + Abort>(rt: &R, both: &mut Both) -> Result<(), Fail> {
-    for _ in 0..33 {
-        both.wire_a.wire.comes(b"no frame")?;
-    }
-    assert_eq!(rt; both.turn_a(rt, 0), did([0, 32, 0, 0]));
-    assert_eq!(rt; both.turn_a(rt, 0), did([0, 1, 0, 0]));
-    assert_eq!(rt; both.turn_a(rt, 0), did([0, 0, 0, 0]));
-    Ok(())
-}
-
 /// 1 where the wire failed.
 fn broke_off(turn: Result<Turn, PumpFault>) -> Result<u32, Fail> {
     match turn {
@@ -336,61 +241,4 @@ fn broke_off(turn: Result<Turn, PumpFault>) -> Result<u32, Fail> {
         Err(PumpFault::WireFailed) => Ok(1),
         Err(_) => Err(Fail::from("room")),
     }
-}
-
-/// 502 sessions of the two offices in turn. The first fetches one bottle, and each of the others both and the fork: one message
-/// asks for each thing and one brings it, and each goes out once.
-#[test]
-fn many_messages_cross(rt: HostRuntime) -> Result<(), Fail> {
-    let programs = programs(rt.alloc())?;
-    let mut both = open_both(rt.alloc())?;
-    many_cross(&rt, &mut both, &programs)
-}
-
-fn many_cross<R: Wait + Abort>(rt: &R, both: &mut Both, programs: &[Program]) -> Result<(), Fail> {
-    let (Some(first), Some(second)) = (programs.get(0), programs.get(1)) else {
-        return Err(Fail::from("sessions"));
-    };
-    for ticket in 1..252u32 {
-        cross_both(rt, both, first, second, ticket)?;
-    }
-    assert_eq!(rt; messages(&both.wire_a.wire), 1504);
-    assert_eq!(rt; messages(&both.wire_b.wire), 1504);
-    Ok(())
-}
-
-/// A session of each office, one after the other.
-fn cross_both<R: Wait + Abort>(
-    rt: &R,
-    both: &mut Both,
-    first: &Program,
-    second: &Program,
-    ticket: u32,
-) -> Result<(), Fail> {
-    assert_eq!(rt; submit(rt, &mut both.a, first), Some(ticket));
-    round(rt, both)?;
-    assert_eq!(rt; value_after(rt, &mut both.a, ticket), Some(70));
-    assert_eq!(rt; submit(rt, &mut both.b, second), Some(ticket));
-    round(rt, both)?;
-    assert_eq!(rt; value_after(rt, &mut both.b, ticket), Some(100));
-    Ok(())
-}
-
-/// How many of the frames that went out bring a message.
-fn messages(wire: &MemoryWire) -> usize {
-    wire.accepted()
-        .iter()
-        .filter(|sent| decode(sent.1.bytes()).is_ok_and(|frame| frame.number() > 0))
-        .count()
-}
-
-/// Three turns of each.
-fn round<R: Wait>(rt: &R, both: &mut Both) -> Result<(), Fail> {
-    for _ in 0..3 {
-        broke_off(both.turn_a(rt, 0))?;
-        both.carry()?;
-        broke_off(both.turn_b(rt, 0))?;
-        both.carry()?;
-    }
-    Ok(())
 }

@@ -6,10 +6,10 @@ use Rattle.std.proofs.lemmas.List.{take_all}
 use Rattle.office_map.specs.PlanValue.{PlanValue}
 use Rattle.office_journal.specs.declared.event.Entry.{Entry}
 use Rattle.locked_office.specs.Calls.{Key}
-use Rattle.run_words.specs.Words.{line_of_words}
+use Rattle.journal_texts.specs.wording.Words.{line_of_words}
 use Rattle.journal_stores.specs.Stores.{Stands}
 use Rattle.journal_texts.specs.Written.{header_words, header_line, lines_of, journal_text}
-use Rattle.durable_turns.specs.Letting.{StoreHas}
+use Rattle.stored_runs.specs.durable.Letting.{StoreHas}
 use Rattle.stored_runs.specs.Keeping.{HasText}
 use Rattle.stored_runs.specs.Runs.{HasStanding}
 use Rattle.stored_runs.proofs.Outcomes.{first_same}

@@ -9,12 +9,12 @@ use Rattle.session_meaning.specs.ProgramValue.{ProgramValue}
 use Rattle.site_core.specs.Journals.{Site}
 use Rattle.locked_office.specs.Calls.{Key, DeskPass, Looks, office_with}
 use Rattle.socket_pump.specs.Wires.{Account}
-use Rattle.durable_turns.specs.Letting.{LetsOut}
+use Rattle.stored_runs.specs.durable.Letting.{LetsOut}
 use Rattle.office_stations.specs.Rounds.{Standing, of_office}
 use Rattle.office_stations.specs.Sessions.{count_of, finished_of}
 use Rattle.stored_runs.specs.declared.fault.StoredFault.{StoredFault}
 use Rattle.stored_runs.specs.declared.ended.Ended.{Ended}
-use Rattle.report_forms.specs.declared.forms.Form.{Form}
+use Rattle.session_reports.specs.declared.form.forms.Form.{Form}
 use Rattle.stored_runs.specs.Keeping.{Keeping}
 use Rattle.stored_runs.specs.Runs.{finished_by, told_text, Goes, GoesOn, HasStanding, IsLastLine, IsTold, Unless}
 use Rattle.stored_runs.specs.refinement.Running.{EndsTelling, TellsAfter}

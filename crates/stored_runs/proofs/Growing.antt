@@ -7,8 +7,8 @@ use Rattle.office_journal.specs.declared.event.Entry.{Entry}
 use Rattle.locked_office.specs.Calls.{Key, DeskPass, Looks}
 use Rattle.socket_pump.specs.Wires.{Account}
 use Rattle.socket_pump.specs.ChainLaws.{does_begins}
-use Rattle.durable_turns.specs.Letting.{IsOfStanding, LetsOut}
-use Rattle.durable_turns.specs.LettingLaws.{standing_on}
+use Rattle.stored_runs.specs.durable.Letting.{IsOfStanding, LetsOut}
+use Rattle.stored_runs.specs.durable.LettingLaws.{standing_on}
 use Rattle.office_stations.specs.declared.fault.RunFault.{RunFault}
 use Rattle.office_stations.specs.Rounds.{TakesAll, TakesNoMore, Fills, StopsFilling}
 use Rattle.stored_runs.proofs.Outcomes.{both}

@@ -7,3 +7,4 @@ pub mod Running
 pub mod Begun
 mod Ending
 mod Goes
+mod durable_lemmas

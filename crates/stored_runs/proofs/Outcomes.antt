@@ -7,7 +7,7 @@ use Rattle.office_journal.specs.declared.event.Entry.{Entry}
 use Rattle.site_core.specs.Offices.{Office, opened}
 use Rattle.site_core.specs.Journals.{after, run_of, office_of, AreAccepted, IsLegal}
 use Rattle.locked_office.specs.Calls.{Key, office_with}
-use Rattle.frame_world.proofs.Tickets.{outcomes_grow}
+use Rattle.site_core.proofs.OutcomesStay.{outcomes_stay}
 use Rattle.office_stations.specs.Sessions.{finished_of}
 
 module _ {A : Type 0} where
@@ -36,7 +36,7 @@ outcomes_on : (plan : PlanValue) (me : ℕ) (o : Office) (xs : List Entry) → A
 outcomes_on plan me o [] h = itself o.agenda.outcomes
 outcomes_on plan me o (x ∷ xs) (ok, lt, h) =
     let next : Office = after plan me o x.event in
-    both o.agenda.outcomes next.agenda.outcomes (run_of plan me next xs).agenda.outcomes (_, sym (outcomes_grow plan me o x.event x.reply next ok)) (outcomes_on plan me next xs h)
+    both o.agenda.outcomes next.agenda.outcomes (run_of plan me next xs).agenda.outcomes (outcomes_stay o plan me x.event) (outcomes_on plan me next xs h)
 
 pub finished_on : (k : Key) (es fs : List Entry) → IsLegal (office_with k fs) → IsPrefix es fs → IsPrefix (finished_of (office_with k es)) (finished_of (office_with k fs))
 unfolding office_of

@@ -11,8 +11,8 @@ use Rattle.office_journal.specs.declared.event.Entry.{Entry}
 use Rattle.site_core.specs.Journals.{Site, IsLegal}
 use Rattle.own_lock.specs.Passes.{pass_after_take}
 use Rattle.locked_office.specs.Calls.{Key, DeskPass, Looks, office_with, pass_after_adding}
-use Rattle.report_forms.specs.Forms.{outcome_as}
-use Rattle.report_forms.specs.declared.forms.Form.{Form}
+use Rattle.session_reports.specs.form.Forms.{outcome_as}
+use Rattle.session_reports.specs.declared.form.forms.Form.{Form}
 use Rattle.socket_pump.specs.Wires.{Account}
 use Rattle.office_stations.specs.declared.pace.TimedTurn.{TimedTurn}
 use Rattle.office_stations.specs.Rounds.{Standing, Turns}

@@ -12,9 +12,9 @@ use Rattle.session_meaning.specs.declared.ending.Outcome.{Outcome}
 use Rattle.office_journal.specs.declared.event.Entry.{Entry}
 use Rattle.site_core.specs.Journals.{IsLegal}
 use Rattle.locked_office.specs.Calls.{Key, office_with}
-use Rattle.report_forms.specs.Forms.{outcome_as}
-use Rattle.report_forms.specs.declared.forms.Form.{Form}
-use Rattle.office_restarts.specs.ReopeningLaws.{legal_first}
+use Rattle.session_reports.specs.form.Forms.{outcome_as}
+use Rattle.session_reports.specs.declared.form.forms.Form.{Form}
+use Rattle.site_core.specs.ReopeningLaws.{legal_first}
 use Rattle.office_stations.specs.Sessions.{count_of, finished_of}
 use Rattle.stored_runs.specs.declared.ended.Ended.{Ended}
 use Rattle.stored_runs.specs.Runs.{finished_by, before_as, told_text, IsLastLine, IsTold}

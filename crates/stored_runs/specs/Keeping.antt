@@ -10,7 +10,7 @@ use Rattle.site_core.specs.Journals.{Site, IsLegal}
 use Rattle.journal_texts.specs.JournalText.{IsJournal}
 use Rattle.journal_texts.specs.Written.{journal_text}
 use Rattle.journal_texts.specs.Growing.{has_end, IsCutAfterLines}
-use Rattle.office_restarts.specs.Reopening.{site_with}
+use Rattle.site_core.specs.Reopening.{site_with}
 use Rattle.office_stations.specs.Rounds.{of_office}
 use Rattle.stored_runs.specs.declared.fault.KeptFault.{KeptFault}
 use Rattle.stored_runs.specs.declared.fault.KeptFault.TheVariants.{Memory, Faulty, OtherSessions}

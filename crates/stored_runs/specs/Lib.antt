@@ -1,3 +1,4 @@
 pub mod Keeping
 pub mod Runs
 pub mod refinement
+pub mod durable

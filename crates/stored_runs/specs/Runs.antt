@@ -8,13 +8,13 @@ use Rattle.session_meaning.specs.ProgramValue.{ProgramValue}
 use Rattle.session_meaning.specs.declared.ending.Outcome.{Outcome}
 use Rattle.office_journal.specs.declared.event.Entry.{Entry}
 use Rattle.locked_office.specs.Calls.{Key, DeskPass, Looks, office_with}
-use Rattle.report_forms.specs.Forms.{count_as, outcome_as, unfinished_as}
-use Rattle.report_forms.specs.declared.forms.Form.{Form}
+use Rattle.session_reports.specs.form.Forms.{count_as, outcome_as, unfinished_as}
+use Rattle.session_reports.specs.declared.form.forms.Form.{Form}
 use Rattle.socket_pump.specs.Wires.{Account}
-use Rattle.durable_turns.specs.declared.fault.TurnFault.{TurnFault}
-use Rattle.durable_turns.specs.declared.fault.TurnFault.TheVariants as turn
-use Rattle.durable_turns.specs.Letting.{LetsOut}
-use Rattle.durable_turns.specs.Breaking.{BrokeAt}
+use Rattle.stored_runs.specs.declared.durable.fault.TurnFault.{TurnFault}
+use Rattle.stored_runs.specs.declared.durable.fault.TurnFault.TheVariants as turn
+use Rattle.stored_runs.specs.durable.Letting.{LetsOut}
+use Rattle.stored_runs.specs.durable.Breaking.{BrokeAt}
 use Rattle.socket_pump.specs.Turns.{Times}
 use Rattle.office_stations.specs.declared.fault.RunFault.{RunFault}
 use Rattle.office_stations.specs.declared.fault.RunFault.TheVariants as run

@@ -1,11 +1,11 @@
 //! Why an office doesn't go on from its store, and why a run of one ends.
 
 ghost use Rattle.std.specs.Prelude.{◌≡◌};
-ghost use Rattle.durable_turns.specs.declared.fault.TurnFault.{TurnFault};
+ghost use Rattle.stored_runs.specs.declared.durable.fault.TurnFault.{TurnFault};
 ghost use Rattle.stored_runs.specs.declared.fault.KeptFault.TheVariants as kept;
 ghost use Rattle.stored_runs.specs.Runs.{fault_of};
 
-use durable_turns::TurnFault;
+use crate::durable::TurnFault;
 use journal_texts::JournalRule;
 use office_stations::RunFault;
 use std::alloc::{AllocError, AllocFailed};

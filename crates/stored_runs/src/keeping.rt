@@ -3,7 +3,7 @@
 ghost use Rattle.std.specs.Prelude.{◌≡◌, ◌<◌, ◌≤◌, [], All, length, IfOk, IfErr, IsTrue};
 ghost use Rattle.session_programs.specs.Program.{fits};
 ghost use Rattle.site_core.specs.Journals.{IsLegal};
-ghost use Rattle.office_restarts.specs.Reopening.{site_with};
+ghost use Rattle.site_core.specs.Reopening.{site_with};
 ghost use Rattle.journal_texts.specs.Written.{journal_text};
 ghost use Rattle.stored_runs.specs.Keeping.{IsFound, LeavesFrom, IsNotFound, IsNotKept};
 ghost use Rattle.stored_runs.specs.refinement.Reading.{IsOffice, IsNoOffice, IsOtherText};
@@ -14,9 +14,8 @@ use crate::submits::next_after;
 use journal_texts::laws::{a_faulty_text_is_no_journal, a_text_is_one_journal};
 use journal_texts::{JournalFault, read_journal, text, whole_lines};
 use office_map::{OfficeId, Plan};
-use office_restarts::{ReopenFault, reopened};
 use session_programs::Program;
-use site_core::Office;
+use site_core::{Office, ReopenFault, reopened};
 use std::alloc::Global;
 use std::marker::Model;
 

@@ -8,6 +8,8 @@
 //! - What `run_stored` is made of is public, for other runs with a store: [`found_in`], [`beginning`], [`turning`], [`telling`] and its
 //!   [`books`].
 //!
+//! - [`durable`]: a turn of which no frame leaves before its entry stands.
+//!
 //! What the offices of a network that are lost and go on so have done is one world (`office_restarts`).
 //!
 //! Not said: that a file has what was found in it, which is the premise beside the headline; over UDP, where sockets
@@ -17,6 +19,7 @@
 
 pub mod beginning;
 pub mod books;
+pub mod durable;
 mod ended;
 mod fault;
 mod keeping;

@@ -5,13 +5,13 @@ ghost use mathlib.Core.List.{IsPrefix};
 ghost use Rattle.own_lock.specs.Passes.{IsOf};
 ghost use Rattle.locked_office.specs.Calls.{Stays};
 ghost use Rattle.socket_pump.specs.Last.{last_of};
-ghost use Rattle.durable_turns.specs.Letting.{StoreHas, LetsOut};
+ghost use Rattle.stored_runs.specs.durable.Letting.{StoreHas, LetsOut};
 ghost use Rattle.office_stations.specs.Rounds.{Turns};
 ghost use Rattle.office_stations.specs.refinement.Standings.{standing};
 ghost use Rattle.stored_runs.specs.Runs.{Broke, IsFaultOf};
 
+use crate::durable::{Mail, turn};
 use crate::fault::StoredFault;
-use durable_turns::{Mail, turn};
 use journal_stores::Store;
 use locked_office::Desk;
 use office_stations::{Shared, Socket, Station, TimedTurn};

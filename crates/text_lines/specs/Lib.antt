@@ -1,2 +1,4 @@
 pub mod Text
 pub mod TextLaws
+pub mod short
+pub mod marked

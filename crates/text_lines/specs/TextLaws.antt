@@ -10,7 +10,7 @@ use Rattle.std.proofs.lemmas.List.Elements.{All-from_get_or}
 use Rattle.std.proofs.lemmas.List.Sums.{fails_before_first}
 use Rattle.std.proofs.lemmas.Bool.{and_parts, and_from}
 use Rattle.std.proofs.lemmas.Bool.Decides.{nat_tests}
-use Rattle.short_names.specs.Names.{is_short, is_short_byte}
+use Rattle.text_lines.specs.short.Names.{is_short, is_short_byte}
 use Rattle.text_lines.specs.Text.{lines, is_newline, is_name, is_name_byte, name_of}
 
 -- a list, cut at the first element that passes

@@ -4,7 +4,7 @@ ghost use Rattle.std.specs.Prelude.{◌≡◌, ◌≢◌, ◌<◌, ◌≤◌, Al
 ghost use Rattle.std.specs.Str.{bytes_eq};
 
 use crate::name_places::place_of_name;
-use short_names::ShortName;
+use crate::short::ShortName;
 
 /// For names of each key, where the last one stood that was found. A place may be of another list by now: it is only
 /// where to look first.

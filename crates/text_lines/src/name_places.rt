@@ -3,7 +3,7 @@
 ghost use Rattle.std.specs.Prelude.{◌≡◌, position};
 ghost use Rattle.std.specs.Str.{bytes_eq};
 
-use short_names::ShortName;
+use crate::short::ShortName;
 
 /// The place of a name.
 pub fn place_of_name(names: &[ShortName], name: &ShortName) -> Option<usize>

@@ -7,7 +7,7 @@ ghost use Rattle.text_lines.specs.Text.{is_name, name_of, is_keyword, is_name_by
 
 use crate::limits::MOST_LETTERS;
 use crate::line_words::is_same_word;
-use short_names::ShortName;
+use crate::short::ShortName;
 
 /// A word as text, if it is a NAME.
 pub fn name(word: &[u8]) -> Option<&str>

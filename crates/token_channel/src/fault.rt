@@ -3,12 +3,12 @@
 ghost use Rattle.std.specs.Prelude.{◌≡◌, Some};
 ghost use Rattle.token_channel.specs.FaultText.{fault_text};
 
-use std::error::Error;
 use std::fmt;
+use thiserror::Error;
 use window_link::LinkFault;
 
 /// Why a frame isn't taken. Nothing changed, and its count isn't used.
-#[derive(Clone, Copy, Debug, PartialEq, Eq)]
+#[derive(Clone, Copy, Debug, PartialEq, Eq, Error)]
 pub enum ChannelFault {
     /// The link refuses it.
     Link(LinkFault),
@@ -36,5 +36,3 @@ impl fmt::Display for ChannelFault {
         f.write_str(fault.text())
     }
 }
-
-impl Error for ChannelFault {}

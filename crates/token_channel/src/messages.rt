@@ -2,29 +2,25 @@
 
 ghost use Rattle.std.specs.Prelude.{◌≡◌, ◌≤◌, ◌<◌, ◌++◌, ◌∷◌, [], length};
 
+use arrayvec::ArrayVec;
+use bottle_values::Value;
 use frame_codec::Msg;
 use std::marker::Model;
 use window_link::MAX_KEPT;
 
 /// At most as many messages as a link takes with one frame, in order. Contracts see the list.
-///
-/// They lie in places of their own: a vector of the kit's with fixed room, which takes any type, can't be proved of messages.
 #[derive(Debug, Drop)]
 pub struct Messages {
-    places: [Msg; MAX_KEPT],
-    count: usize,
+    messages: ArrayVec<Msg, MAX_KEPT>,
 }
 
 impl Model for Messages {
-    ghost use Rattle.std.specs.Prelude.{List, ◌≤◌, take};
+    ghost use Rattle.std.specs.Prelude.{List};
     ghost use Rattle.frame_codec.specs.declared.message.Msg.{Msg};
-    ghost use Rattle.window_link.specs.Limits.{most_kept};
 
     ghost Value = { List Msg };
 
-    ghost view = { λ m. take m.count m.places };
-
-    ghost invariant = { λ m. m.count ≤ most_kept };
+    ghost view = { λ m. m.messages.items };
 }
 
 impl Messages {
@@ -33,8 +29,7 @@ impl Messages {
         ensures { result ≡ [] }
     {
         Messages {
-            places: [Msg::AskFork; MAX_KEPT],
-            count: 0,
+            messages: ArrayVec::new(),
         }
     }
 
@@ -42,14 +37,14 @@ impl Messages {
     pub fn as_slice(&self) -> &[Msg]
         ensures { result.now ≡ self.now }
     {
-        &self.places[..self.count]
+        self.messages.as_slice()
     }
 
     /// None is left.
     pub(crate) fn clear(&mut self)
         ensures { self.new ≡ [] }
     {
-        self.count = 0;
+        self.messages.clear();
     }
 
     /// One more, behind the others.
@@ -57,7 +52,8 @@ impl Messages {
         requires { length self.old < MAX_KEPT }
         ensures { self.new ≡ self.old ++ msg ∷ [] }
     {
-        self.places[self.count] = msg;
-        self.count += 1;
+        // Names the type of what a bottle holds: else the check isn't told of it where a message is moved.
+        let _: Option<Value> = None;
+        self.messages.push(msg);
     }
 }

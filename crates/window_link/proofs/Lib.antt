@@ -2,7 +2,5 @@ mod Invariant
 mod LinksRefineStreams
 mod RunsExtended
 mod FrameDelivery
-mod RoundPlaces
 mod KeptPlaces
-mod RingPlaces
 mod KeptFollowing

@@ -3,11 +3,11 @@
 ghost use Rattle.std.specs.Prelude.{◌≡◌, Some};
 ghost use Rattle.window_link.specs.FaultText.{fault_text};
 
-use std::error::Error;
 use std::fmt;
+use thiserror::Error;
 
 /// Why a frame isn't taken, or a message isn't queued.
-#[derive(Clone, Copy, Debug, PartialEq, Eq)]
+#[derive(Clone, Copy, Debug, PartialEq, Eq, Error)]
 pub enum LinkFault {
     /// The frame is of another run, or doesn't go from the peer to this end.
     Stranger,
@@ -41,5 +41,3 @@ impl fmt::Display for LinkFault {
         f.write_str(fault.text())
     }
 }
-
-impl Error for LinkFault {}

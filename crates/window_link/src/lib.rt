@@ -13,13 +13,13 @@
 //! What waits is what frames of the link's version can carry (`are_carried`, in `specs/Windows.antt`): [`Link::queue`] asks that
 //! of its message, and [`Link::carries`] tells it.
 //!
-//! `sending` and `receiving` are the two windows of an end, and `waiting` is the ring of those that wait. No call of
-//! [`Link`] takes memory. It stands on `frame_codec`.
+//! `sending` and `receiving` are the two windows of an end: what waits and what is kept lie in vectors of fixed room, in
+//! order. No call of [`Link`] takes memory. It stands on `frame_codec`, and on the kit's `arrayvec`.
 //!
 //! A frame's count is used first, whatever the frame brings; then its message is taken, where its number is the next
 //! one. One that is kept follows once those before it are taken: on a network that reorders, it isn't sent again. One
-//! further ahead is dropped. So loss, repetition and reordering end here. A link keeps two numbers, the window of those
-//! that wait, the places of those ahead, and the furthest number that was kept; neither window knows of the other.
+//! further ahead is dropped. So loss, repetition and reordering end here. A link keeps two numbers, the messages that
+//! wait, and what is kept of the numbers ahead up to the furthest; neither window knows of the other.
 //!
 //! Not said: what [`Link::queue`] does where no place is free (`has_room` is a condition); that a frame was made by the
 //! peer, since a forged one that passes `check` is taken; that the caller takes what is kept; that anything arrives.
@@ -28,6 +28,7 @@
 
 mod arrival;
 mod fault;
+mod front;
 pub mod laws;
 mod link;
 mod receiving;

@@ -1,7 +1,10 @@
-//! The messages of an end that wait, in places round a ring.
+//! The messages of an end that wait.
 
 ghost use Rattle.std.specs.Prelude.{◌≡◌, ◌<◌, ◌≤◌, ◌++◌, ◌∷◌, [], length, drop, slice_get, Some};
 
+use crate::front::drop_front;
+use arrayvec::ArrayVec;
+use bottle_values::Value;
 use frame_codec::Msg;
 use std::marker::Model;
 
@@ -10,27 +13,24 @@ pub const MAX_WAITING: usize = 18;
 
 /// Messages that wait, the oldest first. Contracts see the list.
 ///
-/// Nothing moves when the oldest leave: the first place does, round the end. What left stays in its place until another
-/// message comes there.
+/// Nothing moves when the oldest leave: they stay in front of the others until there is no place behind those.
 #[derive(Drop)]
 pub struct Waiting {
-    places: [Msg; MAX_WAITING],
-    // Where the oldest is.
-    first: usize,
-    count: usize,
+    messages: ArrayVec<Msg, MAX_WAITING>,
+    // So many in front wait no more.
+    gone: usize,
 }
 
 impl Model for Waiting {
-    ghost use Rattle.std.specs.Prelude.{List, ◌<◌, ◌≤◌};
+    ghost use Rattle.std.specs.Prelude.{List, ◌≤◌, length, drop};
     ghost use Rattle.frame_codec.specs.declared.message.Msg.{Msg};
     ghost use Rattle.window_link.specs.Limits.{most_waiting};
-    ghost use Rattle.window_link.specs.refinement.Places.{ring};
 
     ghost Value = { List Msg };
 
-    ghost view = { λ w. ring w.first w.count w.places };
+    ghost view = { λ w. drop w.gone w.messages.items };
 
-    ghost invariant = { λ w. (w.first < most_waiting) × (w.count ≤ most_waiting) };
+    ghost invariant = { λ w. (w.gone ≤ length w.messages.items) × (length w.messages.items ≤ most_waiting) };
 }
 
 impl Waiting {
@@ -39,9 +39,8 @@ impl Waiting {
         ensures { result ≡ [] }
     {
         Waiting {
-            places: [Msg::AskFork; MAX_WAITING],
-            first: 0,
-            count: 0,
+            messages: ArrayVec::new(),
+            gone: 0,
         }
     }
 
@@ -50,9 +49,7 @@ impl Waiting {
         ensures len { result ≡ length self.now }
         ensures few { length self.now ≤ MAX_WAITING }
     {
-        // There are 18 places, which a read of one tells.
-        let _oldest = self.places[self.first];
-        self.count
+        self.messages.len() - self.gone
     }
 
     /// The message after so many older ones.
@@ -60,7 +57,7 @@ impl Waiting {
         requires { i < length self.now }
         ensures { slice_get self.now i ≡ Some result }
     {
-        self.places[(self.first + i) % MAX_WAITING]
+        self.messages[self.gone + i]
     }
 
     /// One message more waits.
@@ -68,8 +65,13 @@ impl Waiting {
         requires { length self.old < MAX_WAITING }
         ensures { self.new ≡ self.old ++ msg ∷ [] }
     {
-        self.places[(self.first + self.count) % MAX_WAITING] = msg;
-        self.count += 1;
+        // Names the type of what a bottle holds: else the check isn't told of it where a message is moved.
+        let _: Option<Value> = None;
+        if self.messages.is_full() {
+            drop_front(&mut self.messages, self.gone);
+            self.gone = 0;
+        }
+        self.messages.push(msg);
     }
 
     /// So many of the oldest wait no more.
@@ -77,7 +79,6 @@ impl Waiting {
         requires { many ≤ length self.old }
         ensures { self.new ≡ drop many self.old }
     {
-        self.first = (self.first + many) % MAX_WAITING;
-        self.count -= many;
+        self.gone += many;
     }
 }

@@ -14,3 +14,4 @@ mod Headline
 mod LinkPeers
 mod RestingOffices
 mod NextSteps
+pub mod reports_lemmas

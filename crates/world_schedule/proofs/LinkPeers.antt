@@ -22,7 +22,7 @@ use Rattle.site_core.specs.Pairs.{Pairs, queued_to, sent, bottle_sends, frame_fa
 use Rattle.site_core.specs.Agenda.{is_full, submitted}
 use Rattle.site_core.specs.Offices.{Office, Answer, may, act, is_ours, framed, frame_on, unless_faulty, opened}
 use Rattle.site_core.specs.Journals.{Site, next_or, after, run_of, office_of}
-use Rattle.neighbour_pairs.specs.PairLaws.{through_taking}
+use Rattle.site_core.specs.neighbours.PairLaws.{through_taking}
 use Rattle.site_core.specs.WithdrawalLaws.{either_withdrawn, after_withdrawal}
 
 abbrev ArePeers : (ℕ → LinkState) → Type 0

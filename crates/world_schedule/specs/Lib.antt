@@ -1,5 +1,5 @@
-pub mod Headline
 pub mod Readers
 pub mod Resting
 pub mod Records
 pub mod refinement
+pub mod reports

@@ -37,7 +37,7 @@
 //!   the list may come at any time, as often as it likes, or never.
 //! - [`World::run`] does events in order, and stops only where memory runs out, at an event that is accepted there, or
 //!   before the first one for want of room for the replies; [`Stopped`] tells after how many.
-//! - [`World::is_serial`] tells what holds of every world, and [`World::run`] ensures it of the world that it leaves.
+//! - [`World::headline`] is a law: what holds of every world. [`World::run`] ensures it of the world that it leaves.
 //!   `frame_world` proves it of the definitions.
 //! - [`World::of_record`] is the world to which events led, of the offices, the frames and the order of finishes that they left: so
 //!   who has those needs to do no event again.
@@ -53,8 +53,10 @@
 //! `Memory` is answered only where the event would be accepted, and then nothing changed. No reader looks through all
 //! frames, entries or sessions.
 //!
-//! Definitions: `specs/Headline.antt` for what holds of every world, `specs/Readers.antt` for what readers tell,
-//! `specs/Resting.antt` for what is known of offices that have nothing to do; all else is `frame_world`'s. What ties the code to them is in
+//! - [`reports`]: what is printed of a world.
+//!
+//! Definitions: `specs/Readers.antt` for what readers tell, `specs/Resting.antt` for what is known of offices that have nothing
+//! to do; all else, the headline too, is `frame_world`'s. What ties the code to them is in
 //! `specs/refinement`. That a finished session is found by its ticket is proved in `proofs/FinishedSessions.antt`, each
 //! event in `proofs/WorldSteps.antt` and `proofs/EventSteps.antt`, runs in `proofs/Runs.antt`, the one bottle in
 //! `proofs/BottleValues.antt`, and that who rests still rests after a step in `proofs/RestingOffices.antt`.
@@ -68,6 +70,7 @@ mod happening;
 mod next;
 mod opening;
 mod recording;
+pub mod reports;
 mod resting;
 mod sought;
 mod values;
@@ -76,3 +79,4 @@ mod world;
 pub use crate::finished::Finished;
 pub use crate::resting::Resting;
 pub use crate::world::{Stopped, World};
+pub use journal_weave::weave;

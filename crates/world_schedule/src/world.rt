@@ -2,7 +2,7 @@
 
 ghost use Rattle.std.specs.Prelude.{◌≡◌, ◌<◌, ◌^◌, ◌↔◌, ◌∷◌, [], List, Err, IsTrue, length, map, slice_get, IfOk, OnOk, IfErr};
 ghost use Rattle.std.specs.Option.{option_copied};
-ghost use Rattle.session_agenda.specs.Agenda.{unfinished};
+ghost use Rattle.site_core.specs.agendas.Agenda.{unfinished};
 ghost use Rattle.site_core.specs.Journals.{office_of, IsLegal};
 ghost use Rattle.office_journal.specs.declared.reply.Refusal.TheVariants as refused;
 ghost use Rattle.frame_world.specs.declared.refusal.WorldRefusal.TheVariants as refusals;
@@ -12,10 +12,12 @@ ghost use Rattle.frame_world.specs.Worlds.{opening, run_of, replies_of, Applies,
 ghost use Rattle.frame_world.specs.Ways.{bottles_of, pairs_at, tables_of};
 ghost use Rattle.frame_world.specs.Headline.{programs, outcomes, IsReached, HasSerialSessions, HasSerialValues, HasOnePlaceEach, NeighboursEatApart, EatersHaveTheirForks, DrinkersHaveTheirBottles, FramesAreTaken, NoneIsEarly, FramesGoByBytes, CountsAreTimely};
 ghost use Rattle.frame_world.specs.Standstill.{next_step, place_of, IsStep, IsNextMessage};
+ghost use Rattle.frame_world.specs.Strict.{IsStrict};
+ghost use Rattle.frame_world.specs.Termination.{RunsEnd, WhoGoesOnFinishes};
 ghost use Rattle.frame_world.specs.Tickets.{HaveTheirTickets, TicketsRise, TellsEachOffice};
 ghost use Rattle.dining_core.specs.Worlds.{HasNoRing};
 ghost use Rattle.serial_replay.specs.Serial.{start_map, map_of};
-ghost use Rattle.world_schedule.specs.Headline.{HasHeadline};
+ghost use Rattle.frame_world.specs.EveryWorld.{HasHeadline};
 ghost use Rattle.world_schedule.specs.Readers.{unfinished_in, listed_as};
 ghost use Rattle.world_schedule.specs.Records.{IsLeftBy};
 ghost use Rattle.world_schedule.specs.Resting.{RestIn, RestAfter};
@@ -30,10 +32,11 @@ use crate::{happening, next};
 use bottle_values::Value;
 use frame_codec::Frame;
 use frame_world::laws::{
-    bottles_are_serial, counts_are_timely, each_office_is_told, finished_have_their_tickets,
-    frames_go_by_bytes, neighbours_never_eat_at_once, never_stuck, none_is_early,
-    precedence_has_no_ring, sent_frames_are_taken, sessions_are_serial, things_have_one_place,
-    tickets_rise, who_drinks_has_its_bottles, who_eats_has_its_forks,
+    bottles_are_serial, counts_are_timely, each_office_is_told, every_run_ends,
+    finished_have_their_tickets, frames_go_by_bytes, neighbours_never_eat_at_once, never_stuck,
+    none_is_early, order_is_strict, precedence_has_no_ring, sent_frames_are_taken,
+    sessions_are_serial, things_have_one_place, tickets_rise, who_drinks_has_its_bottles,
+    who_eats_has_its_forks, who_goes_on_finishes,
 };
 use frame_world::{NextStep, SentAt, WorldEvent, WorldRefusal};
 use office_map::{OfficeId, Plan, RecordId};
@@ -213,7 +216,7 @@ impl World {
     }
 
     /// Events in order. A refused one leaves the world as it was, and the run goes on. Of the world then all holds that
-    /// [`World::is_serial`] tells.
+    /// [`World::headline`] tells.
     ///
     /// Room for all replies is made first. So where it stops later, it is at an event that is accepted there.
     ///
@@ -230,7 +233,7 @@ impl World {
         ensures stopped { IfErr result (λ s. Stops self.old events.now s.done self.new) }
     {
         let replies = self.run_all(events);
-        self.is_serial();
+        self.headline();
         replies
     }
 
@@ -257,14 +260,17 @@ impl World {
     }
 
     /// What holds of every world: some events led to it from its plan; the finished sessions ended as they do in the serial
-    /// run of these sessions in finishing order, and each record's one bottle has the value of that run; each of them has
-    /// the ticket that was answered when it was submitted, and those of an office rise; each fork, bottle and request token
-    /// is at one place; neighbours eat apart, who eats has its forks, who works has its bottles, and precedence has no
-    /// ring. Nor will a frame that was sent be refused for what it says, or come too early to be kept, and each has bytes
-    /// that are read as that frame by every office; its count is no older than its message.
-    pub fn is_serial(&self)
+    /// run of these sessions in finishing order, and each record's one bottle has the value of that run; whatever happens,
+    /// they stay first in that order, before each session that is submitted from now on; each of them has the ticket that
+    /// was answered when it was submitted, and those of an office rise; each fork, bottle and request token is at one
+    /// place; neighbours eat apart, who eats has its forks, who works has its bottles, and precedence has no ring. Nor will
+    /// a frame that was sent be refused for what it says, or come too early to be kept, and each has bytes that are read as
+    /// that frame by every office; its count is no older than its message. And whatever happens, no more steps are made than
+    /// there is work left, until a session is submitted; whoever goes on making steps finishes every session.
+    pub fn headline(&self)
         ensures reached { IsReached self.now }
         ensures sessions { HasSerialSessions self.now }
+        ensures strict { IsStrict self.now }
         ensures tickets { HaveTheirTickets self.now }
         ensures rise { TicketsRise self.now }
         ensures offices { TellsEachOffice self.now }
@@ -278,8 +284,11 @@ impl World {
         ensures early { NoneIsEarly self.now }
         ensures bytes { FramesGoByBytes self.now }
         ensures counts { CountsAreTimely self.now }
+        ensures ends { RunsEnd self.now }
+        ensures finishes { WhoGoesOnFinishes self.now }
     {
         sessions_are_serial();
+        order_is_strict();
         finished_have_their_tickets();
         tickets_rise();
         each_office_is_told();
@@ -293,6 +302,8 @@ impl World {
         none_is_early();
         frames_go_by_bytes();
         counts_are_timely();
+        every_run_ends();
+        who_goes_on_finishes();
         let _ = &self.plan;
     }
 
@@ -350,7 +361,7 @@ impl World {
         ensures rise { TicketsRise self.now }
         ensures offices { TellsEachOffice self.now }
     {
-        self.is_serial();
+        self.headline();
         self.finished.as_slice()
     }
 
@@ -406,7 +417,7 @@ impl World {
         ensures order { HasNoRing self.now.plan (tables_of (pairs_at self.now)) }
         ensures rest { RestAfter self.now result resting.new }
     {
-        self.is_serial();
+        self.headline();
         let step = self.found_step(resting);
         next::wake(self, &step, resting);
         step

@@ -1,7 +1,7 @@
 -- The masks that the code keeps beside a table: a bit for each office number below 16.
 use Rattle.std.specs.Prelude.{◌≡◌, ℕ, ◌<◌, Bool, All}
-use Rattle.bit_masks.specs.declared.mask16.Mask16.{Mask16}
-use Rattle.bit_masks.specs.Sets.{is_in16}
+use Rattle.dining_core.specs.declared.masks.mask16.Mask16.{Mask16}
+use Rattle.dining_core.specs.masks.Sets.{is_in16}
 use Rattle.bottle_values.specs.Lists.{is_among}
 use Rattle.dining_core.specs.Diners.{Diner}
 

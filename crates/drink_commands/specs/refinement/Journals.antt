@@ -2,19 +2,19 @@
 use Rattle.std.specs.Prelude.{◌≡◌, ◌+◌, ℕ, List, [], ◌∷◌, ◌++◌, length, take, Option, None, Some, is_some, if◌then◌else◌}
 use Rattle.std.specs.String.{string_bytes}
 use Rattle.std.specs.Io.KnownBytes.{Appends}
-use Rattle.input_texts.specs.Words.{HasText, HaveTexts, Unread}
+use Rattle.host_files.specs.inputs.Words.{HasText, HaveTexts, Unread}
 use Rattle.office_map.specs.PlanValue.{PlanValue}
-use Rattle.run_words.specs.Words.{office_name}
-use Rattle.report_forms.specs.declared.forms.Form.{Form}
+use Rattle.journal_texts.specs.wording.Words.{office_name}
+use Rattle.session_reports.specs.declared.form.forms.Form.{Form}
 use Rattle.frame_world.specs.Worlds.{World}
-use Rattle.output_files.specs.Written.{KeepsFiles}
+use Rattle.host_files.specs.outputs.Written.{KeepsFiles}
 use Rattle.command_outputs.specs.Days.{WritesEnd}
 use Rattle.command_outputs.specs.Journals.{File}
-use Rattle.journal_audit.specs.Gathered.{Gathered}
-use Rattle.journal_audit.specs.Following.{Gathers}
+use Rattle.day_audits.specs.audit.Gathered.{Gathered}
+use Rattle.day_audits.specs.audit.Following.{Gathers}
 use Rattle.drink_commands.specs.Audit.{Audits, JudgesAudit, JudgesJournals, RefusesJournal}
 use Rattle.command_outputs.specs.Fault.{IsFaultAt}
-use Rattle.command_inputs.specs.declared.input.Input.TheVariants as inputs
+use Rattle.serial_command.specs.declared.reading.input.Input.TheVariants as inputs
 use Rattle.command_outputs.specs.declared.fault.Fault.{Fault}
 use Rattle.command_outputs.specs.declared.fault.Fault.TheVariants.{Memory, NoJournal}
 

@@ -3,21 +3,21 @@
 ghost use Rattle.std.specs.Prelude.{◌≡◌, ◌≤◌, ◌⊎◌, ◌∷◌, [], IfErr, IfOk, List, OnOk, ℕ, if◌then◌else◌, map};
 ghost use Rattle.std.specs.Option.{option_copied};
 ghost use Rattle.std.specs.String.{string_bytes};
-ghost use Rattle.input_texts.specs.Words.{StandFor};
+ghost use Rattle.host_files.specs.inputs.Words.{StandFor};
 ghost use Rattle.drink_commands.specs.Audit.{Audits, IsJudgedAudit};
 ghost use Rattle.command_outputs.specs.Fault.{IsAmong, IsWriteFault};
 ghost use Rattle.drink_commands.specs.refinement.Journals.{SaysAudit, TellsAudit, WritesFound};
 
 use crate::commands::DONE;
 use crate::journals::read_journals;
-use command_inputs::read_plan;
 use command_outputs::Fault;
 use command_outputs::day_files::write_end;
 use command_outputs::output::write_whole;
-use input_texts::{Sources, StandardInput};
-use journal_audit::{Finding, audit};
-use output_files::Targets;
-use report_forms::Form;
+use day_audits::audit::{Finding, audit};
+use host_files::inputs::{Sources, StandardInput};
+use host_files::outputs::Targets;
+use serial_command::reading::read_plan;
+use session_reports::form::Form;
 use std::alloc::{AllocError, Global};
 use std::io::Write;
 use world_schedule::World;

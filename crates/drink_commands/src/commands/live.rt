@@ -9,20 +9,20 @@ ghost use Rattle.drink_commands.specs.Run.{EndsWith, IsCutBy, Leaves, NoObstacle
 ghost use Rattle.drink_commands.specs.Texts.{IsJudgedOr};
 
 use crate::commands::ended;
-use command_inputs::{Input, read_coded_programs, read_plan};
 use command_outputs::Fault;
 use command_outputs::day_files::write_day;
 use command_outputs::journal_files::write_texts;
 use command_outputs::output::write_whole;
 use command_outputs::places::look_at_folder;
-use input_texts::{Sources, StandardInput};
-use live_runs::live::live;
+use host_files::inputs::{Sources, StandardInput};
+use host_files::outputs::Targets;
 use office_map::Plan;
 use office_runs::Ran;
+use office_runs::live::live::live;
 use office_stations::{Around, Binds, Gate, Watch};
-use output_files::Targets;
-use report_forms::Form;
+use serial_command::reading::{Input, read_coded_programs, read_plan};
 use session_programs::Program;
+use session_reports::form::Form;
 use std::alloc::Global;
 use std::io::Write;
 use std::rt::Clock;

@@ -2,21 +2,21 @@
 
 ghost use Rattle.std.specs.Prelude.{◌≡◌, ◌⊎◌, [], ◌∷◌, IfErr, IfOk, List, OnOk, ℕ};
 ghost use Rattle.std.specs.Option.{option_copied};
-ghost use Rattle.input_texts.specs.Words.{StandFor};
+ghost use Rattle.host_files.specs.inputs.Words.{StandFor};
 ghost use Rattle.command_outputs.specs.Fault.{IsWriteFault};
 ghost use Rattle.drink_commands.specs.Random.{TellsRun};
 ghost use Rattle.drink_commands.specs.Texts.{IsJudged};
 
 use crate::commands::DONE;
-use command_inputs::{Input, read_coded_programs, read_plan};
 use command_outputs::Fault;
 use command_outputs::day_files::write_end_of;
 use command_outputs::output::write_whole;
-use input_texts::{Sources, StandardInput};
-use output_files::Targets;
-use random_runs::Schedule;
-use random_runs::run::report;
-use report_forms::Form;
+use host_files::inputs::{Sources, StandardInput};
+use host_files::outputs::Targets;
+use serial_command::reading::{Input, read_coded_programs, read_plan};
+use session_reports::form::Form;
+use simulation::random::Schedule;
+use simulation::random::run::report;
 use std::alloc::Global;
 use std::io::Write;
 

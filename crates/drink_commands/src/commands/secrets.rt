@@ -3,13 +3,13 @@
 ghost use Rattle.std.specs.Prelude.{◌≡◌, ◌<◌, IfErr, IfOk, IfSome, length, option_map};
 ghost use Rattle.std.specs.Option.{option_copied};
 ghost use Rattle.drink_commands.specs.Sealed.{AreSecrets, IsSecretsFault};
-ghost use Rattle.secret_files.specs.Files.{RefusesSecrets};
+ghost use Rattle.command_outputs.specs.secrets.Files.{RefusesSecrets};
 
 use command_outputs::Fault;
-use input_texts::Sources;
+use command_outputs::secrets::read_secrets;
+use datagram_seals::frames::Secret;
+use host_files::inputs::Sources;
 use office_map::{OfficeId, Plan};
-use sealed_frames::Secret;
-use secret_files::read_secrets;
 use std::alloc::Global;
 
 /// What an office shares with each office of the plan, where a file is named for it.

@@ -2,19 +2,19 @@
 
 ghost use Rattle.std.specs.Prelude.{◌≡◌, ◌⊎◌, [], ◌∷◌, IfErr, IfOk, List, OnOk, ℕ};
 ghost use Rattle.std.specs.Option.{option_copied};
-ghost use Rattle.input_texts.specs.Words.{StandFor};
+ghost use Rattle.host_files.specs.inputs.Words.{StandFor};
 ghost use Rattle.command_outputs.specs.Fault.{IsAmong, IsWriteFault};
 ghost use Rattle.drink_commands.specs.Texts.{IsJudged};
 ghost use Rattle.drink_commands.specs.Serial.{ReportsDay};
 
 use crate::commands::DONE;
-use command_inputs::Input;
 use command_outputs::Fault;
 use command_outputs::day_files::write_next_plan;
 use command_outputs::output::write_whole;
-use input_texts::Sources;
-use output_files::Targets;
-use report_forms::Form;
+use host_files::inputs::Sources;
+use host_files::outputs::Targets;
+use serial_command::reading::Input;
+use session_reports::form::Form;
 use std::alloc::Global;
 use std::io::Write;
 

@@ -3,32 +3,32 @@
 ghost use Rattle.std.specs.Prelude.{◌≡◌, ◌⊎◌, [], ◌∷◌, IfErr, IfOk, List, OnOk, ℕ};
 ghost use Rattle.std.specs.Option.{option_copied};
 ghost use Rattle.std.specs.Io.KnownBytes.{Appends};
-ghost use Rattle.input_texts.specs.Words.{StandFor};
+ghost use Rattle.host_files.specs.inputs.Words.{StandFor};
 ghost use Rattle.frame_world.specs.Worlds.{opening};
-ghost use Rattle.script_runs.specs.Runs.{run_of};
-ghost use Rattle.script_runs.specs.Script.{acts_with};
-ghost use Rattle.script_runs.specs.Transcript.{transcript, IsSerialRun};
+ghost use Rattle.simulation.specs.scripts.Runs.{run_of};
+ghost use Rattle.simulation.specs.scripts.Script.{acts_with};
+ghost use Rattle.simulation.specs.scripts.Transcript.{transcript, IsSerialRun};
 ghost use Rattle.command_outputs.specs.Fault.{IsAmong, IsWriteFault};
 ghost use Rattle.drink_commands.specs.Simulation.{LeavesFiles, Simulates};
 ghost use Rattle.drink_commands.specs.Texts.{IsJudged};
 
 use crate::commands::DONE;
 use crate::scripts::read_events;
-use command_inputs::{Input, read_coded_programs, read_plan};
 use command_outputs::Fault;
 use command_outputs::day_files::write_end;
 use command_outputs::journal_files::write_world;
-use input_texts::{Sources, StandardInput};
+use host_files::inputs::{Sources, StandardInput};
+use host_files::outputs::Targets;
 use office_map::Plan;
-use output_files::Targets;
-use report_forms::Form;
-use run_reports::TellingFault;
-use script_runs::ScriptEvent;
-use script_runs::transcript::simulate;
+use serial_command::reading::{Input, read_coded_programs, read_plan};
 use session_programs::Program;
+use session_reports::form::Form;
+use simulation::scripts::ScriptEvent;
+use simulation::scripts::transcript::simulate;
 use std::alloc::Global;
 use std::io::Write;
 use world_schedule::World;
+use world_schedule::reports::TellingFault;
 
 /// Runs a script on the world of a plan, and writes in that form a line for each event and then what the finished sessions did, how many
 /// submitted ones haven't finished, and the values. Each input is read and judged before the next one is read, and nothing is

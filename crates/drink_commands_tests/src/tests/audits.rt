@@ -1,16 +1,11 @@
-use crate::tests;
-use crate::tests::devices::Narrow;
-use crate::tests::{PLAN, reason};
-use command_inputs::Input;
+use crate::tests::PLAN;
 use command_outputs::Fault;
-use command_outputs::fault::Why;
 use drink_commands::commands::audit;
-use input_texts::Texts;
-use journal_texts::{JournalRefusal, JournalRule};
-use output_files::InMemory;
-use report_forms::Form;
+use host_files::inputs::Texts;
+use host_files::outputs::InMemory;
+use serial_command::reading::Input;
+use session_reports::form::Form;
 use std::alloc::Global;
-use std::io::ErrorKind;
 use std::process::Abort;
 
 pub const OF_A: &str =
@@ -80,121 +75,4 @@ fn journals_are_woven_in_any_order(rt: HostRuntime) {
     tells(&rt, &["a", "b"], 0, TOLD);
     tells(&rt, &["b", "a"], 0, TOLD);
     tells(&rt, &["a", "changed"], 1, "unwoven b 1\n");
-}
-
-/// That it is refused so, and nothing is written.
-fn refused(rt: &(impl Abort + AllocGlobal), journals: &[&str], expected: Why) {
-    let (result, out) = audited(rt.alloc(), "", "p", journals);
-    assert_eq!(rt; reason(result), Some(tests::Why::Given(expected)));
-    assert_eq!(rt; out.len(), 0);
-}
-
-#[test]
-fn the_first_journal_that_is_at_fault_is_told(rt: HostRuntime) {
-    let header = JournalRefusal {
-        rule: JournalRule::JournalHeader,
-        line: 2,
-    };
-    let line = JournalRefusal {
-        rule: JournalRule::Journal,
-        line: 2,
-    };
-    let nothing = JournalRefusal {
-        rule: JournalRule::Journal,
-        line: 0,
-    };
-    refused(&rt, &["a", "a"], Why::Twice(1));
-    refused(&rt, &["a", "b", "a", "faulty"], Why::Twice(2));
-    refused(&rt, &["other", "faulty"], Why::Journal(0, header));
-    refused(&rt, &["a", "other"], Why::Journal(1, header));
-    refused(&rt, &["a", "faulty", "a"], Why::Journal(1, line));
-    refused(&rt, &["none"], Why::Journal(0, nothing));
-}
-
-/// The fault of an audit that writes nothing, for people; and the input that it is of.
-fn fault(
-    rt: &(impl Abort + AllocGlobal),
-    plan: &str,
-    journals: &[&str],
-    input: Option<Input>,
-    text: &str,
-) {
-    let (result, out) = audited(rt.alloc(), "", plan, journals);
-    assert_eq!(rt; out.len(), 0);
-    match result {
-        Ok(_) => assert!(rt; false),
-        Err(fault) => {
-            assert_eq!(rt; fault.input(), input);
-            let shown = format!(in rt.alloc(); "{fault}");
-            assert!(rt; shown.is_ok_and(|shown| shown.as_str() == text));
-        }
-    }
-}
-
-#[test]
-fn faults_say_what_is_wrong(rt: HostRuntime) {
-    fault(
-        &rt,
-        "p",
-        &["b"],
-        None,
-        "J2 JournalHeader: no journal is of the office `a`, and an audit takes one of each office of the plan",
-    );
-    fault(
-        &rt,
-        "p",
-        &["b", "b"],
-        Some(Input::Journal(1)),
-        "J2 JournalHeader: a journal of the office `b` is named before it, and an audit takes one of each office",
-    );
-    fault(
-        &rt,
-        "p",
-        &["b", "nowhere"],
-        Some(Input::Journal(1)),
-        "X4 ReadFailed: it cannot be read: no such file",
-    );
-    fault(
-        &rt,
-        "none",
-        &["nowhere"],
-        Some(Input::Plan),
-        "P1 Header: no line says anything, and the first one has to be `plan 1 run N`",
-    );
-}
-
-#[test]
-fn journals_come_from_the_standard_input(rt: HostRuntime) {
-    let alloc = rt.alloc();
-    let text = format!(in alloc; "{PLAN}---\n{OF_B}---\n{OF_A}");
-    let (result, out) = match text {
-        Ok(text) => audited(alloc, text.as_str(), "-", &["-", "-"]),
-        Err(_) => return assert!(rt; false),
-    };
-    assert_eq!(rt; result, Ok(0));
-    assert_eq!(rt; out.as_slice(), TOLD.as_bytes());
-}
-
-#[test]
-fn an_output_that_fails_is_told(rt: HostRuntime) {
-    let texts = Texts {
-        files: &files(),
-        standard: b"",
-    };
-    let mut out = Narrow {
-        taken: Vec::new(rt.alloc()),
-        writes: 3,
-    };
-    let result = audit::run(
-        rt.alloc(),
-        Form::Plain,
-        &texts,
-        "p",
-        &["a", "b"],
-        None,
-        None,
-        &mut InMemory::new(rt.alloc()),
-        &mut out,
-    );
-    assert_eq!(rt; result, Err(Fault::WriteFailed(ErrorKind::StorageFull)));
 }

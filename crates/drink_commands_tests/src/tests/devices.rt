@@ -1,9 +1,9 @@
-use crate::tests::{MOVE, MOVED, Memory, PLAN, Why, prints, reason};
-use command_inputs::{Input, TextFault};
+use crate::tests::{MOVE, MOVED, Memory, PLAN};
 use command_outputs::Fault;
 use drink_commands::commands::serial;
-use output_files::InMemory;
-use report_forms::Form;
+use host_files::outputs::InMemory;
+use serial_command::reading::{Input, TextFault};
+use session_reports::form::Form;
 use std::io;
 use std::io::{ErrorKind, Write};
 use std::process::Abort;
@@ -33,13 +33,6 @@ impl Write for Narrow {
         }
         Ok(())
     }
-}
-
-#[test]
-fn waits_for_slow_readers(rt: HostRuntime) {
-    let mut memory = Memory::new(PLAN, MOVE, "");
-    memory.step = 7;
-    prints(&rt, &memory, MOVED);
 }
 
 /// That `serial` fails so, and nothing is written.
@@ -103,50 +96,4 @@ fn a_failing_write_is_told(rt: HostRuntime) {
     for count in 0..MOVED.len() + 2 {
         writes(&rt, &memory, count);
     }
-}
-
-#[test]
-fn a_refused_plan_leaves_the_sessions_unread(rt: HostRuntime) {
-    let memory = Memory::new("plan 2", MOVE, "");
-    let mut out = Vec::new(rt.alloc());
-    let result = serial::run(
-        rt.alloc(),
-        Form::Plain,
-        &memory,
-        "p",
-        "missing",
-        None,
-        &mut InMemory::new(rt.alloc()),
-        &mut out,
-    );
-    assert!(rt; matches!(reason(result), Some(Why::Plan(_))));
-}
-
-#[test]
-fn an_endless_reader_is_left(rt: HostRuntime) {
-    let memory = Memory::new(PLAN, MOVE, "");
-    let mut out = Vec::new(rt.alloc());
-    let result = serial::run(
-        rt.alloc(),
-        Form::Plain,
-        &memory,
-        "endless",
-        "s",
-        None,
-        &mut InMemory::new(rt.alloc()),
-        &mut out,
-    );
-    assert!(rt; matches!(reason(result), Some(Why::Plan(_))));
-    let result = serial::run(
-        rt.alloc(),
-        Form::Plain,
-        &memory,
-        "p",
-        "endless",
-        None,
-        &mut InMemory::new(rt.alloc()),
-        &mut out,
-    );
-    assert!(rt; matches!(reason(result), Some(Why::Sessions(_))));
-    assert_eq!(rt; out.len(), 0);
 }

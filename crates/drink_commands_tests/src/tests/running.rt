@@ -1,15 +1,10 @@
 use crate::tests::clients::SILENT;
-use crate::tests::ear::{Board, Ear};
 use crate::tests::shelves::NoStores;
 use crate::tests::sockets::{Deaf, Shut};
 use crate::tests::{MOVE, Memory, PLAN, strings};
-use drink_program::exit::Exit;
 use drink_program::program::answer;
-use drink_program::telling::{Telling, show};
-use office_stations::{Around, Binds, Gate, Open, Progress, Quiet, UdpSockets, Watch};
-use output_files::InMemory;
-use std::alloc::Global;
-use std::io::ErrorKind;
+use host_files::outputs::InMemory;
+use office_stations::{Around, Binds, Gate, Open, Quiet, UdpSockets, Watch};
 use std::process::Abort;
 use std::rt::Clock;
 use std::sync::Wait;
@@ -223,64 +218,6 @@ fn runs_are_told(rt: HostRuntime) -> Result<(), Fail> {
     Ok(())
 }
 
-static REFUSALS: [(ErrorKind, &str); 4] = [
-    (ErrorKind::AddrInUse, "the address is in use"),
-    (
-        ErrorKind::AddrNotAvailable,
-        "this machine has no such address",
-    ),
-    (ErrorKind::PermissionDenied, "permission denied"),
-    (ErrorKind::Uncategorized, "the system has no socket for it"),
-];
-
-/// Where a socket can't be bound, nothing is printed.
-#[test]
-fn an_address_that_cannot_be_bound_is_told(rt: HostRuntime) -> Result<(), Fail> {
-    let alloc = rt.alloc();
-    for (kind, cause) in &REFUSALS {
-        let mut binds = Deaf::new(alloc);
-        binds.refusal = Some(*kind);
-        let around = Around {
-            binds: &binds,
-            gate: &Open,
-            watch: &Quiet,
-        };
-        let memory = Memory::new(TWO, GIVES, "");
-        let said = format!(in alloc;
-            "drink: U2 BindFailed: no socket can have the address 127.0.0.1:47001: {cause}\n"
-        )?;
-        let run = ["drink", "run", "p", "a", "s"];
-        says(&rt, &memory, &run, &around, (1, "", said.as_str()))?;
-        let said = format!(in alloc;
-            "drink: U2 BindFailed: no socket can have the address 127.0.0.1:0: {cause}\n"
-        )?;
-        let live = ["drink", "live", "p", "s"];
-        says(&rt, &memory, &live, &around, (1, "", said.as_str()))?;
-    }
-    Ok(())
-}
-
-const FAILED: &str =
-    "drink: U1 WireFailed: a socket fails; the run ended with it, and what was done before is printed\n";
-
-/// Where a socket fails, what stands is printed: before the first turn's rules nothing, and then what finished in it.
-#[test]
-fn a_failing_socket_ends_a_run(rt: HostRuntime) -> Result<(), Fail> {
-    for (call, printed) in [(0, "unfinished 1\n"), (1, GAVE), (2, GAVE)] {
-        let mut binds = Deaf::new(rt.alloc());
-        binds.fails_at = call;
-        let around = Around {
-            binds: &binds,
-            gate: &Open,
-            watch: &Quiet,
-        };
-        let memory = Memory::new(TWO, GIVES, "");
-        let words = ["drink", "run", "p", "a", "s", "--turns", "3"];
-        says(&rt, &memory, &words, &around, (1, printed, FAILED))?;
-    }
-    Ok(())
-}
-
 /// Where no thread can be started, none of the sessions is run.
 #[test]
 fn live_without_threads_is_told(rt: HostRuntime) -> Result<(), Fail> {
@@ -336,42 +273,4 @@ fn live_finishes_three_sessions(rt: HostRuntime) -> Result<(), Fail> {
     }
     assert_eq!(rt; count, 4);
     Ok(())
-}
-
-/// How many bytes a screen takes, 20 at a time, how many are shown then, and how often it is asked.
-static TAKEN: [(usize, usize, u32); 4] = [(1000, 80, 4), (30, 30, 3), (1, 1, 2), (0, 0, 1)];
-
-/// What a screen doesn't take at once is left out.
-#[test]
-fn a_screen_is_told_how_far_a_run_is(rt: HostRuntime) {
-    for (room, shown, calls) in &TAKEN {
-        let mut board = Board::new(
-            "drink: 12 of 40 sessions finished; 310 datagrams came, 305 went, 7 were refused\n",
-            *room,
-        );
-        let told = show(
-            rt.alloc(),
-            &mut board,
-            Progress {
-                finished: 12,
-                sessions: 40,
-                came: 310,
-                went: 305,
-                refused: 7,
-            },
-        );
-        assert_eq!(rt; told.is_ok(), *shown == 80);
-        assert_eq!(rt; (board.shown, board.calls), (*shown, *calls));
-    }
-}
-
-/// What is said of a run that has ended goes to the standard error; where there is nothing to say, nothing does.
-#[test]
-fn what_a_run_left_is_said(rt: HostRuntime) {
-    let remarks = "drink: a.1 waits for x from b, which was never heard\n";
-    for (said, times) in [(remarks, 1), ("", 0)] {
-        let ear = Ear::new(rt.alloc(), said);
-        Telling::new(&ear, rt.alloc(), None).end(said);
-        ear.heard(&rt, times);
-    }
 }

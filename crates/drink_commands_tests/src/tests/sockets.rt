@@ -1,14 +1,8 @@
 //! What a run of offices has around it, in memory.
 
-use crate::tests::Memory;
-use crate::tests::clients::SILENT;
-use crate::tests::shelves::NoStores;
-use drink_program::exit::Exit;
-use drink_program::program::answer;
-use memory_wires::{FaultWire, MemoryWire};
 use office_map::OfficeId;
-use office_stations::{Around, Binds, Gate, Open, Quiet, Socket, Waits, Wakes};
-use output_files::InMemory;
+use office_stations::{Binds, Gate, Socket, Waits, Wakes};
+use socket_pump::memory::{FaultWire, MemoryWire};
 use socket_pump::{Contact, Wire, WireFailed};
 use std::alloc::Global;
 use std::io;
@@ -62,7 +56,7 @@ pub struct DeafSocket {
 
 impl Wire for DeafSocket {
     ghost use Rattle.std.specs.Prelude.{true};
-    ghost use Rattle.memory_wires.specs.OneFault.{with_fault};
+    ghost use Rattle.socket_pump.specs.memory.OneFault.{with_fault};
 
     ghost account = { λ s. with_fault s.wire.left s.wire.wire };
 
@@ -113,30 +107,4 @@ impl Gate for Shut {
     fn may_start(&self) -> bool {
         false
     }
-}
-
-/// What the program answers these words, where sockets are in memory.
-pub fn answered<W: Write>(
-    rt: &(impl AllocGlobal + Threads + Wait + Clock + Sync),
-    words: &[String],
-    memory: &Memory<'_>,
-    out: &mut W,
-) -> Exit {
-    let binds = Deaf::new(rt.alloc());
-    let around = Around {
-        binds: &binds,
-        gate: &Open,
-        watch: &Quiet,
-    };
-    answer(
-        rt,
-        rt.alloc(),
-        words,
-        memory,
-        &around,
-        &mut InMemory::new(rt.alloc()),
-        &mut NoStores,
-        &SILENT,
-        out,
-    )
 }

@@ -1,8 +1,8 @@
 -- The places that the code keeps, and the office that they mean.
 use Rattle.std.specs.Prelude.{◌≡◌, ℕ, ◌<◌, Bool, true, false, List, [], ◌∷◌, length, get_or, Option, None, is_some, option_map, slice_get, ◌↔◌, Result, IsErr, OnOk, OnErr}
 use Rattle.std.proofs.Math.ListN.{set}
-use Rattle.bit_masks.specs.declared.mask128.Mask128.{Mask128}
-use Rattle.bit_masks.specs.Sets.{is_in128}
+use Rattle.dining_core.specs.declared.masks.mask128.Mask128.{Mask128}
+use Rattle.dining_core.specs.masks.Sets.{is_in128}
 use Rattle.bottle_values.specs.declared.Value.{Value}
 use Rattle.office_map.specs.PlanValue.{PlanValue, peer}
 use Rattle.drinking_core.specs.declared.phase.Phase.{Phase}

@@ -1,7 +1,7 @@
 -- The masks that the code keeps beside an office's places: a bit for each of the office's own records.
 use Rattle.std.specs.Prelude.{◌≡◌, ℕ, ◌<◌, ◌≤◌, Bool, ◌==◌, ◌&&◌, nat_lt, List, length, get_or}
-use Rattle.bit_masks.specs.declared.mask128.Mask128.{Mask128}
-use Rattle.bit_masks.specs.Sets.{is_in128}
+use Rattle.dining_core.specs.declared.masks.mask128.Mask128.{Mask128}
+use Rattle.dining_core.specs.masks.Sets.{is_in128}
 use Rattle.drinking_core.specs.Drinkers.{Drinker}
 
 -- where a record stands among the office's own

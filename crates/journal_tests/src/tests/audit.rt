@@ -2,9 +2,9 @@
 
 ghost use Rattle.std.specs.Prelude.{All, IsSome};
 
-use journal_audit::{GatherFault, Journals, audit};
+use day_audits::audit::{GatherFault, Journals, audit};
 use office_map::{OfficeId, Plan};
-use report_forms::Form;
+use session_reports::form::Form;
 use std::alloc::{AllocError, Global};
 use std::process::Abort;
 use std::test::Fail;
@@ -147,14 +147,6 @@ static ORDERS: [(usize, usize, usize, &str); 8] = [
     (0, 0, 2, "the journal of office 0 is there already"),
 ];
 
-/// Two texts of journals, the one handed in first and the other, and what is told where the first is handed in again and a faulty
-/// one comes between them.
-static AFTER_FAULTS: [(usize, usize, &str); 3] = [
-    (2, 0, "office 1 has none"),
-    (1, 2, "office 0 has none"),
-    (0, 1, "office 2 has none"),
-];
-
 #[test]
 fn two_journals_tell_a_world_or_an_entry(rt: HostRuntime) -> Result<(), Fail> {
     for (lines, without, second, expected) in &ROWS {
@@ -210,43 +202,6 @@ fn a_journal_without_frames_tells_its_sessions(rt: HostRuntime) -> Result<(), Fa
     Ok(())
 }
 
-/// Entries past the 65,536th are followed as those before, and counted.
-#[test]
-fn a_long_journal_is_followed_to_its_end(rt: HostRuntime) -> Result<(), Fail> {
-    let second = "journal 1 run 7 office b\n";
-    let mut first = long(rt.alloc())?;
-    both_tell(
-        &rt,
-        rt.alloc(),
-        APART,
-        first.as_str(),
-        second,
-        "unfinished 0\n",
-    )?;
-    first.push_str("0 do start = done\n")?;
-    both_tell(
-        &rt,
-        rt.alloc(),
-        APART,
-        first.as_str(),
-        second,
-        "unwoven a 66001\n",
-    )
-}
-
-/// The journal of an office at which 33,000 sessions are submitted, and withdrawn again: 66,000 entries.
-fn long(alloc: Global) -> Result<String, AllocError> {
-    let mut text = String::from_str(alloc, "journal 1 run 7 office a\n")?;
-    for ticket in 1..33_001_u32 {
-        writeln!(
-            text,
-            "0 submit 73657373696f6e20610a6769766520310a656e640a = ticket {ticket}"
-        )?;
-        writeln!(text, "0 withdraw {ticket} = done")?;
-    }
-    Ok(text)
-}
-
 /// What two texts tell under a plan, or the first fault, is this.
 fn both_tell(
     rt: &impl Abort,
@@ -294,39 +249,6 @@ fn of_row(office: usize) -> &'static str {
         Some(journal) => journal,
         None => "",
     }
-}
-
-/// The least office that has none is named, and a text that is refused leaves room for a good one.
-#[test]
-fn an_office_may_have_none(rt: HostRuntime) -> Result<(), Fail> {
-    let told = told_of_none(rt.alloc())?;
-    assert_eq!(rt; told.as_str(), "office 0 has none");
-    for (first, second, expected) in &AFTER_FAULTS {
-        both_tell_after_faults(&rt, rt.alloc(), *first, *second, expected)?;
-    }
-    Ok(())
-}
-
-fn told_of_none(alloc: Global) -> Result<String, Fail> {
-    let plan = Plan::read(alloc, ROW.as_bytes())?;
-    Ok(told_by(alloc, Journals::new(alloc, &plan)?)?)
-}
-
-fn both_tell_after_faults(
-    rt: &impl Abort,
-    alloc: Global,
-    first: usize,
-    second: usize,
-    expected: &str,
-) -> Result<(), Fail> {
-    let told = told_of_row_after_faults(alloc, first, second)?;
-    assert_eq!(rt; told.as_str(), expected, "of {first} and {second}");
-    Ok(())
-}
-
-fn told_of_row_after_faults(alloc: Global, first: usize, second: usize) -> Result<String, Fail> {
-    let plan = Plan::read(alloc, ROW.as_bytes())?;
-    Ok(told_after_faults(alloc, &plan, of_row(first), of_row(second))?)
 }
 
 /// What two texts tell under a plan, or the first fault.
@@ -390,30 +312,6 @@ fn told_or_said(
         Ok(()) => told_by(alloc, journals),
         Err(fault) => format!(in alloc; "{fault}"),
     }
-}
-
-/// What two texts tell, where the first is handed in again and a faulty one comes between them.
-fn told_after_faults(
-    alloc: Global,
-    plan: &Plan,
-    first: &str,
-    second: &str,
-) -> Result<String, AllocError> {
-    let mut journals = Journals::new(alloc, plan)?;
-    if read_around_faults(&mut journals, alloc, first, second) {
-        told_by(alloc, journals)
-    } else {
-        Ok(String::new(alloc))
-    }
-}
-
-/// Whether both texts are taken, and neither the first one again nor the faulty one.
-fn read_around_faults(journals: &mut Journals, alloc: Global, first: &str, second: &str) -> bool {
-    let taken = journals.read(alloc, first.as_bytes()).is_ok();
-    let twice = journals.read(alloc, first.as_bytes()).is_err();
-    let faulty = journals.read(alloc, "journal 1".as_bytes()).is_err();
-    let other = journals.read(alloc, second.as_bytes()).is_ok();
-    taken && twice && faulty && other
 }
 
 /// What gathered journals tell, or which office has none.

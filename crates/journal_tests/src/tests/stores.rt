@@ -1,5 +1,4 @@
 //! A store in memory that fails, and stores in files.
 
 mod files;
-mod memory;
 mod noted;

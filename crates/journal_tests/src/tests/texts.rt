@@ -1,6 +1,5 @@
-use journal_texts::{read_journal, text};
-use office_map::{OfficeId, Plan};
-use site_core::{Entry, Office};
+use journal_texts::read_journal;
+use office_map::Plan;
 use std::alloc::{AllocError, Global};
 use std::process::Abort;
 use std::test::Fail;
@@ -8,30 +7,6 @@ use std::test::Fail;
 /// Two offices, and two records of theirs.
 const PAIR: &str =
     "plan 1 run 42\noffice a -\noffice b -\npair a b fork a\nrecord x a b 100 at a\nrecord y a b 0 at b\n";
-
-/// Two offices that share nothing.
-const ALONE: &str = "plan 1 run 7\noffice a -\noffice b -\n";
-
-/// A plan, and the journal of an office as it is written.
-static JOURNALS: [(&str, &str); 5] = [
-    (
-        ALONE,
-        "journal 1 run 7 office a\n0 submit 73657373696f6e20610a6769766520310a656e640a = ticket 1\n0 do start = done\n0 do hungry = done\n0 do eat = done\n0 do drink = done\n0 do leave = done\n0 do work 9 = done\n0 do finish = done\n",
-    ),
-    (
-        PAIR,
-        "journal 1 run 42 office b\n0 took 445001010000002a000100000000000000010000000000000000030001 = taken\n0 do givebottle y = done\n0 send a 1 = frame 445001010000002a0100000000000000000100000000000000010400010000000000000000\n",
-    ),
-    (
-        PAIR,
-        "journal 1 run 42 office a\n3 submit 73657373696f6e20610a6c65742076203d207265616420780a7365742078203d2076202d2033300a7365742079203d20726561642079202b2033300a67697665207265616420780a67697665207265616420790a656e640a = ticket 1\n3 submit 73657373696f6e20610a6769766520310a656e640a = ticket 2\n3 withdraw 2 = done\n0 do start = done\n0 do hungry = done\n0 do eat = done\n0 do askbottle y = done\n0 send b 1 = frame 445001010000002a000100000000000000010000000000000000030001\n0 took 445001010000002a0100000000000000000100000000000000010400010000000000000000 = taken\n15 do drink = done\n15 do leave = done\n15 do work 1000 = done\n15 do finish = done\n0 took 445001010000002a0100000000000000000100000000000000010400010000000000000000 = repeat\n0 send b 0 = frame 445001020000002a000100000000000000000000000000000001\n0 took 445001020000002a010000000000000000000000000000000001 = acked\n0 took 445001010000002a01000000000000000003000000000000000102 = kept\n0 took 445001010000002a01000000000000000014000000000000000102 = early\n",
-    ),
-    (
-        PAIR,
-        "journal 1 run 42 office b\n0 submit 73657373696f6e20620a6769766520320a656e640a = ticket 1\n0 do start = done\n0 do hungry = done\n0 do askfork a = done\n0 send a 1 = frame 445001010000002a01000000000000000001000000000000000001\n0 took 445001010000002a00010000000000000001000000000000000102 = taken\n0 took 445001010000002a00010000000000000002000000000000000101 = taken\n0 do eat = done\n0 do drink = done\n0 do leave = done\n0 do givefork a = done\n0 send a 1 = frame 445001010000002a01000000000000000002000000000000000202\n",
-    ),
-    (PAIR, "journal 1 run 42 office b\n"),
-];
 
 /// A text under the plan of a pair, how many entries are read, and whether the journal ends with them.
 static READ: [(&str, usize, bool); 11] = [
@@ -217,81 +192,6 @@ static FAULTS: [(&str, &str); 38] = [
         "line 2: J1 Journal",
     ),
 ];
-
-#[test]
-fn journals_are_written_as_they_were_read(rt: HostRuntime) -> Result<(), Fail> {
-    for (plan, journal) in &JOURNALS {
-        is_written_again(&rt, rt.alloc(), plan, journal)?;
-    }
-    Ok(())
-}
-
-fn is_written_again(rt: &impl Abort, alloc: Global, plan: &str, journal: &str) -> Result<(), Fail> {
-    let again = written_again(rt, alloc, plan, journal)?;
-    assert_eq!(rt; again.as_str(), journal);
-    Ok(())
-}
-
-/// The text of the journal that was read from a text.
-fn written_again(
-    rt: &impl Abort,
-    alloc: Global,
-    plan: &str,
-    journal: &str,
-) -> Result<String, Fail> {
-    let plan = Plan::read(alloc, plan.as_bytes())?;
-    written_under(rt, alloc, &plan, journal)
-}
-
-fn written_under(
-    rt: &impl Abort,
-    alloc: Global,
-    plan: &Plan,
-    journal: &str,
-) -> Result<String, Fail> {
-    let read = read_journal(alloc, journal.as_bytes(), plan)?;
-    assert!(rt; read.ends, "of {journal:?}");
-    Ok(written(alloc, plan, read.office, read.entries.as_slice())?)
-}
-
-/// The text of the office's journal, where the office is opened and does all that was read.
-fn written(
-    alloc: Global,
-    plan: &Plan,
-    me: OfficeId,
-    entries: &[Entry],
-) -> Result<String, AllocError> {
-    if me.index() >= plan.offices() {
-        return Ok(String::new(alloc));
-    }
-    let mut office = Office::open(alloc, plan, me)?;
-    text_after(alloc, &mut office, entries)
-}
-
-fn text_after(alloc: Global, office: &mut Office, entries: &[Entry]) -> Result<String, AllocError> {
-    if replays(office, entries) {
-        text_of(alloc, office)
-    } else {
-        Ok(String::new(alloc))
-    }
-}
-
-/// Whether the office answers each entry as it is told.
-fn replays(office: &mut Office, entries: &[Entry]) -> bool {
-    for entry in entries {
-        if entry.tag >= 16 || office.step(entry.tag, &entry.event) != Ok(entry.reply) {
-            return false;
-        }
-    }
-    true
-}
-
-fn text_of(alloc: Global, office: &Office) -> Result<String, AllocError> {
-    if office.number().index() >= office.plan().offices() {
-        return Ok(String::new(alloc));
-    }
-    text(alloc, office.journal(), office.plan(), office.number())
-}
 
 #[test]
 fn texts_are_read_up_to_the_first_that_is_no_frame(rt: HostRuntime) -> Result<(), Fail> {

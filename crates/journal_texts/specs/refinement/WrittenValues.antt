@@ -7,9 +7,9 @@ use Rattle.session_language.specs.Reading.{sessions_of}
 use Rattle.office_journal.specs.declared.event.Event.{Event}
 use Rattle.office_journal.specs.declared.event.Event.TheVariants as event
 use Rattle.office_journal.specs.declared.event.Entry.{Entry}
-use Rattle.run_words.specs.Digits.{digits_of, frame_digits, bytes_in, IsFrameWord}
-use Rattle.run_words.specs.Replies.{ReplyReadsBack}
-use Rattle.run_words.specs.declared.digits.FrameWord.TheVariants.{Spelled}
+use Rattle.journal_texts.specs.wording.Digits.{digits_of, frame_digits, bytes_in, IsFrameWord}
+use Rattle.journal_texts.specs.wording.Replies.{ReplyReadsBack}
+use Rattle.journal_texts.specs.declared.wording.digits.FrameWord.TheVariants.{Spelled}
 
 -- a program that is submitted has a text under the plan
 abbrev pub HasText : PlanValue → Event → Type 0

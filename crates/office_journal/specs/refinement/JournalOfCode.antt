@@ -1,7 +1,7 @@
 -- The journal that the code keeps.
 use Rattle.std.specs.Prelude.{ℕ, ◌≤◌, List, [], ◌∷◌, length, map, Option, None, Some}
-use Rattle.journal_pages.specs.Told.{Told}
-use Rattle.journal_pages.specs.Kept.{PagesValue}
+use Rattle.office_journal.specs.pages.Told.{Told}
+use Rattle.office_journal.specs.pages.Kept.{PagesValue}
 use Rattle.office_journal.specs.declared.event.Entry.{Entry}
 use Rattle.office_journal.specs.refinement.PackedEntries.{Beside, entry_in, IsPlaced}
 

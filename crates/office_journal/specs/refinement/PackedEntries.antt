@@ -1,10 +1,10 @@
 -- Which entry of a journal a packed one is.
 use Rattle.std.specs.Prelude.{◌≡◌, ◌≢◌, ℕ, ◌<◌, true, false, List, [], length, Option, None, Some, slice_get}
 use Rattle.session_meaning.specs.ProgramValue.{ProgramValue}
-use Rattle.journal_pages.specs.Framed.{frame_in}
-use Rattle.journal_pages.specs.Told.{Told}
-use Rattle.journal_pages.specs.declared.kind.Kind.{Kind}
-use Rattle.journal_pages.specs.declared.kind.Kind.TheVariants as kind
+use Rattle.office_journal.specs.pages.Framed.{frame_in}
+use Rattle.office_journal.specs.pages.Told.{Told}
+use Rattle.office_journal.specs.declared.pages.kind.Kind.{Kind}
+use Rattle.office_journal.specs.declared.pages.kind.Kind.TheVariants as kind
 use Rattle.office_journal.specs.declared.rule.Rule.{Rule}
 use Rattle.office_journal.specs.declared.rule.Rule.TheVariants as rule
 use Rattle.office_journal.specs.declared.event.Event.{Event}

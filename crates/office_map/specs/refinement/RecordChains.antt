@@ -1,6 +1,6 @@
 -- Records by the keys of their names: each key has a chain, from its last record to its first.
 use Rattle.std.specs.Prelude.{◌≡◌, ℕ, suc, ◌/◌, ◌^◌, ◌<◌, ◌≤◌, List, length, get_or, Bool, true, false, ◌==◌}
-use Rattle.short_names.specs.refinement.Packing.{key_of}
+use Rattle.text_lines.specs.short.refinement.Packing.{key_of}
 use Rattle.office_map.specs.declared.entries.RecordEntry.{RecordEntry}
 
 -- the place that is kept of a name's key, below 256

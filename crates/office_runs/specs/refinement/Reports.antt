@@ -7,8 +7,8 @@ use Rattle.office_journal.specs.declared.event.Entry.{Entry}
 use Rattle.site_core.specs.Journals.{Site, IsLegal}
 use Rattle.own_lock.specs.Entries.{tagged}
 use Rattle.locked_office.specs.Calls.{Key, tag_of}
-use Rattle.report_forms.specs.Forms.{outcome_as}
-use Rattle.report_forms.specs.declared.forms.Form.{Form}
+use Rattle.session_reports.specs.form.Forms.{outcome_as}
+use Rattle.session_reports.specs.declared.form.forms.Form.{Form}
 use Rattle.office_stations.specs.Sessions.{finished_of}
 use Rattle.office_runs.specs.Runs.{text_of, key_of, IsReadBack}
 

@@ -1,9 +1,9 @@
 //! Sockets in memory. Their ports are the numbers of mailboxes, from 1.
 
 use frame_codec::decode;
-use memory_wires::{Datagram, FaultWire};
 use office_map::OfficeId;
 use office_stations::{Binds, Socket, Waits, Wakes};
+use socket_pump::memory::{Datagram, FaultWire};
 use socket_pump::{Contact, Wire, WireFailed};
 use std::alloc::{AllocError, Global};
 use std::collections::VecDeque;
@@ -109,11 +109,6 @@ impl<'a, R: Wait + Clock> MemorySockets<'a, R> {
         }
     }
 
-    /// Of each so many calls of `receive` and `send` go before one fails.
-    pub(crate) fn fail_at(&mut self, call: u64) {
-        self.fails_at = call;
-    }
-
     /// None is refused and none fails, and that comes to them.
     pub(crate) fn to_which(
         rt: &'a R,
@@ -130,25 +125,6 @@ impl<'a, R: Wait + Clock> MemorySockets<'a, R> {
             fails_at: u64::MAX,
             comes,
             lost: u8::MAX,
-        }
-    }
-
-    /// None is refused and none fails, and there is no route to this office.
-    pub(crate) fn without_route(
-        rt: &'a R,
-        alloc: Global,
-        boxes: &'a [Mailbox],
-        lost: u8,
-    ) -> MemorySockets<'a, R> {
-        MemorySockets {
-            rt,
-            alloc,
-            boxes,
-            bound: AtomicU64::new(0),
-            refused: u64::MAX,
-            fails_at: u64::MAX,
-            comes: Comes::Frames,
-            lost,
         }
     }
 }
@@ -317,7 +293,7 @@ impl<'a, R: Wait + Clock> Wire for Mailing<'a, R> {
 
 impl<'a, R: Wait + Clock> Wire for MemorySocket<'a, R> {
     ghost use Rattle.socket_pump.specs.Wires.{counted};
-    ghost use Rattle.memory_wires.specs.OneFault.{with_fault};
+    ghost use Rattle.socket_pump.specs.memory.OneFault.{with_fault};
     ghost use Rattle.std.specs.Prelude.{false};
 
     ghost account = { λ s. with_fault s.mail.left (counted 0) };

@@ -1,32 +1,14 @@
 //! Offices on threads: they run at the same time, and a thread that can't be started ends the run.
 
 use super::memory::{Mailbox, MemorySockets};
-use super::{GIVE, ROW, ROW_SESSIONS, is_told, live_in_memory, plan, programs};
-use live_runs::live::live;
+use super::{GIVE, ROW, ROW_SESSIONS, live_in_memory, plan, programs};
 use office_map::OfficeId;
-use office_stations::{Around, Gate, Open, Quiet, RunFault};
-use report_forms::Form;
+use office_runs::live::live::live;
+use office_stations::{Around, Gate, Quiet, RunFault};
+use session_reports::form::Form;
 use std::sync::atomic::{AtomicU64, Ordering};
 use std::test::Fail;
 use std::thread::yield_now;
-
-/// The sessions of three offices finish, and are told by office.
-#[test]
-fn three_offices_finish_on_threads(rt: HostRuntime) -> Result<(), Fail> {
-    let ran = live_in_memory(&rt, rt.alloc(), ROW, ROW_SESSIONS, false, u64::MAX, &Open)?;
-    assert!(rt;
-        is_told(
-            ran,
-            &[
-                "a.1 done reads r=",
-                "b.1 done reads r=",
-                "c.1 done reads s=",
-                "unfinished 0"
-            ]
-        )
-    );
-    Ok(())
-}
 
 /// Lets the first turn of each of the first two offices go on only when it has seen the other's.
 #[derive(Drop)]

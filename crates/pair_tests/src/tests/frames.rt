@@ -2,11 +2,10 @@ ghost use Rattle.std.specs.Prelude.{◌≡◌, ◌<◌, ◌^◌, Ok};
 ghost use Rattle.frame_codec.specs.Limits.{sequence_space};
 
 use bottle_values::{Value, Version};
-use frame_codec::{Frame, FrameFault, MAX_LENGTH, MAX_NUMBER, Msg, decode, encode, laws};
+use frame_codec::{Frame, FrameFault, MAX_LENGTH, Msg, decode, encode};
 use std::process::Abort;
 use std::test::Fail;
 
-mod changed_bytes;
 mod second_version;
 mod texts;
 
@@ -88,32 +87,6 @@ fn each_case_has_its_spelling(rt: HostRuntime) {
 }
 
 #[test]
-fn lengths_are_exact(rt: HostRuntime) -> Result<(), Fail> {
-    for frame in [
-        ACK.as_slice(),
-        ASK_FORK.as_slice(),
-        FORK.as_slice(),
-        ASK_BOTTLE.as_slice(),
-        BOTTLE.as_slice(),
-    ] {
-        for end in 0..frame.len() {
-            let fault = if end < 26 {
-                FrameFault::Short
-            } else {
-                FrameFault::Length
-            };
-            assert_eq!(rt; decode(&frame[..end]), Err(fault), "{end} bytes");
-        }
-        let mut longer = frame.to_vec(rt.alloc())?;
-        longer.push(0)?;
-        assert_eq!(rt; decode(&longer), Err(FrameFault::Length));
-        longer.push(0xff)?;
-        assert_eq!(rt; decode(&longer), Err(FrameFault::Length));
-    }
-    Ok(())
-}
-
-#[test]
 fn one_byte_of_a_bottle_is_wrong(rt: HostRuntime) {
     for (at, byte, fault) in [
         (3, 0x03, FrameFault::Kind),
@@ -130,65 +103,6 @@ fn one_byte_of_a_bottle_is_wrong(rt: HostRuntime) {
     let mut numbered = ACK;
     numbered[17] = 1;
     assert_eq!(rt; decode(&numbered), Err(FrameFault::Number));
-}
-
-#[test]
-fn the_first_of_several_faults_is_told(rt: HostRuntime) -> Result<(), Fail> {
-    let mut bytes = [0; 38];
-    let mut faults = Vec::new(rt.alloc());
-    faults.push(decode(&bytes).err())?;
-    for (at, byte) in [
-        (0, 0x44),
-        (1, 0x50),
-        (2, 1),
-        (3, 1),
-        (17, 1),
-        (18, 0),
-        (26, 3),
-    ] {
-        assert!(rt; at < bytes.len());
-        if at == 2 {
-            bytes[18] = 1;
-        }
-        bytes[at] = byte;
-        faults.push(decode(&bytes).err())?;
-    }
-    assert_eq!(rt;
-        faults.as_slice(),
-        [
-            Some(FrameFault::Magic),
-            Some(FrameFault::Magic),
-            Some(FrameFault::Version),
-            Some(FrameFault::Kind),
-            Some(FrameFault::Number),
-            Some(FrameFault::Count),
-            Some(FrameFault::Tag),
-            Some(FrameFault::Length),
-        ]
-        .as_slice()
-    );
-    assert_eq!(rt; decode(&[]), Err(FrameFault::Short));
-    Ok(())
-}
-
-#[test]
-fn readers_tell_the_fields(rt: HostRuntime) {
-    let frame = Frame::data(Version::One, 7, 2, 3, MAX_NUMBER, 4, Msg::Fork);
-    assert_eq!(rt; frame.version(), Version::One);
-    assert_eq!(rt; frame.run(), 7);
-    assert_eq!(rt; frame.from(), 2);
-    assert_eq!(rt; frame.to(), 3);
-    assert_eq!(rt; frame.number(), 281474976710655);
-    assert_eq!(rt; frame.count(), 4);
-    assert_eq!(rt; frame.msg(), Some(Msg::Fork));
-    let ack = Frame::ack(Version::One, 7, 2, 3, MAX_NUMBER);
-    assert_eq!(rt; ack.number(), 0);
-    assert_eq!(rt; ack.count(), 281474976710655);
-    assert_eq!(rt; ack.msg(), None);
-    assert_eq!(rt;
-        Frame::ack(Version::Two, 7, 2, 3, 0).version(),
-        Version::Two
-    );
 }
 
 #[test]
@@ -209,11 +123,4 @@ fn faults_are_printed_with_their_codes(rt: HostRuntime) -> Result<(), Fail> {
         assert_eq!(rt; printed.as_str(), text);
     }
     Ok(())
-}
-
-#[test]
-fn laws_are_called() {
-    laws::no_spelling_begins_another();
-    laws::each_frame_has_one_spelling();
-    laws::each_spelling_is_of_one_frame();
 }

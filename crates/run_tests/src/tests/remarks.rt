@@ -1,6 +1,6 @@
 use bottle_values::Version;
 use office_map::{OfficeId, Plan};
-use run_remarks::{Remarks, Way, unmet_by};
+use office_stations::remarks::{Remarks, Way, unmet_by};
 use session_language::read_sessions;
 use session_programs::Program;
 use site_core::Office;
@@ -11,10 +11,6 @@ use std::test::Fail;
 
 const PLAN: &str =
     "plan 1 run 9\noffice a -\noffice b -\noffice c -\npair a b fork b\npair a c fork c\nrecord x a b 1 at b\nrecord y a b 2 at b\nrecord z a c 3 at c\nrecord w a b 4 at a\n";
-
-/// The first needs nothing, the second all records, the others one.
-const SESSIONS: &str =
-    "session a\ngive 1\nend\nsession a\nset w = read x + read y + read z\nend\nsession a\ngive read w\nend\n";
 
 const OWN: &str = "session a\ngive read w\nend\nsession a\ngive read x\nend\n";
 
@@ -90,19 +86,6 @@ fn goes_on(office: &mut Office, programs: &[Program], goes: bool) {
     }
 }
 
-/// A session waits for the records that aren't here, the next one for it, and those that the office didn't take for that.
-#[test]
-fn sessions_are_told_with_what_they_wait_for(rt: HostRuntime) -> Result<(), Fail> {
-    let near = contact(3, 0, None, 2);
-    let ways = [way(1, near, Some(12_345)), way(2, near, Some(1_999))];
-    let text = said(rt.alloc(), SESSIONS, true, 5, &ways)?;
-    assert_eq!(rt;
-        text.as_str(),
-        "drink: a.2 waits for x and y from b, silent for 12 seconds; and for z from c, silent for 1 second\ndrink: a.3 waits for a.2\ndrink: a.4 was not submitted yet\ndrink: a.5 was not submitted yet\n"
-    );
-    Ok(())
-}
-
 /// Of an office whose turns are over before its first rule, the first session that has its bottles waits for nobody, and one that
 /// lacks a bottle for that.
 #[test]
@@ -119,38 +102,6 @@ fn a_session_that_has_its_bottles_waits_for_nobody(rt: HostRuntime) -> Result<()
         text.as_str(),
         "drink: a.1 waits for z from c, which was heard less than a second ago\n"
     );
-    Ok(())
-}
-
-/// Ten sessions are named, and then how many more are left.
-#[test]
-fn ten_sessions_are_named(rt: HostRuntime) -> Result<(), Fail> {
-    let text = said(rt.alloc(), SESSIONS, true, 11, &[])?;
-    assert!(rt;
-        text.as_str()
-            .ends_with("drink: a.11 was not submitted yet\n")
-    );
-    let text = said(rt.alloc(), SESSIONS, true, 12, &[])?;
-    assert!(rt;
-        text.as_str().ends_with(
-            "drink: a.11 was not submitted yet\ndrink: and 1 more session is left\n"
-        )
-    );
-    let text = said(rt.alloc(), SESSIONS, true, 100_000, &[])?;
-    assert!(rt;
-        text.as_str().ends_with(
-            "drink: a.11 was not submitted yet\ndrink: and 99989 more sessions are left\n"
-        )
-    );
-    Ok(())
-}
-
-/// Where all sessions finished and the neighbours were met nothing is said.
-#[test]
-fn nothing_is_said_where_nothing_is_left(rt: HostRuntime) -> Result<(), Fail> {
-    let ways = [way(1, contact(1, 9, Some(101), 1), Some(0))];
-    let text = said(rt.alloc(), SESSIONS, true, 1, &ways)?;
-    assert_eq!(rt; text.as_str(), "");
     Ok(())
 }
 

@@ -2,8 +2,8 @@
 use Rattle.std.specs.Prelude.{◌≡◌, ◌⊎◌, ℕ, Bool, true, false, List, [], ◌++◌, Option, IfSome}
 use Rattle.std.specs.Io.KnownBytes.{Consumes, IsAtEnd}
 use Rattle.office_map.specs.PlanValue.{PlanValue}
-use Rattle.request_streams.specs.declared.asked.Asked.{Asked}
-use Rattle.request_streams.specs.Bytes.{Taking, at_end, nothing_taken, taken}
+use Rattle.session_streams.specs.declared.requests.asked.Asked.{Asked}
+use Rattle.session_streams.specs.requests.Bytes.{Taking, at_end, nothing_taken, taken}
 use Rattle.office_stations.specs.declared.fault.RunFault.TheVariants as run
 use Rattle.stored_runs.specs.declared.fault.StoredFault.TheVariants as stored
 use Rattle.serving.specs.declared.fault.ServeFault.{ServeFault}

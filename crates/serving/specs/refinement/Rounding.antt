@@ -5,13 +5,13 @@ use Rattle.std.specs.Io.KnownBytes.{Appends}
 use Rattle.session_meaning.specs.declared.ending.Outcome.{Outcome}
 use Rattle.office_journal.specs.declared.event.Entry.{Entry}
 use Rattle.locked_office.specs.Calls.{Key, DeskPass}
-use Rattle.report_forms.specs.Forms.{outcome_as}
-use Rattle.report_forms.specs.declared.forms.Form.{Form}
+use Rattle.session_reports.specs.form.Forms.{outcome_as}
+use Rattle.session_reports.specs.declared.form.forms.Form.{Form}
 use Rattle.socket_pump.specs.Wires.{Account}
 use Rattle.office_stations.specs.declared.pace.TimedTurn.{TimedTurn}
 use Rattle.office_stations.specs.Rounds.{Standing}
-use Rattle.request_streams.specs.declared.asked.Asked.{Asked}
-use Rattle.office_answers.specs.Said.{Said, said_as}
+use Rattle.session_streams.specs.declared.requests.asked.Asked.{Asked}
+use Rattle.serving.specs.answers.Said.{Said, said_as}
 use Rattle.serving.specs.declared.fault.ServeFault.{ServeFault}
 use Rattle.serving.specs.Rounds.{CutOff, Round}
 use Rattle.serving.specs.Serving.{Goes, IsOver, Unless, told_text}

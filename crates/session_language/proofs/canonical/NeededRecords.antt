@@ -6,7 +6,7 @@ use Rattle.std.proofs.lemmas.Bool.Decides.{nat_tests}
 use Rattle.bottle_values.specs.declared.version.Version.{Version}
 use Rattle.session_meaning.specs.Fitting.{term_fits, test_fits, command_fits, block_fits}
 use Rattle.session_meaning.specs.Tree.{Term, Constant, Var, ReadOf, Neg, Bin, Test, Command, LetVar, SetTo, GiveOf, Requires, When, Choice, Loop, Block, Nothing, Then}
-use Rattle.session_measures.specs.Needs.{with_record, term_needs, test_needs, command_needs, block_needs}
+use Rattle.session_programs.specs.measures.Needs.{with_record, term_needs, test_needs, command_needs, block_needs}
 use Rattle.session_language.proofs.session_reading.ProgramsFit.{and_true, term_within}
 use Rattle.session_language.proofs.canonical.TextLines.{command_within}
 

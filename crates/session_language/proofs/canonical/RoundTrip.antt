@@ -20,8 +20,8 @@ use Rattle.session_meaning.specs.Fitting.{test_fits, command_fits, block_fits}
 use Rattle.session_meaning.specs.Tree.{Test, Command, LetVar, SetTo, GiveOf, Requires, When, Choice, Loop, Block, Nothing, Then}
 use Rattle.session_meaning.specs.ProgramValue.{ProgramValue}
 use Rattle.session_meaning.specs.refinement.TreeOfStatements.{block_from}
-use Rattle.session_measures.specs.Needs.{test_needs, command_needs, block_needs, needs_of}
-use Rattle.session_measures.specs.Measures.{block_statements, block_cost, block_gives}
+use Rattle.session_programs.specs.measures.Needs.{test_needs, command_needs, block_needs, needs_of}
+use Rattle.session_programs.specs.measures.Measures.{block_statements, block_cost, block_gives}
 use Rattle.session_programs.specs.Program.{fits, words_under, text_under}
 use Rattle.session_programs.specs.Text.{Words, line, test_text, command_text, block_text, session_text, wide_words}
 use Rattle.session_language.specs.Reading.{Head, IfHead, ElseHead, RepeatHead, OpenBlock, Draft, Reading, program_of, closed, whole, Closed, begun, with_open, with_ended, take_line, take_formed, at_line, read_lines, nothing_read, all_closed, sessions_of}

@@ -10,7 +10,7 @@ use Rattle.session_language.specs.declared.fault.SessionRule.{SessionRule}
 use Rattle.session_language.specs.declared.fault.SessionRule.TheVariants.{UnknownName, UnknownRecord, TooDeep}
 use Rattle.session_meaning.specs.Tree.{Term, Test, Command, LetVar, SetTo, GiveOf, Requires, When, Choice, Loop}
 use Rattle.session_meaning.specs.ProgramValue.{ProgramValue}
-use Rattle.session_measures.specs.Needs.{with_record, term_needs, test_needs}
+use Rattle.session_programs.specs.measures.Needs.{with_record, term_needs, test_needs}
 use Rattle.session_programs.specs.Program.{words_under}
 use Rattle.session_language.specs.Lexer.{pieces_of}
 use Rattle.session_language.specs.Names.{Scope, variable_named, record_of, placed, knows_variables, knows_records}

@@ -6,8 +6,8 @@ use Rattle.session_language.specs.declared.fault.SessionRule.TheVariants.{TooDee
 use Rattle.session_meaning.specs.Tree.{Command, LetVar, SetTo, GiveOf, Requires, Block}
 use Rattle.session_meaning.specs.ProgramValue.{ProgramValue}
 use Rattle.session_meaning.specs.refinement.TreeOfStatements.{block_from}
-use Rattle.session_measures.specs.Needs.{block_needs, needs_of}
-use Rattle.session_measures.specs.Measures.{block_gives}
+use Rattle.session_programs.specs.measures.Needs.{block_needs, needs_of}
+use Rattle.session_programs.specs.measures.Measures.{block_gives}
 use Rattle.session_language.specs.Reading.{Head, IfHead, ElseHead, RepeatHead, OpenBlock, Draft, Spoken, SpeaksLet, SpeaksSet, SpeaksGive, SpeaksDemand, SpeaksIf, SpeaksRepeat, with_variable, place_of, variables_after, named_after, with_line, with_names, opens_block, add, turned, turned_in, whole, with_end, Ended, Going, Closed, ended_in, ended, closed, program_of, begun}
 use Rattle.session_programs.specs.WellFormed.{IsTestOver, IsStatementOver, known_after, known_after_block, AreStatements, IsDeclared, IsWellFormed}
 use Rattle.session_programs.specs.Program.{is_too_long}

@@ -2,7 +2,7 @@
 use Rattle.std.proofs.Common.{◌≡◌, ℕ, List, [], ◌∷◌, ◌++◌, IfOk, refl, sym, ap, ◌∙◌}
 use Rattle.session_meaning.specs.Tree.{Command, LetVar, SetTo, GiveOf, Requires, Block}
 use Rattle.session_meaning.specs.refinement.TreeOfStatements.{block_from}
-use Rattle.session_measures.specs.Needs.{test_needs, command_needs, block_needs}
+use Rattle.session_programs.specs.measures.Needs.{test_needs, command_needs, block_needs}
 use Rattle.session_language.specs.Reading.{Head, IfHead, ElseHead, RepeatHead, OpenBlock, Draft, Spoken, SpeaksLet, SpeaksSet, SpeaksGive, SpeaksDemand, SpeaksIf, SpeaksRepeat, place_of, with_variable, with_line, with_names, turned, whole, with_end}
 use Rattle.session_language.specs.refinement.KeptDraft.{named_past, named_in, IsNamed}
 

@@ -34,14 +34,14 @@ use Rattle.session_meaning.specs.refinement.TreeOfStatements.{block_from}
 use Rattle.session_language.specs.Reading.{Head, IfHead, ElseHead, RepeatHead, OpenBlock, Draft, Reading, Spoken, SpeaksLet, SpeaksSet, SpeaksGive, SpeaksDemand, SpeaksIf, SpeaksRepeat, spoken_of, are_variables_known, are_records_known, is_too_deep, speak, named_after, with_line, with_names, opens_block, within_limits, add, turned, turned_in, Ended, Going, Closed, ended_in, ended, closed, program_of, begun, with_open, with_ended, scope_in, take_opening, take_statement, take_otherwise, take_closing, take_form, take_formed, take_line, at_line, read_lines, nothing_read, unless_open, sessions_of}
 use Rattle.session_programs.specs.Program.{is_too_long}
 use Rattle.session_meaning.specs.ProgramValue.{ProgramValue}
-use Rattle.session_measures.specs.Measures.{block_gives}
+use Rattle.session_programs.specs.measures.Measures.{block_gives}
 use Rattle.session_programs.specs.Program.{fits}
 use Rattle.session_language.proofs.session_reading.LiteralRanges.{operand_fits, token_fits, tokens_fit, run_fits, name_fits, code_fits, count_fits}
 use Rattle.session_language.specs.refinement.KeptDraft.{named_in, IsNamed}
 use Rattle.session_language.proofs.session_reading.LiteralsFit.{BlocksFit, DraftFits, SpokenFits, begun_fits, line_kept, turned_kept, end_kept}
 use Rattle.session_language.proofs.session_reading.NamedRecords.{line_named, turned_named, end_named}
 use Rattle.session_language.proofs.expressions.ParserSound.{read_spells}
-use Rattle.session_measures.specs.Needs.{with_record, term_needs, block_needs, needs_of}
+use Rattle.session_programs.specs.measures.Needs.{with_record, term_needs, block_needs, needs_of}
 
 pub both_left : (a b : Bool) → (a && b) ≡ true → a ≡ true
 both_left true b h = refl

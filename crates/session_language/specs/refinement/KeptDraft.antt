@@ -2,7 +2,7 @@
 use Rattle.std.specs.Prelude.{◌≡◌, ◌≢◌, ◌<◌, ◌≤◌, ℕ, suc, List, [], ◌∷◌, length, All, AllPairs, IsTrue}
 use Rattle.text_lines.specs.Text.{is_name}
 use Rattle.session_meaning.specs.refinement.TreeOfStatements.{block_from}
-use Rattle.session_measures.specs.Needs.{test_needs, block_needs}
+use Rattle.session_programs.specs.measures.Needs.{test_needs, block_needs}
 use Rattle.session_language.specs.Reading.{Head, IfHead, ElseHead, RepeatHead, OpenBlock, Draft, Spoken, SpeaksLet, SpeaksSet, SpeaksGive, SpeaksDemand, SpeaksIf, SpeaksRepeat}
 use Rattle.session_programs.specs.WellFormed.{IsExpressionOver, IsTestOver, AreStatements, known_after_block}
 use Rattle.session_programs.specs.Limits.{most_blocks, most_turns, codes_end, most_records, most_variables}

@@ -12,10 +12,6 @@ use std::fmt::Write;
 use std::process::Abort;
 use std::test::Fail;
 
-mod drawn;
-mod draws;
-mod walk;
-
 const PLAN: &str =
     "plan 1 run 42\noffice a -\noffice b -\npair a b fork a\nrecord x a b 100 at a\nrecord y a b 0 at b\n";
 

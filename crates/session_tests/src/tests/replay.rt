@@ -11,10 +11,6 @@ use std::test::Fail;
 const PAIR: &str =
     "plan 1 run 42\noffice a -\noffice b -\npair a b fork a\nrecord x a b 100 at a\nrecord y a b 0 at b\n";
 
-/// Three offices in a row, with a record for each pair.
-const ROW: &str =
-    "plan 1 run 9\noffice a -\noffice b -\noffice c -\npair a b fork b\npair b c fork b\nrecord r a b 1 at a\nrecord s b c 2 at c\n";
-
 /// Sessions of the two offices, and what is told of them and of the records.
 static SESSIONS: [(&str, &str); 10] = [
     (
@@ -62,28 +58,6 @@ fn sessions_of_two_offices(rt: HostRuntime) -> Result<(), Fail> {
         let told = told(rt.alloc(), PAIR, sessions)?;
         assert_eq!(rt; told.as_str(), *expected, "of {sessions:?}");
     }
-    Ok(())
-}
-
-#[test]
-fn a_false_require_leaves_the_values(rt: HostRuntime) -> Result<(), Fail> {
-    let plan =
-        "plan 1 run 42\noffice a -\noffice b -\npair a b fork a\nrecord x a b 99 at a\nrecord y a b 0 at b\n";
-    let sessions = "session a\nset x = read x - 100\nrequire read x >= 0 else 7\nend\n";
-    let told = told(rt.alloc(), plan, sessions)?;
-    let expected = "a.1 refused 7 reads x=99 writes - gives -\nvalue x 99\nvalue y 0\n";
-    assert_eq!(rt; told.as_str(), expected);
-    Ok(())
-}
-
-#[test]
-fn each_session_goes_on_from_the_one_before(rt: HostRuntime) -> Result<(), Fail> {
-    let sessions =
-        "session c\nset s = read s + 5\ngive read s\nend\nsession a\nset r = read r * 2\nset r = read r * 2\nset r = read r * 2\ngive read r\nend\nsession b\nset r = read r + read s\nset s = 0\ngive read r\nend\n";
-    let told = told(rt.alloc(), ROW, sessions)?;
-    let expected =
-        "c.1 done reads s=2 writes s=7 gives 7\na.1 done reads r=1 writes r=8 gives 8\nb.1 done reads r=8 s=7 writes r=15 s=0 gives 15\nvalue r 15\nvalue s 0\n";
-    assert_eq!(rt; told.as_str(), expected);
     Ok(())
 }
 

@@ -1,7 +1,7 @@
 //! What a client asks, out of bytes that come in parts.
 
 use office_map::{OfficeId, Plan};
-use request_streams::{Asked, Intake};
+use session_streams::requests::{Asked, Intake};
 use std::alloc::{AllocError, Global};
 use std::collections::VecDeque;
 use std::fmt::Write;
@@ -10,82 +10,6 @@ use std::test::Fail;
 
 const PLAN: &str =
     "plan 1 run 42\noffice a -\noffice b -\noffice c -\npair a b fork a\npair b c fork b\nrecord x a b 100 at a\nrecord y a b 0 at b\nrecord w b c 5 at c\n";
-
-/// Lines to office `a`, with bars between them, and what they ask for: a session by its number of statements, with its ticket if it
-/// has one; a value by its record; or a fault by its line and rule.
-static ASKED: [(&str, &str); 30] = [
-    ("session a|give 1|end", "1"),
-    ("session a|give 1|end|", "1"),
-    ("ticket 7|session a|give 1|end", "1 under 7"),
-    ("ticket  007 ||# note|session a|end", "0 under 7"),
-    ("ticket 4294967295|session a|end", "0 under 4294967295"),
-    // The next session has no ticket of its own.
-    (
-        "ticket 7|session a|end|session a|give 1|end",
-        "0 under 7, 1",
-    ),
-    ("value x|value y", "look 0, look 1"),
-    ("session a|end|value x|session a|end", "0, look 0, 0"),
-    // Lines `ticket` and `value` have one word after the first, a number from 1 to 4294967295 or a record of the office.
-    ("ticket|session a|end", "1 S1 Syntax"),
-    ("ticket 0|session a|end", "1 S1 Syntax"),
-    ("ticket 4294967296|session a|end", "1 S1 Syntax"),
-    ("ticket 1 2|session a|end", "1 S1 Syntax"),
-    (
-        "ticket x|session a|end|session a|give 1|end",
-        "1 S1 Syntax, 1",
-    ),
-    ("value", "1 S1 Syntax"),
-    ("value 1", "1 S1 Syntax"),
-    ("value x y", "1 S1 Syntax"),
-    ("value z", "1 S3 UnknownRecord"),
-    ("value w", "1 S3 UnknownRecord"),
-    // Between a line `ticket` and its session no other stands, and the session isn't asked for without it.
-    ("ticket 1|ticket 2|session a|end", "2 S1 Syntax, 0 under 2"),
-    ("ticket 1|value x|session a|end", "2 S1 Syntax, look 0, 0"),
-    (
-        "ticket 1|give 1|session a|end|session a|give 1|end",
-        "2 S1 Syntax, 1",
-    ),
-    ("ticket 1", "2 S1 Syntax"),
-    (
-        "ticket 1|session a|foo|end|session a|give 1|end",
-        "3 S1 Syntax, 1",
-    ),
-    (
-        "ticket 1|session z|end|session a|give 1|end",
-        "2 S2 UnknownName, 1",
-    ),
-    // They end a session that is open, as the next session does.
-    (
-        "session a|ticket 1|session a|give 1|end",
-        "2 S1 Syntax, 1 under 1",
-    ),
-    ("session a|value x", "2 S1 Syntax, look 0"),
-    (
-        "session a|foo|ticket 1|session a|give 1|end",
-        "2 S1 Syntax, 1 under 1",
-    ),
-    (
-        "session a|foo|value x|foo",
-        "2 S1 Syntax, look 0, 4 S1 Syntax",
-    ),
-    ("session a", "2 S1 Syntax"),
-    ("", ""),
-];
-
-#[test]
-fn what_is_asked_by_lines(rt: HostRuntime) -> Result<(), Fail> {
-    let plan = Plan::read(rt.alloc(), PLAN.as_bytes())?;
-    for (lines, expected) in &ASKED {
-        let text = replaced(rt.alloc(), lines, '|', "\n")?;
-        for step in [1, 3, 1_000] {
-            let asked = asked(rt.alloc(), &plan, text.as_bytes(), step)?;
-            assert_eq!(rt; asked.as_str(), *expected, "of {lines:?} by {step}");
-        }
-    }
-    Ok(())
-}
 
 /// A line may be as long as a text, and a longer one isn't kept.
 #[test]
@@ -131,16 +55,4 @@ fn add_asked(told: &mut String, asked: &Asked) -> Result<(), AllocError> {
         Asked::Look(record) => write!(told, "look {}", record.index()),
         Asked::Misread(fault) => write!(told, "{} {}", fault.line, fault.rule),
     }
-}
-
-/// A text with this in place of each such character.
-fn replaced(alloc: Global, text: &str, at: char, with: &str) -> Result<String, AllocError> {
-    let mut all = String::new(alloc);
-    for (i, part) in text.split(at).enumerate() {
-        if i > 0 {
-            all.push_str(with)?;
-        }
-        all.push_str(part)?;
-    }
-    Ok(all)
 }

@@ -2,12 +2,12 @@
 use Rattle.std.specs.Prelude.{◌≡◌, true, List, All}
 use Rattle.office_journal.specs.declared.event.Entry.{Entry}
 use Rattle.site_core.specs.Journals.{Site, office_of, IsLegal}
-use Rattle.session_agenda.specs.declared.session.Session.{Session}
-use Rattle.session_agenda.specs.Agenda.{Agenda}
+use Rattle.site_core.specs.declared.agendas.session.Session.{Session}
+use Rattle.site_core.specs.agendas.Agenda.{Agenda}
 use Rattle.site_core.specs.Offices.{Office, is_ours}
-use Rattle.neighbour_pairs.specs.refinement.PairsOfCode.{PairsValue, pairs_of}
+use Rattle.site_core.specs.neighbours.refinement.PairsOfCode.{PairsValue, pairs_of}
 use Rattle.site_core.specs.refinement.OfficeValues.{OfficeFits}
-use Rattle.session_agenda.specs.refinement.AgendaOfCode.{AgendaValue, Means}
+use Rattle.site_core.specs.agendas.refinement.AgendaOfCode.{AgendaValue, Means}
 
 abbrev pub office_at : PairsValue → Agenda → Office
 office_at p a = record { pairs = pairs_of p; agenda = a }

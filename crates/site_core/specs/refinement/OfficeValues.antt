@@ -8,11 +8,11 @@ use Rattle.frame_codec.specs.declared.message.Msg.{Msg}
 use Rattle.frame_codec.specs.Frame.{carries}
 use Rattle.window_link.specs.Links.{LinkState}
 use Rattle.session_meaning.specs.Fitting.{block_fits, RecordsFit}
-use Rattle.neighbour_pairs.specs.Pairs.{Pairs}
+use Rattle.site_core.specs.neighbours.Pairs.{Pairs}
 use Rattle.office_journal.specs.declared.event.Event.{Event}
 use Rattle.office_map.specs.PlanValue.{PlanValue}
-use Rattle.session_agenda.specs.declared.session.Session.{Session}
-use Rattle.session_agenda.specs.Agenda.{Current, Idle, Gathering, Working}
+use Rattle.site_core.specs.declared.agendas.session.Session.{Session}
+use Rattle.site_core.specs.agendas.Agenda.{Current, Idle, Gathering, Working}
 use Rattle.site_core.specs.Offices.{Office, is_ours}
 use Rattle.site_core.specs.Journals.{after}
 

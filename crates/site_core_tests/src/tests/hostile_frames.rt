@@ -7,7 +7,7 @@ use bottle_values::Value;
 use office_map::{OfficeId, RecordId};
 use session_programs::Program;
 use site_core::{Office, Reply};
-use std::alloc::{AllocError, Global};
+use std::alloc::Global;
 use std::process::Abort;
 use std::test::Fail;
 

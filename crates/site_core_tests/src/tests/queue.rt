@@ -29,17 +29,6 @@ enum Answer {
 /// A call, what is answered, and how many sessions then are unfinished, how many were submitted, and how many entries there are.
 struct Called(Call, Answer, [usize; 3]);
 
-/// Of 64 sessions that wait one starts and finishes.
-static ONE_FINISHES: [Called; 7] = [
-    Called(Call::Submit, Answer::QueueFull, [64, 64, 64]),
-    Called(Call::Start, Answer::Done, [64, 64, 65]),
-    Called(Call::Submit, Answer::QueueFull, [64, 64, 65]),
-    Called(Call::Drink, Answer::Done, [64, 64, 66]),
-    Called(Call::Work, Answer::Done, [64, 64, 67]),
-    Called(Call::Finish, Answer::Done, [63, 64, 68]),
-    Called(Call::Submit, Answer::Ticket(65), [64, 65, 69]),
-];
-
 /// Of 64 sessions the current one and a waiting one are withdrawn, and one that takes their room; those with the tickets 2, 4 and 5
 /// finish.
 static THREE_ARE_WITHDRAWN: [Called; 20] = [
@@ -77,27 +66,6 @@ static OUTCOMES: [(u32, Option<u32>); 9] = [
     (66, None),
     (68, None),
 ];
-
-/// What a queue takes: 64 sessions that haven't finished, the current one among them.
-#[test]
-fn sixty_four_sessions_are_unfinished_at_most(rt: HostRuntime) -> Result<(), Fail> {
-    let programs = programs(rt.alloc(), PAIR, GIVES)?;
-    let mut offices = offices(rt.alloc(), PAIR)?;
-    takes_one_more(&rt, &mut offices, &programs)
-}
-
-fn takes_one_more<R: Abort>(
-    rt: &R,
-    offices: &mut Vec<Office>,
-    programs: &[Program],
-) -> Result<(), Fail> {
-    let (Some(office), Some(program)) = (offices.get_mut(A), programs.get(0)) else {
-        return Err(Fail::from("an office and a session"));
-    };
-    fill_queue(rt, office, program);
-    call_all(rt, office, program, &ONE_FINISHES);
-    Ok(())
-}
 
 /// A withdrawn session makes room, has no outcome, and its ticket isn't given again.
 #[test]

@@ -1,7 +1,7 @@
 //! Two offices, step by step: what each step is answered, and how their sessions end.
 
 use super::endings::describe;
-use super::{A, GIVES, MOVE, PAIR, offices, programs};
+use super::{A, offices, programs};
 use frame_codec::{Frame, MAX_LENGTH, encode};
 use office_map::{OfficeId, RecordId};
 use session_programs::Program;
@@ -9,25 +9,6 @@ use site_core::{Event, Office, Refusal, Reply, Rule};
 use std::alloc::{AllocError, Global};
 use std::fmt::Write;
 use std::test::Fail;
-
-/// The same as `PAIR`, with the fork at the other.
-const FORK_AT_B: &str =
-    "plan 1 run 42\noffice a -\noffice b -\npair a b fork b\nrecord x a b 100 at a\nrecord y a b 0 at b\n";
-
-/// Three records, all of them at the other office.
-const ALL_AT_B: &str =
-    "plan 1 run 42\noffice a -\noffice b -\npair a b fork a\nrecord x a b 1 at b\nrecord y a b 2 at b\nrecord z a b 3 at b\n";
-
-/// Two offices that share nothing.
-const ALONE: &str = "plan 1 run 7\noffice a -\noffice b -\n";
-
-const READS_ALL: &str = "session a\ngive read x + read y + read z\nend\n";
-
-/// Two sessions of one record.
-const TWO_OF_X: &str = "session a\nset x = 1\nend\nsession a\ngive read x\nend\n";
-
-/// The second office of each plan.
-const B: usize = 1;
 
 /// What a step is: a session is submitted, by its place in the text; a rule, with its record or its size; the message of that
 /// place is framed for the other office; the frame of that place is taken by its addressee; the session with that ticket is
@@ -55,184 +36,6 @@ pub enum What {
 /// What is done, at which office, and a number.
 #[derive(Clone, Copy)]
 pub struct Step(pub What, pub usize, pub u16);
-
-/// A plan, sessions, steps, and what is answered. A frame is told by its number and its count.
-static ROWS: [(&str, &str, &[Step], &str); 7] = [
-    (
-        PAIR,
-        MOVE,
-        &[
-            Step(What::Submit, A, 0),
-            Step(What::Start, A, 0),
-            Step(What::Hungry, A, 0),
-            Step(What::Eat, A, 0),
-            Step(What::AskBottle, A, 1),
-            Step(What::Send, A, 1),
-            Step(What::Deliver, 0, 1),
-            Step(What::GiveBottle, B, 1),
-            Step(What::Send, B, 1),
-            Step(What::Deliver, 0, 2),
-            Step(What::Drink, A, 0),
-            Step(What::Leave, A, 0),
-            Step(What::Work, A, 100),
-            Step(What::Finish, A, 0),
-            Step(What::Deliver, 0, 2),
-        ],
-        "ticket 1; done; done; done; done; frame 1 0; taken; done; frame 1 1; taken; done; done; done; done; repeat; 0.1 Done reads 0=100 1=0 writes 0=70 1=30 gives 70 30; ",
-    ),
-    (
-        ALL_AT_B,
-        READS_ALL,
-        &[
-            Step(What::Submit, A, 0),
-            Step(What::Start, A, 0),
-            Step(What::AskBottle, A, 0),
-            Step(What::AskBottle, A, 1),
-            Step(What::AskBottle, A, 2),
-            Step(What::Send, A, 1),
-            Step(What::Send, A, 2),
-            Step(What::Send, A, 3),
-            Step(What::Deliver, 0, 3),
-            Step(What::Deliver, 0, 1),
-            Step(What::Deliver, 0, 2),
-            Step(What::Send, A, 3),
-            Step(What::Deliver, 0, 4),
-            Step(What::Deliver, 0, 4),
-            Step(What::Send, A, 4),
-            Step(What::Send, A, 0),
-            Step(What::Deliver, 0, 5),
-            Step(What::GiveBottle, B, 2),
-        ],
-        "ticket 1; done; done; done; done; frame 1 0; frame 2 0; frame 3 0; kept; taken; taken; frame 3 0; repeat; repeat; refused O1 NotNow; frame 0 0; acked; done; ",
-    ),
-    (
-        PAIR,
-        GIVES,
-        &[
-            Step(What::Submit, B, 1),
-            Step(What::Start, B, 0),
-            Step(What::Hungry, B, 0),
-            Step(What::AskFork, B, 0),
-            Step(What::Send, B, 1),
-            Step(What::Deliver, 0, 1),
-            Step(What::GiveFork, A, 0),
-            Step(What::Send, A, 1),
-            Step(What::Deliver, 0, 2),
-            Step(What::Submit, A, 0),
-            Step(What::Start, A, 0),
-            Step(What::Hungry, A, 0),
-            Step(What::AskFork, A, 0),
-            Step(What::Send, A, 2),
-            Step(What::Deliver, 0, 3),
-            Step(What::GiveFork, B, 0),
-            Step(What::Eat, B, 0),
-            Step(What::GiveFork, B, 0),
-            Step(What::Drink, B, 0),
-            Step(What::Leave, B, 0),
-            Step(What::GiveFork, B, 0),
-            Step(What::Send, B, 1),
-            Step(What::Deliver, 0, 4),
-            Step(What::Eat, A, 0),
-        ],
-        "ticket 1; done; done; done; frame 1 0; taken; done; frame 1 1; taken; ticket 1; done; done; done; frame 2 1; taken; refused O1 NotNow; done; refused O1 NotNow; done; done; done; frame 2 2; taken; done; ",
-    ),
-    (
-        FORK_AT_B,
-        GIVES,
-        &[
-            Step(What::Submit, A, 0),
-            Step(What::Next, A, 0),
-            Step(What::Hungry, A, 0),
-            Step(What::Next, A, 0),
-            Step(What::Next, A, 0),
-            Step(What::Next, A, 0),
-            Step(What::Next, A, 0),
-            Step(What::Next, A, 0),
-            Step(What::Send, A, 1),
-            Step(What::Deliver, 0, 1),
-            Step(What::Next, B, 0),
-            Step(What::Next, B, 0),
-            Step(What::Send, B, 1),
-            Step(What::Deliver, 0, 2),
-            Step(What::Next, A, 0),
-            Step(What::Next, A, 0),
-            Step(What::Next, A, 0),
-        ],
-        "ticket 1; Start done; done; Drink done; Work(256) done; Finish done; AskFork(OfficeId { number: 1 }) done; none; frame 1 0; taken; GiveFork(OfficeId { number: 0 }) done; none; frame 1 1; taken; Eat done; Leave done; none; 0.1 Done reads writes gives 1; ",
-    ),
-    (
-        PAIR,
-        MOVE,
-        &[
-            Step(What::Submit, A, 0),
-            Step(What::Next, A, 0),
-            Step(What::Next, A, 0),
-            Step(What::Next, A, 0),
-            Step(What::Next, A, 0),
-            Step(What::Next, A, 0),
-            Step(What::Send, A, 1),
-            Step(What::Deliver, 0, 1),
-            Step(What::Next, B, 0),
-            Step(What::Send, B, 1),
-            Step(What::Deliver, 0, 2),
-            Step(What::Next, A, 0),
-            Step(What::Next, A, 0),
-            Step(What::Next, A, 0),
-            Step(What::Next, A, 0),
-            Step(What::Next, A, 0),
-        ],
-        "ticket 1; Start done; Hungry done; Eat done; AskBottle(RecordId { number: 1 }) done; none; frame 1 0; taken; GiveBottle(RecordId { number: 1 }) done; frame 1 1; taken; Drink done; Work(256) done; Finish done; Leave done; none; 0.1 Done reads 0=100 1=0 writes 0=70 1=30 gives 70 30; ",
-    ),
-    (
-        ALONE,
-        GIVES,
-        &[
-            Step(What::Submit, B, 0),
-            Step(What::Submit, A, 0),
-            Step(What::Start, A, 0),
-            Step(What::Hungry, A, 0),
-            Step(What::Eat, A, 0),
-            Step(What::Drink, A, 0),
-            Step(What::Leave, A, 0),
-            Step(What::Work, A, 0),
-            Step(What::Work, A, 1001),
-            Step(What::Work, A, 9),
-            Step(What::Work, A, 9),
-            Step(What::AskFork, A, 0),
-            Step(What::GiveBottle, A, 0),
-            Step(What::Send, A, 0),
-            Step(What::Finish, A, 0),
-            Step(What::Finish, A, 0),
-        ],
-        "refused O2 NotOurs; ticket 1; done; done; done; done; done; refused O1 NotNow; refused O1 NotNow; done; refused O1 NotNow; refused O1 NotNow; refused O1 NotNow; refused O1 NotNow; done; refused O1 NotNow; 0.1 Done reads writes gives 1; ",
-    ),
-    (
-        PAIR,
-        TWO_OF_X,
-        &[
-            Step(What::Submit, A, 0),
-            Step(What::Submit, A, 1),
-            Step(What::Start, A, 0),
-            Step(What::Withdraw, A, 1),
-            Step(What::Withdraw, A, 1),
-            Step(What::Start, A, 0),
-            Step(What::Drink, A, 0),
-            Step(What::Withdraw, A, 2),
-            Step(What::Work, A, 100),
-            Step(What::Finish, A, 0),
-        ],
-        "ticket 1; ticket 2; done; done; refused O1 NotNow; done; done; refused O1 NotNow; done; done; 0.2 Done reads 0=100 writes gives 100; ",
-    ),
-];
-
-#[test]
-fn offices_do_as_the_rows_say(rt: HostRuntime) -> Result<(), Fail> {
-    for (plan, sessions, steps, expected) in &ROWS {
-        let told = played(rt.alloc(), plan, sessions, steps)?;
-        assert_eq!(rt; told.as_str(), *expected);
-    }
-    Ok(())
-}
 
 /// What the offices of the plan answer to these steps, and how their sessions end.
 pub fn played(alloc: Global, plan: &str, sessions: &str, steps: &[Step]) -> Result<String, Fail> {

@@ -1,13 +1,13 @@
 //! Offices of a plan of version 2, whose records have texts.
 
 use super::hostile_frames::{ASKS, GIVES, go_on, receives};
-use super::rows::{Step, What, played, take_steps, tell};
-use super::{A, PAIR, offices, programs};
+use super::rows::{Step, What, played, take_steps};
+use super::{A, offices, programs};
 use bottle_values::{Text, Value};
 use frame_codec::{Frame, MAX_LENGTH, encode};
 use office_map::RecordId;
 use session_programs::Program;
-use site_core::{Event, EventRef, Journal, Office, Reply};
+use site_core::Office;
 use std::alloc::Global;
 use std::process::Abort;
 use std::test::Fail;
@@ -29,10 +29,6 @@ const READS_TWO: &str = "session a\ngive read y + read z\nend\n";
 /// A session that changes a text, and one that adds it to a number.
 const MISMATCHES: &str =
     "session a\nrequire read x == \"no\" else 3\nset x = read x + \"-yes\"\ngive read x\nend\nsession a\nset x = read x + read y\nend\n";
-
-/// A text in a write, in a condition, after an `else`, and nowhere.
-const LITERALS: &str =
-    "session a\nset x = \"a\"\nend\nsession a\nif read x == \"\"\ngive 1\nend\nend\nsession a\nif read x == 1\ngive 1\nelse\ngive \"b\"\nend\nend\nsession a\ngive 1\nend\n";
 
 /// The frame that brings a text: of run 42, from office 1 to office 0, with number 1, count 1, and the bottle of record 1 with "hi".
 const ANSWER: [u8; 33] =
@@ -199,131 +195,6 @@ fn is_answered<R: Abort>(
     Ok(())
 }
 
-/// Each tells the other, whose plan has the same run and another version, that nothing is taken of it.
-#[test]
-fn offices_of_two_versions_refuse_each_other(rt: HostRuntime) -> Result<(), Fail> {
-    let mut first = offices(rt.alloc(), PAIR)?;
-    let mut second = offices(rt.alloc(), TEXTS)?;
-    let (Some(a), Some(b)) = (first.get_mut(A), second.get_mut(B)) else {
-        return Err(Fail::from("two offices"));
-    };
-    is_refused(&rt, rt.alloc(), a, b)?;
-    is_refused(&rt, rt.alloc(), b, a)
-}
-
-/// The count alone of one office is not taken by the other.
-fn is_refused<R: Abort>(
-    rt: &R,
-    alloc: Global,
-    from: &mut Office,
-    to: &mut Office,
-) -> Result<(), Fail> {
-    let reply = from.send(0, to.number(), 0);
-    match &reply {
-        Ok(Reply::Frame(frame)) => is_not_taken(rt, alloc, to, frame),
-        _ => Err(Fail::from("a frame")),
-    }
-}
-
-fn is_not_taken<R: Abort>(
-    rt: &R,
-    alloc: Global,
-    to: &mut Office,
-    frame: &Frame,
-) -> Result<(), Fail> {
-    let mut bytes = [0; MAX_LENGTH];
-    let length = encode(frame, &mut bytes);
-    is_answered(rt, alloc, to, &bytes[..length], "refused L4 WrongVersion; ")
-}
-
 // ---- journals
 
-/// What was sent and what came are told with their texts, each with its own.
-#[test]
-fn journals_tell_texts(rt: HostRuntime) -> Result<(), Fail> {
-    let programs = programs(rt.alloc(), TEXTS, READS_TWO)?;
-    let mut offices = offices(rt.alloc(), TEXTS)?;
-    let frames = frames_of(rt.alloc(), &mut offices, &programs, &KEEPS, &[])?;
-    let (Some(a), Some(b)) = (offices.get(A), offices.get(B)) else {
-        return Err(Fail::from("two offices"));
-    };
-    let (Some(hi), Some(yes)) = (frames.get(2), frames.get(3)) else {
-        return Err(Fail::from("four frames"));
-    };
-    // The office that waits was handed a session, started it, asked for two bottles and sent two frames.
-    assert!(rt; has_come(a.journal(), 6, yes));
-    assert!(rt; has_come(a.journal(), 7, hi));
-    // The other one took two frames and gave two bottles.
-    assert!(rt; was_sent(b.journal(), 4, hi));
-    assert!(rt; was_sent(b.journal(), 5, yes));
-    are_copied(&rt, rt.alloc(), a.journal(), yes, hi)
-}
-
-fn has_come(journal: &Journal, i: usize, frame: &Frame) -> bool {
-    let Some(entry) = journal.get(i) else {
-        return false;
-    };
-    match &entry.event {
-        EventRef::Took(came) => *came == *frame,
-        _ => false,
-    }
-}
-
-fn was_sent(journal: &Journal, i: usize, frame: &Frame) -> bool {
-    let Some(entry) = journal.get(i) else {
-        return false;
-    };
-    match &entry.reply {
-        Reply::Frame(sent) => *sent == *frame,
-        _ => false,
-    }
-}
-
-/// A part of the journal is these two frames.
-fn are_copied<R: Abort>(
-    rt: &R,
-    alloc: Global,
-    journal: &Journal,
-    first: &Frame,
-    second: &Frame,
-) -> Result<(), Fail> {
-    let part = journal.part(alloc, 6, 2)?;
-    let mut frames = Vec::new(alloc);
-    for entry in &part {
-        if let Event::Took(frame) = &entry.event {
-            frames.push(*frame)?;
-        }
-    }
-    assert_eq!(rt; frames.get(0), Some(first));
-    assert_eq!(rt; frames.get(1), Some(second));
-    assert_eq!(rt; frames.len(), 2);
-    Ok(())
-}
-
 // ---- sessions with a text under a plan of version 1
-
-#[test]
-fn a_session_with_a_text_is_of_no_office_of_version_1(rt: HostRuntime) -> Result<(), Fail> {
-    let programs = programs(rt.alloc(), TEXTS, LITERALS)?;
-    let first = submitted(rt.alloc(), PAIR, &programs)?;
-    let ours = "refused O2 NotOurs; refused O2 NotOurs; refused O2 NotOurs; ticket 1; ";
-    assert_eq!(rt; first.as_str(), ours);
-    let second = submitted(rt.alloc(), TEXTS, &programs)?;
-    let all = "ticket 1; ticket 2; ticket 3; ticket 4; ";
-    assert_eq!(rt; second.as_str(), all);
-    Ok(())
-}
-
-/// What the first office of the plan answers where each session is submitted.
-fn submitted(alloc: Global, plan: &str, programs: &[Program]) -> Result<String, Fail> {
-    let mut text = String::new(alloc);
-    let mut offices = offices(alloc, plan)?;
-    let Some(office) = offices.get_mut(A) else {
-        return Err(Fail::from("an office"));
-    };
-    for program in programs {
-        let reply = super::submit(office, program);
-        tell(&mut text, &reply)?;
-    }
-    Ok(text)
-}

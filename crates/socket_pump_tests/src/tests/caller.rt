@@ -1,11 +1,11 @@
 //! What stands at the head of `socket_pump`, and what comes of it.
 
 use locked_office::Desk;
-use memory_wires::MemoryWire;
 use office_map::{OfficeId, Plan};
 use session_language::read_sessions;
 use session_programs::Program;
 use site_core::Office;
+use socket_pump::memory::MemoryWire;
 use socket_pump::{Pump, Turn, Wire};
 use std::alloc::Global;
 use std::sync::Wait;

@@ -3,8 +3,8 @@
 use crate::tests::{
     Both, NEVER, PAIR, Side, Who, broke_off, open_failing, programs, submit, turn, value_after,
 };
-use memory_wires::{FaultWire, MemoryWire};
 use session_programs::Program;
+use socket_pump::memory::{FaultWire, MemoryWire};
 use std::alloc::Global;
 use std::process::Abort;
 use std::sync::Wait;

@@ -1,8 +1,7 @@
 //! Two pumps over UDP on loopback.
 
 use crate::tests::{
-    Both, STAR, STAR_SESSIONS, open_both, open_both_of, programs, programs_of, submit, turn,
-    value_after,
+    Both, STAR, STAR_SESSIONS, open_both_of, programs, programs_of, submit, turn, value_after,
 };
 use office_map::OfficeId;
 use session_programs::Program;
@@ -27,44 +26,6 @@ fn connected(net: &impl Net, alloc: Global) -> io::Result<(UdpWire, UdpWire)> {
     Ok((wire_a, wire_b))
 }
 
-/// A session crosses from socket to socket, within 2,000 turns of each.
-#[test]
-fn a_session_crosses_sockets(rt: HostRuntime) -> Result<(), Fail> {
-    let programs = programs(rt.alloc())?;
-    let mut wires = connected(&rt, rt.alloc())?;
-    let mut both = open_both(rt.alloc())?;
-    assert_eq!(rt;
-        crosses(&rt, &mut both, &mut wires.0, &mut wires.1, &programs),
-        Some(70)
-    );
-    Ok(())
-}
-
-fn crosses<R: Wait>(
-    rt: &R,
-    both: &mut Both,
-    wire_a: &mut UdpWire,
-    wire_b: &mut UdpWire,
-    programs: &[Program],
-) -> Option<i64> {
-    let ticket = submit(rt, &mut both.a, programs.get(0)?)?;
-    for round in 0..2_000u64 {
-        if turn(rt, &mut both.a, wire_a, round * 50).is_err() {
-            return None;
-        }
-        if turn(rt, &mut both.b, wire_b, round * 50).is_err() {
-            return None;
-        }
-        if let Some(value) = value_after(rt, &mut both.a, ticket) {
-            return Some(value);
-        }
-        if wire_a.poll(1).is_err() {
-            return None;
-        }
-    }
-    None
-}
-
 /// The system takes no frame for the third office, since nothing has port 0. The second office gets its frames.
 #[test]
 fn the_system_takes_no_frame(rt: HostRuntime) -> Result<(), Fail> {
@@ -76,16 +37,6 @@ fn the_system_takes_no_frame(rt: HostRuntime) -> Result<(), Fail> {
         (0, Some(22), 0)
     );
     assert!(rt; contact.lost > 1);
-    Ok(())
-}
-
-/// Nobody has the third office's port any more. What the system tells of that ends no run.
-#[test]
-fn a_port_is_closed(rt: HostRuntime) -> Result<(), Fail> {
-    let programs = programs_of(rt.alloc(), STAR, STAR_SESSIONS)?;
-    let closed = bound(&rt, rt.alloc())?.address()?;
-    let contact = third_at(&rt, rt.alloc(), closed, &programs)?;
-    assert!(rt; contact.went > 0 && contact.heard == 0);
     Ok(())
 }
 

@@ -5,8 +5,8 @@ use Rattle.std.specs.Io.KnownBytes.{Appends}
 use Rattle.office_map.specs.PlanValue.{PlanValue}
 use Rattle.office_journal.specs.declared.event.Entry.{Entry}
 use Rattle.locked_office.specs.Calls.{Key}
-use Rattle.report_forms.specs.Forms.{outcome_as}
-use Rattle.report_forms.specs.declared.forms.Form.{Form}
+use Rattle.session_reports.specs.form.Forms.{outcome_as}
+use Rattle.session_reports.specs.declared.form.forms.Form.{Form}
 use Rattle.office_stations.specs.declared.fault.RunFault.TheVariants as run
 use Rattle.stored_runs.specs.declared.fault.StoredFault.{StoredFault}
 use Rattle.stored_runs.specs.declared.fault.StoredFault.TheVariants.{Run}

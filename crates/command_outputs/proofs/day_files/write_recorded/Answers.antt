@@ -1,6 +1,6 @@
 use Rattle.std.proofs.Common.{map}
 use Rattle.std.specs.String.{string_bytes}
-use Rattle.journal_audit.specs.Findings.{IsRecordedBy}
+use Rattle.day_audits.specs.audit.Findings.{IsRecordedBy}
 use Rattle.command_outputs.proofs.DayFiles.{fit_there, on_ok_more, there}
 use Rattle.command_outputs.proofs.day_files.write_recorded.Goals as goal
 

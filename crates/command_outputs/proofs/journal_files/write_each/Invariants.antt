@@ -1,6 +1,6 @@
 use Rattle.std.proofs.Common.{map, take}
 use Rattle.std.specs.String.{string_bytes}
-use Rattle.output_files.specs.Written.{AddsFiles}
+use Rattle.host_files.specs.outputs.Written.{AddsFiles}
 use Rattle.command_outputs.proofs.journal_files.write_each.Given as goal
 
 abbrev pub invariant-loop-text : goal.invariant-loop-text

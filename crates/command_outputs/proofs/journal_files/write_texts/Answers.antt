@@ -1,7 +1,7 @@
 use Rattle.std.proofs.Common.{◌≡◌, ◌∙◌, ◌∷◌, [], ap, get_or, map, rules, subst, sym}
 use Rattle.std.specs.String.{string_bytes}
 use Rattle.std.proofs.lemmas.List.{get_or-map}
-use Rattle.output_files.specs.Written.{AddsFiles}
+use Rattle.host_files.specs.outputs.Written.{AddsFiles}
 use Rattle.command_outputs.specs.Journals.{file_name}
 use Rattle.command_outputs.proofs.JournalFiles.{adds_office}
 use Rattle.command_outputs.proofs.journal_files.write_texts.Goals as goal

@@ -1,6 +1,6 @@
 use Rattle.std.proofs.Common.{[], get_or, map}
 use Rattle.std.specs.String.{string_bytes}
-use Rattle.output_files.specs.Written.{AddsFiles}
+use Rattle.host_files.specs.outputs.Written.{AddsFiles}
 use Rattle.command_outputs.specs.Journals.{files_of}
 use Rattle.command_outputs.proofs.journal_files.write_texts.Given as goal
 

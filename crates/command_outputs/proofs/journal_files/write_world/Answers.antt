@@ -1,5 +1,5 @@
 use Rattle.std.proofs.Common.{◌≡◌, ◌∷◌, [], rules, subst}
-use Rattle.output_files.specs.Written.{AddsFiles}
+use Rattle.host_files.specs.outputs.Written.{AddsFiles}
 use Rattle.command_outputs.specs.Journals.{file_name, text_at}
 use Rattle.command_outputs.proofs.JournalFiles.{adds_office}
 use Rattle.command_outputs.proofs.journal_files.write_world.Goals as goal

@@ -1,4 +1,4 @@
-use Rattle.output_files.specs.Written.{AddsFiles}
+use Rattle.host_files.specs.outputs.Written.{AddsFiles}
 use Rattle.command_outputs.specs.Journals.{files_of, text_at}
 use Rattle.command_outputs.proofs.journal_files.write_world.Given as goal
 

@@ -1,5 +1,5 @@
 use Rattle.std.proofs.Common.{◌≡◌, ◌<◌, ℕ}
-use Rattle.bit_masks.specs.Sets.{is_in16}
+use Rattle.dining_core.specs.masks.Sets.{is_in16}
 use Rattle.dining_core.specs.refinement.Tables.{diner_of}
 use Rattle.dining_core.proofs.masked_table.here_in.Given as goal
 

@@ -1,5 +1,5 @@
 use Rattle.std.proofs.Common.{◌≡◌, ◌<◌, ℕ, take}
-use Rattle.bit_masks.specs.Sets.{is_in16}
+use Rattle.dining_core.specs.masks.Sets.{is_in16}
 use Rattle.bottle_values.specs.Lists.{is_among}
 use Rattle.dining_core.proofs.masked_table.near_in.Given as goal
 

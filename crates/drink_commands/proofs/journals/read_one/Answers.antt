@@ -1,7 +1,7 @@
 use Rattle.std.proofs.Common.{◌∙◌, ◌∷◌, ◌++◌, [], length, subst}
-use Rattle.journal_audit.specs.Gathering.{IsRefusedAt}
-use Rattle.journal_audit.specs.Following.{Gathers}
-use Rattle.command_inputs.specs.declared.input.Input.TheVariants as inputs
+use Rattle.day_audits.specs.audit.Gathering.{IsRefusedAt}
+use Rattle.day_audits.specs.audit.Following.{Gathers}
+use Rattle.serial_command.specs.declared.reading.input.Input.TheVariants as inputs
 use Rattle.drink_commands.specs.Audit.{IsToldAs}
 use Rattle.drink_commands.specs.refinement.Journals.{RefusesOne}
 use Rattle.drink_commands.proofs.Faults.{weaker}

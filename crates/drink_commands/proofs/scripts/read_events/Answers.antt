@@ -1,8 +1,8 @@
 use Rattle.std.proofs.Common.{Some, refl, subst}
 use Rattle.std.proofs.lemmas.Result.{err_from_is_err_and}
-use Rattle.script_runs.specs.Script.{IsScript, RefusesScript, acts_with}
-use Rattle.command_inputs.specs.Texts.{WasRead}
-use Rattle.command_inputs.specs.declared.input.Input.TheVariants as inputs
+use Rattle.simulation.specs.scripts.Script.{IsScript, RefusesScript, acts_with}
+use Rattle.serial_command.specs.reading.Texts.{WasRead}
+use Rattle.serial_command.specs.declared.reading.input.Input.TheVariants as inputs
 use Rattle.command_outputs.specs.declared.fault.Fault.TheVariants.{Text}
 use Rattle.drink_commands.specs.Texts.{nothing}
 use Rattle.drink_commands.proofs.Faults.{RefusesWord, unread_at}

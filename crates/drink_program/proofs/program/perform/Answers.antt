@@ -1,6 +1,6 @@
 use Rattle.std.proofs.Common.{ℕ, List, ◌∷◌, map, sym, subst, IfErr}
 use Rattle.std.specs.Option.{option_copied}
-use Rattle.input_texts.specs.Words.{StandFor}
+use Rattle.host_files.specs.inputs.Words.{StandFor}
 use Rattle.drink_commands.specs.Audit.{Audits, IsJudgedAudit}
 use Rattle.drink_commands.specs.Sealed.{IsUnderSeals}
 use Rattle.drink_commands.specs.Served.{IsServed, ServesOffice}

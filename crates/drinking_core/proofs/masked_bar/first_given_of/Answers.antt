@@ -2,7 +2,7 @@ use Rattle.std.proofs.Common.{◌≡◌, ℕ, ◌≤◌, length, sym, ◌∙◌,
 use Rattle.std.specs.Prelude.{slice_get}
 use Rattle.std.proofs.lemmas.Bool.{ltb-false}
 use Rattle.std.proofs.lemmas.Option.{slice_get_read}
-use Rattle.bit_masks.specs.Sets.{is_in128, IsLeast}
+use Rattle.dining_core.specs.masks.Sets.{is_in128, IsLeast}
 use Rattle.dining_core.specs.refinement.Tables.{diner_of}
 use Rattle.drinking_core.specs.Drinkers.{GiveBottle, may}
 use Rattle.drinking_core.specs.refinement.Bars.{drinker_of}

@@ -1,5 +1,5 @@
 use Rattle.std.proofs.Common.{◌≡◌, ◌<◌, ℕ, length, false}
-use Rattle.bit_masks.specs.Sets.{is_in128, size128}
+use Rattle.dining_core.specs.masks.Sets.{is_in128, size128}
 use Rattle.dining_core.specs.refinement.Tables.{diner_of}
 use Rattle.drinking_core.specs.Drinkers.{GiveBottle, may}
 use Rattle.drinking_core.specs.refinement.Bars.{drinker_of}

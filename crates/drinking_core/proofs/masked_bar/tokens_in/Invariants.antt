@@ -1,5 +1,5 @@
 use Rattle.std.proofs.Common.{◌≡◌, ◌<◌, ℕ}
-use Rattle.bit_masks.specs.Sets.{is_in128}
+use Rattle.dining_core.specs.masks.Sets.{is_in128}
 use Rattle.drinking_core.specs.refinement.Bars.{drinker_of}
 use Rattle.drinking_core.specs.refinement.Masks.{record_at}
 use Rattle.drinking_core.proofs.masked_bar.tokens_in.Given as goal

@@ -1,5 +1,5 @@
 use Rattle.std.proofs.Common.{◌≡◌, ◌<◌, ℕ, is_some}
-use Rattle.bit_masks.specs.Sets.{is_in128}
+use Rattle.dining_core.specs.masks.Sets.{is_in128}
 use Rattle.drinking_core.specs.refinement.Bars.{bottle_in}
 use Rattle.drinking_core.specs.refinement.Masks.{record_at}
 use Rattle.drinking_core.proofs.places.held_in.Given as goal

@@ -1,7 +1,7 @@
 use Rattle.std.proofs.Common.{◌≡◌, ◌<◌, ℕ, take}
 use Rattle.std.specs.Prelude.{◌==◌}
 use Rattle.std.specs.List.{list_any}
-use Rattle.bit_masks.specs.Sets.{is_in128}
+use Rattle.dining_core.specs.masks.Sets.{is_in128}
 use Rattle.drinking_core.specs.refinement.Masks.{spot_in}
 use Rattle.drinking_core.proofs.spots.mask_of.Given as goal
 

@@ -1,7 +1,7 @@
 use Rattle.std.proofs.Common.{◌≡◌, true, false, sym, ap, ◌∙◌}
 use Rattle.std.specs.Prelude.{slice_get}
 use Rattle.std.specs.Option.{option_copied}
-use Rattle.journal_pages.specs.Framed.{framed}
+use Rattle.office_journal.specs.pages.Framed.{framed}
 use Rattle.office_journal.proofs.packing.framed.Goals as goal
 
 pub returns-then-not-has_text : goal.returns-then-not-has_text

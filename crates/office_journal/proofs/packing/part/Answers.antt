@@ -1,6 +1,6 @@
 use Rattle.std.proofs.Common.{ap}
-use Rattle.journal_pages.specs.Framed.{frame_in}
-use Rattle.journal_pages.specs.declared.kind.Kind.{Kind}
+use Rattle.office_journal.specs.pages.Framed.{frame_in}
+use Rattle.office_journal.specs.declared.pages.kind.Kind.{Kind}
 use Rattle.office_journal.specs.refinement.PackedEntries.{event_by}
 use Rattle.office_journal.proofs.packing.part.Goals as goal
 

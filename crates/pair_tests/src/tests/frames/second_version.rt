@@ -2,9 +2,8 @@
 
 use super::is_spelled;
 use bottle_values::{Value, Version};
-use frame_codec::{Frame, FrameFault, Msg, decode};
+use frame_codec::{Frame, Msg};
 use std::process::Abort;
-use std::test::Fail;
 
 const ACK: [u8; 26] =
     *b"\x44\x50\x02\x02\x00\x00\x00\x2a\x00\x01\x00\x00\x00\x00\x00\x00\x00\x00\x00\x00\x00\x00\x00\x00\x00\x03";
@@ -37,71 +36,6 @@ fn each_case_has_its_spelling(rt: HostRuntime) {
     is_spelled(&rt, Frame::data(two, 42, 0, 1, 1, 0, bottle), &BOTTLE);
 }
 
-#[test]
-fn lengths_are_exact(rt: HostRuntime) -> Result<(), Fail> {
-    for frame in [
-        ACK.as_slice(),
-        ASK_FORK.as_slice(),
-        FORK.as_slice(),
-        ASK_BOTTLE.as_slice(),
-        BOTTLE.as_slice(),
-    ] {
-        for end in 0..frame.len() {
-            let fault = if end < 26 {
-                FrameFault::Short
-            } else {
-                FrameFault::Length
-            };
-            assert_eq!(rt; decode(&frame[..end]), Err(fault), "{end} bytes");
-        }
-        let mut longer = frame.to_vec(rt.alloc())?;
-        for _ in 0..64 {
-            longer.push(0)?;
-            assert_eq!(rt; decode(&longer), Err(FrameFault::Length));
-        }
-    }
-    Ok(())
-}
-
 // What is read of the bottle with another version, tag or form, and of so many bytes, a zero behind its own.
-fn read_with(
-    rt: &impl Abort,
-    version: u8,
-    tag: u8,
-    form: u8,
-    length: usize,
-) -> Result<Frame, FrameFault> {
-    let mut bytes = [0; 39];
-    bytes[..38].copy_from_slice(&BOTTLE);
-    bytes[2] = version;
-    bytes[26] = tag;
-    bytes[29] = form;
-    assert!(rt; length <= bytes.len());
-    decode(&bytes[..length])
-}
-
 // A form is told from the byte on where it stands, whatever the length, and not before; after the version and the tag, and of a
 // bottle of version 02 alone.
-#[test]
-fn forms_come_before_lengths(rt: HostRuntime) {
-    for form in [0, 3, 4, 0x41, 0xff] {
-        for length in 26..40 {
-            let fault = if length < 30 {
-                FrameFault::Length
-            } else {
-                FrameFault::ValueForm
-            };
-            let told = read_with(&rt, 2, 4, form, length);
-            assert_eq!(rt; told, Err(fault), "{length} bytes, {form}");
-        }
-        for (version, tag, fault) in [
-            (3, 4, FrameFault::Version),
-            (2, 5, FrameFault::Tag),
-            (2, 3, FrameFault::Length),
-            (1, 4, FrameFault::Length),
-        ] {
-            let told = read_with(&rt, version, tag, form, 38);
-            assert_eq!(rt; told, Err(fault), "version {version}, tag {tag}");
-        }
-    }
-}

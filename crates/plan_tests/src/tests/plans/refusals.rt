@@ -1,9 +1,8 @@
 //! Texts that break a rule, and what is said of them.
 
-use office_map::{Plan, PlanFault, PlanRefusal, PlanRule};
+use office_map::{Plan, PlanFault, PlanRefusal};
 use std::alloc::{AllocError, Global};
 use std::process::Abort;
-use std::test::Fail;
 
 /// Two offices, their pair and a record `x`, which end at line 5.
 const FIVE_LINES: &str =
@@ -138,17 +137,6 @@ fn version_2_has_the_faults_of_version_1(rt: HostRuntime) {
             is_told(&rt, rt.alloc(), text.as_str(), more, expected);
         }
     }
-}
-
-#[test]
-fn faults_are_printed_with_code_and_line(rt: HostRuntime) -> Result<(), Fail> {
-    let rule = PlanRule::NameTwice;
-    let text = format!(in rt.alloc(); "{}", PlanFault::Refused(PlanRefusal { rule, line: 4 }))?;
-    assert_eq!(rt; text.as_str(), "line 4: P3 NameTwice");
-    let rule = PlanRule::Limit;
-    let text = format!(in rt.alloc(); "{}", PlanRefusal { rule, line: 0 })?;
-    assert_eq!(rt; text.as_str(), "line 0: P7 Limit");
-    Ok(())
 }
 
 /// What is said of a text in two parts.

@@ -1,9 +1,7 @@
 //! Plans of version 2, whose records may start with texts.
 
 use super::refusals::is_told;
-use super::{TWO_OFFICES, TWO_TOLD, reads};
-use bottle_values::{Text, Value, Version};
-use office_map::{Plan, RecordId};
+use bottle_values::Text;
 use std::alloc::Global;
 use std::process::Abort;
 
@@ -55,19 +53,6 @@ static FAULTY: [&str; 15] = [
     "7\"\"",
 ];
 
-#[test]
-fn a_record_starts_with_a_text(rt: HostRuntime) {
-    for (word, bytes) in TEXTS {
-        let text = format!(in rt.alloc(); "plan 2{REST}{BEFORE}{word}{AFTER}").expect(
-            &rt, "memory",
-        );
-        let plan = Plan::read(rt.alloc(), text.as_bytes()).expect(&rt, "the plan is accepted");
-        assert!(rt; plan.version() == Version::Two && plan.run() == 42 && plan.records() == 1);
-        let value = plan.start_value(RecordId::new(0));
-        assert_eq!(rt; Some(value), Text::of(bytes).map(Value::Text), "{word}");
-    }
-}
-
 /// A word that is no value, under version 2; and that is one under no version 1.
 #[test]
 fn what_is_no_text_is_told_at_its_line(rt: HostRuntime) {
@@ -111,11 +96,4 @@ fn other_versions_are_no_header(rt: HostRuntime) {
         let text = format!(in rt.alloc(); "plan {word} run 1\n").expect(&rt, "memory");
         is_told(&rt, rt.alloc(), text.as_str(), "", "1 P1 Header");
     }
-}
-
-/// A plan of numbers says the same under version 2.
-#[test]
-fn numbers_are_the_same(rt: HostRuntime) {
-    let text = format!(in rt.alloc(); "plan 2{}", &TWO_OFFICES[6..]).expect(&rt, "memory");
-    reads(&rt, rt.alloc(), text.as_bytes(), TWO_TOLD);
 }

@@ -1,5 +1,5 @@
 use Rattle.std.proofs.Common.{length}
-use Rattle.session_measures.specs.Needs.{needs_of}
+use Rattle.session_programs.specs.measures.Needs.{needs_of}
 use Rattle.serial_replay.proofs.replay.ending_on.Goals as goal
 use Rattle.serial_replay.proofs.ValueTables as tables
 

@@ -1,7 +1,7 @@
 use Rattle.std.proofs.Common.{rules, ◌≡◌, ◌∷◌, [], Bor, Err, Ok, true, false, drop, length, refl, sym, subst, ap, ◌∙◌, arith}
 use Rattle.std.specs.String.{string_bytes}
 use Rattle.locked_office.specs.Calls.{Does}
-use Rattle.request_streams.specs.declared.asked.Asked.{Asked}
+use Rattle.session_streams.specs.declared.requests.asked.Asked.{Asked}
 use Rattle.serving.specs.refinement.Asking.{Asks}
 use Rattle.serving.proofs.Answering.{all_given, full_first, head_is, lacks_next, none_given, none_is, one_answered}
 use Rattle.serving.proofs.asking.answer_some.Goals as goal

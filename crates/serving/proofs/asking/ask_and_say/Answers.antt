@@ -1,7 +1,7 @@
 use Rattle.std.proofs.Common.{rules, ◌≡◌, ◌++◌, Err, Ok, false, true, sym, subst}
 use Rattle.std.specs.String.{string_bytes}
 use Rattle.locked_office.specs.Calls.{Does}
-use Rattle.office_answers.specs.declared.lack.Lack.TheVariants.{Memory}
+use Rattle.serving.specs.declared.answers.lack.Lack.TheVariants.{Memory}
 use Rattle.serving.specs.refinement.Asking.{Asks}
 use Rattle.serving.proofs.Answering.{full_after, said_after, unsaid_after}
 use Rattle.serving.proofs.asking.ask_and_say.Goals as goal

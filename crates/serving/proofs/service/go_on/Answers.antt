@@ -1,10 +1,10 @@
 use Rattle.std.proofs.Common.{take, refl, subst, sym, arith}
 use Rattle.std.proofs.KnownBytes.{Appends-nil}
 use Rattle.socket_pump.specs.Last.{last_of}
-use Rattle.durable_turns.specs.Letting.{StoreHas}
+use Rattle.stored_runs.specs.durable.Letting.{StoreHas}
 use Rattle.office_stations.specs.Rounds.{Standing}
 use Rattle.office_stations.specs.refinement.Standings.{standing}
-use Rattle.request_streams.specs.refinement.{taking_of}
+use Rattle.session_streams.specs.requests.refinement.{taking_of}
 use Rattle.stored_runs.specs.Runs.{HasStanding, IsToldBy}
 use Rattle.stored_runs.proofs.Outcomes.{itself}
 use Rattle.stored_runs.proofs.Growing.{no_datagram}

@@ -6,17 +6,17 @@ use Rattle.std.specs.Io.KnownBytes.{Appends}
 use mathlib.Core.List.{IsPrefix}
 use Rattle.office_map.specs.PlanValue.{PlanValue}
 use Rattle.locked_office.specs.Calls.{Key, office_with}
-use Rattle.report_forms.specs.Forms.{outcome_as}
+use Rattle.session_reports.specs.form.Forms.{outcome_as}
 use Rattle.socket_pump.specs.Last.{PumpView, last_of}
-use Rattle.durable_turns.specs.Letting.{LetsOut}
-use Rattle.durable_turns.specs.LettingLaws.{has_on}
+use Rattle.stored_runs.specs.durable.Letting.{LetsOut}
+use Rattle.stored_runs.specs.durable.LettingLaws.{has_on}
 use Rattle.office_stations.specs.declared.pace.TimedTurn.{TimedTurn}
 use Rattle.office_stations.specs.Rounds.{Standing, Turns}
 use Rattle.office_stations.specs.Sessions.{finished_of}
 use Rattle.office_stations.specs.refinement.Standings.{standing}
 use Rattle.stored_runs.proofs.Outcomes.{both}
 use Rattle.stored_runs.proofs.Growing.{looks_begin, no_datagram, within_on}
-use Rattle.office_answers.specs.Said.{Said, said_as}
+use Rattle.serving.specs.answers.Said.{Said, said_as}
 use Rattle.serving.specs.declared.fault.ServeFault.{ServeFault}
 use Rattle.serving.specs.Rounds.{AnswersSome, CutOff, StopsAnswering}
 use Rattle.serving.specs.Serving.{Unless}

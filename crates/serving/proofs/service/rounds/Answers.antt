@@ -1,10 +1,10 @@
 use Rattle.std.proofs.Common.{◌≤◌, ℕ, take, refl, sym, subst, ◌∙◌, arith}
 use Rattle.locked_office.specs.Calls.{Key}
 use Rattle.socket_pump.specs.Last.{last_of}
-use Rattle.durable_turns.specs.Letting.{LetsOut}
+use Rattle.stored_runs.specs.durable.Letting.{LetsOut}
 use Rattle.office_stations.specs.Rounds.{Standing}
 use Rattle.office_stations.specs.refinement.Standings.{standing}
-use Rattle.request_streams.specs.refinement.{taking_of}
+use Rattle.session_streams.specs.requests.refinement.{taking_of}
 use Rattle.stored_runs.specs.Runs.{IsToldBy}
 use Rattle.stored_runs.proofs.Outcomes.{both, itself}
 use Rattle.stored_runs.proofs.Growing.{lets_out_both, no_datagram}

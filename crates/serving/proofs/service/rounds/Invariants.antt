@@ -1,13 +1,13 @@
 use Rattle.std.proofs.Common.{◌≡◌, length, false}
 use mathlib.Core.List.{IsPrefix}
-use Rattle.session_agenda.specs.Agenda.{unfinished}
+use Rattle.site_core.specs.agendas.Agenda.{unfinished}
 use Rattle.site_core.specs.Journals.{office_of}
 use Rattle.locked_office.specs.Calls.{Stays, office_with}
 use Rattle.socket_pump.specs.Last.{last_of}
-use Rattle.durable_turns.specs.Letting.{StoreHas, LetsOut}
+use Rattle.stored_runs.specs.durable.Letting.{StoreHas, LetsOut}
 use Rattle.office_stations.specs.Sessions.{finished_of}
 use Rattle.office_stations.specs.refinement.Standings.{standing}
-use Rattle.request_streams.specs.refinement.{taking_of}
+use Rattle.session_streams.specs.requests.refinement.{taking_of}
 use Rattle.serving.proofs.Rounding.{So}
 use Rattle.serving.proofs.service.rounds.Given as goal
 

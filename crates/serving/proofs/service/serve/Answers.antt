@@ -4,14 +4,14 @@ use Rattle.std.specs.Result.{result_err}
 use Rattle.office_journal.specs.declared.event.Entry.{Entry}
 use Rattle.site_core.specs.Journals.{Site}
 use Rattle.locked_office.specs.Calls.{Key, DeskPass}
-use Rattle.durable_turns.specs.Letting.{LetsOut}
+use Rattle.stored_runs.specs.durable.Letting.{LetsOut}
 use Rattle.socket_pump.specs.Last.{last_of}
 use Rattle.office_stations.specs.Rounds.{Standing}
 use Rattle.office_stations.specs.refinement.Standings.{standing}
 use Rattle.stored_runs.specs.Keeping.{HasText}
 use Rattle.stored_runs.specs.Runs.{IsToldBy}
-use Rattle.office_answers.specs.Said.{ready_as}
-use Rattle.office_answers.specs.Answers.{tickets_of}
+use Rattle.serving.specs.answers.Said.{ready_as}
+use Rattle.serving.specs.answers.Answers.{tickets_of}
 use Rattle.serving.specs.declared.fault.ServeFault.{ServeFault}
 use Rattle.serving.specs.declared.served.Served.{Served}
 use Rattle.serving.specs.Serving.{IsEndBy, Serves}

@@ -5,7 +5,7 @@ use Rattle.std.proofs.KnownBytes.{Appends-nil}
 use Rattle.socket_pump.specs.Last.{last_of}
 use Rattle.office_stations.specs.Rounds.{Standing}
 use Rattle.office_stations.specs.refinement.Standings.{standing}
-use Rattle.request_streams.specs.refinement.{taking_of}
+use Rattle.session_streams.specs.requests.refinement.{taking_of}
 use Rattle.stored_runs.specs.Runs.{IsToldBy}
 use Rattle.stored_runs.proofs.Outcomes.{itself}
 use Rattle.stored_runs.proofs.Growing.{no_datagram}

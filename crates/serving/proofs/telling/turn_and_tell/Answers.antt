@@ -2,9 +2,9 @@ use Rattle.std.proofs.Common.{◌≡◌, ◌≤◌, length, drop, Some, inl, ref
 use Rattle.std.specs.List.{flat_map}
 use Rattle.std.proofs.KnownBytes.{Appends-trans}
 use Rattle.locked_office.specs.Calls.{office_with}
-use Rattle.report_forms.specs.Forms.{outcome_as}
+use Rattle.session_reports.specs.form.Forms.{outcome_as}
 use Rattle.socket_pump.specs.Last.{PumpView, last_of}
-use Rattle.durable_turns.specs.Letting.{LetsOut}
+use Rattle.stored_runs.specs.durable.Letting.{LetsOut}
 use Rattle.office_stations.specs.Rounds.{Standing, Turns}
 use Rattle.office_stations.specs.Sessions.{finished_of}
 use Rattle.office_stations.specs.refinement.Standings.{standing}

@@ -1,6 +1,6 @@
 //! Sessions with blocks.
 
-use super::refusals::{fault, is_said, is_said_of};
+use super::refusals::{fault, is_said};
 use super::{is_printed_as, repeat};
 use std::alloc::{AllocError, Global};
 use std::process::Abort;
@@ -122,49 +122,4 @@ fn add_session(text: &mut String, lines: &str) -> Result<(), AllocError> {
         text.push('\n')?;
     }
     text.push_str("end\n")
-}
-
-/// What stands within eight blocks or nine, and what is said of it.
-static NESTED: [(usize, &str, &str); 5] = [
-    (1, "", "accepted"),
-    (2, "", "10 TooDeep"),
-    (1, "end\nif 1 < 2\nelse\n", "accepted"),
-    (1, "if v < 2\n", "10 UnknownName"),
-    (1, "if 1 <\n", "10 Syntax"),
-];
-
-#[test]
-fn at_most_eight_blocks_stand_in_one_another(rt: HostRuntime) -> Result<(), Fail> {
-    nest_so(&rt, rt.alloc(), "if 1 < 2\n", "repeat 1\n")?;
-    nest_so(&rt, rt.alloc(), "repeat 1\n", "if 1 < 2\n")?;
-    Ok(())
-}
-
-/// Seven blocks of one kind, and one or two of another within them.
-fn nest_so(rt: &impl Abort, alloc: Global, first: &str, second: &str) -> Result<(), Fail> {
-    for (seconds, body, expected) in &NESTED {
-        let found = nested(alloc, first, 7, second, *seconds, body)?;
-        is_said_of(rt, found.as_str(), expected, *seconds, body);
-    }
-    Ok(())
-}
-
-/// So many lines of one kind, so many of another and these in a session, with an `end` for each
-/// of the first two.
-fn nested(
-    alloc: Global,
-    first: &str,
-    firsts: usize,
-    second: &str,
-    seconds: usize,
-    body: &str,
-) -> Result<String, Fail> {
-    let mut text = String::from_str(alloc, "session a\n")?;
-    repeat(&mut text, first, firsts)?;
-    repeat(&mut text, second, seconds)?;
-    text.push_str(body)?;
-    repeat(&mut text, "end\n", firsts)?;
-    repeat(&mut text, "end\n", seconds)?;
-    text.push_str("end\n")?;
-    fault(alloc, text.as_bytes())
 }

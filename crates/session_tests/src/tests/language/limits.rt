@@ -1,8 +1,7 @@
 //! Sessions at their limits and one past them.
 
-use super::refusals::{fault, fault_under, is_said_of};
+use super::refusals::fault;
 use super::repeat;
-use office_map::Plan;
 use std::alloc::{AllocError, Global};
 use std::fmt::Write;
 use std::process::Abort;
@@ -140,102 +139,4 @@ fn add_session(text: &mut String, session: &Session) -> Result<(), AllocError> {
     repeat(text, second, *seconds)?;
     text.push_str(last)?;
     text.push_str("end\n")
-}
-
-/// Texts, which begin so and then have a part so often, and what is said of them.
-static TEXTS: [(&str, &str, usize, &str); 4] = [
-    ("", "session a\nend\n", 1_024, "accepted"),
-    ("", "session a\nend\n", 1_025, "2049 TooLong"),
-    ("session a\nend\n#", ".", 1_048_561, "accepted"),
-    ("session a\nend\n#", ".", 1_048_562, "0 TooLong"),
-];
-
-#[test]
-fn texts_are_read_up_to_their_limits(rt: HostRuntime) -> Result<(), Fail> {
-    for (front, part, count, expected) in &TEXTS {
-        let found = fault_of_repeated(rt.alloc(), front, part, *count)?;
-        is_said_of(&rt, found.as_str(), expected, *count, part);
-    }
-    Ok(())
-}
-
-fn fault_of_repeated(alloc: Global, front: &str, part: &str, count: usize) -> Result<String, Fail> {
-    let mut text = String::from_str(alloc, front)?;
-    repeat(&mut text, part, count)?;
-    fault(alloc, text.as_bytes())
-}
-
-/// The text of a session with so many lines, each with its number between these two.
-fn numbered(
-    alloc: Global,
-    front: &str,
-    count: u32,
-    back: &str,
-    last: &str,
-) -> Result<String, AllocError> {
-    let mut text = String::from_str(alloc, "session a\n")?;
-    for number in 0..count {
-        write!(text, "{front}{number}{back}")?;
-    }
-    text.push_str(last)?;
-    Ok(text)
-}
-
-/// So many variables, and what is said of a session that has them.
-static VARIABLES: [(u32, &str); 2] = [(32, "accepted"), (33, "34 TooManyVariables")];
-
-#[test]
-fn sessions_have_at_most_32_variables(rt: HostRuntime) -> Result<(), Fail> {
-    for (count, expected) in &VARIABLES {
-        let found = fault_of_variables(rt.alloc(), *count)?;
-        is_said_of(&rt, found.as_str(), expected, *count as usize, "let");
-    }
-    Ok(())
-}
-
-/// What is said of a session of so many variables.
-fn fault_of_variables(alloc: Global, count: u32) -> Result<String, Fail> {
-    let text = numbered(alloc, "let v", count, " = 1\n", "let v0 = v1\nend\n")?;
-    fault(alloc, text.as_bytes())
-}
-
-/// So many records, and what is said of a session that needs them.
-static RECORDS: [(u32, &str); 2] = [(16, "accepted"), (17, "18 TooManyRecords")];
-
-#[test]
-fn sessions_need_at_most_16_records(rt: HostRuntime) -> Result<(), Fail> {
-    for (count, expected) in &RECORDS {
-        let found = fault_of_records(rt.alloc(), *count)?;
-        is_said_of(&rt, found.as_str(), expected, *count as usize, "set");
-    }
-    Ok(())
-}
-
-/// What is said of a session that needs so many records.
-fn fault_of_records(alloc: Global, count: u32) -> Result<String, Fail> {
-    let text = numbered(alloc, "set r", count, " = 1\n", "give read r0\nend\n")?;
-    let plan = wide_plan(alloc)?;
-    Ok(fault_under(alloc, &plan, text.as_bytes())?)
-}
-
-fn wide_plan(alloc: Global) -> Result<Plan, Fail> {
-    let text = wide(alloc)?;
-    Ok(Plan::read(alloc, text.as_bytes())?)
-}
-
-/// A plan whose office `a` has 17 records.
-fn wide(alloc: Global) -> Result<String, AllocError> {
-    let mut text = String::from_str(
-        alloc,
-        "plan 1 run 1\noffice a -\noffice b -\noffice c -\noffice d -\npair a b fork a\npair a c fork a\npair a d fork a\n",
-    )?;
-    for number in 0..17 {
-        let other = match number % 3 {
-            0 => "b",
-            1 => "c",
-            _ => "d",
-        };
-        write!(text, "record r{number} a {other} 0 at a\n")?;
-    }
-    Ok(text)
 }

@@ -2,7 +2,7 @@
 
 use super::PLAN;
 use office_map::Plan;
-use session_language::{LangFault, SessionRefusal, SessionRule, read_sessions};
+use session_language::{LangFault, SessionRefusal, read_sessions};
 use std::alloc::{AllocError, Global};
 use std::fmt::Write;
 use std::process::Abort;
@@ -91,18 +91,6 @@ static BYTES: [(&[u8], &str); 3] = [
     (b"session a\ngive\x0b1\nend\n", "2 Syntax"),
 ];
 
-/// Each rule with its code and name.
-static RULES: [(SessionRule, &str); 8] = [
-    (SessionRule::Syntax, "line 3: S1 Syntax"),
-    (SessionRule::UnknownName, "line 3: S2 UnknownName"),
-    (SessionRule::UnknownRecord, "line 3: S3 UnknownRecord"),
-    (SessionRule::TooDeep, "line 3: S4 TooDeep"),
-    (SessionRule::TooLong, "line 3: S5 TooLong"),
-    (SessionRule::TooManyRecords, "line 3: S6 TooManyRecords"),
-    (SessionRule::TooManyGives, "line 3: S7 TooManyGives"),
-    (SessionRule::TooManyVariables, "line 3: S8 TooManyVariables"),
-];
-
 #[test]
 fn the_first_fault_is_told(rt: HostRuntime) -> Result<(), Fail> {
     for (text, expected) in &TEXTS {
@@ -132,30 +120,6 @@ fn any_byte_may_stand_in_a_comment(rt: HostRuntime) -> Result<(), Fail> {
         let found = fault(rt.alloc(), text)?;
         assert_eq!(rt; found.as_str(), *expected, "in {text:?}");
     }
-    Ok(())
-}
-
-#[test]
-fn faults_are_printed_with_code_and_line(rt: HostRuntime) -> Result<(), Fail> {
-    for (rule, expected) in &RULES {
-        let fault = LangFault::Refused(SessionRefusal {
-            rule: *rule,
-            line: 3,
-        });
-        is_printed_as(&rt, rt.alloc(), fault, expected)?;
-    }
-    is_printed_as(&rt, rt.alloc(), LangFault::Memory, "out of memory")?;
-    Ok(())
-}
-
-fn is_printed_as(
-    rt: &impl Abort,
-    alloc: Global,
-    fault: LangFault,
-    expected: &str,
-) -> Result<(), AllocError> {
-    let text = format!(in alloc; "{fault}")?;
-    assert_eq!(rt; text.as_str(), expected);
     Ok(())
 }
 

@@ -84,16 +84,6 @@ static OF_NUMBERS: [(&str, &str); 5] = [
     ("session a\n# \"no\"\ngive 1\nend", "accepted"),
 ];
 
-/// How many bytes a text has, and what is said of a session that gives it.
-static LENGTHS: [(usize, &str); 6] = [
-    (0, "accepted"),
-    (1, "accepted"),
-    (63, "accepted"),
-    (64, "accepted"),
-    (65, "2 Syntax"),
-    (1_000_000, "2 Syntax"),
-];
-
 /// The bytes of the last text of a session that has 16,384 bytes where that has 58, and what is said of it.
 static SIZES: [(usize, &str); 4] = [
     (57, "accepted"),
@@ -144,22 +134,6 @@ fn plans_of_numbers_have_no_texts(rt: HostRuntime) -> Result<(), Fail> {
     for (text, expected) in &OF_NUMBERS {
         let found = fault(rt.alloc(), text.as_bytes())?;
         is_said(&rt, found.as_str(), expected, text);
-    }
-    Ok(())
-}
-
-#[test]
-fn a_text_has_at_most_64_bytes(rt: HostRuntime) -> Result<(), Fail> {
-    let plan = Plan::read(rt.alloc(), PLAN.as_bytes())?;
-    for (count, expected) in &LENGTHS {
-        let mut text = String::from_str(rt.alloc(), "session a\ngive \"")?;
-        repeat(&mut text, "x", *count)?;
-        text.push_str("\"\nend\n")?;
-        let found = fault_under(rt.alloc(), &plan, text.as_bytes())?;
-        is_said_of(&rt, found.as_str(), expected, *count, "x");
-        if *expected == "accepted" {
-            is_printed_as(&rt, rt.alloc(), &plan, text.as_str(), text.as_str())?;
-        }
     }
     Ok(())
 }

@@ -4,7 +4,7 @@ use Rattle.office_journal.specs.declared.rule.Rule.{Rule}
 use Rattle.office_journal.specs.declared.rule.Rule.TheVariants.{Start, Hungry, AskFork, GiveFork, Eat, Leave, AskBottle, GiveBottle, Drink, Work, Finish}
 use Rattle.site_core.specs.Limits.{usual_piece}
 use Rattle.site_core.specs.Offices.{may}
-use Rattle.neighbour_pairs.specs.refinement.PairsOfCode.{PairsValue}
+use Rattle.site_core.specs.neighbours.refinement.PairsOfCode.{PairsValue}
 use Rattle.site_core.specs.refinement.OfficeOfCode.{office_at}
 use Rattle.site_core.proofs.FirstRule.{found_before, found_after}
 use Rattle.site_core.proofs.order.next_rule.Goals as goal

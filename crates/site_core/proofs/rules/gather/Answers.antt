@@ -2,7 +2,7 @@ use Rattle.std.proofs.Common.{◌≡◌, Some, ap, sym, ◌∙◌}
 use Rattle.std.specs.Option.{option_copied}
 use Rattle.bottle_values.specs.Maps.{reads_of}
 use Rattle.drinking_core.specs.refinement.Bars.{drinker_of}
-use Rattle.session_agenda.specs.Agenda.{gathering}
+use Rattle.site_core.specs.agendas.Agenda.{gathering}
 use Rattle.site_core.specs.Offices.{value_in}
 use Rattle.site_core.proofs.rules.gather.Goals as goal
 

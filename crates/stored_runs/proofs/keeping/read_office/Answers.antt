@@ -1,7 +1,7 @@
 use Rattle.std.proofs.Common.{rules, ◌≡◌, List, false, ap, subst, ◌∙◌}
 use Rattle.site_core.specs.Journals.{Site}
 use Rattle.office_journal.specs.declared.event.Entry.{Entry}
-use Rattle.office_restarts.specs.Reopening.{IsNoJournal}
+use Rattle.site_core.specs.Reopening.{IsNoJournal}
 use Rattle.journal_texts.specs.JournalText.{IsFaultOf}
 use Rattle.stored_runs.proofs.Reading.{faulty, without_end, not_given, unlike}
 use Rattle.stored_runs.proofs.keeping.read_office.Goals as goal
@@ -19,7 +19,7 @@ pub returns-in-Err-NotGiven-clause-fault : goal.returns-in-Err-NotGiven-clause-f
 returns-in-Err-NotGiven-clause-fault c =
     let cut = subst (IsNoJournal c.args.plan.now c.args.me c.deref.result.now) c.in-Err-NotGiven.field-0-is c.in-Err-NotGiven.ensures.fault in
     not_given c.a_text_is_one_journal.ensures c.args.plan.now c.args.me c.args.text.now c.in-Ok.journal.office c.in-Ok.journal.entries.items c.in-Ok.journal.ends c.in-Ok.ensures.meaning
-    (subst (λ (l : List Entry). Rattle.site_core.specs.Journals.IsLegal (Rattle.office_restarts.specs.Reopening.site_with c.args.plan.now c.args.me l) → ⊥) c.deref.ensures.value cut.whole)
+    (subst (λ (l : List Entry). Rattle.site_core.specs.Journals.IsLegal (Rattle.site_core.specs.Reopening.site_with c.args.plan.now c.args.me l) → ⊥) c.deref.ensures.value cut.whole)
 
 pub returns-clause-fault : goal.returns-clause-fault
 returns-clause-fault c =

@@ -1,6 +1,6 @@
 use Rattle.std.proofs.Common.{refl, drop, subst, sym}
 use Rattle.socket_pump.specs.Last.{last_of}
-use Rattle.durable_turns.specs.Letting.{StoreHas}
+use Rattle.stored_runs.specs.durable.Letting.{StoreHas}
 use Rattle.office_stations.specs.Rounds.{Standing, of_office}
 use Rattle.office_stations.specs.refinement.Standings.{standing}
 use Rattle.office_stations.specs.refinement.RoundLaws.{none_made}

@@ -5,7 +5,7 @@ use Rattle.session_meaning.specs.declared.ending.Outcome.{Outcome}
 use Rattle.office_journal.specs.declared.event.Entry.{Entry}
 use Rattle.locked_office.specs.Calls.{Key, DeskPass, office_with}
 use Rattle.socket_pump.specs.Last.{last_of}
-use Rattle.durable_turns.specs.Letting.{LetsOut}
+use Rattle.stored_runs.specs.durable.Letting.{LetsOut}
 use Rattle.office_stations.specs.Rounds.{Standing, of_office}
 use Rattle.office_stations.specs.Sessions.{finished_of}
 use Rattle.office_stations.specs.refinement.Standings.{standing}

@@ -4,9 +4,9 @@ use Rattle.std.specs.Io.KnownBytes.{Appends}
 use Rattle.std.proofs.lemmas.List.{take_all}
 use Rattle.locked_office.specs.Calls.{office_with}
 use Rattle.socket_pump.specs.Last.{PumpView, last_of}
-use Rattle.durable_turns.specs.Letting.{LetsOut}
-use Rattle.durable_turns.specs.LettingLaws.{has_on}
-use Rattle.report_forms.specs.Forms.{outcome_as}
+use Rattle.stored_runs.specs.durable.Letting.{LetsOut}
+use Rattle.stored_runs.specs.durable.LettingLaws.{has_on}
+use Rattle.session_reports.specs.form.Forms.{outcome_as}
 use Rattle.office_stations.specs.Rounds.{Standing, Fills, StopsFilling, Turns, of_office, with_pass}
 use Rattle.office_stations.specs.Sessions.{finished_of}
 use Rattle.office_stations.specs.refinement.Standings.{standing}

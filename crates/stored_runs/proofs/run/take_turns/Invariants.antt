@@ -3,9 +3,9 @@ use Rattle.std.specs.List.{flat_map}
 use Rattle.std.specs.Io.KnownBytes.{Appends}
 use mathlib.Core.List.{IsPrefix}
 use Rattle.locked_office.specs.Calls.{Stays, office_with}
-use Rattle.report_forms.specs.Forms.{outcome_as}
+use Rattle.session_reports.specs.form.Forms.{outcome_as}
 use Rattle.socket_pump.specs.Last.{last_of}
-use Rattle.durable_turns.specs.Letting.{StoreHas, LetsOut}
+use Rattle.stored_runs.specs.durable.Letting.{StoreHas, LetsOut}
 use Rattle.office_stations.specs.Rounds.{of_office}
 use Rattle.office_stations.specs.Sessions.{finished_of}
 use Rattle.office_stations.specs.refinement.Standings.{standing}

@@ -3,7 +3,7 @@ use Rattle.std.specs.Option.{option_copied}
 use Rattle.std.proofs.lemmas.Result.{err_from_is_err_and}
 use Rattle.std.specs.String.{string_bytes}
 use Rattle.std.specs.Io.KnownBytes.{Appends}
-use Rattle.input_texts.specs.Words.{unread}
+use Rattle.host_files.specs.inputs.Words.{unread}
 use Rattle.command_outputs.specs.declared.fault.Fault.TheVariants.{Memory}
 use Rattle.drink_commands.proofs.Faults.{no_input}
 use Rattle.drink_commands.proofs.Reported.{started}

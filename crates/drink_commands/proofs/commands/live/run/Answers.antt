@@ -10,7 +10,7 @@ use Rattle.command_outputs.specs.Fault.{IsOfRun}
 use Rattle.command_outputs.specs.Places.{AreFree, IsIn}
 use Rattle.drink_commands.specs.Run.{RefusesFolder, WritesRan}
 use Rattle.drink_commands.specs.Texts.{nothing}
-use Rattle.command_inputs.specs.declared.input.Input.TheVariants as inputs
+use Rattle.serial_command.specs.declared.reading.input.Input.TheVariants as inputs
 use Rattle.command_outputs.specs.declared.fault.Fault.TheVariants.{NoRun, Text}
 use Rattle.drink_commands.proofs.Faults as texts
 use Rattle.drink_commands.proofs.Faults.{at_first, at_next, judged, plan_taken, sessions_taken}

@@ -9,7 +9,7 @@ use Rattle.frame_world.specs.Worlds.{World}
 use Rattle.frame_world.specs.WorldLaws.{seated}
 use Rattle.command_outputs.specs.Days.{WritesEndOf}
 use Rattle.drink_commands.specs.Texts.{NoOther, nothing}
-use Rattle.command_inputs.specs.declared.input.Input.TheVariants as inputs
+use Rattle.serial_command.specs.declared.reading.input.Input.TheVariants as inputs
 use Rattle.command_outputs.specs.declared.fault.Fault.TheVariants.{Memory, Text}
 use Rattle.drink_commands.proofs.Faults.{at_end, at_first, at_next, judged, no_input, plan_taken, sessions_taken}
 use Rattle.drink_commands.proofs.Reported.{ran, started}

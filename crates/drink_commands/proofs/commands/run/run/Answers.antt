@@ -1,16 +1,16 @@
 use Rattle.std.specs.Option.{option_copied}
 use Rattle.std.specs.Prelude.{option_map}
-use Rattle.sealed_sockets.specs.Sealed.{IsToldUnder}
+use Rattle.datagram_seals.specs.sockets.Sealed.{IsToldUnder}
 use Rattle.office_runs.specs.Runs.{TellsCourse}
 use Rattle.std.proofs.Common.{◌≡◌, ◌∙◌, [], ◌∷◌, Some, IfSome, inl, inr, refl, subst, sym, ◌≤◌, rules}
 use Rattle.std.proofs.lemmas.Result.{err_from_is_err_and}
 use Rattle.command_outputs.specs.Fault.{IsOfRun}
 use Rattle.command_outputs.specs.Places.{IsFree, IsObstacle}
-use Rattle.secret_files.specs.Files.{RefusesSecrets}
+use Rattle.command_outputs.specs.secrets.Files.{RefusesSecrets}
 use Rattle.drink_commands.specs.Run.{RefusesFile}
 use Rattle.drink_commands.specs.Sealed.{IsUnderSeals}
 use Rattle.drink_commands.specs.Texts.{nothing}
-use Rattle.command_inputs.specs.declared.input.Input.TheVariants as inputs
+use Rattle.serial_command.specs.declared.reading.input.Input.TheVariants as inputs
 use Rattle.command_outputs.specs.declared.fault.Fault.TheVariants.{NoRun, Text}
 use Rattle.drink_commands.proofs.Faults as texts
 use Rattle.drink_commands.proofs.Faults.{at_first, at_next, sessions_taken}

@@ -1,4 +1,4 @@
-use Rattle.sealed_sockets.specs.Sealed.{IsToldUnder}
+use Rattle.datagram_seals.specs.sockets.Sealed.{IsToldUnder}
 use Rattle.drink_commands.proofs.OfSeals.{course_as, ok_to}
 use Rattle.drink_commands.proofs.commands.run.run_at.Goals as goal
 

@@ -3,7 +3,7 @@ use Rattle.std.specs.Io.KnownBytes.{Appends}
 use Rattle.std.specs.String.{string_bytes}
 use Rattle.std.proofs.lemmas.Result.{err_from_is_err_and}
 use Rattle.serial_replay.specs.Serial.{ListsValues, map_of, start_map}
-use Rattle.command_inputs.specs.declared.input.Input.TheVariants as inputs
+use Rattle.serial_command.specs.declared.reading.input.Input.TheVariants as inputs
 use Rattle.drink_commands.proofs.SerialTold.{judged_as, written_as}
 use Rattle.drink_commands.proofs.commands.serial.run.Goals as goal
 

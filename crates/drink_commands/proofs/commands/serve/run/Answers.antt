@@ -1,11 +1,11 @@
 use Rattle.std.specs.Option.{option_copied}
 use Rattle.std.specs.Prelude.{option_map}
-use Rattle.sealed_sockets.specs.Sealed.{IsToldUnder}
+use Rattle.datagram_seals.specs.sockets.Sealed.{IsToldUnder}
 use Rattle.std.proofs.Common.{◌≡◌, codes, IfSome, refl, rules}
 use Rattle.std.proofs.lemmas.Result.{err_from_is_err_and}
 use Rattle.command_outputs.specs.Places.{IsAnInput}
 use Rattle.command_outputs.specs.declared.fault.Fault.TheVariants.{Text}
-use Rattle.secret_files.specs.Files.{RefusesSecrets}
+use Rattle.command_outputs.specs.secrets.Files.{RefusesSecrets}
 use Rattle.serving.specs.declared.fault.ServeFault.{ServeFault}
 use Rattle.drink_commands.specs.Texts.{nothing}
 use Rattle.drink_commands.specs.Sealed.{IsUnderSeals}

@@ -1,11 +1,11 @@
 use Rattle.std.specs.Option.{option_copied}
 use Rattle.std.proofs.Common.{◌≡◌, ℕ, List, [], ◌∷◌, Some, sym, subst, ap₂, ◌∙◌, refl, inl, inr, rules}
 use Rattle.std.proofs.lemmas.Result.{err_from_is_err_and}
-use Rattle.script_runs.specs.Script.{IsScript, acts_with}
-use Rattle.input_texts.specs.Words.{HasText, Unread}
+use Rattle.simulation.specs.scripts.Script.{IsScript, acts_with}
+use Rattle.host_files.specs.inputs.Words.{HasText, Unread}
 use Rattle.command_outputs.specs.Fault.{IsFaultAt}
 use Rattle.drink_commands.specs.Texts.{NoOther, Refuses, nothing}
-use Rattle.command_inputs.specs.declared.input.Input.TheVariants as inputs
+use Rattle.serial_command.specs.declared.reading.input.Input.TheVariants as inputs
 use Rattle.command_outputs.specs.declared.fault.Fault.TheVariants.{Text}
 use Rattle.drink_commands.proofs.Faults.{at_end, at_first, at_next, judged, plan_taken, script_taken, sessions_taken}
 use Rattle.drink_commands.proofs.Reported.{simulated, started}

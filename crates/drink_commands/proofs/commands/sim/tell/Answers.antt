@@ -2,10 +2,10 @@ use Rattle.std.proofs.Common.{OnOk, refl, subst, inl, inr}
 use Rattle.std.specs.Option.{option_copied}
 use Rattle.std.specs.Io.KnownBytes.{Appends}
 use Rattle.frame_world.specs.Worlds.{opening}
-use Rattle.script_runs.specs.Script.{acts_with}
-use Rattle.script_runs.specs.Runs.{run_of}
-use Rattle.script_runs.specs.Transcript.{transcript, IsSerialRun}
-use Rattle.run_reports.proofs.Outgoings.{on_ok_so}
+use Rattle.simulation.specs.scripts.Script.{acts_with}
+use Rattle.simulation.specs.scripts.Runs.{run_of}
+use Rattle.simulation.specs.scripts.Transcript.{transcript, IsSerialRun}
+use Rattle.world_schedule.proofs.reports_lemmas.Outgoings.{on_ok_so}
 use Rattle.drink_commands.specs.Simulation.{LeavesFiles}
 use Rattle.drink_commands.proofs.Faults.{no_input}
 use Rattle.drink_commands.proofs.Running.{err_more}

@@ -1,6 +1,6 @@
 use Rattle.std.proofs.Common.{inl, inr, refl}
 use Rattle.std.proofs.lemmas.Result.{err_from_is_err_and}
-use Rattle.sealed_sockets.specs.Sealed.{IsToldUnder}
+use Rattle.datagram_seals.specs.sockets.Sealed.{IsToldUnder}
 use Rattle.drink_commands.proofs.OfSeals.{went_of}
 use Rattle.drink_commands.proofs.commands.stored.go_on.Goals as goal
 

@@ -1,15 +1,15 @@
 use Rattle.std.specs.Option.{option_copied}
 use Rattle.std.specs.Prelude.{option_map}
-use Rattle.sealed_sockets.specs.Sealed.{IsToldUnder}
+use Rattle.datagram_seals.specs.sockets.Sealed.{IsToldUnder}
 use Rattle.std.proofs.Common.{[], Some, IfSome, refl, subst, sym, ◌≤◌, rules}
 use Rattle.std.proofs.lemmas.Result.{err_from_is_err_and}
 use Rattle.command_outputs.specs.Fault.{IsOfStoredRun}
 use Rattle.command_outputs.specs.Places.{IsAnInput}
-use Rattle.secret_files.specs.Files.{RefusesSecrets}
+use Rattle.command_outputs.specs.secrets.Files.{RefusesSecrets}
 use Rattle.drink_commands.specs.Sealed.{IsUnderSeals}
 use Rattle.drink_commands.specs.Stored.{IsEndedBy, IsNotHeld, RefusesStore, RunsStored}
 use Rattle.stored_runs.specs.declared.fault.StoredFault.{StoredFault}
-use Rattle.command_inputs.specs.declared.input.Input.TheVariants as inputs
+use Rattle.serial_command.specs.declared.reading.input.Input.TheVariants as inputs
 use Rattle.command_outputs.specs.declared.fault.Fault.TheVariants.{Text}
 use Rattle.drink_commands.specs.Texts.{nothing}
 use Rattle.drink_commands.proofs.Faults.{at_first}

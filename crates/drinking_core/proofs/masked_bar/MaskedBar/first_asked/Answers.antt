@@ -2,7 +2,7 @@ use Rattle.std.proofs.Common.{◌≡◌, ◌≤◌, ℕ, length, List, Some, ap,
 use Rattle.std.specs.Prelude.{slice_get, find, ◌&&◌, not}
 use Rattle.std.proofs.lemmas.Bool.{ltb-false}
 use Rattle.std.proofs.lemmas.Option.{slice_get_read}
-use Rattle.bit_masks.specs.Sets.{is_in128}
+use Rattle.dining_core.specs.masks.Sets.{is_in128}
 use Rattle.drinking_core.specs.Drinkers.{AskBottle, is_thirsty, may}
 use Rattle.drinking_core.specs.refinement.Bars.{BarValue, drinker_of}
 use Rattle.drinking_core.proofs.MaskUpdates.{not_thirsty, asked_bits, none_left, none_within, first_told}

@@ -1,5 +1,5 @@
 use Rattle.std.proofs.Common.{◌≡◌, ◌<◌, ◌++◌, ◌∷◌, [], length, sym, ap, subst, ◌∙◌, arith}
-use Rattle.journal_pages.specs.Framed.{text_carried}
+use Rattle.office_journal.specs.pages.Framed.{text_carried}
 use Rattle.office_journal.specs.declared.event.Event.TheVariants as event
 use Rattle.office_journal.specs.declared.reply.Reply.TheVariants as reply
 use Rattle.office_journal.specs.refinement.PackedEntries.{Beside}

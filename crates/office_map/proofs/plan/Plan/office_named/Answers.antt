@@ -1,5 +1,5 @@
 use Rattle.std.proofs.Common.{◌≡◌, None, ◌∙◌, ap, sym}
-use Rattle.short_names.specs.Names.{short_of}
+use Rattle.text_lines.specs.short.Names.{short_of}
 use Rattle.office_map.proofs.ShortNames.{no_office, its_bytes}
 use Rattle.office_map.proofs.plan.Plan.office_named.Goals as goal
 

@@ -1,6 +1,6 @@
 use Rattle.std.proofs.Common.{Result, Ok, Err}
 use Rattle.std.specs.Prelude.{OnOk}
-use Rattle.request_streams.specs.refinement.{taking_of}
+use Rattle.session_streams.specs.requests.refinement.{taking_of}
 use Rattle.serving.proofs.Hearing.{kept, nothing_comes}
 use Rattle.serving.proofs.incoming.Incoming.hear.Goals as goal
 

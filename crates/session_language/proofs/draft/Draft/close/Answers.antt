@@ -1,5 +1,5 @@
 use Rattle.std.proofs.Common.{◌≡◌, ◌≤◌, false, rules}
-use Rattle.session_measures.specs.Measures.{block_gives}
+use Rattle.session_programs.specs.measures.Measures.{block_gives}
 use Rattle.session_meaning.specs.refinement.TreeOfStatements.{block_of}
 use Rattle.session_programs.specs.Program.{is_too_long}
 use Rattle.session_language.specs.Reading.{program_of}

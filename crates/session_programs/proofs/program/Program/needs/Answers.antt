@@ -1,5 +1,5 @@
 use Rattle.std.proofs.Common.{◌≡◌, rules}
-use Rattle.session_measures.specs.Needs.{needs_of}
+use Rattle.session_programs.specs.measures.Needs.{needs_of}
 use Rattle.session_programs.proofs.program.Program.needs.Goals as goal
 
 pub returns-clause-in_order : goal.returns-clause-in_order

@@ -3,7 +3,7 @@ use Rattle.window_link.specs.Links.{LinkState}
 use Rattle.office_map.specs.PlanValue.{is_end, peer}
 use Rattle.token_channel.specs.declared.thing.Thing.TheVariants.{Bottle}
 use Rattle.token_channel.specs.Things.{count_carrying}
-use Rattle.neighbour_pairs.specs.Pairs.{Pairs}
+use Rattle.site_core.specs.neighbours.Pairs.{Pairs}
 use Rattle.site_core.specs.Journals.{Site, office_of}
 use Rattle.token_channel.specs.WaitingBottle.{TellsBottle}
 use Rattle.site_core.proofs.office.Office.waiting_value.Goals as goal

@@ -1,15 +1,23 @@
-use Rattle.std.proofs.Common.{sym, ap, ◌∙◌, subst, rules}
-use Rattle.window_link.specs.Windows.{without_next}
-use Rattle.window_link.specs.refinement.Places.{AreUpTo}
-use Rattle.window_link.proofs.KeptPlaces.{shown_without, up_to_without}
+use Rattle.std.proofs.Common.{◌≡◌, ◌+◌, List, Option, None, set, drop, ap, ◌∙◌, arith, rules}
+use Rattle.std.proofs.lemmas.List.{drop-set-add}
+use Rattle.arrayvec.proofs.ArrayVecLemmas.{items-with_items}
+use Rattle.frame_codec.specs.declared.message.Msg.{Msg}
+use Rattle.window_link.specs.Windows.{Receiving, without_next}
+use Rattle.window_link.specs.refinement.Places.{filled}
+use Rattle.window_link.proofs.KeptPlaces.{filled-none}
 use Rattle.window_link.proofs.receiving.ReceiveWindow.drop_kept.Goals as goal
-
-pub invariant_of-self : goal.invariant_of-self
-invariant_of-self c =
-    let f = c.self.inside.furthest in
-    let t = c.self.inside.taken in
-    (c.self.invariant.0, c.self.invariant.1, subst (AreUpTo f t) (sym (ap (λ r. r.kept) (shown_without t c.place_of.result c.self.inside.places (search rules) c.place_of.ensures.place))) (up_to_without f t _ c.self.invariant.2))
 
 pub returns : goal.returns
 returns c =
-    shown_without c.self.inside.taken c.place_of.result c.self.inside.places (search rules) c.place_of.ensures.place ∙ ap without_next c.self.view_is
+    let ks = c.self.inside.ahead.items in
+    let gone = c.self.inside.gone in
+    let first : gone ≡ gone + 0 = omega arith in
+    ap (λ xs. window (filled 18 (drop gone xs))) (items-with_items c.self.inside.ahead _ (search rules))
+    ∙ ap (λ xs. window (filled 18 (drop gone (set xs gone None)))) c.deref_mut.ensures.value
+    ∙ ap (λ k. window (filled 18 (drop gone (set ks k None)))) first
+    ∙ ap (λ xs. window (filled 18 xs)) (drop-set-add gone ks 0 None)
+    ∙ ap window (filled-none 17 (drop gone ks))
+    ∙ ap without_next c.self.view_is
+  where
+    window : List (Option Msg) → Receiving
+    window ks = record { taken = c.self.inside.taken; kept = ks }

@@ -1,7 +1,0 @@
-use Rattle.std.proofs.Common.{rules, arith}
-use Rattle.std.specs.Int.{w16}
-use Rattle.bit_masks.proofs.BitSets.{least_bit}
-use Rattle.bit_masks.proofs.mask16.Mask16.first.Goals as goal
-
-pub returns-else-self-eq0 : goal.returns-else-self-eq0
-returns-else-self-eq0 c = least_bit w16 c.args.self.bits (omega (arith, c.if-self-eq0.false)) (search rules)

@@ -1,0 +1,4 @@
+pub mod frames
+pub mod wires
+pub mod sockets
+pub mod texts

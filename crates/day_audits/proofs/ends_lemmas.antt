@@ -1,0 +1,3 @@
+pub mod NextPlans
+pub mod Offices
+pub mod FileSessions

@@ -1,0 +1,13 @@
+pub mod Places
+pub mod PlanLines
+pub mod ValueWords
+pub mod LinesRead
+pub mod Names
+pub mod OfficesRead
+pub mod PairsRead
+pub mod RecordsRead
+pub mod TextsRead
+pub mod CarriedPlans
+pub mod NextPlansRead
+pub mod LeftValues
+pub mod WrittenLines

@@ -1,3 +1,0 @@
-mod NextPlans
-mod Offices
-mod FileSessions

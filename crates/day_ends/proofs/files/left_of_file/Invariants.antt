@@ -1,6 +1,0 @@
-use Rattle.std.specs.String.{string_bytes}
-use Rattle.day_ends.proofs.FileSessions.{IsSoFar}
-use Rattle.day_ends.proofs.files.left_of_file.Given as goal
-
-abbrev pub invariant-loop-i : goal.invariant-loop-i
-invariant-loop-i l = IsSoFar l.world l.programs l.i (string_bytes l.text)

@@ -1,3 +1,0 @@
-mod Letting
-mod Mailing
-mod Faults

@@ -1,7 +1,0 @@
-use Rattle.std.proofs.Common.{rules}
-use Rattle.durable_turns.proofs.Mailing.{fetched_fewer}
-use Rattle.durable_turns.proofs.posting.fetch.Goals as goal
-
-pub returns-in-Ok-false-clause-fetches : goal.returns-in-Ok-false-clause-fetches
-returns-in-Ok-false-clause-fetches g c =
-    fetched_fewer g.W.Wire.tells (g.W.Wire.account c.args.wire.now) (g.W.Wire.account c.loop-i.wire) (g.W.Wire.account c.fetch_one.new.wire) c.loop-i.mail.came c.fetch_one.new.mail c.in-Ok-false.field-0 c.in-Ok-false.field-0-test (search rules) c.loop-i.invariant.gives c.in-Ok-false.ensures.one

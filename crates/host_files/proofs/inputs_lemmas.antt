@@ -1,0 +1,5 @@
+pub mod CutAtLine
+pub mod CutOfPrefix
+pub mod ReadOn
+pub mod ReadInto
+pub mod WordText

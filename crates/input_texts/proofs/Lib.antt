@@ -1,5 +1,0 @@
-mod CutAtLine
-mod CutOfPrefix
-mod ReadOn
-mod ReadInto
-mod WordText

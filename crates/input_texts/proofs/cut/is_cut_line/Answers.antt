@@ -1,5 +1,0 @@
-use Rattle.std.proofs.Common.{rules}
-use Rattle.input_texts.proofs.cut.is_cut_line.Goals as goal
-
-pub returns-else-eq : goal.returns-else-eq
-returns-else-eq c = search rules

@@ -1,5 +1,0 @@
-mod Gathering
-mod Given
-mod Following
-mod Telling
-mod RecordedTexts

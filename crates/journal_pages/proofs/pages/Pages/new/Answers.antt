@@ -1,5 +1,0 @@
-use Rattle.journal_pages.proofs.PagedEntries.{none_paged}
-use Rattle.journal_pages.proofs.pages.Pages.new.Goals as goal
-
-pub invariant_of-result : goal.invariant_of-result
-invariant_of-result c = rw (c.new.ensures.items, c.new-2.ensures.items) none_paged

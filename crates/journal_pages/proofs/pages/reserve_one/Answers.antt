@@ -1,5 +1,0 @@
-use Rattle.std.proofs.Common.{arith}
-use Rattle.journal_pages.proofs.pages.reserve_one.Goals as goal
-
-pub turn-requires : goal.turn-requires
-turn-requires c = record { whole = omega (arith, c.requires.last, c.len.ensures, c.args.last.now.ok.0) }

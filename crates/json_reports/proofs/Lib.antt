@@ -1,5 +1,0 @@
-mod Cutting
-mod Names
-mod Parts
-mod Lines
-mod Added

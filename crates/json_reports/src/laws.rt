@@ -1,8 +1,0 @@
-//! What holds of the lines.
-
-ghost use Rattle.json_reports.specs.JsonLaws.{JsonLinesTellOutcomes};
-
-/// Of a plan's outcomes no two have one line.
-pub fn json_lines_tell_outcomes()
-    ensures { JsonLinesTellOutcomes }
-{}

@@ -1,6 +1,0 @@
-mod IdleOffices
-mod Walked
-mod Fitting
-mod EachOnce
-mod TextsRead
-mod Programs

@@ -1,9 +1,0 @@
-use Rattle.std.proofs.Common.{◌≡◌, length}
-use Rattle.std.specs.Vec.Iter.{into_iter_items, into_iter_len}
-use Rattle.live_runs.proofs.Courses.{ToldSoFar}
-use Rattle.live_runs.proofs.closing.tell_all.Given as goal
-
--- what came of those before is told
-abbrev pub invariant-loop-end : goal.invariant-loop-end
-invariant-loop-end g l = ToldSoFar l.form g.S.Wire.tells l.plan l.programs l.journals l.fn.ended.items (into_iter_items l.end-iterator) l.left l.fault l.report
-    × (into_iter_len l.end-iterator ≡ length (into_iter_items l.end-iterator))

@@ -1,4 +1,0 @@
-mod Blocks
-mod Places
-mod Cuts
-mod PlainLines

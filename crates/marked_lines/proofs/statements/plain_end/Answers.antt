@@ -1,5 +1,0 @@
-use Rattle.marked_lines.proofs.PlainLines.{begins_plain}
-use Rattle.marked_lines.proofs.statements.plain_end.Goals as goal
-
-pub returns-then-text-gt35 : goal.returns-then-text-gt35
-returns-then-text-gt35 c = begins_plain c.args.text.now c.printable_run-end.result c.if-end-text.true c.printable_run-end.ensures.printable c.if-text-end-eq10.true c.if-text-gt35.true

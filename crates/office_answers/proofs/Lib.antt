@@ -1,4 +1,0 @@
-mod Numbered
-mod Looked
-mod Promises
-mod Answered

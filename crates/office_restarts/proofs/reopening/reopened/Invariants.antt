@@ -1,9 +1,0 @@
-use Rattle.std.proofs.Common.{◌≡◌, take}
-use Rattle.office_restarts.specs.Reopening.{site_with}
-use Rattle.office_restarts.proofs.reopening.reopened.Given as goal
-
-abbrev pub invariant-loop-entry : goal.invariant-loop-entry
-invariant-loop-entry l = record {
-  counted : l.given ≡ l.entry-index;
-  at : l.office ≡ site_with l.plan l.fn.me (take l.entry-index l.entries);
-}

@@ -1,8 +1,0 @@
-use Rattle.std.proofs.Common.{◌≡◌, ◌++◌, take}
-use Rattle.std.specs.List.{flat_map}
-use Rattle.std.specs.String.{string_bytes}
-use Rattle.plan_texts.specs.WrittenPlans.{ended, pair_words}
-use Rattle.plan_texts.proofs.writing.add_pairs.Given as goal
-
-abbrev pub invariant-loop-pair : goal.invariant-loop-pair
-invariant-loop-pair l = string_bytes l.text ≡ string_bytes l.initial.text ++ flat_map (λ x. ended (pair_words l.plan x)) (take l.pair-index l.pairs)

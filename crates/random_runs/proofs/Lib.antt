@@ -1,3 +1,0 @@
-mod TranquilOffices
-mod Refusals
-mod Running

@@ -1,5 +1,0 @@
-use Rattle.std.proofs.Common.{◌≡◌, map, take}
-use Rattle.random_runs.proofs.submission.all_of.Given as goal
-
-abbrev pub invariant-loop-program : goal.invariant-loop-program
-invariant-loop-program l = map (λ p. p.now) l.waiting.items ≡ take l.program-index l.programs

@@ -1,7 +1,0 @@
-use Rattle.std.proofs.Common.{◌≡◌, take}
-use Rattle.std.specs.List.{filter}
-use Rattle.run_remarks.specs.Left.{is_away}
-use Rattle.run_remarks.proofs.left.away.Given as goal
-
-abbrev pub invariant-loop-r : goal.invariant-loop-r
-invariant-loop-r l = l.records.items ≡ filter (is_away l.office) (take l.r-index l.needs)

@@ -1,8 +1,0 @@
-pub mod Limits
-pub mod Script
-pub mod ScriptLines
-pub mod Runs
-pub mod Advancing
-pub mod Settling
-pub mod Transcript
-pub mod refinement

@@ -1,6 +1,0 @@
-use Rattle.std.proofs.Common.{◌≡◌, ◌++◌, take, drop}
-use Rattle.sealed_frames.specs.Hmac.{masked as masked_by}
-use Rattle.sealed_frames.proofs.digest.masked.Given as goal
-
-abbrev pub invariant-bytes : goal.invariant-bytes
-invariant-bytes l = l.turned ≡ masked_by l.mask (take l.i l.block) ++ drop l.i l.block

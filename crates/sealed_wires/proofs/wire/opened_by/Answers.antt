@@ -1,9 +1,0 @@
-use Rattle.std.proofs.Common.{sym, ap, ◌∙◌}
-use Rattle.std.specs.Option.{option_copied}
-use Rattle.sealed_wires.specs.SealedWires.{opened_by}
-use Rattle.sealed_wires.proofs.Accounts.{opened_is}
-use Rattle.sealed_wires.proofs.wire.opened_by.Goals as goal
-
-pub returns-in-Some-open-clause-frame : goal.returns-in-Some-open-clause-frame
-returns-in-Some-open-clause-frame c =
-    opened_is c.in-Some.secret.now c.args.datagram.now c.in-Some-open.frame.now c.in-Some-open.ensures.opened ∙ ap (λ o. opened_by (option_copied o) c.args.datagram.now) (sym c.in-Some.is)

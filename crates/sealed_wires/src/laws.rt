@@ -1,8 +1,0 @@
-//! What holds of sealed wires.
-
-ghost use Rattle.sealed_wires.specs.SealedWires.{EachIsOpened};
-
-/// Each frame that is handed on was opened under the secret with the office that it names as its sender.
-pub fn each_is_opened()
-    ensures { EachIsOpened }
-{}

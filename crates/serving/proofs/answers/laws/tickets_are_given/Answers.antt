@@ -1,0 +1,5 @@
+use Rattle.serving.proofs.answers_lemmas.Promises.{tickets_are_given}
+use Rattle.serving.proofs.answers.laws.tickets_are_given.Goals as goal
+
+pub returns : goal.returns
+returns c = tickets_are_given

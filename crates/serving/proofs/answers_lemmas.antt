@@ -1,0 +1,4 @@
+pub mod Numbered
+pub mod Looked
+pub mod Promises
+pub mod Answered

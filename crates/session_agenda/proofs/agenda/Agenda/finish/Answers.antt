@@ -1,8 +1,0 @@
-use Rattle.std.proofs.Common.{rules}
-use Rattle.session_agenda.proofs.agenda.Agenda.finish.Goals as goal
-
-pub into_ending-requires : goal.into_ending-requires
-into_ending-requires c = search rules
-
-pub returns-in-Working : goal.returns-in-Working
-returns-in-Working c = search rules

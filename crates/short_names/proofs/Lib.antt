@@ -1,2 +1,0 @@
-mod Packed
-mod Words

@@ -1,5 +1,0 @@
-use Rattle.short_names.proofs.Packed.{is_name}
-use Rattle.short_names.proofs.short_name.ShortName.as_bytes.Goals as goal
-
-pub returns-clause-short : goal.returns-clause-short
-returns-clause-short c = is_name c.self.inside.bytes c.self.inside.count c.self.invariant

@@ -1,0 +1,2 @@
+mod scripts_lemmas
+mod random_lemmas

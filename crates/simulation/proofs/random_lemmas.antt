@@ -1,0 +1,3 @@
+pub mod TranquilOffices
+pub mod Refusals
+pub mod Running

@@ -1,0 +1,5 @@
+use Rattle.std.proofs.Common.{rules}
+use Rattle.simulation.proofs.scripts.script.deliver.Goals as goal
+
+pub returns : goal.returns
+returns c = search rules

@@ -1,0 +1,2 @@
+pub mod scripts
+pub mod random

@@ -1,0 +1,9 @@
+pub mod Limits
+pub mod Script
+pub mod ScriptLines
+pub mod Runs
+pub mod Advancing
+pub mod Settling
+pub mod Termination
+pub mod Transcript
+pub mod refinement

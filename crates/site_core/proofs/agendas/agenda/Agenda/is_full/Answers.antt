@@ -1,0 +1,5 @@
+use Rattle.std.proofs.Common.{rules}
+use Rattle.site_core.proofs.agendas.agenda.Agenda.is_full.Goals as goal
+
+pub returns : goal.returns
+returns c = search rules

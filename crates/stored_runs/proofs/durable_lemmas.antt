@@ -1,0 +1,3 @@
+pub mod Letting
+pub mod Mailing
+pub mod Faults
