@@ -1,11 +1,12 @@
-# For the scripts that count the instructions of calls: builds the program bench.txt beside the script, which is no crate
-# of the repository, in a repository of its own, since the gate takes no source file outside a crate. `here` is the
-# script's folder, `top` the repository, and `uses` the crates that the program names. Those and what they stand on are copied
+# For the scripts NAME.sh that count the instructions of calls: builds the program NAME.rt.txt beside the script, which is no crate
+# of the repository, in a repository of its own: the gate takes no file that ends in .rt or .antt outside a crate, and so each ends
+# in .txt here. `top` is the repository, and `uses` the crates that the program names. Those and what they stand on are copied
 # with what is proved of them already, which isn't proved again: so a figure comes in a minute or two. Where it can't be built the
 # script ends with status 3.
 work=$(mktemp -d)
 trap 'rm -rf "$work"' EXIT
-program=$(basename "$here")_bench
+source=$top/bench/$(basename "$0" .sh)
+program=${source##*/}_bench
 mkdir "$work/crates"
 cp "$top/HANDLES" "$work"
 
@@ -25,13 +26,13 @@ add() {
 
 add $uses
 mkdir -p "$work/crates/$program/src"
-cp "$here/bench.txt" "$work/crates/$program/src/main.rt"
-# What is written of its proof stands beside it, as .txt.
-if [ -d "$here/proofs" ]; then
-    (cd "$here/proofs" && find . -name '*.txt') | while read -r file; do
+cp "$source.rt.txt" "$work/crates/$program/src/main.rt"
+# What is written of its proof stands beside it, one file after another, each below a line that names it.
+if [ -f "${source}_proofs.txt" ]; then
+    for file in $(sed -n 's/^file: //p' "${source}_proofs.txt"); do
         mkdir -p "$work/crates/$program/proofs/$(dirname "$file")"
-        cp "$here/proofs/$file" "$work/crates/$program/proofs/${file%.txt}.antt"
     done
+    awk -v folder="$work/crates/$program/proofs/" '/^file: / { file = folder $2; next } { print > file }' "${source}_proofs.txt"
 fi
 echo "$program: $uses" >> "$work/crates.txt"
 cd "$work/crates/$program"
