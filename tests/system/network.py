@@ -10,7 +10,7 @@ from kills import offices_that_are_killed
 from relays import MOST_SECONDS, Relay, audited, listed, write
 from seals import OnTerminal, keys_of, own, sealed, secrets, wrong_seals
 
-# Where datagrams get lost a message may be, time after time, and goes out ever more seldom: so there are more turns.
+# Where datagrams get lost a message may be, time after time: so there are more turns.
 TURNS, LOSSY_TURNS = 1200, 3000
 
 

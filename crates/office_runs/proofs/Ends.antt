@@ -6,6 +6,7 @@ use Rattle.socket_pump.specs.Wires.{Account}
 use Rattle.socket_pump.specs.Turns.{Times}
 use Rattle.office_stations.specs.declared.fault.RunFault.{RunFault}
 use Rattle.office_stations.specs.declared.pace.TimedTurn.{TimedTurn}
+use Rattle.office_stations.specs.declared.turning.Turning.TheVariants.{Adaptive}
 use Rattle.office_stations.specs.Rounds.{Standing, Fills, StopsFilling, Turns, BreaksOff, counted}
 use Rattle.office_runs.specs.Threads.{Worked, FillsTimes, Submitted}
 use Rattle.office_stations.specs.refinement.Standings.{standing}
@@ -18,17 +19,17 @@ no_sessions : (tag : ℕ) (k : Key) (p : DeskPass) → Fills tag k p p [] []
 no_sessions tag k p = record { given = []; are = refl; mid = p; takes = refl; full = refl }
 
 pub one_turn : (tells : Bool) (t : ℕ) (k : Key) (turns n c : ℕ) (d : TimedTurn) (a : Standing) (p r : DeskPass) (w b : Account) (l m : Times) → t ≡ 0 → n < turns → c ≡ counted turns (d ∷ []) →
-    Made tells 0 k turns n a (standing p w l) [] [] → Turns tells t k d (standing p w l) (standing r b m) → Made tells 0 k turns (n + c) a (standing r b m) [] []
+    Made Adaptive tells 0 k turns n a (standing p w l) [] [] → Turns Adaptive tells t k d (standing p w l) (standing r b m) → Made Adaptive tells 0 k turns (n + c) a (standing r b m) [] []
 one_turn tells t k turns n c d a p r w b l m same few count so_far turned =
-    one_round tells 0 t t k turns n c d a p p r w b l m [] [] [] same same few count so_far (no_sessions t k p) turned
+    one_round Adaptive tells 0 t t k turns n c d a p p r w b l m [] [] [] same same few count so_far (no_sessions t k p) turned
 
 -- it stopped between turns
-pub worked : (tells : Bool) (k : Key) (turns n : ℕ) (a b : Standing) → Made tells 0 k turns n a b [] [] → Worked None tells k turns a b
+pub worked : (tells : Bool) (k : Key) (turns n : ℕ) (a b : Standing) → Made Adaptive tells 0 k turns n a b [] [] → Worked None tells k turns a b
 worked tells k turns n a b h = (h.made, h.begun, h.rounds)
 
 -- a turn broke off
-pub broke : (tells : Bool) (t : ℕ) (k : Key) (turns n : ℕ) (a m b : Standing) (fault : RunFault) → t ≡ 0 → n < turns → Made tells 0 k turns n a m [] [] → BreaksOff tells t k m b fault → Worked (Some fault) tells k turns a b
-broke tells t k turns n a m b fault same few h breaks = (h.made, m, subst (λ (x : ℕ). x < turns) (sym h.number) few, h.rounds, subst (λ (x : ℕ). BreaksOff tells x k m b fault) same breaks)
+pub broke : (tells : Bool) (t : ℕ) (k : Key) (turns n : ℕ) (a m b : Standing) (fault : RunFault) → t ≡ 0 → n < turns → Made Adaptive tells 0 k turns n a m [] [] → BreaksOff Adaptive tells t k m b fault → Worked (Some fault) tells k turns a b
+broke tells t k turns n a m b fault same few h breaks = (h.made, m, subst (λ (x : ℕ). x < turns) (sym h.number) few, h.rounds, subst (λ (x : ℕ). BreaksOff Adaptive tells x k m b fault) same breaks)
 
 -- ---- who submits its sessions
 

@@ -14,6 +14,7 @@ use Rattle.session_reports.specs.declared.form.forms.Form.{Form}
 use Rattle.socket_pump.specs.Wires.{Account}
 use Rattle.office_stations.specs.declared.fault.RunFault.{RunFault}
 use Rattle.office_runs.specs.declared.report.Ran.{Ran}
+use Rattle.office_stations.specs.declared.turning.Turning.TheVariants.{Plain}
 use Rattle.office_stations.specs.Rounds.{Standing, Goes, of_office}
 use Rattle.std.proofs.lemmas.List.{append-nil, map-append}
 use Rattle.site_core.specs.Journals.{Site, IsLegal}
@@ -62,15 +63,15 @@ tells_runs form p me k x q sessions count wanted ran key all looks left told jou
     }
 
 pub tells_run : (Is : Account → Type 0) (form : Form) (tells : Bool) (p : PlanValue) (me : ℕ) (programs : List ProgramValue) (turns : ℕ) (wanted : Bool) (ran : Ran) (k : Key) (a b : Standing) (q : DeskPass) (sessions : ℕ) (fault : Option RunFault) → k ≡ (p, me) → sessions ≡ count_of programs me →
-    (a.pass.tag ≡ 0) × (a.pass.seen ≡ []) × (a.pass.mine ≡ []) × ((v n : ℕ) → a.last v n ≡ None) → Goes fault tells a.pass.tag k turns a b (of_office me programs) → Is b.wire → Looks k b.pass q → ran.fault ≡ fault →
+    (a.pass.tag ≡ 0) × (a.pass.seen ≡ []) × (a.pass.mine ≡ []) × ((v n : ℕ) → a.last v n ≡ None) → Goes fault Plain tells a.pass.tag k turns a b (of_office me programs) → Is b.wire → Looks k b.pass q → ran.fault ≡ fault →
     string_bytes ran.text ≡ runs_report form p (office_with k q.seen ∷ []) ran.unfinished → ran.unfinished ≡ sessions - length (finished_of (office_with k q.seen)) →
     HasJournals wanted (office_with k q.seen ∷ []) (map string_bytes ran.journals.items) → TellsCourse Is form tells p me programs turns wanted ran
 tells_run Is form tells p me programs turns wanted ran k a b q sessions fault key all begins goes is looks same told left journals = record {
   first = a;
   begins = begins;
   last = b;
-  goes = subst (λ (x : Option RunFault). Goes x tells 0 (p, me) turns a b (of_office me programs)) (sym same)
-      (subst (λ (x : Key). Goes fault tells 0 x turns a b (of_office me programs)) key (subst (λ (t : ℕ). Goes fault tells t k turns a b (of_office me programs)) begins.0 goes));
+  goes = subst (λ (x : Option RunFault). Goes x Plain tells 0 (p, me) turns a b (of_office me programs)) (sym same)
+      (subst (λ (x : Key). Goes fault Plain tells 0 x turns a b (of_office me programs)) key (subst (λ (t : ℕ). Goes fault Plain tells t k turns a b (of_office me programs)) begins.0 goes));
   is = is;
   seen = q;
   looked = subst (λ (x : Key). Looks x b.pass q) key looks;

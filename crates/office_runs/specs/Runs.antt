@@ -12,6 +12,7 @@ use Rattle.session_reports.specs.declared.form.forms.Form.{Form}
 use Rattle.journal_texts.specs.JournalText.{IsJournal}
 use Rattle.journal_texts.specs.Written.{journal_text}
 use Rattle.socket_pump.specs.Wires.{Account}
+use Rattle.office_stations.specs.declared.turning.Turning.TheVariants.{Plain}
 use Rattle.office_stations.specs.Rounds.{Standing, Goes, of_office}
 use Rattle.office_stations.specs.Sessions.{count_of, finished_of}
 use Rattle.office_runs.specs.declared.report.Ran.{Ran}
@@ -64,7 +65,7 @@ pub record TellsCourse (Is : Account → Type 0) (form : Form) (tells : Bool) (p
   pub first : Standing
   pub begins : (first.pass.tag ≡ 0) × (first.pass.seen ≡ []) × (first.pass.mine ≡ []) × ((v n : ℕ) → first.last v n ≡ None)
   pub last : Standing
-  pub goes : Goes ran.fault tells 0 (p, me) turns first last (of_office me programs)
+  pub goes : Goes ran.fault Plain tells 0 (p, me) turns first last (of_office me programs)
   pub is : Is last.wire
   pub seen : DeskPass
   pub looked : Looks (p, me) last.pass seen

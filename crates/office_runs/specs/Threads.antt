@@ -8,6 +8,7 @@ use Rattle.own_lock.specs.Entries.{tagged}
 use Rattle.locked_office.specs.Calls.{Key, DeskPass, tag_of}
 use Rattle.office_stations.specs.declared.fault.RunFault.{RunFault}
 use Rattle.office_stations.specs.declared.pace.TimedTurn.{TimedTurn}
+use Rattle.office_stations.specs.declared.turning.Turning.TheVariants.{Adaptive}
 use Rattle.office_stations.specs.Rounds.{Standing, Fills, StopsFilling, BreaksOff, counted, IsLastBegun, Rounds}
 
 -- the most turns of an office on threads
@@ -22,8 +23,8 @@ IsNew tag p = (p.tag ≡ tag) × (p.seen ≡ []) × (p.mine ≡ [])
 
 -- who turned it, with the tag 0: after turns, one after the other, the last begun while fewer than so many counted; and, where there is a fault, in one that broke off
 abbrev pub Worked : Option RunFault → Bool → Key → ℕ → Standing → Standing → Type 0
-Worked None tells k turns a b = (made : List TimedTurn) × IsLastBegun turns made × Rounds tells 0 k made a b [] []
-Worked (Some fault) tells k turns a b = (made : List TimedTurn) × (at : Standing) × (counted turns made < turns) × Rounds tells 0 k made a at [] [] × BreaksOff tells 0 k at b fault
+Worked None tells k turns a b = (made : List TimedTurn) × IsLastBegun turns made × Rounds Adaptive tells 0 k made a b [] []
+Worked (Some fault) tells k turns a b = (made : List TimedTurn) × (at : Standing) × (counted turns made < turns) × Rounds Adaptive tells 0 k made a at [] [] × BreaksOff Adaptive tells 0 k at b fault
 
 -- sessions are submitted as the office takes them, so many times
 abbrev pub FillsTimes : ℕ → Key → DeskPass → DeskPass → List ProgramValue → List ProgramValue → Type 0

@@ -1,11 +1,11 @@
 //! An office that runs, alone in one thread or with two who work for it.
 //!
 //! - [`run::run_office`]: one office, alone in its process. Its sessions are submitted as it takes them, and it turns so many
-//!   times.
-//! - [`threads::open_office`]: an office with who turns it ([`threads::Worker::work`]) and who submits its sessions
-//!   ([`threads::Client::submit`]), and [`starting`] starts a thread for each, of which the end is known to be such (`specs/Threads.antt`).
-//!   When both have ended, [`met::add_office`] tells what came of it, and whose the entries of its journal are (clause `told`). All offices of a plan run so
-//!   in `office_runs::live`.
+//!   times, by plain turns.
+//! - [`threads::open_office`]: an office with who turns it, by adaptive turns ([`threads::Worker::work`]), and who submits its
+//!   sessions ([`threads::Client::submit`]), and [`starting`] starts a thread for each, of which the end is known to be such
+//!   (`specs/Threads.antt`). When both have ended, [`met::add_office`] tells what came of it, and whose the entries of its journal
+//!   are (clause `told`). All offices of a plan run so in `office_runs::live`.
 //!
 //! An office at its socket, its rounds and what both need of a network are in `office_stations`.
 //!

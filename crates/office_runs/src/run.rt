@@ -7,6 +7,7 @@ ghost use Rattle.own_lock.specs.Passes.{IsOf};
 ghost use Rattle.site_core.specs.Journals.{IsLegal};
 ghost use Rattle.locked_office.specs.Calls.{Stays, Looks, office_with};
 ghost use Rattle.socket_pump.specs.Last.{last_of};
+ghost use Rattle.office_stations.specs.declared.turning.Turning.TheVariants.{Plain};
 ghost use Rattle.office_stations.specs.Rounds.{Goes, of_office};
 ghost use Rattle.office_stations.specs.Sessions.{count_of, finished_of};
 ghost use Rattle.office_runs.specs.Runs.{IsQuiet, TellsCourse, TellsJournals, HasJournals, runs_report};
@@ -19,8 +20,8 @@ use locked_office::Desk;
 use office_map::{OfficeId, Plan};
 use office_stations::remarks::Way;
 use office_stations::{
-    Around, Binds, Gate, OpeningFault, RunFault, Shared, Socket, Station, Watch, at_address,
-    count_of, submit_some,
+    Around, Binds, Gate, OpeningFault, RunFault, Shared, Socket, Station, Turning, Watch,
+    at_address, count_of, submit_some,
 };
 use own_lock::Pass;
 use session_programs::Program;
@@ -108,7 +109,7 @@ fn take_turns<R: Wait + Clock, S: Socket, G: Gate, W: Watch>(
     requires of { IsOf desk.now pass.old }
     requires idle { pass.old.holds ≡ false }
     ensures stays { Stays desk.now pass.old pass.new }
-    ensures goes { Goes (result_err result) S.tells pass.old.tag desk.now.key turns (standing pass.old (S.account station.old.socket) (last_of station.old.pump.lasts))
+    ensures goes { Goes (result_err result) Plain S.tells pass.old.tag desk.now.key turns (standing pass.old (S.account station.old.socket) (last_of station.old.pump.lasts))
         (standing pass.new (S.account station.new.socket) (last_of station.new.pump.lasts)) (of_office me programs.now) }
 {
     let mut next = 0;
@@ -122,7 +123,7 @@ fn take_turns<R: Wait + Clock, S: Socket, G: Gate, W: Watch>(
             Err(fault) => return Err(fault),
         }
         gate.before(me);
-        let turn = match station.turn(rt, desk, pass, shared) {
+        let turn = match station.turn(rt, desk, pass, Turning::Plain, shared) {
             Ok(turn) => turn,
             Err(fault) => return Err(fault),
         };

@@ -15,7 +15,8 @@ use crate::opened::{Opened, open_shared};
 use locked_office::Desk;
 use office_map::{OfficeId, Plan};
 use office_stations::{
-    Gate, Hearing, OpeningFault, RunFault, Shared, Socket, Station, Wakes, Watch, Ways, submit_some,
+    Gate, Hearing, OpeningFault, RunFault, Shared, Socket, Station, Turning, Wakes, Watch, Ways,
+    submit_some,
 };
 use own_lock::Pass;
 use session_programs::Program;
@@ -253,7 +254,7 @@ fn turn_all<R: Wait + Clock, S: Socket, G: Gate, W: Watch>(
             return None;
         }
         gate.before(me);
-        let turn = match station.turn(rt, desk, pass, shared) {
+        let turn = match station.turn(rt, desk, pass, Turning::Adaptive, shared) {
             Ok(turn) => turn,
             Err(fault) => {
                 shared.fail(rt, fault);

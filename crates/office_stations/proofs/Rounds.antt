@@ -6,11 +6,12 @@ use Rattle.office_journal.specs.declared.reply.Refusal.TheVariants as refusal
 use Rattle.locked_office.specs.Calls.{Key, DeskPass, Looks}
 use Rattle.socket_pump.specs.declared.pump.PumpFault.{PumpFault}
 use Rattle.socket_pump.specs.Wires.{Account}
-use Rattle.socket_pump.specs.Turns.{Times, Turned, Stage}
+use Rattle.socket_pump.specs.Turns.{Times}
 use Rattle.office_stations.specs.declared.fault.RunFault.{RunFault}
 use Rattle.office_stations.specs.declared.fault.RunFault.TheVariants.{WireFailed}
 use Rattle.office_stations.specs.declared.pace.TimedTurn.{TimedTurn}
-use Rattle.office_stations.specs.Rounds.{of_office, run_fault, Takes, TakesAll, Refuses, Lacks, Fills, StopsFilling, Turns, BreaksOff}
+use Rattle.office_stations.specs.declared.turning.Turning.{Turning}
+use Rattle.office_stations.specs.Rounds.{of_office, run_fault, Takes, TakesAll, Refuses, Lacks, Fills, StopsFilling, TurnedBy, StageBy, Turns, BreaksOff}
 use Rattle.socket_pump.specs.sockets.Waits.{failed}
 use Rattle.office_stations.specs.refinement.Standings.{standing, Answered, PassedOver}
 
@@ -81,18 +82,18 @@ one_lacks tag t k p m q ss me n ps s f same within is g own other = either_way (
 -- ---- turns
 
 -- a turn, whose socket tells what it told before the wait
-pub turned : (tells : Bool) (tag : ℕ) (k : Key) (p q : DeskPass) (a polled b : Account) (l m : Times) (t : TimedTurn) → polled ≡ a → Turned tells tag k l t.at p polled t.turn b q m → Turns tells tag k t (standing p a l) (standing q b m)
-turned tells tag k p q a polled b l m t same h = record { after = q; turned = subst (λ (x : Account). Turned tells tag k l t.at p x t.turn b q m) same h; looked = inl refl }
+pub turned : (how : Turning) (tells : Bool) (tag : ℕ) (k : Key) (p q : DeskPass) (a polled b : Account) (l m : Times) (t : TimedTurn) → polled ≡ a → TurnedBy how tells tag k l t.at p polled t.turn b q m → Turns how tells tag k t (standing p a l) (standing q b m)
+turned how tells tag k p q a polled b l m t same h = record { after = q; turned = subst (λ (x : Account). TurnedBy how tells tag k l t.at p x t.turn b q m) same h; looked = inl refl }
 
 -- a turn, and then a look
-pub turned_and_looked : (tells : Bool) (tag : ℕ) (k : Key) (p q r : DeskPass) (a polled b : Account) (l m : Times) (t : TimedTurn) → polled ≡ a → Turned tells tag k l t.at p polled t.turn b q m → Looks k q r → Turns tells tag k t (standing p a l) (standing r b m)
-turned_and_looked tells tag k p q r a polled b l m t same h looks = record { after = q; turned = subst (λ (x : Account). Turned tells tag k l t.at p x t.turn b q m) same h; looked = inr looks }
+pub turned_and_looked : (how : Turning) (tells : Bool) (tag : ℕ) (k : Key) (p q r : DeskPass) (a polled b : Account) (l m : Times) (t : TimedTurn) → polled ≡ a → TurnedBy how tells tag k l t.at p polled t.turn b q m → Looks k q r → Turns how tells tag k t (standing p a l) (standing r b m)
+turned_and_looked how tells tag k p q r a polled b l m t same h looks = record { after = q; turned = subst (λ (x : Account). TurnedBy how tells tag k l t.at p x t.turn b q m) same h; looked = inr looks }
 
 -- no turn was begun
-pub not_begun : (tells : Bool) (tag : ℕ) (k : Key) (p : DeskPass) (a polled : Account) (l : Times) → polled ≡ failed a → BreaksOff tells tag k (standing p a l) (standing p polled l) WireFailed
-not_begun tells tag k p a polled l counted_so = inl (ap (λ (x : Account). standing p x l) counted_so, refl)
+pub not_begun : (how : Turning) (tells : Bool) (tag : ℕ) (k : Key) (p : DeskPass) (a polled : Account) (l : Times) → polled ≡ failed a → BreaksOff how tells tag k (standing p a l) (standing p polled l) WireFailed
+not_begun how tells tag k p a polled l counted_so = inl (ap (λ (x : Account). standing p x l) counted_so, refl)
 
 -- a turn broke off
-pub broken_off : (tells : Bool) (tag : ℕ) (k : Key) (p q : DeskPass) (a polled b : Account) (l m : Times) (now : ℕ) (f : PumpFault) (fault : RunFault) → polled ≡ a → fault ≡ run_fault f → Stage tells tag k l now p polled f b q m →
-    BreaksOff tells tag k (standing p a l) (standing q b m) fault
-broken_off tells tag k p q a polled b l m now f fault same told h = inr (now, f, subst (λ (x : Account). Stage tells tag k l now p x f b q m) same h, told)
+pub broken_off : (how : Turning) (tells : Bool) (tag : ℕ) (k : Key) (p q : DeskPass) (a polled b : Account) (l m : Times) (now : ℕ) (f : PumpFault) (fault : RunFault) → polled ≡ a → fault ≡ run_fault f → StageBy how tells tag k l now p polled f b q m →
+    BreaksOff how tells tag k (standing p a l) (standing q b m) fault
+broken_off how tells tag k p q a polled b l m now f fault same told h = inr (now, f, subst (λ (x : Account). StageBy how tells tag k l now p x f b q m) same h, told)

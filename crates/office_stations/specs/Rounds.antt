@@ -13,10 +13,13 @@ use Rattle.socket_pump.specs.declared.pump.PumpFault.{PumpFault}
 use Rattle.socket_pump.specs.declared.pump.PumpFault.TheVariants as pump
 use Rattle.socket_pump.specs.Wires.{Account}
 use Rattle.socket_pump.specs.Turns.{Times, Turned, Stage}
+use Rattle.socket_pump.specs.AdaptiveTurns.{AdaptiveTurned, AdaptiveStage}
 use Rattle.socket_pump.specs.sockets.Waits.{failed}
 use Rattle.office_stations.specs.declared.fault.RunFault.{RunFault}
 use Rattle.office_stations.specs.declared.fault.RunFault.TheVariants.{Memory, WireFailed, JournalFull}
 use Rattle.office_stations.specs.declared.pace.TimedTurn.{TimedTurn}
+use Rattle.office_stations.specs.declared.turning.Turning.{Turning}
+use Rattle.office_stations.specs.declared.turning.Turning.TheVariants.{Plain, Adaptive}
 
 -- where an office stands: the pass of who works for it, what its socket tells, and when its pump last sent what
 pub record Standing : Type 0 where
@@ -90,15 +93,25 @@ pub record StopsFilling (tag : ℕ) (k : Key) (p q : DeskPass) (sessions : List 
 
 -- ---- turns
 
+-- a turn by that call of the pump
+abbrev pub TurnedBy : Turning → Bool → ℕ → Key → Times → ℕ → DeskPass → Account → Turn → Account → DeskPass → Times → Type 0
+TurnedBy Plain tells tag k last now p a t b q later = Turned tells tag k last now p a t b q later
+TurnedBy Adaptive tells tag k last now p a t b q later = AdaptiveTurned tells tag k last now p a t b q later
+
+-- where a turn by that call broke off
+abbrev pub StageBy : Turning → Bool → ℕ → Key → Times → ℕ → DeskPass → Account → PumpFault → Account → DeskPass → Times → Type 0
+StageBy Plain tells tag k last now p a f b q later = Stage tells tag k last now p a f b q later
+StageBy Adaptive tells tag k last now p a f b q later = AdaptiveStage tells tag k last now p a f b q later
+
 -- a turn at its time, as a pump does it, after which the office may be looked at
-pub record Turns (tells : Bool) (tag : ℕ) (k : Key) (t : TimedTurn) (a b : Standing) : Type 0 where
+pub record Turns (how : Turning) (tells : Bool) (tag : ℕ) (k : Key) (t : TimedTurn) (a b : Standing) : Type 0 where
   pub after : DeskPass
-  pub turned : Turned tells tag k a.last t.at a.pass a.wire t.turn b.wire after b.last
+  pub turned : TurnedBy how tells tag k a.last t.at a.pass a.wire t.turn b.wire after b.last
   pub looked : (after ≡ b.pass) ⊎ Looks k after b.pass
 
 -- the wait before the turn failed and was counted so, or the turn broke off; and that is this fault
-abbrev pub BreaksOff : Bool → ℕ → Key → Standing → Standing → RunFault → Type 0
-BreaksOff tells tag k a b fault = ((b ≡ record a { wire = failed a.wire }) × (fault ≡ WireFailed)) ⊎ ((now : ℕ) × (f : PumpFault) × Stage tells tag k a.last now a.pass a.wire f b.wire b.pass b.last × (fault ≡ run_fault f))
+abbrev pub BreaksOff : Turning → Bool → ℕ → Key → Standing → Standing → RunFault → Type 0
+BreaksOff how tells tag k a b fault = ((b ≡ record a { wire = failed a.wire }) × (fault ≡ WireFailed)) ⊎ ((now : ℕ) × (f : PumpFault) × StageBy how tells tag k a.last now a.pass a.wire f b.wire b.pass b.last × (fault ≡ run_fault f))
 
 -- ---- which turns count
 
@@ -125,32 +138,32 @@ IsLastBegun turns made = (made ≡ []) ⊎ ((before : List TimedTurn) × (last :
 -- ---- rounds
 
 -- a round: sessions, as the office takes them, and then a turn
-pub record Round (tells : Bool) (tag : ℕ) (k : Key) (t : TimedTurn) (a b : Standing) (sessions left : List ProgramValue) : Type 0 where
+pub record Round (how : Turning) (tells : Bool) (tag : ℕ) (k : Key) (t : TimedTurn) (a b : Standing) (sessions left : List ProgramValue) : Type 0 where
   pub filled : DeskPass
   pub fills : Fills tag k a.pass filled sessions left
-  pub turns : Turns tells tag k t (with_pass a filled) b
+  pub turns : Turns how tells tag k t (with_pass a filled) b
 
 -- a round for each of these turns, one after the other, and what they leave of the sessions
-abbrev pub Rounds : Bool → ℕ → Key → List TimedTurn → Standing → Standing → List ProgramValue → List ProgramValue → Type 0
-Rounds tells tag k [] a b sessions left = (a ≡ b) × (sessions ≡ left)
-Rounds tells tag k (t ∷ ts) a b sessions left = (m : Standing) × (mid : List ProgramValue) × Round tells tag k t a m sessions mid × Rounds tells tag k ts m b mid left
+abbrev pub Rounds : Turning → Bool → ℕ → Key → List TimedTurn → Standing → Standing → List ProgramValue → List ProgramValue → Type 0
+Rounds how tells tag k [] a b sessions left = (a ≡ b) × (sessions ≡ left)
+Rounds how tells tag k (t ∷ ts) a b sessions left = (m : Standing) × (mid : List ProgramValue) × Round how tells tag k t a m sessions mid × Rounds how tells tag k ts m b mid left
 
 -- a round ends before its time: at its sessions, or at its turn
-abbrev pub Ends : Bool → ℕ → Key → Standing → Standing → List ProgramValue → RunFault → Type 0
-Ends tells tag k a b sessions fault =
+abbrev pub Ends : Turning → Bool → ℕ → Key → Standing → Standing → List ProgramValue → RunFault → Type 0
+Ends how tells tag k a b sessions fault =
     (StopsFilling tag k a.pass b.pass sessions fault × (b ≡ with_pass a b.pass))
-    ⊎ ((filled : DeskPass) × (left : List ProgramValue) × Fills tag k a.pass filled sessions left × BreaksOff tells tag k (with_pass a filled) b fault)
+    ⊎ ((filled : DeskPass) × (left : List ProgramValue) × Fills tag k a.pass filled sessions left × BreaksOff how tells tag k (with_pass a filled) b fault)
 
 -- rounds, of which fewer than so many count, and then one that ends before its time
-pub record EndsEarly (tells : Bool) (tag : ℕ) (k : Key) (turns : ℕ) (a b : Standing) (sessions : List ProgramValue) (fault : RunFault) : Type 0 where
+pub record EndsEarly (how : Turning) (tells : Bool) (tag : ℕ) (k : Key) (turns : ℕ) (a b : Standing) (sessions : List ProgramValue) (fault : RunFault) : Type 0 where
   pub made : List TimedTurn
   pub few : counted turns made < turns
   pub at : Standing
   pub left : List ProgramValue
-  pub rounds : Rounds tells tag k made a at sessions left
-  pub ends : Ends tells tag k at b left fault
+  pub rounds : Rounds how tells tag k made a at sessions left
+  pub ends : Ends how tells tag k at b left fault
 
 -- rounds until so many count; or, where there is a fault, it ended one of them
-abbrev pub Goes : Option RunFault → Bool → ℕ → Key → ℕ → Standing → Standing → List ProgramValue → Type 0
-Goes None tells tag k turns a b sessions = (made : List TimedTurn) × (counted turns made ≡ turns) × IsLastBegun turns made × (left : List ProgramValue) × Rounds tells tag k made a b sessions left
-Goes (Some fault) tells tag k turns a b sessions = EndsEarly tells tag k turns a b sessions fault
+abbrev pub Goes : Option RunFault → Turning → Bool → ℕ → Key → ℕ → Standing → Standing → List ProgramValue → Type 0
+Goes None how tells tag k turns a b sessions = (made : List TimedTurn) × (counted turns made ≡ turns) × IsLastBegun turns made × (left : List ProgramValue) × Rounds how tells tag k made a b sessions left
+Goes (Some fault) how tells tag k turns a b sessions = EndsEarly how tells tag k turns a b sessions fault

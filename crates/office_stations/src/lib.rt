@@ -3,6 +3,7 @@
 //! - [`Station`]: its pump and its socket, which wait and turn, and know when the neighbours were last heard; [`at_address`] binds one
 //!   at the plan's address. Before a turn it waits once, as long at most as its [`Pace`] says (`specs/Waits.antt`). What it knows of
 //!   its neighbours, [`Hearing`] and [`Ways`], may be handed from thread to thread.
+//! - [`Turning`]: by which of its calls a pump is turned, the plain or the adaptive one.
 //! - [`submit_some`] submits the sessions of a list that are the office's, as it takes them. So a run is rounds of sessions and turns
 //!   (`specs/Rounds.antt`), of which those count that [`TimedTurn`] says.
 //! - [`Binds`], [`Socket`], [`Wakes`]: what is needed of a network, from `socket_pump::sockets`.
@@ -29,6 +30,7 @@ mod room;
 mod sessions;
 mod shared;
 mod station;
+mod turning;
 mod watch;
 
 pub use crate::address::without_address;
@@ -43,5 +45,6 @@ pub use crate::room::Room;
 pub use crate::sessions::{count_finished, count_of};
 pub use crate::shared::Shared;
 pub use crate::station::{Station, at_address};
+pub use crate::turning::Turning;
 pub use crate::watch::{Progress, Quiet, Watch};
 pub use socket_pump::sockets::{Binds, Socket, UdpSocket, UdpSockets, Waits, Wakes};

@@ -19,6 +19,7 @@ use crate::pace::{Pace, TimedTurn};
 use crate::remarks::{Way, unmet_by};
 use crate::sessions::count_finished;
 use crate::shared::Shared;
+use crate::turning::Turning;
 use crate::watch::Watch;
 use locked_office::Desk;
 use office_map::{OfficeId, Plan};
@@ -137,6 +138,7 @@ impl<S: Socket> Station<S> {
         rt: &R,
         desk: &Desk,
         pass: &mut Pass<Office>,
+        turning: Turning,
         shared: &Shared,
     ) -> Result<TimedTurn, RunFault>
         requires key { desk.now.key ≡ self.old.pump.key }
@@ -145,16 +147,16 @@ impl<S: Socket> Station<S> {
         ensures key { self.new.pump.key ≡ self.old.pump.key }
         ensures stays { Stays desk.now pass.old pass.new }
         ensures pace { IfOk result (λ t. self.new.pace ≡ paced t.at t.turn self.old.pace) }
-        ensures turns { IfOk result (λ t. Turns S.tells pass.old.tag desk.now.key t
+        ensures turns { IfOk result (λ t. Turns turning S.tells pass.old.tag desk.now.key t
             (standing pass.old (S.account self.old.socket) (last_of self.old.pump.lasts)) (standing pass.new (S.account self.new.socket) (last_of self.new.pump.lasts))) }
-        ensures breaks_off { IfErr result (BreaksOff S.tells pass.old.tag desk.now.key
+        ensures breaks_off { IfErr result (BreaksOff turning S.tells pass.old.tag desk.now.key
             (standing pass.old (S.account self.old.socket) (last_of self.old.pump.lasts)) (standing pass.new (S.account self.new.socket) (last_of self.new.pump.lasts))) }
     {
         let at = match self.wait(rt) {
             Ok(at) => at,
             Err(fault) => return Err(fault),
         };
-        let turn = match self.pump.turn(rt, &mut self.socket, desk, pass, at) {
+        let turn = match turning.turn(rt, &mut self.pump, &mut self.socket, desk, pass, at) {
             Ok(turn) => turn,
             Err(fault) => return Err(RunFault::of_pump(fault)),
         };

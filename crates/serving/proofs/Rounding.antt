@@ -16,6 +16,7 @@ use Rattle.session_reports.specs.form.Forms.{outcome_as}
 use Rattle.session_reports.specs.declared.form.forms.Form.{Form}
 use Rattle.socket_pump.specs.Wires.{Account}
 use Rattle.office_stations.specs.declared.pace.TimedTurn.{TimedTurn}
+use Rattle.office_stations.specs.declared.turning.Turning.TheVariants.{Adaptive}
 use Rattle.office_stations.specs.Rounds.{Standing, Turns, with_pass}
 use Rattle.office_stations.specs.Sessions.{finished_of}
 use Rattle.stored_runs.specs.declared.fault.StoredFault.TheVariants as stored
@@ -66,7 +67,7 @@ rest_of xs ys n is (more, all) = sym all ∙ ap (λ l. xs ++ l) (sym (ap (λ (m 
 -- ---- one round
 
 pub one_round : (tells : Bool) (k : Key) (t : TimedTurn) (said : List Said) (p filled q : DeskPass) (a b : Standing) (told : ℕ) (waiting left : List Asked) → a.pass ≡ p → b.pass ≡ q → IsPrefix p.seen q.seen → IsLegal (office_with k q.seen) → told ≡ length (finished_of (office_with k p.seen)) →
-    AnswersSome 0 k p filled waiting left said → Turns tells 0 k t (with_pass a filled) b → Round tells 0 k t said (drop told (finished_of (office_with k q.seen))) a b waiting left
+    AnswersSome 0 k p filled waiting left said → Turns Adaptive tells 0 k t (with_pass a filled) b → Round tells 0 k t said (drop told (finished_of (office_with k q.seen))) a b waiting left
 one_round tells k t said p filled q a b told waiting left first last grows legal count answers turns = record {
   filled = filled;
   answers = subst (λ (x : DeskPass). AnswersSome 0 k x filled waiting left said) (sym first) answers;
@@ -79,7 +80,7 @@ one_round tells k t said p filled q a b told waiting left first last grows legal
 
 -- it was made, and is written
 pub made_of : (form : Form) (tells : Bool) (k : Key) (r : Result TimedTurn ServeFault) (said : List Said) (p filled q : DeskPass) (a b : Standing) (told : ℕ) (waiting left : List Asked) (text : List ℕ) (old new : Option (List ℕ)) → a.pass ≡ p → b.pass ≡ q → IsPrefix p.seen q.seen →
-    told ≡ length (finished_of (office_with k p.seen)) → AnswersSome 0 k p filled waiting left said → text ≡ flat_map (said_as form k.0) said → IfOk r (λ (t : TimedTurn). Turns tells 0 k t (with_pass a filled) b) → OnOk r (IsLegal (office_with k q.seen)) →
+    told ≡ length (finished_of (office_with k p.seen)) → AnswersSome 0 k p filled waiting left said → text ≡ flat_map (said_as form k.0) said → IfOk r (λ (t : TimedTurn). Turns Adaptive tells 0 k t (with_pass a filled) b) → OnOk r (IsLegal (office_with k q.seen)) →
     OnOk r (Appends old new (text ++ flat_map (outcome_as form k.0) (drop told (finished_of (office_with k q.seen))))) → IfOk r (λ (t : TimedTurn). RoundMade form tells k t a b waiting left old new)
 made_of form tells k (Err f) said p filled q a b told waiting left text old new first last grows count answers lines turns legal wrote = tt
 made_of form tells k (Ok t) said p filled q a b told waiting left text old new first last grows count answers lines turns legal wrote = record {

@@ -10,6 +10,7 @@ use Rattle.session_reports.specs.form.Forms.{outcome_as}
 use Rattle.session_reports.specs.declared.form.forms.Form.{Form}
 use Rattle.serving.specs.declared.answers.lack.Lack.{Lack}
 use Rattle.office_stations.specs.declared.pace.TimedTurn.{TimedTurn}
+use Rattle.office_stations.specs.declared.turning.Turning.TheVariants.{Adaptive}
 use Rattle.office_stations.specs.Rounds.{Standing, Turns, with_pass}
 use Rattle.office_stations.specs.Sessions.{finished_of}
 use Rattle.session_streams.specs.declared.requests.asked.Asked.{Asked}
@@ -64,7 +65,7 @@ finished_at k a = finished_of (office_with k a.pass.seen)
 pub record Round (tells : Bool) (tag : ℕ) (k : Key) (t : TimedTurn) (said : List Said) (outcomes : List Outcome) (a b : Standing) (waiting left : List Asked) : Type 0 where
   pub filled : DeskPass
   pub answers : AnswersSome tag k a.pass filled waiting left said
-  pub turns : Turns tells tag k t (with_pass a filled) b
+  pub turns : Turns Adaptive tells tag k t (with_pass a filled) b
   pub finished : finished_at k b ≡ finished_at k a ++ outcomes
 
 -- what came before a round, the turn that it made, what it said, and what finished in it

@@ -11,6 +11,7 @@ ghost use Rattle.locked_office.specs.Calls.{Stays, Looks, office_with};
 ghost use Rattle.session_reports.specs.form.Forms.{outcome_as};
 ghost use Rattle.socket_pump.specs.Last.{last_of};
 ghost use Rattle.stored_runs.specs.durable.Letting.{StoreHas, LetsOut};
+ghost use Rattle.office_stations.specs.declared.turning.Turning.TheVariants.{Adaptive};
 ghost use Rattle.office_stations.specs.Rounds.{Turns};
 ghost use Rattle.office_stations.specs.Sessions.{finished_of};
 ghost use Rattle.office_stations.specs.refinement.Standings.{standing};
@@ -75,7 +76,7 @@ pub(crate) fn turn_and_tell<R: Wait + Clock, S: Socket, W: Watch, T: Store, O: W
     ensures left { OnOk result (books.new.left ≡ unfinished (office_of (office_with desk.now.key pass.new.seen)).agenda) }
     ensures legal { OnOk result (IsLegal (office_with desk.now.key pass.new.seen)) }
     ensures usable { OnOk result (T.failed store.new ≡ false) }
-    ensures turns { IfOk result (λ t. Turns S.tells pass.old.tag desk.now.key t
+    ensures turns { IfOk result (λ t. Turns Adaptive S.tells pass.old.tag desk.now.key t
         (standing pass.old (S.account station.old.socket) (last_of station.old.pump.lasts)) (standing pass.new (S.account station.new.socket) (last_of station.new.pump.lasts))) }
     ensures lines { OnOk result (Appends (O.contents out.old) (O.contents out.new) (said.now ++ flat_map (outcome_as form plan.now) (drop books.old.told (finished_of (office_with desk.now.key pass.new.seen))))) }
     ensures fault { IfErr result (λ f. IsEndBy (T.failed store.new) (Some f)) }

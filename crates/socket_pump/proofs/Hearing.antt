@@ -12,15 +12,12 @@ use Rattle.office_journal.specs.declared.reply.Reply.{Reply}
 use Rattle.office_journal.specs.declared.reply.Refusal.{Refusal}
 use Rattle.office_journal.specs.declared.reply.Refusal.TheVariants as refusal
 use Rattle.site_core.specs.Limits.{most_entries}
-use Rattle.site_core.specs.Journals.{Site, Enters, LacksRoom, TakesRead, Receives, FullAtTheLimit, ReadIsReceived}
-use Rattle.site_core.specs.RulesInTurn.{extended, AreNext}
-use Rattle.locked_office.specs.declared.advance.Stopped.{Stopped}
-use Rattle.locked_office.specs.Advance.{Advances, done_of}
+use Rattle.site_core.specs.Journals.{Site, Enters, TakesRead, Receives, FullAtTheLimit, ReadIsReceived}
 use Rattle.locked_office.specs.Calls.{Key, DeskPass, office_with, Did, Does}
 use Rattle.socket_pump.specs.declared.pump.PumpFault.{PumpFault}
 use Rattle.socket_pump.specs.declared.pump.PumpFault.TheVariants as faults
 use Rattle.socket_pump.specs.Wires.{Account, risen}
-use Rattle.socket_pump.specs.Chains.{Heard, Sees, Follows, Hears, one_taken, taken, rules_after, Counts, AreDone, AllCount, IsTook, AreRules, AreTooks, answers}
+use Rattle.socket_pump.specs.Chains.{Heard, Sees, Hears, taken, Counts, AllCount, IsTook, AreTooks, answers}
 use Rattle.socket_pump.specs.Turns.{Hearing, BrokeHearing, Faulted, IsFaultOf, HadNoRoom, EndsBy}
 use Rattle.socket_pump.specs.refinement.Counts.{Owes}
 use Rattle.socket_pump.specs.refinement.Stages.{HeardOne, HeardFrom, BrokeOne}
@@ -30,7 +27,7 @@ use Rattle.socket_pump.proofs.Owing.{owes_none, owes_both}
 -- ---- one call
 
 -- what a call added is what the journal has more
-added_is : (p q : DeskPass) (between es : List Entry) (what : Site → Site → Type 0) (k : Key) (did : Did what k (pass_after_take p (p.seen ++ between)) q) → q.seen ≡ (p.seen ++ between) ++ es → did.added ≡ es
+pub added_is : (p q : DeskPass) (between es : List Entry) (what : Site → Site → Type 0) (k : Key) (did : Did what k (pass_after_take p (p.seen ++ between)) q) → q.seen ≡ (p.seen ++ between) ++ es → did.added ≡ es
 added_is p q between es what k did e = append_cancel_left (p.seen ++ between) did.added es (sym (ap (λ (x : DeskPass). x.seen) did.left) ∙ e)
 
 took_entry : (tag : ℕ) (k : Key) (p q : DeskPass) (between : List Entry) (bytes : List ℕ) (answer : Result Reply Refusal) (did : Did (λ s s'. Receives s tag bytes answer s') k (pass_after_take p (p.seen ++ between)) q) →
@@ -40,43 +37,19 @@ took_entry tag k p q between bytes (Ok r) did (f, spells, noted) =
 took_entry tag k p q between bytes (Err why) did same =
     added_is p q between [] (λ s s'. Receives s tag bytes (Err why) s') k did (ap (λ (s : Site). s.entries) same ∙ sym (append-nil (p.seen ++ between)))
 
-took_mine : (tag : ℕ) (k : Key) (p q : DeskPass) (bytes : List ℕ) (answer : Result Reply Refusal) → Does (λ s s'. Receives s tag bytes answer s') k p q → (es : List Entry) × IsTook tag bytes answer es × (q.mine ≡ p.mine ++ es)
+pub took_mine : (tag : ℕ) (k : Key) (p q : DeskPass) (bytes : List ℕ) (answer : Result Reply Refusal) → Does (λ s s'. Receives s tag bytes answer s') k p q → (es : List Entry) × IsTook tag bytes answer es × (q.mine ≡ p.mine ++ es)
 took_mine tag k p q bytes answer (between, did) = (did.added, took_entry tag k p q between bytes answer did did.done.entry, ap (λ (x : DeskPass). x.mine) did.left)
 
--- ---- the rules that follow it
-
-are_rules : (tag : ℕ) (s : Site) (es : List Entry) → AreNext tag s es → AreRules tag es
-are_rules tag s [] h = tt
-are_rules tag s (x ∷ xs) (r, next, event, tagged, rest) = (r, event, tagged, are_rules tag (extended s (x ∷ [])) xs rest)
-
-follows_mine : (tag : ℕ) (k : Key) (p q : DeskPass) (answer : Result Reply Refusal) (rules : Result ℕ Stopped) → Follows tag k answer rules p q → (es : List Entry) × AreRules tag es × (q.mine ≡ p.mine ++ es)
-follows_mine tag k p q (Ok r) rules (between, did) =
-    let same : did.added ≡ did.done.done = added_is p q between did.done.done (λ s s'. Advances tag 64 rules s s') k did (ap (λ (s : Site). s.entries) did.done.added) in
-    (did.done.done, are_rules tag (office_with k (p.seen ++ between)) did.done.done did.done.next, ap (λ (x : DeskPass). x.mine) did.left ∙ ap (λ l. p.mine ++ l) same)
-follows_mine tag k p q (Err why) rules (none, same) = ([], tt, ap (λ (x : DeskPass). x.mine) same ∙ sym (append-nil p.mine))
-
-pub rules_of : (tag tag' : ℕ) (k : Key) (rules : Result ℕ Stopped) (p q : DeskPass) → tag ≡ tag' → Does (λ s s'. Advances tag 64 rules s s') k p q → Does (λ s s'. Advances tag' 64 rules s s') k p q
-rules_of tag tag' k rules p q e does = subst (λ (t : ℕ). Does (λ s s'. Advances t 64 rules s s') k p q) e does
-
-pub follows_taken : (tag : ℕ) (k : Key) (p q : DeskPass) (answer : Result Reply Refusal) (rules : Result ℕ Stopped) → one_taken answer ≡ 1 → Does (λ s s'. Advances tag 64 rules s s') k p q → Follows tag k answer rules p q
-follows_taken tag k p q (Ok r) rules one does = does
-follows_taken tag k p q (Err why) rules one does = absurd (omega (arith, one))
-
-pub follows_refused : (tag : ℕ) (k : Key) (p : DeskPass) (answer : Result Reply Refusal) → one_taken answer ≡ 0 → Follows tag k answer (Ok 0) p p
-follows_refused tag k p (Ok r) none = absurd (omega (arith, none))
-follows_refused tag k p (Err why) none = (refl, refl)
-
-pub hearing_one : (tells : Bool) (tag : ℕ) (k : Key) (p m q : DeskPass) (a b : Account) (bytes : List ℕ) (answer : Result Reply Refusal) (rules : Result ℕ Stopped) → Does (λ s s'. Receives s tag bytes answer s') k p m → Counts answer → Follows tag k answer rules m q → AreDone rules →
-    b.failures ≡ a.failures → (tells ≡ true → b ≡ record a { received = a.received ++ Some bytes ∷ [] }) → Hearing tells tag k p a [] b q (record { bytes = bytes; answer = answer; rules = rules } ∷ [])
-hearing_one tells tag k p m q a b bytes answer rules does counts follows done f w =
-    let t = took_mine tag k p m bytes answer does in
-    let r = follows_mine tag k m q answer rules follows in
+pub hearing_one : (tells : Bool) (tag : ℕ) (k : Key) (p q : DeskPass) (a b : Account) (bytes : List ℕ) (answer : Result Reply Refusal) → Does (λ s s'. Receives s tag bytes answer s') k p q → Counts answer →
+    b.failures ≡ a.failures → (tells ≡ true → b ≡ record a { received = a.received ++ Some bytes ∷ [] }) → Hearing tells tag k p a [] b q (record { bytes = bytes; answer = answer } ∷ [])
+hearing_one tells tag k p q a b bytes answer does counts f w =
+    let m = took_mine tag k p q bytes answer does in
     record {
-      hears = (m, q, does, follows, sees_self q);
-      count = (counts, done, tt);
-      tooks = t.0 ++ r.0;
-      are = (t.0, r.0, [], ap (λ l. t.0 ++ l) (sym (append-nil r.0)), t.1, r.1, refl);
-      mine = r.2 ∙ (ap (λ l. l ++ r.0) t.2 ∙ append_assoc p.mine t.0 r.0);
+      hears = (q, does, sees_self q);
+      count = (counts, tt);
+      tooks = m.0;
+      are = (m.0, [], sym (append-nil m.0), m.1, refl);
+      mine = m.2;
       failures = f;
       wire = w;
     }
@@ -109,7 +82,7 @@ full_where : FullAtTheLimit → (s s' : Site) (tag : ℕ) (bytes : List ℕ) →
 full_where law s s' tag bytes (AsFrame f h) r = law s tag (Took f) s' (r.frame f h)
 full_where law s s' tag bytes (AsFault fault applies) r = let e = (r.fault fault applies).0 in absurd cc
 
-no_room : FullAtTheLimit → (tag : ℕ) (k : Key) (p q : DeskPass) (a b : Account) (bytes : List ℕ) (why : Refusal) (fault : PumpFault) → Reads bytes → Does (λ s s'. Receives s tag bytes (Err why) s') k p q → IsFaultOf why fault →
+pub no_room : FullAtTheLimit → (tag : ℕ) (k : Key) (p q : DeskPass) (a b : Account) (bytes : List ℕ) (why : Refusal) (fault : PumpFault) → Reads bytes → Does (λ s s'. Receives s tag bytes (Err why) s') k p q → IsFaultOf why fault →
     b.failures ≡ a.failures → Faulted a fault b q
 no_room law tag k p q a b bytes why faults.WireFailed reads does is f = elim is [ ]
 no_room law tag k p q a b bytes why faults.Memory reads does is f = f
@@ -120,8 +93,7 @@ no_room law tag k p q a b bytes why faults.JournalFull reads (between, did) is f
 
 -- one datagram, for which there was no room
 ends_with : (f : PumpFault) (h : Heard) → HadNoRoom f h → EndsBy f (h ∷ [])
-ends_with faults.WireFailed h (inl (why, is, none)) = elim none [ ]
-ends_with faults.WireFailed h (inr (stopped, is, none)) = elim none [ ]
+ends_with faults.WireFailed h (why, is, none) = elim none [ ]
 ends_with faults.Memory h none = ([], h, refl, tt, none)
 ends_with faults.JournalFull h none = ([], h, refl, tt, none)
 
@@ -132,45 +104,14 @@ broke_at law tells tag k p q a b bytes answer why fault reads does is of f w =
     let m = took_mine tag k p q bytes answer does in
     let refused : Does (λ s s'. Receives s tag bytes (Err why) s') k p q = subst (λ (r : Result Reply Refusal). Does (λ s s'. Receives s tag bytes r s') k p q) is does in (
       record {
-        heard = record { bytes = bytes; answer = answer; rules = Ok 0 } ∷ [];
+        heard = record { bytes = bytes; answer = answer } ∷ [];
         few = omega arith;
-        ends = ends_with fault (record { bytes = bytes; answer = answer; rules = Ok 0 }) (inl (why, is, of));
-        hears = (q, q, does, subst (λ (r : Result Reply Refusal). Follows tag k r (Ok 0) q q) (sym is) (refl, refl), sees_self q);
+        ends = ends_with fault (record { bytes = bytes; answer = answer }) (why, is, of);
+        hears = (q, does, sees_self q);
         tooks = m.0;
-        are = (m.0, [], [], sym (append-nil m.0), m.1, tt, refl);
+        are = (m.0, [], sym (append-nil m.0), m.1, refl);
         mine = m.2;
         fault = no_room law tag k p q a b bytes why fault reads refused of f;
-        wire = λ t. w t ∙ ap (λ n. record a { failures = n; received = a.received ++ Some bytes ∷ [] }) (sym f);
-      },
-      omega arith,
-    )
-
--- who lacks room for the reason that the journal is full has a full one
-lacks : (s : Site) (why : Refusal) → LacksRoom s why → why ≡ refusal.JournalFull → most_entries ≤ length s.entries
-lacks s why (inl full) is = full.1
-lacks s why (inr memory) is = let none : refusal.Memory ≡ refusal.JournalFull = sym memory ∙ is in absurd cc
-
-stopped_full : (tag : ℕ) (k : Key) (p q : DeskPass) (a b : Account) (stopped : Stopped) (fault : PumpFault) → Does (λ s s'. Advances tag 64 (Err stopped) s s') k p q → IsFaultOf stopped.refusal fault → b.failures ≡ a.failures → Faulted a fault b q
-stopped_full tag k p q a b stopped faults.WireFailed does is f = elim is [ ]
-stopped_full tag k p q a b stopped faults.Memory does is f = f
-stopped_full tag k p q a b stopped faults.JournalFull (between, did) is f = (f, lacks (office_with k q.seen) stopped.refusal did.done.ends.1 is)
-
--- one datagram, and then a rule for which there was no room
-pub broke_after : (tells : Bool) (tag : ℕ) (k : Key) (p m q : DeskPass) (a b : Account) (bytes : List ℕ) (answer : Result Reply Refusal) (stopped : Stopped) (fault : PumpFault) → Does (λ s s'. Receives s tag bytes answer s') k p m → one_taken answer ≡ 1 →
-    Does (λ s s'. Advances tag 64 (Err stopped) s s') k m q → IsFaultOf stopped.refusal fault → b.failures ≡ a.failures → (tells ≡ true → b ≡ record a { received = a.received ++ Some bytes ∷ [] }) → BrokeOne tells tag k p a fault b q
-broke_after tells tag k p m q a b bytes answer stopped fault does one advances of f w =
-    let follows = follows_taken tag k m q answer (Err stopped) one advances in
-    let t = took_mine tag k p m bytes answer does in
-    let r = follows_mine tag k m q answer (Err stopped) follows in (
-      record {
-        heard = record { bytes = bytes; answer = answer; rules = Err stopped } ∷ [];
-        few = omega arith;
-        ends = ends_with fault (record { bytes = bytes; answer = answer; rules = Err stopped }) (inr (stopped, refl, of));
-        hears = (m, q, does, follows, sees_self q);
-        tooks = t.0 ++ r.0;
-        are = (t.0, r.0, [], ap (λ l. t.0 ++ l) (sym (append-nil r.0)), t.1, r.1, refl);
-        mine = r.2 ∙ (ap (λ l. l ++ r.0) t.2 ∙ append_assoc p.mine t.0 r.0);
-        fault = stopped_full tag k m q a b stopped fault advances of f;
         wire = λ t. w t ∙ ap (λ n. record a { failures = n; received = a.received ++ Some bytes ∷ [] }) (sym f);
       },
       omega arith,
@@ -197,40 +138,28 @@ broke_wire tells tag k p a b f w = (
 
 hears_sees : (tag : ℕ) (k : Key) (p m q : DeskPass) (hs : List Heard) → Hears tag k p hs m → Sees m q → Hears tag k p hs q
 hears_sees tag k p m q [] h s = sees_both p m q h s
-hears_sees tag k p m q (x ∷ xs) h s = (h.0, h.1, h.2, h.3, hears_sees tag k h.1 m q xs h.4 s)
+hears_sees tag k p m q (x ∷ xs) h s = (h.0, h.1, hears_sees tag k h.0 m q xs h.2 s)
 
 hears_both : (tag : ℕ) (k : Key) (p m q : DeskPass) (hs is : List Heard) → Hears tag k p hs m → Hears tag k m is q → Hears tag k p (hs ++ is) q
 hears_both tag k p m q [] [] h i = sees_both p m q h i
-hears_both tag k p m q [] (x ∷ xs) h i = (i.0, i.1, does_later (λ s s'. Receives s tag x.bytes x.answer s') k p m i.0 h i.2, i.3, i.4)
-hears_both tag k p m q (x ∷ xs) is h i = (h.0, h.1, h.2, h.3, hears_both tag k h.1 m q xs is h.4 i)
+hears_both tag k p m q [] (x ∷ xs) h i = (i.0, does_later (λ s s'. Receives s tag x.bytes x.answer s') k p m i.0 h i.1, i.2)
+hears_both tag k p m q (x ∷ xs) is h i = (h.0, h.1, hears_both tag k h.0 m q xs is h.2 i)
 
-count_both : (hs is : List Heard) → AllCount hs → AllCount is → AllCount (hs ++ is)
+pub count_both : (hs is : List Heard) → AllCount hs → AllCount is → AllCount (hs ++ is)
 count_both [] is h i = i
-count_both (x ∷ xs) is h i = (h.0, h.1, count_both xs is h.2 i)
+count_both (x ∷ xs) is h i = (h.0, count_both xs is h.1 i)
 
 tooks_both : (tag : ℕ) (hs is : List Heard) (es fs : List Entry) → AreTooks tag hs es → AreTooks tag is fs → AreTooks tag (hs ++ is) (es ++ fs)
 tooks_both tag [] is es fs h i = subst (λ (l : List Entry). AreTooks tag is (l ++ fs)) (sym h) i
-tooks_both tag (x ∷ xs) is es fs h i = (
-  h.0,
-  h.1,
-  h.2 ++ fs,
-  ap (λ l. l ++ fs) h.3 ∙ (append_assoc h.0 (h.1 ++ h.2) fs ∙ ap (λ l. h.0 ++ l) (append_assoc h.1 h.2 fs)),
-  h.4,
-  h.5,
-  tooks_both tag xs is h.2 fs h.6 i,
-)
+tooks_both tag (x ∷ xs) is es fs h i = (h.0, h.1 ++ fs, ap (λ l. l ++ fs) h.2 ∙ append_assoc h.0 h.1 fs, h.3, tooks_both tag xs is h.1 fs h.4 i)
 
-answers_both : (hs is : List Heard) (ends : List (Option (List ℕ))) → answers hs [] ++ answers is ends ≡ answers (hs ++ is) ends
+pub answers_both : (hs is : List Heard) (ends : List (Option (List ℕ))) → answers hs [] ++ answers is ends ≡ answers (hs ++ is) ends
 answers_both [] is ends = refl
 answers_both (x ∷ xs) is ends = ap (λ l. Some x.bytes ∷ l) (answers_both xs is ends)
 
-taken_both : (hs is : List Heard) → taken (hs ++ is) ≡ taken hs + taken is
+pub taken_both : (hs is : List Heard) → taken (hs ++ is) ≡ taken hs + taken is
 taken_both [] is = omega arith
 taken_both (x ∷ xs) is = omega (arith, taken_both xs is)
-
-rules_both : (hs is : List Heard) → rules_after (hs ++ is) ≡ rules_after hs + rules_after is
-rules_both [] is = omega arith
-rules_both (x ∷ xs) is = omega (arith, rules_both xs is)
 
 -- what the wire answered before, and then
 received_both : (a b : Account) (hs is : List Heard) (ends : List (Option (List ℕ))) → b ≡ record a { received = a.received ++ answers hs [] } →
@@ -266,48 +195,46 @@ hearing_none tells tag k p a = record {
 
 -- ---- so far
 
--- so many were taken and refused, so many rules followed them, and these are owed a count, before and then
-pub record HeardSoFar (tells : Bool) (tag : ℕ) (k : Key) (p : DeskPass) (a : Account) (s : List Bool) (took refused rules : ℕ) (b : Account) (q : DeskPass) (t : List Bool) : Type 0 where
+-- so many were taken and refused, and these are owed a count, before and then
+pub record HeardSoFar (tells : Bool) (tag : ℕ) (k : Key) (p : DeskPass) (a : Account) (s : List Bool) (took refused : ℕ) (b : Account) (q : DeskPass) (t : List Bool) : Type 0 where
   pub heard : List Heard
   pub hearing : Hearing tells tag k p a [] b q heard
   pub taken : taken heard ≡ took
   pub all : length heard ≡ took + refused
-  pub ruled : rules_after heard ≡ rules
   pub owes : Owes s heard t
 
-pub so_far_none : (tells : Bool) (tag : ℕ) (k : Key) (p : DeskPass) (a : Account) (s : List Bool) → HeardSoFar tells tag k p a s 0 0 0 a p s
-so_far_none tells tag k p a s = record { heard = []; hearing = hearing_none tells tag k p a; taken = refl; all = refl; ruled = refl; owes = owes_none s }
+pub so_far_none : (tells : Bool) (tag : ℕ) (k : Key) (p : DeskPass) (a : Account) (s : List Bool) → HeardSoFar tells tag k p a s 0 0 a p s
+so_far_none tells tag k p a s = record { heard = []; hearing = hearing_none tells tag k p a; taken = refl; all = refl; owes = owes_none s }
 
-so_far_both : (tells : Bool) (tag : ℕ) (k : Key) (p m q : DeskPass) (a b d : Account) (s o t : List Bool) (took refused rules n r more : ℕ) (h : Heard) → HeardSoFar tells tag k p a s took refused rules b m o → Hearing tells tag k m b [] d q (h ∷ []) →
-    taken (h ∷ []) ≡ n → done_of h.rules ≡ more → Owes o (h ∷ []) t → n + r ≡ 1 → HeardSoFar tells tag k p a s (took + n) (refused + r) (rules + more) d q t
-so_far_both tells tag k p m q a b d s o t took refused rules n r more h x one is ruled owed sum = record {
+so_far_both : (tells : Bool) (tag : ℕ) (k : Key) (p m q : DeskPass) (a b d : Account) (s o t : List Bool) (took refused n r : ℕ) (h : Heard) → HeardSoFar tells tag k p a s took refused b m o → Hearing tells tag k m b [] d q (h ∷ []) →
+    taken (h ∷ []) ≡ n → Owes o (h ∷ []) t → n + r ≡ 1 → HeardSoFar tells tag k p a s (took + n) (refused + r) d q t
+so_far_both tells tag k p m q a b d s o t took refused n r h x one is more sum = record {
   heard = x.heard ++ h ∷ [];
   hearing = hearing_both tells tag k p m q a b d [] x.heard (h ∷ []) x.hearing one;
   taken = omega (arith, taken_both x.heard (h ∷ []), x.taken, is);
   all = omega (arith, length-append x.heard (h ∷ []), x.all, sum);
-  ruled = omega (arith, rules_both x.heard (h ∷ []), x.ruled, ruled);
-  owes = owes_both s o t x.heard (h ∷ []) x.owes owed;
+  owes = owes_both s o t x.heard (h ∷ []) x.owes more;
 }
 
-pub one_taken_more : (tells : Bool) (tag : ℕ) (k : Key) (p m q : DeskPass) (a b d : Account) (s o t : List Bool) (took refused rules more : ℕ) → HeardSoFar tells tag k p a s took refused rules b m o → HeardOne tells tag k m b o (Some (true, more)) d q t →
-    HeardSoFar tells tag k p a s (took + 1) refused (rules + more) d q t
-one_taken_more tells tag k p m q a b d s o t took refused rules more x (h, one, is, ruled, owes) =
-    subst (λ r. HeardSoFar tells tag k p a s (took + 1) r (rules + more) d q t) (omega arith) (so_far_both tells tag k p m q a b d s o t took refused rules 1 0 more h x one is ruled owes refl)
+pub one_taken_more : (tells : Bool) (tag : ℕ) (k : Key) (p m q : DeskPass) (a b d : Account) (s o t : List Bool) (took refused : ℕ) → HeardSoFar tells tag k p a s took refused b m o → HeardOne tells tag k m b o (Some true) d q t →
+    HeardSoFar tells tag k p a s (took + 1) refused d q t
+one_taken_more tells tag k p m q a b d s o t took refused x (h, one, is, owes) =
+    subst (λ r. HeardSoFar tells tag k p a s (took + 1) r d q t) (omega arith) (so_far_both tells tag k p m q a b d s o t took refused 1 0 h x one is owes refl)
 
-pub one_refused_more : (tells : Bool) (tag : ℕ) (k : Key) (p m q : DeskPass) (a b d : Account) (s o t : List Bool) (took refused rules more : ℕ) → HeardSoFar tells tag k p a s took refused rules b m o → HeardOne tells tag k m b o (Some (false, more)) d q t →
-    HeardSoFar tells tag k p a s took (refused + 1) (rules + more) d q t
-one_refused_more tells tag k p m q a b d s o t took refused rules more x (h, one, is, ruled, owes) =
-    subst (λ n. HeardSoFar tells tag k p a s n (refused + 1) (rules + more) d q t) (omega arith) (so_far_both tells tag k p m q a b d s o t took refused rules 0 1 more h x one is ruled owes refl)
+pub one_refused_more : (tells : Bool) (tag : ℕ) (k : Key) (p m q : DeskPass) (a b d : Account) (s o t : List Bool) (took refused : ℕ) → HeardSoFar tells tag k p a s took refused b m o → HeardOne tells tag k m b o (Some false) d q t →
+    HeardSoFar tells tag k p a s took (refused + 1) d q t
+one_refused_more tells tag k p m q a b d s o t took refused x (h, one, is, owes) =
+    subst (λ n. HeardSoFar tells tag k p a s n (refused + 1) d q t) (omega arith) (so_far_both tells tag k p m q a b d s o t took refused 0 1 h x one is owes refl)
 
 -- ---- the end
 
-pub heard_all_full : (tells : Bool) (tag : ℕ) (k : Key) (p q : DeskPass) (a b : Account) (s t : List Bool) (took refused rules : ℕ) → HeardSoFar tells tag k p a s took refused rules b q t → took + refused ≡ 32 → HeardFrom tells tag k p a s took refused rules b q t
-heard_all_full tells tag k p q a b s t took refused rules x full =
-    (record { ends = []; heard = x.heard; ended = inl (x.all ∙ full, refl); hearing = x.hearing; taken = x.taken; all = x.all }, x.ruled, x.owes)
+pub heard_all_full : (tells : Bool) (tag : ℕ) (k : Key) (p q : DeskPass) (a b : Account) (s t : List Bool) (took refused : ℕ) → HeardSoFar tells tag k p a s took refused b q t → took + refused ≡ 32 → HeardFrom tells tag k p a s took refused b q t
+heard_all_full tells tag k p q a b s t took refused x full =
+    (record { ends = []; heard = x.heard; ended = inl (x.all ∙ full, refl); hearing = x.hearing; taken = x.taken; all = x.all }, x.owes)
 
-pub heard_all_fewer : (tells : Bool) (tag : ℕ) (k : Key) (p m q : DeskPass) (a b d : Account) (s o t : List Bool) (took refused rules : ℕ) → HeardSoFar tells tag k p a s took refused rules b m o → took + refused < 32 → HeardOne tells tag k m b o None d q t →
-    HeardFrom tells tag k p a s took refused rules d q t
-heard_all_fewer tells tag k p m q a b d s o t took refused rules x few (same, f, w, owed) =
+pub heard_all_fewer : (tells : Bool) (tag : ℕ) (k : Key) (p m q : DeskPass) (a b d : Account) (s o t : List Bool) (took refused : ℕ) → HeardSoFar tells tag k p a s took refused b m o → took + refused < 32 → HeardOne tells tag k m b o None d q t →
+    HeardFrom tells tag k p a s took refused d q t
+heard_all_fewer tells tag k p m q a b d s o t took refused x few (same, f, w, owed) =
     let all = hearing_both tells tag k p m m a b d (None ∷ []) x.heard [] x.hearing (hearing_end tells tag k m b d f w) in
     let these : Hearing tells tag k p a (None ∷ []) d m x.heard = subst (λ (hs : List Heard). Hearing tells tag k p a (None ∷ []) d m hs) (append-nil x.heard) all in (
       record {
@@ -318,11 +245,10 @@ heard_all_fewer tells tag k p m q a b d s o t took refused rules x few (same, f,
         taken = x.taken;
         all = x.all;
       },
-      x.ruled,
       subst (λ (l : List Bool). Owes s x.heard l) (sym owed) x.owes,
     )
 
-faulted_from : (a b d : Account) (fault : PumpFault) (q : DeskPass) → b.failures ≡ a.failures → Faulted b fault d q → Faulted a fault d q
+pub faulted_from : (a b d : Account) (fault : PumpFault) (q : DeskPass) → b.failures ≡ a.failures → Faulted b fault d q → Faulted a fault d q
 faulted_from a b d faults.WireFailed q e f = f ∙ ap risen e
 faulted_from a b d faults.Memory q e f = f ∙ e
 faulted_from a b d faults.JournalFull q e f = (f.0 ∙ e, f.1)
@@ -332,9 +258,9 @@ ends_later faults.WireFailed hs is c e = count_both hs is c e
 ends_later faults.Memory hs is c (before, h, at, counts, none) = (hs ++ before, h, ap (λ l. hs ++ l) at ∙ sym (append_assoc hs before (h ∷ [])), count_both hs before c counts, none)
 ends_later faults.JournalFull hs is c (before, h, at, counts, none) = (hs ++ before, h, ap (λ l. hs ++ l) at ∙ sym (append_assoc hs before (h ∷ [])), count_both hs before c counts, none)
 
-pub broke_later : (tells : Bool) (tag : ℕ) (k : Key) (p m q : DeskPass) (a b d : Account) (before after : List Bool) (took refused rules : ℕ) (fault : PumpFault) → HeardSoFar tells tag k p a before took refused rules b m after → took + refused < 32 → BrokeOne tells tag k m b fault d q →
+pub broke_later : (tells : Bool) (tag : ℕ) (k : Key) (p m q : DeskPass) (a b d : Account) (before after : List Bool) (took refused : ℕ) (fault : PumpFault) → HeardSoFar tells tag k p a before took refused b m after → took + refused < 32 → BrokeOne tells tag k m b fault d q →
     BrokeHearing tells tag k p a fault d q
-broke_later tells tag k p m q a b d before after took refused rules fault s few (x, one) = record {
+broke_later tells tag k p m q a b d before after took refused fault s few (x, one) = record {
   heard = s.heard ++ x.heard;
   few = omega (arith, length-append s.heard x.heard, s.all, few, one);
   ends = ends_later fault s.heard x.heard s.hearing.count x.ends;

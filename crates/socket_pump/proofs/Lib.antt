@@ -1,10 +1,12 @@
 pub mod Left
 pub mod Owing
 pub mod Hearing
+pub mod Handling
 pub mod Near
 pub mod Telling
 pub mod Speaking
 pub mod Counting
 pub mod Turning
 pub mod Empty
+pub mod Marking
 pub mod memory_lemmas

@@ -12,9 +12,9 @@ use Rattle.site_core.specs.Pairs.{frame_fault}
 use Rattle.site_core.specs.Offices.{answer, unless_faulty}
 use Rattle.site_core.specs.neighbours.PairLaws.{passed}
 use Rattle.site_core.specs.Journals.{Site, office_of, recorded, OrMemory, Receives}
-use Rattle.locked_office.specs.declared.advance.Stopped.{Stopped}
 use Rattle.locked_office.specs.Calls.{Key, DeskPass, office_with}
 use Rattle.socket_pump.specs.Chains.{Heard, Hears, BringsMessage, Brought, Made, Sent}
+use Rattle.socket_pump.specs.Handling.{Handled, heard_of, Handles}
 use Rattle.socket_pump.specs.refinement.Stages.{AreFor}
 use Rattle.socket_pump.proofs.Telling.{sent_left, sent_right, sent_cases}
 use Rattle.socket_pump.specs.refinement.Counts.{Owed, Brings, Owes, Notes, Gets, Spares}
@@ -52,9 +52,9 @@ owes_both s o t hs is h i v lt = (
 )
 
 -- what was read of the bytes tells who brought them
-pub owes_one : (s t : List Bool) (bytes : List ℕ) (read : Result Fields FrameFault) (answer : Result Reply Refusal) (rules : Result ℕ Stopped) → IfOk read (Spells bytes) → ((f : Fields) → Spells bytes f → read ≡ Ok f) →
-    Notes read answer s t → Owes s (record { bytes = bytes; answer = answer; rules = rules } ∷ []) t
-owes_one s t bytes read answer rules found only noted v lt = (
+pub owes_one : (s t : List Bool) (bytes : List ℕ) (read : Result Fields FrameFault) (answer : Result Reply Refusal) → IfOk read (Spells bytes) → ((f : Fields) → Spells bytes f → read ≡ Ok f) →
+    Notes read answer s t → Owes s (record { bytes = bytes; answer = answer } ∷ []) t
+owes_one s t bytes read answer found only noted v lt = (
   λ x. ⊎_elim inl (λ y. inr (inl (of read found y))) ((noted v lt).0 x),
   λ x. (noted v lt).1 (⊎_elim inl (λ y. inr (back y)) x),
 )
@@ -63,7 +63,7 @@ owes_one s t bytes read answer rules found only noted v lt = (
     of (Ok f) h x = (f, h, x.0, x.1)
     of (Err fault) h x = elim x [ ]
 
-    back : Brought v (record { bytes = bytes; answer = answer; rules = rules } ∷ []) → Brings read answer v
+    back : Brought v (record { bytes = bytes; answer = answer } ∷ []) → Brings read answer v
     back (inl (f, spells, from, brings)) = subst (λ (r : Result Fields FrameFault). Brings r answer v) (sym (only f spells)) (from, brings)
     back (inr x) = elim x [ ]
 
@@ -83,9 +83,15 @@ near_one s s' tag bytes (Ok reply) f r spells brings = go (r.frame f spells)
 
 pub brought_near : (tag : ℕ) (k : Key) (p q : DeskPass) (hs : List Heard) (v : ℕ) → Hears tag k p hs q → Brought v hs → are_neighbours k.0 k.1 v ≡ true
 brought_near tag k p q [] v h x = elim x [ ]
-brought_near tag k p q (h ∷ hs) v (m, r, does, follows, rest) (inl (f, spells, from, brings)) =
+brought_near tag k p q (h ∷ hs) v (m, does, rest) (inl (f, spells, from, brings)) =
     subst (λ u. are_neighbours k.0 k.1 u ≡ true) from (near_one (office_with k (p.seen ++ does.0)) (office_with k m.seen) tag h.bytes h.answer f does.1.done spells brings)
-brought_near tag k p q (h ∷ hs) v (m, r, does, follows, rest) (inr x) = brought_near tag k r q hs v rest x
+brought_near tag k p q (h ∷ hs) v (m, does, rest) (inr x) = brought_near tag k m q hs v rest x
+
+pub handled_near : (tag : ℕ) (k : Key) (p q : DeskPass) (hs : List Handled) (v : ℕ) → Handles tag k p hs q → Brought v (heard_of hs) → are_neighbours k.0 k.1 v ≡ true
+handled_near tag k p q [] v h x = elim x [ ]
+handled_near tag k p q (h ∷ hs) v (m, r, does, follows, rest) (inl (f, spells, from, brings)) =
+    subst (λ u. are_neighbours k.0 k.1 u ≡ true) from (near_one (office_with k (p.seen ++ does.0)) (office_with k m.seen) tag h.heard.bytes h.heard.answer f does.1.done spells brings)
+handled_near tag k p q (h ∷ hs) v (m, r, does, follows, rest) (inr x) = handled_near tag k r q hs v rest x
 
 -- ---- who gets messages
 

@@ -14,6 +14,7 @@ use Rattle.site_core.specs.Journals.{Site, LacksRoom}
 use Rattle.site_core.specs.Growing.{link_at, Grows, LinksOnlyGrow}
 use Rattle.locked_office.specs.Calls.{Key, DeskPass, office_with, pass_after_adding, Does}
 use Rattle.locked_office.specs.Sends.{WaitsFor, SendsNumber}
+use Rattle.socket_pump.specs.declared.last.Backoff.{Backoff}
 use Rattle.socket_pump.specs.declared.pump.PumpFault.{PumpFault}
 use Rattle.socket_pump.specs.declared.pump.PumpFault.TheVariants.{WireFailed, Memory, JournalFull}
 use Rattle.socket_pump.specs.Wires.{Account}
@@ -143,21 +144,21 @@ AreApart ms ns = (u i : ℕ) → Sent u i ms → Sent u i ns → ⊥
 not_again : (m : Made) (ms ns : List Made) → (Sent m.to m.frame.number ms → ⊥) → AreApart (m ∷ ms) ns → Sent m.to m.frame.number (ms ++ ns) → ⊥
 not_again m ms ns once apart s = ⊎_elim once (λ t. apart m.to m.frame.number (inl (refl, refl)) t) (sent_cases m.to m.frame.number ms ns s)
 
-pub due_both : (last : Times) (acked : ℕ → ℕ) (now : ℕ) (ms ns : List Made) → AreApart ms ns → DueOnce last acked now ms → DueOnce last acked now ns → DueOnce last acked now (ms ++ ns)
-due_both last acked now [] ns apart h i = i
-due_both last acked now (m ∷ ms) ns apart h i = (h.0, not_again m ms ns h.1 apart, due_both last acked now ms ns (λ u i s. apart u i (inr s)) h.2 i)
+pub due_both : (how : Backoff) (last : Times) (now : ℕ) (ms ns : List Made) → AreApart ms ns → DueOnce how last now ms → DueOnce how last now ns → DueOnce how last now (ms ++ ns)
+due_both how last now [] ns apart h i = i
+due_both how last now (m ∷ ms) ns apart h i = (h.0, not_again m ms ns h.1 apart, due_both how last now ms ns (λ u i s. apart u i (inr s)) h.2 i)
 
--- two tables, and what two say of each neighbour, have the same of these frames
-abbrev pub AreSame : Times → Times → (ℕ → ℕ) → (ℕ → ℕ) → List Made → Type 0
-AreSame mid last f g ms = (u i : ℕ) → Sent u i ms → (mid u i ≡ last u i) × (f u ≡ g u)
+-- two tables have the same of these frames
+abbrev pub AreSame : Times → Times → List Made → Type 0
+AreSame mid last ms = (u i : ℕ) → Sent u i ms → mid u i ≡ last u i
 
--- what is due by the ones is due by the others
-due_from : (mid last : Times) (f g : ℕ → ℕ) (now : ℕ) (ms : List Made) → AreSame mid last f g ms → DueOnce mid f now ms → DueOnce last g now ms
-due_from mid last f g now [] h o = tt
-due_from mid last f g now (m ∷ ms) h o = (
-  ⊎_elim inl (λ d. let e = h m.to m.frame.number (inl (refl, refl)) in inr (subst (λ n. IsDue (last m.to m.frame.number) n now) e.1 (subst (λ t. IsDue t (f m.to) now) e.0 d))) o.0,
+-- what is due by the one is due by the other
+due_from : (how : Backoff) (mid last : Times) (now : ℕ) (ms : List Made) → AreSame mid last ms → DueOnce how mid now ms → DueOnce how last now ms
+due_from how mid last now [] h o = tt
+due_from how mid last now (m ∷ ms) h o = (
+  ⊎_elim inl (λ d. inr (subst (λ t. IsDue how t now) (h m.to m.frame.number (inl (refl, refl))) d)) o.0,
   o.1,
-  due_from mid last f g now ms (λ u i s. h u i (inr s)) o.2,
+  due_from how mid last now ms (λ u i s. h u i (inr s)) o.2,
 )
 
 pub counts_both : (ms ns : List Made) → AreApart ms ns → AreCounts ms → AreCounts ns → AreCounts (ms ++ ns)
@@ -172,25 +173,23 @@ used_both grow k m q ms ns b h i = λ u n s. ⊎_elim (λ x. let g = grows_on gr
 
 -- ---- when it was sent
 
-pub remembers_both : LinksOnlyGrow → (k : Key) (last mid then : Times) (f g h : ℕ → ℕ) (now : ℕ) (p m q : DeskPass) (ms ns : List Made) → Begins p m → Begins m q → AreUsed k m ms →
-    ((u i : ℕ) → Sent u i ms → f u ≡ h u) → ((u i : ℕ) → WaitsFor (office_with k q.seen) u i → Sent u i ns → (mid u i ≡ last u i) × (g u ≡ h u)) → Remembers k last mid f now p m ms → Remembers k mid then g now m q ns → Remembers k last then h now p q (ms ++ ns)
-remembers_both grow k last mid then f g h now p m q ms ns pm mq used_by first second r s = record { sent = sent; others = other }
+pub remembers_both : LinksOnlyGrow → (how : Backoff) (k : Key) (last mid then : Times) (now : ℕ) (p m q : DeskPass) (ms ns : List Made) → Begins p m → Begins m q → AreUsed k m ms →
+    ((u i : ℕ) → WaitsFor (office_with k q.seen) u i → Sent u i ns → mid u i ≡ last u i) → Remembers how k last mid now p m ms → Remembers how k mid then now m q ns → Remembers how k last then now p q (ms ++ ns)
+remembers_both grow how k last mid then now p m q ms ns pm mq used_by same r s = record { sent = sent; others = other }
   where
     -- used by m, and waits at q: it waits at m
     earlier : (u i : ℕ) → i ≤ used (link_at k.0 k.1 m.seen u).sending → WaitsFor (office_with k q.seen) u i → WaitsFor (office_with k m.seen) u i
     earlier u i le w = let l = grows_on grow k m q u mq in record { near = w.near; unknown = omega (arith, l.acked, w.unknown); sent = le }
 
-    old : (u i : ℕ) → WaitsFor (office_with k q.seen) u i → (Sent u i ns → ⊥) → Sent u i ms → then u i ≡ Some (sent_now (last u i) (h u) now)
+    old : (u i : ℕ) → WaitsFor (office_with k q.seen) u i → (Sent u i ns → ⊥) → Sent u i ms → then u i ≡ Some (sent_now how (last u i) now)
     old u i w none x =
         let e = earlier u i (used_by u i x) w in
-        s.others u i e w none ∙ (r.sent u i e x ∙ ap (λ n. Some (sent_now (last u i) n now)) (first u i x))
+        s.others u i e w none ∙ r.sent u i e x
 
-    new : (u i : ℕ) → WaitsFor (office_with k q.seen) u i → Sent u i ns → then u i ≡ Some (sent_now (last u i) (h u) now)
-    new u i w x =
-        let e = second u i w x in
-        s.sent u i w x ∙ (ap (λ t. Some (sent_now t (g u) now)) e.0 ∙ ap (λ n. Some (sent_now (last u i) n now)) e.1)
+    new : (u i : ℕ) → WaitsFor (office_with k q.seen) u i → Sent u i ns → then u i ≡ Some (sent_now how (last u i) now)
+    new u i w x = s.sent u i w x ∙ ap (λ t. Some (sent_now how t now)) (same u i w x)
 
-    sent : (u i : ℕ) → WaitsFor (office_with k q.seen) u i → Sent u i (ms ++ ns) → then u i ≡ Some (sent_now (last u i) (h u) now)
+    sent : (u i : ℕ) → WaitsFor (office_with k q.seen) u i → Sent u i (ms ++ ns) → then u i ≡ Some (sent_now how (last u i) now)
     sent u i w x = ⊎_elim (new u i w) (λ none. ⊎_elim (old u i w none) (λ y. absurd (none y)) (sent_cases u i ms ns x)) (sent_or u i ns)
 
     other : (u i : ℕ) → WaitsFor (office_with k p.seen) u i → WaitsFor (office_with k q.seen) u i → (Sent u i (ms ++ ns) → ⊥) → then u i ≡ last u i
@@ -198,40 +197,40 @@ remembers_both grow k last mid then f g h now p m q ms ns pm mq used_by first se
         let w = waits_between grow k p m q u i pm mq a b in
         s.others u i w b (λ y. none (sent_right u i ms ns y)) ∙ r.others u i a w (λ y. none (sent_left u i ms ns y))
 
-pub remembers_none : (k : Key) (last then : Times) (acked : ℕ → ℕ) (now : ℕ) (p q : DeskPass) → ((u i : ℕ) → then u i ≡ last u i) → Remembers k last then acked now p q []
-remembers_none k last then acked now p q same = record { sent = λ u i w s. elim s [ ]; others = λ u i a b none. same u i }
+pub remembers_none : (how : Backoff) (k : Key) (last then : Times) (now : ℕ) (p q : DeskPass) → ((u i : ℕ) → then u i ≡ last u i) → Remembers how k last then now p q []
+remembers_none how k last then now p q same = record { sent = λ u i w s. elim s [ ]; others = λ u i a b none. same u i }
 
 -- ---- stretches
 
 -- what was told is followed by more, of messages of which nothing was told yet
-pub spoke_both : LinksOnlyGrow → (tells : Bool) (tag : ℕ) (k : Key) (last mid then : Times) (f g h : ℕ → ℕ) (now : ℕ) (p m q : DeskPass) (a b d : Account) (s t : ℕ) (ms ns : List Made) → AreApart ms ns → ((u i : ℕ) → Sent u i ms → f u ≡ h u) → AreSame mid last g h ns →
-    Spoke tells tag k last mid f now p a s b m ms → Spoke tells tag k mid then g now m b t d q ns → Spoke tells tag k last then h now p a (s + t) d q (ms ++ ns)
-spoke_both grow tells tag k last mid then f g h now p m q a b d s t ms ns apart first second x y = record {
+pub spoke_both : LinksOnlyGrow → (how : Backoff) (tells : Bool) (tag : ℕ) (k : Key) (last mid then : Times) (now : ℕ) (p m q : DeskPass) (a b d : Account) (s t : ℕ) (ms ns : List Made) → AreApart ms ns → AreSame mid last ns →
+    Spoke how tells tag k last mid now p a s b m ms → Spoke how tells tag k mid then now m b t d q ns → Spoke how tells tag k last then now p a (s + t) d q (ms ++ ns)
+spoke_both grow how tells tag k last mid then now p m q a b d s t ms ns apart same x y = record {
   told = told_both tells tag k p m q a b d ms ns x.told y.told;
   count = omega (arith, length-append ms ns, x.count, y.count);
   used = used_both grow k m q ms ns (sends_begins tag k m q ns y.told.sends) x.used y.used;
-  due_once = due_both last h now ms ns apart (due_from last last f h now ms (λ u i e. (refl, first u i e)) x.due_once) (due_from mid last g h now ns second y.due_once);
+  due_once = due_both how last now ms ns apart x.due_once (due_from how mid last now ns same y.due_once);
   messages = messages_both ms ns x.messages y.messages;
-  remembers = remembers_both grow k last mid then f g h now p m q ms ns (sends_begins tag k p m ms x.told.sends) (sends_begins tag k m q ns y.told.sends) x.used first (λ u i w e. second u i e) x.remembers y.remembers;
+  remembers = remembers_both grow how k last mid then now p m q ms ns (sends_begins tag k p m ms x.told.sends) (sends_begins tag k m q ns y.told.sends) x.used (λ u i w e. same u i e) x.remembers y.remembers;
 }
 
-pub spoke_none : (tells : Bool) (tag : ℕ) (k : Key) (last : Times) (acked : ℕ → ℕ) (now : ℕ) (p q : DeskPass) (a : Account) → Sees p q → Spoke tells tag k last last acked now p a 0 a q []
-spoke_none tells tag k last acked now p q a s = record {
+pub spoke_none : (how : Backoff) (tells : Bool) (tag : ℕ) (k : Key) (last : Times) (now : ℕ) (p q : DeskPass) (a : Account) → Sees p q → Spoke how tells tag k last last now p a 0 a q []
+spoke_none how tells tag k last now p q a s = record {
   told = none_told tells tag k p q a s;
   count = refl;
   messages = λ u i x. elim x [ ];
   used = λ u i x. elim x [ ];
   due_once = tt;
-  remembers = remembers_none k last last acked now p q (λ u i. refl);
+  remembers = remembers_none how k last last now p q (λ u i. refl);
 }
 
 -- the same with what was told before a fault
-pub broke_on : LinksOnlyGrow → (tells : Bool) (tag : ℕ) (k : Key) (last mid then : Times) (f g h : ℕ → ℕ) (now : ℕ) (p m q : DeskPass) (a b d : Account) (s : ℕ) (fault : PumpFault) (ms ns : List Made) → AreApart ms ns → ((u i : ℕ) → Sent u i ms → f u ≡ h u) → AreSame mid last g h ns →
-    Spoke tells tag k last mid f now p a s b m ms → Broken tells tag k mid then g now m b fault d q ns → Broken tells tag k last then h now p a fault d q (ms ++ ns)
-broke_on grow tells tag k last mid then f g h now p m q a b d s fault ms ns apart first second x (y, only, r, messages) = (
+pub broke_on : LinksOnlyGrow → (how : Backoff) (tells : Bool) (tag : ℕ) (k : Key) (last mid then : Times) (now : ℕ) (p m q : DeskPass) (a b d : Account) (s : ℕ) (fault : PumpFault) (ms ns : List Made) → AreApart ms ns → AreSame mid last ns →
+    Spoke how tells tag k last mid now p a s b m ms → Broken how tells tag k mid then now m b fault d q ns → Broken how tells tag k last then now p a fault d q (ms ++ ns)
+broke_on grow how tells tag k last mid then now p m q a b d s fault ms ns apart same x (y, only, r, messages) = (
   broke_both tells tag k p m q a b d fault ms ns x.told y,
-  due_both last h now ms ns apart (due_from last last f h now ms (λ u i e. (refl, first u i e)) x.due_once) (due_from mid last g h now ns second only),
-  remembers_both grow k last mid then f g h now p m q ms ns (sends_begins tag k p m ms x.told.sends) (sends_begins tag k m q ns y.sends) x.used first (λ u i w e. second u i e) x.remembers r,
+  due_both how last now ms ns apart x.due_once (due_from how mid last now ns same only),
+  remembers_both grow how k last mid then now p m q ms ns (sends_begins tag k p m ms x.told.sends) (sends_begins tag k m q ns y.sends) x.used (λ u i w e. same u i e) x.remembers r,
   messages_both ms ns x.messages messages,
 )
 
@@ -258,9 +257,9 @@ broke_none tells tag k p q a es why f s e room fault = record {
 one_place : (acked i n : ℕ) → acked < i → i ≤ acked + 18 → acked < n → n ≤ acked + 18 → i % 18 ≡ n % 18 → i ≡ n
 one_place acked i n a b c d e = omega (arith, e)
 
-remembers_one : LinksOnlyGrow → (k : Key) (last then : Times) (acked now v n : ℕ) (p x q : DeskPass) (m : Made) → Begins p x → Begins x q → WaitsFor (office_with k x.seen) v n → length (link_at k.0 k.1 x.seen v).sending.waiting ≤ 18 → m.to ≡ v → m.frame.number ≡ n →
-    then v n ≡ Some (sent_now (last v n) acked now) → ((u i : ℕ) → ((u ≡ v) × (i % 18 ≡ n % 18) → ⊥) → then u i ≡ last u i) → Remembers k last then (λ u. acked) now p q (m ∷ [])
-remembers_one grow k last then acked now v n p x q m px xq here few to number this others = record { sent = sent; others = other }
+remembers_one : LinksOnlyGrow → (how : Backoff) (k : Key) (last then : Times) (now v n : ℕ) (p x q : DeskPass) (m : Made) → Begins p x → Begins x q → WaitsFor (office_with k x.seen) v n → length (link_at k.0 k.1 x.seen v).sending.waiting ≤ 18 → m.to ≡ v → m.frame.number ≡ n →
+    then v n ≡ Some (sent_now how (last v n) now) → ((u i : ℕ) → ((u ≡ v) × (i % 18 ≡ n % 18) → ⊥) → then u i ≡ last u i) → Remembers how k last then now p q (m ∷ [])
+remembers_one grow how k last then now v n p x q m px xq here few to number this others = record { sent = sent; others = other }
   where
     -- what waits at x besides n has another place
     apart : (u i : ℕ) → WaitsFor (office_with k x.seen) u i → ((u ≡ v) × (i ≡ n)) ⊎ (then u i ≡ last u i)
@@ -272,8 +271,8 @@ remembers_one grow k last then acked now v n p x q m px xq here few to number th
         (λ ne. inr (others u i (λ e. ne e.0)))
         (cases_eq u v)
 
-    sent : (u i : ℕ) → WaitsFor (office_with k q.seen) u i → Sent u i (m ∷ []) → then u i ≡ Some (sent_now (last u i) acked now)
-    sent u i w (inl e) = subst (λ y. then y i ≡ Some (sent_now (last y i) acked now)) (sym to ∙ e.0) (subst (λ z. then v z ≡ Some (sent_now (last v z) acked now)) (sym number ∙ e.1) this)
+    sent : (u i : ℕ) → WaitsFor (office_with k q.seen) u i → Sent u i (m ∷ []) → then u i ≡ Some (sent_now how (last u i) now)
+    sent u i w (inl e) = subst (λ y. then y i ≡ Some (sent_now how (last y i) now)) (sym to ∙ e.0) (subst (λ z. then v z ≡ Some (sent_now how (last v z) now)) (sym number ∙ e.1) this)
     sent u i w (inr e) = elim e [ ]
 
     other : (u i : ℕ) → WaitsFor (office_with k p.seen) u i → WaitsFor (office_with k q.seen) u i → (Sent u i (m ∷ []) → ⊥) → then u i ≡ last u i
@@ -284,28 +283,28 @@ are_of v n m to number u i (inl e) = (sym e.0 ∙ to, sym e.1 ∙ number)
 are_of v n m to number u i (inr e) = elim e [ ]
 
 -- the frame of a message was made: what stands, wherever it goes
-pub record OneMade (tag : ℕ) (k : Key) (last then : Times) (acked now : ℕ) (p q : DeskPass) (v n : ℕ) (f : Fields) : Type 0 where
+pub record OneMade (how : Backoff) (tag : ℕ) (k : Key) (last then : Times) (now : ℕ) (p q : DeskPass) (v n : ℕ) (f : Fields) : Type 0 where
   pub made : Made
   pub to : made.to ≡ v
   pub frame : made.frame ≡ f
   pub does : Does (MakesFrame tag made) k p q
   pub used : AreUsed k q (made ∷ [])
   pub messages : AreMessages (made ∷ [])
-  pub due_once : DueOnce last (λ u. acked) now (made ∷ [])
-  pub remembers : Remembers k last then (λ u. acked) now p q (made ∷ [])
+  pub due_once : DueOnce how last now (made ∷ [])
+  pub remembers : Remembers how k last then now p q (made ∷ [])
   pub are : AreOf v n (made ∷ [])
 
-pub one_made : LinksOnlyGrow → (tag : ℕ) (k : Key) (last then : Times) (acked now v n : ℕ) (p q : DeskPass) (f : Fields) → Does (λ s s'. SendsNumber tag v n (Ok (Some f)) s s') k p q → IsDue (last v n) acked now → then v n ≡ Some (sent_now (last v n) acked now) →
-    ((u i : ℕ) → ((u ≡ v) × (i % 18 ≡ n % 18) → ⊥) → then u i ≡ last u i) → OneMade tag k last then acked now p q v n f
-one_made grow tag k last then acked now v n p q f (between, did) due this others = record {
+pub one_made : LinksOnlyGrow → (how : Backoff) (tag : ℕ) (k : Key) (last then : Times) (now v n : ℕ) (p q : DeskPass) (f : Fields) → Does (λ s s'. SendsNumber tag v n (Ok (Some f)) s s') k p q → IsDue how (last v n) now → then v n ≡ Some (sent_now how (last v n) now) →
+    ((u i : ℕ) → ((u ≡ v) × (i % 18 ≡ n % 18) → ⊥) → then u i ≡ last u i) → OneMade how tag k last then now p q v n f
+one_made grow how tag k last then now v n p q f (between, did) due this others = record {
   made = m;
   to = refl;
   frame = refl;
   does = (between, record { done = did.done.made; legal = did.legal; added = did.added; left = did.left });
   used = λ u i s. let e = are_of v n m refl did.done.number u i s in subst (λ y. i ≤ used (link_at k.0 k.1 q.seen y).sending) (sym e.0) (omega (arith, e.1, grown.used, did.done.waits.sent));
-  due_once = (inr (subst (λ i. IsDue (last v i) acked now) (sym did.done.number) due), λ s. elim s [ ], tt);
+  due_once = (inr (subst (λ i. IsDue how (last v i) now) (sym did.done.number) due), λ s. elim s [ ], tt);
   messages = λ u i s. let e = are_of v n m refl did.done.number u i s in omega (arith, e.1, did.done.waits.unknown);
-  remembers = remembers_one grow k last then acked now v n p x q m px xq did.done.waits did.done.few refl did.done.number this others;
+  remembers = remembers_one grow how k last then now v n p x q m px xq did.done.waits did.done.few refl did.done.number this others;
   are = are_of v n m refl did.done.number;
 }
   where
@@ -324,9 +323,9 @@ one_made grow tag k last then acked now v n p q f (between, did) due this others
     grown : Grows (link_at k.0 k.1 x.seen v) (link_at k.0 k.1 q.seen v)
     grown = grows_on grow k x q v xq
 
-pub message_out : (tells : Bool) (tag : ℕ) (k : Key) (last then : Times) (acked now v n : ℕ) (p q : DeskPass) (a b : Account) (f : Fields) → OneMade tag k last then acked now p q v n f → b.failures ≡ a.failures → (tells ≡ true → b ≡ record a { accepted = a.accepted ++ (v, spelling f) ∷ [] }) →
-    IsDue (last v n) acked now → f.number ≡ n → SpokeOf tells tag k last then acked now p a 1 b q v n
-message_out tells tag k last then acked now v n p q a b f o e w due number = (
+pub message_out : (how : Backoff) (tells : Bool) (tag : ℕ) (k : Key) (last then : Times) (now v n : ℕ) (p q : DeskPass) (a b : Account) (f : Fields) → OneMade how tag k last then now p q v n f → b.failures ≡ a.failures → (tells ≡ true → b ≡ record a { accepted = a.accepted ++ (v, spelling f) ∷ [] }) →
+    IsDue how (last v n) now → f.number ≡ n → SpokeOf how tells tag k last then now p a 1 b q v n
+message_out how tells tag k last then now v n p q a b f o e w due number = (
   o.made ∷ [],
   record {
     told = one_told tells tag k p q a b o.made o.does e (subst (λ (x : ℕ × List ℕ). tells ≡ true → b ≡ record a { accepted = a.accepted ++ x ∷ [] }) (λ i. (sym o.to i, spelling (sym o.frame i))) w);
@@ -352,26 +351,26 @@ message_lost tells tag k p q a b m does e w = record {
 }
 
 -- it isn't due
-pub message_early : (tells : Bool) (tag : ℕ) (k : Key) (last : Times) (acked now v n : ℕ) (p : DeskPass) (a : Account) → (IsDue (last v n) acked now → ⊥) → SpokeOf tells tag k last last acked now p a 0 a p v n
-message_early tells tag k last acked now v n p a early = ([], spoke_none tells tag k last (λ u. acked) now p p a (sees_self p), λ u i s. elim s [ ], λ w d. early d)
+pub message_early : (how : Backoff) (tells : Bool) (tag : ℕ) (k : Key) (last : Times) (now v n : ℕ) (p : DeskPass) (a : Account) → (IsDue how (last v n) now → ⊥) → SpokeOf how tells tag k last last now p a 0 a p v n
+message_early how tells tag k last now v n p a early = ([], spoke_none how tells tag k last now p p a (sees_self p), λ u i s. elim s [ ], λ w d. early d)
 
 -- it waits no more
-pub message_none : (tells : Bool) (tag : ℕ) (k : Key) (last : Times) (acked now v n : ℕ) (p q : DeskPass) (a : Account) → p.holds ≡ false → Does (λ s s'. SendsNumber tag v n (Ok None) s s') k p q → SpokeOf tells tag k last last acked now p a 0 a q v n
-message_none tells tag k last acked now v n p q a idle d = (
+pub message_none : (how : Backoff) (tells : Bool) (tag : ℕ) (k : Key) (last : Times) (now v n : ℕ) (p q : DeskPass) (a : Account) → p.holds ≡ false → Does (λ s s'. SendsNumber tag v n (Ok None) s s') k p q → SpokeOf how tells tag k last last now p a 0 a q v n
+message_none how tells tag k last now v n p q a idle d = (
   [],
-  spoke_none tells tag k last (λ u. acked) now p q a (unchanged (λ s s'. SendsNumber tag v n (Ok None) s s') k p q d idle (ap (λ (s : Site). s.entries) d.1.done.0)),
+  spoke_none how tells tag k last now p q a (unchanged (λ s s'. SendsNumber tag v n (Ok None) s s') k p q d idle (ap (λ (s : Site). s.entries) d.1.done.0)),
   λ u i s. elim s [ ],
   λ w due. d.1.done.1 (subst (λ (s : Site). WaitsFor s v n) d.1.done.0 w),
 )
 
 -- there was no room
-pub message_refused : (tells : Bool) (tag : ℕ) (k : Key) (last : Times) (acked now v n : ℕ) (p q : DeskPass) (a : Account) (why : Refusal) (f : PumpFault) → p.holds ≡ false → Does (λ s s'. SendsNumber tag v n (Err why) s s') k p q → IsFaultOf why f → BrokenOf tells tag k last last acked now p a f a q v n
-message_refused tells tag k last acked now v n p q a why f idle d fault = (
+pub message_refused : (how : Backoff) (tells : Bool) (tag : ℕ) (k : Key) (last : Times) (now v n : ℕ) (p q : DeskPass) (a : Account) (why : Refusal) (f : PumpFault) → p.holds ≡ false → Does (λ s s'. SendsNumber tag v n (Err why) s s') k p q → IsFaultOf why f → BrokenOf how tells tag k last last now p a f a q v n
+message_refused how tells tag k last now v n p q a why f idle d fault = (
   [],
   (
     broke_none tells tag k p q a (p.seen ++ d.0) why f (unchanged (λ s s'. SendsNumber tag v n (Err why) s s') k p q d idle seen) seen d.1.done.1 fault,
     tt,
-    remembers_none k last last (λ u. acked) now p q (λ u i. refl),
+    remembers_none how k last last now p q (λ u i. refl),
     λ u i s. elim s [ ],
   ),
   λ u i s. elim s [ ],

@@ -3,25 +3,22 @@ use Rattle.std.specs.Prelude.{◌≡◌, ℕ, ◌+◌, ◌⊎◌, List, [], ◌�
 use Rattle.frame_codec.specs.Frame.{Fields}
 use Rattle.frame_codec.specs.Spelling.{Spells, spelling}
 use Rattle.office_journal.specs.declared.event.Entry.{Entry}
-use Rattle.office_journal.specs.declared.event.Event.TheVariants.{Do, Send, Took}
+use Rattle.office_journal.specs.declared.event.Event.TheVariants.{Send, Took}
 use Rattle.office_journal.specs.declared.reply.Reply.{Reply}
 use Rattle.office_journal.specs.declared.reply.Reply.TheVariants.{Frame}
 use Rattle.office_journal.specs.declared.reply.Reply.TheVariants as reply
 use Rattle.office_journal.specs.declared.reply.Refusal.{Refusal}
 use Rattle.office_journal.specs.declared.reply.Refusal.TheVariants.{Memory, JournalFull}
-use Rattle.office_journal.specs.declared.rule.Rule.{Rule}
 use Rattle.site_core.specs.Journals.{Site, noted, Receives}
-use Rattle.locked_office.specs.declared.advance.Stopped.{Stopped}
-use Rattle.locked_office.specs.Advance.{Advances, done_of}
 use Rattle.locked_office.specs.Calls.{Key, DeskPass, Does}
+use Rattle.socket_pump.specs.declared.last.Backoff.{Backoff}
 use Rattle.socket_pump.specs.declared.last.LastSend.{LastSend}
 use Rattle.socket_pump.specs.Last.{IsDue}
 
--- a datagram, what the office answered to it, and how many rules it did then, or at which of them it was stopped
+-- a datagram, and what the office answered to it
 pub record Heard : Type 0 where
   pub bytes : List ℕ
   pub answer : Result Reply Refusal
-  pub rules : Result ℕ Stopped
 
 -- a frame that was made: for whom, which of the messages that wait (0: of none), and the frame
 pub record Made : Type 0 where
@@ -35,20 +32,10 @@ Sees p q = (between : List Entry) × (q ≡ record p { seen = p.seen ++ between 
 
 -- ---- datagrams
 
--- Of what follows a datagram: where it was taken, the rules that come next, at most 64, and fewer only where none is next; where it was refused, nothing.
-abbrev pub Follows : ℕ → Key → Result Reply Refusal → Result ℕ Stopped → DeskPass → DeskPass → Type 0
-Follows tag k (Ok r) rules p q = Does (λ s s'. Advances tag 64 rules s s') k p q
-Follows tag k (Err why) rules p q = (rules ≡ Ok 0) × (q ≡ p)
-
--- each is handed to the office, after the one before and the rules that followed it
+-- each is handed to the office, after the one before
 abbrev pub Hears : ℕ → Key → DeskPass → List Heard → DeskPass → Type 0
 Hears tag k p [] q = Sees p q
-Hears tag k p (h ∷ hs) q = (m r : DeskPass) × Does (λ s s'. Receives s tag h.bytes h.answer s') k p m × Follows tag k h.answer h.rules m r × Hears tag k r hs q
-
--- how many rules followed them
-abbrev pub rules_after : List Heard → ℕ
-rules_after [] = 0
-rules_after (h ∷ hs) = done_of h.rules + rules_after hs
+Hears tag k p (h ∷ hs) q = (m : DeskPass) × Does (λ s s'. Receives s tag h.bytes h.answer s') k p m × Hears tag k m hs q
 
 -- how many were taken
 abbrev pub one_taken : Result Reply Refusal → ℕ
@@ -66,30 +53,20 @@ Counts (Err JournalFull) = ⊥
 Counts (Err _) = Unit {0}
 Counts (Ok r) = Unit {0}
 
--- none of these rules was refused
-abbrev pub AreDone : Result ℕ Stopped → Type 0
-AreDone (Ok n) = Unit {0}
-AreDone (Err stopped) = ⊥
-
--- no answer is for want of room, and no rule was refused
+-- no answer is for want of room
 abbrev pub AllCount : List Heard → Type 0
 AllCount [] = Unit {0}
-AllCount (h ∷ hs) = Counts h.answer × AreDone h.rules × AllCount hs
+AllCount (h ∷ hs) = Counts h.answer × AllCount hs
 
 -- the entry of one that was taken: the frame that the bytes spell, with the office's answer
 abbrev pub IsTook : ℕ → List ℕ → Result Reply Refusal → List Entry → Type 0
 IsTook tag bytes (Ok r) es = (f : Fields) × Spells bytes f × (es ≡ record { tag = tag; event = Took f; reply = r } ∷ [])
 IsTook tag bytes (Err why) es = es ≡ []
 
--- each of these entries does a rule
-abbrev pub AreRules : ℕ → List Entry → Type 0
-AreRules tag [] = Unit {0}
-AreRules tag (x ∷ xs) = (r : Rule) × (x.event ≡ Do r) × (x.tag ≡ tag) × AreRules tag xs
-
--- the entries of those that were taken and of the rules that followed each, in order
+-- the entries of those that were taken, in order
 abbrev pub AreTooks : ℕ → List Heard → List Entry → Type 0
 AreTooks tag [] es = es ≡ []
-AreTooks tag (h ∷ hs) es = (first rules rest : List Entry) × (es ≡ first ++ (rules ++ rest)) × IsTook tag h.bytes h.answer first × AreRules tag rules × AreTooks tag hs rest
+AreTooks tag (h ∷ hs) es = (first rest : List Entry) × (es ≡ first ++ rest) × IsTook tag h.bytes h.answer first × AreTooks tag hs rest
 
 -- an answer to a message: it was taken, now or before, or it came before its turn
 abbrev pub BringsMessage : Result Reply Refusal → Type 0
@@ -132,7 +109,7 @@ abbrev pub Sent : ℕ → ℕ → List Made → Type 0
 Sent v n [] = ⊥
 Sent v n (m ∷ ms) = ((m.to ≡ v) × (m.frame.number ≡ n)) ⊎ Sent v n ms
 
--- each brings a count alone, or a message that was due now, where each neighbour was known to have taken so many; and none comes again
-abbrev pub DueOnce : (ℕ → ℕ → Option LastSend) → (ℕ → ℕ) → ℕ → List Made → Type 0
-DueOnce last acked now [] = Unit {0}
-DueOnce last acked now (m ∷ ms) = ((m.frame.number ≡ 0) ⊎ IsDue (last m.to m.frame.number) (acked m.to) now) × (Sent m.to m.frame.number ms → ⊥) × DueOnce last acked now ms
+-- each brings a count alone, or a message that was due now; and none comes again
+abbrev pub DueOnce : Backoff → (ℕ → ℕ → Option LastSend) → ℕ → List Made → Type 0
+DueOnce how last now [] = Unit {0}
+DueOnce how last now (m ∷ ms) = ((m.frame.number ≡ 0) ⊎ IsDue how (last m.to m.frame.number) now) × (Sent m.to m.frame.number ms → ⊥) × DueOnce how last now ms

@@ -2,8 +2,10 @@ pub mod Wires
 pub mod Contacts
 pub mod Last
 pub mod Chains
+pub mod Handling
 pub mod ChainLaws
 pub mod Turns
+pub mod AdaptiveTurns
 pub mod refinement
 pub mod sockets
 pub mod memory

@@ -8,16 +8,17 @@ use Rattle.locked_office.specs.declared.advance.Stopped.{Stopped}
 use Rattle.locked_office.specs.Calls.{Key, DeskPass, Does, office_with}
 use Rattle.locked_office.specs.Advance.{Advances}
 use Rattle.locked_office.specs.Sends.{WaitsFor}
-use Rattle.site_core.specs.Growing.{link_at}
+use Rattle.socket_pump.specs.declared.last.Backoff.{Backoff}
+use Rattle.socket_pump.specs.declared.last.Backoff.TheVariants.{Constant}
 use Rattle.socket_pump.specs.declared.last.LastSend.{LastSend}
 use Rattle.socket_pump.specs.declared.pump.Turn.{Turn}
 use Rattle.socket_pump.specs.declared.pump.PumpFault.{PumpFault}
 use Rattle.socket_pump.specs.declared.pump.PumpFault.TheVariants.{WireFailed, Memory, JournalFull}
 use Rattle.socket_pump.specs.Wires.{Account, risen}
 use Rattle.socket_pump.specs.Last.{IsDue, sent_now}
-use Rattle.socket_pump.specs.Chains.{Heard, Made, Hears, taken, rules_after, AllCount, AreTooks, Brought, answers, Sends, sent_entry, datagram, Sent, DueOnce}
+use Rattle.socket_pump.specs.Chains.{Heard, Made, Hears, taken, AllCount, AreTooks, Brought, answers, Sends, sent_entry, datagram, Sent, DueOnce}
 
--- when the message of each neighbour and number was last sent, and how long it then pauses
+-- what is remembered of the message of each neighbour and number: when it was last sent, and how long it pauses since
 abbrev pub Times : Type 0
 Times = ℕ → ℕ → Option LastSend
 
@@ -27,7 +28,7 @@ Times = ℕ → ℕ → Option LastSend
 abbrev pub Ended : ℕ → List (Option (List ℕ)) → Type 0
 Ended n ends = ((n ≡ 32) × (ends ≡ [])) ⊎ ((n < 32) × (ends ≡ None ∷ []))
 
--- These datagrams came from the wire and were handed to the office, each followed by the rules that come next, and nothing was refused for want of room. What the pass added are the entries of those that were taken and of these rules.
+-- These datagrams came from the wire and were handed to the office, and none was refused for want of room. What the pass added are the entries of those that were taken.
 pub record Hearing (tells : Bool) (tag : ℕ) (k : Key) (p : DeskPass) (a : Account) (ends : List (Option (List ℕ))) (b : Account) (q : DeskPass) (heard : List Heard) : Type 0 where
   pub hears : Hears tag k p heard q
   pub count : AllCount heard
@@ -60,9 +61,9 @@ IsFaultOf why WireFailed = ⊥
 IsFaultOf why Memory = why ≡ refusal.Memory
 IsFaultOf why JournalFull = why ≡ refusal.JournalFull
 
--- the office had no room for this one, or for a rule that followed it
+-- the office had no room for this one
 abbrev pub HadNoRoom : PumpFault → Heard → Type 0
-HadNoRoom f h = ((why : Refusal) × (h.answer ≡ Err why) × IsFaultOf why f) ⊎ ((stopped : Stopped) × (h.rules ≡ Err stopped) × IsFaultOf stopped.refusal f)
+HadNoRoom f h = (why : Refusal) × (h.answer ≡ Err why) × IsFaultOf why f
 
 -- the wire failed after these; or there was no room for the last of them
 abbrev pub EndsBy : PumpFault → List Heard → Type 0
@@ -83,21 +84,9 @@ pub record BrokeHearing (tells : Bool) (tag : ℕ) (k : Key) (p : DeskPass) (a :
 
 -- ---- messages
 
--- how many messages v is known to have taken, at the end of what the pass has seen
-abbrev pub acked_at : Key → DeskPass → ℕ → ℕ
-acked_at k p v = (link_at k.0 k.1 p.seen v).sending.acked
-
--- so many messages v was known to have taken at some time from p to q
-abbrev pub IsKnown : Key → DeskPass → DeskPass → ℕ → ℕ → Type 0
-IsKnown k p q v acked = (acked_at k p v ≤ acked) × (acked ≤ acked_at k q v)
-
--- so many each neighbour was known to have taken at some time from p to q
-abbrev pub AreKnown : Key → DeskPass → DeskPass → (ℕ → ℕ) → Type 0
-AreKnown k p q acked = (v : ℕ) → IsKnown k p q v (acked v)
-
 -- What is remembered of each message, after these were sent now: of those that wait still. Of one that waits at the end alone, and wasn't sent, nothing is said.
-pub record Remembers (k : Key) (last then : Times) (acked : ℕ → ℕ) (now : ℕ) (p q : DeskPass) (made : List Made) : Type 0 where
-  pub sent : (v n : ℕ) → WaitsFor (office_with k q.seen) v n → Sent v n made → then v n ≡ Some (sent_now (last v n) (acked v) now)
+pub record Remembers (how : Backoff) (k : Key) (last then : Times) (now : ℕ) (p q : DeskPass) (made : List Made) : Type 0 where
+  pub sent : (v n : ℕ) → WaitsFor (office_with k q.seen) v n → Sent v n made → then v n ≡ Some (sent_now how (last v n) now)
   pub others : (v n : ℕ) → WaitsFor (office_with k p.seen) v n → WaitsFor (office_with k q.seen) v n → (Sent v n made → ⊥) → then v n ≡ last v n
 
 -- frames were made, and went out
@@ -108,8 +97,8 @@ pub record Told (tells : Bool) (tag : ℕ) (k : Key) (p : DeskPass) (a : Account
   pub wire : tells ≡ true → b ≡ record a { accepted = a.accepted ++ map datagram made }
 
 -- each message to v that waited at p, waits still at q and was due is among them
-abbrev pub SentTo : Key → Times → (ℕ → ℕ) → ℕ → DeskPass → DeskPass → List Made → ℕ → Type 0
-SentTo k last acked now p q made v = (n : ℕ) → WaitsFor (office_with k p.seen) v n → WaitsFor (office_with k q.seen) v n → IsDue (last v n) (acked v) now → Sent v n made
+abbrev pub SentTo : Backoff → Key → Times → ℕ → DeskPass → DeskPass → List Made → ℕ → Type 0
+SentTo how k last now p q made v = (n : ℕ) → WaitsFor (office_with k p.seen) v n → WaitsFor (office_with k q.seen) v n → IsDue how (last v n) now → Sent v n made
 
 -- a message to v is among them
 abbrev pub GotMessage : ℕ → List Made → Type 0
@@ -140,24 +129,20 @@ pub record BrokeTelling (tells : Bool) (tag : ℕ) (k : Key) (p : DeskPass) (a :
 
 -- ---- a turn
 
--- Datagrams, 32 or fewer and then none, each that was taken followed by the rules that come next; rules, at most 64, and fewer only where none is next; messages, all that are due and no other, by how many each neighbour was known to have taken when the turn came to it; and a count to each who brought a message and got none.
+-- Datagrams, 32 or fewer and then none; then rules, at most 64, each the one that is next, and fewer only where none is next; then messages, each that was never sent or was last sent 50 ago or longer, and no other; and a count to each who brought a message and got none.
 pub record Turned (tells : Bool) (tag : ℕ) (k : Key) (last : Times) (now : ℕ) (p : DeskPass) (a : Account) (t : Turn) (b : Account) (q : DeskPass) (then : Times) : Type 0 where
   pub mid : DeskPass
   pub ruled : DeskPass
   pub received : Account
   pub heard : HeardAll tells tag k p a t.taken t.refused received mid
-  pub finally : ℕ
-  pub rules : Does (λ s s'. Advances tag 64 (Ok finally) s s') k mid ruled
-  pub all_rules : t.rules ≡ rules_after heard.heard + finally
+  pub rules : Does (λ s s'. Advances tag 64 (Ok t.rules) s s') k mid ruled
   pub made : List Made
   pub told : Told tells tag k ruled received b q made
   pub sent : length made ≡ t.sent
-  pub acked : ℕ → ℕ
-  pub known : AreKnown k ruled q acked
-  pub all_due : (v : ℕ) → SentTo k last acked now ruled q made v
-  pub due_once : DueOnce last acked now made
+  pub all_due : (v : ℕ) → SentTo Constant k last now ruled q made v
+  pub due_once : DueOnce Constant last now made
   pub counts : CountsGo heard.heard made
-  pub remembers : Remembers k last then acked now ruled q made
+  pub remembers : Remembers Constant k last then now ruled q made
 
 -- where a turn broke off: while it heard, at the rules, or while it told
 pub data Stage (tells : Bool) (tag : ℕ) (k : Key) (last : Times) (now : ℕ) (p : DeskPass) (a : Account) (f : PumpFault) (b : Account) (q : DeskPass) (then : Times) : Type 0 where
@@ -165,4 +150,4 @@ pub data Stage (tells : Bool) (tag : ℕ) (k : Key) (last : Times) (now : ℕ) (
   AtRules : (mid : DeskPass) (received : Account) (took refused : ℕ) (heard : HeardAll tells tag k p a took refused received mid) (why : Stopped) (rules : Does (λ s s'. Advances tag 64 (Err why) s s') k mid q)
       (fault : IsFaultOf why.refusal f) (wire : b ≡ received) (times : (v n : ℕ) → then v n ≡ last v n) → Stage tells tag k last now p a f b q then
   WhileTelling : (mid ruled : DeskPass) (received : Account) (took refused done : ℕ) (heard : HeardAll tells tag k p a took refused received mid) (rules : Does (λ s s'. Advances tag 64 (Ok done) s s') k mid ruled)
-      (made : List Made) (told : BrokeTelling tells tag k ruled received f b q made) (acked : ℕ → ℕ) (known : AreKnown k ruled q acked) (due_once : DueOnce last acked now made) (counts : CountsBroke heard.heard made) (remembers : Remembers k last then acked now ruled q made) → Stage tells tag k last now p a f b q then
+      (made : List Made) (told : BrokeTelling tells tag k ruled received f b q made) (due_once : DueOnce Constant last now made) (counts : CountsBroke heard.heard made) (remembers : Remembers Constant k last then now ruled q made) → Stage tells tag k last now p a f b q then

@@ -37,30 +37,33 @@
 //!
 //! - [`Wire`]: where datagrams come from and go to. [`UdpWire`] is a UDP socket, which tells of each neighbour what is known of the
 //!   way there ([`Contact`]); `socket_pump::memory` has one in memory, for tests.
-//! - [`Pump::turn`]: datagrams that came, at most 32, and after each that was taken the rules that come next, at most 64; the rules
-//!   that come next then, as many; then each message that waits and is due,
-//!   where one that isn't answered is due ever more seldom, from each 50 milliseconds to each 5 seconds (`specs/Last.antt`);
-//!   then a count to each neighbour that sent something and got nothing. What a turn leaves is `Turned`, and `Stage` at a
-//!   fault, in `specs/Turns.antt`.
+//! - [`Pump::turn`]: datagrams that came, at most 32; then the rules that come next, at most 64; then each message that waits and
+//!   was never sent or was last sent at least 50 milliseconds ago; then a count to each neighbour that sent something and got
+//!   nothing. What a turn leaves is `Turned`, and `Stage` at a fault, in `specs/Turns.antt`.
+//! - [`Pump::adaptive_turn`]: the same, but that after each datagram that was taken the rules that come next are done, at most 64,
+//!   and that a message is due ever more seldom while its neighbour isn't heard, from each 50 milliseconds to each 5 seconds,
+//!   and each 50 milliseconds again with the first frame of it that the office takes (`specs/Last.antt`). What it leaves is
+//!   `AdaptiveTurned`, and `AdaptiveStage` at a fault, in `specs/AdaptiveTurns.antt`.
 //!
 //! Each part of a turn is a call at the desk, so clients and pumps of one office need nothing but passes of their own:
 //!
 //! ```text
-//! wire                  desk                                  journal of the pump's pass
-//! receive  32 or none   took      the frame, or refused       took
-//!                       advance   at most 64, where it was    do    do   ..
-//!                                 taken
-//!                       advance   at most 64                  do    do   ..
-//! send     its bytes    send_number, where it is due          send  send ..
-//! send     its bytes    send      a count alone               send  ..
+//! wire                  desk                                   journal of the pump's pass
+//! receive  32 or none   took      the frame, or refused        took
+//!                       advance   in an adaptive turn, where   do    do   ..
+//!                                 it was taken: at most 64
+//!                       advance   at most 64                   do    do   ..
+//! send     its bytes    send_number, where it is due           send  send ..
+//! send     its bytes    send      a count alone                send  ..
 //! ```
 //!
 //! Between any two of them other passes may add entries, so the chain of a turn says 'entries of others, then this' at
 //! each, and nothing of when. The proof goes the same way: one datagram, all datagrams; one message, all to one
 //! neighbour, all; and chains that are joined.
 //!
-//! Each frame is an entry. A message to a neighbour that is away is sent ever more seldom, so it fills a journal in 57
-//! days; each 50 milliseconds it would take 14 hours.
+//! Each frame is an entry. In adaptive turns a message to a neighbour that is away is sent ever more seldom, so it fills a journal
+//! in 57 days; each 50 milliseconds it takes 14 hours. A neighbour is heard by a frame that the office takes, and by none that it
+//! refuses: so two offices of different runs that send to each other do so ever more seldom.
 //!
 //! Not said: that a datagram arrives; anything of a message that another pass takes an acknowledgement for meanwhile,
 //! or that waits at the end of a turn alone and wasn't sent; that each count went out before a fault; that the wire
@@ -70,6 +73,8 @@
 #![tactic(auto)]
 
 mod contact;
+mod handled;
+mod heard;
 mod last;
 pub mod memory;
 mod pump;
@@ -79,7 +84,7 @@ mod udp;
 mod wire;
 
 pub use crate::contact::{Contact, Contacts};
-pub use crate::last::{LONGEST_RESEND, Lasts, SHORTEST_RESEND};
+pub use crate::last::{Backoff, LONGEST_RESEND, Lasts, SHORTEST_RESEND};
 pub use crate::memory::FaultWire;
 pub use crate::pump::{MOST_DATAGRAMS, MOST_RULES, Pump, PumpFault, Turn};
 pub use crate::udp::UdpWire;

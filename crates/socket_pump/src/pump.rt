@@ -1,6 +1,6 @@
 //! The pump: datagrams in, rules, messages out.
 
-ghost use Rattle.std.specs.Prelude.{◌≡◌, ◌<◌, ◌≤◌, ◌%◌, ◌⊎◌, ◌∷◌, [], ℕ, List, true, false, None, IfOk, IfSome, MatchResult, length};
+ghost use Rattle.std.specs.Prelude.{◌≡◌, ◌<◌, ◌≤◌, ◌%◌, ◌⊎◌, ◌∷◌, [], ℕ, List, true, false, None, IfOk, MatchResult, length};
 ghost use Rattle.office_map.specs.PlanValue.{are_neighbours};
 ghost use Rattle.own_lock.specs.Passes.{IsOf};
 ghost use Rattle.frame_codec.specs.Spelling.{spelling};
@@ -9,19 +9,22 @@ ghost use Rattle.locked_office.specs.Calls.{Stays};
 ghost use Rattle.socket_pump.specs.Wires.{Accepts};
 ghost use Rattle.socket_pump.specs.Last.{last_of};
 ghost use Rattle.socket_pump.specs.Chains.{Made};
-ghost use Rattle.socket_pump.specs.Turns.{Turned, Stage, BrokeHearing, IsFaultOf, Told, BrokeTelling};
+ghost use Rattle.socket_pump.specs.Turns.{Turned, Stage, IsFaultOf, Told, BrokeTelling};
+ghost use Rattle.socket_pump.specs.AdaptiveTurns.{AdaptiveTurned, AdaptiveStage};
 ghost use Rattle.socket_pump.specs.refinement.Counts.{Acknowledges, AcknowledgesOnly};
-ghost use Rattle.socket_pump.specs.refinement.Stages.{HeardOne, HeardFrom, BrokeOne, Judged, SpokeOf, SpokeTo, SpokeToAll, BrokenOf, BrokenTo, BrokenToAll, AreCounts, AreFor};
+ghost use Rattle.socket_pump.specs.refinement.Stages.{HandledFrom, BrokeHandlingAll, SpokeOf, SpokeTo, SpokeToAll, BrokenOf, BrokenTo, BrokenToAll, AreCounts, AreFor};
 
-use crate::last::Lasts;
+use crate::handled::handle_all;
+use crate::heard::hear;
+use crate::last::{Backoff, Lasts};
 use crate::senders::Senders;
 use crate::wire::{Wire, WireFailed};
-use frame_codec::{Frame, MAX_LENGTH, decode, encode};
+use frame_codec::{Frame, MAX_LENGTH, encode};
 use locked_office::{Desk, framed};
 use office_map::{OfficeId, Plan};
 use own_lock::Pass;
-use site_core::laws::{full_at_the_limit, links_only_grow, what_is_read_is_received};
-use site_core::{Office, Refusal, Reply};
+use site_core::laws::links_only_grow;
+use site_core::{Office, Refusal};
 use std::alloc::{AllocError, Global};
 use std::marker::Model;
 use std::sync::Wait;
@@ -95,14 +98,9 @@ impl Pump {
         })
     }
 
-    /// Takes in what came on the wire, at most 32 datagrams, and does after each that was taken the rules that come next, at most 64;
-    /// does the rules that come next then, at most 64; sends each message that waits and is due; and sends a count to each neighbour
-    /// whose message came in this turn and who got none. `now` is in milliseconds, from any beginning, and of the same clock in each
-    /// turn.
-    ///
-    /// A message is due where it is new, and again when its pause is over: 50 milliseconds after it was first sent, and after
-    /// each further time twice as long as before, at most 5 seconds. Once its neighbour is known to have taken a message more,
-    /// the pause is 50 milliseconds again.
+    /// Takes in what came on the wire, at most 32 datagrams; then does the rules that come next, at most 64; then sends each message
+    /// that waits and was never sent or was last sent at least 50 milliseconds ago; and then a count to each neighbour whose
+    /// message came in this turn and who got none. `now` is in milliseconds, from any beginning, and of the same clock in each turn.
     ///
     /// # Errors
     /// `WireFailed` where a call of the wire failed, `JournalFull` and `Memory` where the office had no room for an entry. What
@@ -127,7 +125,7 @@ impl Pump {
         links_only_grow();
         let _ = self.plan.offices();
         let mut senders = Senders::none();
-        let (taken, refused, followed) = match hear(rt, wire, desk, pass, &mut senders) {
+        let (taken, refused) = match hear(rt, wire, desk, pass, &mut senders) {
             Ok(counts) => counts,
             Err(fault) => return Err(fault),
         };
@@ -135,7 +133,7 @@ impl Pump {
             Ok(rules) => rules,
             Err(stopped) => return Err(fault_of(stopped.refusal)),
         };
-        let messages = match self.tell(rt, wire, desk, pass, &mut senders, now) {
+        let messages = match self.tell(rt, wire, desk, pass, &mut senders, Backoff::Constant, now) {
             Ok(sent) => sent,
             Err(fault) => return Err(fault),
         };
@@ -146,9 +144,95 @@ impl Pump {
         Ok(Turn {
             taken,
             refused,
-            rules: followed + rules,
+            rules,
             sent: messages + counts,
         })
+    }
+
+    /// A turn that answers what it hears at once, and spares a neighbour that it doesn't hear. It takes in what came on the wire, at
+    /// most 32 datagrams, and does after each that was taken the rules that come next, at most 64; does the rules that come next
+    /// then, at most 64; sends each message that waits and is due; and sends a count to each neighbour whose message came in this
+    /// turn and who got none. `now` is as in [`Pump::turn`]; a pump is turned by one of the two, since the other marks nobody as
+    /// heard.
+    ///
+    /// A message is due where it is new, and again when its pause is over: 50 milliseconds after it was first sent, and after
+    /// each further time twice as long as before, at most 5 seconds, while the office takes no frame at all of its neighbour. With
+    /// the first that it takes the pause is 50 milliseconds again.
+    ///
+    /// # Errors
+    /// As [`Pump::turn`].
+    pub fn adaptive_turn<R: Wait, W: Wire>(
+        &mut self,
+        rt: &R,
+        wire: &mut W,
+        desk: &Desk,
+        pass: &mut Pass<Office>,
+        now: u64,
+    ) -> Result<Turn, PumpFault>
+        requires key { desk.now.key ≡ self.old.key }
+        requires of { IsOf desk.now pass.old }
+        requires idle { pass.old.holds ≡ false }
+        ensures key { self.new.key ≡ self.old.key }
+        ensures stays { Stays desk.now pass.old pass.new }
+        ensures turned { MatchResult result
+            (λ t. AdaptiveTurned W.tells pass.old.tag desk.now.key (last_of self.old.lasts) now pass.old (W.account wire.old) t (W.account wire.new) pass.new (last_of self.new.lasts))
+            (λ f. AdaptiveStage W.tells pass.old.tag desk.now.key (last_of self.old.lasts) now pass.old (W.account wire.old) f (W.account wire.new) pass.new (last_of self.new.lasts)) }
+    {
+        links_only_grow();
+        let _ = self.plan.offices();
+        let mut senders = Senders::none();
+        let (taken, refused, followed) = match self.handle(rt, wire, desk, pass, &mut senders) {
+            Ok(counts) => counts,
+            Err(fault) => return Err(fault),
+        };
+        let finally = match desk.advance(rt, pass, MOST_RULES) {
+            Ok(rules) => rules,
+            Err(stopped) => return Err(fault_of(stopped.refusal)),
+        };
+        let messages = match self.tell(
+            rt,
+            wire,
+            desk,
+            pass,
+            &mut senders,
+            Backoff::Exponential,
+            now,
+        ) {
+            Ok(sent) => sent,
+            Err(fault) => return Err(fault),
+        };
+        let counts = match self.acknowledge(rt, wire, desk, pass, &senders) {
+            Ok(sent) => sent,
+            Err(fault) => return Err(fault),
+        };
+        Ok(Turn {
+            taken,
+            refused,
+            rules: followed + finally,
+            sent: messages + counts,
+        })
+    }
+
+    // Datagrams, at most so many, each that was taken followed by the rules that come next: how many were taken, and refused, and
+    // how many rules were done.
+    fn handle<R: Wait, W: Wire>(
+        &mut self,
+        rt: &R,
+        wire: &mut W,
+        desk: &Desk,
+        pass: &mut Pass<Office>,
+        senders: &mut Senders,
+    ) -> Result<(u32, u32, u32), PumpFault>
+        requires of { IsOf desk.now pass.old }
+        requires idle { pass.old.holds ≡ false }
+        ensures key { self.new.key ≡ self.old.key }
+        ensures stays { Stays desk.now pass.old pass.new }
+        ensures few { IfOk result (λ r. r.2 ≤ 2048) }
+        ensures handled { MatchResult result
+            (λ r. HandledFrom W.tells pass.old.tag desk.now.key (last_of self.old.lasts) pass.old (W.account wire.old) senders.old r.0 r.1 r.2 (W.account wire.new) pass.new senders.new (last_of self.new.lasts))
+            (λ f. BrokeHandlingAll W.tells pass.old.tag desk.now.key (last_of self.old.lasts) pass.old (W.account wire.old) f (W.account wire.new) pass.new (last_of self.new.lasts)) }
+    {
+        handle_all(rt, &mut self.last, wire, desk, pass, senders)
     }
 
     // All messages that are due, to all neighbours. Those who got one need no count. Where none waits, one look tells it.
@@ -159,6 +243,7 @@ impl Pump {
         desk: &Desk,
         pass: &mut Pass<Office>,
         senders: &mut Senders,
+        backoff: Backoff,
         now: u64,
     ) -> Result<u32, PumpFault>
         requires key { desk.now.key ≡ self.old.key }
@@ -168,8 +253,8 @@ impl Pump {
         ensures stays { Stays desk.now pass.old pass.new }
         ensures few { IfOk result (λ sent. sent ≤ 288) }
         ensures told { MatchResult result
-            (λ sent. SpokeToAll W.tells pass.old.tag desk.now.key (last_of self.old.lasts) (last_of self.new.lasts) now pass.old (W.account wire.old) senders.old sent (W.account wire.new) pass.new senders.new)
-            (λ f. BrokenToAll W.tells pass.old.tag desk.now.key (last_of self.old.lasts) (last_of self.new.lasts) now pass.old (W.account wire.old) f (W.account wire.new) pass.new) }
+            (λ sent. SpokeToAll backoff W.tells pass.old.tag desk.now.key (last_of self.old.lasts) (last_of self.new.lasts) now pass.old (W.account wire.old) senders.old sent (W.account wire.new) pass.new senders.new)
+            (λ f. BrokenToAll backoff W.tells pass.old.tag desk.now.key (last_of self.old.lasts) (last_of self.new.lasts) now pass.old (W.account wire.old) f (W.account wire.new) pass.new) }
     {
         links_only_grow();
         if !desk.some_waits(rt, pass) {
@@ -181,7 +266,7 @@ impl Pump {
             if !self.plan.are_neighbours(self.me, v) {
                 continue;
             }
-            let count = match tell_one(rt, &mut self.last, wire, desk, pass, v, now) {
+            let count = match tell_one(rt, &mut self.last, wire, desk, pass, v, backoff, now) {
                 Ok(count) => count,
                 Err(fault) => return Err(fault),
             };
@@ -229,9 +314,6 @@ impl Pump {
 }
 
 // All messages to one neighbour that are due.
-//
-// What a turn goes by is looked up once for each neighbour, so its contract has one number for what is due, what went
-// and what is remembered.
 fn tell_one<R: Wait, W: Wire>(
     rt: &R,
     last: &mut Lasts,
@@ -239,6 +321,7 @@ fn tell_one<R: Wait, W: Wire>(
     desk: &Desk,
     pass: &mut Pass<Office>,
     v: OfficeId,
+    backoff: Backoff,
     now: u64,
 ) -> Result<u32, PumpFault>
     requires of { IsOf desk.now pass.old }
@@ -248,17 +331,16 @@ fn tell_one<R: Wait, W: Wire>(
     ensures few { IfOk result (λ sent. sent ≤ 18) }
     ensures others { (u i : ℕ) → (u ≡ v → ⊥) → last_of last.new u i ≡ last_of last.old u i }
     ensures told { MatchResult result
-        (λ sent. SpokeTo W.tells pass.old.tag desk.now.key (last_of last.old) (last_of last.new) now pass.old (W.account wire.old) sent (W.account wire.new) pass.new v)
-        (λ f. BrokenTo W.tells pass.old.tag desk.now.key (last_of last.old) (last_of last.new) now pass.old (W.account wire.old) f (W.account wire.new) pass.new v) }
+        (λ sent. SpokeTo backoff W.tells pass.old.tag desk.now.key (last_of last.old) (last_of last.new) now pass.old (W.account wire.old) sent (W.account wire.new) pass.new v)
+        (λ f. BrokenTo backoff W.tells pass.old.tag desk.now.key (last_of last.old) (last_of last.new) now pass.old (W.account wire.old) f (W.account wire.new) pass.new v) }
 {
     links_only_grow();
     let Ok((first, count)) = desk.waiting(rt, pass, v) else {
         return Ok(0);
     };
-    let acked = first - 1;
     let mut sent = 0;
     for number in first..first + count as u64 {
-        let more = match tell_message(rt, last, wire, desk, pass, v, number, acked, now) {
+        let more = match tell_message(rt, last, wire, desk, pass, v, number, backoff, now) {
             Ok(more) => more,
             Err(fault) => return Err(fault),
         };
@@ -267,7 +349,7 @@ fn tell_one<R: Wait, W: Wire>(
     Ok(sent)
 }
 
-// One message, if it is due, where its neighbour is known to have taken so many, and still waits: how many frames were made.
+// One message, if it is due and still waits: how many frames were made.
 //
 // By number, since another pass may take an acknowledgement between two of them; one that doesn't wait any more is
 // passed over.
@@ -279,7 +361,7 @@ fn tell_message<R: Wait, W: Wire>(
     pass: &mut Pass<Office>,
     v: OfficeId,
     number: u64,
-    acked: u64,
+    backoff: Backoff,
     now: u64,
 ) -> Result<u32, PumpFault>
     requires of { IsOf desk.now pass.old }
@@ -289,11 +371,11 @@ fn tell_message<R: Wait, W: Wire>(
     ensures few { IfOk result (λ sent. sent ≤ 1) }
     ensures others { (u i : ℕ) → ((u ≡ v) × (i % 18 ≡ number % 18) → ⊥) → last_of last.new u i ≡ last_of last.old u i }
     ensures told { MatchResult result
-        (λ sent. SpokeOf W.tells pass.old.tag desk.now.key (last_of last.old) (last_of last.new) acked now pass.old (W.account wire.old) sent (W.account wire.new) pass.new v number)
-        (λ f. BrokenOf W.tells pass.old.tag desk.now.key (last_of last.old) (last_of last.new) acked now pass.old (W.account wire.old) f (W.account wire.new) pass.new v number) }
+        (λ sent. SpokeOf backoff W.tells pass.old.tag desk.now.key (last_of last.old) (last_of last.new) now pass.old (W.account wire.old) sent (W.account wire.new) pass.new v number)
+        (λ f. BrokenOf backoff W.tells pass.old.tag desk.now.key (last_of last.old) (last_of last.new) now pass.old (W.account wire.old) f (W.account wire.new) pass.new v number) }
 {
     links_only_grow();
-    if !last.is_due(v, number, acked, now) {
+    if !last.is_due(v, number, backoff, now) {
         return Ok(0);
     }
     let frame = match desk.send_number(rt, pass, v, number) {
@@ -301,7 +383,7 @@ fn tell_message<R: Wait, W: Wire>(
         Ok(None) => return Ok(0),
         Err(refusal) => return Err(fault_of(refusal)),
     };
-    last.put(v, number, acked, now);
+    last.put(v, number, backoff, now);
     match put_out(wire, v, &frame) {
         Ok(()) => Ok(1),
         Err(WireFailed) => Err(PumpFault::WireFailed),
@@ -345,103 +427,12 @@ fn put_out<W: Wire>(wire: &mut W, v: OfficeId, frame: &Frame) -> Result<(), Wire
     wire.send(v, &bytes[..length])
 }
 
-fn fault_of(refusal: Refusal) -> PumpFault
+pub(crate) fn fault_of(refusal: Refusal) -> PumpFault
     requires { (refusal ≡ refusals.JournalFull) ⊎ (refusal ≡ refusals.Memory) }
     ensures { IsFaultOf refusal result }
 {
     match refusal {
         Refusal::JournalFull => PumpFault::JournalFull,
         _ => PumpFault::Memory,
-    }
-}
-
-// Datagrams, at most so many, each that was taken followed by the rules that come next: how many were taken, and refused, and how many
-// rules were done.
-//
-// What a datagram brought is used before the next one is looked at, so that a bottle serves the sessions that wait for it
-// before it is asked for again.
-fn hear<R: Wait, W: Wire>(
-    rt: &R,
-    wire: &mut W,
-    desk: &Desk,
-    pass: &mut Pass<Office>,
-    senders: &mut Senders,
-) -> Result<(u32, u32, u32), PumpFault>
-    requires of { IsOf desk.now pass.old }
-    requires idle { pass.old.holds ≡ false }
-    ensures stays { Stays desk.now pass.old pass.new }
-    ensures few { IfOk result (λ r. r.2 ≤ 2048) }
-    ensures heard { MatchResult result
-        (λ r. HeardFrom W.tells pass.old.tag desk.now.key pass.old (W.account wire.old) senders.old r.0 r.1 r.2 (W.account wire.new) pass.new senders.new)
-        (λ f. BrokeHearing W.tells pass.old.tag desk.now.key pass.old (W.account wire.old) f (W.account wire.new) pass.new) }
-{
-    let mut taken = 0;
-    let mut refused = 0;
-    let mut followed = 0;
-    while taken + refused < MOST_DATAGRAMS {
-        match hear_one(rt, wire, desk, pass, senders) {
-            Ok(None) => return Ok((taken, refused, followed)),
-            Ok(Some((true, rules))) => {
-                taken += 1;
-                followed += rules;
-            }
-            Ok(Some((false, rules))) => {
-                refused += 1;
-                followed += rules;
-            }
-            Err(fault) => return Err(fault),
-        }
-    }
-    Ok((taken, refused, followed))
-}
-
-// One datagram, whether the office took it, and how many rules followed it.
-fn hear_one<R: Wait, W: Wire>(
-    rt: &R,
-    wire: &mut W,
-    desk: &Desk,
-    pass: &mut Pass<Office>,
-    senders: &mut Senders,
-) -> Result<Option<(bool, u32)>, PumpFault>
-    requires of { IsOf desk.now pass.old }
-    requires idle { pass.old.holds ≡ false }
-    ensures stays { Stays desk.now pass.old pass.new }
-    ensures few { IfOk result (λ o. IfSome o (λ did. did.1 ≤ 64)) }
-    ensures heard { MatchResult result
-        (λ o. HeardOne W.tells pass.old.tag desk.now.key pass.old (W.account wire.old) senders.old o (W.account wire.new) pass.new senders.new)
-        (λ f. BrokeOne W.tells pass.old.tag desk.now.key pass.old (W.account wire.old) f (W.account wire.new) pass.new) }
-{
-    let mut buffer = [0; 128];
-    let count = match wire.receive(&mut buffer) {
-        Ok(Some(count)) => count,
-        Ok(None) => return Ok(None),
-        Err(WireFailed) => return Err(PumpFault::WireFailed),
-    };
-    full_at_the_limit();
-    what_is_read_is_received();
-    let bytes = &buffer[..count];
-    let read = decode(bytes);
-    let answer = desk.take_read(rt, pass, &read);
-    senders.note(&read, &answer);
-    match judged(answer) {
-        Ok(true) => {}
-        Ok(false) => return Ok(Some((false, 0))),
-        Err(fault) => return Err(fault),
-    }
-    match desk.advance(rt, pass, MOST_RULES) {
-        Ok(rules) => Ok(Some((true, rules))),
-        Err(stopped) => Err(fault_of(stopped.refusal)),
-    }
-}
-
-// Whether the office took a datagram.
-fn judged(answer: Result<Reply, Refusal>) -> Result<bool, PumpFault>
-    ensures { Judged result answer }
-{
-    match answer {
-        Ok(_) => Ok(true),
-        Err(Refusal::Memory) => Err(PumpFault::Memory),
-        Err(Refusal::JournalFull) => Err(PumpFault::JournalFull),
-        Err(_) => Ok(false),
     }
 }

@@ -15,6 +15,7 @@ use Rattle.session_reports.specs.form.Forms.{outcome_as}
 use Rattle.session_reports.specs.declared.form.forms.Form.{Form}
 use Rattle.socket_pump.specs.Wires.{Account}
 use Rattle.office_stations.specs.declared.pace.TimedTurn.{TimedTurn}
+use Rattle.office_stations.specs.declared.turning.Turning.TheVariants.{Adaptive}
 use Rattle.office_stations.specs.Rounds.{Standing, Turns}
 use Rattle.office_stations.specs.Sessions.{finished_of}
 use Rattle.office_stations.specs.refinement.RoundLaws.{Made}
@@ -62,7 +63,7 @@ looks_both k p q r first second =
     looks_once k p r (a ++ b, then ∙ ap (λ (x : DeskPass). record x { holds = false; seen = x.seen ++ b }) is ∙ ap (λ l. record p { holds = false; seen = l }) (append_assoc p.seen a b), last)
 
 -- a turn, after which the office is looked at once more
-pub turned_and_looked : (tells : Bool) (tag : ℕ) (k : Key) (t : TimedTurn) (a b : Standing) (q : DeskPass) → Turns tells tag k t a b → Looks k b.pass q → Turns tells tag k t a (record b { pass = q })
+pub turned_and_looked : (tells : Bool) (tag : ℕ) (k : Key) (t : TimedTurn) (a b : Standing) (q : DeskPass) → Turns Adaptive tells tag k t a b → Looks k b.pass q → Turns Adaptive tells tag k t a (record b { pass = q })
 turned_and_looked tells tag k t a b q h looks = record { after = h.after; turned = h.turned; looked = inr (more h.looked) }
   where
     more : (h.after ≡ b.pass) ⊎ Looks k h.after b.pass → Looks k h.after q
@@ -72,7 +73,7 @@ turned_and_looked tells tag k t a b q h looks = record { after = h.after; turned
 -- ---- what was done and told
 
 -- after these rounds one was cut short
-pub cut_short : (Is : Account → Type 0) (tells : Bool) (k : Key) (turns n : ℕ) (a m b : Standing) (ss left : List ProgramValue) (f : StoredFault) → Made tells 0 k turns n a m ss left → Is m.wire → CutShort tells k m b left f → Goes Is (Some f) tells k turns a b ss
+pub cut_short : (Is : Account → Type 0) (tells : Bool) (k : Key) (turns n : ℕ) (a m b : Standing) (ss left : List ProgramValue) (f : StoredFault) → Made Adaptive tells 0 k turns n a m ss left → Is m.wire → CutShort tells k m b left f → Goes Is (Some f) tells k turns a b ss
 cut_short Is tells k turns n a m b ss left f h is cut = (h.made, m, h.begun, left, h.rounds, is, f, cut, inl refl)
 
 pub grown_stood : (es fs : List Entry) (n m : ℕ) → n ≡ length es → IsPrefix es fs → (m ≡ n) ⊎ (m ≡ length fs) → n ≤ m

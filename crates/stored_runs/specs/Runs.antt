@@ -19,6 +19,7 @@ use Rattle.socket_pump.specs.Turns.{Times}
 use Rattle.office_stations.specs.declared.fault.RunFault.{RunFault}
 use Rattle.office_stations.specs.declared.fault.RunFault.TheVariants as run
 use Rattle.office_stations.specs.declared.pace.TimedTurn.{TimedTurn}
+use Rattle.office_stations.specs.declared.turning.Turning.TheVariants.{Adaptive}
 use Rattle.office_stations.specs.Rounds.{Standing, of_office, counted, IsLastBegun, Fills, StopsFilling, Round, Rounds}
 use Rattle.office_stations.specs.Sessions.{count_of, finished_of}
 use Rattle.stored_runs.specs.declared.fault.StoredFault.{StoredFault}
@@ -108,7 +109,7 @@ pub data CutShort (tells : Bool) (k : Key) (a b : Standing) (sessions : List Pro
   BeforeAll : (same : b.pass ≡ a.pass) (why : IsOfStanding fault) → CutShort tells k a b sessions fault
   AtSessions : (why : RunFault) (stops : StopsFilling 0 k a.pass b.pass sessions why) (told : fault ≡ Run why) → CutShort tells k a b sessions fault
   AtTurn : (filled : DeskPass) (left : List ProgramValue) (fills : Fills 0 k a.pass filled sessions left) (broke : Broke k filled a.last fault b.pass b.last) → CutShort tells k a b sessions fault
-  AfterTurn : (t : TimedTurn) (m : Standing) (left : List ProgramValue) (round : Round tells 0 k t a m sessions left) (looked : Looks k m.pass b.pass) (why : IsOfStanding fault) → CutShort tells k a b sessions fault
+  AfterTurn : (t : TimedTurn) (m : Standing) (left : List ProgramValue) (round : Round Adaptive tells 0 k t a m sessions left) (looked : Looks k m.pass b.pass) (why : IsOfStanding fault) → CutShort tells k a b sessions fault
 
 -- the fault that cut it short is told, or that writing failed at the end
 abbrev pub IsToldAs : StoredFault → StoredFault → Type 0
@@ -120,8 +121,8 @@ IsToldBy {S = S} account a = (s : S) × (account s ≡ a)
 
 -- rounds until so many count; where there is a fault, fewer, and then what it cut short; and what the socket tells after them is as Is says
 abbrev pub Goes : (Account → Type 0) → Option StoredFault → Bool → Key → ℕ → Standing → Standing → List ProgramValue → Type 0
-Goes Is None tells k turns a b sessions = (made : List TimedTurn) × (counted turns made ≡ turns) × IsLastBegun turns made × (left : List ProgramValue) × Rounds tells 0 k made a b sessions left × Is b.wire
-Goes Is (Some fault) tells k turns a b sessions = (made : List TimedTurn) × (at : Standing) × IsLastBegun turns made × (left : List ProgramValue) × Rounds tells 0 k made a at sessions left × Is at.wire × (first : StoredFault) × CutShort tells k at b left first × IsToldAs first fault
+Goes Is None tells k turns a b sessions = (made : List TimedTurn) × (counted turns made ≡ turns) × IsLastBegun turns made × (left : List ProgramValue) × Rounds Adaptive tells 0 k made a b sessions left × Is b.wire
+Goes Is (Some fault) tells k turns a b sessions = (made : List TimedTurn) × (at : Standing) × IsLastBegun turns made × (left : List ProgramValue) × Rounds Adaptive tells 0 k made a at sessions left × Is at.wire × (first : StoredFault) × CutShort tells k at b left first × IsToldAs first fault
 
 -- nothing is said for people where all sessions are told as finished and no fault ended the run
 abbrev pub IsQuiet : Ended → Type 0

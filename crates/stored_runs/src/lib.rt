@@ -8,7 +8,7 @@
 //! - What `run_stored` is made of is public, for other runs with a store: [`found_in`], [`beginning`], [`turning`], [`telling`] and its
 //!   [`books`].
 //!
-//! - [`durable`]: a turn of which no frame leaves before its entry stands.
+//! - [`durable`]: an adaptive turn, of which no frame leaves before its entry stands.
 //!
 //! What the offices of a network that are lost and go on so have done is one world (`office_restarts`).
 //!

@@ -6,6 +6,7 @@ ghost use Rattle.own_lock.specs.Passes.{IsOf};
 ghost use Rattle.locked_office.specs.Calls.{Stays};
 ghost use Rattle.socket_pump.specs.Last.{last_of};
 ghost use Rattle.stored_runs.specs.durable.Letting.{StoreHas, LetsOut};
+ghost use Rattle.office_stations.specs.declared.turning.Turning.TheVariants.{Adaptive};
 ghost use Rattle.office_stations.specs.Rounds.{Turns};
 ghost use Rattle.office_stations.specs.refinement.Standings.{standing};
 ghost use Rattle.stored_runs.specs.Runs.{Broke, IsFaultOf};
@@ -51,7 +52,7 @@ pub fn turn_once<R: Wait + Clock, S: Socket, T: Store>(
     ensures usable { OnOk result (T.failed store.new ≡ false) }
     ensures fault { IfErr result (λ fault. IsFaultOf (T.failed store.new) (Some fault)) }
     ensures broke { IfErr result (λ fault. Broke desk.now.key pass.old (last_of station.old.pump.lasts) fault pass.new (last_of station.new.pump.lasts)) }
-    ensures turns { IfOk result (λ t. Turns S.tells pass.old.tag desk.now.key t
+    ensures turns { IfOk result (λ t. Turns Adaptive S.tells pass.old.tag desk.now.key t
         (standing pass.old (S.account station.old.socket) (last_of station.old.pump.lasts)) (standing pass.new (S.account station.new.socket) (last_of station.new.pump.lasts))) }
 {
     let at = match station.wait(rt) {

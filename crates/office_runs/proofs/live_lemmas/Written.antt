@@ -18,10 +18,13 @@ use Rattle.locked_office.specs.Calls.{Key, DeskPass, office_with, Does, Looks}
 use Rattle.socket_pump.specs.declared.pump.Turn.{Turn}
 use Rattle.socket_pump.specs.declared.pump.PumpFault.{PumpFault}
 use Rattle.socket_pump.specs.Wires.{Account}
-use Rattle.socket_pump.specs.Chains.{Heard, Made, IsTook, AreRules, AreTooks, sent_entry}
-use Rattle.socket_pump.specs.Turns.{Times, HeardAll, Turned, Stage, WhileHearing, AtRules, WhileTelling}
+use Rattle.socket_pump.specs.Chains.{Made, IsTook, sent_entry}
+use Rattle.socket_pump.specs.Handling.{Handled, AreRules, AreHandled}
+use Rattle.socket_pump.specs.Turns.{Times}
+use Rattle.socket_pump.specs.AdaptiveTurns.{HandledAll, AdaptiveTurned, AdaptiveStage, WhileHandling, AtLastRules, AfterRules}
 use Rattle.office_stations.specs.declared.fault.RunFault.{RunFault}
 use Rattle.office_stations.specs.declared.pace.TimedTurn.{TimedTurn}
+use Rattle.office_stations.specs.declared.turning.Turning.TheVariants.{Adaptive}
 use Rattle.office_stations.specs.Rounds.{Standing, with_pass, Takes, TakesAll, TakesNoMore, Refuses, Fills, StopsFilling, Turns, BreaksOff, Rounds}
 use Rattle.office_runs.specs.Threads.{FillsTimes, Submitted, Worked, IsNoSubmit}
 use Rattle.office_runs.proofs.live_lemmas.Beginnings.{nothing_before, nothing_behind}
@@ -75,13 +78,13 @@ all_done : (tag : ℕ) (es : List Entry) → AreRules tag es → All IsNoSubmit 
 all_done tag [] done = All-nil IsNoSubmit
 all_done tag (x ∷ xs) (r, does, tagged, rest) = All-cons IsNoSubmit x xs (λ p e. cc (does, e)) (all_done tag xs rest)
 
-all_took : (tag : ℕ) (heard : List Heard) (es : List Entry) → AreTooks tag heard es → All IsNoSubmit es
+all_took : (tag : ℕ) (handled : List Handled) (es : List Entry) → AreHandled tag handled es → All IsNoSubmit es
 all_took tag [] es is = subst (All IsNoSubmit) (sym is) (All-nil IsNoSubmit)
 all_took tag (h ∷ hs) es (first, rules, rest, is, one, done, others) =
-    subst (All IsNoSubmit) (sym is) (All-append IsNoSubmit first (rules ++ rest) (took tag h.bytes h.answer first one) (All-append IsNoSubmit rules rest (all_done tag rules done) (all_took tag hs rest others)))
+    subst (All IsNoSubmit) (sym is) (All-append IsNoSubmit first (rules ++ rest) (took tag h.heard.bytes h.heard.answer first one) (All-append IsNoSubmit rules rest (all_done tag rules done) (all_took tag hs rest others)))
 
-heard_all : (tells : Bool) (tag : ℕ) (k : Key) (p : DeskPass) (a : Account) (n m : ℕ) (b : Account) (q : DeskPass) → HeardAll tells tag k p a n m b q → Quiet p → Quiet q
-heard_all tells tag k p a n m b q h = quiet_more p q h.hearing.tooks h.hearing.mine (all_took tag h.heard h.hearing.tooks h.hearing.are)
+handled_all : (tells : Bool) (tag : ℕ) (k : Key) (p : DeskPass) (a : Account) (n m : ℕ) (b : Account) (q : DeskPass) → HandledAll tells tag k p a n m b q → Quiet p → Quiet q
+handled_all tells tag k p a n m b q h = quiet_more p q h.handling.added h.handling.mine (all_took tag h.handled h.handling.added h.handling.are)
 
 all_rules : (tag : ℕ) (s : Site) (es : List Entry) → AreNext tag s es → All IsNoSubmit es
 all_rules tag s [] next = All-nil IsNoSubmit
@@ -96,22 +99,22 @@ all_sent : (tag : ℕ) (made : List Made) → All IsNoSubmit (map (sent_entry ta
 all_sent tag [] = All-nil IsNoSubmit
 all_sent tag (m ∷ ms) = All-cons IsNoSubmit (sent_entry tag m) (map (sent_entry tag) ms) (λ s e. cc e) (all_sent tag ms)
 
-turned : (tells : Bool) (tag : ℕ) (k : Key) (last : Times) (now : ℕ) (p : DeskPass) (a : Account) (t : Turn) (b : Account) (q : DeskPass) (later : Times) → Turned tells tag k last now p a t b q later → Quiet p → Quiet q
+turned : (tells : Bool) (tag : ℕ) (k : Key) (last : Times) (now : ℕ) (p : DeskPass) (a : Account) (t : Turn) (b : Account) (q : DeskPass) (later : Times) → AdaptiveTurned tells tag k last now p a t b q later → Quiet p → Quiet q
 turned tells tag k last now p a t b q later h quiet =
-    quiet_more h.ruled q (map (sent_entry tag) h.made) h.told.mine (all_sent tag h.made) (advanced tag 64 (Ok h.finally) k h.mid h.ruled h.rules (heard_all tells tag k p a t.taken t.refused h.received h.mid h.heard quiet))
+    quiet_more h.ruled q (map (sent_entry tag) h.made) h.told.mine (all_sent tag h.made) (advanced tag 64 (Ok h.finally) k h.mid h.ruled h.rules (handled_all tells tag k p a t.taken t.refused h.received h.mid h.handled quiet))
 
-broken : (tells : Bool) (tag : ℕ) (k : Key) (last : Times) (now : ℕ) (p : DeskPass) (a : Account) (f : PumpFault) (b : Account) (q : DeskPass) (later : Times) → Stage tells tag k last now p a f b q later → Quiet p → Quiet q
-broken tells tag k last now p a f b q later (WhileHearing heard times) quiet = quiet_more p q heard.tooks heard.mine (all_took tag heard.heard heard.tooks heard.are) quiet
-broken tells tag k last now p a f b q later (AtRules mid received n m heard why rules fault wire times) quiet = advanced tag 64 (Err why) k mid q rules (heard_all tells tag k p a n m received mid heard quiet)
-broken tells tag k last now p a f b q later (WhileTelling mid ruled received n m done heard rules made told acked known due_once counts remembers) quiet =
-    quiet_more ruled q (map (sent_entry tag) made) told.mine (all_sent tag made) (advanced tag 64 (Ok done) k mid ruled rules (heard_all tells tag k p a n m received mid heard quiet))
+broken : (tells : Bool) (tag : ℕ) (k : Key) (last : Times) (now : ℕ) (p : DeskPass) (a : Account) (f : PumpFault) (b : Account) (q : DeskPass) (later : Times) → AdaptiveStage tells tag k last now p a f b q later → Quiet p → Quiet q
+broken tells tag k last now p a f b q later (WhileHandling handled marks) quiet = quiet_more p q handled.added handled.mine (all_took tag handled.handled handled.added handled.are) quiet
+broken tells tag k last now p a f b q later (AtLastRules mid received n m handled why rules fault wire marks) quiet = advanced tag 64 (Err why) k mid q rules (handled_all tells tag k p a n m received mid handled quiet)
+broken tells tag k last now p a f b q later (AfterRules mid ruled received n m done handled rules marked marks made told due_once counts remembers) quiet =
+    quiet_more ruled q (map (sent_entry tag) made) told.mine (all_sent tag made) (advanced tag 64 (Ok done) k mid ruled rules (handled_all tells tag k p a n m received mid handled quiet))
 
-turns : (tells : Bool) (tag : ℕ) (k : Key) (t : TimedTurn) (a b : Standing) → Turns tells tag k t a b → Quiet a.pass → Quiet b.pass
+turns : (tells : Bool) (tag : ℕ) (k : Key) (t : TimedTurn) (a b : Standing) → Turns Adaptive tells tag k t a b → Quiet a.pass → Quiet b.pass
 turns tells tag k t a b h quiet =
     let here : Quiet h.after = turned tells tag k a.last t.at a.pass a.wire t.turn b.wire h.after b.last h.turned quiet in
     ⊎_elim (λ same. subst Quiet same here) (λ looks. quiet_still h.after b.pass (looks_adds_nothing k h.after b.pass looks) here) h.looked
 
-breaks_off : (tells : Bool) (tag : ℕ) (k : Key) (a b : Standing) (fault : RunFault) → BreaksOff tells tag k a b fault → Quiet a.pass → Quiet b.pass
+breaks_off : (tells : Bool) (tag : ℕ) (k : Key) (a b : Standing) (fault : RunFault) → BreaksOff Adaptive tells tag k a b fault → Quiet a.pass → Quiet b.pass
 breaks_off tells tag k a b fault h quiet = ⊎_elim
     (λ waited. subst (λ (x : Standing). Quiet x.pass) (sym waited.0) quiet)
     (λ stage. broken tells tag k a.last stage.0 a.pass a.wire stage.1 b.wire b.pass b.last stage.2 quiet)
@@ -126,11 +129,11 @@ none_filled tag k p q left f =
     let refused : f.mid ≡ q = subst (λ (l : List ProgramValue). TakesNoMore tag k l f.mid q) rest f.full in
     (taken ∙ refused, rest)
 
-all_turns : (tells : Bool) (tag : ℕ) (k : Key) (made : List TimedTurn) (a b : Standing) (left : List ProgramValue) → Rounds tells tag k made a b [] left → Quiet a.pass → Quiet b.pass
+all_turns : (tells : Bool) (tag : ℕ) (k : Key) (made : List TimedTurn) (a b : Standing) (left : List ProgramValue) → Rounds Adaptive tells tag k made a b [] left → Quiet a.pass → Quiet b.pass
 all_turns tells tag k [] a b left (same, none) quiet = subst (λ (x : Standing). Quiet x.pass) same quiet
 all_turns tells tag k (t ∷ ts) a b left (m, mid, round, rest) quiet =
     let none = none_filled tag k a.pass round.filled mid round.fills in
-    all_turns tells tag k ts m b left (subst (λ (l : List ProgramValue). Rounds tells tag k ts m b l left) none.1 rest) (turns tells tag k t (with_pass a round.filled) m round.turns (subst Quiet none.0 quiet))
+    all_turns tells tag k ts m b left (subst (λ (l : List ProgramValue). Rounds Adaptive tells tag k ts m b l left) none.1 rest) (turns tells tag k t (with_pass a round.filled) m round.turns (subst Quiet none.0 quiet))
 
 fresh : (p : DeskPass) → p.mine ≡ [] → Quiet p
 fresh p none = subst (All IsNoSubmit) (sym none) (All-nil IsNoSubmit)

@@ -7,29 +7,51 @@ use Rattle.site_core.specs.Growing.{link_at}
 use Rattle.locked_office.specs.Advance.{done_of}
 use Rattle.locked_office.specs.Calls.{Key, DeskPass, office_with}
 use Rattle.locked_office.specs.Sends.{WaitsFor}
+use Rattle.socket_pump.specs.declared.last.Backoff.{Backoff}
 use Rattle.socket_pump.specs.declared.pump.PumpFault.{PumpFault}
 use Rattle.socket_pump.specs.Wires.{Account}
 use Rattle.socket_pump.specs.Last.{IsDue}
-use Rattle.socket_pump.specs.Chains.{Heard, Made, one_taken, taken, rules_after, Counts, Sent, DueOnce}
+use Rattle.socket_pump.specs.Chains.{Heard, Made, one_taken, taken, Counts, Sent, DueOnce}
+use Rattle.socket_pump.specs.Handling.{Handled, heard_of, rules_after, Marks}
 use Rattle.socket_pump.specs.refinement.Counts.{Owes, Spares}
-use Rattle.socket_pump.specs.Turns.{Times, Hearing, HeardAll, BrokeHearing, IsFaultOf, IsKnown, AreKnown, Remembers, Told, SentTo, BrokeTelling}
+use Rattle.socket_pump.specs.Turns.{Times, Hearing, HeardAll, BrokeHearing, IsFaultOf, Remembers, Told, SentTo, BrokeTelling}
+use Rattle.socket_pump.specs.AdaptiveTurns.{Handling, HandledAll, BrokeHandling}
 
 abbrev pub one_if : Bool → ℕ
 one_if true = 1
 one_if false = 0
 
--- no datagram came, or one that the office took or refused, and so many rules followed it; and who is owed a count, before and then
-abbrev pub HeardOne : Bool → ℕ → Key → DeskPass → Account → List Bool → Option (Bool × ℕ) → Account → DeskPass → List Bool → Type 0
+-- no datagram came, or one that the office took or refused; and who is owed a count, before and then
+abbrev pub HeardOne : Bool → ℕ → Key → DeskPass → Account → List Bool → Option Bool → Account → DeskPass → List Bool → Type 0
 HeardOne tells tag k p a s None b q t = (q ≡ p) × (b.failures ≡ a.failures) × (tells ≡ true → b ≡ record a { received = a.received ++ None ∷ [] }) × (t ≡ s)
-HeardOne tells tag k p a s (Some did) b q t = (h : Heard) × Hearing tells tag k p a [] b q (h ∷ []) × (taken (h ∷ []) ≡ one_if did.0) × (done_of h.rules ≡ did.1) × Owes s (h ∷ []) t
+HeardOne tells tag k p a s (Some took) b q t = (h : Heard) × Hearing tells tag k p a [] b q (h ∷ []) × (taken (h ∷ []) ≡ one_if took) × Owes s (h ∷ []) t
 
--- all datagrams, with how many rules followed them, and who is owed a count then
-abbrev pub HeardFrom : Bool → ℕ → Key → DeskPass → Account → List Bool → ℕ → ℕ → ℕ → Account → DeskPass → List Bool → Type 0
-HeardFrom tells tag k p a s took refused rules b q t = (all : HeardAll tells tag k p a took refused b q) × (rules_after all.heard ≡ rules) × Owes s all.heard t
+-- all datagrams, and who is owed a count then
+abbrev pub HeardFrom : Bool → ℕ → Key → DeskPass → Account → List Bool → ℕ → ℕ → Account → DeskPass → List Bool → Type 0
+HeardFrom tells tag k p a s took refused b q t = (all : HeardAll tells tag k p a took refused b q) × Owes s all.heard t
 
 -- the wire failed, or there was no room for what the one datagram brought
 abbrev pub BrokeOne : Bool → ℕ → Key → DeskPass → Account → PumpFault → Account → DeskPass → Type 0
 BrokeOne tells tag k p a f b q = (broke : BrokeHearing tells tag k p a f b q) × (length broke.heard ≤ 1)
+
+-- no datagram came, or one that the office took or refused, and so many rules followed it; who is owed a count, and what is remembered of messages, before and then
+abbrev pub HandledOne : Bool → ℕ → Key → Times → DeskPass → Account → List Bool → Option (Bool × ℕ) → Account → DeskPass → List Bool → Times → Type 0
+HandledOne tells tag k last p a s None b q t then = (q ≡ p) × (b.failures ≡ a.failures) × (tells ≡ true → b ≡ record a { received = a.received ++ None ∷ [] }) × (t ≡ s) × ((v n : ℕ) → then v n ≡ last v n)
+HandledOne tells tag k last p a s (Some did) b q t then =
+    (h : Handled) × Handling tells tag k p a [] b q (h ∷ []) × (taken (heard_of (h ∷ [])) ≡ one_if did.0) × (done_of h.rules ≡ did.1) × Owes s (heard_of (h ∷ [])) t × Marks last (heard_of (h ∷ [])) then
+
+-- all datagrams, with how many rules followed them, and who is owed a count then
+abbrev pub HandledFrom : Bool → ℕ → Key → Times → DeskPass → Account → List Bool → ℕ → ℕ → ℕ → Account → DeskPass → List Bool → Times → Type 0
+HandledFrom tells tag k last p a s took refused rules b q t then =
+    (all : HandledAll tells tag k p a took refused b q) × (rules_after all.handled ≡ rules) × Owes s (heard_of all.handled) t × Marks last (heard_of all.handled) then
+
+-- the wire failed, or there was no room for what the one datagram brought or for a rule that followed it
+abbrev pub BrokeHandlingOne : Bool → ℕ → Key → Times → DeskPass → Account → PumpFault → Account → DeskPass → Times → Type 0
+BrokeHandlingOne tells tag k last p a f b q then = (broke : BrokeHandling tells tag k p a f b q) × (length broke.handled ≤ 1) × Marks last (heard_of broke.handled) then
+
+-- that of all datagrams
+abbrev pub BrokeHandlingAll : Bool → ℕ → Key → Times → DeskPass → Account → PumpFault → Account → DeskPass → Times → Type 0
+BrokeHandlingAll tells tag k last p a f b q then = (broke : BrokeHandling tells tag k p a f b q) × Marks last (heard_of broke.handled) then
 
 -- what the office's answer means for the pump
 abbrev pub Judged : Result Bool PumpFault → Result Reply Refusal → Type 0
@@ -52,41 +74,39 @@ abbrev pub AreMessages : List Made → Type 0
 AreMessages made = (v n : ℕ) → Sent v n made → 0 < n
 
 -- so many messages were sent
-pub record Spoke (tells : Bool) (tag : ℕ) (k : Key) (last then : Times) (acked : ℕ → ℕ) (now : ℕ) (p : DeskPass) (a : Account) (sent : ℕ) (b : Account) (q : DeskPass) (made : List Made) : Type 0 where
+pub record Spoke (how : Backoff) (tells : Bool) (tag : ℕ) (k : Key) (last then : Times) (now : ℕ) (p : DeskPass) (a : Account) (sent : ℕ) (b : Account) (q : DeskPass) (made : List Made) : Type 0 where
   pub told : Told tells tag k p a b q made
   pub count : length made ≡ sent
-  pub due_once : DueOnce last acked now made
-  pub remembers : Remembers k last then acked now p q made
+  pub due_once : DueOnce how last now made
+  pub remembers : Remembers how k last then now p q made
   pub messages : AreMessages made
   pub used : AreUsed k q made
 
--- one message to one neighbour, which was known to have taken so many
-abbrev pub SpokeOf : Bool → ℕ → Key → Times → Times → ℕ → ℕ → DeskPass → Account → ℕ → Account → DeskPass → ℕ → ℕ → Type 0
-SpokeOf tells tag k last then acked now p a sent b q v n =
-    (made : List Made) × Spoke tells tag k last then (λ u. acked) now p a sent b q made × AreOf v n made × (WaitsFor (office_with k q.seen) v n → IsDue (last v n) acked now → Sent v n made)
+-- one message to one neighbour
+abbrev pub SpokeOf : Backoff → Bool → ℕ → Key → Times → Times → ℕ → DeskPass → Account → ℕ → Account → DeskPass → ℕ → ℕ → Type 0
+SpokeOf how tells tag k last then now p a sent b q v n =
+    (made : List Made) × Spoke how tells tag k last then now p a sent b q made × AreOf v n made × (WaitsFor (office_with k q.seen) v n → IsDue how (last v n) now → Sent v n made)
 
 -- all to one, and to all
-abbrev pub SpokeTo : Bool → ℕ → Key → Times → Times → ℕ → DeskPass → Account → ℕ → Account → DeskPass → ℕ → Type 0
-SpokeTo tells tag k last then now p a sent b q v =
-    (acked : ℕ) × IsKnown k p q v acked × (made : List Made) × Spoke tells tag k last then (λ u. acked) now p a sent b q made × AreFor v made × SentTo k last (λ u. acked) now p q made v
+abbrev pub SpokeTo : Backoff → Bool → ℕ → Key → Times → Times → ℕ → DeskPass → Account → ℕ → Account → DeskPass → ℕ → Type 0
+SpokeTo how tells tag k last then now p a sent b q v = (made : List Made) × Spoke how tells tag k last then now p a sent b q made × AreFor v made × SentTo how k last now p q made v
 
-abbrev pub SpokeToAll : Bool → ℕ → Key → Times → Times → ℕ → DeskPass → Account → List Bool → ℕ → Account → DeskPass → List Bool → Type 0
-SpokeToAll tells tag k last then now p a s sent b q t =
-    (acked : ℕ → ℕ) × AreKnown k p q acked × (made : List Made) × Spoke tells tag k last then acked now p a sent b q made × ((v : ℕ) → SentTo k last acked now p q made v) × Spares s made t
+abbrev pub SpokeToAll : Backoff → Bool → ℕ → Key → Times → Times → ℕ → DeskPass → Account → List Bool → ℕ → Account → DeskPass → List Bool → Type 0
+SpokeToAll how tells tag k last then now p a s sent b q t = (made : List Made) × Spoke how tells tag k last then now p a sent b q made × ((v : ℕ) → SentTo how k last now p q made v) × Spares s made t
 
 -- some messages went out, and then a fault
-abbrev pub Broken : Bool → ℕ → Key → Times → Times → (ℕ → ℕ) → ℕ → DeskPass → Account → PumpFault → Account → DeskPass → List Made → Type 0
-Broken tells tag k last then acked now p a f b q made = BrokeTelling tells tag k p a f b q made × DueOnce last acked now made × Remembers k last then acked now p q made × AreMessages made
+abbrev pub Broken : Backoff → Bool → ℕ → Key → Times → Times → ℕ → DeskPass → Account → PumpFault → Account → DeskPass → List Made → Type 0
+Broken how tells tag k last then now p a f b q made = BrokeTelling tells tag k p a f b q made × DueOnce how last now made × Remembers how k last then now p q made × AreMessages made
 
 -- the same, where all were of one message, to one neighbour, and to any
-abbrev pub BrokenOf : Bool → ℕ → Key → Times → Times → ℕ → ℕ → DeskPass → Account → PumpFault → Account → DeskPass → ℕ → ℕ → Type 0
-BrokenOf tells tag k last then acked now p a f b q v n = (made : List Made) × Broken tells tag k last then (λ u. acked) now p a f b q made × AreOf v n made
+abbrev pub BrokenOf : Backoff → Bool → ℕ → Key → Times → Times → ℕ → DeskPass → Account → PumpFault → Account → DeskPass → ℕ → ℕ → Type 0
+BrokenOf how tells tag k last then now p a f b q v n = (made : List Made) × Broken how tells tag k last then now p a f b q made × AreOf v n made
 
-abbrev pub BrokenTo : Bool → ℕ → Key → Times → Times → ℕ → DeskPass → Account → PumpFault → Account → DeskPass → ℕ → Type 0
-BrokenTo tells tag k last then now p a f b q v = (acked : ℕ) × IsKnown k p q v acked × (made : List Made) × Broken tells tag k last then (λ u. acked) now p a f b q made × AreFor v made
+abbrev pub BrokenTo : Backoff → Bool → ℕ → Key → Times → Times → ℕ → DeskPass → Account → PumpFault → Account → DeskPass → ℕ → Type 0
+BrokenTo how tells tag k last then now p a f b q v = (made : List Made) × Broken how tells tag k last then now p a f b q made × AreFor v made
 
-abbrev pub BrokenToAll : Bool → ℕ → Key → Times → Times → ℕ → DeskPass → Account → PumpFault → Account → DeskPass → Type 0
-BrokenToAll tells tag k last then now p a f b q = (acked : ℕ → ℕ) × AreKnown k p q acked × (made : List Made) × Broken tells tag k last then acked now p a f b q made
+abbrev pub BrokenToAll : Backoff → Bool → ℕ → Key → Times → Times → ℕ → DeskPass → Account → PumpFault → Account → DeskPass → Type 0
+BrokenToAll how tells tag k last then now p a f b q = (made : List Made) × Broken how tells tag k last then now p a f b q made
 
 -- frames with a count alone, one at most for each office
 abbrev pub AreCounts : List Made → Type 0

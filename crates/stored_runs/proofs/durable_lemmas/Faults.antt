@@ -9,7 +9,8 @@ use Rattle.locked_office.specs.Calls.{Key, DeskPass, office_with}
 use Rattle.socket_pump.specs.declared.pump.PumpFault.{PumpFault}
 use Rattle.socket_pump.specs.declared.pump.PumpFault.TheVariants as pump
 use Rattle.socket_pump.specs.Wires.{Account}
-use Rattle.socket_pump.specs.Turns.{Times, Stage, WhileHearing, AtRules, WhileTelling}
+use Rattle.socket_pump.specs.Turns.{Times}
+use Rattle.socket_pump.specs.AdaptiveTurns.{AdaptiveStage, WhileHandling, AtLastRules, AfterRules}
 use Rattle.stored_runs.specs.declared.durable.fault.TurnFault.{TurnFault}
 use Rattle.stored_runs.specs.declared.durable.fault.TurnFault.TheVariants.{WireFailed, StoreFailed, JournalFull, Memory}
 use Rattle.stored_runs.specs.durable.Letting.{BreaksOff}
@@ -30,17 +31,17 @@ lacks : (s : Site) (why : Refusal) → LacksRoom s why → why ≡ refusal.Journ
 lacks s why (inl full) is = full.1
 lacks s why (inr memory) is = let none : refusal.Memory ≡ refusal.JournalFull = sym memory ∙ is in absurd cc
 
-full : (tells : Bool) (tag : ℕ) (k : Key) (last : Times) (now : ℕ) (p : DeskPass) (a b : Account) (q : DeskPass) (then : Times) → Stage tells tag k last now p a pump.JournalFull b q then → most_entries ≤ length q.seen
-full tells tag k last now p a b q then (WhileHearing heard times) = heard.fault.1
-full tells tag k last now p a b q then (AtRules mid received took refused heard why rules fault wire times) = lacks (office_with k q.seen) why.refusal rules.1.done.ends.1 fault
-full tells tag k last now p a b q then (WhileTelling mid ruled received took refused done heard rules made told acked known due_once counts remembers) = told.fault.1
+full : (tells : Bool) (tag : ℕ) (k : Key) (last : Times) (now : ℕ) (p : DeskPass) (a b : Account) (q : DeskPass) (then : Times) → AdaptiveStage tells tag k last now p a pump.JournalFull b q then → most_entries ≤ length q.seen
+full tells tag k last now p a b q then (WhileHandling handled marks) = handled.fault.1
+full tells tag k last now p a b q then (AtLastRules mid received took refused handled why rules fault wire marks) = lacks (office_with k q.seen) why.refusal rules.1.done.ends.1 fault
+full tells tag k last now p a b q then (AfterRules mid ruled received took refused done handled rules marked marks made told due_once counts remembers) = told.fault.1
 
-broke : (tells : Bool) (tag : ℕ) (k : Key) (last : Times) (now : ℕ) (p : DeskPass) (a : Account) (f : PumpFault) (b : Account) (q : DeskPass) (then : Times) (failed : Bool) (x y : Account) → Stage tells tag k last now p a f b q then → failed ≡ false → y.failures ≡ x.failures →
+broke : (tells : Bool) (tag : ℕ) (k : Key) (last : Times) (now : ℕ) (p : DeskPass) (a : Account) (f : PumpFault) (b : Account) (q : DeskPass) (then : Times) (failed : Bool) (x y : Account) → AdaptiveStage tells tag k last now p a f b q then → failed ≡ false → y.failures ≡ x.failures →
     BreaksOff failed q.seen x y (told_as f)
 broke tells tag k last now p a pump.WireFailed b q then failed x y stage usable same = usable
 broke tells tag k last now p a pump.JournalFull b q then failed x y stage usable same = (usable, same, full tells tag k last now p a b q then stage)
 broke tells tag k last now p a pump.Memory b q then failed x y stage usable same = (usable, same)
 
-pub pump_broke : (tells : Bool) (tag : ℕ) (k : Key) (last : Times) (now : ℕ) (p : DeskPass) (a : Account) (f : PumpFault) (b : Account) (q : DeskPass) (then : Times) (failed : Bool) (x y : Account) (g : TurnFault) → Stage tells tag k last now p a f b q then → failed ≡ false →
+pub pump_broke : (tells : Bool) (tag : ℕ) (k : Key) (last : Times) (now : ℕ) (p : DeskPass) (a : Account) (f : PumpFault) (b : Account) (q : DeskPass) (then : Times) (failed : Bool) (x y : Account) (g : TurnFault) → AdaptiveStage tells tag k last now p a f b q then → failed ≡ false →
     y.failures ≡ x.failures → g ≡ told_as f → BreaksOff failed q.seen x y g
 pump_broke tells tag k last now p a f b q then failed x y g stage usable same is = subst (BreaksOff failed q.seen x y) (sym is) (broke tells tag k last now p a f b q then failed x y stage usable same)

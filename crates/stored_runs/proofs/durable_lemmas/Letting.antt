@@ -20,9 +20,11 @@ use Rattle.journal_texts.specs.Written.{header_line, lines_of, entry_line, journ
 use Rattle.socket_pump.specs.declared.pump.Turn.{Turn}
 use Rattle.socket_pump.specs.declared.pump.PumpFault.{PumpFault}
 use Rattle.socket_pump.specs.Wires.{Account}
-use Rattle.socket_pump.specs.Chains.{Heard, Made, Follows, Hears, MakesFrame, Sends, sent_entry, datagram, answers}
-use Rattle.socket_pump.specs.Turns.{Times, Turned, Stage, WhileHearing, AtRules, WhileTelling}
-use Rattle.socket_pump.specs.ChainLaws.{Begins, begins_both, does_begins, sees_begins, sends_begins}
+use Rattle.socket_pump.specs.Chains.{Made, MakesFrame, Sends, sent_entry, datagram, answers}
+use Rattle.socket_pump.specs.Handling.{Handled, heard_of, Follows, Handles}
+use Rattle.socket_pump.specs.Turns.{Times, Ended}
+use Rattle.socket_pump.specs.AdaptiveTurns.{AdaptiveTurned, AdaptiveStage, WhileHandling, AtLastRules, AfterRules}
+use Rattle.socket_pump.specs.ChainLaws.{Begins, begins_both, does_begins, sees_begins, sends_begins, heard_length}
 use Rattle.stored_runs.specs.durable.LettingLaws.{has_on}
 use Rattle.stored_runs.specs.durable.Letting.{key_of, StoreHas, FindsText, IsOfStanding, LetsOut, Posts, Turns}
 use Rattle.stored_runs.specs.durable.refinement.Mailed.{Mailed, IsMail, fresh, account_of, Fetches}
@@ -34,22 +36,22 @@ follows_begins : (tag : ℕ) (k : Key) (p q : DeskPass) (answer : Result Reply R
 follows_begins tag k p q (Ok r) rules d = does_begins (λ s s'. Advances tag 64 rules s s') k p q d
 follows_begins tag k p q (Err why) rules d = ([], ap (λ (x : DeskPass). x.seen) d.1 ∙ sym (append-nil p.seen))
 
-hears_begins : (tag : ℕ) (k : Key) (p q : DeskPass) (hs : List Heard) → Hears tag k p hs q → Begins p q
-hears_begins tag k p q [] s = sees_begins p q s
-hears_begins tag k p q (h ∷ hs) s =
-    begins_both p s.0 q (does_begins (λ x y. Receives x tag h.bytes h.answer y) k p s.0 s.2)
-    (begins_both s.0 s.1 q (follows_begins tag k s.0 s.1 h.answer h.rules s.3) (hears_begins tag k s.1 q hs s.4))
+handles_begins : (tag : ℕ) (k : Key) (p q : DeskPass) (hs : List Handled) → Handles tag k p hs q → Begins p q
+handles_begins tag k p q [] s = sees_begins p q s
+handles_begins tag k p q (h ∷ hs) s =
+    begins_both p s.0 q (does_begins (λ x y. Receives x tag h.heard.bytes h.heard.answer y) k p s.0 s.2)
+    (begins_both s.0 s.1 q (follows_begins tag k s.0 s.1 h.heard.answer h.rules s.3) (handles_begins tag k s.1 q hs s.4))
 
-pub turned_begins : (tells : Bool) (tag : ℕ) (k : Key) (last : Times) (now : ℕ) (p : DeskPass) (a : Account) (t : Turn) (b : Account) (q : DeskPass) (then : Times) → Turned tells tag k last now p a t b q then → Begins p q
+pub turned_begins : (tells : Bool) (tag : ℕ) (k : Key) (last : Times) (now : ℕ) (p : DeskPass) (a : Account) (t : Turn) (b : Account) (q : DeskPass) (then : Times) → AdaptiveTurned tells tag k last now p a t b q then → Begins p q
 turned_begins tells tag k last now p a t b q then x =
-    begins_both p x.mid q (hears_begins tag k p x.mid x.heard.heard x.heard.hearing.hears)
+    begins_both p x.mid q (handles_begins tag k p x.mid x.handled.handled x.handled.handling.handles)
     (begins_both x.mid x.ruled q (does_begins _ k x.mid x.ruled x.rules) (sends_begins tag k x.ruled q x.made x.told.sends))
 
-pub stage_begins : (tells : Bool) (tag : ℕ) (k : Key) (last : Times) (now : ℕ) (p : DeskPass) (a : Account) (f : PumpFault) (b : Account) (q : DeskPass) (then : Times) → Stage tells tag k last now p a f b q then → Begins p q
-stage_begins tells tag k last now p a f b q then (WhileHearing heard times) = hears_begins tag k p q heard.heard heard.hears
-stage_begins tells tag k last now p a f b q then (AtRules mid received took refused heard why rules fault wire times) = begins_both p mid q (hears_begins tag k p mid heard.heard heard.hearing.hears) (does_begins _ k mid q rules)
-stage_begins tells tag k last now p a f b q then (WhileTelling mid ruled received took refused done heard rules made told acked known due_once counts remembers) =
-    begins_both p mid q (hears_begins tag k p mid heard.heard heard.hearing.hears) (begins_both mid ruled q (does_begins _ k mid ruled rules) (sends_begins tag k ruled q made told.sends))
+pub stage_begins : (tells : Bool) (tag : ℕ) (k : Key) (last : Times) (now : ℕ) (p : DeskPass) (a : Account) (f : PumpFault) (b : Account) (q : DeskPass) (then : Times) → AdaptiveStage tells tag k last now p a f b q then → Begins p q
+stage_begins tells tag k last now p a f b q then (WhileHandling handled marks) = handles_begins tag k p q handled.handled handled.handles
+stage_begins tells tag k last now p a f b q then (AtLastRules mid received took refused handled why rules fault wire marks) = begins_both p mid q (handles_begins tag k p mid handled.handled handled.handling.handles) (does_begins _ k mid q rules)
+stage_begins tells tag k last now p a f b q then (AfterRules mid ruled received took refused done handled rules marked marks made told due_once counts remembers) =
+    begins_both p mid q (handles_begins tag k p mid handled.handled handled.handling.handles) (begins_both mid ruled q (does_begins _ k mid ruled rules) (sends_begins tag k ruled q made told.sends))
 
 -- ---- what stands
 
@@ -87,17 +89,17 @@ all_there tag k p q z (m ∷ ms) s b =
     All-cons (IsOfStanding tag z.seen (length z.seen)) (datagram m) (map datagram ms) one (all_there tag k s.0 q z ms s.2 b)
 
 -- what the mail accepted are the frames that were made
-mail_is : (tag : ℕ) (k : Key) (last : Times) (now : ℕ) (p : DeskPass) (t : Turn) (a b : Account) (q : DeskPass) (then : Times) → a.accepted ≡ [] → (x : Turned true tag k last now p a t b q then) → b.accepted ≡ map datagram x.made
+mail_is : (tag : ℕ) (k : Key) (last : Times) (now : ℕ) (p : DeskPass) (t : Turn) (a b : Account) (q : DeskPass) (then : Times) → a.accepted ≡ [] → (x : AdaptiveTurned true tag k last now p a t b q then) → b.accepted ≡ map datagram x.made
 mail_is tag k last now p t a b q then none x =
     ap (λ (y : Account). y.accepted) (x.told.wire refl)
-    ∙ ap (λ (y : Account). y.accepted ++ map datagram x.made) (x.heard.hearing.wire refl)
+    ∙ ap (λ (y : Account). y.accepted ++ map datagram x.made) (x.handled.handling.wire refl)
     ∙ ap (λ l. l ++ map datagram x.made) none
 
 pub nothing_out : (tells : Bool) (tag : ℕ) (a b : Account) (es : List Entry) (n : ℕ) → (tells ≡ true → b.accepted ≡ a.accepted) → LetsOut tells tag a b es n
 nothing_out tells tag a b es n same = record { out = []; went = λ h. same h ∙ sym (append-nil a.accepted); stand = All-nil (IsOfStanding tag es n) }
 
 pub posted : (tells : Bool) (tag : ℕ) (k : Key) (last : Times) (now : ℕ) (p : DeskPass) (t : Turn) (before mail : Mailed) (m q : DeskPass) (then : Times) (a b c : Account) (n : ℕ) (out : List (ℕ × List ℕ)) → before ≡ fresh before.came →
-    Turned true tag k last now p (account_of before) t (account_of mail) m then → Looks k m q → (tells ≡ true → b.accepted ≡ a.accepted) → out ≡ mail.out → Posts tells b out c → n ≡ length q.seen → LetsOut tells tag a c q.seen n
+    AdaptiveTurned true tag k last now p (account_of before) t (account_of mail) m then → Looks k m q → (tells ≡ true → b.accepted ≡ a.accepted) → out ≡ mail.out → Posts tells b out c → n ≡ length q.seen → LetsOut tells tag a c q.seen n
 posted tells tag k last now p t before mail m q then a b c n out clear x looks same are posts all = record {
   out = take posts.0 (map datagram x.made);
   went = λ h. posts.1 h ∙ ap (λ l. l ++ take posts.0 out) (same h) ∙ ap (λ l. a.accepted ++ take posts.0 l) (are ∙ mail_is tag k last now p t (account_of before) (account_of mail) m then (ap (λ (y : Mailed). y.out) clear) x);
@@ -109,62 +111,66 @@ posted tells tag k last now p t before mail m q then a b c n out clear x looks s
 
 -- the account of a turn with the mail is one of a turn with the wire
 on_wire : (tells : Bool) (tag : ℕ) (k : Key) (last : Times) (now : ℕ) (p : DeskPass) (t : Turn) (before mail : Mailed) (m : DeskPass) (then : Times) (a b c : Account) (out : List (ℕ × List ℕ)) → before ≡ fresh before.came → IsMail mail.came mail.handed mail.ended →
-    Fetches tells a b before.came → Turned true tag k last now p (account_of before) t (account_of mail) m then → out ≡ mail.out → (tells ≡ true → c ≡ record b { accepted = b.accepted ++ out }) → c.failures ≡ b.failures → Turned tells tag k last now p a t c m then
+    Fetches tells a b before.came → AdaptiveTurned true tag k last now p (account_of before) t (account_of mail) m then → out ≡ mail.out → (tells ≡ true → c ≡ record b { accepted = b.accepted ++ out }) → c.failures ≡ b.failures → AdaptiveTurned tells tag k last now p a t c m then
 on_wire tells tag k last now p t before mail m then a b c out clear is_mail fetches x are posts failures = record {
   mid = x.mid;
   ruled = x.ruled;
-  received = record a { received = a.received ++ answers x.heard.heard x.heard.ends };
-  heard = record {
-    ends = x.heard.ends;
-    heard = x.heard.heard;
-    ended = x.heard.ended;
-    hearing = record {
-      hears = x.heard.hearing.hears;
-      count = x.heard.hearing.count;
-      tooks = x.heard.hearing.tooks;
-      are = x.heard.hearing.are;
-      mine = x.heard.hearing.mine;
+  received = record a { received = a.received ++ answers (heard_of x.handled.handled) x.handled.ends };
+  handled = record {
+    ends = x.handled.ends;
+    handled = x.handled.handled;
+    ended = x.handled.ended;
+    handling = record {
+      handles = x.handled.handling.handles;
+      count = x.handled.handling.count;
+      done = x.handled.handling.done;
+      added = x.handled.handling.added;
+      are = x.handled.handling.are;
+      mine = x.handled.handling.mine;
       failures = refl;
       wire = λ h. refl;
     };
-    taken = x.heard.taken;
-    all = x.heard.all;
+    taken = x.handled.taken;
+    all = x.handled.all;
   };
   finally = x.finally;
   rules = x.rules;
   all_rules = x.all_rules;
+  marked = x.marked;
+  marks = x.marks;
   made = x.made;
   told = record { sends = x.told.sends; mine = x.told.mine; failures = failures ∙ fetches.gives.0; wire = wire };
   sent = x.sent;
-  acked = x.acked;
-  known = x.known;
   all_due = x.all_due;
   due_once = x.due_once;
   counts = x.counts;
   remembers = x.remembers;
 }
   where
-    heard : (account_of mail).received ≡ (account_of (fresh before.came)).received ++ answers x.heard.heard x.heard.ends
+    heard : (account_of mail).received ≡ (account_of (fresh before.came)).received ++ answers (heard_of x.handled.handled) x.handled.ends
     heard =
         ap (λ (y : Account). y.received) (x.told.wire refl)
-        ∙ ap (λ (y : Account). y.received) (x.heard.hearing.wire refl)
-        ∙ ap (λ (y : Mailed). (account_of y).received ++ answers x.heard.heard x.heard.ends) clear
+        ∙ ap (λ (y : Account). y.received) (x.handled.handling.wire refl)
+        ∙ ap (λ (y : Mailed). (account_of y).received ++ answers (heard_of x.handled.handled) x.handled.ends) clear
 
-    fetched : tells ≡ true → b ≡ record a { received = a.received ++ answers x.heard.heard x.heard.ends }
+    ended : Ended (length (heard_of x.handled.handled)) x.handled.ends
+    ended = subst (λ (n : ℕ). Ended n x.handled.ends) (sym (heard_length x.handled.handled)) x.handled.ended
+
+    fetched : tells ≡ true → b ≡ record a { received = a.received ++ answers (heard_of x.handled.handled) x.handled.ends }
     fetched h =
         fetches.gives.1 h
         ∙ ap (λ l. record a { received = l })
         (append_assoc a.received (map (λ y. Some y) before.came) fetches.ends
-        ∙ ap (λ l. a.received ++ l) (heard_is_fetched before.came mail x.heard.heard x.heard.ends fetches.ends is_mail fetches.ended x.heard.ended heard))
+        ∙ ap (λ l. a.received ++ l) (heard_is_fetched before.came mail (heard_of x.handled.handled) x.handled.ends fetches.ends is_mail fetches.ended ended heard))
 
-    wire : tells ≡ true → c ≡ record a { received = a.received ++ answers x.heard.heard x.heard.ends; accepted = a.accepted ++ map datagram x.made }
+    wire : tells ≡ true → c ≡ record a { received = a.received ++ answers (heard_of x.handled.handled) x.handled.ends; accepted = a.accepted ++ map datagram x.made }
     wire h =
         posts h
         ∙ ap (λ (y : Account). record y { accepted = y.accepted ++ out }) (fetched h)
-        ∙ ap (λ l. record a { received = a.received ++ answers x.heard.heard x.heard.ends; accepted = a.accepted ++ l }) (are ∙ mail_is tag k last now p t (account_of before) (account_of mail) m then (ap (λ (y : Mailed). y.out) clear) x)
+        ∙ ap (λ l. record a { received = a.received ++ answers (heard_of x.handled.handled) x.handled.ends; accepted = a.accepted ++ l }) (are ∙ mail_is tag k last now p t (account_of before) (account_of mail) m then (ap (λ (y : Mailed). y.out) clear) x)
 
 pub turns : (tells : Bool) (tag : ℕ) (k : Key) (last : Times) (now : ℕ) (p : DeskPass) (t : Turn) (before mail : Mailed) (m q : DeskPass) (then : Times) (a b c : Account) (out : List (ℕ × List ℕ)) → before ≡ fresh before.came → IsMail mail.came mail.handed mail.ended →
-    Fetches tells a b before.came → Turned true tag k last now p (account_of before) t (account_of mail) m then → Looks k m q → out ≡ mail.out → (tells ≡ true → c ≡ record b { accepted = b.accepted ++ out }) → c.failures ≡ b.failures → Turns tells tag k last now p a t c q then
+    Fetches tells a b before.came → AdaptiveTurned true tag k last now p (account_of before) t (account_of mail) m then → Looks k m q → out ≡ mail.out → (tells ≡ true → c ≡ record b { accepted = b.accepted ++ out }) → c.failures ≡ b.failures → Turns tells tag k last now p a t c q then
 turns tells tag k last now p t before mail m q then a b c out clear is_mail fetches x looks are posts failures =
     record { mid = m; turned = on_wire tells tag k last now p t before mail m then a b c out clear is_mail fetches x are posts failures; looked = looks }
 

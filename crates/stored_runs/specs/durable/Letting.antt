@@ -8,7 +8,8 @@ use Rattle.journal_texts.specs.Written.{journal_text}
 use Rattle.socket_pump.specs.declared.pump.Turn.{Turn}
 use Rattle.socket_pump.specs.Wires.{Account}
 use Rattle.socket_pump.specs.Chains.{Made, sent_entry, datagram}
-use Rattle.socket_pump.specs.Turns.{Times, Turned}
+use Rattle.socket_pump.specs.Turns.{Times}
+use Rattle.socket_pump.specs.AdaptiveTurns.{AdaptiveTurned}
 use Rattle.stored_runs.specs.declared.durable.fault.TurnFault.{TurnFault}
 use Rattle.stored_runs.specs.declared.durable.fault.TurnFault.TheVariants.{WireFailed, StoreFailed, JournalFull, Memory}
 
@@ -40,7 +41,7 @@ FindsText (Some stood) (Some found) k es = (rest : List ℕ) × (journal_text k.
 -- a pump turned between the office and the wire, and then the office was looked at
 pub record Turns (tells : Bool) (tag : ℕ) (k : Key) (last : Times) (now : ℕ) (p : DeskPass) (a : Account) (t : Turn) (b : Account) (q : DeskPass) (then : Times) : Type 0 where
   pub mid : DeskPass
-  pub turned : Turned tells tag k last now p a t b mid then
+  pub turned : AdaptiveTurned tells tag k last now p a t b mid then
   pub looked : Looks k mid q
 
 abbrev pub SendsNothing : Bool → Account → Account → Type 0

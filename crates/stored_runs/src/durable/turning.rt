@@ -21,9 +21,9 @@ use socket_pump::{Pump, Turn, Wire};
 use std::alloc::Global;
 use std::sync::Wait;
 
-/// Takes in what came on the wire, does the rules that come next, and makes frames, as [`Pump::turn`] does; then all entries are
-/// made to stand in the store; then the frames go out. The first `stood` entries of the journal stand in the store. What the
-/// mail had is forgotten.
+/// Takes in what came on the wire, does the rules that come next, and makes frames, as [`Pump::adaptive_turn`] does; then all
+/// entries are made to stand in the store; then the frames go out. The first `stood` entries of the journal stand in the store.
+/// What the mail had is forgotten.
 ///
 /// # Errors
 /// `WireFailed`, `JournalFull` and `Memory` as of a pump; `StoreFailed` where it isn't sure that the new entries stand. No frame
@@ -65,7 +65,7 @@ pub fn turn<R: Wait, W: Wire, S: Store>(
         Ok(()) => {}
         Err(fault) => return Err(fault),
     }
-    let turn = match pump.turn(rt, mail, desk, pass, now) {
+    let turn = match pump.adaptive_turn(rt, mail, desk, pass, now) {
         Ok(turn) => turn,
         Err(fault) => return Err(TurnFault::of_pump(fault)),
     };

@@ -1,6 +1,7 @@
 use Rattle.std.proofs.Common.{◌≡◌, ◌≤◌, drop}
 use Rattle.locked_office.specs.Calls.{Stays}
 use Rattle.socket_pump.specs.Last.{last_of}
+use Rattle.office_stations.specs.declared.turning.Turning.TheVariants.{Plain}
 use Rattle.office_stations.specs.Rounds.{of_office}
 use Rattle.office_stations.specs.refinement.Standings.{standing}
 use Rattle.office_stations.specs.refinement.RoundLaws.{Made}
@@ -12,6 +13,6 @@ invariant-loop g l = record {
   stays : Stays l.desk l.fn.pass l.pass;
   key : l.desk.key ≡ l.station.pump.key;
   few : l.count ≤ l.turns;
-  made : Made g.S.Wire.tells l.fn.pass.tag l.desk.key l.turns l.count (standing l.fn.pass (g.S.Wire.account l.fn.station.socket) (last_of l.fn.station.pump.lasts)) (standing l.pass (g.S.Wire.account l.station.socket) (last_of l.station.pump.lasts))
+  made : Made Plain g.S.Wire.tells l.fn.pass.tag l.desk.key l.turns l.count (standing l.fn.pass (g.S.Wire.account l.fn.station.socket) (last_of l.fn.station.pump.lasts)) (standing l.pass (g.S.Wire.account l.station.socket) (last_of l.station.pump.lasts))
       (of_office l.me l.programs) (of_office l.me (drop l.next l.programs));
 }

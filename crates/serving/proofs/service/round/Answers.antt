@@ -11,6 +11,7 @@ use Rattle.socket_pump.specs.Last.{PumpView, last_of}
 use Rattle.stored_runs.specs.durable.Letting.{LetsOut}
 use Rattle.stored_runs.specs.durable.LettingLaws.{has_on}
 use Rattle.office_stations.specs.declared.pace.TimedTurn.{TimedTurn}
+use Rattle.office_stations.specs.declared.turning.Turning.TheVariants.{Adaptive}
 use Rattle.office_stations.specs.Rounds.{Standing, Turns}
 use Rattle.office_stations.specs.Sessions.{finished_of}
 use Rattle.office_stations.specs.refinement.Standings.{standing}
@@ -131,10 +132,10 @@ returns-clause-made g c =
     let empty : string_bytes c.clear.new.self ≡ [] = c.clear.ensures.bytes in
     let begin : Standing = standing p (g.S.Wire.account c.args.station.now.socket) (last_of c.args.station.now.pump.lasts) in
     let end : Standing = standing q (g.S.Wire.account c.turn_and_tell.new.station.socket) (last_of c.turn_and_tell.new.station.pump.lasts) in
-    let turns : IfOk r (λ (t : TimedTurn). Turns g.S.Wire.tells 0 k t (standing m (g.S.Wire.account c.args.station.now.socket) (last_of c.args.station.now.pump.lasts)) end) =
-    subst (λ (x : ℕ). IfOk r (λ (t : TimedTurn). Turns g.S.Wire.tells x k t (standing m (g.S.Wire.account c.args.station.now.socket) (last_of c.args.station.now.pump.lasts)) end)) (c.answer_some.ensures.stays.1 ∙ c.requires.tag)
-    (subst (λ (v : PumpView). IfOk r (λ (t : TimedTurn). Turns g.S.Wire.tells m.tag k t (standing m (g.S.Wire.account c.args.station.now.socket) (last_of v.lasts)) end)) c.hurry_for.ensures.pump
-    (subst (λ s. IfOk r (λ (t : TimedTurn). Turns g.S.Wire.tells m.tag k t (standing m (g.S.Wire.account s) (last_of c.hurry_for.new.station.pump.lasts)) end)) c.hurry_for.ensures.socket c.turn_and_tell.ensures.turns)) in
+    let turns : IfOk r (λ (t : TimedTurn). Turns Adaptive g.S.Wire.tells 0 k t (standing m (g.S.Wire.account c.args.station.now.socket) (last_of c.args.station.now.pump.lasts)) end) =
+    subst (λ (x : ℕ). IfOk r (λ (t : TimedTurn). Turns Adaptive g.S.Wire.tells x k t (standing m (g.S.Wire.account c.args.station.now.socket) (last_of c.args.station.now.pump.lasts)) end)) (c.answer_some.ensures.stays.1 ∙ c.requires.tag)
+    (subst (λ (v : PumpView). IfOk r (λ (t : TimedTurn). Turns Adaptive g.S.Wire.tells m.tag k t (standing m (g.S.Wire.account c.args.station.now.socket) (last_of v.lasts)) end)) c.hurry_for.ensures.pump
+    (subst (λ s. IfOk r (λ (t : TimedTurn). Turns Adaptive g.S.Wire.tells m.tag k t (standing m (g.S.Wire.account s) (last_of c.hurry_for.new.station.pump.lasts)) end)) c.hurry_for.ensures.socket c.turn_and_tell.ensures.turns)) in
     let said = c.as_str-lines.result.now in
     let same : said ≡ string_bytes c.answer_some.new.text = search rules in
     let lines : said ≡ flat_map (said_as c.args.form k.0) answers.0 = same ∙ answers.2 ∙ ap (λ l. l ++ flat_map (said_as c.args.form k.0) answers.0) empty in

@@ -5,6 +5,7 @@ use Rattle.locked_office.specs.Calls.{office_with}
 use Rattle.session_reports.specs.form.Forms.{outcome_as}
 use Rattle.socket_pump.specs.Last.{PumpView, last_of}
 use Rattle.stored_runs.specs.durable.Letting.{LetsOut}
+use Rattle.office_stations.specs.declared.turning.Turning.TheVariants.{Adaptive}
 use Rattle.office_stations.specs.Rounds.{Standing, Turns}
 use Rattle.office_stations.specs.Sessions.{finished_of}
 use Rattle.office_stations.specs.refinement.Standings.{standing}
@@ -110,8 +111,8 @@ returns-clause-turns g c =
     let begin : Standing = standing c.args.pass.now (g.S.Wire.account c.args.station.now.socket) (last_of c.args.station.now.pump.lasts) in
     let end : Standing = standing c.turn_once.new.pass d (last_of c.turn_once.new.station.pump.lasts) in
     let done = turned_and_looked g.S.Wire.tells c.args.pass.now.tag k c.in-Ok.turn begin end c.stand_and_tell.new.pass c.in-Ok.ensures.turns c.stand_and_tell.ensures.looked in
-    subst (λ (v : PumpView). Turns g.S.Wire.tells c.args.pass.now.tag k c.in-Ok.turn begin (standing c.stand_and_tell.new.pass (g.S.Wire.account c.tell.new.self.socket) (last_of v.lasts))) (sym pump)
-    (subst (λ s. Turns g.S.Wire.tells c.args.pass.now.tag k c.in-Ok.turn begin (standing c.stand_and_tell.new.pass (g.S.Wire.account s) (last_of c.turn_once.new.station.pump.lasts))) (sym socket) done)
+    subst (λ (v : PumpView). Turns Adaptive g.S.Wire.tells c.args.pass.now.tag k c.in-Ok.turn begin (standing c.stand_and_tell.new.pass (g.S.Wire.account c.tell.new.self.socket) (last_of v.lasts))) (sym pump)
+    (subst (λ s. Turns Adaptive g.S.Wire.tells c.args.pass.now.tag k c.in-Ok.turn begin (standing c.stand_and_tell.new.pass (g.S.Wire.account s) (last_of c.turn_once.new.station.pump.lasts))) (sym socket) done)
 
 pub returns-clause-lines : goal.returns-clause-lines
 returns-clause-lines g c =

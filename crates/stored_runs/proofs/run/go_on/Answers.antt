@@ -1,6 +1,7 @@
 use Rattle.std.proofs.Common.{refl, drop, subst, sym}
 use Rattle.socket_pump.specs.Last.{last_of}
 use Rattle.stored_runs.specs.durable.Letting.{StoreHas}
+use Rattle.office_stations.specs.declared.turning.Turning.TheVariants.{Adaptive}
 use Rattle.office_stations.specs.Rounds.{Standing, of_office}
 use Rattle.office_stations.specs.refinement.Standings.{standing}
 use Rattle.office_stations.specs.refinement.RoundLaws.{none_made}
@@ -15,7 +16,7 @@ pub returns-in-Err-clause-goes : goal.returns-in-Err-clause-goes
 returns-in-Err-clause-goes g c =
     let at : Standing = standing c.args.pass.now (g.S.Wire.account c.args.station.now.socket) (last_of c.args.station.now.pump.lasts) in
     let own = of_office c.args.me (drop c.args.from c.args.programs.now) in
-    cut_short (IsToldBy g.S.Wire.account) g.S.Wire.tells c.args.desk.now.key c.args.turns 0 at at at own own c.in-Err.fault (none_made g.S.Wire.tells 0 c.args.desk.now.key c.args.turns at own) (c.args.station.now.socket, refl) (BeforeAll refl c.in-Err.ensures.cause)
+    cut_short (IsToldBy g.S.Wire.account) g.S.Wire.tells c.args.desk.now.key c.args.turns 0 at at at own own c.in-Err.fault (none_made Adaptive g.S.Wire.tells 0 c.args.desk.now.key c.args.turns at own) (c.args.station.now.socket, refl) (BeforeAll refl c.in-Err.ensures.cause)
 
 pub take_turns-requires-clause-has : goal.take_turns-requires-clause-has
 take_turns-requires-clause-has g c =

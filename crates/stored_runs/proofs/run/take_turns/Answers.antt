@@ -7,6 +7,7 @@ use Rattle.socket_pump.specs.Last.{PumpView, last_of}
 use Rattle.stored_runs.specs.durable.Letting.{LetsOut}
 use Rattle.stored_runs.specs.durable.LettingLaws.{has_on}
 use Rattle.session_reports.specs.form.Forms.{outcome_as}
+use Rattle.office_stations.specs.declared.turning.Turning.TheVariants.{Adaptive}
 use Rattle.office_stations.specs.Rounds.{Standing, Fills, StopsFilling, Turns, of_office, with_pass}
 use Rattle.office_stations.specs.Sessions.{finished_of}
 use Rattle.office_stations.specs.refinement.Standings.{standing}
@@ -25,7 +26,7 @@ loop-init g c = record {
   stays = (c.requires.of, refl, c.requires.idle);
   key = c.requires.key;
   few = omega arith;
-  made = none_made g.S.Wire.tells 0 c.args.desk.now.key c.args.turns (standing c.args.pass.now (g.S.Wire.account c.args.station.now.socket) (last_of c.args.station.now.pump.lasts)) (of_office c.args.me (drop c.args.from c.args.programs.now));
+  made = none_made Adaptive g.S.Wire.tells 0 c.args.desk.now.key c.args.turns (standing c.args.pass.now (g.S.Wire.account c.args.station.now.socket) (last_of c.args.station.now.pump.lasts)) (of_office c.args.me (drop c.args.from c.args.programs.now));
   grows = itself c.args.pass.now.seen;
   usable = c.requires.usable;
   has = c.requires.has;
@@ -135,7 +136,7 @@ returns-in-Err-stand_and_tell-clause-goes g c =
     (AfterTurn c.in-Ok-turn_once.turn turned left (record {
       filled = c.submit_some.new.pass;
       fills = subst (λ (x : ℕ). Fills x k c.loop.pass c.submit_some.new.pass mid left) tag c.in-Ok.ensures.fills;
-      turns = subst (λ (x : ℕ). Turns g.S.Wire.tells x k c.in-Ok-turn_once.turn (with_pass at c.submit_some.new.pass) turned) (c.submit_some.ensures.stays.1 ∙ tag) c.in-Ok-turn_once.ensures.turns;
+      turns = subst (λ (x : ℕ). Turns Adaptive g.S.Wire.tells x k c.in-Ok-turn_once.turn (with_pass at c.submit_some.new.pass) turned) (c.submit_some.ensures.stays.1 ∙ tag) c.in-Ok-turn_once.ensures.turns;
     }) c.stand_and_tell.ensures.looked c.in-Err-stand_and_tell.ensures.cause)
 
 pub returns-in-Err-stand_and_tell-clause-lets_out : goal.returns-in-Err-stand_and_tell-clause-lets_out
@@ -198,7 +199,7 @@ loop-preserved g c =
     let end : Standing = standing c.turn_once.new.pass d (last_of c.turn_once.new.station.pump.lasts) in
     let looked_end : Standing = standing c.stand_and_tell.new.pass d (last_of c.turn_once.new.station.pump.lasts) in
     let done = turned_and_looked g.S.Wire.tells c.submit_some.new.pass.tag k c.in-Ok-turn_once.turn (standing c.submit_some.new.pass b (last_of c.loop.station.pump.lasts)) end c.stand_and_tell.new.pass c.in-Ok-turn_once.ensures.turns c.stand_and_tell.ensures.looked in
-    let round = one_round g.S.Wire.tells 0 c.loop.pass.tag c.submit_some.new.pass.tag k c.args.turns c.loop.count c.counted-count.result c.in-Ok-turn_once.turn begin c.loop.pass c.submit_some.new.pass c.stand_and_tell.new.pass b d (last_of c.loop.station.pump.lasts)
+    let round = one_round Adaptive g.S.Wire.tells 0 c.loop.pass.tag c.submit_some.new.pass.tag k c.args.turns c.loop.count c.counted-count.result c.in-Ok-turn_once.turn begin c.loop.pass c.submit_some.new.pass c.stand_and_tell.new.pass b d (last_of c.loop.station.pump.lasts)
     (last_of c.turn_once.new.station.pump.lasts) own mid left tag (still ∙ tag) below c.counted-count.ensures.counted i.made c.in-Ok.ensures.fills done in
     let first : c.loop.books.stood ≤ c.turn_once.new.stood = grown_stood c.loop.pass.seen c.turn_once.new.pass.seen c.loop.books.stood c.turn_once.new.stood i.all turned c.turn_once.ensures.steps in
     let second : c.turn_once.new.stood ≤ c.stand_and_tell.new.books.stood =
@@ -213,8 +214,8 @@ loop-preserved g c =
       stays = (c.stand_and_tell.ensures.stays.0, c.stand_and_tell.ensures.stays.1 ∙ (c.turn_once.ensures.stays.1 ∙ (still ∙ i.stays.1)), c.stand_and_tell.ensures.stays.2);
       key = i.key ∙ (sym c.turn_once.ensures.key ∙ sym (ap (λ (v : PumpView). v.key) pump));
       few = omega (arith, below, one);
-      made = subst (λ (v : PumpView). Made g.S.Wire.tells 0 k c.args.turns (c.loop.count + c.counted-count.result) begin (standing c.stand_and_tell.new.pass (g.S.Wire.account c.tell_alone.new.self.socket) (last_of v.lasts)) own left) (sym pump)
-          (subst (λ s. Made g.S.Wire.tells 0 k c.args.turns (c.loop.count + c.counted-count.result) begin (standing c.stand_and_tell.new.pass (g.S.Wire.account s) (last_of c.turn_once.new.station.pump.lasts)) own left) (sym socket) round);
+      made = subst (λ (v : PumpView). Made Adaptive g.S.Wire.tells 0 k c.args.turns (c.loop.count + c.counted-count.result) begin (standing c.stand_and_tell.new.pass (g.S.Wire.account c.tell_alone.new.self.socket) (last_of v.lasts)) own left) (sym pump)
+          (subst (λ s. Made Adaptive g.S.Wire.tells 0 k c.args.turns (c.loop.count + c.counted-count.result) begin (standing c.stand_and_tell.new.pass (g.S.Wire.account s) (last_of c.turn_once.new.station.pump.lasts)) own left) (sym socket) round);
       grows = both c.args.pass.now.seen c.loop.pass.seen c.stand_and_tell.new.pass.seen i.grows all;
       usable = c.in-Ok-stand_and_tell.ensures.usable;
       has = c.stand_and_tell.ensures.has;

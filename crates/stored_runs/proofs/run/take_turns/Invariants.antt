@@ -6,6 +6,7 @@ use Rattle.locked_office.specs.Calls.{Stays, office_with}
 use Rattle.session_reports.specs.form.Forms.{outcome_as}
 use Rattle.socket_pump.specs.Last.{last_of}
 use Rattle.stored_runs.specs.durable.Letting.{StoreHas, LetsOut}
+use Rattle.office_stations.specs.declared.turning.Turning.TheVariants.{Adaptive}
 use Rattle.office_stations.specs.Rounds.{of_office}
 use Rattle.office_stations.specs.Sessions.{finished_of}
 use Rattle.office_stations.specs.refinement.Standings.{standing}
@@ -18,7 +19,7 @@ invariant-loop g l = record {
   stays : Stays l.desk l.fn.pass l.pass;
   key : l.desk.key ≡ l.station.pump.key;
   few : l.count ≤ l.turns;
-  made : Made g.S.Wire.tells 0 l.desk.key l.turns l.count (standing l.fn.pass (g.S.Wire.account l.fn.station.socket) (last_of l.fn.station.pump.lasts)) (standing l.pass (g.S.Wire.account l.station.socket) (last_of l.station.pump.lasts))
+  made : Made Adaptive g.S.Wire.tells 0 l.desk.key l.turns l.count (standing l.fn.pass (g.S.Wire.account l.fn.station.socket) (last_of l.fn.station.pump.lasts)) (standing l.pass (g.S.Wire.account l.station.socket) (last_of l.station.pump.lasts))
       (of_office l.me (drop l.from l.programs)) (of_office l.me (drop l.next l.programs));
   grows : IsPrefix l.fn.pass.seen l.pass.seen;
   usable : g.T.Store.failed l.store ≡ false;

@@ -21,8 +21,8 @@ loop-k-init g c =
       me = refl;
       stays = c.some_waits.ensures.stays;
       few = omega arith;
-      below = subst (λ (l : Lasts). SpokeBelow g.W.Wire.tells p.tag c.args.desk.now.key (last_of c.args.self.now.lasts) (last_of l) c.args.now p a c.args.senders.now 0 a c.some_waits.new.pass c.args.senders.now 0) same
-          (below_starts c.links_only_grow.ensures g.W.Wire.tells p.tag c.args.desk.now.key (last_of c.args.self.now.lasts) c.args.now p c.some_waits.new.pass a c.args.senders.now (looked c.args.desk.now.key p c.some_waits.new.pass c.requires.idle c.some_waits.ensures.looked));
+      below = subst (λ (l : Lasts). SpokeBelow c.args.backoff g.W.Wire.tells p.tag c.args.desk.now.key (last_of c.args.self.now.lasts) (last_of l) c.args.now p a c.args.senders.now 0 a c.some_waits.new.pass c.args.senders.now 0) same
+          (below_starts c.args.backoff g.W.Wire.tells p.tag c.args.desk.now.key (last_of c.args.self.now.lasts) c.args.now p c.some_waits.new.pass a c.args.senders.now (looked c.args.desk.now.key p c.some_waits.new.pass c.requires.idle c.some_waits.ensures.looked));
     }
 
 pub returns-in-Err-clause-told : goal.returns-in-Err-clause-told
@@ -30,10 +30,10 @@ returns-in-Err-clause-told g c =
     let k = c.args.desk.now.key in
     let l = c.loop-k in
     let p = c.args.pass.now in
-    below_broke c.links_only_grow.ensures g.W.Wire.tells p.tag k (last_of c.args.self.now.lasts) (last_of l.self-inside.last) (last_of c.tell_one.new.last) c.args.now p l.pass c.tell_one.new.pass
+    below_broke c.links_only_grow.ensures c.args.backoff g.W.Wire.tells p.tag k (last_of c.args.self.now.lasts) (last_of l.self-inside.last) (last_of c.tell_one.new.last) c.args.now p l.pass c.tell_one.new.pass
     (g.W.Wire.account c.args.wire.now) (g.W.Wire.account l.wire) (g.W.Wire.account c.tell_one.new.wire) c.args.senders.now l.senders l.sent l.k c.in-Err.fault l.invariant.below
-    (subst (λ (t : ℕ). BrokenTo g.W.Wire.tells t k (last_of l.self-inside.last) (last_of c.tell_one.new.last) c.args.now l.pass (g.W.Wire.account l.wire) c.in-Err.fault (g.W.Wire.account c.tell_one.new.wire) c.tell_one.new.pass l.k) l.invariant.stays.1
-    (subst (λ (v : ℕ). BrokenTo g.W.Wire.tells l.pass.tag k (last_of l.self-inside.last) (last_of c.tell_one.new.last) c.args.now l.pass (g.W.Wire.account l.wire) c.in-Err.fault (g.W.Wire.account c.tell_one.new.wire) c.tell_one.new.pass v) c.new-v.ensures c.in-Err.ensures.told))
+    (subst (λ (t : ℕ). BrokenTo c.args.backoff g.W.Wire.tells t k (last_of l.self-inside.last) (last_of c.tell_one.new.last) c.args.now l.pass (g.W.Wire.account l.wire) c.in-Err.fault (g.W.Wire.account c.tell_one.new.wire) c.tell_one.new.pass l.k) l.invariant.stays.1
+    (subst (λ (v : ℕ). BrokenTo c.args.backoff g.W.Wire.tells l.pass.tag k (last_of l.self-inside.last) (last_of c.tell_one.new.last) c.args.now l.pass (g.W.Wire.account l.wire) c.in-Err.fault (g.W.Wire.account c.tell_one.new.wire) c.tell_one.new.pass v) c.new-v.ensures c.in-Err.ensures.told))
 
 pub loop-k-preserved-then-not-are_neighbours : goal.loop-k-preserved-then-not-are_neighbours
 loop-k-preserved-then-not-are_neighbours g c =
@@ -46,7 +46,7 @@ loop-k-preserved-then-not-are_neighbours g c =
       me = l.invariant.me;
       stays = l.invariant.stays;
       few = omega arith;
-      below = below_past g.W.Wire.tells c.args.pass.now.tag k (last_of c.args.self.now.lasts) (last_of l.self-inside.last) c.args.now c.args.pass.now l.pass (g.W.Wire.account c.args.wire.now) (g.W.Wire.account l.wire) c.args.senders.now l.senders l.sent l.k
+      below = below_past c.args.backoff g.W.Wire.tells c.args.pass.now.tag k (last_of c.args.self.now.lasts) (last_of l.self-inside.last) c.args.now c.args.pass.now l.pass (g.W.Wire.account c.args.wire.now) (g.W.Wire.account l.wire) c.args.senders.now l.senders l.sent l.k
           (far ∙ c.if-not-are_neighbours.true) l.invariant.below;
     }
 
@@ -61,10 +61,10 @@ loop-k-preserved g c =
       me = l.invariant.me;
       stays = (c.tell_one.ensures.stays.0, c.tell_one.ensures.stays.1 ∙ l.invariant.stays.1, c.tell_one.ensures.stays.2);
       few = omega (arith, c.in-Ok.ensures.few);
-      below = below_on c.links_only_grow.ensures g.W.Wire.tells p.tag k (last_of c.args.self.now.lasts) (last_of l.self-inside.last) (last_of c.tell_one.new.last) c.args.now p l.pass c.tell_one.new.pass
+      below = below_on c.links_only_grow.ensures c.args.backoff g.W.Wire.tells p.tag k (last_of c.args.self.now.lasts) (last_of l.self-inside.last) (last_of c.tell_one.new.last) c.args.now p l.pass c.tell_one.new.pass
           (g.W.Wire.account c.args.wire.now) (g.W.Wire.account l.wire) (g.W.Wire.account c.tell_one.new.wire) c.args.senders.now l.senders c.got.new.self l.sent n l.k l.invariant.below
-          (subst (λ (t : ℕ). SpokeTo g.W.Wire.tells t k (last_of l.self-inside.last) (last_of c.tell_one.new.last) c.args.now l.pass (g.W.Wire.account l.wire) n (g.W.Wire.account c.tell_one.new.wire) c.tell_one.new.pass l.k) l.invariant.stays.1
-          (subst (λ (v : ℕ). SpokeTo g.W.Wire.tells l.pass.tag k (last_of l.self-inside.last) (last_of c.tell_one.new.last) c.args.now l.pass (g.W.Wire.account l.wire) n (g.W.Wire.account c.tell_one.new.wire) c.tell_one.new.pass v) c.new-v.ensures c.in-Ok.ensures.told))
+          (subst (λ (t : ℕ). SpokeTo c.args.backoff g.W.Wire.tells t k (last_of l.self-inside.last) (last_of c.tell_one.new.last) c.args.now l.pass (g.W.Wire.account l.wire) n (g.W.Wire.account c.tell_one.new.wire) c.tell_one.new.pass l.k) l.invariant.stays.1
+          (subst (λ (v : ℕ). SpokeTo c.args.backoff g.W.Wire.tells l.pass.tag k (last_of l.self-inside.last) (last_of c.tell_one.new.last) c.args.now l.pass (g.W.Wire.account l.wire) n (g.W.Wire.account c.tell_one.new.wire) c.tell_one.new.pass v) c.new-v.ensures c.in-Ok.ensures.told))
           (λ u i ne. c.tell_one.ensures.others u i (λ e. ne (e ∙ c.new-v.ensures)))
           (subst (λ (v : ℕ). Gets v n l.senders c.got.new.self) c.new-v.ensures c.got.ensures);
     }
@@ -76,10 +76,10 @@ returns-clause-told g c =
     let plan : k.0 ≡ c.self.inside.plan = ap (λ (x : Key). x.0) (c.requires.key ∙ sym (ap (λ (x : PumpView). x.key) c.self.view_is)) in
     let ok = subst IsConsistent (sym plan) c.offices-k-end.ensures.consistent in
     let count : length k.0.offices ≡ length c.self.inside.plan.offices = ap (λ (x : PlanValue). length x.offices) plan in
-    spoken_to_all g.W.Wire.tells c.args.pass.now.tag k (last_of c.args.self.now.lasts) (last_of l.self-inside.last) c.args.now c.args.pass.now l.pass (g.W.Wire.account c.args.wire.now) (g.W.Wire.account l.wire) c.args.senders.now l.senders l.sent l.k
+    spoken_to_all c.args.backoff g.W.Wire.tells c.args.pass.now.tag k (last_of c.args.self.now.lasts) (last_of l.self-inside.last) c.args.now c.args.pass.now l.pass (g.W.Wire.account c.args.wire.now) (g.W.Wire.account l.wire) c.args.senders.now l.senders l.sent l.k
     (λ v near. omega (arith, near_within k.0 k.1 v ok near, count, c.offices-k-end.ensures.count)) l.invariant.below
 
 pub returns-then-not-some_waits-clause-told : goal.returns-then-not-some_waits-clause-told
 returns-then-not-some_waits-clause-told g c =
-    silent_to_all c.links_only_grow.ensures g.W.Wire.tells c.args.pass.now.tag c.args.desk.now.key (last_of c.args.self.now.lasts) c.args.now c.args.pass.now c.some_waits.new.pass (g.W.Wire.account c.args.wire.now) c.args.senders.now c.requires.idle c.some_waits.ensures.looked
+    silent_to_all c.args.backoff g.W.Wire.tells c.args.pass.now.tag c.args.desk.now.key (last_of c.args.self.now.lasts) c.args.now c.args.pass.now c.some_waits.new.pass (g.W.Wire.account c.args.wire.now) c.args.senders.now c.requires.idle c.some_waits.ensures.looked
     (λ some. let yes = c.some_waits.ensures.waits.1 some in absurd cc)

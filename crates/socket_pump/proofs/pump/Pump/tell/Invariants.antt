@@ -10,5 +10,5 @@ invariant-loop-k g l = record {
   me : l.self-inside.me ≡ l.initial.self-inside.me;
   stays : Stays l.desk l.fn.pass l.pass;
   few : l.sent ≤ 18 * l.k;
-  below : SpokeBelow g.W.Wire.tells l.fn.pass.tag l.desk.key (last_of l.fn.self.lasts) (last_of l.self-inside.last) l.now l.fn.pass (g.W.Wire.account l.fn.wire) l.fn.senders l.sent (g.W.Wire.account l.wire) l.pass l.senders l.k;
+  below : SpokeBelow l.backoff g.W.Wire.tells l.fn.pass.tag l.desk.key (last_of l.fn.self.lasts) (last_of l.self-inside.last) l.now l.fn.pass (g.W.Wire.account l.fn.wire) l.fn.senders l.sent (g.W.Wire.account l.wire) l.pass l.senders l.k;
 }
