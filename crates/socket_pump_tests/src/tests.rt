@@ -17,6 +17,7 @@ use std::test::Fail;
 
 mod caller;
 mod failing_wires;
+mod resends;
 mod sockets;
 
 /// Two offices, and two records of theirs.
@@ -124,6 +125,16 @@ fn turn<R: Wait, W: Wire>(
     side.pump.turn(rt, wire, &side.desk, &mut side.pass, now)
 }
 
+fn adaptive_turn<R: Wait, W: Wire>(
+    rt: &R,
+    side: &mut Side,
+    wire: &mut W,
+    now: u64,
+) -> Result<Turn, PumpFault> {
+    side.pump
+        .adaptive_turn(rt, wire, &side.desk, &mut side.pass, now)
+}
+
 fn submit<R: Wait>(rt: &R, side: &mut Side, program: &Program) -> Option<u32> {
     match side.desk.submit(rt, &mut side.pass, program) {
         Ok(Reply::Ticket(ticket)) => Some(ticket),
@@ -182,6 +193,10 @@ struct Both {
 /// More calls than any wire here gets.
 const NEVER: u64 = u64::MAX;
 
+fn open_both(alloc: Global) -> Result<Box<Both>, Fail> {
+    open_both_of(alloc, PAIR)
+}
+
 /// The first two offices of the plan.
 fn open_both_of(alloc: Global, plan: &str) -> Result<Box<Both>, Fail> {
     open_failing(alloc, plan, NEVER, NEVER)
@@ -206,6 +221,14 @@ fn linked(alloc: Global, a: Box<Side>, b: Box<Side>, calls_a: u64, calls_b: u64)
 }
 
 impl Both {
+    /// The first office's turn, by one of the two calls.
+    fn turn_a<R: Wait>(&mut self, rt: &R, call: Call, now: u64) -> Result<Turn, PumpFault> {
+        match call {
+            Call::Turn => turn(rt, &mut self.a, &mut self.wire_a, now),
+            Call::AdaptiveTurn => adaptive_turn(rt, &mut self.a, &mut self.wire_a, now),
+        }
+    }
+
     /// What went out comes to the other.
     fn carry(&mut self) -> Result<(), Fail> {
         carry(
@@ -232,6 +255,13 @@ impl Both {
 enum Who {
     A,
     B,
+}
+
+/// The call by which a pump is turned.
+#[derive(Clone, Copy)]
+enum Call {
+    Turn,
+    AdaptiveTurn,
 }
 
 /// 1 where the wire failed.

@@ -1,19 +1,28 @@
 //! A wire that fails breaks off the turn in which it does, and no other.
 
 use crate::tests::{
-    Both, NEVER, PAIR, Side, Who, broke_off, open_failing, programs, submit, turn, value_after,
+    Both, NEVER, PAIR, Side, Who, broke_off, open_failing, programs_of, submit, turn,
 };
+use office_map::Plan;
 use session_programs::Program;
+use session_reports::report::add_outcome;
 use socket_pump::memory::{FaultWire, MemoryWire};
 use std::alloc::Global;
 use std::process::Abort;
 use std::sync::Wait;
 use std::test::Fail;
 
-/// A wire that fails once, at whichever call, breaks off the turn in which it does and no other, and the session finishes.
+/// Moves 30 from one record to the other, and tells what both are then.
+const MOVES: &str =
+    "session a\nlet v = read x\nset x = v - 30\nset y = read y + 30\ngive read x\ngive read y\nend\n";
+
+/// What is told of it where it ran alone.
+const MOVED: &str = "a.1 done reads x=100 y=0 writes x=70 y=30 gives 70 30\n";
+
+/// A wire that fails once, at whichever call, breaks off the turn in which it does and no other, and the session ends as alone.
 #[test]
 fn a_wire_fails_at_each_call(rt: HostRuntime) -> Result<(), Fail> {
-    let programs = programs(rt.alloc())?;
+    let programs = programs_of(rt.alloc(), PAIR, MOVES)?;
     let calls = fail_at_each(&rt, rt.alloc(), &programs, Who::A)?;
     assert!(rt; calls > 15, "a's calls: {calls}");
     let calls = fail_at_each(&rt, rt.alloc(), &programs, Who::B)?;
@@ -29,8 +38,8 @@ fn fail_at_each<R: Wait + Abort>(
     who: Who,
 ) -> Result<u64, Fail> {
     for call in 0..100 {
-        let (failed, value) = fails_at(rt, alloc, programs, who, call)?;
-        assert_eq!(rt; value, Some(70), "call {call}");
+        let (failed, line) = fails_at(rt, alloc, programs, who, call)?;
+        assert_eq!(rt; line.as_str(), MOVED, "call {call}");
         if failed == 0 {
             return Ok(call);
         }
@@ -45,35 +54,52 @@ fn fails_at<R: Wait>(
     programs: &[Program],
     who: Who,
     call: u64,
-) -> Result<(u32, Option<i64>), Fail> {
+) -> Result<(u32, String), Fail> {
     let (calls_a, calls_b) = match who {
         Who::A => (call, NEVER),
         Who::B => (NEVER, call),
     };
     let mut both = open_failing(alloc, PAIR, calls_a, calls_b)?;
-    goes_on(rt, &mut both, programs)
+    ends_with(rt, alloc, &mut both, programs)
 }
 
-/// In how many turns of thirty the wire failed, and what the session left.
-fn goes_on<R: Wait>(
+fn ends_with<R: Wait>(
     rt: &R,
+    alloc: Global,
     both: &mut Both,
     programs: &[Program],
-) -> Result<(u32, Option<i64>), Fail> {
+) -> Result<(u32, String), Fail> {
+    let failed = goes_on(rt, both, programs)?;
+    Ok((failed, line_of(rt, alloc, &mut both.a)?))
+}
+
+/// In how many turns of thirty, each 50 milliseconds after the one before, the wire failed.
+fn goes_on<R: Wait>(rt: &R, both: &mut Both, programs: &[Program]) -> Result<u32, Fail> {
     let Some(program) = programs.get(0) else {
         return Err(Fail::from("a session"));
     };
-    let Some(ticket) = submit(rt, &mut both.a, program) else {
+    if submit(rt, &mut both.a, program) != Some(1) {
         return Err(Fail::from("a ticket"));
-    };
+    }
     let mut failed = 0;
     for round in 0..15u64 {
-        failed = failed_in(rt, &mut both.a, &mut both.wire_a, round * 50)?.saturating_add(failed);
+        let now = round * 100;
+        failed = failed_in(rt, &mut both.a, &mut both.wire_a, now)?.saturating_add(failed);
         both.carry()?;
-        failed = failed_in(rt, &mut both.b, &mut both.wire_b, round * 50)?.saturating_add(failed);
+        failed = failed_in(rt, &mut both.b, &mut both.wire_b, now + 50)?.saturating_add(failed);
         both.carry()?;
     }
-    Ok((failed, value_after(rt, &mut both.a, ticket)))
+    Ok(failed)
+}
+
+/// What is told of the office's first session.
+fn line_of<R: Wait>(rt: &R, alloc: Global, side: &mut Side) -> Result<String, Fail> {
+    let plan = Plan::read(alloc, PAIR.as_bytes())?;
+    let mut line = String::new(alloc);
+    if let Some(outcome) = side.desk.outcome(rt, &mut side.pass, 1)? {
+        add_outcome(&mut line, &plan, &outcome)?;
+    }
+    Ok(line)
 }
 
 /// 1 where the wire failed in the turn: it breaks off just then.
