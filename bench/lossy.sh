@@ -1,7 +1,8 @@
 #!/bin/sh
 # How many frames are made for a finished session, where a third is lost and the others overtake each other: of two offices for
-# three seeds, and of 16 for one. And what such a script takes, of 16 offices and 960 records: instructions for a line, less the run
-# on an empty script. It needs a program that is built, python3, and GNU time; for the counts of instructions valgrind.
+# three seeds, and of 16 for one. How many sessions a second eight offices finish as processes over a slow network that loses
+# datagrams. And what such a script takes, of 16 offices and 960 records: instructions for a line, less the run on an empty script.
+# It needs a program that is built, python3, and GNU time; for the counts of instructions valgrind.
 #
 #   sh bench/lossy.sh [PROGRAM]        PROGRAM is crates/drink/out/drink where it is left out
 #
@@ -16,6 +17,8 @@ for seed in 1 2 3; do
 done
 frames=$(python3 "$top/bench/lossy_frames.py" "$program" 16 1)
 echo "16 offices, seed 1: $frames"
+
+python3 "$top/bench/lossy_network.py" "$program"
 
 # Of these lines the last ones are left out for the shorter script.
 lines=$(python3 "$top/bench/lossy_frames.py" "$program" 16 1 200000 "$work")
