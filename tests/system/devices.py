@@ -105,3 +105,13 @@ def parts(check):
         ran = check.run("sim plan.txt sessions.txt long.txt", stdout=file, preexec_fn=small, restore_signals=False)
     check.wants("devices: a transcript that a file has no room for", ran, 1, b"", b"drink: X5 WriteFailed: the output cannot be written: a file may not be so long\n")
     check.equal("devices: a transcript that a file has no room for: what it has", check.bytes_of("transcript"), lines[:ROOM])
+    fault = b"drink: X5 WriteFailed: the output cannot be written: no space is left on its device\n"
+    words, told = "sim plan.txt sessions.txt long.txt --journals unmade --plan unmade.txt", [b""]
+    for k in (1, 2, 3):
+        ran = check.run(words, env=check.calls(fail=f"write {k} {k} {errno.ENOSPC}"))
+        check.wants(f"devices: {words}: part {k} fails", ran, 1, None, fault)
+        told.append(ran.out)
+    whole = told[:2] == [b"", b""] and all(len(it) < len(next_one) and lines.startswith(next_one) and next_one.endswith(b"\n") for it, next_one in zip(told[1:], told[2:]))
+    check.say(f"devices: {words}: the parts before stand", None if whole else f"of {len(lines)} bytes there are {[len(it) for it in told[1:]]}")
+    left = [it for it in ("unmade", "unmade.txt") if os.path.lexists(os.path.join(check.work, it))]
+    check.equal(f"devices: {words}: no file is made", left, [])

@@ -1,5 +1,6 @@
 """Which runs `random` draws, foretold by a generator and a few lines of this script's own, for sessions that are simple enough:
 those that need nobody, whose order shows each draw, and one that fetches a bottle, whose last step does."""
+from sockets import MOVES as MOVING, SHARED
 
 MASK = 2**64 - 1
 # The seeds differ above the low 16, 32 and 63 bits too.
@@ -13,6 +14,11 @@ RULES = 4
 # Those of a session that fetches, before it has to wait and after (start, hungry, eat, askbottle; drink, work 256, finish).
 BEFORE, AFTER = 4, 3
 LAST_FRAMES = 64
+
+# The two records of a session that moves 30 from one to the other, of which the second is lent by a neighbour.
+MOVES = {"shared.txt": SHARED, "moves.txt": MOVING}
+ALL_LOST = (0, 1, 42, 2**64 - 1)
+UNMOVED = b"unfinished 1\nvalue x 100\nvalue y 0\n"
 
 FETCHED = b"a.1 done reads x=5 writes - gives 5\nunfinished 0\nvalue x 5\n"
 UNFETCHED = b"unfinished 1\nvalue x 5\n"
@@ -113,6 +119,9 @@ def drawn(check):
     for count, steps, wanted in ((70, 100_000, crowd(70) + b"unfinished 0\n"), (100, 1, b"unfinished 100\n")):
         check.files({"crowd.txt": b"session o0\nend\n" * count})
         check.wants(f"drawn: {count} sessions of one office, {steps} steps", run("alone.txt crowd.txt", 1, 0, steps), 0, wanted, b"")
+    check.files(MOVES)
+    for seed in ALL_LOST:
+        check.wants(f"drawn: seed {seed}, all lost", run("shared.txt moves.txt", seed, 100, 1000), 0, UNMOVED, b"")
     for seed in SEEDS:
         for loss in LOSSES:
             last = Fetch(seed, loss).steps()

@@ -58,6 +58,8 @@ def whole(check):
     ):
         check.files({"moved.txt": SHARED, "ours.journal": b"".join(ours), "theirs.journal": b"".join(theirs)})
         check.wants(f"audit: {name}", check.run("audit moved.txt ours.journal theirs.journal"), status, out, err or b"")
+        if not err:
+            check.wants(f"audit: {name}, the other first", check.run("audit moved.txt theirs.journal ours.journal"), status, out, b"")
     three = os.path.join(CASES, "three_offices")
     texts = [os.path.join(three, it) for it in ("plan.txt", "sessions.txt", "script.txt")]
     check.wants("audit: the journals of three offices", check.run(["sim", *texts, "--journals", "three"]), 0, None, b"")

@@ -1,6 +1,7 @@
 """Offices on sockets: single ones, with a neighbour that this script plays, and on a terminal."""
 import errno, os, pty, re, resource, select, shutil, signal, socket, subprocess, termios, time
 
+from cases import CASES
 from common import ASK_BOTTLE, BOTTLE, HOST, PLAN, SECONDS, SESSIONS, Ran, at_ports, frame, free_ports
 
 # Turns enough for two processes to find each other, 3 seconds where nothing comes.
@@ -42,26 +43,61 @@ def secret(one, other, key=KEY):
 
 # Texts of secrets for the office a, whose neighbours are b and c, and what each is refused for.
 BOTH = secret("a", "b") + secret("c", "a", KEY[::-1])
+NO_KEY = "K1 Secret: the last word is no key: that is 32 to 128 hexadecimal digits, an even number of them"
+NO_FORM = "K1 Secret: a line has the form `secret A B HEX`, and this one hasn't"
+WITHOUT = "K4 NoSecret: no line has the secret with `{}`, and the office needs one with each of its neighbours"
 SECRETS = (
     ("one for each neighbour", BOTH, None),
     ("digits in upper case, a comment, and a blank line", b"# ours\n\n" + secret("a", "b", KEY.upper()) + secret("a", "c"), None),
     ("16 bytes, and 64", secret("a", "b", b"0f" * 16) + secret("a", "c", b"f0" * 64), None),
-    ("15 bytes", secret("a", "b", b"0f" * 15) + secret("a", "c"), "line 1: K1 Secret"),
-    ("65 bytes", secret("a", "b") + secret("a", "c", b"0f" * 65), "line 2: K1 Secret"),
-    ("an odd number of digits", secret("a", "b", KEY + b"0"), "line 1: K1 Secret"),
-    ("a digit that is none", secret("a", "b", KEY[:-1] + b"g"), "line 1: K1 Secret"),
-    ("no key", b"secret a b\n", "line 1: K1 Secret"),
-    ("a word too many", secret("a", "b", KEY + b" 0"), "line 1: K1 Secret"),
-    ("another first word", b"secrets a b %s\n" % KEY, "line 1: K1 Secret"),
-    ("an office that the plan hasn't", b"\n" + secret("a", "e"), "line 2: K2 NotNeighbours"),
-    ("two offices without a pair", BOTH + secret("b", "c"), "line 3: K2 NotNeighbours"),
-    ("an office with itself", secret("a", "a"), "line 1: K2 NotNeighbours"),
-    ("a pair twice", BOTH + secret("a", "b"), "line 3: K3 SecretTwice"),
-    ("a pair twice, the other way round and with another key", secret("a", "b") + secret("b", "a", KEY[::-1]), "line 2: K3 SecretTwice"),
-    ("no secret at all", b"# secret a b %s\n" % KEY, "K4 NoSecret: no line has the secret with `b`, and"),
-    ("none with the second neighbour", secret("a", "b"), "K4 NoSecret: no line has the secret with `c`, and"),
-    ("a faulty line, and none with a neighbour", secret("a", "b") + b"secret a c\n", "line 2: K1 Secret"),
-    ("two faulty lines", secret("a", "d") + secret("a", "b", b"0"), "line 1: K2 NotNeighbours"),
+    ("a last line without its end", b"# with the shop\n" + BOTH[:-1], None),
+    ("2 bytes", secret("a", "b", b"0001"), f"line 1: {NO_KEY}"),
+    ("15 bytes", secret("a", "b", b"0f" * 15) + secret("a", "c"), f"line 1: {NO_KEY}"),
+    ("65 bytes", secret("a", "b") + secret("a", "c", b"0f" * 65), f"line 2: {NO_KEY}"),
+    ("an odd number of digits", secret("a", "b", KEY + b"0"), f"line 1: {NO_KEY}"),
+    ("a digit that is none", secret("a", "b", KEY[:-1] + b"g"), f"line 1: {NO_KEY}"),
+    ("no key", b"secret a b\n", f"line 1: {NO_FORM}"),
+    ("a word too many", secret("a", "b", KEY + b" 0"), f"line 1: {NO_FORM}"),
+    ("another first word", b"secrets a b %s\n" % KEY, f"line 1: {NO_FORM}"),
+    ("an office that the plan hasn't", b"\n" + secret("a", "e"), "line 2: K2 NotNeighbours: the plan has no office `e`"),
+    ("two offices without a pair", BOTH + secret("b", "c"), "line 3: K2 NotNeighbours: `b` and `c` are no neighbours in the plan"),
+    ("an office with itself", secret("a", "a"), "line 1: K2 NotNeighbours: `a` and `a` are no neighbours in the plan"),
+    ("a pair twice", BOTH + secret("a", "b"), "line 3: K3 SecretTwice: `a` and `b` have a secret on a line above"),
+    ("a pair twice, the other way round and with another key", secret("a", "b") + secret("b", "a", KEY[::-1]), "line 2: K3 SecretTwice: `b` and `a` have a secret on a line above"),
+    ("no line", b"", WITHOUT.format("b")),
+    ("no secret at all", b"# secret a b %s\n" % KEY, WITHOUT.format("b")),
+    ("none with the second neighbour", secret("a", "b"), WITHOUT.format("c")),
+    ("a faulty line, and none with a neighbour", secret("a", "b") + b"secret a c\n", f"line 2: {NO_FORM}"),
+    ("two faulty lines", secret("a", "d") + secret("a", "b", b"0"), "line 1: K2 NotNeighbours: `a` and `d` are no neighbours in the plan"),
+)
+
+# Plans of offices with addresses in place of the braces: of two, the second without one, and three of which the last has none and is no
+# neighbour of the first.
+PAIR = "plan 1 run 3\noffice a {}\noffice b {}\npair a b fork a\n"
+HALF = "plan 1 run 3\noffice a {}\noffice b -\npair a b fork a\n"
+APART = "plan 1 run 3\noffice a {}\noffice b {}\noffice c -\npair a b fork a\npair b c fork b\n"
+AWAY = PAIR + "record x a b 5 at b\n"
+GIVES = b"session a\ngive 1\nend\n"
+GAVE = b"a.1 done reads - writes - gives 1\n"
+NO_ADDRESS = "p: X2 NoAddress: the office `{}` has `-` for its address, and an office runs where it and its neighbours have one"
+NO_OFFICE = "X6 NoSuchOffice: the plan has no office of this name; it has"
+HEADER = "p: line 1: P1 Header: the first line has to be `plan 1 run N`, with N from 0 to 4294967295, and not `plan 2`"
+
+# A plan, sessions, words after `drink`, and how that ends: the output of a run that is whole, or what is said of one that can't begin.
+RUNS = (
+    ("a session that needs nobody, in one turn", PAIR, GIVES, "run p a s --turns 1", GAVE + b"unfinished 0\n"),
+    ("an office without an address that is no neighbour", APART, GIVES, "run p a s --turns 1", GAVE + b"unfinished 0\n"),
+    ("another office's session, in two turns", PAIR, GIVES, "run p b s --turns 2", b"unfinished 0\n"),
+    ("no sessions", PAIR, b"", "run p a s", b"unfinished 0\n"),
+    ("OFFICE before the addresses, and these before the sessions", SHARED.decode(), GIVES, "run p c missing", f"c: {NO_OFFICE} a and b"),
+    ("an office whose name can't be shown", APART, GIVES, ["run", "p", "A\n", "missing"], f"A\\u{{a}}: {NO_OFFICE} a, b and c"),
+    ("of an office and its neighbours the first without an address", SHARED.decode(), GIVES, "run p b missing", NO_ADDRESS.format("a")),
+    ("a neighbour without an address", HALF, b"x", "run p a s", NO_ADDRESS.format("b")),
+    ("a second neighbour without an address", APART, b"x", "run p b s", NO_ADDRESS.format("c")),
+    ("sessions of an office that there isn't", PAIR, b"session c\nend\n", "run p a s", "s: line 1: S2 UnknownName: the plan has no office `c`"),
+    ("sessions that aren't there", PAIR, b"", "run p a missing", "missing: X4 ReadFailed: it cannot be read: no such file"),
+    ("half a header, under run", "plan 2", GIVES, "run p c missing", HEADER),
+    ("half a header, under live", "plan 2", GIVES, "live p missing", HEADER),
 )
 
 
@@ -81,6 +117,7 @@ def runs(check):
     waits = "".join(rf"drink: b\.{it} waits for b\.{it - 1}\n" for it in range(2, 11))
     check.wants("run: more sessions than are named", check.run("run ports.txt b many.txt --turns 5"), 1, b"unfinished 13\n", rf"\Adrink: b\.1 waits for x from a, which was never heard\n{waits}drink: and 3 more sessions are left\n{unheard}\Z")
     one_turn(check)
+    told_whole(check)
     for words in ("run ports.txt a own.txt --turns 5", "live plan.txt own.txt"):
         check.wants(f"{words} > /dev/full", check.shell(f"./drink {words} > /dev/full"), 1, b"", r"\Adrink: X5 WriteFailed: [^\n]*\n\Z")
         check.wants(f"{words} 2>&-", check.shell(f"./drink {words} 2>&-"), 0, answer, b"")
@@ -107,6 +144,19 @@ def runs(check):
     two_versions(check)
 
 
+def told_whole(check):
+    """How runs end whose neighbours say nothing, to the byte: a session that needs a neighbour's record is left, and those after it."""
+    for name, plan, sessions, words, wanted in RUNS:
+        at = iter(free_ports(2))
+        check.files({"p": re.sub(r"\{\}", lambda _: f"{HOST}:{next(at)}", plan).encode(), "s": sessions})
+        ran = check.run(words)
+        check.wants(f"run: {name}", ran, *((0, wanted, b"") if isinstance(wanted, bytes) else (1, b"", f"drink: {wanted}\n".encode())))
+    one, other = free_ports(2)
+    check.files({"p": AWAY.format(f"{HOST}:{one}", f"{HOST}:{other}").encode(), "s": GIVES + b"session a\ngive read x\nend\nsession b\ngive read x\nend\n"})
+    said = b"drink: a.2 waits for x from b, which was never heard\ndrink: a never heard b at 127.0.0.1:%d\n" % other
+    check.wants("run: the second session needs a neighbour", check.run("run p a s --turns 20"), 1, GAVE + b"unfinished 1\n", said)
+
+
 def one_turn(check):
     """An office takes as many sessions as it has room for, and does 64 rules in a turn, four of them for each session. Where its turns are
     over the next session waits for nobody, and the last wasn't submitted."""
@@ -125,15 +175,18 @@ def secrets(check):
     answer, words = b"a.1 done reads x=5 writes - gives 5\nunfinished 0\n", "run ports.txt a own.txt --turns 5 --secrets"
     for mode, is_fine in ((0o600, True), (0o400, True), (0o640, False), (0o604, False), (0o601, False)):
         os.chmod(os.path.join(check.work, "keys.txt"), mode)
-        wanted = (0, answer, b"") if is_fine else (1, b"", r"\Adrink: keys\.txt: K5 OpenToOthers: [^\n]*\n\Z")
+        said = b"drink: keys.txt: K5 OpenToOthers: others than its owner may read or write it, and a secret is for an office alone: chmod 600 takes that from them; nothing was run\n"
+        wanted = (0, answer, b"") if is_fine else (1, b"", said)
         check.wants(f"run: secrets of mode {mode:o}", check.run(f"{words} keys.txt"), *wanted)
-    for name, refusal in (("wrong.txt", "line 1: K1 Secret"), ("long.txt", "X4 ReadFailed"), ("no.txt", "X4 ReadFailed"), ("folder", "X4 ReadFailed")):
+    for name, refusal in (("wrong.txt", "line 1: K1 Secret"), ("long.txt", "X4 ReadFailed"), ("no.txt", "X4 ReadFailed: it cannot be read: no such file; nothing was run"), ("folder", "X4 ReadFailed")):
         if name != "no.txt":
             os.chmod(os.path.join(check.work, name), 0o700)
         ran = check.run(f"{words} {name}")
-        check.wants(f"run: secrets of {name}", ran, 1, b"", rf"\Adrink: {re.escape(name)}: {refusal}: [^\n]*\n\Z")
+        check.wants(f"run: secrets of {name}", ran, 1, b"", rf"\Adrink: {re.escape(name)}: {refusal}\b[^\n]*\n\Z")
         check.say(f"run: no key of {name} is shown", "it is" if KEY in ran.err else None)
     os.chmod(os.path.join(check.work, "folder"), 0o755)
+    said = b"drink: --secrets takes a file, and - is none: a file whose name is - is written ./- instead\n"
+    check.wants("run: secrets of -", check.run(f"{words} -"), 2, b"", said)
     texts_of_secrets(check)
 
 
@@ -147,7 +200,7 @@ def texts_of_secrets(check):
         file = f"secrets{at}.txt"
         check.files({file: text})
         os.chmod(os.path.join(check.work, file), 0o600)
-        wanted = (1, b"", rf"\Adrink: {file}: {fault}\b[^\n]*; nothing was run\n\Z") if fault else (0, answer, b"")
+        wanted = (1, b"", f"drink: {file}: {fault}; nothing was run\n".encode()) if fault else (0, answer, b"")
         check.wants(f"run: secrets: {name}", check.run(f"{words} {file}"), *wanted)
     check.wants("run: secrets: open to others, and no text of them", check.run(f"{words} open.txt"), 1, b"", r"\Adrink: open\.txt: K5 OpenToOthers: [^\n]*\n\Z")
 
@@ -401,6 +454,11 @@ def without_threads(check):
     for k in range(1, 5):
         check.wants(f"live: thread {k} can't be started", starts(k), 1, stands, said)
     check.wants("live: no fifth thread is started", starts(5), 0, OWN + b"unfinished 0\n", b"")
+    words = [os.path.join(CASES, "three_offices", it) for it in ("plan.txt", "sessions.txt")]
+    none = check.run(["live", *words], env=check.calls(fail=f"pthread_create 1 {ALL} {errno.EAGAIN}"))
+    said = "".join(rf"drink: {it}\.1 was not submitted yet\n" for it in "abc") + "".join(rf"drink: {it} never heard {it_not} at 127\.0\.0\.1:\d+\n" for it, it_not in ("ab", "ba", "bc", "cb"))
+    end = "drink: U3 NoThread: no further thread can be started; the run ended with it, and what was done before is printed\n"
+    check.wants("live: no thread can be started for three offices", none, 1, b"unfinished 3\n", rf"\A{said}{end}\Z")
 
 
 def two_processes(check):
